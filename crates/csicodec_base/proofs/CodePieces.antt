@@ -1,0 +1,227 @@
+-- The pieces by their first token.
+use Rattle.std.proofs.Common.{ℕ, ◌≡◌, ◌<◌, ◌≤◌, ◌+◌, List, [], ◌∷◌, Bool, true, false, refl, ◌∙◌, ap, arith, length, Some, None, subst, inl, inr, get_or, drop, ◌≢◌}
+use Rattle.std.specs.Prelude.{ℤ, Option, ◌==◌, map, pos, negsuc, if◌then◌else◌, option_and_then, is_some}
+use Rattle.std.specs.List.{list_all}
+use Rattle.std.proofs.lemmas.Bool.{cases_Bool, and_parts, eqb-true}
+use Rattle.csicodec_base.specs.declared.param.CsiParam.{CsiParam}
+use Rattle.csicodec_base.specs.declared.param.CsiParam.TheVariants.{Integer, P}
+use Rattle.csicodec_base.specs.declared.codes.SgrCode.{SgrCode}
+use Rattle.csicodec_base.specs.declared.codes.SgrCode.TheVariants as code
+use Rattle.csicodec_base.specs.declared.codes.TheConstants.{CODES}
+use Rattle.csicodec_base.specs.declared.sgr.Sgr.{Sgr}
+use Rattle.csicodec_base.specs.declared.color.ColorSpec.{ColorSpec}
+use Rattle.csicodec_base.specs.declared.sgr.Sgr.TheVariants as sgr
+use Rattle.csicodec_base.specs.Numbers.{number_of, action_of}
+use Rattle.csicodec_base.specs.Shapes.{Slot, Number, Byte, AnyNumber, Any, Row, Color, Plane, Front, Back, Line, painted, sgr_rows, color_shapes, underline_rows, begins_with, taken, color_of_tokens}
+use Rattle.csicodec_base.specs.Pieces.{front_by, color_by, piece}
+use Rattle.csicodec_base.proofs.Places.{is_row}
+
+abbrev pub paint : Plane → Option (ColorSpec × ℕ) → Option (Sgr × ℕ)
+paint plane None = None
+paint plane (Some f) = Some (painted plane f.0, f.1)
+
+paint-given : (plane : Plane) (n : ℕ) (c : Option ColorSpec)
+    → option_and_then (λ (s : Sgr). Some (s, n)) (option_and_then (λ c'. Some (painted plane c')) c) ≡ paint plane (option_and_then (λ c'. Some (c', n)) c)
+paint-given plane n None = refl
+paint-given plane n (Some c) = refl
+
+paint-if : (plane : Plane) (b : Bool) (x y : Option (Sgr × ℕ)) (u v : Option (ColorSpec × ℕ)) → x ≡ paint plane u → y ≡ paint plane v
+    → (if b then x else y) ≡ paint plane (if b then u else v)
+paint-if plane true x y u v e f = e
+paint-if plane false x y u v e f = f
+
+color-front : (plane : Plane) (before : ℕ) (shapes : List (List Slot)) (after : List CsiParam)
+    → front_by before (map (λ (s : List Slot). record { shape = s; gives = Color plane }) shapes) after ≡ paint plane (color_by before shapes after)
+color-front plane before [] after = refl
+color-front plane before (s ∷ ss) after =
+    paint-if plane (begins_with s after) _ _ _ _ (paint-given plane (length s + before) (color_of_tokens (taken s after))) (color-front plane before ss after)
+
+pub front_38 : (after : List CsiParam) → piece (Integer (pos 38) ∷ after) ≡ paint Front (color_by 1 color_shapes after)
+unfolding piece
+front_38 after = color-front Front 1 color_shapes after
+
+pub front_48 : (after : List CsiParam) → piece (Integer (pos 48) ∷ after) ≡ paint Back (color_by 1 color_shapes after)
+unfolding piece
+front_48 after = color-front Back 1 color_shapes after
+
+pub front_58 : (after : List CsiParam) → piece (Integer (pos 58) ∷ after) ≡ paint Line (color_by 1 color_shapes after)
+unfolding piece
+front_58 after = color-front Line 1 color_shapes after
+
+pub front_4 : (after : List CsiParam) → piece (Integer (pos 4) ∷ after) ≡ front_by 1 underline_rows after
+unfolding piece
+front_4 after = refl
+
+abbrev Begins : SgrCode → List CsiParam → Option (Sgr × ℕ) → Type 0
+Begins c after answer = piece (Integer (pos (number_of c)) ∷ after) ≡ answer
+
+pub color_front : (c known : SgrCode) (plane : Plane) (after : List CsiParam) (answer : Option (ColorSpec × ℕ)) → c ≡ known → Begins known after (paint plane (color_by 1 color_shapes after))
+    → answer ≡ color_by 1 color_shapes after → Begins c after (paint plane answer)
+color_front c known plane after answer e h a = rw (e, a) h
+
+pub underline_front : (c : SgrCode) (after : List CsiParam) → c ≡ code.UnderlineOn → Begins c after (front_by 1 underline_rows after)
+underline_front c after e = rw e (front_4 after)
+
+-- a code that has no further tokens
+abbrev OneToken : SgrCode → List CsiParam → Option Sgr → Type 0
+OneToken c after None = Unit {0}
+OneToken c after (Some s) = piece (Integer (pos (number_of c)) ∷ after) ≡ Some (s, 1)
+
+one_token_by : (c : SgrCode) (after : List CsiParam) → OneToken c after (action_of c)
+unfolding piece
+one_token_by code.Reset after = refl
+one_token_by code.IntensityBold after = refl
+one_token_by code.IntensityDim after = refl
+one_token_by code.ItalicOn after = refl
+one_token_by code.UnderlineOn after = tt
+one_token_by code.BlinkOn after = refl
+one_token_by code.RapidBlinkOn after = refl
+one_token_by code.InverseOn after = refl
+one_token_by code.InvisibleOn after = refl
+one_token_by code.StrikeThroughOn after = refl
+one_token_by code.DefaultFont after = refl
+one_token_by code.AltFont1 after = refl
+one_token_by code.AltFont2 after = refl
+one_token_by code.AltFont3 after = refl
+one_token_by code.AltFont4 after = refl
+one_token_by code.AltFont5 after = refl
+one_token_by code.AltFont6 after = refl
+one_token_by code.AltFont7 after = refl
+one_token_by code.AltFont8 after = refl
+one_token_by code.AltFont9 after = refl
+one_token_by code.UnderlineDouble after = refl
+one_token_by code.NormalIntensity after = refl
+one_token_by code.ItalicOff after = refl
+one_token_by code.UnderlineOff after = refl
+one_token_by code.BlinkOff after = refl
+one_token_by code.InverseOff after = refl
+one_token_by code.InvisibleOff after = refl
+one_token_by code.StrikeThroughOff after = refl
+one_token_by code.ForegroundBlack after = refl
+one_token_by code.ForegroundRed after = refl
+one_token_by code.ForegroundGreen after = refl
+one_token_by code.ForegroundYellow after = refl
+one_token_by code.ForegroundBlue after = refl
+one_token_by code.ForegroundMagenta after = refl
+one_token_by code.ForegroundCyan after = refl
+one_token_by code.ForegroundWhite after = refl
+one_token_by code.ForegroundColor after = tt
+one_token_by code.ForegroundDefault after = refl
+one_token_by code.BackgroundBlack after = refl
+one_token_by code.BackgroundRed after = refl
+one_token_by code.BackgroundGreen after = refl
+one_token_by code.BackgroundYellow after = refl
+one_token_by code.BackgroundBlue after = refl
+one_token_by code.BackgroundMagenta after = refl
+one_token_by code.BackgroundCyan after = refl
+one_token_by code.BackgroundWhite after = refl
+one_token_by code.BackgroundColor after = tt
+one_token_by code.BackgroundDefault after = refl
+one_token_by code.OverlineOn after = refl
+one_token_by code.OverlineOff after = refl
+one_token_by code.UnderlineColor after = tt
+one_token_by code.ResetUnderlineColor after = refl
+one_token_by code.VerticalAlignSuperScript after = refl
+one_token_by code.VerticalAlignSubScript after = refl
+one_token_by code.VerticalAlignBaseLine after = refl
+one_token_by code.ForegroundBrightBlack after = refl
+one_token_by code.ForegroundBrightRed after = refl
+one_token_by code.ForegroundBrightGreen after = refl
+one_token_by code.ForegroundBrightYellow after = refl
+one_token_by code.ForegroundBrightBlue after = refl
+one_token_by code.ForegroundBrightMagenta after = refl
+one_token_by code.ForegroundBrightCyan after = refl
+one_token_by code.ForegroundBrightWhite after = refl
+one_token_by code.BackgroundBrightBlack after = refl
+one_token_by code.BackgroundBrightRed after = refl
+one_token_by code.BackgroundBrightGreen after = refl
+one_token_by code.BackgroundBrightYellow after = refl
+one_token_by code.BackgroundBrightBlue after = refl
+one_token_by code.BackgroundBrightMagenta after = refl
+one_token_by code.BackgroundBrightCyan after = refl
+one_token_by code.BackgroundBrightWhite after = refl
+
+pub one_token_front : (c : SgrCode) (after : List CsiParam) (s : Sgr) → action_of c ≡ Some s → piece (Integer (pos (number_of c)) ∷ after) ≡ Some (s, 1)
+one_token_front c after s e = subst (OneToken c after) e (one_token_by c after)
+
+-- each row that begins with a number begins with that of a code
+abbrev codes_head : List Slot → Bool
+codes_head [] = false
+codes_head (Number n ∷ ss) = is_some (get_or CODES n None)
+codes_head (Byte b ∷ ss) = b == 59
+codes_head (AnyNumber ∷ ss) = false
+codes_head (Any ∷ ss) = false
+
+all-heads : list_all (λ (r : Row). codes_head r.shape) sgr_rows ≡ true
+all-heads = refl
+
+coded-number : (n : ℕ) (o : Option SgrCode) → get_or CODES n None ≡ o → is_some o ≡ true → ((c : SgrCode) → n ≢ number_of c) → ⊥
+coded-number n None e h no_code = cc
+coded-number n (Some c) e h no_code = no_code c (is_row n c e)
+
+unknown-row : (shape : List Slot) (z : ℤ) (after : List CsiParam) → codes_head shape ≡ true → ((c : SgrCode) → z ≢ pos (number_of c)) → begins_with shape (Integer z ∷ after) ≡ false
+unknown-row [] z after h no_code = cc
+unknown-row (Number n ∷ ss) (negsuc m) after h no_code = refl
+unknown-row (Number n ∷ ss) (pos m) after h no_code = elim (cases_Bool (m == n)) [
+  | inl same ↦ (let e : m ≡ n = eqb-true _ _ same in absurd (coded-number n (get_or CODES n None) refl h (λ c f. no_code c (ap pos (e ∙ f)))))
+  | inr other ↦ rw other refl
+]
+unknown-row (Byte b ∷ ss) z after h no_code = refl
+unknown-row (AnyNumber ∷ ss) z after h no_code = cc
+unknown-row (Any ∷ ss) z after h no_code = cc
+
+unknown-rows : (rows : List Row) (z : ℤ) (after : List CsiParam) → list_all (λ (r : Row). codes_head r.shape) rows ≡ true → ((c : SgrCode) → z ≢ pos (number_of c)) → front_by 0 rows (Integer z ∷ after) ≡ None
+unknown-rows [] z after h no_code = refl
+unknown-rows (r ∷ rs) z after h no_code =
+    let p = and_parts (codes_head r.shape) (list_all (λ (x : Row). codes_head x.shape) rs) h in
+    rw (unknown-row r.shape z after p.0 no_code) (unknown-rows rs z after p.1 no_code)
+
+pub unknown_number : (z : ℤ) (after : List CsiParam) → ((c : SgrCode) → z ≢ pos (number_of c)) → piece (Integer z ∷ after) ≡ None
+unfolding piece
+unknown_number z after no_code = unknown-rows sgr_rows z after all-heads no_code
+
+other-byte-row : (shape : List Slot) (b : ℕ) (after : List CsiParam) → codes_head shape ≡ true → (b == 59) ≡ false → begins_with shape (P b ∷ after) ≡ false
+other-byte-row [] b after h o = cc
+other-byte-row (Number n ∷ ss) b after h o = refl
+other-byte-row (Byte d ∷ ss) b after h o = let e : d ≡ 59 = eqb-true _ _ h in rw (e, o) refl
+other-byte-row (AnyNumber ∷ ss) b after h o = cc
+other-byte-row (Any ∷ ss) b after h o = cc
+
+other-byte-rows : (rows : List Row) (b : ℕ) (after : List CsiParam) → list_all (λ (r : Row). codes_head r.shape) rows ≡ true → (b == 59) ≡ false → front_by 0 rows (P b ∷ after) ≡ None
+other-byte-rows [] b after h o = refl
+other-byte-rows (r ∷ rs) b after h o =
+    let p = and_parts (codes_head r.shape) (list_all (λ (x : Row). codes_head x.shape) rs) h in
+    rw (other-byte-row r.shape b after p.0 o) (other-byte-rows rs b after p.1 o)
+
+pub other_byte : (b : ℕ) (after : List CsiParam) → (b == 59) ≡ false → piece (P b ∷ after) ≡ None
+unfolding piece
+other_byte b after o = other-byte-rows sgr_rows b after all-heads o
+
+pub empty_front : piece [] ≡ None
+unfolding piece
+empty_front = refl
+
+pub semicolon_front : (after : List CsiParam) → piece (P 59 ∷ after) ≡ Some (sgr.Reset, 1)
+unfolding piece
+semicolon_front after = refl
+
+-- the same, where the first token is known by its place
+pub at_end : (rest : List CsiParam) → length rest < 1 → piece rest ≡ None
+at_end [] l = empty_front
+at_end (t ∷ ts) l = absurd (omega arith)
+
+pub at_semicolon : (rest : List CsiParam) (d : CsiParam) → 1 ≤ length rest → get_or rest 0 d ≡ P 59 → piece rest ≡ Some (sgr.Reset, 1)
+at_semicolon [] d l e = absurd (omega arith)
+at_semicolon (t ∷ ts) d l e = rw e (semicolon_front ts)
+
+pub at_other_byte : (rest : List CsiParam) (d : CsiParam) (b : ℕ) → 1 ≤ length rest → get_or rest 0 d ≡ P b → (b == 59) ≡ false → piece rest ≡ None
+at_other_byte [] d b l e o = absurd (omega arith)
+at_other_byte (t ∷ ts) d b l e o = rw e (other_byte b ts o)
+
+pub at_number : (rest after : List CsiParam) (d : CsiParam) (z : ℤ) → after ≡ drop 1 rest → 1 ≤ length rest → get_or rest 0 d ≡ Integer z → piece rest ≡ piece (Integer z ∷ after)
+at_number [] after d z a l e = absurd (omega arith)
+at_number (t ∷ ts) after d z a l e = rw (e, a) refl
+
+pub at_unknown_number : (rest : List CsiParam) (d : CsiParam) (z : ℤ) → 1 ≤ length rest → get_or rest 0 d ≡ Integer z → ((c : SgrCode) → z ≢ pos (number_of c)) → piece rest ≡ None
+at_unknown_number [] d z l e no_code = absurd (omega arith)
+at_unknown_number (t ∷ ts) d z l e no_code = rw e (unknown_number z ts no_code)

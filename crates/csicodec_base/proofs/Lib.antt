@@ -1,0 +1,12 @@
+pub mod Runs
+pub mod Faults
+pub mod OneFault
+pub mod Spelled
+pub mod Printed
+pub mod Tokens
+pub mod Unique
+pub mod Reading
+pub mod Places
+pub mod Colors
+pub mod Table
+pub mod CodePieces

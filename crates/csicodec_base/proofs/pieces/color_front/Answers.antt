@@ -1,0 +1,21 @@
+use Rattle.std.proofs.Common.{rules, arith, ◌≡◌, ◌∙◌, sym}
+use Rattle.std.proofs.lemmas.List.{take_rest}
+use Rattle.std.specs.Prelude.{pos}
+use Rattle.std.proofs.lemmas.Int.{ints}
+use mir.Val.{SFits}
+use mir.Syntax.{w64}
+use Rattle.csicodec_base.specs.declared.param.CsiParam.TheVariants.{Integer}
+use Rattle.csicodec_base.proofs.Colors.{behind_six, behind_two}
+use Rattle.csicodec_base.proofs.pieces.color_front.Goals as goal
+
+pub returns-in-58-eq6-eq58 : goal.returns-in-58-eq6-eq58
+returns-in-58-eq6-eq58 c =
+    let fits : SFits w64 c.in-P.kind = search rules in
+    let six : c.in-P.kind ≡ pos 6 = omega (arith, ints) in
+    c.blended.ensures ∙ sym (behind_six c.args.after.now _ (Integer (pos 0)) (take_rest c.args.after.now 3) (omega arith) (cc) (cc) (cc))
+
+pub returns-in-58-eq2-eq58 : goal.returns-in-58-eq2-eq58
+returns-in-58-eq2-eq58 c =
+    let fits : SFits w64 c.in-P.kind = search rules in
+    let two : c.in-P.kind ≡ pos 2 = omega (arith, ints) in
+    c.opaque.ensures ∙ sym (behind_two c.args.after.now _ (Integer (pos 0)) (take_rest c.args.after.now 3) (omega arith) (cc) (cc) (cc))

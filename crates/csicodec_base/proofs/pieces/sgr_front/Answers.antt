@@ -1,0 +1,46 @@
+use Rattle.std.proofs.Common.{rules, arith, ◌≡◌, ◌≢◌, ◌∙◌, sym, refl, false, get_or}
+use Rattle.std.specs.Prelude.{pos, ◌==◌}
+use Rattle.std.proofs.lemmas.List.{take_rest}
+use Rattle.std.proofs.lemmas.Int.{to_z-of_z}
+use mir.Val.{SFits}
+use mir.Syntax.{w64}
+use Rattle.csicodec_base.specs.declared.param.CsiParam.TheVariants.{Integer, P}
+use Rattle.csicodec_base.specs.declared.codes.SgrCode.{SgrCode}
+use Rattle.csicodec_base.specs.Numbers.{number_of}
+use Rattle.csicodec_base.proofs.Table.{is_front, is_near, is_within}
+use Rattle.csicodec_base.proofs.CodePieces.{at_end, at_semicolon, at_other_byte, at_number, at_unknown_number}
+use Rattle.csicodec_base.proofs.pieces.sgr_front.Goals as goal
+
+pub returns-in-P-2 : goal.returns-in-P-2
+returns-in-P-2 c =
+    let first : get_or c.args.rest.now 0 (Integer (pos 0)) ≡ P 59 = search rules in
+    let e = sym (at_semicolon c.args.rest.now (Integer (pos 0)) (omega arith) first) in
+    record { piece = is_front _ _ e; near = is_near _ _ e; within = is_within _ _ e }
+
+pub returns-in_ok-from_i64-in-Integer : goal.returns-in_ok-from_i64-in-Integer
+returns-in_ok-from_i64-in-Integer c =
+    let fits : SFits w64 c.in-Integer.number = search rules in
+    let number : c.in-Integer.number ≡ pos (number_of c.in_ok-from_i64-in-Integer.field-0) =
+    sym (to_z-of_z w64 c.in-Integer.number fits) ∙ (c.in_ok-from_i64-in-Integer.ensures c.in_ok-from_i64-in-Integer.field-0).0 refl in
+    let first : get_or c.args.rest.now 0 (Integer (pos 0)) ≡ Integer (pos (number_of c.in_ok-from_i64-in-Integer.field-0)) = cc in
+    let e = c.code_front.ensures ∙ sym (at_number c.args.rest.now _ (Integer (pos 0)) (pos (number_of c.in_ok-from_i64-in-Integer.field-0)) (take_rest c.args.rest.now 1) (omega arith) first) in
+    record { piece = is_front _ _ e; near = is_near _ _ e; within = is_within _ _ e }
+
+pub returns-in_err-from_i64-in-Integer : goal.returns-in_err-from_i64-in-Integer
+returns-in_err-from_i64-in-Integer c =
+    let fits : SFits w64 c.in-Integer.number = search rules in
+    let no_code : (code : SgrCode) → c.in-Integer.number ≢ pos (number_of code) = λ code h.
+    (let none = (c.in_err-from_i64-in-Integer.ensures code).1 (to_z-of_z w64 c.in-Integer.number fits ∙ h) in cc) in
+    let e = c.from_residual.ensures ∙ sym (at_unknown_number c.args.rest.now (Integer (pos 0)) c.in-Integer.number (omega arith) (cc) no_code) in
+    record { piece = is_front _ _ e; near = is_near _ _ e; within = is_within _ _ e }
+
+pub returns-in-empty : goal.returns-in-empty
+returns-in-empty c =
+    let e = sym (at_end c.args.rest.now c.in-empty.len_below) in
+    record { piece = is_front _ _ e; near = is_near _ _ e; within = is_within _ _ e }
+
+pub returns-in-P : goal.returns-in-P
+returns-in-P c =
+    let other : (c.in-P.mark == 59) ≡ false = search rules in
+    let e = sym (at_other_byte c.args.rest.now (Integer (pos 0)) c.in-P.mark (omega arith) (search rules) other) in
+    record { piece = is_front _ _ e; near = is_near _ _ e; within = is_within _ _ e }

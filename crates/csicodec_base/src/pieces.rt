@@ -1,0 +1,258 @@
+//! The pieces of a list of styles.
+
+ghost use Rattle.std.specs.Prelude.{◌≡◌, ◌∷◌, ◌<◌, ◌≤◌, List, IfSome, Some, pos, take, length};
+ghost use Rattle.csicodec_base.specs.Numbers.{action_of, number_of};
+ghost use Rattle.csicodec_base.specs.Pieces.{IsFront, captured, color_by, front_by, piece};
+ghost use Rattle.csicodec_base.specs.Shapes.{blended_shapes, byte_of, color_of_tokens, color_shapes, four_shape, opaque_shapes, palette_shapes, plain_shapes, three_shape, underline_rows};
+ghost use Rattle.csicodec_base.specs.declared.param.CsiParam.{CsiParam};
+ghost use Rattle.csicodec_base.specs.declared.param.CsiParam.TheVariants.{Integer};
+
+use crate::CsiParam::{Integer, P};
+use crate::{
+    Blink, ColorSpec, CsiParam, Font, Intensity, Sgr, SgrCode, SrgbaTuple, Underline, VerticalAlign,
+};
+
+/// The longest piece of styles at the front of a list, and its number of tokens.
+pub fn sgr_front(rest: &[CsiParam]) -> Option<(Sgr, usize)>
+    ensures piece { IsFront rest.now result }
+    // The answer is that of every list with the same first 13 tokens.
+    ensures near { (list : List CsiParam) → take 13 list ≡ take 13 rest.now → IsFront list result }
+    ensures within { IfSome result (λ f. (0 < f.1) × (f.1 ≤ length rest.now)) }
+{
+    match rest {
+        [] => None,
+        [P(mark), ..] if *mark != b';' => None,
+        [P(_), ..] => Some((Sgr::Reset, 1)),
+        [Integer(number), after @ ..] => code_front(SgrCode::from_i64(*number)?, after),
+    }
+}
+
+/// The piece that begins with a code, by what stands behind it.
+fn code_front(code: SgrCode, after: &[CsiParam]) -> Option<(Sgr, usize)>
+    ensures { result ≡ piece (Integer (pos (number_of code)) ∷ after.now) }
+{
+    match code {
+        SgrCode::UnderlineOn => Some(underline_front(after)),
+        SgrCode::ForegroundColor => {
+            let (color, tokens) = color_front(after)?;
+            Some((Sgr::Foreground(color), tokens))
+        }
+        SgrCode::BackgroundColor => {
+            let (color, tokens) = color_front(after)?;
+            Some((Sgr::Background(color), tokens))
+        }
+        SgrCode::UnderlineColor => {
+            let (color, tokens) = color_front(after)?;
+            Some((Sgr::UnderlineColor(color), tokens))
+        }
+        _ => Some((one_token(code)?, 1)),
+    }
+}
+
+/// What a code gives that has no further tokens.
+fn one_token(code: SgrCode) -> Option<Sgr>
+    ensures { result ≡ action_of code }
+{
+    match code {
+        SgrCode::Reset => Some(Sgr::Reset),
+        SgrCode::IntensityBold => Some(Sgr::Intensity(Intensity::Bold)),
+        SgrCode::IntensityDim => Some(Sgr::Intensity(Intensity::Half)),
+        SgrCode::ItalicOn => Some(Sgr::Italic(true)),
+        SgrCode::BlinkOn => Some(Sgr::Blink(Blink::Slow)),
+        SgrCode::RapidBlinkOn => Some(Sgr::Blink(Blink::Rapid)),
+        SgrCode::InverseOn => Some(Sgr::Inverse(true)),
+        SgrCode::InvisibleOn => Some(Sgr::Invisible(true)),
+        SgrCode::StrikeThroughOn => Some(Sgr::StrikeThrough(true)),
+        SgrCode::DefaultFont => Some(Sgr::Font(Font::Default)),
+        SgrCode::AltFont1 => Some(Sgr::Font(Font::Alternate(1))),
+        SgrCode::AltFont2 => Some(Sgr::Font(Font::Alternate(2))),
+        SgrCode::AltFont3 => Some(Sgr::Font(Font::Alternate(3))),
+        SgrCode::AltFont4 => Some(Sgr::Font(Font::Alternate(4))),
+        SgrCode::AltFont5 => Some(Sgr::Font(Font::Alternate(5))),
+        SgrCode::AltFont6 => Some(Sgr::Font(Font::Alternate(6))),
+        SgrCode::AltFont7 => Some(Sgr::Font(Font::Alternate(7))),
+        SgrCode::AltFont8 => Some(Sgr::Font(Font::Alternate(8))),
+        SgrCode::AltFont9 => Some(Sgr::Font(Font::Alternate(9))),
+        SgrCode::UnderlineDouble => Some(Sgr::Underline(Underline::Double)),
+        SgrCode::NormalIntensity => Some(Sgr::Intensity(Intensity::Normal)),
+        SgrCode::ItalicOff => Some(Sgr::Italic(false)),
+        SgrCode::UnderlineOff => Some(Sgr::Underline(Underline::None)),
+        SgrCode::BlinkOff => Some(Sgr::Blink(Blink::None)),
+        SgrCode::InverseOff => Some(Sgr::Inverse(false)),
+        SgrCode::InvisibleOff => Some(Sgr::Invisible(false)),
+        SgrCode::StrikeThroughOff => Some(Sgr::StrikeThrough(false)),
+        SgrCode::ForegroundBlack => Some(Sgr::Foreground(ColorSpec::PaletteIndex(0))),
+        SgrCode::ForegroundRed => Some(Sgr::Foreground(ColorSpec::PaletteIndex(1))),
+        SgrCode::ForegroundGreen => Some(Sgr::Foreground(ColorSpec::PaletteIndex(2))),
+        SgrCode::ForegroundYellow => Some(Sgr::Foreground(ColorSpec::PaletteIndex(3))),
+        SgrCode::ForegroundBlue => Some(Sgr::Foreground(ColorSpec::PaletteIndex(4))),
+        SgrCode::ForegroundMagenta => Some(Sgr::Foreground(ColorSpec::PaletteIndex(5))),
+        SgrCode::ForegroundCyan => Some(Sgr::Foreground(ColorSpec::PaletteIndex(6))),
+        SgrCode::ForegroundWhite => Some(Sgr::Foreground(ColorSpec::PaletteIndex(7))),
+        SgrCode::ForegroundDefault => Some(Sgr::Foreground(ColorSpec::Default)),
+        SgrCode::BackgroundBlack => Some(Sgr::Background(ColorSpec::PaletteIndex(0))),
+        SgrCode::BackgroundRed => Some(Sgr::Background(ColorSpec::PaletteIndex(1))),
+        SgrCode::BackgroundGreen => Some(Sgr::Background(ColorSpec::PaletteIndex(2))),
+        SgrCode::BackgroundYellow => Some(Sgr::Background(ColorSpec::PaletteIndex(3))),
+        SgrCode::BackgroundBlue => Some(Sgr::Background(ColorSpec::PaletteIndex(4))),
+        SgrCode::BackgroundMagenta => Some(Sgr::Background(ColorSpec::PaletteIndex(5))),
+        SgrCode::BackgroundCyan => Some(Sgr::Background(ColorSpec::PaletteIndex(6))),
+        SgrCode::BackgroundWhite => Some(Sgr::Background(ColorSpec::PaletteIndex(7))),
+        SgrCode::BackgroundDefault => Some(Sgr::Background(ColorSpec::Default)),
+        SgrCode::OverlineOn => Some(Sgr::Overline(true)),
+        SgrCode::OverlineOff => Some(Sgr::Overline(false)),
+        SgrCode::ResetUnderlineColor => Some(Sgr::UnderlineColor(ColorSpec::Default)),
+        SgrCode::VerticalAlignSuperScript => Some(Sgr::VerticalAlign(VerticalAlign::SuperScript)),
+        SgrCode::VerticalAlignSubScript => Some(Sgr::VerticalAlign(VerticalAlign::SubScript)),
+        SgrCode::VerticalAlignBaseLine => Some(Sgr::VerticalAlign(VerticalAlign::BaseLine)),
+        SgrCode::ForegroundBrightBlack => Some(Sgr::Foreground(ColorSpec::PaletteIndex(8))),
+        SgrCode::ForegroundBrightRed => Some(Sgr::Foreground(ColorSpec::PaletteIndex(9))),
+        SgrCode::ForegroundBrightGreen => Some(Sgr::Foreground(ColorSpec::PaletteIndex(10))),
+        SgrCode::ForegroundBrightYellow => Some(Sgr::Foreground(ColorSpec::PaletteIndex(11))),
+        SgrCode::ForegroundBrightBlue => Some(Sgr::Foreground(ColorSpec::PaletteIndex(12))),
+        SgrCode::ForegroundBrightMagenta => Some(Sgr::Foreground(ColorSpec::PaletteIndex(13))),
+        SgrCode::ForegroundBrightCyan => Some(Sgr::Foreground(ColorSpec::PaletteIndex(14))),
+        SgrCode::ForegroundBrightWhite => Some(Sgr::Foreground(ColorSpec::PaletteIndex(15))),
+        SgrCode::BackgroundBrightBlack => Some(Sgr::Background(ColorSpec::PaletteIndex(8))),
+        SgrCode::BackgroundBrightRed => Some(Sgr::Background(ColorSpec::PaletteIndex(9))),
+        SgrCode::BackgroundBrightGreen => Some(Sgr::Background(ColorSpec::PaletteIndex(10))),
+        SgrCode::BackgroundBrightYellow => Some(Sgr::Background(ColorSpec::PaletteIndex(11))),
+        SgrCode::BackgroundBrightBlue => Some(Sgr::Background(ColorSpec::PaletteIndex(12))),
+        SgrCode::BackgroundBrightMagenta => Some(Sgr::Background(ColorSpec::PaletteIndex(13))),
+        SgrCode::BackgroundBrightCyan => Some(Sgr::Background(ColorSpec::PaletteIndex(14))),
+        SgrCode::BackgroundBrightWhite => Some(Sgr::Background(ColorSpec::PaletteIndex(15))),
+        SgrCode::UnderlineOn
+        | SgrCode::ForegroundColor
+        | SgrCode::BackgroundColor
+        | SgrCode::UnderlineColor => None,
+    }
+}
+
+/// An underline, with its kind behind a colon or without.
+fn underline_front(after: &[CsiParam]) -> (Sgr, usize)
+    ensures { Some result ≡ front_by 1 underline_rows after.now }
+{
+    match after {
+        [P(b':'), Integer(0), ..] => (Sgr::Underline(Underline::None), 3),
+        [P(b':'), Integer(1), ..] => (Sgr::Underline(Underline::Single), 3),
+        [P(b':'), Integer(2), ..] => (Sgr::Underline(Underline::Double), 3),
+        [P(b':'), Integer(3), ..] => (Sgr::Underline(Underline::Curly), 3),
+        [P(b':'), Integer(4), ..] => (Sgr::Underline(Underline::Dotted), 3),
+        [P(b':'), Integer(5), ..] => (Sgr::Underline(Underline::Dashed), 3),
+        _ => (Sgr::Underline(Underline::Single), 1),
+    }
+}
+
+/// The colour behind a code, and its number of tokens with the code.
+fn color_front(after: &[CsiParam]) -> Option<(ColorSpec, usize)>
+    ensures { result ≡ color_by 1 color_shapes after.now }
+{
+    let [P(mark), Integer(kind), P(second), parts @ ..] = after else {
+        return None;
+    };
+    match (*mark, *kind, *second) {
+        (b':', 6, b':') => blended(parts),
+        (b':', 2, b':') => opaque(parts),
+        (b';', 2, b';') => plain(parts),
+        (b':', 5, b':') | (b';', 5, b';') => palette(parts),
+        _ => None,
+    }
+}
+
+/// Behind `5:` or `5;`, a place in the palette.
+fn palette(parts: &[CsiParam]) -> Option<(ColorSpec, usize)>
+    ensures { result ≡ color_by 4 palette_shapes parts.now }
+{
+    let index = byte(parts.first()?)?;
+    Some((ColorSpec::PaletteIndex(index), 5))
+}
+
+/// The same for the colours with semicolons between them.
+fn plain(parts: &[CsiParam]) -> Option<(ColorSpec, usize)>
+    ensures { result ≡ color_by 4 plain_shapes parts.now }
+{
+    Some((true_color(three(parts, b';')?)?, 9))
+}
+
+/// Behind `2:`, the colour, and its number of tokens with the four before.
+fn opaque(parts: &[CsiParam]) -> Option<(ColorSpec, usize)>
+    ensures { result ≡ color_by 4 opaque_shapes parts.now }
+{
+    if let [Integer(_), P(b':'), rest @ ..] = parts
+        && let Some(channels) = three(rest, b':')
+    {
+        return Some((true_color(channels)?, 11));
+    }
+    if let [P(b':'), rest @ ..] = parts
+        && let Some(channels) = three(rest, b':')
+    {
+        return Some((true_color(channels)?, 10));
+    }
+    Some((true_color(three(parts, b':')?)?, 9))
+}
+
+/// Behind `6:`, the colour and how much of it is seen, and its number of tokens with the four before.
+fn blended(parts: &[CsiParam]) -> Option<(ColorSpec, usize)>
+    ensures { result ≡ color_by 4 blended_shapes parts.now }
+{
+    if let [Integer(_), P(b':'), rest @ ..] = parts
+        && let Some(channels) = four(rest)
+    {
+        return Some((true_color_with_alpha(channels)?, 13));
+    }
+    if let [P(b':'), rest @ ..] = parts
+        && let Some(channels) = four(rest)
+    {
+        return Some((true_color_with_alpha(channels)?, 12));
+    }
+    Some((true_color_with_alpha(four(parts)?)?, 11))
+}
+
+/// The three tokens at the front that have the mark between them.
+fn three(parts: &[CsiParam], mark: u8) -> Option<[CsiParam; 3]>
+    ensures { result ≡ captured (three_shape mark) parts.now }
+{
+    match parts {
+        [red, P(first), green, P(second), blue, ..] if *first == mark && *second == mark => {
+            Some([*red, *green, *blue])
+        }
+        _ => None,
+    }
+}
+
+/// The four tokens at the front that have colons between them.
+fn four(parts: &[CsiParam]) -> Option<[CsiParam; 4]>
+    ensures { result ≡ captured four_shape parts.now }
+{
+    match parts {
+        [red, P(b':'), green, P(b':'), blue, P(b':'), alpha, ..] => {
+            Some([*red, *green, *blue, *alpha])
+        }
+        _ => None,
+    }
+}
+
+fn byte(param: &CsiParam) -> Option<u8>
+    ensures { result ≡ byte_of param.now }
+{
+    match param {
+        CsiParam::Integer(number) => u8::try_from(*number).ok(),
+        CsiParam::P(_) => None,
+    }
+}
+
+fn true_color(channels: [CsiParam; 3]) -> Option<ColorSpec>
+    ensures { result ≡ color_of_tokens channels }
+{
+    let [red, green, blue] = channels;
+    let color = SrgbaTuple(byte(&red)?, byte(&green)?, byte(&blue)?, 255);
+    Some(ColorSpec::TrueColor(color))
+}
+
+fn true_color_with_alpha(channels: [CsiParam; 4]) -> Option<ColorSpec>
+    ensures { result ≡ color_of_tokens channels }
+{
+    let [red, green, blue, alpha] = channels;
+    let color = SrgbaTuple(byte(&red)?, byte(&green)?, byte(&blue)?, byte(&alpha)?);
+    Some(ColorSpec::TrueColor(color))
+}

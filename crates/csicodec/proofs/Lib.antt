@@ -1,0 +1,6 @@
+pub mod Fronts
+pub mod Blocks
+pub mod Cuts
+pub mod NextLemmas
+pub mod Odd
+pub mod Suffixes

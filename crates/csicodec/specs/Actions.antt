@@ -1,0 +1,24 @@
+-- What an action says, without where it lies in memory: contracts compare these.
+use Rattle.std.specs.Prelude.{ℕ, List, Bool}
+use Rattle.csicodec_base.specs.declared.param.CsiParam.{CsiParam}
+use Rattle.csicodec_base.specs.declared.sgr.Sgr as sgr_type
+use Rattle.csicodec.specs.declared.actions.Unspecified as unspecified_type
+use Rattle.csicodec.specs.declared.actions.CSI.{CSI}
+use Rattle.csicodec.specs.declared.actions.CSI.TheVariants as csi
+
+-- one constructor for each variant of `CSI`, with lists in place of vectors
+pub data Action : Type 0 where
+  Sgr : sgr_type.Sgr → Action
+  Unspecified : (params : List CsiParam) (parameters_truncated : Bool) (control : ℕ) → Action
+
+abbrev pub unspecified_of : unspecified_type.Unspecified → Action
+unspecified_of u = Unspecified u.params.items u.parameters_truncated u.control
+
+abbrev pub action_of : CSI → Action
+action_of (csi.Sgr s) = Sgr s
+action_of (csi.Unspecified u) = unspecified_of u.value
+
+-- the actions whose values hold memory
+abbrev pub TakesMemory : Action → Type 0
+TakesMemory (Sgr s) = ⊥
+TakesMemory (Unspecified params flag final) = Unit {0}

@@ -1,0 +1,10 @@
+pub mod Actions
+pub mod Cut
+pub mod Groups
+pub mod Look
+pub mod Place
+pub mod Progress
+pub mod Run
+pub mod Segments
+pub mod Steps
+pub mod Suffix

@@ -1,0 +1,133 @@
+-- What the private steps of a run say to each other: the actions by a function that computes them. Nothing public rests on this
+-- file: that it gives the actions of the segmentation is proved.
+use Rattle.std.specs.Prelude.{ℕ, zero, suc, pred, ◌≡◌, ◌≤◌, ◌<◌, ◌+◌, ◌-◌, ◌*◌, ◌==◌, Bool, true, false, List, [], ◌∷◌, length, drop, slice_get, Option, Some, None, if◌then◌else◌}
+use Rattle.csicodec_base.specs.declared.param.CsiParam.{CsiParam}
+use Rattle.csicodec_base.specs.declared.param.CsiParam.TheVariants.{Integer, P}
+use Rattle.csicodec_base.specs.declared.sgr.Sgr as sgr_type
+use Rattle.csicodec_base.specs.declared.sgr.Sgr.TheVariants as sgr
+use Rattle.csicodec_base.specs.Pieces.{piece}
+use Rattle.csicodec.specs.declared.group.Group.{Group}
+use Rattle.csicodec.specs.declared.group.Group.TheVariants.{Whole, Styles}
+use Rattle.csicodec.specs.declared.parser.Stage.{Stage}
+use Rattle.csicodec.specs.declared.parser.Stage.TheVariants.{Fresh, Going, Failed}
+use Rattle.csicodec.specs.declared.actions.CSI.{CSI}
+use Rattle.csicodec.specs.Actions.{Action, Sgr, Unspecified, action_of}
+use Rattle.csicodec.specs.Groups.{group, is_odd, has_odd}
+use Rattle.csicodec.specs.Cut.{IsRestAfter}
+use Rattle.csicodec.specs.Progress.{Progress}
+
+abbrev pub styled : Option (sgr_type.Sgr × ℕ) → Option (Action × ℕ)
+styled None = None
+styled (Some p) = Some (Sgr p.0, p.1)
+
+-- the piece at the front, and its number of tokens
+abbrev pub front : Group → List CsiParam → Option (Action × ℕ)
+front Styles rest = styled (piece rest)
+front Whole rest = None
+
+-- what was found, as an action
+abbrev pub found : Option (CSI × ℕ) → Option (Action × ℕ)
+found None = None
+found (Some p) = Some (action_of p.0, p.1)
+
+abbrev pub is_semicolon : CsiParam → Bool
+is_semicolon (Integer n) = false
+is_semicolon (P b) = b == 59
+
+-- k tokens, and the `;` directly after them
+abbrev pub with_semicolon : ℕ → Option CsiParam → ℕ
+with_semicolon k None = k
+with_semicolon k (Some t) = if is_semicolon t then k + 1 else k
+
+-- the block at the front: its action, and how many tokens it takes
+abbrev pub block_of : List CsiParam → Option (Action × ℕ) → Option (Action × ℕ)
+block_of rest None = None
+block_of rest (Some p) = Some (p.0, with_semicolon p.1 (slice_get rest p.1))
+
+abbrev pub block : Group → List CsiParam → Option (Action × ℕ)
+block g rest = block_of rest (front g rest)
+
+-- The actions of what follows `skip` more tokens of a block: one for each block, and `unknown` of a rest at whose front no piece stands.
+abbrev pub segments_at : (List CsiParam → Action) → List CsiParam → (ℕ → List Action) → Option (Action × ℕ) → List Action
+segments_at unknown rest after None = unknown rest ∷ []
+segments_at unknown rest after (Some b) = b.0 ∷ after (pred b.1)
+
+abbrev pub segments : Group → (List CsiParam → Action) → List CsiParam → ℕ → List Action
+segments g unknown [] skip = []
+segments g unknown (t ∷ ts) (suc skip) = segments g unknown ts skip
+segments g unknown (t ∷ ts) zero = segments_at unknown (t ∷ ts) (segments g unknown ts) (block g (t ∷ ts))
+
+-- the actions of what is left of a list that is cut
+abbrev pub actions_after : Group → Bool → ℕ → List CsiParam → List Action
+actions_after g flag final rest = segments g (λ l. Unspecified l flag final) rest 0
+
+abbrev pub style_actions : List CsiParam → Bool → ℕ → List Action
+style_actions [] flag final = Sgr sgr.Reset ∷ []
+style_actions (t ∷ ts) flag final = if has_odd (t ∷ ts) then Unspecified (t ∷ ts) flag final ∷ [] else actions_after Styles flag final (t ∷ ts)
+
+abbrev pub actions_in : Group → List CsiParam → Bool → ℕ → List Action
+actions_in Styles list flag final = style_actions list flag final
+actions_in Whole list flag final = Unspecified list flag final ∷ []
+
+-- all actions of a list before a final character
+abbrev pub actions : List CsiParam → Bool → ℕ → List Action
+actions list flag final = actions_in (group list final) list flag final
+
+-- whether a token is there, and is an odd byte
+abbrev pub is_odd_at : Option CsiParam → Bool
+is_odd_at None = false
+is_odd_at (Some t) = is_odd t
+
+-- ---- what a stage of a run says
+
+-- the actions still to come, after this many tokens of the list
+abbrev pub left_at : Stage → Bool → ℕ → List CsiParam → ℕ → List Action
+left_at Fresh flag final list passed = actions list flag final
+left_at (Going g) flag final list passed = actions_after g flag final (drop passed list)
+left_at Failed flag final list passed = []
+
+-- the first call may look at each token once, for odd bytes
+abbrev pub fresh_cost : Stage → ℕ
+fresh_cost Fresh = 1
+fresh_cost (Going g) = 0
+fresh_cost Failed = 0
+
+-- the group that a run goes by
+abbrev pub GoesBy : Stage → List CsiParam → ℕ → Group → Type 0
+GoesBy Fresh list final g = g ≡ group list final
+GoesBy (Going h) list final g = g ≡ h
+GoesBy Failed list final g = ⊥
+
+-- nothing was read, or there are tokens left
+abbrev pub CanGo : Stage → ℕ → ℕ → Type 0
+CanGo Fresh passed len = Unit {0}
+CanGo (Going g) passed len = passed < len
+CanGo Failed passed len = ⊥
+
+abbrev pub has_failed : Stage → Bool
+has_failed Fresh = false
+has_failed (Going g) = false
+has_failed Failed = true
+
+-- the next block stands from here to there
+abbrev pub CutsOn : Group → List CsiParam → ℕ → ℕ → Type 0
+CutsOn g list from to = (x : Action) × (block g (drop from list) ≡ Some (x, to - from)) × (from < to)
+
+-- all actions of the run's list
+abbrev pub all_of : Progress → List Action
+all_of p = actions p.list p.flag p.final
+
+-- the answers given are a front of all, the looks are paid for by the tokens that are passed, and what is unread is the rest of a cut
+abbrev pub Stands : Stage → Progress → Type 0
+Stands Fresh p = (p.given ≡ 0) × (p.passed ≡ 0) × (p.looks ≡ 0)
+Stands (Going g) p =
+    (g ≡ group p.list p.final)
+    × (drop p.given (all_of p) ≡ left_at (Going g) p.flag p.final p.list p.passed)
+    × (p.looks ≤ length p.list + 107 * p.passed)
+    × (p.passed < length p.list → IsRestAfter p.list p.final p.given (drop p.passed p.list))
+    × (0 < p.given)
+Stands Failed p = p.looks ≤ 108 * length p.list
+
+pub record Sound (stage : Stage) (p : Progress) : Type 0 where
+  pub within : p.passed ≤ length p.list
+  pub stands : Stands stage p

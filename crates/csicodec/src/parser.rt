@@ -1,0 +1,340 @@
+//! The parser: an iterator over the actions of one parameter list, for any `Look`.
+ghost use Rattle.std.specs.Prelude.{◌≡◌, ◌↔◌, ℕ, ◌+◌, ◌-◌, ◌*◌, ◌<◌, ◌≤◌, List, [], ◌∷◌, Some, None, length, drop, map, IfOk, OnErr, OnOk, IfSome, IfNone, IsNone};
+ghost use Rattle.csicodec_base.specs.declared.param.CsiParam.{CsiParam};
+ghost use Rattle.csicodec.specs.Actions.{action_of, Unspecified as Unknown};
+ghost use Rattle.csicodec.specs.Groups.{group, has_odd};
+ghost use Rattle.csicodec.specs.Segments.{Actions};
+ghost use Rattle.csicodec.specs.Steps.{with_semicolon, block, actions_after, actions_in, left_at, fresh_cost, GoesBy, CanGo, CutsOn};
+
+use crate::actions::{CSI, Unspecified};
+use crate::count::Count;
+use crate::group::{Group, front, is_odd};
+use crate::look::Look;
+use crate::tokens::Tokens;
+use csicodec_base::{CsiParam, Sgr};
+use std::alloc::{AllocError, Global};
+use std::marker::Model;
+
+/// No piece is longer.
+const LONGEST: usize = 13;
+
+#[derive(Clone, Copy, Debug, PartialEq, Eq)]
+enum Stage {
+    /// Nothing was read.
+    Fresh,
+    /// The unread tokens are cut from their front, as those of the group are.
+    Going(Group),
+    /// Memory was refused.
+    Failed,
+}
+
+/// A run over the tokens of one parameter list: an iterator of its actions.
+///
+/// After `None`, and after an `Err`, every further `next` is `None`. An `Err` comes only where the next action is an
+/// `Unspecified` and memory was refused for it; the actions given before stand.
+#[derive(Drop)]
+pub struct Run<L: Look> {
+    alloc: Global,
+    look: L,
+    truncated: bool,
+    control: char,
+    given: Count,
+    stage: Stage,
+}
+
+impl<L: Look> Model for Run<L> {
+    ghost use Rattle.csicodec.specs.Progress.{Progress};
+
+    ghost Value = { Progress };
+
+    ghost use Rattle.csicodec.specs.Steps.{has_failed, Sound};
+
+    ghost view = { λ r. record { list = L.tokens r.look; flag = r.truncated; final = r.control; given = r.given.total; failed = has_failed r.stage; passed = L.passed r.look; looks = L.looks r.look } };
+
+    ghost invariant = { λ r. Sound r.stage (record { list = L.tokens r.look; flag = r.truncated; final = r.control; given = r.given.total; failed = has_failed r.stage; passed = L.passed r.look; looks = L.looks r.look }) };
+}
+
+/// The parser of a slice of parameters.
+pub type CSIParser<'a> = Run<Tokens<'a>>;
+
+/// Whether a byte other than `;`, `:` and `?` is among the tokens. Each is looked at once.
+fn has_odd<L: Look>(look: &mut L) -> bool
+    requires { L.passed look.old ≡ 0 }
+    ensures odd { result ≡ has_odd (L.tokens look.old) }
+    ensures list { L.tokens look.new ≡ L.tokens look.old }
+    ensures passes { L.passed look.new ≡ 0 }
+    ensures counted { L.looks look.old ≤ L.looks look.new }
+    ensures costs { L.looks look.new ≤ L.looks look.old + length (L.tokens look.old) }
+{
+    for i in 0..look.len() {
+        if is_odd(look.get(i)) {
+            return true;
+        }
+    }
+    false
+}
+
+/// `len` tokens, and the `;` directly after them.
+fn with_semicolon(len: usize, next: Option<CsiParam>) -> usize
+    requires { len < usize.MAX }
+    ensures { result ≡ with_semicolon len next }
+{
+    match next {
+        Some(CsiParam::P(b';')) => len + 1,
+        _ => len,
+    }
+}
+
+/// Passes over the block at the front, and answers its action. Without one nothing is passed.
+fn cut_block<L: Look>(group: Group, look: &mut L) -> Option<CSI>
+    ensures some { IfSome result (λ action. block group (drop (L.passed look.old) (L.tokens look.old)) ≡ Some (action_of action, L.passed look.new - L.passed look.old)) }
+    ensures forward { IfSome result (λ _. L.passed look.old < L.passed look.new) }
+    ensures none { IfNone result (block group (drop (L.passed look.old) (L.tokens look.old)) ≡ None) }
+    ensures stays { IfNone result (L.passed look.new ≡ L.passed look.old) }
+    ensures list { L.tokens look.new ≡ L.tokens look.old }
+    ensures within { L.passed look.new ≤ length (L.tokens look.new) }
+    ensures counted { L.looks look.old ≤ L.looks look.new }
+    ensures costs { L.looks look.new + L.passed look.old ≤ L.looks look.old + 105 + L.passed look.new }
+{
+    let width = look.len().min(LONGEST);
+    let Some((action, len)) = front(group, look.lend(0, width)) else {
+        return None;
+    };
+    let next = look.get(len);
+    look.pass(with_semicolon(len, next));
+    Some(action)
+}
+
+/// All unread tokens as one action. They are passed, unless memory is refused.
+fn unspecified<L: Look>(
+    look: &mut L,
+    alloc: Global,
+    truncated: bool,
+    control: char,
+) -> Result<CSI, AllocError>
+    requires { L.passed look.old ≤ length (L.tokens look.old) }
+    ensures ok { IfOk result (λ action. action_of action ≡ Unknown (drop (L.passed look.old) (L.tokens look.old)) truncated control) }
+    ensures all { OnOk result (L.passed look.new ≡ length (L.tokens look.new)) }
+    ensures list { L.tokens look.new ≡ L.tokens look.old }
+    ensures within { L.passed look.new ≤ length (L.tokens look.new) }
+    ensures counted { L.looks look.old ≤ L.looks look.new }
+    ensures costs { L.looks look.new + 2 * L.passed look.old ≤ L.looks look.old + 2 * length (L.tokens look.old) }
+{
+    let mut params = Vec::new(alloc);
+    look.copy_to(&mut params)?;
+    let unspecified = Unspecified {
+        params,
+        parameters_truncated: truncated,
+        control,
+    };
+    let boxed = Box::new(alloc, unspecified)?;
+    look.pass(look.len());
+    Ok(CSI::Unspecified(boxed))
+}
+
+/// The first action of a list.
+fn first_action<L: Look>(
+    group: Group,
+    look: &mut L,
+    alloc: Global,
+    truncated: bool,
+    control: char,
+) -> Result<CSI, AllocError>
+    requires passed { L.passed look.old ≡ 0 }
+    ensures ok { IfOk result (λ action. actions_in group (L.tokens look.old) truncated control ≡ action_of action ∷ actions_after group truncated control (drop (L.passed look.new) (L.tokens look.old))) }
+    ensures err { OnErr result ((rest : List CsiParam) × (actions_in group (L.tokens look.old) truncated control ≡ Unknown rest truncated control ∷ [])) }
+    ensures list { L.tokens look.new ≡ L.tokens look.old }
+    ensures cut { OnOk result (L.passed look.new < length (L.tokens look.new) → CutsOn group (L.tokens look.old) 0 (L.passed look.new)) }
+    ensures within { L.passed look.new ≤ length (L.tokens look.new) }
+    ensures counted { L.looks look.old ≤ L.looks look.new }
+    ensures going { OnOk result (L.looks look.new ≤ L.looks look.old + length (L.tokens look.old) + 107 * L.passed look.new) }
+    ensures costs { L.looks look.new ≤ L.looks look.old + 108 * length (L.tokens look.old) }
+{
+    match group {
+        Group::Whole => unspecified(look, alloc, truncated, control),
+        Group::Styles if look.len() == 0 => Ok(CSI::Sgr(Sgr::Reset)),
+        Group::Styles if has_odd(look) => unspecified(look, alloc, truncated, control),
+        Group::Styles => next_action(group, look, alloc, truncated, control),
+    }
+}
+
+/// The next action of a list that is cut from the front.
+fn next_action<L: Look>(
+    group: Group,
+    look: &mut L,
+    alloc: Global,
+    truncated: bool,
+    control: char,
+) -> Result<CSI, AllocError>
+    requires { L.passed look.old < length (L.tokens look.old) }
+    ensures ok { IfOk result (λ action. actions_after group truncated control (drop (L.passed look.old) (L.tokens look.old)) ≡ action_of action ∷ actions_after group truncated control (drop (L.passed look.new) (L.tokens look.old))) }
+    ensures err { OnErr result (actions_after group truncated control (drop (L.passed look.old) (L.tokens look.old)) ≡ Unknown (drop (L.passed look.old) (L.tokens look.old)) truncated control ∷ []) }
+    ensures list { L.tokens look.new ≡ L.tokens look.old }
+    ensures cut { OnOk result (L.passed look.new < length (L.tokens look.new) → CutsOn group (L.tokens look.old) (L.passed look.old) (L.passed look.new)) }
+    ensures forward { OnOk result (L.passed look.old < L.passed look.new) }
+    ensures within { L.passed look.new ≤ length (L.tokens look.new) }
+    ensures counted { L.looks look.old ≤ L.looks look.new }
+    ensures going { OnOk result (L.looks look.new + 107 * L.passed look.old ≤ L.looks look.old + 107 * L.passed look.new) }
+    ensures costs { L.looks look.new + 107 * L.passed look.old ≤ L.looks look.old + 107 * length (L.tokens look.old) }
+{
+    match cut_block(group, look) {
+        Some(action) => Ok(action),
+        None => unspecified(look, alloc, truncated, control),
+    }
+}
+
+/// The next action of a run, if one is left, and the group that the run goes by.
+fn action_at<L: Look>(
+    stage: Stage,
+    look: &mut L,
+    alloc: Global,
+    truncated: bool,
+    control: char,
+) -> Option<(Group, Result<CSI, AllocError>)>
+    requires fresh { stage ≡ Stage.Fresh → L.passed look.old ≡ 0 }
+    requires within { L.passed look.old ≤ length (L.tokens look.old) }
+    ensures none { IfNone result ((left_at stage truncated control (L.tokens look.old) (L.passed look.old) ≡ []) × (look.new ≡ look.old)) }
+    ensures some { IfSome result (λ r. CanGo stage (L.passed look.old) (length (L.tokens look.old))) }
+    ensures group { IfSome result (λ r. GoesBy stage (L.tokens look.old) control r.0) }
+    ensures ok { IfSome result (λ r. IfOk r.1 (λ action. left_at stage truncated control (L.tokens look.old) (L.passed look.old) ≡ action_of action ∷ left_at (Stage.Going r.0) truncated control (L.tokens look.old) (L.passed look.new))) }
+    ensures err { IfSome result (λ r. OnErr r.1 ((rest : List CsiParam) × (left_at stage truncated control (L.tokens look.old) (L.passed look.old) ≡ Unknown rest truncated control ∷ []))) }
+    ensures list { L.tokens look.new ≡ L.tokens look.old }
+    ensures cut { IfSome result (λ r. OnOk r.1 (L.passed look.new < length (L.tokens look.new) → CutsOn r.0 (L.tokens look.old) (L.passed look.old) (L.passed look.new))) }
+    ensures forward { IfSome result (λ r. OnOk r.1 (L.passed look.old < length (L.tokens look.old) → L.passed look.old < L.passed look.new)) }
+    ensures passes { L.passed look.new ≤ length (L.tokens look.new) }
+    ensures counted { L.looks look.old ≤ L.looks look.new }
+    ensures going { IfSome result (λ r. OnOk r.1 (L.looks look.new + 107 * L.passed look.old ≤ L.looks look.old + length (L.tokens look.old) * fresh_cost stage + 107 * L.passed look.new)) }
+    ensures costs { L.looks look.new + 107 * L.passed look.old ≤ L.looks look.old + length (L.tokens look.old) * fresh_cost stage + 107 * length (L.tokens look.old) }
+{
+    match stage {
+        Stage::Fresh => {
+            let group = Group::of(control);
+            Some((group, first_action(group, look, alloc, truncated, control)))
+        }
+        Stage::Going(group) if look.len() > 0 => {
+            Some((group, next_action(group, look, alloc, truncated, control)))
+        }
+        Stage::Going(_) | Stage::Failed => None,
+    }
+}
+
+impl<L: Look> Run<L> {
+    ghost use Rattle.csicodec.specs.Progress.{begun};
+
+    /// A run over tokens of which none is passed and none was looked at. Nothing is read yet, and no memory taken.
+    /// The flag and the final character go into every `Unspecified`.
+    pub fn over(alloc: Global, tokens: L, parameters_truncated: bool, control: char) -> Run<L>
+        requires passed { L.passed tokens ≡ 0 }
+        requires looks { L.looks tokens ≡ 0 }
+        ensures { result ≡ begun (L.tokens tokens) parameters_truncated control }
+    {
+        Run {
+            alloc,
+            look: tokens,
+            truncated: parameters_truncated,
+            control,
+            given: Count::new(),
+            stage: Stage::Fresh,
+        }
+    }
+
+    /// The tokens that the run holds.
+    pub fn look(&self) -> &L
+        ensures list { L.tokens result.now ≡ self.now.list }
+        ensures passed { L.passed result.now ≡ self.now.passed }
+        ensures looks { L.looks result.now ≡ self.now.looks }
+    {
+        &self.look
+    }
+}
+
+impl<L: Look> Iterator for Run<L> {
+    ghost use Rattle.std.specs.Iterator.{at_most};
+    ghost use Rattle.csicodec.specs.Progress.{most_left};
+    ghost use Rattle.csicodec.specs.Run.{Nexts};
+
+    type Item = Result<CSI, AllocError>;
+
+    ghost next_gives = { Nexts };
+
+    ghost remaining = { λ run. at_most (most_left run) };
+
+    fn next(&mut self) -> Option<Result<CSI, AllocError>> {
+        match action_at(
+            self.stage,
+            &mut self.look,
+            self.alloc,
+            self.truncated,
+            self.control,
+        ) {
+            None => None,
+            Some((group, result)) => match result {
+                Ok(action) => {
+                    self.stage = Stage::Going(group);
+                    self.given.charge(1, 1);
+                    Some(Ok(action))
+                }
+                Err(error) => {
+                    self.stage = Stage::Failed;
+                    Some(Err(error))
+                }
+            },
+        }
+    }
+}
+
+impl CSI {
+    ghost use Rattle.csicodec.specs.Progress.{begun};
+
+    /// The actions of one parameter list before its final character, as an iterator. It takes no memory itself, and
+    /// copies nothing.
+    ///
+    /// Any tokens and any character are taken: what none of the rules reads comes as an `Unspecified`, with the flag
+    /// `parameters_truncated` that the caller hands in.
+    pub fn parse<'a>(
+        alloc: Global,
+        params: &'a [CsiParam],
+        parameters_truncated: bool,
+        control: char,
+    ) -> CSIParser<'a>
+        ensures { result ≡ begun params.now parameters_truncated control }
+    {
+        Run::over(alloc, Tokens::new(params), parameters_truncated, control)
+    }
+}
+
+impl<'a> Run<Tokens<'a>> {
+    ghost use Rattle.csicodec.specs.Progress.{HasEnded};
+    ghost use Rattle.csicodec.specs.Cut.{IsRestAfter};
+
+    /// The unread suffix of the caller's list, for the list's whole life: the whole list before the first `next`, and
+    /// never `Some` of nothing after one. `None` after the last action, and after an `Err`.
+    pub fn rest(&self) -> Option<&'a [CsiParam]>
+        ensures cut { IfSome result (λ rest. IsRestAfter self.now.list self.now.final self.now.given rest.now) }
+        ensures suffix { IfSome result (λ rest. rest.now ≡ drop self.now.passed self.now.list) }
+        ensures ended { IsNone result ↔ HasEnded self.now }
+    {
+        match self.stage {
+            Stage::Fresh => Some(self.look.rest()),
+            Stage::Going(_) if self.look.len() > 0 => Some(self.look.rest()),
+            Stage::Going(_) => None,
+            Stage::Failed => None,
+        }
+    }
+}
+
+/// All actions of one parameter list before its final character.
+pub fn parse_all(
+    alloc: Global,
+    params: &[CsiParam],
+    parameters_truncated: bool,
+    control: char,
+) -> Result<Vec<CSI>, AllocError>
+    ensures { IfOk result (λ all. Actions params.now parameters_truncated control (map action_of all.items)) }
+{
+    let mut all = Vec::new(alloc);
+    for action in CSI::parse(alloc, params, parameters_truncated, control) {
+        all.push(action?)?;
+    }
+    Ok(all)
+}

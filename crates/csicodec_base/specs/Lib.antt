@@ -6,3 +6,4 @@ pub mod Reading
 pub mod Numbers
 pub mod Shapes
 pub mod Pieces
+pub mod SgrText

@@ -1,9 +1,10 @@
 //! Attributes of text (SGR), and the texts that set them.
 
-ghost use Rattle.std.specs.Prelude.{◌≤◌, Some};
-ghost use Rattle.std.specs.Fmt.{DisplaysOnOk};
-ghost use Rattle.csicodec_base.specs.SgrText.{palette_text, sgr_text, true_color_text};
+ghost use Rattle.std.specs.Prelude.{◌≡◌, ◌+◌, ◌≤◌, ◌++◌, Some, length, codes};
+ghost use Rattle.std.specs.Fmt.{decimal};
+ghost use Rattle.csicodec_base.specs.SgrText.{font_text, palette_text, sgr_text, true_color_text};
 
+use crate::Text;
 use crate::color::{Blink, ColorSpec, Intensity, SrgbaTuple, Underline, VerticalAlign};
 use std::fmt;
 
@@ -31,87 +32,136 @@ pub enum Sgr {
     VerticalAlign(VerticalAlign),
 }
 
-impl fmt::Display for Sgr {
-    ghost output = { λ s. Some (sgr_text s) };
-
-    fn fmt<W: fmt::Write>(&self, f: &mut fmt::Formatter<W>) -> fmt::Result {
+impl Sgr {
+    /// Appends the text that sets this attribute, what stands behind `ESC [`: 22 bytes at most.
+    pub fn write_to(&self, text: &mut Text)
+        requires room { length text.old ≤ 10 }
+        ensures { text.new ≡ text.old ++ sgr_text self.now }
+    {
         match self {
-            Sgr::Reset => f.write_str("0m"),
-            Sgr::Intensity(Intensity::Bold) => f.write_str("1m"),
-            Sgr::Intensity(Intensity::Half) => f.write_str("2m"),
-            Sgr::Intensity(Intensity::Normal) => f.write_str("22m"),
-            Sgr::Underline(Underline::None) => f.write_str("24m"),
-            Sgr::Underline(Underline::Single) => f.write_str("4m"),
-            Sgr::Underline(Underline::Double) => f.write_str("21m"),
-            Sgr::Underline(Underline::Curly) => f.write_str("4:3m"),
-            Sgr::Underline(Underline::Dotted) => f.write_str("4:4m"),
-            Sgr::Underline(Underline::Dashed) => f.write_str("4:5m"),
-            Sgr::Blink(Blink::None) => f.write_str("25m"),
-            Sgr::Blink(Blink::Slow) => f.write_str("5m"),
-            Sgr::Blink(Blink::Rapid) => f.write_str("6m"),
-            Sgr::Italic(true) => f.write_str("3m"),
-            Sgr::Italic(false) => f.write_str("23m"),
-            Sgr::Inverse(true) => f.write_str("7m"),
-            Sgr::Inverse(false) => f.write_str("27m"),
-            Sgr::Invisible(true) => f.write_str("8m"),
-            Sgr::Invisible(false) => f.write_str("28m"),
-            Sgr::StrikeThrough(true) => f.write_str("9m"),
-            Sgr::StrikeThrough(false) => f.write_str("29m"),
-            Sgr::Font(Font::Default) => f.write_str("10m"),
-            Sgr::Font(Font::Alternate(number)) => {
-                if *number >= 1 && *number <= 9 {
-                    let code = number + 10;
-                    write!(f, "{code}m")
-                } else {
-                    Ok(())
-                }
-            }
-            Sgr::Overline(true) => f.write_str("53m"),
-            Sgr::Overline(false) => f.write_str("55m"),
-            Sgr::VerticalAlign(VerticalAlign::SuperScript) => f.write_str("73m"),
-            Sgr::VerticalAlign(VerticalAlign::SubScript) => f.write_str("74m"),
-            Sgr::VerticalAlign(VerticalAlign::BaseLine) => f.write_str("75m"),
-            Sgr::UnderlineColor(ColorSpec::Default) => f.write_str("59m"),
-            Sgr::UnderlineColor(ColorSpec::PaletteIndex(index)) => write!(f, "58:5:{index}m"),
-            Sgr::UnderlineColor(ColorSpec::TrueColor(color)) => write_true_color(f, 58, *color),
-            Sgr::Foreground(ColorSpec::Default) => f.write_str("39m"),
-            Sgr::Foreground(ColorSpec::PaletteIndex(index)) => write_palette(f, 30, *index),
-            Sgr::Foreground(ColorSpec::TrueColor(color)) => write_true_color(f, 38, *color),
-            Sgr::Background(ColorSpec::Default) => f.write_str("49m"),
-            Sgr::Background(ColorSpec::PaletteIndex(index)) => write_palette(f, 40, *index),
-            Sgr::Background(ColorSpec::TrueColor(color)) => write_true_color(f, 48, *color),
+            Sgr::Reset => text.push_str("0m"),
+            Sgr::Intensity(Intensity::Bold) => text.push_str("1m"),
+            Sgr::Intensity(Intensity::Half) => text.push_str("2m"),
+            Sgr::Intensity(Intensity::Normal) => text.push_str("22m"),
+            Sgr::Underline(Underline::None) => text.push_str("24m"),
+            Sgr::Underline(Underline::Single) => text.push_str("4m"),
+            Sgr::Underline(Underline::Double) => text.push_str("21m"),
+            Sgr::Underline(Underline::Curly) => text.push_str("4:3m"),
+            Sgr::Underline(Underline::Dotted) => text.push_str("4:4m"),
+            Sgr::Underline(Underline::Dashed) => text.push_str("4:5m"),
+            Sgr::Blink(Blink::None) => text.push_str("25m"),
+            Sgr::Blink(Blink::Slow) => text.push_str("5m"),
+            Sgr::Blink(Blink::Rapid) => text.push_str("6m"),
+            Sgr::Italic(true) => text.push_str("3m"),
+            Sgr::Italic(false) => text.push_str("23m"),
+            Sgr::Inverse(true) => text.push_str("7m"),
+            Sgr::Inverse(false) => text.push_str("27m"),
+            Sgr::Invisible(true) => text.push_str("8m"),
+            Sgr::Invisible(false) => text.push_str("28m"),
+            Sgr::StrikeThrough(true) => text.push_str("9m"),
+            Sgr::StrikeThrough(false) => text.push_str("29m"),
+            Sgr::Font(Font::Default) => text.push_str("10m"),
+            Sgr::Font(Font::Alternate(number)) => write_font(text, *number),
+            Sgr::Overline(true) => text.push_str("53m"),
+            Sgr::Overline(false) => text.push_str("55m"),
+            Sgr::VerticalAlign(VerticalAlign::SuperScript) => text.push_str("73m"),
+            Sgr::VerticalAlign(VerticalAlign::SubScript) => text.push_str("74m"),
+            Sgr::VerticalAlign(VerticalAlign::BaseLine) => text.push_str("75m"),
+            Sgr::UnderlineColor(ColorSpec::Default) => text.push_str("59m"),
+            Sgr::UnderlineColor(ColorSpec::PaletteIndex(index)) => write_line_palette(text, *index),
+            Sgr::UnderlineColor(ColorSpec::TrueColor(color)) => write_true_color(text, 58, *color),
+            Sgr::Foreground(ColorSpec::Default) => text.push_str("39m"),
+            Sgr::Foreground(ColorSpec::PaletteIndex(index)) => write_palette(text, 30, *index),
+            Sgr::Foreground(ColorSpec::TrueColor(color)) => write_true_color(text, 38, *color),
+            Sgr::Background(ColorSpec::Default) => text.push_str("49m"),
+            Sgr::Background(ColorSpec::PaletteIndex(index)) => write_palette(text, 40, *index),
+            Sgr::Background(ColorSpec::TrueColor(color)) => write_true_color(text, 48, *color),
         }
     }
 }
 
-// A place in the palette, for the ground whose first code is `first`.
-fn write_palette<W: fmt::Write>(f: &mut fmt::Formatter<W>, first: u8, index: u8) -> fmt::Result
-    requires { first ≤ 40 }
-    ensures { DisplaysOnOk W.write_str_gives f.old result (Some (palette_text first index)) f.new }
-{
-    if index < 8 {
-        let code = index + first;
-        write!(f, "{code}m")
-    } else if index < 16 {
-        let code = index + first + 52;
-        write!(f, "{code}m")
-    } else {
-        let code = first + 8;
-        write!(f, "{code}:5:{index}m")
+impl fmt::Display for Sgr {
+    ghost output = { λ s. Some (sgr_text s) };
+
+    fn fmt<W: fmt::Write>(&self, f: &mut fmt::Formatter<W>) -> fmt::Result {
+        let mut text = Text::new();
+        self.write_to(&mut text);
+        f.write_str(text.as_str())
     }
 }
 
-fn write_true_color<W: fmt::Write>(
-    f: &mut fmt::Formatter<W>,
-    code: u8,
-    color: SrgbaTuple,
-) -> fmt::Result
-    ensures { DisplaysOnOk W.write_str_gives f.old result (Some (true_color_text code color)) f.new }
+/// One of the nine alternative fonts.
+fn write_font(text: &mut Text, number: u8)
+    requires room { length text.old ≤ 10 }
+    ensures { text.new ≡ text.old ++ font_text number }
+{
+    if number >= 1 && number <= 9 {
+        write_code(text, number + 10);
+    }
+}
+
+/// A place in the palette, for the ground whose first code is `first`.
+fn write_palette(text: &mut Text, first: u8, index: u8)
+    requires room { length text.old ≤ 10 }
+    requires ground { first ≤ 40 }
+    ensures { text.new ≡ text.old ++ palette_text first index }
+{
+    if index < 8 {
+        write_code(text, index + first);
+    } else if index < 16 {
+        write_code(text, index + first + 52);
+    } else {
+        text.push_u8(first + 8);
+        text.push_str(":5:");
+        write_code(text, index);
+    }
+}
+
+fn write_line_palette(text: &mut Text, index: u8)
+    requires room { length text.old ≤ 10 }
+    ensures { text.new ≡ text.old ++ (codes "58:5:" ++ (decimal index ++ codes "m")) }
+{
+    text.push_str("58:5:");
+    write_code(text, index);
+}
+
+/// A true colour, for the ground of the code.
+fn write_true_color(text: &mut Text, code: u8, color: SrgbaTuple)
+    requires room { length text.old ≤ 10 }
+    requires ground { code ≤ 58 }
+    ensures { text.new ≡ text.old ++ true_color_text code color }
 {
     let SrgbaTuple(red, green, blue, alpha) = color;
+    text.push_u8(code);
     if alpha == 255 {
-        write!(f, "{code}:2::{red}:{green}:{blue}m")
+        text.push_str(":2::");
+        write_part(text, red);
+        write_part(text, green);
+        write_code(text, blue);
     } else {
-        write!(f, "{code}:6::{red}:{green}:{blue}:{alpha}m")
+        text.push_str(":6::");
+        write_part(text, red);
+        write_part(text, green);
+        write_part(text, blue);
+        write_code(text, alpha);
     }
+}
+
+/// A number and a colon.
+fn write_part(text: &mut Text, part: u8)
+    requires room { length text.old ≤ 28 }
+    ensures value { text.new ≡ text.old ++ (decimal part ++ codes ":") }
+    ensures len { length text.new ≤ length text.old + 4 }
+{
+    text.push_u8(part);
+    text.push(b':');
+}
+
+/// A number and the final byte.
+fn write_code(text: &mut Text, code: u8)
+    requires room { length text.old ≤ 28 }
+    ensures { text.new ≡ text.old ++ (decimal code ++ codes "m") }
+{
+    text.push_u8(code);
+    text.push(b'm');
 }

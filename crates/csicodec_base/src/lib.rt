@@ -11,7 +11,7 @@ mod sgr;
 mod text;
 
 pub use codes::SgrCode;
-pub use color::{Blink, ColorSpec, Intensity, SrgbaTuple, Underline, VerticalAlign};
+pub use color::{AnsiColor, Blink, ColorSpec, Intensity, SrgbaTuple, Underline, VerticalAlign};
 pub use param::{CsiParam, NotSpelled};
 pub use pieces::sgr_front;
 pub use reader::{ReadCsi, ReadError, read_csi};

@@ -11,7 +11,7 @@ use Rattle.csicodec_base.specs.declared.sgr.Font.TheVariants as font
 use Rattle.csicodec_base.specs.declared.color.ColorSpec.TheVariants as color
 use Rattle.csicodec_base.specs.declared.color.SrgbaTuple.{SrgbaTuple}
 
--- a place in the palette, for the ground whose code of black is `first`: the first 8 and the 8 bright
+-- a place in the palette, for the plane whose code of black is `first`: the first 8 and the 8 bright
 -- ones behind them have codes of their own (`31m`, `91m`), any other is named by its number (`38:5:16m`)
 abbrev pub palette_text : ℕ → ℕ → List ℕ
 palette_text first i =

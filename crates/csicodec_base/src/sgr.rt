@@ -8,32 +8,54 @@ use crate::Text;
 use crate::color::{Blink, ColorSpec, Intensity, SrgbaTuple, Underline, VerticalAlign};
 use std::fmt;
 
+/// The font of a character (ECMA-48, 8.3.117).
 #[derive(Clone, Copy, PartialEq, Eq, Debug)]
 pub enum Font {
+    /// The primary font, code 10.
     Default,
+    /// An alternative font by its number from 1 to 9, codes 11 to 19. Another number stands for no font.
     Alternate(u8),
 }
 
+/// An attribute of text: what one parameter of `CSI .. m` sets (SGR, "select graphic rendition"; ECMA-48, 8.3.117).
+/// It holds for the characters that follow, until it is set anew.
 #[derive(Clone, Copy, PartialEq, Eq, Debug)]
 pub enum Sgr {
+    /// All attributes back to the default rendition.
     Reset,
+    /// How strong the strokes are.
     Intensity(Intensity),
+    /// The line below.
     Underline(Underline),
+    /// The colour of that line (kitty, VTE); the default is the colour of the character.
     UnderlineColor(ColorSpec),
+    /// Whether it blinks.
     Blink(Blink),
+    /// Italicized or not.
     Italic(bool),
+    /// Negative or positive image: whether the colours of character and ground change places.
     Inverse(bool),
+    /// Concealed or revealed.
     Invisible(bool),
+    /// Crossed out or not.
     StrikeThrough(bool),
+    /// The font.
     Font(Font),
+    /// The colour of the character.
     Foreground(ColorSpec),
+    /// The colour of the ground behind it.
     Background(ColorSpec),
+    /// A line above, or none.
     Overline(bool),
+    /// Raised, lowered or on the line (mintty).
     VerticalAlign(VerticalAlign),
 }
 
 impl Sgr {
-    /// Appends the text that sets this attribute, what stands behind `ESC [`: 22 bytes at most.
+    /// Appends the bytes that set this attribute, those behind `ESC [` with the final `m`: 22 at most.
+    ///
+    /// A true colour has colons between its parts and an empty colour space (ISO/IEC 8613-6), so that a terminal that
+    /// doesn't know it drops it whole. An alternative font that is not 1 to 9 has no bytes at all, not even the `m`.
     pub fn write_to(&self, text: &mut Text)
         requires room { length text.old ≤ 10 }
         ensures { text.new ≡ text.old ++ sgr_text self.now }
@@ -80,6 +102,7 @@ impl Sgr {
     }
 }
 
+/// The same bytes as those of `write_to`.
 impl fmt::Display for Sgr {
     ghost output = { λ s. Some (sgr_text s) };
 
@@ -90,7 +113,7 @@ impl fmt::Display for Sgr {
     }
 }
 
-/// One of the nine alternative fonts.
+/// One of the nine alternative fonts, or nothing.
 fn write_font(text: &mut Text, number: u8)
     requires room { length text.old ≤ 10 }
     ensures { text.new ≡ text.old ++ font_text number }
@@ -100,10 +123,10 @@ fn write_font(text: &mut Text, number: u8)
     }
 }
 
-/// A place in the palette, for the ground whose first code is `first`.
+/// A place in the palette, for the plane whose code of black is `first`.
 fn write_palette(text: &mut Text, first: u8, index: u8)
     requires room { length text.old ≤ 10 }
-    requires ground { first ≤ 40 }
+    requires plane { first ≤ 40 }
     ensures { text.new ≡ text.old ++ palette_text first index }
 {
     if index < 8 {
@@ -117,6 +140,7 @@ fn write_palette(text: &mut Text, first: u8, index: u8)
     }
 }
 
+/// A place in the palette for the underline, which has no codes of its own for the first 16.
 fn write_line_palette(text: &mut Text, index: u8)
     requires room { length text.old ≤ 10 }
     ensures { text.new ≡ text.old ++ (codes "58:5:" ++ (decimal index ++ codes "m")) }
@@ -125,10 +149,10 @@ fn write_line_palette(text: &mut Text, index: u8)
     write_code(text, index);
 }
 
-/// A true colour, for the ground of the code.
+/// A true colour behind the code of its plane.
 fn write_true_color(text: &mut Text, code: u8, color: SrgbaTuple)
     requires room { length text.old ≤ 10 }
-    requires ground { code ≤ 58 }
+    requires plane { code ≤ 58 }
     ensures { text.new ≡ text.old ++ true_color_text code color }
 {
     let SrgbaTuple(red, green, blue, alpha) = color;

@@ -1,15 +1,16 @@
 //! A short text, built in place and appended at once.
 
-ghost use Rattle.std.specs.Prelude.{◌≡◌, ◌+◌, ◌<◌, ◌≤◌, ◌^◌, List, [], ◌∷◌, ◌++◌, ℕ, length, take, IsAscii, MatchResult};
-ghost use Rattle.std.specs.Fmt.{decimal};
+ghost use Rattle.std.specs.Prelude.{◌≡◌, ◌+◌, ◌<◌, ◌≤◌, List, [], ◌∷◌, ◌++◌, ℕ, length, take, IsAscii, MatchResult};
+ghost use Rattle.std.specs.Fmt.{decimal, signed_decimal};
 
 use std::alloc::AllocError;
 use std::marker::Model;
 
-/// At most 32 ASCII bytes, which take no memory but their own place.
+/// At most 32 bytes of ASCII, for one control sequence.
 ///
-/// The longest text of one sequence of fixed length has 24 bytes (`ESC [`, two numbers of ten digits, `;` and a final
-/// byte), so a whole sequence is built here and then appended to a longer text by one copy.
+/// It takes no memory but its own place. A sequence is built here number by number and then appended to a longer text
+/// by one copy, which costs a quarter of writing it there part by part. The longest sequence of two numbers below 2^32
+/// has 24 bytes.
 #[derive(Drop)]
 pub struct Text {
     bytes: [u8; 32],
@@ -19,12 +20,14 @@ pub struct Text {
 impl Model for Text {
     ghost Value = { List ℕ };
 
-    ghost view = { λ t. take t.len t.bytes };
+    ghost view = { λ text. take text.len text.bytes };
 
-    ghost invariant = { λ t. (t.len ≤ 32) × IsAscii (take t.len t.bytes) };
+    ghost invariant = { λ text. (text.len ≤ 32) × IsAscii (take text.len text.bytes) };
 }
 
 impl Text {
+    /// The empty text.
+    #[inline(always)]
     pub fn new() -> Text
         ensures { result ≡ [] }
     {
@@ -32,6 +35,22 @@ impl Text {
             bytes: [0; 32],
             len: 0,
         }
+    }
+
+    /// The bytes so far, 32 at most.
+    pub fn as_bytes(&self) -> &[u8]
+        ensures value { result.now ≡ self.now }
+        ensures short { length result.now ≤ 32 }
+        ensures ascii { IsAscii result.now }
+    {
+        &self.bytes[..self.len]
+    }
+
+    /// The same as characters.
+    pub fn as_str(&self) -> &str
+        ensures { result.now ≡ self.now }
+    {
+        unsafe { str::from_utf8_unchecked(&self.bytes[..self.len]) }
     }
 
     /// Appends one byte of ASCII.
@@ -46,7 +65,7 @@ impl Text {
         self.len += 1;
     }
 
-    /// Appends a text of ASCII.
+    /// Appends characters of ASCII.
     #[inline(always)]
     pub fn push_str(&mut self, part: &str)
         requires room { length self.old + length part.now ≤ 32 }
@@ -59,7 +78,7 @@ impl Text {
         self.len = end;
     }
 
-    /// Appends a number in decimal, which takes three bytes at most.
+    /// Appends a number in decimal: 3 bytes at most.
     pub fn push_u8(&mut self, number: u8)
         requires room { length self.old ≤ 29 }
         ensures value { self.new ≡ self.old ++ decimal number }
@@ -78,19 +97,49 @@ impl Text {
         }
     }
 
-    pub fn as_bytes(&self) -> &[u8]
-        ensures { result.now ≡ self.now }
+    /// Appends a number in decimal: 10 bytes at most.
+    pub fn push_u32(&mut self, number: u32)
+        requires room { length self.old ≤ 22 }
+        ensures value { self.new ≡ self.old ++ decimal number }
+        ensures len { length self.new ≤ length self.old + 10 }
     {
-        &self.bytes[..self.len]
+        if number < 256 {
+            self.push_u8(number as u8);
+        } else {
+            self.push_digits(u64::from(number));
+        }
     }
 
-    pub fn as_str(&self) -> &str
-        ensures { result.now ≡ self.now }
+    /// Appends a number in decimal, with `-` below zero: 20 bytes at most.
+    pub fn push_i64(&mut self, number: i64)
+        requires room { length self.old ≤ 12 }
+        ensures value { self.new ≡ self.old ++ signed_decimal number }
+        ensures len { length self.new ≤ length self.old + 20 }
     {
-        unsafe { str::from_utf8_unchecked(&self.bytes[..self.len]) }
+        let magnitude = number.unsigned_abs();
+        if number < 0 {
+            self.push(b'-');
+            self.push_digits(magnitude);
+        } else {
+            self.push_digits(magnitude);
+        }
     }
 
-    /// Appends this text to a longer one. An `Err` leaves that one as it was.
+    /// Appends all digits of a number, the last one after the others.
+    fn push_digits(&mut self, number: u64)
+        requires room { length self.old + length (decimal number) ≤ 32 }
+        ensures { self.new ≡ self.old ++ decimal number }
+    {
+        if number < 10 {
+            self.push(b'0' + number as u8);
+            return;
+        }
+        self.push_digits(number / 10);
+        self.push(b'0' + (number % 10) as u8);
+    }
+
+    /// Appends this text to a longer one. On `Err`, for want of memory, that one stays as it was.
+    #[inline(always)]
     pub fn append_to(&self, out: &mut Vec<u8>) -> Result<(), AllocError>
         ensures { MatchResult result (λ _. out.new.items ≡ out.old.items ++ self.now) (λ _. out.new.items ≡ out.old.items) }
     {

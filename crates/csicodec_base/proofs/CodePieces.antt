@@ -13,7 +13,7 @@ use Rattle.csicodec_base.specs.declared.color.ColorSpec.{ColorSpec}
 use Rattle.csicodec_base.specs.declared.sgr.Sgr.TheVariants as sgr
 use Rattle.csicodec_base.specs.Numbers.{number_of, action_of}
 use Rattle.csicodec_base.specs.Shapes.{Slot, Number, Byte, AnyNumber, Any, Row, Color, Plane, Front, Back, Line, painted, sgr_rows, color_shapes, underline_rows, begins_with, taken, color_of_tokens}
-use Rattle.csicodec_base.specs.Pieces.{front_by, color_by, piece}
+use Rattle.csicodec_base.specs.FrontBy.{front_by, color_by, piece}
 use Rattle.csicodec_base.proofs.Places.{is_row}
 
 abbrev pub paint : Plane → Option (ColorSpec × ℕ) → Option (Sgr × ℕ)

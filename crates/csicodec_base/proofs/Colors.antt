@@ -3,18 +3,18 @@ use Rattle.std.proofs.Common.{◌≡◌, ◌≤◌, List, [], ◌∷◌, drop, l
 use Rattle.std.specs.Prelude.{pos}
 use Rattle.csicodec_base.specs.declared.param.CsiParam.{CsiParam}
 use Rattle.csicodec_base.specs.declared.param.CsiParam.TheVariants.{Integer, P}
-use Rattle.csicodec_base.specs.Pieces.{color_by}
-use Rattle.csicodec_base.specs.Shapes.{color_shapes, blended_shapes, opaque_shapes}
+use Rattle.csicodec_base.specs.FrontBy.{color_by}
+use Rattle.csicodec_base.specs.Shapes.{color_shapes, rgba_shapes, rgb_shapes}
 
 pub behind_six : (after parts : List CsiParam) (d : CsiParam) → parts ≡ drop 3 after → 3 ≤ length after → get_or after 0 d ≡ P 58 → get_or after 1 d ≡ Integer (pos 6) → get_or after 2 d ≡ P 58
-    → color_by 1 color_shapes after ≡ color_by 4 blended_shapes parts
+    → color_by 1 color_shapes after ≡ color_by 4 rgba_shapes parts
 behind_six [] parts d p l a b c = absurd (omega arith)
 behind_six (x ∷ []) parts d p l a b c = absurd (omega arith)
 behind_six (x ∷ y ∷ []) parts d p l a b c = absurd (omega arith)
 behind_six (x ∷ y ∷ z ∷ rest) parts d p l a b c = rw (p, a, b, c) refl
 
 pub behind_two : (after parts : List CsiParam) (d : CsiParam) → parts ≡ drop 3 after → 3 ≤ length after → get_or after 0 d ≡ P 58 → get_or after 1 d ≡ Integer (pos 2) → get_or after 2 d ≡ P 58
-    → color_by 1 color_shapes after ≡ color_by 4 opaque_shapes parts
+    → color_by 1 color_shapes after ≡ color_by 4 rgb_shapes parts
 behind_two [] parts d p l a b c = absurd (omega arith)
 behind_two (x ∷ []) parts d p l a b c = absurd (omega arith)
 behind_two (x ∷ y ∷ []) parts d p l a b c = absurd (omega arith)

@@ -10,3 +10,4 @@ pub mod Places
 pub mod Colors
 pub mod Table
 pub mod CodePieces
+pub mod Decimal

@@ -10,7 +10,8 @@ use Rattle.csicodec_base.specs.declared.param.CsiParam.{CsiParam}
 use Rattle.csicodec_base.specs.declared.param.CsiParam.TheVariants.{Integer, P}
 use Rattle.csicodec_base.specs.declared.sgr.Sgr.{Sgr}
 use Rattle.csicodec_base.specs.Shapes.{Slot, Number, Byte, AnyNumber, Any, Row, sgr_rows, fits_slot, begins_with, taken, given}
-use Rattle.csicodec_base.specs.Pieces.{Longest, Piece, IsFront, front_by, piece}
+use Rattle.csicodec_base.specs.Pieces.{Longest, Piece, IsFront}
+use Rattle.csicodec_base.specs.FrontBy.{front_by, piece}
 
 -- some token fits both
 abbrev pub meets : Slot → Slot → Bool

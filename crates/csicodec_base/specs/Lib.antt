@@ -6,3 +6,6 @@ pub mod Reading
 pub mod Numbers
 pub mod Shapes
 pub mod Pieces
+pub mod FrontBy
+pub mod SgrText
+pub mod Palette

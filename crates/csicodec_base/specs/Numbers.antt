@@ -1,4 +1,4 @@
--- The codes of styles: their numbers, and what each gives.
+-- The codes of attributes (SGR; ECMA-48, 8.3.117): the number of each, and the attribute that it sets.
 use Rattle.std.specs.Prelude.{ℕ, List, [], ◌∷◌, Option, Some, None, true, false}
 use Rattle.csicodec_base.specs.declared.codes.SgrCode.{SgrCode}
 use Rattle.csicodec_base.specs.declared.codes.SgrCode.TheVariants as code
@@ -11,6 +11,7 @@ use Rattle.csicodec_base.specs.declared.color.VerticalAlign.TheVariants as align
 use Rattle.csicodec_base.specs.declared.sgr.Font.TheVariants as font
 use Rattle.csicodec_base.specs.declared.color.ColorSpec.TheVariants as color
 
+-- the number of each code
 abbrev pub number_of : SgrCode → ℕ
 number_of code.Reset = 0
 number_of code.IntensityBold = 1
@@ -84,7 +85,7 @@ number_of code.BackgroundBrightMagenta = 105
 number_of code.BackgroundBrightCyan = 106
 number_of code.BackgroundBrightWhite = 107
 
--- none for the codes that can have further tokens
+-- the attribute that each code sets alone; none for 4, 38, 48 and 58, which can have further tokens or need them
 abbrev pub action_of : SgrCode → Option Sgr
 action_of code.Reset = Some sgr.Reset
 action_of code.IntensityBold = Some (sgr.Intensity Bold)
@@ -158,6 +159,7 @@ action_of code.BackgroundBrightMagenta = Some (sgr.Background (color.PaletteInde
 action_of code.BackgroundBrightCyan = Some (sgr.Background (color.PaletteIndex 14))
 action_of code.BackgroundBrightWhite = Some (sgr.Background (color.PaletteIndex 15))
 
+-- all of them
 abbrev pub all_codes : List SgrCode
 all_codes =
     code.Reset ∷

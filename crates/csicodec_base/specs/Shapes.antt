@@ -1,4 +1,5 @@
--- The pieces of a list before `m`: a table of shapes, and what each gives.
+-- The spellings of attributes before `m` (SGR), as a table: each row is a shape of tokens, and what it gives.
+-- In the examples `#` is any number and `_` is any one token.
 use Rattle.std.specs.Prelude.{ℕ, ◌==◌, List, [], ◌∷◌, ◌++◌, map, Bool, true, false, ◌&&◌, if◌then◌else◌, Option, Some, None, option_and_then, nat_lt, pos, negsuc}
 use Rattle.std.specs.List.{flat_map}
 use Rattle.csicodec_base.specs.declared.param.CsiParam.{CsiParam}
@@ -11,13 +12,21 @@ use Rattle.csicodec_base.specs.declared.color.Underline.TheVariants as underline
 use Rattle.csicodec_base.specs.declared.color.ColorSpec.TheVariants as color
 use Rattle.csicodec_base.specs.Numbers.{action_of, all_codes, number_of}
 
--- what a token of a shape may be: this number, this byte, any number, any token
+-- the separators of ECMA-48: 03/10 within a parameter, 03/11 between parameters
+abbrev pub colon : ℕ
+colon = 58
+
+abbrev pub semicolon : ℕ
+semicolon = 59
+
+-- what one token of a shape may be: this number, this byte, any number (`#`), any token (`_`)
 pub data Slot : Type 0 where
   Number : ℕ → Slot
   Byte : ℕ → Slot
   AnyNumber : Slot
   Any : Slot
 
+-- the token is one that the slot allows
 abbrev pub fits_slot : Slot → CsiParam → Bool
 fits_slot (Number n) (Integer (pos m)) = m == n
 fits_slot (Number n) (Integer (negsuc m)) = false
@@ -28,13 +37,13 @@ fits_slot AnyNumber (Integer z) = true
 fits_slot AnyNumber (P c) = false
 fits_slot Any t = true
 
--- the first tokens fit the shape, token for token
+-- the list begins with the shape: its first tokens fit the slots, one for one
 abbrev pub begins_with : List Slot → List CsiParam → Bool
 begins_with [] rest = true
 begins_with (s ∷ ss) [] = false
 begins_with (s ∷ ss) (t ∷ ts) = fits_slot s t && begins_with ss ts
 
--- the tokens that stand where the shape takes any
+-- the tokens that stand where the shape has `_`: the 9 of `38:5:9`
 abbrev pub taken : List Slot → List CsiParam → List CsiParam
 taken [] rest = []
 taken (s ∷ ss) [] = []
@@ -43,18 +52,19 @@ taken (Number n ∷ ss) (t ∷ ts) = taken ss ts
 taken (Byte b ∷ ss) (t ∷ ts) = taken ss ts
 taken (AnyNumber ∷ ss) (t ∷ ts) = taken ss ts
 
--- what a colour is for
+-- what a colour is for: the character, the ground behind it, the line below it
 pub data Plane : Type 0 where
   Front : Plane
   Back : Plane
   Line : Plane
 
+-- the attribute that gives the plane a colour
 abbrev pub painted : Plane → ColorSpec → Sgr
 painted Front c = sgr.Foreground c
 painted Back c = sgr.Background c
 painted Line c = sgr.UnderlineColor c
 
--- what a row gives for the tokens that stand where its shape takes any
+-- what a row gives: always one attribute, or the colour that its `_` spell
 pub data Gives : Type 0 where
   Always : Sgr → Gives
   Color : Plane → Gives
@@ -63,17 +73,18 @@ pub record Row : Type 0 where
   pub shape : List Slot
   pub gives : Gives
 
--- a colour's byte
+-- a part of a colour is a number from 0 to 255
 abbrev pub byte_of : CsiParam → Option ℕ
 byte_of (Integer (pos n)) = if nat_lt n 256 then Some n else None
 byte_of (Integer (negsuc n)) = None
 byte_of (P b) = None
 
+-- the parts of a colour; none if one token is no part
 abbrev pub bytes_of : List CsiParam → Option (List ℕ)
 bytes_of [] = Some []
 bytes_of (t ∷ ts) = option_and_then (λ b. option_and_then (λ bs. Some (b ∷ bs)) (bytes_of ts)) (byte_of t)
 
--- one byte is a place in the palette, three are a colour, four have their alpha
+-- one part is a place in the palette; three are red, green and blue, opaque; four have their alpha
 abbrev pub color_of : List ℕ → Option ColorSpec
 color_of [] = None
 color_of (i ∷ []) = Some (color.PaletteIndex i)
@@ -82,55 +93,65 @@ color_of (r ∷ g ∷ b ∷ []) = Some (color.TrueColor (record { 0 = r; 1 = g; 
 color_of (r ∷ g ∷ b ∷ a ∷ []) = Some (color.TrueColor (record { 0 = r; 1 = g; 2 = b; 3 = a }))
 color_of (r ∷ g ∷ b ∷ a ∷ x ∷ more) = None
 
--- the colour of the tokens, if each is a byte
+-- the colour that the tokens spell
 abbrev pub color_of_tokens : List CsiParam → Option ColorSpec
 color_of_tokens ts = option_and_then color_of (bytes_of ts)
 
+-- what the row gives for the tokens that were taken
 abbrev pub given : Gives → List CsiParam → Option Sgr
 given (Always s) ts = Some s
 given (Color plane) ts = option_and_then (λ c. Some (painted plane c)) (color_of_tokens ts)
 
--- three tokens with the mark between them
+-- three parts with the mark between them: `_:_:_`
 abbrev pub three_shape : ℕ → List Slot
 three_shape mark = Any ∷ Byte mark ∷ Any ∷ Byte mark ∷ Any ∷ []
 
+-- four parts with colons between them: `_:_:_:_`
 abbrev pub four_shape : List Slot
-four_shape = Any ∷ Byte 58 ∷ three_shape 58
+four_shape = Any ∷ Byte colon ∷ three_shape colon
 
--- a number, an empty place or nothing stands before
+-- ahead of the parts stands the number of a colour space, `#:_:_:_`; it may be empty, `:_:_:_`, or missing, `_:_:_`
 abbrev pub with_space : List Slot → List (List Slot)
-with_space shape = (AnyNumber ∷ Byte 58 ∷ shape) ∷ (Byte 58 ∷ shape) ∷ shape ∷ []
+with_space shape = (AnyNumber ∷ Byte colon ∷ shape) ∷ (Byte colon ∷ shape) ∷ shape ∷ []
 
-abbrev pub blended_shapes : List (List Slot)
-blended_shapes = with_space four_shape
+-- red, green, blue and alpha, behind `38:6:`
+abbrev pub rgba_shapes : List (List Slot)
+rgba_shapes = with_space four_shape
 
-abbrev pub opaque_shapes : List (List Slot)
-opaque_shapes = with_space (three_shape 58)
+-- red, green and blue, behind `38:2:`
+abbrev pub rgb_shapes : List (List Slot)
+rgb_shapes = with_space (three_shape colon)
 
-abbrev pub plain_shapes : List (List Slot)
-plain_shapes = three_shape 59 ∷ []
+-- red, green and blue, behind `38;2;`
+abbrev pub semicolon_shapes : List (List Slot)
+semicolon_shapes = three_shape semicolon ∷ []
 
+-- a place in the palette, behind `38:5:` and `38;5;`
 abbrev pub palette_shapes : List (List Slot)
 palette_shapes = (Any ∷ []) ∷ []
 
+-- each shape with the kind of colour ahead of it: `:2:` and `:5:`
 abbrev pub behind : ℕ → ℕ → List (List Slot) → List (List Slot)
 behind mark kind shapes = map (λ (s : List Slot). Byte mark ∷ Number kind ∷ Byte mark ∷ s) shapes
 
+-- the shapes of a colour, behind its code: those with colons are of ISO/IEC 8613-6, kind 6 of WezTerm, and
+-- those with semicolons of xterm and konsole
 abbrev pub color_shapes : List (List Slot)
 color_shapes =
-    behind 58 6 blended_shapes
-    ++ (behind 58 2 opaque_shapes
-    ++ (behind 59 2 plain_shapes
-    ++ (behind 58 5 palette_shapes
-    ++ behind 59 5 palette_shapes)))
+    behind colon 6 rgba_shapes
+    ++ (behind colon 2 rgb_shapes
+    ++ (behind semicolon 2 semicolon_shapes
+    ++ (behind colon 5 palette_shapes
+    ++ behind semicolon 5 palette_shapes)))
 
 abbrev pub color_rows : Plane → List Row
 color_rows plane = map (λ (s : List Slot). record { shape = s; gives = Color plane }) color_shapes
 
+-- a kind of underline, behind its code: `:3`
 abbrev pub line : ℕ → Sgr → Row
-line d s = record { shape = Byte 58 ∷ Number d ∷ []; gives = Always s }
+line kind s = record { shape = Byte colon ∷ Number kind ∷ []; gives = Always s }
 
--- behind the code of an underline
+-- the underlines, behind the code 4: `4:0` to `4:5`, and `4` alone
 abbrev pub underline_rows : List Row
 underline_rows =
     line 0 (sgr.Underline underline.None)
@@ -142,14 +163,16 @@ underline_rows =
     ∷ record { shape = []; gives = Always (sgr.Underline underline.Single) }
     ∷ []
 
+-- the rows with their code ahead
 abbrev pub coded : ℕ → List Row → List Row
 coded n rows = map (λ (r : Row). record { shape = Number n ∷ r.shape; gives = r.gives }) rows
 
--- one token, for a code that has no further ones
+-- a code that sets one attribute is a row of one token
 abbrev pub row_of : ℕ → Option Sgr → List Row
 row_of n None = []
 row_of n (Some s) = record { shape = Number n ∷ []; gives = Always s } ∷ []
 
+-- the whole table: the colours, the underlines, the codes of one token, and a `;` with nothing before it, which resets
 abbrev pub sgr_rows : List Row
 sgr_rows =
     coded 38 (color_rows Front)
@@ -157,4 +180,4 @@ sgr_rows =
     ++ (coded 58 (color_rows Line)
     ++ (coded 4 underline_rows
     ++ (flat_map (λ (c : SgrCode). row_of (number_of c) (action_of c)) all_codes
-    ++ record { shape = Byte 59 ∷ []; gives = Always sgr.Reset } ∷ []))))
+    ++ record { shape = Byte semicolon ∷ []; gives = Always sgr.Reset } ∷ []))))

@@ -6,7 +6,8 @@ ghost use Rattle.csicodec_base.specs.declared.reader.ReadError.{ReadError};
 ghost use Rattle.csicodec_base.specs.declared.sgr.Sgr.{Sgr};
 ghost use Rattle.csicodec_base.specs.Fault.{Fault};
 ghost use Rattle.csicodec_base.specs.Param.{spells};
-ghost use Rattle.csicodec_base.specs.Pieces.{Piece, piece};
+ghost use Rattle.csicodec_base.specs.FrontBy.{piece};
+ghost use Rattle.csicodec_base.specs.Pieces.{Piece};
 ghost use Rattle.csicodec_base.specs.Sequence.{Seq, Spellable, Spells};
 
 /// No sequence begins another, and one text is one sequence.

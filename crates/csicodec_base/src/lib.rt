@@ -8,10 +8,12 @@ mod param;
 mod pieces;
 mod reader;
 mod sgr;
+mod text;
 
 pub use codes::SgrCode;
-pub use color::{Blink, ColorSpec, Intensity, SrgbaTuple, Underline, VerticalAlign};
+pub use color::{AnsiColor, Blink, ColorSpec, Intensity, SrgbaTuple, Underline, VerticalAlign};
 pub use param::{CsiParam, NotSpelled};
 pub use pieces::sgr_front;
 pub use reader::{ReadCsi, ReadError, read_csi};
 pub use sgr::{Font, Sgr};
+pub use text::Text;

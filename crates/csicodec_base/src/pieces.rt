@@ -1,9 +1,10 @@
-//! The pieces of a list of styles.
+//! The longest spelling of an attribute at the front of a list before `m`.
 
 ghost use Rattle.std.specs.Prelude.{◌≡◌, ◌∷◌, ◌<◌, ◌≤◌, List, IfSome, Some, pos, take, length};
 ghost use Rattle.csicodec_base.specs.Numbers.{action_of, number_of};
-ghost use Rattle.csicodec_base.specs.Pieces.{IsFront, captured, color_by, front_by, piece};
-ghost use Rattle.csicodec_base.specs.Shapes.{blended_shapes, byte_of, color_of_tokens, color_shapes, four_shape, opaque_shapes, palette_shapes, plain_shapes, three_shape, underline_rows};
+ghost use Rattle.csicodec_base.specs.FrontBy.{captured, color_by, front_by, piece};
+ghost use Rattle.csicodec_base.specs.Pieces.{IsFront};
+ghost use Rattle.csicodec_base.specs.Shapes.{byte_of, color_of_tokens, color_shapes, four_shape, palette_shapes, rgb_shapes, rgba_shapes, semicolon_shapes, three_shape, underline_rows};
 ghost use Rattle.csicodec_base.specs.declared.param.CsiParam.{CsiParam};
 ghost use Rattle.csicodec_base.specs.declared.param.CsiParam.TheVariants.{Integer};
 
@@ -12,10 +13,17 @@ use crate::{
     Blink, ColorSpec, CsiParam, Font, Intensity, Sgr, SgrCode, SrgbaTuple, Underline, VerticalAlign,
 };
 
-/// The longest piece of styles at the front of a list, and its number of tokens.
+/// The longest piece of the table of attributes at the front of a parameter list before `m`, and its number of tokens,
+/// without the `;` after it.
+///
+/// It is none for an empty list, and where the front is unknown: no attribute begins with it, or a part of the colour
+/// that its longest shape spells is not a number from 0 to 255. No more than the first 13 tokens are looked at.
+///
+/// The table is that of ECMA-48, 8.3.117, with the colours behind 38 and 48 as ISO/IEC 8613-6 has them or with
+/// semicolons (xterm), and with what terminals have added since; see `SgrCode`.
 pub fn sgr_front(rest: &[CsiParam]) -> Option<(Sgr, usize)>
     ensures piece { IsFront rest.now result }
-    // The answer is that of every list with the same first 13 tokens.
+    // It is the answer for every list with the same first 13 tokens.
     ensures near { (list : List CsiParam) → take 13 list ≡ take 13 rest.now → IsFront list result }
     ensures within { IfSome result (λ f. (0 < f.1) × (f.1 ≤ length rest.now)) }
 {
@@ -27,7 +35,7 @@ pub fn sgr_front(rest: &[CsiParam]) -> Option<(Sgr, usize)>
     }
 }
 
-/// The piece that begins with a code, by what stands behind it.
+/// The piece that begins with the code, by the tokens behind it.
 fn code_front(code: SgrCode, after: &[CsiParam]) -> Option<(Sgr, usize)>
     ensures { result ≡ piece (Integer (pos (number_of code)) ∷ after.now) }
 {
@@ -45,12 +53,12 @@ fn code_front(code: SgrCode, after: &[CsiParam]) -> Option<(Sgr, usize)>
             let (color, tokens) = color_front(after)?;
             Some((Sgr::UnderlineColor(color), tokens))
         }
-        _ => Some((one_token(code)?, 1)),
+        _ => Some((attribute_of(code)?, 1)),
     }
 }
 
-/// What a code gives that has no further tokens.
-fn one_token(code: SgrCode) -> Option<Sgr>
+/// The attribute that a code sets alone; none for a code that needs further tokens or can have them.
+fn attribute_of(code: SgrCode) -> Option<Sgr>
     ensures { result ≡ action_of code }
 {
     match code {
@@ -128,7 +136,7 @@ fn one_token(code: SgrCode) -> Option<Sgr>
     }
 }
 
-/// An underline, with its kind behind a colon or without.
+/// The underline behind its code: the kind behind a colon, or none.
 fn underline_front(after: &[CsiParam]) -> (Sgr, usize)
     ensures { Some result ≡ front_by 1 underline_rows after.now }
 {
@@ -143,7 +151,7 @@ fn underline_front(after: &[CsiParam]) -> (Sgr, usize)
     }
 }
 
-/// The colour behind a code, and its number of tokens with the code.
+/// The colour behind its code, and the number of tokens with the code.
 fn color_front(after: &[CsiParam]) -> Option<(ColorSpec, usize)>
     ensures { result ≡ color_by 1 color_shapes after.now }
 {
@@ -151,65 +159,65 @@ fn color_front(after: &[CsiParam]) -> Option<(ColorSpec, usize)>
         return None;
     };
     match (*mark, *kind, *second) {
-        (b':', 6, b':') => blended(parts),
-        (b':', 2, b':') => opaque(parts),
-        (b';', 2, b';') => plain(parts),
-        (b':', 5, b':') | (b';', 5, b';') => palette(parts),
+        (b':', 6, b':') => rgba_front(parts),
+        (b':', 2, b':') => rgb_front(parts),
+        (b';', 2, b';') => semicolon_front(parts),
+        (b':', 5, b':') | (b';', 5, b';') => palette_front(parts),
         _ => None,
     }
 }
 
-/// Behind `5:` or `5;`, a place in the palette.
-fn palette(parts: &[CsiParam]) -> Option<(ColorSpec, usize)>
+/// Red, green, blue and alpha behind `38:6:`, and the number of tokens with these four.
+fn rgba_front(parts: &[CsiParam]) -> Option<(ColorSpec, usize)>
+    ensures { result ≡ color_by 4 rgba_shapes parts.now }
+{
+    if let [Integer(_), P(b':'), rest @ ..] = parts
+        && let Some(channels) = four_parts(rest)
+    {
+        return Some((rgba(channels)?, 13));
+    }
+    if let [P(b':'), rest @ ..] = parts
+        && let Some(channels) = four_parts(rest)
+    {
+        return Some((rgba(channels)?, 12));
+    }
+    Some((rgba(four_parts(parts)?)?, 11))
+}
+
+/// Red, green and blue behind `38:2:`, and the number of tokens with these four.
+fn rgb_front(parts: &[CsiParam]) -> Option<(ColorSpec, usize)>
+    ensures { result ≡ color_by 4 rgb_shapes parts.now }
+{
+    if let [Integer(_), P(b':'), rest @ ..] = parts
+        && let Some(channels) = three_parts(rest, b':')
+    {
+        return Some((rgb(channels)?, 11));
+    }
+    if let [P(b':'), rest @ ..] = parts
+        && let Some(channels) = three_parts(rest, b':')
+    {
+        return Some((rgb(channels)?, 10));
+    }
+    Some((rgb(three_parts(parts, b':')?)?, 9))
+}
+
+/// The same behind `38;2;`, where no colour space can stand.
+fn semicolon_front(parts: &[CsiParam]) -> Option<(ColorSpec, usize)>
+    ensures { result ≡ color_by 4 semicolon_shapes parts.now }
+{
+    Some((rgb(three_parts(parts, b';')?)?, 9))
+}
+
+/// A place in the palette behind `38:5:` or `38;5;`.
+fn palette_front(parts: &[CsiParam]) -> Option<(ColorSpec, usize)>
     ensures { result ≡ color_by 4 palette_shapes parts.now }
 {
     let index = byte(parts.first()?)?;
     Some((ColorSpec::PaletteIndex(index), 5))
 }
 
-/// The same for the colours with semicolons between them.
-fn plain(parts: &[CsiParam]) -> Option<(ColorSpec, usize)>
-    ensures { result ≡ color_by 4 plain_shapes parts.now }
-{
-    Some((true_color(three(parts, b';')?)?, 9))
-}
-
-/// Behind `2:`, the colour, and its number of tokens with the four before.
-fn opaque(parts: &[CsiParam]) -> Option<(ColorSpec, usize)>
-    ensures { result ≡ color_by 4 opaque_shapes parts.now }
-{
-    if let [Integer(_), P(b':'), rest @ ..] = parts
-        && let Some(channels) = three(rest, b':')
-    {
-        return Some((true_color(channels)?, 11));
-    }
-    if let [P(b':'), rest @ ..] = parts
-        && let Some(channels) = three(rest, b':')
-    {
-        return Some((true_color(channels)?, 10));
-    }
-    Some((true_color(three(parts, b':')?)?, 9))
-}
-
-/// Behind `6:`, the colour and how much of it is seen, and its number of tokens with the four before.
-fn blended(parts: &[CsiParam]) -> Option<(ColorSpec, usize)>
-    ensures { result ≡ color_by 4 blended_shapes parts.now }
-{
-    if let [Integer(_), P(b':'), rest @ ..] = parts
-        && let Some(channels) = four(rest)
-    {
-        return Some((true_color_with_alpha(channels)?, 13));
-    }
-    if let [P(b':'), rest @ ..] = parts
-        && let Some(channels) = four(rest)
-    {
-        return Some((true_color_with_alpha(channels)?, 12));
-    }
-    Some((true_color_with_alpha(four(parts)?)?, 11))
-}
-
-/// The three tokens at the front that have the mark between them.
-fn three(parts: &[CsiParam], mark: u8) -> Option<[CsiParam; 3]>
+/// Three tokens at the front with the mark between them.
+fn three_parts(parts: &[CsiParam], mark: u8) -> Option<[CsiParam; 3]>
     ensures { result ≡ captured (three_shape mark) parts.now }
 {
     match parts {
@@ -220,8 +228,8 @@ fn three(parts: &[CsiParam], mark: u8) -> Option<[CsiParam; 3]>
     }
 }
 
-/// The four tokens at the front that have colons between them.
-fn four(parts: &[CsiParam]) -> Option<[CsiParam; 4]>
+/// Four tokens at the front with colons between them.
+fn four_parts(parts: &[CsiParam]) -> Option<[CsiParam; 4]>
     ensures { result ≡ captured four_shape parts.now }
 {
     match parts {
@@ -232,16 +240,7 @@ fn four(parts: &[CsiParam]) -> Option<[CsiParam; 4]>
     }
 }
 
-fn byte(param: &CsiParam) -> Option<u8>
-    ensures { result ≡ byte_of param.now }
-{
-    match param {
-        CsiParam::Integer(number) => u8::try_from(*number).ok(),
-        CsiParam::P(_) => None,
-    }
-}
-
-fn true_color(channels: [CsiParam; 3]) -> Option<ColorSpec>
+fn rgb(channels: [CsiParam; 3]) -> Option<ColorSpec>
     ensures { result ≡ color_of_tokens channels }
 {
     let [red, green, blue] = channels;
@@ -249,10 +248,20 @@ fn true_color(channels: [CsiParam; 3]) -> Option<ColorSpec>
     Some(ColorSpec::TrueColor(color))
 }
 
-fn true_color_with_alpha(channels: [CsiParam; 4]) -> Option<ColorSpec>
+fn rgba(channels: [CsiParam; 4]) -> Option<ColorSpec>
     ensures { result ≡ color_of_tokens channels }
 {
     let [red, green, blue, alpha] = channels;
     let color = SrgbaTuple(byte(&red)?, byte(&green)?, byte(&blue)?, byte(&alpha)?);
     Some(ColorSpec::TrueColor(color))
+}
+
+/// A part of a colour.
+fn byte(param: &CsiParam) -> Option<u8>
+    ensures { result ≡ byte_of param.now }
+{
+    match param {
+        Integer(number) => u8::try_from(*number).ok(),
+        P(_) => None,
+    }
 }

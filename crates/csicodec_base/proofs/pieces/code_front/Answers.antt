@@ -31,5 +31,5 @@ returns-in_err-color-in-UnderlineColor c =
     let e = color_front c.args.code UnderlineColor Line c.args.after.now None c.in-UnderlineColor.is (front_58 c.args.after.now) c.in_err-color-in-UnderlineColor.ensures in
     search (rules, e)
 
-pub returns-in_ok-one_token-in_default : goal.returns-in_ok-one_token-in_default
-returns-in_ok-one_token-in_default c = sym (one_token_front _ _ _ (sym c.in_ok-one_token-in_default.ensures))
+pub returns-in_ok-attribute_of-in_default : goal.returns-in_ok-attribute_of-in_default
+returns-in_ok-attribute_of-in_default c = sym (one_token_front _ _ _ (sym c.in_ok-attribute_of-in_default.ensures))

@@ -12,10 +12,10 @@ pub returns-in-58-eq6-eq58 : goal.returns-in-58-eq6-eq58
 returns-in-58-eq6-eq58 c =
     let fits : SFits w64 c.in-P.kind = search rules in
     let six : c.in-P.kind ≡ pos 6 = omega (arith, ints) in
-    c.blended.ensures ∙ sym (behind_six c.args.after.now _ (Integer (pos 0)) (take_rest c.args.after.now 3) (omega arith) (cc) (cc) (cc))
+    c.rgba_front.ensures ∙ sym (behind_six c.args.after.now _ (Integer (pos 0)) (take_rest c.args.after.now 3) (omega arith) (cc) (cc) (cc))
 
 pub returns-in-58-eq2-eq58 : goal.returns-in-58-eq2-eq58
 returns-in-58-eq2-eq58 c =
     let fits : SFits w64 c.in-P.kind = search rules in
     let two : c.in-P.kind ≡ pos 2 = omega (arith, ints) in
-    c.opaque.ensures ∙ sym (behind_two c.args.after.now _ (Integer (pos 0)) (take_rest c.args.after.now 3) (omega arith) (cc) (cc) (cc))
+    c.rgb_front.ensures ∙ sym (behind_two c.args.after.now _ (Integer (pos 0)) (take_rest c.args.after.now 3) (omega arith) (cc) (cc) (cc))

@@ -1,0 +1,73 @@
+-- The texts that set attributes (SGR): what stands behind `ESC [`, the final byte `m` with it.
+use Rattle.std.specs.Prelude.{ℕ, ◌+◌, ◌==◌, List, [], ◌++◌, true, false, if◌then◌else◌, nat_lt, nat_le, ◌&&◌, codes}
+use Rattle.std.specs.Fmt.{decimal}
+use Rattle.csicodec_base.specs.declared.sgr.Sgr.{Sgr}
+use Rattle.csicodec_base.specs.declared.sgr.Sgr.TheVariants as sgr
+use Rattle.csicodec_base.specs.declared.color.Intensity.TheVariants.{Normal, Bold, Half}
+use Rattle.csicodec_base.specs.declared.color.Underline.TheVariants as underline
+use Rattle.csicodec_base.specs.declared.color.Blink.TheVariants as blink
+use Rattle.csicodec_base.specs.declared.color.VerticalAlign.TheVariants as align
+use Rattle.csicodec_base.specs.declared.sgr.Font.TheVariants as font
+use Rattle.csicodec_base.specs.declared.color.ColorSpec.TheVariants as color
+use Rattle.csicodec_base.specs.declared.color.SrgbaTuple.{SrgbaTuple}
+
+-- a place in the palette, for the plane whose code of black is `first`: the first 8 and the 8 bright
+-- ones behind them have codes of their own (`31m`, `91m`), any other is named by its number (`38:5:16m`)
+abbrev pub palette_text : ℕ → ℕ → List ℕ
+palette_text first i =
+    if nat_lt i 8
+    then decimal (i + first) ++ codes "m"
+    else if nat_lt i 16
+    then decimal (i + first + 52) ++ codes "m"
+    else (decimal (first + 8) ++ (codes ":5:" ++ (decimal i ++ codes "m")))
+
+-- red, green and blue behind an empty colour space (`38:2::1:2:3m`), and the alpha unless it is 255 (`38:6::1:2:3:4m`)
+abbrev pub true_color_text : ℕ → SrgbaTuple → List ℕ
+true_color_text code c =
+    if c.3 == 255
+    then decimal code ++ (codes ":2::" ++ (decimal c.0 ++ (codes ":" ++ (decimal c.1 ++ (codes ":" ++ (decimal c.2 ++ codes "m"))))))
+    else (decimal code ++ (codes ":6::" ++ (decimal c.0 ++ (codes ":" ++ (decimal c.1 ++ (codes ":" ++ (decimal c.2 ++ (codes ":" ++ (decimal c.3 ++ codes "m")))))))))
+
+-- the alternative fonts are 1 to 9, `11m` to `19m`; another has no text at all
+abbrev pub font_text : ℕ → List ℕ
+font_text n = if nat_le 1 n && nat_le n 9 then decimal (n + 10) ++ codes "m" else []
+
+-- the text of each attribute
+abbrev pub sgr_text : Sgr → List ℕ
+sgr_text sgr.Reset = codes "0m"
+sgr_text (sgr.Intensity Normal) = codes "22m"
+sgr_text (sgr.Intensity Bold) = codes "1m"
+sgr_text (sgr.Intensity Half) = codes "2m"
+sgr_text (sgr.Underline underline.None) = codes "24m"
+sgr_text (sgr.Underline underline.Single) = codes "4m"
+sgr_text (sgr.Underline underline.Double) = codes "21m"
+sgr_text (sgr.Underline underline.Curly) = codes "4:3m"
+sgr_text (sgr.Underline underline.Dotted) = codes "4:4m"
+sgr_text (sgr.Underline underline.Dashed) = codes "4:5m"
+sgr_text (sgr.UnderlineColor color.Default) = codes "59m"
+sgr_text (sgr.UnderlineColor (color.PaletteIndex i)) = codes "58:5:" ++ (decimal i ++ codes "m")
+sgr_text (sgr.UnderlineColor (color.TrueColor c)) = true_color_text 58 c
+sgr_text (sgr.Blink blink.None) = codes "25m"
+sgr_text (sgr.Blink blink.Slow) = codes "5m"
+sgr_text (sgr.Blink blink.Rapid) = codes "6m"
+sgr_text (sgr.Italic true) = codes "3m"
+sgr_text (sgr.Italic false) = codes "23m"
+sgr_text (sgr.Inverse true) = codes "7m"
+sgr_text (sgr.Inverse false) = codes "27m"
+sgr_text (sgr.Invisible true) = codes "8m"
+sgr_text (sgr.Invisible false) = codes "28m"
+sgr_text (sgr.StrikeThrough true) = codes "9m"
+sgr_text (sgr.StrikeThrough false) = codes "29m"
+sgr_text (sgr.Font font.Default) = codes "10m"
+sgr_text (sgr.Font (font.Alternate n)) = font_text n
+sgr_text (sgr.Foreground color.Default) = codes "39m"
+sgr_text (sgr.Foreground (color.PaletteIndex i)) = palette_text 30 i
+sgr_text (sgr.Foreground (color.TrueColor c)) = true_color_text 38 c
+sgr_text (sgr.Background color.Default) = codes "49m"
+sgr_text (sgr.Background (color.PaletteIndex i)) = palette_text 40 i
+sgr_text (sgr.Background (color.TrueColor c)) = true_color_text 48 c
+sgr_text (sgr.Overline true) = codes "53m"
+sgr_text (sgr.Overline false) = codes "55m"
+sgr_text (sgr.VerticalAlign align.BaseLine) = codes "75m"
+sgr_text (sgr.VerticalAlign align.SuperScript) = codes "73m"
+sgr_text (sgr.VerticalAlign align.SubScript) = codes "74m"

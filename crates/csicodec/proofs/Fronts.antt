@@ -4,7 +4,8 @@ use Rattle.std.proofs.lemmas.List.{take_min}
 use Rattle.std.proofs.lemmas.Option.{some_pair_parts}
 use Rattle.csicodec_base.specs.declared.param.CsiParam.{CsiParam}
 use Rattle.csicodec_base.specs.declared.sgr.Sgr as sgr_type
-use Rattle.csicodec_base.specs.Pieces.{IsFront, piece}
+use Rattle.csicodec_base.specs.Pieces.{IsFront}
+use Rattle.csicodec_base.specs.FrontBy.{piece}
 use Rattle.csicodec_base.proofs.Table.{piece_is, is_piece, piece_within}
 use Rattle.csicodec.specs.declared.group.Group.{Group}
 use Rattle.csicodec.specs.declared.group.Group.TheVariants.{Whole, Styles}

@@ -8,3 +8,5 @@ pub mod Run
 pub mod Segments
 pub mod Steps
 pub mod Suffix
+pub mod Texts
+pub mod Decoding

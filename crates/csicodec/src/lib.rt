@@ -7,6 +7,7 @@ mod group;
 pub mod laws;
 mod look;
 mod parser;
+mod print;
 mod tokens;
 
 pub use actions::{CSI, Unspecified};

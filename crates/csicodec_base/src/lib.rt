@@ -13,5 +13,5 @@ pub use codes::SgrCode;
 pub use color::{Blink, ColorSpec, Intensity, SrgbaTuple, Underline, VerticalAlign};
 pub use param::{CsiParam, NotSpelled};
 pub use pieces::sgr_front;
-pub use reader::{ReadCsi, ReadError, read_csi};
+pub use reader::{CsiTail, ReadCsi, ReadError, read_csi, read_csi_into};
 pub use sgr::{Font, Sgr};

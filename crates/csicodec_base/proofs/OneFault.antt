@@ -1,5 +1,5 @@
 -- Bytes have one fault.
-use Rattle.std.proofs.Common.{ℕ, ◌≡◌, zero, suc, ◌+◌, ◌<◌, List, [], ◌∷◌, get_or, take, sym, ap, subst, ◌∙◌, inl, inr, arith, refl}
+use Rattle.std.proofs.Common.{ℕ, ◌≡◌, zero, suc, ◌+◌, ◌<◌, List, get_or, take, sym, ap, subst, ◌∙◌, inl, inr, arith, refl}
 use Rattle.std.proofs.lemmas.Bool.{cases_lt}
 use Rattle.csicodec_base.specs.declared.reader.ReadError.{ReadError}
 use Rattle.csicodec_base.specs.declared.reader.ReadError.TheVariants.{NotCsi, BadByte, NumberTooLarge, Truncated, Memory}

@@ -14,6 +14,6 @@ pub use codes::SgrCode;
 pub use color::{AnsiColor, Blink, ColorSpec, Intensity, SrgbaTuple, Underline, VerticalAlign};
 pub use param::{CsiParam, NotSpelled};
 pub use pieces::sgr_front;
-pub use reader::{ReadCsi, ReadError, read_csi};
+pub use reader::{CsiTail, ReadCsi, ReadError, read_csi, read_csi_into};
 pub use sgr::{Font, Sgr};
 pub use text::Text;

@@ -1,24 +1,28 @@
 //! Reading one control sequence at the front of some bytes.
 
-ghost use Rattle.std.specs.Prelude.{◌≡◌, ℕ, ◌+◌, ◌-◌, ◌*◌, ◌^◌, ◌<◌, ◌≤◌, List, [], ◌∷◌, ◌++◌, length, pos, IfOk, IfErr, MatchOption, MatchResult};
-ghost use Rattle.std.specs.Char.{is_ascii_digit};
-ghost use Rattle.std.specs.List.{prefix_len};
+ghost use Rattle.std.specs.Prelude.{◌≡◌, ℕ, ◌+◌, ◌-◌, ◌*◌, ◌^◌, ◌<◌, ◌≤◌, List, [], ◌∷◌, ◌++◌, length, pos, IfOk, IfErr, MatchOption, MatchResult, vec_capacity};
 ghost use Rattle.csicodec_base.specs.declared.param.CsiParam.{CsiParam};
 ghost use Rattle.csicodec_base.specs.declared.reader.ReadError.{ReadError};
 ghost use Rattle.csicodec_base.specs.declared.reader.ReadError.TheVariants.{Memory};
-ghost use Rattle.csicodec_base.specs.Digits.{IsDigit, AreDigits, value, largest};
-ghost use Rattle.csicodec_base.specs.Param.{spells};
-ghost use Rattle.csicodec_base.specs.Sequence.{Spells, Spellable, Seq};
-ghost use Rattle.csicodec_base.specs.Fault.{IsBody, Fault, FaultOf, Reads, Refuses, IsReadAs};
-ghost use Rattle.csicodec_base.specs.Reading.{EndsBody, IsFirstToken, IsFront};
+ghost use Rattle.csicodec_base.specs.Digits.{IsDigit, largest};
+ghost use Rattle.csicodec_base.specs.Sequence.{Seq};
+ghost use Rattle.csicodec_base.specs.Fault.{FaultOf, Reads, Refuses};
+ghost use Rattle.csicodec_base.specs.Reading.{IsNumber, IsTooLarge, IsPart, HasRead, HasCounted};
 
 use crate::param::CsiParam;
-use std::alloc::{AllocError, AllocFailed, Global};
+use std::alloc::{AllocError, Global};
 
 /// A sequence that was read.
 #[derive(Debug, Drop)]
 pub struct ReadCsi<'a> {
     pub params: Vec<CsiParam>,
+    pub control: char,
+    pub rest: &'a [u8],
+}
+
+/// What stands behind the tokens of a sequence.
+#[derive(Clone, Copy, Debug)]
+pub struct CsiTail<'a> {
     pub control: char,
     pub rest: &'a [u8],
 }
@@ -41,24 +45,20 @@ impl From<AllocError> for ReadError {
     }
 }
 
-impl<T: Drop> From<AllocFailed<T>> for ReadError {
-    ghost from_gives = { λ _ e. e ≡ Memory };
-
-    fn from(_e: AllocFailed<T>) -> ReadError {
-        ReadError::Memory
-    }
-}
-
 const LARGEST: u64 = i64::MAX as u64;
 
 // The number with one more digit, if it isn't too large.
+#[inline(always)]
 fn with_digit(number: u64, digit: u8) -> Option<u64>
     requires { IsDigit digit }
     ensures { MatchOption result (largest < 10 * number + (digit - 48)) (λ n. (n ≡ 10 * number + (digit - 48)) × (n ≤ largest)) }
 {
-    let longer = number
-        .checked_mul(10)?
-        .checked_add(u64::from(digit - b'0'))?;
+    let value = u64::from(digit - b'0');
+    // Nearly every digit takes this one test.
+    if number < LARGEST / 10 {
+        return Some(10 * number + value);
+    }
+    let longer = number.checked_mul(10)?.checked_add(value)?;
     if longer <= LARGEST {
         Some(longer)
     } else {
@@ -66,89 +66,55 @@ fn with_digit(number: u64, digit: u8) -> Option<u64>
     }
 }
 
-// Where the final byte of a sequence is, and how many tokens stand before it.
-#[derive(Clone, Copy)]
-struct Cut {
-    end: usize,
-    tokens: usize,
-}
-
-// The first byte that isn't of a body.
-fn cut_at_final(body: &[u8]) -> Result<Cut, ReadError>
-    requires { length body.now + 2 < 2 ^ 64 }
-    ensures { MatchResult result (λ cut. EndsBody body.now cut.end) (λ e. FaultOf (27 ∷ 91 ∷ body.now) e) }
+// The number that a digit and the digits behind it write, and what is behind them; or the bytes
+// from the digit on that makes it too large.
+#[inline(always)]
+fn number_front(first: u8, text: &[u8]) -> Result<(u64, &[u8]), &[u8]>
+    requires { IsDigit first }
+    ensures { MatchResult result (λ x. IsNumber first text.now x.0 x.1.now) (λ left. IsTooLarge first text.now left.now) }
 {
-    let mut tokens = 0;
-    let mut run = None;
-    for (i, byte) in body.iter().enumerate() {
-        match *byte {
-            digit @ b'0'..=b'9' => {
-                if run.is_none() {
-                    tokens += 1;
-                }
-                let Some(number) = with_digit(run.unwrap_or(0), digit) else {
-                    return Err(ReadError::NumberTooLarge { at: i + 2 });
-                };
-                run = Some(number);
-            }
-            b' '..=b'?' => {
-                tokens += 1;
-                run = None;
-            }
-            b'@'..=b'~' => return Ok(Cut { end: i, tokens }),
-            _ => return Err(ReadError::BadByte { at: i + 2 }),
-        }
-    }
-    Err(ReadError::Truncated { at: body.len() + 2 })
-}
-
-// The number that digits write.
-fn number_of(run: &[u8]) -> i64
-    requires digits { AreDigits run.now }
-    requires fits { value run.now ≤ largest }
-    ensures { result ≡ pos (value run.now) }
-{
-    let mut number: u64 = 0;
-    for digit in run {
-        number = 10 * number + u64::from(*digit - b'0');
-    }
-    number as i64
-}
-
-// How many digits stand in front.
-fn digits_len(text: &[u8]) -> usize
-    ensures { result ≡ prefix_len is_ascii_digit text.now }
-{
-    text.iter().take_while(|b| b.is_ascii_digit()).count()
-}
-
-// The token at the front of a sequence's body, and the bytes behind it.
-fn first_token(body: &[u8]) -> Option<(CsiParam, &[u8])>
-    requires { IsBody body.now }
-    ensures { MatchOption result (body.now ≡ []) (λ x. IsFirstToken body.now x.0 x.1.now) }
-{
-    match body {
-        [] => None,
-        [b'0'..=b'9', ..] => {
-            let (run, others) = body.split_at(digits_len(body));
-            Some((CsiParam::Integer(number_of(run)), others))
-        }
-        [byte, others @ ..] => Some((CsiParam::P(*byte), others)),
-    }
-}
-
-// The list that a sequence's body spells.
-fn list_of(alloc: Global, body: &[u8], tokens: usize) -> Result<Vec<CsiParam>, AllocError>
-    requires { IsBody body.now }
-    ensures { IfOk result (λ v. Spells body.now v.items × Spellable v.items) }
-{
-    let mut list = Vec::with_capacity(alloc, tokens)?;
-    let mut rest = body;
-    while let Some((token, others)) = first_token(rest) {
-        list.push(token)?;
+    let mut number = u64::from(first - b'0');
+    let mut rest = text;
+    while let [digit @ b'0'..=b'9', others @ ..] = rest {
+        let Some(longer) = with_digit(number, *digit) else {
+            return Err(rest);
+        };
+        number = longer;
         rest = others;
     }
-    Ok(list)
+    Ok((number, rest))
+}
+
+// What stands in front of the bytes behind ESC and '['.
+#[derive(Clone, Copy)]
+enum Part<'a> {
+    Token(CsiParam, &'a [u8]),
+    Final(u8, &'a [u8]),
+}
+
+// The part in front of the rest of the bytes.
+#[inline(always)]
+fn part_front<'a>(bytes: &[u8], rest: &'a [u8]) -> Result<Part<'a>, ReadError>
+    requires { length rest.now ≤ length bytes.now }
+    ensures part { IfOk result (IsPart rest.now) }
+    ensures fault { IfErr result (λ e. (list : List CsiParam) → HasRead bytes.now list rest.now → FaultOf bytes.now e) }
+{
+    let [byte, others @ ..] = rest else {
+        return Err(ReadError::Truncated { at: bytes.len() });
+    };
+    match *byte {
+        b'0'..=b'9' => match number_front(*byte, others) {
+            Ok((number, behind)) => Ok(Part::Token(CsiParam::Integer(number as i64), behind)),
+            Err(left) => Err(ReadError::NumberTooLarge {
+                at: bytes.len() - left.len(),
+            }),
+        },
+        b' '..=b'?' => Ok(Part::Token(CsiParam::P(*byte), others)),
+        b'@'..=b'~' => Ok(Part::Final(*byte, others)),
+        _ => Err(ReadError::BadByte {
+            at: bytes.len() - rest.len(),
+        }),
+    }
 }
 
 // The bytes behind ESC and '['.
@@ -163,37 +129,93 @@ fn behind_introducer(bytes: &[u8]) -> Result<&[u8], ReadError>
     }
 }
 
-// A sequence at the front of some bytes, before its list is made.
-#[derive(Clone, Copy)]
-struct Front<'a> {
-    body: &'a [u8],
-    control: u8,
-    rest: &'a [u8],
-    tokens: usize,
+// How many tokens stand before the final byte.
+fn tokens_behind(bytes: &[u8], read: &[u8]) -> Result<usize, ReadError>
+    requires { length read.now ≤ length bytes.now }
+    ensures { (list : List CsiParam) → HasRead bytes.now list read.now →
+        MatchResult result (λ count. HasCounted bytes.now list count) (λ e. FaultOf bytes.now e) }
+{
+    let mut tokens = 0;
+    let mut rest = read;
+    loop {
+        match part_front(bytes, rest)? {
+            Part::Token(_, others) => {
+                tokens += 1;
+                rest = others;
+            }
+            Part::Final(..) => return Ok(tokens),
+        }
+    }
 }
 
-fn front_of(bytes: &[u8]) -> Result<Front<'_>, ReadError>
-    ensures { MatchResult result (λ front. IsFront bytes.now front.body.now front.control front.rest.now) (λ e. FaultOf bytes.now e) }
+// Why no sequence is read where there is no memory for a token in front of the rest.
+#[cold]
+#[inline(never)]
+fn refusal(bytes: &[u8], rest: &[u8]) -> ReadError
+    requires { length rest.now ≤ length bytes.now }
+    ensures { (list : List CsiParam) (room : ℕ) → HasRead bytes.now list rest.now → room < length list → Refuses bytes.now room result }
 {
-    let text = behind_introducer(bytes)?;
-    let cut = cut_at_final(text)?;
-    Ok(Front {
-        body: &text[..cut.end],
-        control: text[cut.end],
-        rest: &text[cut.end + 1..],
-        tokens: cut.tokens,
-    })
+    match tokens_behind(bytes, rest) {
+        Ok(_) => ReadError::Memory,
+        Err(fault) => fault,
+    }
+}
+
+fn fill<'a>(params: &mut Vec<CsiParam>, bytes: &'a [u8]) -> Result<CsiTail<'a>, ReadError>
+    ensures kept { vec_capacity params.old ≤ vec_capacity params.new }
+    ensures read { MatchResult result
+        (λ tail. Reads bytes.now params.new.items tail.control tail.rest.now)
+        (λ e. Refuses bytes.now (vec_capacity params.old) e) }
+{
+    params.clear();
+    let mut rest = behind_introducer(bytes)?;
+    loop {
+        match part_front(bytes, rest)? {
+            Part::Token(token, others) => {
+                let Ok(()) = params.push(token) else {
+                    return Err(refusal(bytes, others));
+                };
+                rest = others;
+            }
+            Part::Final(byte, others) => {
+                return Ok(CsiTail {
+                    control: char::from(byte),
+                    rest: others,
+                });
+            }
+        }
+    }
+}
+
+/// The sequence at the front of the bytes, its tokens into a buffer that is kept from call to call.
+pub fn read_csi_into<'a>(
+    params: &mut Vec<CsiParam>,
+    bytes: &'a [u8],
+) -> Result<CsiTail<'a>, ReadError>
+    // What is read is a sequence, and the bytes behind it are left.
+    ensures found { IfOk result (λ tail. Reads bytes.now params.new.items tail.control tail.rest.now) }
+    // Where a front is a sequence, this one is read, unless it needs more room and memory runs out.
+    ensures only { (front rest : List ℕ) (list : List CsiParam) (final : ℕ) → Seq front list final → bytes.now ≡ front ++ rest →
+        MatchResult result
+        (λ tail. (params.new.items ≡ list) × (tail.control ≡ final) × (tail.rest.now ≡ rest))
+        (λ e. (e ≡ Memory) × (vec_capacity params.old < length list)) }
+    // Memory runs out only at a sequence, and any other error is the fault of bytes with none in front.
+    ensures refused { IfErr result (λ e. Refuses bytes.now (vec_capacity params.old) e) }
+    ensures kept { vec_capacity params.old ≤ vec_capacity params.new }
+{
+    fill(params, bytes)
 }
 
 fn read(alloc: Global, bytes: &[u8]) -> Result<ReadCsi<'_>, ReadError>
-    ensures { MatchResult result (λ read. Reads bytes.now read.params.items read.control read.rest.now) (λ e. Refuses bytes.now e) }
+    ensures { MatchResult result (λ read. Reads bytes.now read.params.items read.control read.rest.now) (λ e. Refuses bytes.now 0 e) }
 {
-    let front = front_of(bytes)?;
-    let params = list_of(alloc, front.body, front.tokens)?;
+    let tokens = tokens_behind(bytes, behind_introducer(bytes)?)?;
+    let mut params = Vec::with_capacity(alloc, tokens)?;
+    let tail = fill(&mut params, bytes)?;
     Ok(ReadCsi {
         params,
-        control: char::from(front.control),
-        rest: front.rest,
+        control: tail.control,
+        rest: tail.rest,
     })
 }
 
@@ -202,10 +224,12 @@ pub fn read_csi<'a>(alloc: Global, bytes: &'a [u8]) -> Result<ReadCsi<'a>, ReadE
     // What is read is a sequence, and the bytes behind it are left.
     ensures found { IfOk result (λ read. Reads bytes.now read.params.items read.control read.rest.now) }
     // Where a front is a sequence, this one is read, unless memory runs out.
-    ensures only { (front rest : List ℕ) (list : List CsiParam) (final : ℕ) →
-        Seq front list final → bytes.now ≡ front ++ rest → IsReadAs result list final rest }
+    ensures only { (front rest : List ℕ) (list : List CsiParam) (final : ℕ) → Seq front list final → bytes.now ≡ front ++ rest →
+        MatchResult result
+        (λ read. (read.params.items ≡ list) × (read.control ≡ final) × (read.rest.now ≡ rest))
+        (λ e. (e ≡ Memory) × (0 < length list)) }
     // Memory runs out only at a sequence, and any other error is the fault of bytes with none in front.
-    ensures refused { IfErr result (λ e. Refuses bytes.now e) }
+    ensures refused { IfErr result (λ e. Refuses bytes.now 0 e) }
 {
     read(alloc, bytes)
 }

@@ -4,3 +4,4 @@ pub mod Cuts
 pub mod NextLemmas
 pub mod Odd
 pub mod Suffixes
+pub mod Splits

@@ -8,14 +8,18 @@ pub mod laws;
 mod look;
 mod parser;
 mod print;
+mod sink;
+mod stream;
 mod tokens;
 
 pub use actions::{CSI, Unspecified};
 pub use count::Count;
 pub use csicodec_base::{
-    Blink, ColorSpec, CsiParam, Font, Intensity, NotSpelled, ReadCsi, ReadError, Sgr, SgrCode,
-    SrgbaTuple, Underline, VerticalAlign, read_csi, sgr_front,
+    AnsiColor, Blink, ColorSpec, CsiParam, CsiTail, Font, Intensity, NotSpelled, ReadCsi,
+    ReadError, Sgr, SgrCode, SrgbaTuple, Text, Underline, VerticalAlign, read_csi, read_csi_into,
+    sgr_front,
 };
 pub use look::Look;
-pub use parser::{CSIParser, Run, parse_all};
+pub use parser::{CSIParser, Run};
+pub use stream::{DecodeError, RunError, decode_all, encode_all, normalise, parse_all};
 pub use tokens::Tokens;

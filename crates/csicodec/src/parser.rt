@@ -322,19 +322,3 @@ impl<'a> Run<Tokens<'a>> {
         }
     }
 }
-
-/// All actions of one parameter list before its final character.
-pub fn parse_all(
-    alloc: Global,
-    params: &[CsiParam],
-    parameters_truncated: bool,
-    control: char,
-) -> Result<Vec<CSI>, AllocError>
-    ensures { IfOk result (λ all. Actions params.now parameters_truncated control (map action_of all.items)) }
-{
-    let mut all = Vec::new(alloc);
-    for action in CSI::parse(alloc, params, parameters_truncated, control) {
-        all.push(action?)?;
-    }
-    Ok(all)
-}

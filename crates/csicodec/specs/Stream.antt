@@ -1,0 +1,32 @@
+-- What a decoding and a run over a stream answer.
+use Rattle.std.specs.Prelude.{◌≡◌, ℕ, Bool, false, List, map, Option, IfSome, Result, Ok, Err}
+use Rattle.csicodec_base.specs.declared.param.CsiParam.{CsiParam}
+use Rattle.csicodec_base.specs.declared.reader.ReadError.{ReadError}
+use Rattle.csicodec_base.specs.declared.reader.ReadError.TheVariants as read_errors
+use Rattle.csicodec_base.specs.Fault.{Reads}
+use Rattle.csicodec.specs.declared.actions.CSI.{CSI}
+use Rattle.csicodec.specs.declared.stream.DecodeError.{DecodeError}
+use Rattle.csicodec.specs.declared.stream.DecodeError.TheVariants as decode_errors
+use Rattle.csicodec.specs.declared.stream.RunError.{RunError}
+use Rattle.csicodec.specs.declared.stream.RunError.TheVariants as run_errors
+use Rattle.csicodec.specs.Actions.{Action, action_of}
+use Rattle.csicodec.specs.Decoding.{Decodes, FaultAt}
+
+-- why these bytes may be refused so: their own fault, at which they have no actions; memory only behind a sequence
+abbrev pub RefusesDecode : List ℕ → Bool → DecodeError → Type 0
+RefusesDecode bytes flag (decode_errors.Read start error) = FaultAt bytes start error × ((actions : List Action) → Decodes bytes flag actions → ⊥)
+RefusesDecode bytes flag decode_errors.Memory = (list : List CsiParam) × (final : ℕ) × (rest : List ℕ) × Reads bytes list final rest
+
+-- why a run over this input, if its bytes are known, may end so
+abbrev pub RefusesRun : Option (List ℕ) → RunError → Type 0
+RefusesRun input run_errors.Read = Unit {0}
+RefusesRun input (run_errors.Decode (decode_errors.Read start error)) =
+    IfSome input (λ bytes. FaultAt bytes start error × ((actions : List Action) → Decodes bytes false actions → ⊥))
+RefusesRun input (run_errors.Decode decode_errors.Memory) = ⊥
+RefusesRun input run_errors.Write = Unit {0}
+RefusesRun input run_errors.Memory = Unit {0}
+
+-- the refusal of the sequence that begins here
+abbrev pub refusal_of : ℕ → ReadError → DecodeError
+refusal_of start read_errors.Memory = decode_errors.Memory
+refusal_of start error = decode_errors.Read start error

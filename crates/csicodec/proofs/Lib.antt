@@ -3,4 +3,5 @@ pub mod Blocks
 pub mod Cuts
 pub mod NextLemmas
 pub mod Odd
+pub mod OneReading
 pub mod Suffixes

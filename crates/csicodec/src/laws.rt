@@ -1,6 +1,8 @@
 //! Laws of the definitions. Each is the contract of a function that does nothing.
-ghost use Rattle.std.specs.Prelude.{◌≡◌, ◌<◌, ◌≤◌, List, length, max};
+ghost use Rattle.std.specs.Prelude.{◌≡◌, ℕ, ◌<◌, ◌≤◌, List, length, max};
+ghost use Rattle.csicodec_base.specs.declared.reader.ReadError.{ReadError};
 ghost use Rattle.csicodec.specs.Actions.{Action};
+ghost use Rattle.csicodec.specs.Decoding.{Decodes, FaultAt};
 ghost use Rattle.csicodec.specs.Segments.{Actions};
 ghost use Rattle.csicodec.specs.Suffix.{SuffixLaw};
 
@@ -17,4 +19,11 @@ pub fn segmentation(params: &[CsiParam], parameters_truncated: bool, control: ch
 /// An unknown action that parsing makes is the last one, has the flag and the final character, and holds a suffix of the list.
 pub fn suffix(params: &[CsiParam], parameters_truncated: bool, control: char)
     ensures { SuffixLaw params.now parameters_truncated control }
+{}
+
+/// Bytes are read in one way: they have at most one list of actions and at most one fault, and none of them has both.
+pub fn decoding(bytes: &[u8], parameters_truncated: bool)
+    ensures one { (actions others : List Action) → Decodes bytes.now parameters_truncated actions → Decodes bytes.now parameters_truncated others → actions ≡ others }
+    ensures apart { (start : ℕ) (error : ReadError) (actions : List Action) → FaultAt bytes.now start error → Decodes bytes.now parameters_truncated actions → ⊥ }
+    ensures one_fault { (start other : ℕ) (error last : ReadError) → FaultAt bytes.now start error → FaultAt bytes.now other last → (start ≡ other) × (error ≡ last) }
 {}

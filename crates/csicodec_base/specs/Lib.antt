@@ -6,3 +6,5 @@ pub mod Reading
 pub mod Numbers
 pub mod Shapes
 pub mod Pieces
+pub mod EscCodes
+pub mod Esc

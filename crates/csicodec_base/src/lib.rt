@@ -3,6 +3,7 @@
 
 mod codes;
 mod color;
+mod esc;
 pub mod laws;
 mod param;
 mod pieces;
@@ -11,6 +12,7 @@ mod sgr;
 
 pub use codes::SgrCode;
 pub use color::{Blink, ColorSpec, Intensity, SrgbaTuple, Underline, VerticalAlign};
+pub use esc::{Esc, EscCode};
 pub use param::{CsiParam, NotSpelled};
 pub use pieces::sgr_front;
 pub use reader::{ReadCsi, ReadError, read_csi};

@@ -20,10 +20,10 @@ in_turn None control = control ∷ []
 in_turn (Some intermediate) control = intermediate ∷ control ∷ []
 
 -- what stands after ESC
-abbrev pub characters : Esc → List ℕ
-characters (Unspecified intermediate control) = in_turn intermediate control
-characters (Code known) = characters_of known
+abbrev pub after_esc : Esc → List ℕ
+after_esc (Unspecified intermediate control) = in_turn intermediate control
+after_esc (Code known) = characters_of known
 
 -- the character ESC and those after it, in UTF-8
 abbrev pub esc_text : Esc → List ℕ
-esc_text esc = 27 ∷ encode_utf8_all (characters esc)
+esc_text esc = 27 ∷ encode_utf8_all (after_esc esc)

@@ -19,6 +19,7 @@ pub enum Esc {
         /// The last byte, which says with the intermediate what is asked for.
         control: u8,
     },
+    /// The one or two characters of a code.
     Code(EscCode),
 }
 

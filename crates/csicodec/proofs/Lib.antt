@@ -6,3 +6,4 @@ pub mod Odd
 pub mod OneReading
 pub mod Suffixes
 pub mod Splits
+mod Escapes

@@ -11,3 +11,4 @@ pub mod Suffix
 pub mod Texts
 pub mod Decoding
 pub mod Stream
+pub mod EscTexts

@@ -3,10 +3,11 @@ ghost use Rattle.std.specs.Prelude.{◌≡◌, ℕ, ◌<◌, ◌≤◌, List, le
 ghost use Rattle.csicodec_base.specs.declared.reader.ReadError.{ReadError};
 ghost use Rattle.csicodec.specs.Actions.{Action};
 ghost use Rattle.csicodec.specs.Decoding.{Decodes, FaultAt};
+ghost use Rattle.csicodec.specs.EscTexts.{EscTexts};
 ghost use Rattle.csicodec.specs.Segments.{Actions};
 ghost use Rattle.csicodec.specs.Suffix.{SuffixLaw};
 
-use csicodec_base::CsiParam;
+use csicodec_base::{CsiParam, EscCode};
 
 /// Every list has actions before every final character, and only these: at least one, and no more than it has tokens,
 /// unless it is empty.
@@ -26,4 +27,10 @@ pub fn decoding(bytes: &[u8], parameters_truncated: bool)
     ensures one { (actions others : List Action) → Decodes bytes.now parameters_truncated actions → Decodes bytes.now parameters_truncated others → actions ≡ others }
     ensures apart { (start : ℕ) (error : ReadError) (actions : List Action) → FaultAt bytes.now start error → Decodes bytes.now parameters_truncated actions → ⊥ }
     ensures one_fault { (start other : ℕ) (error last : ReadError) → FaultAt bytes.now start error → FaultAt bytes.now other last → (start ≡ other) × (error ≡ last) }
+{}
+
+/// What [`Esc::parse`](crate::Esc::parse) answers prints what it was given, unless the intermediate
+/// is `Some(0)` and the control alone is a code. And the halves of a code's number parse to it.
+pub fn esc_texts(intermediate: Option<u8>, control: u8, code: EscCode)
+    ensures { EscTexts intermediate control code }
 {}

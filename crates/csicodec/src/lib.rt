@@ -1,4 +1,5 @@
-//! A codec of control sequences (CSI) of terminals: what a sequence stands for, and how it is written.
+//! A codec of the control sequences (CSI) and escape sequences (ESC) of terminals: what they stand for, and how they are
+//! written.
 #![tactic(auto)]
 
 mod actions;
@@ -15,9 +16,9 @@ mod tokens;
 pub use actions::{CSI, Unspecified};
 pub use count::Count;
 pub use csicodec_base::{
-    AnsiColor, Blink, ColorSpec, CsiParam, CsiTail, Font, Intensity, NotSpelled, ReadCsi,
-    ReadError, Sgr, SgrCode, SrgbaTuple, Text, Underline, VerticalAlign, read_csi, read_csi_into,
-    sgr_front,
+    AnsiColor, Blink, ColorSpec, CsiParam, CsiTail, Esc, EscCode, Font, Intensity, NotSpelled,
+    ReadCsi, ReadError, Sgr, SgrCode, SrgbaTuple, Text, Underline, VerticalAlign, read_csi,
+    read_csi_into, sgr_front,
 };
 pub use look::Look;
 pub use parser::{CSIParser, Run};

@@ -9,3 +9,5 @@ pub mod Pieces
 pub mod FrontBy
 pub mod SgrText
 pub mod Palette
+pub mod EscCodes
+pub mod Esc

@@ -3,6 +3,7 @@
 
 mod codes;
 mod color;
+mod esc;
 pub mod laws;
 mod param;
 mod pieces;
@@ -12,6 +13,7 @@ mod text;
 
 pub use codes::SgrCode;
 pub use color::{AnsiColor, Blink, ColorSpec, Intensity, SrgbaTuple, Underline, VerticalAlign};
+pub use esc::{Esc, EscCode};
 pub use param::{CsiParam, NotSpelled};
 pub use pieces::sgr_front;
 pub use reader::{CsiTail, ReadCsi, ReadError, read_csi, read_csi_into};

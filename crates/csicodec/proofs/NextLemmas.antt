@@ -1,8 +1,8 @@
 -- One call of `next`, over plain variables.
 use Rattle.std.specs.Prelude.{Ok, Err, slice_get}
-use Rattle.std.proofs.Common.{◌≡◌, ℕ, zero, suc, ◌+◌, ◌*◌, ◌<◌, ◌≤◌, ◌==◌, Bool, true, false, List, [], ◌∷◌, length, drop, Some, None, refl, sym, ap, ◌∙◌, arith, inl, inr, length-drop, add-one, map, ◌++◌, append_assoc, append-nil, subst}
+use Rattle.std.proofs.Common.{◌≡◌, ℕ, zero, suc, ◌+◌, ◌*◌, ◌<◌, ◌≤◌, ◌==◌, Bool, true, false, List, [], ◌∷◌, length, drop, Some, None, refl, sym, ap, ◌∙◌, arith, inl, inr, length-drop, add-one, ◌++◌, append_assoc, append-nil, subst}
 use Rattle.std.proofs.lemmas.Bool.{ne_eqb}
-use Rattle.std.proofs.lemmas.List.{drop-drop, drop_more, drop_all, map-append}
+use Rattle.std.proofs.lemmas.List.{drop-drop, drop_more, drop_all}
 use Rattle.std.proofs.lemmas.Option.{slice_get_within, get_or_from_slice_get}
 use Rattle.std.specs.declared.alloc.AllocError.{AllocError}
 use Rattle.csicodec_base.specs.declared.param.CsiParam.{CsiParam}
@@ -163,19 +163,17 @@ get_drop xs i a e =
     drop_more xs i a w ∙ ap (λ x. x ∷ drop (i + 1) xs) (get_or_from_slice_get xs i a a e)
 
 -- one more action is told
-pub told_more : (all : List Action) (before after : List CSI) (i j : ℕ) (x : CSI) → map action_of before ++ drop i all ≡ all → slice_get all i ≡ Some (action_of x) → after ≡ before ++ x ∷ [] → j ≡ i + 1 → map action_of after ++ drop j all ≡ all
-told_more all before after i j x e s a k =
-    let one : map action_of after ≡ map action_of before ++ action_of x ∷ [] = ap (map action_of) a ∙ map-append action_of before (x ∷ []) in
-    rw (one, k, append_assoc) (ap (λ l. map action_of before ++ l) (sym (get_drop all i (action_of x) s)) ∙ e)
+pub told_more : (all told : List Action) (i j : ℕ) (a : Action) → told ++ drop i all ≡ all → slice_get all i ≡ Some a → j ≡ i + 1 → (told ++ a ∷ []) ++ drop j all ≡ all
+told_more all told i j a e s k = rw (k, append_assoc) (ap (λ (l : List Action). told ++ l) (sym (get_drop all i a s)) ∙ e)
 
 -- where the run has ended, all are told
-pub told_all : (p : Progress) (list : List CsiParam) (flag : Bool) (final : ℕ) (told : List CSI) → p.list ≡ list → p.flag ≡ flag → p.final ≡ final → p.failed ≡ false
-    → map action_of told ++ drop p.given (actions list flag final) ≡ actions list flag final → HasEnded p → Actions list flag final (map action_of told)
+pub told_all : (p : Progress) (list : List CsiParam) (flag : Bool) (final : ℕ) (told : List Action) → p.list ≡ list → p.flag ≡ flag → p.final ≡ final → p.failed ≡ false
+    → told ++ drop p.given (actions list flag final) ≡ actions list flag final → HasEnded p → Actions list flag final told
 told_all p list flag final told l f n still e (inl h) = cc
 told_all p list flag final told l f n still e (inr h) =
     let same : h.0 ≡ actions list flag final = actions_only list flag final h.0 (rw (l, f, n) at h.1) in
     let none : drop p.given (actions list flag final) ≡ [] = drop_all p.given (actions list flag final) (rw same at h.2) in
-    let all : map action_of told ≡ actions list flag final = sym (append-nil (map action_of told)) ∙ ap (λ (xs : List Action). map action_of told ++ xs) (sym none) ∙ e in
+    let all : told ≡ actions list flag final = sym (append-nil told) ∙ ap (λ (xs : List Action). told ++ xs) (sym none) ∙ e in
     subst (λ (xs : List Action). Actions list flag final xs) (sym all) (actions_are list flag final)
 
 -- ---- what is unread

@@ -1,15 +1,14 @@
 -- What a decoding and a run over a stream answer.
-use Rattle.std.specs.Prelude.{◌≡◌, ℕ, Bool, false, List, map, Option, IfSome, Result, Ok, Err}
+use Rattle.std.specs.Prelude.{ℕ, Bool, false, List, Option, IfSome}
 use Rattle.csicodec_base.specs.declared.param.CsiParam.{CsiParam}
 use Rattle.csicodec_base.specs.declared.reader.ReadError.{ReadError}
 use Rattle.csicodec_base.specs.declared.reader.ReadError.TheVariants as read_errors
 use Rattle.csicodec_base.specs.Fault.{Reads}
-use Rattle.csicodec.specs.declared.actions.CSI.{CSI}
 use Rattle.csicodec.specs.declared.stream.DecodeError.{DecodeError}
 use Rattle.csicodec.specs.declared.stream.DecodeError.TheVariants as decode_errors
 use Rattle.csicodec.specs.declared.stream.RunError.{RunError}
 use Rattle.csicodec.specs.declared.stream.RunError.TheVariants as run_errors
-use Rattle.csicodec.specs.Actions.{Action, action_of}
+use Rattle.csicodec.specs.Actions.{Action}
 use Rattle.csicodec.specs.Decoding.{Decodes, FaultAt}
 
 -- why these bytes may be refused so: their own fault, at which they have no actions; memory only behind a sequence
@@ -30,3 +29,8 @@ RefusesRun input run_errors.Memory = Unit {0}
 abbrev pub refusal_of : ℕ → ReadError → DecodeError
 refusal_of start read_errors.Memory = decode_errors.Memory
 refusal_of start error = decode_errors.Read start error
+
+-- what a run says of a refused decoding
+abbrev pub run_refusal : DecodeError → RunError
+run_refusal (decode_errors.Read start error) = run_errors.Decode (decode_errors.Read start error)
+run_refusal decode_errors.Memory = run_errors.Memory

@@ -6,7 +6,7 @@ ghost use Rattle.csicodec.specs.declared.stream.DecodeError.TheVariants.{Memory}
 ghost use Rattle.csicodec.specs.Actions.{Action, action_of};
 ghost use Rattle.csicodec.specs.Decoding.{Decodes, FaultAt};
 ghost use Rattle.csicodec.specs.Segments.{Actions};
-ghost use Rattle.csicodec.specs.Stream.{RefusesDecode, RefusesRun, refusal_of};
+ghost use Rattle.csicodec.specs.Stream.{RefusesDecode, RefusesRun, refusal_of, run_refusal};
 ghost use Rattle.csicodec.specs.Texts.{texts};
 
 use crate::actions::CSI;
@@ -51,6 +51,18 @@ pub enum RunError {
     Write,
     /// Memory ran out; nothing was written.
     Memory,
+}
+
+/// Want of memory stays what it is; a refused sequence is `Decode`.
+impl From<DecodeError> for RunError {
+    ghost from_gives = { λ decode run. run ≡ run_refusal decode };
+
+    fn from(error: DecodeError) -> RunError {
+        match error {
+            DecodeError::Read { .. } => RunError::Decode(error),
+            DecodeError::Memory => RunError::Memory,
+        }
+    }
 }
 
 /// The actions of one parameter list, into a sink.
@@ -211,9 +223,6 @@ pub fn normalise<R: Read, W: Write>(
 {
     let bytes = read_all(alloc, input)?;
     let mut texts = Texts::new(alloc);
-    match decode_into(alloc, bytes.as_slice(), false, &mut texts) {
-        Ok(()) => write_out(output, texts.bytes.as_slice()),
-        Err(DecodeError::Memory) => Err(RunError::Memory),
-        Err(error) => Err(RunError::Decode(error)),
-    }
+    decode_into(alloc, bytes.as_slice(), false, &mut texts)?;
+    write_out(output, texts.bytes.as_slice())
 }

@@ -99,21 +99,19 @@ fn part_front<'a>(bytes: &[u8], rest: &'a [u8]) -> Result<Part<'a>, ReadError>
     ensures part { IfOk result (IsPart rest.now) }
     ensures fault { IfErr result (λ e. (list : List CsiParam) → HasRead bytes.now list rest.now → FaultOf bytes.now e) }
 {
-    let [byte, others @ ..] = rest else {
-        return Err(ReadError::Truncated { at: bytes.len() });
-    };
-    match *byte {
-        b'0'..=b'9' => match number_front(*byte, others) {
+    let at = bytes.len() - rest.len();
+    match rest {
+        [] => Err(ReadError::Truncated { at }),
+        [0x00..=0x1f, ..] => Err(ReadError::BadByte { at }),
+        [digit @ b'0'..=b'9', others @ ..] => match number_front(*digit, others) {
             Ok((number, behind)) => Ok(Part::Token(CsiParam::Integer(number as i64), behind)),
             Err(left) => Err(ReadError::NumberTooLarge {
                 at: bytes.len() - left.len(),
             }),
         },
-        b' '..=b'?' => Ok(Part::Token(CsiParam::P(*byte), others)),
-        b'@'..=b'~' => Ok(Part::Final(*byte, others)),
-        _ => Err(ReadError::BadByte {
-            at: bytes.len() - rest.len(),
-        }),
+        [byte @ b' '..=b'?', others @ ..] => Ok(Part::Token(CsiParam::P(*byte), others)),
+        [byte @ b'@'..=b'~', others @ ..] => Ok(Part::Final(*byte, others)),
+        [0x7f..=0xff, ..] => Err(ReadError::BadByte { at }),
     }
 }
 

@@ -1,39 +1,63 @@
-//! Reading one control sequence at the front of some bytes.
+//! Reading one control sequence (ECMA-48, 5.4) at the front of some bytes.
 
 ghost use Rattle.std.specs.Prelude.{◌≡◌, ℕ, ◌+◌, ◌-◌, ◌*◌, ◌^◌, ◌<◌, ◌≤◌, List, [], ◌∷◌, ◌++◌, length, pos, IfOk, IfErr, MatchOption, MatchResult, vec_capacity};
 ghost use Rattle.csicodec_base.specs.declared.param.CsiParam.{CsiParam};
 ghost use Rattle.csicodec_base.specs.declared.reader.ReadError.{ReadError};
 ghost use Rattle.csicodec_base.specs.declared.reader.ReadError.TheVariants.{Memory};
 ghost use Rattle.csicodec_base.specs.Digits.{IsDigit, largest};
-ghost use Rattle.csicodec_base.specs.Sequence.{Seq};
-ghost use Rattle.csicodec_base.specs.Fault.{FaultOf, Reads, Refuses};
+ghost use Rattle.csicodec_base.specs.Sequence.{Reads};
+ghost use Rattle.csicodec_base.specs.Fault.{FaultOf, Refuses};
 ghost use Rattle.csicodec_base.specs.Reading.{IsNumber, IsTooLarge, IsPart, HasRead, HasCounted};
 
 use crate::param::CsiParam;
 use std::alloc::{AllocError, Global};
 
-/// A sequence that was read.
+/// A control sequence that was read, and the bytes behind it.
 #[derive(Debug, Drop)]
 pub struct ReadCsi<'a> {
+    /// The tokens between `ESC [` and the final byte, in their order. No two numbers stand side by
+    /// side.
     pub params: Vec<CsiParam>,
+
+    /// The final byte as a character, from `'@'` to `'~'`.
     pub control: char,
+
+    /// The bytes behind the final byte: the end of the slice that was passed, not a copy.
     pub rest: &'a [u8],
 }
 
-/// What stands behind the tokens of a sequence.
+/// What stands behind the tokens of a control sequence that was read.
 #[derive(Clone, Copy, Debug)]
 pub struct CsiTail<'a> {
+    /// The final byte as a character, from `'@'` to `'~'`.
     pub control: char,
+
+    /// The bytes behind the final byte: the end of the slice that was passed, not a copy.
     pub rest: &'a [u8],
 }
 
-/// Why no sequence was read.
+/// Why no control sequence was read.
+///
+/// Each `at` is a place in the bytes that were passed, counted from 0. But for `Truncated` it is the
+/// first byte with which they are the beginning of no control sequence.
 #[derive(Clone, Copy, Debug, PartialEq, Eq)]
 pub enum ReadError {
+    /// The bytes don't begin with `ESC [`: `at` is 0 where the first byte isn't ESC, and 1 where
+    /// another byte than `[` follows it. CSI as the one byte 9b is refused so, at 0.
     NotCsi { at: usize },
+
+    /// Before any final byte stands one that is no part of a sequence: a control character, DEL, or
+    /// a byte above it.
     BadByte { at: usize },
+
+    /// The digit at `at` makes its number larger than `i64::MAX`, whatever follows.
     NumberTooLarge { at: usize },
+
+    /// The bytes end before the final byte, and more bytes could make them a sequence; `at` is how
+    /// many they are.
     Truncated { at: usize },
+
+    /// A sequence stands in front, and there was no memory for its tokens.
     Memory,
 }
 
@@ -99,21 +123,19 @@ fn part_front<'a>(bytes: &[u8], rest: &'a [u8]) -> Result<Part<'a>, ReadError>
     ensures part { IfOk result (IsPart rest.now) }
     ensures fault { IfErr result (λ e. (list : List CsiParam) → HasRead bytes.now list rest.now → FaultOf bytes.now e) }
 {
-    let [byte, others @ ..] = rest else {
-        return Err(ReadError::Truncated { at: bytes.len() });
-    };
-    match *byte {
-        b'0'..=b'9' => match number_front(*byte, others) {
+    let at = bytes.len() - rest.len();
+    match rest {
+        [] => Err(ReadError::Truncated { at }),
+        [0x00..=0x1f, ..] => Err(ReadError::BadByte { at }),
+        [digit @ b'0'..=b'9', others @ ..] => match number_front(*digit, others) {
             Ok((number, behind)) => Ok(Part::Token(CsiParam::Integer(number as i64), behind)),
             Err(left) => Err(ReadError::NumberTooLarge {
                 at: bytes.len() - left.len(),
             }),
         },
-        b' '..=b'?' => Ok(Part::Token(CsiParam::P(*byte), others)),
-        b'@'..=b'~' => Ok(Part::Final(*byte, others)),
-        _ => Err(ReadError::BadByte {
-            at: bytes.len() - rest.len(),
-        }),
+        [byte @ b' '..=b'?', others @ ..] => Ok(Part::Token(CsiParam::P(*byte), others)),
+        [byte @ b'@'..=b'~', others @ ..] => Ok(Part::Final(*byte, others)),
+        [0x7f..=0xff, ..] => Err(ReadError::BadByte { at }),
     }
 }
 
@@ -161,6 +183,7 @@ fn refusal(bytes: &[u8], rest: &[u8]) -> ReadError
     }
 }
 
+// The sequence in front, or why there is none, from which the clauses of the public calls follow.
 fn fill<'a>(params: &mut Vec<CsiParam>, bytes: &'a [u8]) -> Result<CsiTail<'a>, ReadError>
     ensures kept { vec_capacity params.old ≤ vec_capacity params.new }
     ensures read { MatchResult result
@@ -187,25 +210,34 @@ fn fill<'a>(params: &mut Vec<CsiParam>, bytes: &'a [u8]) -> Result<CsiTail<'a>, 
     }
 }
 
-/// The sequence at the front of the bytes, its tokens into a buffer that is kept from call to call.
+/// Reads the control sequence at the front of the bytes, its tokens into a buffer that is kept from
+/// call to call.
+///
+/// `params` is cleared first. After an `Ok` it holds the tokens of this sequence, as [`read_csi`] has
+/// them; after an `Err` it holds anything. It grows only for a list that it has no room for, and
+/// keeps its room.
+///
+/// ```text
+/// let tail = read_csi_into(&mut params, b"\x1b[0001;?m!")?;   // 1, ';', '?' then 'm' and b"!"
+/// ```
 pub fn read_csi_into<'a>(
     params: &mut Vec<CsiParam>,
     bytes: &'a [u8],
 ) -> Result<CsiTail<'a>, ReadError>
     // What is read is a sequence, and the bytes behind it are left.
     ensures found { IfOk result (λ tail. Reads bytes.now params.new.items tail.control tail.rest.now) }
-    // Where a front is a sequence, this one is read, unless it needs more room and memory runs out.
-    ensures only { (front rest : List ℕ) (list : List CsiParam) (final : ℕ) → Seq front list final → bytes.now ≡ front ++ rest →
-        MatchResult result
+    // Where a front is a sequence, this one is read, unless it needs more room than there was.
+    ensures only { (list : List CsiParam) (final : ℕ) (rest : List ℕ) → Reads bytes.now list final rest → MatchResult result
         (λ tail. (params.new.items ≡ list) × (tail.control ≡ final) × (tail.rest.now ≡ rest))
         (λ e. (e ≡ Memory) × (vec_capacity params.old < length list)) }
-    // Memory runs out only at a sequence, and any other error is the fault of bytes with none in front.
+    // Memory is refused only to a sequence, and any other error is the fault of bytes with none in front.
     ensures refused { IfErr result (λ e. Refuses bytes.now (vec_capacity params.old) e) }
     ensures kept { vec_capacity params.old ≤ vec_capacity params.new }
 {
     fill(params, bytes)
 }
 
+// The same with a list of its own.
 fn read(alloc: Global, bytes: &[u8]) -> Result<ReadCsi<'_>, ReadError>
     ensures { MatchResult result (λ read. Reads bytes.now read.params.items read.control read.rest.now) (λ e. Refuses bytes.now 0 e) }
 {
@@ -219,16 +251,25 @@ fn read(alloc: Global, bytes: &[u8]) -> Result<ReadCsi<'_>, ReadError>
     })
 }
 
-/// The sequence at the front of the bytes.
+/// Reads the control sequence at the front of the bytes, its tokens into a list of its own, which
+/// grows once.
+///
+/// ECMA-48, 5.4, in its 7-bit form: `ESC [` (1b 5b), then parameter bytes (30 to 3f), intermediate
+/// bytes (20 to 2f), and one final byte (40 to 7e). The bytes from 20 to 3f are read in any order
+/// here. A longest run of digits is one number, its leading zeros read; each other byte is a token.
+///
+/// ```text
+/// let read = read_csi(alloc, b"\x1b[0001;?m!")?;              // 1, ';', '?' then 'm' and b"!"
+/// let refused = read_csi(alloc, b"\x1b[1");                   // Truncated { at: 3 }
+/// ```
 pub fn read_csi<'a>(alloc: Global, bytes: &'a [u8]) -> Result<ReadCsi<'a>, ReadError>
     // What is read is a sequence, and the bytes behind it are left.
     ensures found { IfOk result (λ read. Reads bytes.now read.params.items read.control read.rest.now) }
-    // Where a front is a sequence, this one is read, unless memory runs out.
-    ensures only { (front rest : List ℕ) (list : List CsiParam) (final : ℕ) → Seq front list final → bytes.now ≡ front ++ rest →
-        MatchResult result
+    // Where a front is a sequence, this one is read, unless there is no memory for its tokens.
+    ensures only { (list : List CsiParam) (final : ℕ) (rest : List ℕ) → Reads bytes.now list final rest → MatchResult result
         (λ read. (read.params.items ≡ list) × (read.control ≡ final) × (read.rest.now ≡ rest))
         (λ e. (e ≡ Memory) × (0 < length list)) }
-    // Memory runs out only at a sequence, and any other error is the fault of bytes with none in front.
+    // Memory is refused only to a sequence, and any other error is the fault of bytes with none in front.
     ensures refused { IfErr result (λ e. Refuses bytes.now 0 e) }
 {
     read(alloc, bytes)

@@ -3,7 +3,7 @@ use Rattle.csicodec_base.proofs.Reading.{one_reading, refused_for_memory}
 use Rattle.csicodec_base.proofs.reader.read_csi_into.Goals as goal
 
 pub returns-clause-only : goal.returns-clause-only
-returns-clause-only c = λ front rest list final s e.
+returns-clause-only c = λ list final rest s.
     MatchResult-weaker c.fill.result c.fill.ensures.read
-    (λ r h. one_reading c.args.bytes.now front rest _ list _ final _ s e h)
-    (λ r h. refused_for_memory c.args.bytes.now front rest list final _ r s e h)
+    (λ r h. one_reading c.args.bytes.now rest _ list _ final _ s h)
+    (λ r h. refused_for_memory c.args.bytes.now rest list final _ r s h)

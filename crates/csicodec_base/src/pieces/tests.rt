@@ -1,6 +1,6 @@
 //! Worked examples of pieces, and of the texts that are printed for them.
 
-use crate::{ColorSpec, Intensity, Sgr, SrgbaTuple, Text, Underline, read_csi, sgr_front};
+use crate::{ColorSpec, Intensity, Sgr, SrgbaTuple, Underline, read_csi, sgr_front};
 
 const ONE_TWO_THREE: ColorSpec = ColorSpec::TrueColor(SrgbaTuple(1, 2, 3, 255));
 
@@ -68,10 +68,9 @@ fn reads_and_writes_pieces(rt: HostRuntime) {
     for (bytes, piece, printed) in rows {
         let read = read_csi(rt.alloc(), bytes).expect(&rt, "one sequence");
         assert_eq!(rt; sgr_front(&read.params), piece, "{bytes:?}");
-        let mut text = Text::new();
         if let Some((sgr, _)) = piece {
-            sgr.write_to(&mut text);
+            let text = sgr.to_string(rt.alloc()).expect(&rt, "memory");
+            assert_eq!(rt; text.as_bytes(), printed);
         }
-        assert_eq!(rt; text.as_bytes(), printed);
     }
 }

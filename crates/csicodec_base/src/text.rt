@@ -1,6 +1,7 @@
 //! A short text, built in place and appended at once.
 
-ghost use Rattle.std.specs.Prelude.{◌≡◌, ◌+◌, ◌<◌, ◌≤◌, List, [], ◌∷◌, ◌++◌, ℕ, length, take, IsAscii, MatchResult};
+ghost use Rattle.std.specs.Prelude.{◌≡◌, ◌+◌, ◌<◌, ◌≤◌, List, [], ◌∷◌, ◌++◌, ℕ, length, take, IsAscii, IsOk, OnOk, OnErr, vec_len, vec_capacity};
+ghost use Rattle.std.specs.Vec.{VecUnchanged};
 ghost use Rattle.std.specs.Fmt.{decimal, signed_decimal};
 
 use std::alloc::AllocError;
@@ -138,10 +139,14 @@ impl Text {
         self.push(b'0' + (number % 10) as u8);
     }
 
-    /// Appends this text to a longer one. On `Err`, for want of memory, that one stays as it was.
+    /// Appends this text to a longer one. On `Err`, for want of memory, that one stays as it was. It takes no memory
+    /// where the longer one has room for 32 bytes.
     #[inline(always)]
     pub fn append_to(&self, out: &mut Vec<u8>) -> Result<(), AllocError>
-        ensures { MatchResult result (λ _. out.new.items ≡ out.old.items ++ self.now) (λ _. out.new.items ≡ out.old.items) }
+        ensures ok { OnOk result (out.new.items ≡ out.old.items ++ self.now) }
+        ensures err { OnErr result (VecUnchanged out.old out.new) }
+        ensures room { vec_len out.old + 32 ≤ vec_capacity out.old → IsOk result }
+        ensures capacity { vec_capacity out.old ≤ vec_capacity out.new }
     {
         let end = out.len() + self.len;
         out.extend_from_slice(&self.bytes)?;

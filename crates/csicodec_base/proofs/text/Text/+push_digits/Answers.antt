@@ -1,4 +1,4 @@
-use Rattle.std.proofs.Common.{arith, ◌≤◌, ◌<◌, ◌^◌, append_assoc, length-append}
+use Rattle.std.proofs.Common.{arith, append_assoc, length-append}
 use Rattle.std.proofs.lemmas.Fmt.{decimal_digit, decimal_step}
 use Rattle.csicodec_base.proofs.Decimal.{length-decimal_digit, length-decimal_step}
 use Rattle.csicodec_base.proofs.text.Text.+push_digits.Goals as goal

@@ -1,4 +1,4 @@
-use Rattle.std.proofs.Common.{arith, ◌≤◌, length, length-append}
+use Rattle.std.proofs.Common.{arith, length-append}
 use Rattle.csicodec_base.proofs.Decimal.{length-decimal_i64}
 use Rattle.csicodec_base.proofs.text.Text.push_i64.Goals as goal
 

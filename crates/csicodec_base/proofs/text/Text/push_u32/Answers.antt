@@ -1,4 +1,4 @@
-use Rattle.std.proofs.Common.{arith, ◌≤◌, length, length-append}
+use Rattle.std.proofs.Common.{arith, length-append}
 use Rattle.csicodec_base.proofs.Decimal.{length-decimal_u32}
 use Rattle.csicodec_base.proofs.text.Text.push_u32.Goals as goal
 

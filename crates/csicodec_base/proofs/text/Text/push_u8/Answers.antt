@@ -1,4 +1,4 @@
-use Rattle.std.proofs.Common.{arith, ◌≤◌, ◌<◌, append_assoc, refl}
+use Rattle.std.proofs.Common.{arith, append_assoc, refl}
 use Rattle.std.proofs.lemmas.Fmt.{decimal_digit}
 use Rattle.csicodec_base.proofs.Decimal.{two_digits, three_digits}
 use Rattle.csicodec_base.proofs.text.Text.push_u8.Goals as goal

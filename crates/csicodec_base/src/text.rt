@@ -51,7 +51,10 @@ impl Text {
     pub fn as_str(&self) -> &str
         ensures { result.now ≡ self.now }
     {
-        unsafe { str::from_utf8_unchecked(&self.bytes[..self.len]) }
+        match str::from_utf8(self.as_bytes()) {
+            Ok(text) => text,
+            Err(_) => unreachable!(),
+        }
     }
 
     /// Appends one byte of ASCII.

@@ -10,3 +10,4 @@ pub mod Steps
 pub mod Suffix
 pub mod Texts
 pub mod Decoding
+pub mod RoundTrip

@@ -7,3 +7,11 @@ pub mod OneReading
 pub mod Suffixes
 pub mod Splits
 mod Escapes
+pub mod Canonical
+pub mod SgrCanonical
+pub mod SgrKept
+pub mod Spelling
+pub mod SgrSpelling
+pub mod Alone
+pub mod Parsed
+pub mod RoundTrip

@@ -21,7 +21,7 @@ cut-ends g list body flag final [] rest more c h = h
 cut-ends g list body flag final (x ∷ xs) rest more c h =
     piece-ends g list (c.0 ++ c.1) flag final _ x (xs ++ more) c.3.piece (cut-ends g list c.1 flag final xs rest more c.4 h)
 
-cut-suffix : (g : Group) (body : List CsiParam) (xs : List Action) (rest : List CsiParam) → Cut g body xs rest → IsSuffix body rest
+pub cut-suffix : (g : Group) (body : List CsiParam) (xs : List Action) (rest : List CsiParam) → Cut g body xs rest → IsSuffix body rest
 cut-suffix g body [] rest c = ([], c)
 cut-suffix g body (x ∷ xs) rest c =
     let s = cut-suffix g c.1 xs rest c.4 in

@@ -12,6 +12,7 @@ pub mod Steps
 pub mod Stream
 pub mod Suffix
 pub mod Texts
+pub mod RoundTrip
 pub use Rattle.csicodec_base.specs.Digits
 pub use Rattle.csicodec_base.specs.Esc
 pub use Rattle.csicodec_base.specs.EscCodes

@@ -4,6 +4,7 @@ ghost use Rattle.csicodec_base.specs.declared.reader.ReadError.{ReadError};
 ghost use Rattle.csicodec.specs.Actions.{Action};
 ghost use Rattle.csicodec.specs.Decoding.{Decodes, FaultAt};
 ghost use Rattle.csicodec.specs.EscTexts.{EscTexts};
+ghost use Rattle.csicodec.specs.RoundTrip.{RoundTrip};
 ghost use Rattle.csicodec.specs.Segments.{Actions};
 ghost use Rattle.csicodec.specs.Suffix.{SuffixLaw};
 
@@ -27,6 +28,12 @@ pub fn decoding(bytes: &[u8], parameters_truncated: bool)
     ensures one { (actions others : List Action) → Decodes bytes.now parameters_truncated actions → Decodes bytes.now parameters_truncated others → actions ≡ others }
     ensures apart { (start : ℕ) (error : ReadError) (actions : List Action) → FaultAt bytes.now start error → Decodes bytes.now parameters_truncated actions → ⊥ }
     ensures one_fault { (start other : ℕ) (error last : ReadError) → FaultAt bytes.now start error → FaultAt bytes.now other last → (start ≡ other) × (error ≡ last) }
+{}
+
+/// The actions of a list that a sequence can have, before a final byte that it can have, are read back from their texts:
+/// these actions, and nothing else.
+pub fn round_trip(params: &[CsiParam], parameters_truncated: bool, control: char)
+    ensures { RoundTrip params.now parameters_truncated control }
 {}
 
 /// What [`Esc::parse`](crate::Esc::parse) answers prints what it was given, unless the intermediate

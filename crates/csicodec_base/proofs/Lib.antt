@@ -9,5 +9,6 @@ pub mod Reading
 pub mod Places
 pub mod Colors
 pub mod Table
+pub mod Joint
 pub mod CodePieces
 pub mod Decimal

@@ -46,7 +46,7 @@ ordered (row ∷ rows) = list_all (λ (other : Row). comes_before row.shape othe
 pub sgr_ordered : ordered sgr_rows ≡ true
 sgr_ordered = refl
 
-meets-fits : (s u : Slot) (t : CsiParam) → fits_slot s t ≡ true → fits_slot u t ≡ true → meets s u ≡ true
+pub meets-fits : (s u : Slot) (t : CsiParam) → fits_slot s t ≡ true → fits_slot u t ≡ true → meets s u ≡ true
 meets-fits (Number n) (Number m) (Integer (pos k)) e f = let x : k ≡ n = eqb-true _ _ e in rw x at f
 meets-fits (Number n) (Number m) (Integer (negsuc k)) e f = cc
 meets-fits (Number n) (Number m) (P b) e f = cc
@@ -95,7 +95,7 @@ contains_here r rs = (0, omega arith, refl)
 contains_there : (r : Row) (rs : List Row) (x : Row) → Contains rs x → Contains (r ∷ rs) x
 contains_there r rs x h = (suc h.0, (let l = h.1 in omega arith), h.2)
 
-all-contains : (q : Row → Bool) (rows : List Row) (x : Row) → list_all q rows ≡ true → Contains rows x → q x ≡ true
+pub all-contains : (q : Row → Bool) (rows : List Row) (x : Row) → list_all q rows ≡ true → Contains rows x → q x ≡ true
 all-contains q [] x e h = absurd (let l = h.1 in omega arith)
 all-contains q (r ∷ rs) x e h =
     let p = and_parts (q r) (list_all q rs) e in
@@ -233,7 +233,7 @@ pub piece_take : (list : List CsiParam) → piece (take 13 list) ≡ piece list
 unfolding piece
 piece_take list = front-take sgr_rows 13 list sgr_short
 
-fits-length : (ss : List Slot) (list : List CsiParam) → begins_with ss list ≡ true → length ss ≤ length list
+pub fits-length : (ss : List Slot) (list : List CsiParam) → begins_with ss list ≡ true → length ss ≤ length list
 fits-length [] list e = omega arith
 fits-length (s ∷ ss) [] e = cc
 fits-length (s ∷ ss) (t ∷ ts) e = let h = fits-length ss ts (and_parts (fits_slot s t) _ e).1 in omega arith

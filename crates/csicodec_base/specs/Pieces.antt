@@ -1,9 +1,10 @@
 -- The longest piece at the front of a list of attributes.
-use Rattle.std.specs.Prelude.{ℕ, ◌≡◌, ◌≤◌, List, true, Option, Some, length, MatchOption}
+use Rattle.std.specs.Prelude.{ℕ, ◌≡◌, ◌≤◌, List, ◌∷◌, true, Option, Some, length, MatchOption}
 use Rattle.std.specs.List.{Contains}
 use Rattle.csicodec_base.specs.declared.param.CsiParam.{CsiParam}
+use Rattle.csicodec_base.specs.declared.param.CsiParam.TheVariants.{P}
 use Rattle.csicodec_base.specs.declared.sgr.Sgr.{Sgr}
-use Rattle.csicodec_base.specs.Shapes.{Row, begins_with, taken, given, sgr_rows}
+use Rattle.csicodec_base.specs.Shapes.{Row, colon, begins_with, taken, given, sgr_rows}
 
 -- the row is in the table, the list begins with its shape, and with no shape of the table that has more tokens
 pub record Longest (rows : List Row) (rest : List CsiParam) (row : Row) : Type 0 where
@@ -22,3 +23,7 @@ pub record Piece (rest : List CsiParam) (k : ℕ) (action : Sgr) : Type 0 where
 -- the answer is the piece at the front, and none only where there is no piece
 abbrev pub IsFront : List CsiParam → Option (Sgr × ℕ) → Type 0
 IsFront rest answer = MatchOption answer ((k : ℕ) (action : Sgr) → Piece rest k action → ⊥) (λ f. Piece rest f.1 f.0)
+
+-- the list doesn't begin with `:`
+abbrev pub NoColon : List CsiParam → Type 0
+NoColon list = (more : List CsiParam) → list ≡ P colon ∷ more → ⊥

@@ -1,13 +1,13 @@
 //! Laws of the definitions. Each is the contract of a function that does nothing.
 
-ghost use Rattle.std.specs.Prelude.{◌≡◌, ◌↔◌, ℕ, List, ◌++◌, Some, take};
+ghost use Rattle.std.specs.Prelude.{◌≡◌, ◌↔◌, ℕ, List, ◌++◌, Some, drop, take};
 ghost use Rattle.csicodec_base.specs.declared.param.CsiParam.{CsiParam};
 ghost use Rattle.csicodec_base.specs.declared.reader.ReadError.{ReadError};
 ghost use Rattle.csicodec_base.specs.declared.sgr.Sgr.{Sgr};
 ghost use Rattle.csicodec_base.specs.Fault.{Fault};
 ghost use Rattle.csicodec_base.specs.Param.{spells};
 ghost use Rattle.csicodec_base.specs.FrontBy.{piece};
-ghost use Rattle.csicodec_base.specs.Pieces.{Piece};
+ghost use Rattle.csicodec_base.specs.Pieces.{NoColon, Piece};
 ghost use Rattle.csicodec_base.specs.Sequence.{Seq, Spellable, Spells};
 
 /// No sequence begins another, and one text is one sequence.
@@ -34,4 +34,10 @@ pub fn piece_by_row()
 /// The piece at the front of a list is the piece at the front of its first 13 tokens.
 pub fn first_tokens()
     ensures { (rest : List CsiParam) (k : ℕ) (action : Sgr) → Piece rest k action ↔ Piece (take 13 rest) k action }
+{}
+
+/// Whatever follows the list, the piece at its front stays, unless a `:` comes directly after the piece.
+pub fn piece_stays()
+    ensures { (list more : List CsiParam) (k : ℕ) (action : Sgr) →
+        NoColon (drop k list ++ more) → Piece list k action → Piece (list ++ more) k action }
 {}

@@ -134,8 +134,10 @@ palette_shapes = (Any ∷ []) ∷ []
 abbrev pub behind : ℕ → ℕ → List (List Slot) → List (List Slot)
 behind mark kind shapes = map (λ (s : List Slot). Byte mark ∷ Number kind ∷ Byte mark ∷ s) shapes
 
--- the shapes of a colour, behind its code: those with colons are of ISO/IEC 8613-6, kind 6 of WezTerm, and
--- those with semicolons of xterm and konsole
+-- the shapes of a colour, behind its code. With the code of the foreground they are, by their number of tokens:
+-- 13 `38:6:#:_:_:_:_`, 12 `38:6::_:_:_:_`, 11 `38:6:_:_:_:_` and `38:2:#:_:_:_`, 10 `38:2::_:_:_`, 9 `38:2:_:_:_` and
+-- `38;2;_;_;_`, 5 `38:5:_` and `38;5;_`. Those with colons are of ISO/IEC 8613-6, but for kind 6, which is of WezTerm;
+-- those with semicolons are of xterm and konsole
 abbrev pub color_shapes : List (List Slot)
 color_shapes =
     behind colon 6 rgba_shapes

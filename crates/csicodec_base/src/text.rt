@@ -1,10 +1,13 @@
 //! A short text, built in place and appended at once.
 
-ghost use Rattle.std.specs.Prelude.{◌≡◌, ◌+◌, ◌<◌, ◌≤◌, List, [], ◌∷◌, ◌++◌, ℕ, length, take, IsAscii, IsOk, OnOk, OnErr, vec_len, vec_capacity};
-ghost use Rattle.std.specs.Vec.{VecUnchanged};
+ghost use Rattle.std.specs.Prelude.{◌≡◌, ◌+◌, ◌<◌, ◌≤◌, List, [], ◌∷◌, ◌++◌, ℕ, length, take, IsAscii, IsOk, OnOk, OnErr, nat_eq, vec_len, vec_capacity};
+ghost use Rattle.std.specs.Cmp.{partial_equiv_from_equiv};
+ghost use Rattle.std.specs.Cmp.Lexicographic.{nat_list_eq_equiv, pointwise};
 ghost use Rattle.std.specs.Fmt.{decimal, signed_decimal};
+ghost use Rattle.std.specs.Vec.{VecUnchanged};
 
 use std::alloc::AllocError;
+use std::fmt;
 use std::marker::Model;
 
 /// At most 32 bytes of ASCII, for one control sequence.
@@ -155,5 +158,33 @@ impl Text {
         out.extend_from_slice(&self.bytes)?;
         out.truncate(end);
         Ok(())
+    }
+}
+
+impl Default for Text {
+    ghost is_default = { λ text. text ≡ [] };
+
+    fn default() -> Self {
+        Text::new()
+    }
+}
+
+impl PartialEq for Text {
+    ghost eq = { λ a b. pointwise nat_eq a b };
+
+    ghost laws = { partial_equiv_from_equiv nat_list_eq_equiv };
+
+    fn eq(&self, other: &Self) -> bool {
+        self.as_bytes() == other.as_bytes()
+    }
+}
+
+impl Eq for Text {
+    ghost laws = { nat_list_eq_equiv };
+}
+
+impl fmt::Debug for Text {
+    fn fmt<W: fmt::Write>(&self, f: &mut fmt::Formatter<W>) -> fmt::Result {
+        fmt::Debug::fmt(self.as_str(), f)
     }
 }

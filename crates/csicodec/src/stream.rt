@@ -1,7 +1,6 @@
 //! Whole streams: bytes to actions, actions to bytes, and bytes to bytes.
 ghost use Rattle.std.specs.Prelude.{◌≡◌, ◌≢◌, ◌⊎◌, ◌++◌, ◌<◌, List, [], map, false, length, OnOk, IfOk, IfErr, IfSome, IsOk};
 ghost use Rattle.std.specs.Io.KnownBytes.{Appends, IsAtEnd};
-ghost use Rattle.csicodec_base.specs.declared.reader.ReadError.{ReadError as Fault};
 ghost use Rattle.csicodec.specs.declared.stream.DecodeError.TheVariants.{Memory};
 ghost use Rattle.csicodec.specs.Actions.{Action, action_of};
 ghost use Rattle.csicodec.specs.Decoding.{Decodes, FaultAt};
@@ -36,6 +35,14 @@ impl From<AllocError> for DecodeError {
     ghost from_gives = { λ _ e. e ≡ Memory };
 
     fn from(_e: AllocError) -> DecodeError {
+        DecodeError::Memory
+    }
+}
+
+impl<T: Drop> From<AllocFailed<T>> for DecodeError {
+    ghost from_gives = { λ _ e. e ≡ Memory };
+
+    fn from(_e: AllocFailed<T>) -> DecodeError {
         DecodeError::Memory
     }
 }

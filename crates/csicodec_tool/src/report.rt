@@ -79,3 +79,56 @@ fn fmt_refusal<W: fmt::Write>(
     let byte = start as u128 + at as u128;
     write!(f, "csicodec: byte {byte}: {text}")
 }
+
+#[cfg(test)]
+mod tests {
+    use super::*;
+    use std::test::Fail;
+
+    #[test]
+    fn tells_each_error(rt: HostRuntime) -> Result<(), Fail> {
+        let refused = |start, error| RunError::Decode(DecodeError::Read { start, error });
+        for (error, line, status) in [
+            (
+                refused(0, ReadError::NotCsi { at: 1 }),
+                "csicodec: byte 1: not a sequence",
+                1,
+            ),
+            (
+                refused(2, ReadError::BadByte { at: 3 }),
+                "csicodec: byte 5: bad byte",
+                1,
+            ),
+            (
+                refused(0, ReadError::NumberTooLarge { at: 20 }),
+                "csicodec: byte 20: number too large",
+                1,
+            ),
+            (
+                refused(3, ReadError::Truncated { at: 3 }),
+                "csicodec: byte 6: truncated",
+                1,
+            ),
+            (
+                refused(usize::MAX, ReadError::Truncated { at: usize::MAX }),
+                "csicodec: byte 36893488147419103230: truncated",
+                1,
+            ),
+            (RunError::Read, "csicodec: read fault", 2),
+            (RunError::Write, "csicodec: write fault", 2),
+            (RunError::Memory, "csicodec: no memory", 3),
+            (
+                RunError::Decode(DecodeError::Memory),
+                "csicodec: no memory",
+                3,
+            ),
+            (refused(0, ReadError::Memory), "csicodec: no memory", 3),
+        ] {
+            let report = Report::from(error);
+            let told = report.to_string(rt.alloc())?;
+            assert_eq!(rt; told.as_str(), line);
+            assert_eq!(rt; report.status(), status, "at {line}");
+        }
+        Ok(())
+    }
+}

@@ -6,6 +6,7 @@ pub mod Printed
 pub mod Tokens
 pub mod Unique
 pub mod Reading
+pub mod Beginnings
 pub mod Places
 pub mod Colors
 pub mod Table

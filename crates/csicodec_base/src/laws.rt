@@ -1,10 +1,10 @@
 //! Laws of the definitions. Each is the contract of a function that does nothing.
 
-ghost use Rattle.std.specs.Prelude.{◌≡◌, ◌↔◌, ℕ, List, ◌++◌, Some, drop, take};
+ghost use Rattle.std.specs.Prelude.{◌≡◌, ◌↔◌, ℕ, List, ◌∷◌, ◌++◌, Some, drop, take};
 ghost use Rattle.csicodec_base.specs.declared.param.CsiParam.{CsiParam};
 ghost use Rattle.csicodec_base.specs.declared.reader.ReadError.{ReadError};
 ghost use Rattle.csicodec_base.specs.declared.sgr.Sgr.{Sgr};
-ghost use Rattle.csicodec_base.specs.Fault.{Fault};
+ghost use Rattle.csicodec_base.specs.Fault.{Begins, Fault};
 ghost use Rattle.csicodec_base.specs.Param.{spells};
 ghost use Rattle.csicodec_base.specs.FrontBy.{piece};
 ghost use Rattle.csicodec_base.specs.Pieces.{NoColon, Piece};
@@ -19,6 +19,12 @@ pub fn one_sequence()
 /// Bytes have at most one fault.
 pub fn one_fault()
     ensures { (bytes : List ℕ) (d e : ReadError) → Fault bytes d → Fault bytes e → d ≡ e }
+{}
+
+/// The beginnings of sequences are the bytes that go on to a sequence, by at least its final byte.
+pub fn beginnings_go_on()
+    ensures { (bytes : List ℕ) → Begins bytes ↔
+        ((byte : ℕ) × (more : List ℕ) × (list : List CsiParam) × (final : ℕ) × Seq (bytes ++ byte ∷ more) list final) }
 {}
 
 /// What a spellable list prints is one of its spellings.

@@ -1,13 +1,14 @@
 pub mod Actions
+pub mod Compose
 pub mod Cut
 pub mod Groups
 pub mod Look
 pub mod Place
 pub mod Progress
+pub mod RoundTrip
 pub mod Run
 pub mod Segments
 pub mod Steps
 pub mod Suffix
 pub mod Texts
 pub mod Decoding
-pub mod RoundTrip

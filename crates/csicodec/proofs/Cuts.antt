@@ -49,7 +49,7 @@ block_length tokens b more (inr h) =
     ap (with_semicolon (length tokens)) at ∙ no_semicolon (length tokens) more h.1 ∙ sym (ap length h.0)
 
 -- a block of the relation is the block of the function
-block_is : (g : Group) (b more : List CsiParam) (x : Action) → IsBlock g b more x → (block g (b ++ more) ≡ Some (x, length b)) × (0 < length b)
+pub block_is : (g : Group) (b more : List CsiParam) (x : Action) → IsBlock g b more x → (block g (b ++ more) ≡ Some (x, length b)) × (0 < length b)
 block_is g b more x h =
     let found = piece_front g (b ++ more) (length h.tokens) x h.piece in
     let f = front_fits g (b ++ more) x (length h.tokens) found in

@@ -65,13 +65,17 @@ styles-kept (t ∷ ts) flag actions ok read = elim (cases_Bool (has_odd (t ∷ t
   | inr plain ↦ segmented-kept Styles (t ∷ ts) flag 109 actions ok (style-rest-kept flag) (rw plain at read)
 ]
 
+styles-final : (list : List CsiParam) (final : ℕ) → group list final ≡ Styles → final ≡ 109
+styles-final list final e = elim (cases_Bool (final == 109)) [
+  | inl same ↦ eqb-true final 109 same
+  | inr other ↦ let whole : Whole ≡ Styles = rw other at e in cc
+]
+
+group-kept : (g : Group) (list : List CsiParam) (flag : Bool) (final : ℕ) (actions : List Action) → group list final ≡ g → Spellable list → IsFinal final
+    → ActionsIn g list flag final actions → AllByRecursion (Kept flag) actions
+group-kept Whole list flag final actions e ok ends read = rw read (unknown-kept list flag final ok ends (rw e tt), tt)
+group-kept Styles list flag final actions e ok ends read = styles-kept list flag actions ok (rw (styles-final list final e) at read)
+
 -- each action that parsing makes of a list that a sequence can have, before a final byte that it can have
 pub parsed-kept : (list : List CsiParam) (flag : Bool) (final : ℕ) (actions : List Action) → Spellable list → IsFinal final → Actions list flag final actions → AllByRecursion (Kept flag) actions
-parsed-kept list flag final actions ok ends read = elim (cases_Bool (final == 109)) [
-  | inl styles ↦
-      let same : 109 ≡ final = omega (arith, eqb-true final 109 styles) in
-      styles-kept list flag actions ok (rw (← same) at read)
-  | inr whole ↦
-      let all : actions ≡ Unspecified list flag final ∷ [] = rw whole at read in
-      rw all (unknown-kept list flag final ok ends (rw whole tt), tt)
-]
+parsed-kept list flag final actions ok ends read = group-kept (group list final) list flag final actions refl ok ends read

@@ -1,4 +1,5 @@
 pub mod Actions
+pub mod Compose
 pub mod Cut
 pub mod Decoding
 pub mod EscTexts
@@ -6,13 +7,13 @@ pub mod Groups
 pub mod Look
 pub mod Place
 pub mod Progress
+pub mod RoundTrip
 pub mod Run
 pub mod Segments
 pub mod Steps
 pub mod Stream
 pub mod Suffix
 pub mod Texts
-pub mod RoundTrip
 pub use Rattle.csicodec_base.specs.Digits
 pub use Rattle.csicodec_base.specs.Esc
 pub use Rattle.csicodec_base.specs.EscCodes

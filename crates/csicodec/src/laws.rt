@@ -2,6 +2,7 @@
 ghost use Rattle.std.specs.Prelude.{◌≡◌, ℕ, ◌<◌, ◌≤◌, List, length, max};
 ghost use Rattle.csicodec_base.specs.declared.reader.ReadError.{ReadError};
 ghost use Rattle.csicodec.specs.Actions.{Action};
+ghost use Rattle.csicodec.specs.Compose.{SgrCompose};
 ghost use Rattle.csicodec.specs.Decoding.{Decodes, FaultAt};
 ghost use Rattle.csicodec.specs.EscTexts.{EscTexts};
 ghost use Rattle.csicodec.specs.RoundTrip.{RoundTrip};
@@ -25,15 +26,24 @@ pub fn suffix(params: &[CsiParam], parameters_truncated: bool, control: char)
 
 /// Bytes are read in one way: they have at most one list of actions and at most one fault, and none of them has both.
 pub fn decoding(bytes: &[u8], parameters_truncated: bool)
-    ensures one { (actions others : List Action) → Decodes bytes.now parameters_truncated actions → Decodes bytes.now parameters_truncated others → actions ≡ others }
-    ensures apart { (start : ℕ) (error : ReadError) (actions : List Action) → FaultAt bytes.now start error → Decodes bytes.now parameters_truncated actions → ⊥ }
-    ensures one_fault { (start other : ℕ) (error last : ReadError) → FaultAt bytes.now start error → FaultAt bytes.now other last → (start ≡ other) × (error ≡ last) }
+    ensures one { (one other : List Action) →
+        Decodes bytes.now parameters_truncated one → Decodes bytes.now parameters_truncated other → one ≡ other }
+    ensures apart { (start : ℕ) (error : ReadError) (actions : List Action) →
+        FaultAt bytes.now start error → Decodes bytes.now parameters_truncated actions → ⊥ }
+    ensures one_fault { (s t : ℕ) (e d : ReadError) →
+        FaultAt bytes.now s e → FaultAt bytes.now t d → (s ≡ t) × (e ≡ d) }
 {}
 
 /// The actions of a list that a sequence can have, before a final byte that it can have, are read back from their texts:
 /// these actions, and nothing else.
 pub fn round_trip(params: &[CsiParam], parameters_truncated: bool, control: char)
     ensures { RoundTrip params.now parameters_truncated control }
+{}
+
+/// Two lists before `m`, of numbers, `;`, `:` and `?`, give together what they give alone, where they are joined by a `;`, the
+/// first gives no `Unspecified`, and it doesn't end in `;`.
+pub fn sgr_compose(a: &[CsiParam], b: &[CsiParam], parameters_truncated: bool)
+    ensures { SgrCompose a.now b.now parameters_truncated }
 {}
 
 /// What [`Esc::parse`](crate::Esc::parse) answers prints what it was given, unless the intermediate

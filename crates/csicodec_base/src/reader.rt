@@ -71,22 +71,30 @@ impl From<AllocError> for ReadError {
 
 const LARGEST: u64 = i64::MAX as u64;
 
-// The number with one more digit, if it isn't too large.
+// The number with one more digit of that value, if it isn't too large.
+#[cold]
+fn with_last_digit(number: u64, value: u64) -> Option<u64>
+    ensures { MatchOption result (largest < 10 * number + value) (λ n. (n ≡ 10 * number + value) × (n ≤ largest)) }
+{
+    let longer = number.checked_mul(10)?.checked_add(value)?;
+    if longer <= LARGEST {
+        Some(longer)
+    } else {
+        None
+    }
+}
+
+// The same of a digit. All but the last digits of a very long number cost one test.
 #[inline(always)]
 fn with_digit(number: u64, digit: u8) -> Option<u64>
     requires { IsDigit digit }
     ensures { MatchOption result (largest < 10 * number + (digit - 48)) (λ n. (n ≡ 10 * number + (digit - 48)) × (n ≤ largest)) }
 {
     let value = u64::from(digit - b'0');
-    // Nearly every digit takes this one test.
     if number < LARGEST / 10 {
-        return Some(10 * number + value);
-    }
-    let longer = number.checked_mul(10)?.checked_add(value)?;
-    if longer <= LARGEST {
-        Some(longer)
+        Some(10 * number + value)
     } else {
-        None
+        with_last_digit(number, value)
     }
 }
 
@@ -151,14 +159,14 @@ fn behind_introducer(bytes: &[u8]) -> Result<&[u8], ReadError>
     }
 }
 
-// How many tokens stand before the final byte.
-fn tokens_behind(bytes: &[u8], read: &[u8]) -> Result<usize, ReadError>
-    requires { length read.now ≤ length bytes.now }
-    ensures { (list : List CsiParam) → HasRead bytes.now list read.now →
+// How many tokens stand from a place on, before the final byte.
+fn tokens_from(bytes: &[u8], start: &[u8]) -> Result<usize, ReadError>
+    requires { length start.now ≤ length bytes.now }
+    ensures { (list : List CsiParam) → HasRead bytes.now list start.now →
         MatchResult result (λ count. HasCounted bytes.now list count) (λ e. FaultOf bytes.now e) }
 {
     let mut tokens = 0;
-    let mut rest = read;
+    let mut rest = start;
     loop {
         match part_front(bytes, rest)? {
             Part::Token(_, others) => {
@@ -170,14 +178,14 @@ fn tokens_behind(bytes: &[u8], read: &[u8]) -> Result<usize, ReadError>
     }
 }
 
-// Why no sequence is read where there is no memory for a token in front of the rest.
+// Why no sequence is read, where there is no memory for a token before the rest.
 #[cold]
 #[inline(never)]
 fn refusal(bytes: &[u8], rest: &[u8]) -> ReadError
     requires { length rest.now ≤ length bytes.now }
     ensures { (list : List CsiParam) (room : ℕ) → HasRead bytes.now list rest.now → room < length list → Refuses bytes.now room result }
 {
-    match tokens_behind(bytes, rest) {
+    match tokens_from(bytes, rest) {
         Ok(_) => ReadError::Memory,
         Err(fault) => fault,
     }
@@ -213,9 +221,9 @@ fn fill<'a>(params: &mut Vec<CsiParam>, bytes: &'a [u8]) -> Result<CsiTail<'a>, 
 /// Reads the control sequence at the front of the bytes, its tokens into a buffer that is kept from
 /// call to call.
 ///
-/// `params` is cleared first. After an `Ok` it holds the tokens of this sequence, as [`read_csi`] has
-/// them; after an `Err` it holds anything. It grows only for a list that it has no room for, and
-/// keeps its room.
+/// `params` is cleared first. After an `Ok` it holds the tokens of this sequence, those of
+/// [`read_csi`]; after an `Err` it holds anything. It never loses room, and `Memory` comes only for
+/// more tokens than it had room for.
 ///
 /// ```text
 /// let tail = read_csi_into(&mut params, b"\x1b[0001;?m!")?;   // 1, ';', '?' then 'm' and b"!"
@@ -241,7 +249,7 @@ pub fn read_csi_into<'a>(
 fn read(alloc: Global, bytes: &[u8]) -> Result<ReadCsi<'_>, ReadError>
     ensures { MatchResult result (λ read. Reads bytes.now read.params.items read.control read.rest.now) (λ e. Refuses bytes.now 0 e) }
 {
-    let tokens = tokens_behind(bytes, behind_introducer(bytes)?)?;
+    let tokens = tokens_from(bytes, behind_introducer(bytes)?)?;
     let mut params = Vec::with_capacity(alloc, tokens)?;
     let tail = fill(&mut params, bytes)?;
     Ok(ReadCsi {
@@ -257,6 +265,7 @@ fn read(alloc: Global, bytes: &[u8]) -> Result<ReadCsi<'_>, ReadError>
 /// ECMA-48, 5.4, in its 7-bit form: `ESC [` (1b 5b), then parameter bytes (30 to 3f), intermediate
 /// bytes (20 to 2f), and one final byte (40 to 7e). The bytes from 20 to 3f are read in any order
 /// here. A longest run of digits is one number, its leading zeros read; each other byte is a token.
+/// `Memory` never comes for a sequence with no tokens.
 ///
 /// ```text
 /// let read = read_csi(alloc, b"\x1b[0001;?m!")?;              // 1, ';', '?' then 'm' and b"!"

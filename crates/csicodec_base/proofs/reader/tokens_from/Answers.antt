@@ -4,7 +4,7 @@ use Rattle.std.proofs.lemmas.Result.{err_from_is_err_and}
 use Rattle.csicodec_base.specs.Reading.{IsPart}
 use Rattle.csicodec_base.proofs.Tokens.{others_shorter}
 use Rattle.csicodec_base.proofs.Reading.{read_more, read_all}
-use Rattle.csicodec_base.proofs.reader.tokens_behind.Goals as goal
+use Rattle.csicodec_base.proofs.reader.tokens_from.Goals as goal
 
 pub returns-in_err-others : goal.returns-in_err-others
 returns-in_err-others c = λ list h.

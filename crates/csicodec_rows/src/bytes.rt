@@ -1,0 +1,51 @@
+//! Bytes that are read whole: their actions, and where they are refused.
+
+use csicodec::{
+    CSI, ColorSpec, DecodeError, Intensity, ReadError, RunError, Sgr, SrgbaTuple, decode_all,
+    encode_all, normalise,
+};
+use std::test::Fail;
+
+#[test]
+fn reads_sequences(rt: HostRuntime) -> Result<(), Fail> {
+    let actions = decode_all(rt.alloc(), b"\x1b[01;38;2;1;2;3m", false)?;
+    let blue = ColorSpec::TrueColor(SrgbaTuple(1, 2, 3, 255));
+    let wanted = [
+        CSI::Sgr(Sgr::Intensity(Intensity::Bold)),
+        CSI::Sgr(Sgr::Foreground(blue)),
+    ];
+    assert!(rt; actions.as_slice() == wanted.as_slice());
+    Ok(())
+}
+
+#[test]
+fn nothing_is_nothing(rt: HostRuntime) -> Result<(), Fail> {
+    assert!(rt; decode_all(rt.alloc(), b"", false)?.is_empty());
+    assert!(rt; encode_all(rt.alloc(), &[])?.is_empty());
+    let mut written = Vec::new(rt.alloc());
+    assert_eq!(rt;
+        normalise(rt.alloc(), &mut b"".as_slice(), &mut written),
+        Ok(())
+    );
+    assert!(rt; written.is_empty());
+    Ok(())
+}
+
+#[test]
+fn refuses_the_first_fault(rt: HostRuntime) {
+    let rows: [(&[u8], usize, ReadError); 4] = [
+        (b"\x1b[1", 0, ReadError::Truncated { at: 3 }),
+        (b"\x1b[m\x1b[1", 3, ReadError::Truncated { at: 3 }),
+        (b"\x1b[1mx\x1b[1", 4, ReadError::NotCsi { at: 0 }),
+        (b"\x1b[m\x1b[1\x07", 3, ReadError::BadByte { at: 3 }),
+    ];
+    for (bytes, start, error) in rows {
+        let refusal = DecodeError::Read { start, error };
+        assert!(rt; matches!(decode_all(rt.alloc(), bytes, false), Err(e) if e == refusal));
+        let mut input = bytes;
+        let mut written = Vec::new(rt.alloc());
+        let answer = normalise(rt.alloc(), &mut input, &mut written);
+        assert_eq!(rt; answer, Err(RunError::Decode(refusal)));
+        assert!(rt; written.is_empty());
+    }
+}

@@ -1,0 +1,29 @@
+//! The tests of `csicodec`, and a replay of recorded answers.
+//!
+//! The program writes standard input to standard output with each sequence in its normal form. The files `stdin` and
+//! `stdout` beside `src/` are what it is run on, and what it must write: 906 distinct sequences before `m` that some
+//! eighty terminal programs (vim, emacs, htop, tmux, git, mc, ncurses' own tests, vttest and others) wrote under a pty,
+//! and the texts that the Rust crate termwiz 0.23.3 prints for the actions that it parses from them. They are those of
+//! 2,000 recorded sequences whose parameters begin with neither `<` nor `>`.
+#![tactic(auto)]
+
+#[cfg(test)]
+mod bytes;
+#[cfg(test)]
+mod lists;
+#[cfg(test)]
+mod memory;
+#[cfg(test)]
+mod rest;
+#[cfg(test)]
+mod streams;
+
+use csicodec::normalise;
+use std::process::ExitCode;
+
+fn main(rt: HostRuntime) -> ExitCode {
+    match normalise(rt.alloc(), &mut rt.stdin(), &mut rt.stdout()) {
+        Ok(()) => ExitCode::SUCCESS,
+        Err(_) => ExitCode::FAILURE,
+    }
+}

@@ -1,0 +1,261 @@
+//! Want of memory, at each request of each call.
+//!
+//! The test takes all memory that can be had and then runs each call again and again with ever more room, until it has
+//! enough. So each of its requests in turn is the first one that is refused. What is taken is address space, hardly a
+//! page of it is touched.
+
+use crate::streams::{INPUT, OUTPUT, Reader, Taking, Writer};
+use csicodec::{
+    CSI, CsiParam, DecodeError, Intensity, ReadError, RunError, Sgr, Unspecified, decode_all,
+    encode_all, normalise, parse_all, read_csi, read_csi_into,
+};
+use std::alloc::{AllocError, Global};
+use std::test::Fail;
+
+/// The room that a call gets in the end.
+const ROOM: usize = 8192;
+
+/// An attribute, and an unknown action with no parameters.
+const NO_PARAMETERS: &[u8] = b"\x1b[1m\x1b[x";
+
+#[derive(Clone, Copy, Debug, PartialEq, Eq)]
+enum Call {
+    Read,
+    ReadInto,
+    Next,
+    ParseAll,
+    EncodeAll,
+    DecodeAll,
+    CloneUnspecified,
+    CloneAction,
+    Normalise,
+}
+
+const CALLS: [Call; 9] = [
+    Call::Read,
+    Call::ReadInto,
+    Call::Next,
+    Call::ParseAll,
+    Call::EncodeAll,
+    Call::DecodeAll,
+    Call::CloneUnspecified,
+    Call::CloneAction,
+    Call::Normalise,
+];
+
+/// How a call ended.
+#[derive(Clone, Copy, Debug, PartialEq, Eq)]
+enum Outcome {
+    /// With want of memory, by its name.
+    Refused,
+    /// As with ample memory.
+    Right,
+    Wrong,
+}
+
+/// What the calls take and answer, made while there is memory.
+#[derive(Drop)]
+struct Ample {
+    /// The tokens of `INPUT`.
+    params: Vec<CsiParam>,
+    /// Its actions, the last of them unknown.
+    actions: Vec<CSI>,
+    /// The actions of `NO_PARAMETERS`.
+    decoded: Vec<CSI>,
+}
+
+impl Ample {
+    fn new(alloc: Global) -> Result<Ample, Fail> {
+        let unread = read_csi(alloc, b"\x1b[1231231;3m")?.params;
+        Ok(Ample {
+            params: read_csi(alloc, INPUT)?.params,
+            actions: bold_and(alloc, unread, 'm')?,
+            decoded: bold_and(alloc, Vec::new(alloc), 'x')?,
+        })
+    }
+
+    /// The unknown action.
+    fn unknown(&self) -> Option<&Unspecified> {
+        match self.actions.last() {
+            Some(CSI::Unspecified(unknown)) => Some(unknown),
+            _ => None,
+        }
+    }
+}
+
+/// Bold, and an unknown action.
+fn bold_and(alloc: Global, params: Vec<CsiParam>, control: char) -> Result<Vec<CSI>, Fail> {
+    let mut actions = Vec::new(alloc);
+    actions.push(CSI::Sgr(Sgr::Intensity(Intensity::Bold)))?;
+    let unspecified = Unspecified {
+        params,
+        parameters_truncated: false,
+        control,
+    };
+    actions.push(CSI::Unspecified(Box::new(alloc, unspecified)?))?;
+    Ok(actions)
+}
+
+fn judge(refused: bool, right: bool) -> Outcome {
+    match (refused, right) {
+        (true, _) => Outcome::Refused,
+        (false, true) => Outcome::Right,
+        (false, false) => Outcome::Wrong,
+    }
+}
+
+fn run_read(ample: &Ample, alloc: Global) -> Outcome {
+    match read_csi(alloc, INPUT) {
+        Ok(read) => judge(false, read.params == ample.params && read.control == 'm'),
+        Err(error) => judge(error == ReadError::Memory, false),
+    }
+}
+
+fn run_read_into(ample: &Ample, alloc: Global) -> Outcome {
+    let mut params = Vec::new(alloc);
+    match read_csi_into(&mut params, INPUT) {
+        Ok(tail) => judge(false, params == ample.params && tail.control == 'm'),
+        Err(error) => judge(error == ReadError::Memory, false),
+    }
+}
+
+/// The second action takes memory. After a refusal nothing more comes, and nothing is left.
+fn run_next(ample: &Ample, alloc: Global) -> Outcome {
+    let mut run = CSI::parse(alloc, &ample.params, false, 'm');
+    let first = run.next();
+    let bold = matches!(first, Some(Ok(CSI::Sgr(Sgr::Intensity(Intensity::Bold)))));
+    let second = run.next();
+    let over = run.rest().is_none() && run.next().is_none() && run.next().is_none();
+    match second {
+        Some(Ok(action)) => judge(false, bold && over && ample.actions.last() == Some(&action)),
+        Some(Err(AllocError)) => judge(bold && over, false),
+        None => Outcome::Wrong,
+    }
+}
+
+fn run_parse_all(ample: &Ample, alloc: Global) -> Outcome {
+    match parse_all(alloc, &ample.params, false, 'm') {
+        Ok(all) => judge(false, all == ample.actions),
+        Err(AllocError) => Outcome::Refused,
+    }
+}
+
+fn run_encode_all(ample: &Ample, alloc: Global) -> Outcome {
+    match encode_all(alloc, &ample.actions) {
+        Ok(text) => judge(false, text.as_slice() == OUTPUT),
+        Err(AllocError) => Outcome::Refused,
+    }
+}
+
+fn run_decode_all(ample: &Ample, alloc: Global) -> Outcome {
+    match decode_all(alloc, NO_PARAMETERS, false) {
+        Ok(all) => judge(false, all == ample.decoded),
+        Err(error) => judge(error == DecodeError::Memory, false),
+    }
+}
+
+fn run_clone_unspecified(ample: &Ample, alloc: Global) -> Outcome {
+    let Some(unknown) = ample.unknown() else {
+        return Outcome::Wrong;
+    };
+    match unknown.clone(alloc) {
+        Ok(copy) => judge(false, copy == *unknown),
+        Err(AllocError) => Outcome::Refused,
+    }
+}
+
+fn run_clone_action(ample: &Ample, alloc: Global) -> Outcome {
+    let Some(action) = ample.actions.last() else {
+        return Outcome::Wrong;
+    };
+    match action.clone(alloc) {
+        Ok(copy) => judge(false, copy == *action),
+        Err(AllocError) => Outcome::Refused,
+    }
+}
+
+/// The reader and the writer take no memory.
+fn run_normalise(alloc: Global) -> Outcome {
+    let mut writer = Writer::new(Taking::Steps(64));
+    match normalise(alloc, &mut Reader::by(64), &mut writer) {
+        Ok(()) => judge(false, writer.has(OUTPUT)),
+        Err(error) => judge(error == RunError::Memory && writer.is_untouched(), false),
+    }
+}
+
+fn run(call: Call, ample: &Ample, alloc: Global) -> Outcome {
+    match call {
+        Call::Read => run_read(ample, alloc),
+        Call::ReadInto => run_read_into(ample, alloc),
+        Call::Next => run_next(ample, alloc),
+        Call::ParseAll => run_parse_all(ample, alloc),
+        Call::EncodeAll => run_encode_all(ample, alloc),
+        Call::DecodeAll => run_decode_all(ample, alloc),
+        Call::CloneUnspecified => run_clone_unspecified(ample, alloc),
+        Call::CloneAction => run_clone_action(ample, alloc),
+        Call::Normalise => run_normalise(alloc),
+    }
+}
+
+/// Takes all blocks of this size that can be had.
+fn take_blocks(alloc: Global, size: usize, held: &mut Vec<Vec<u8>>) {
+    for _ in 0..1_000_000 {
+        let Ok(block) = Vec::with_capacity(alloc, size) else {
+            return;
+        };
+        if held.push(block).is_err() {
+            return;
+        }
+    }
+}
+
+/// Takes all memory that can be had.
+fn take_all(alloc: Global, held: &mut Vec<Vec<u8>>) {
+    for shift in (11u32..47).rev() {
+        take_blocks(alloc, 1usize << shift, held);
+    }
+    // An allocator keeps small blocks that were freed each for requests of its own size.
+    for sixteens in (1usize..128).rev() {
+        take_blocks(alloc, 16 * sixteens, held);
+    }
+}
+
+/// Runs the call with ever more of the last `ROOM` bytes that are free. It answers how often it was refused, and how the
+/// first run ended that was not.
+fn grow(call: Call, ample: &Ample, alloc: Global) -> (u32, Outcome) {
+    let mut refusals = 0u32;
+    for steps in 0usize..448 {
+        let Ok(_filler) = Vec::<u8>::with_capacity(alloc, ROOM - 16 * steps) else {
+            continue;
+        };
+        match run(call, ample, alloc) {
+            Outcome::Refused => refusals = refusals.saturating_add(1),
+            outcome => return (refusals, outcome),
+        }
+    }
+    (refusals, Outcome::Refused)
+}
+
+#[test]
+fn runs_out(rt: HostRuntime) -> Result<(), Fail> {
+    let ample = Ample::new(rt.alloc())?;
+    let mut ends = Vec::with_capacity(rt.alloc(), CALLS.len())?;
+    let mut rooms: Vec<Vec<u8>> = Vec::with_capacity(rt.alloc(), CALLS.len())?;
+    for _ in CALLS {
+        rooms.push(Vec::with_capacity(rt.alloc(), ROOM)?)?;
+    }
+    let mut held = Vec::with_capacity(rt.alloc(), 1 << 17)?;
+    for call in CALLS {
+        take_all(rt.alloc(), &mut held);
+        drop(rooms.pop());
+        let (refusals, outcome) = grow(call, &ample, rt.alloc());
+        let _kept = ends.push((call, refusals, outcome));
+    }
+    drop(held);
+    assert_eq!(rt; ends.len(), CALLS.len());
+    for (call, refusals, outcome) in ends {
+        assert_eq!(rt; outcome, Outcome::Right, "{call:?}");
+        assert!(rt; refusals > 0, "{call:?}");
+    }
+    Ok(())
+}

@@ -1,0 +1,87 @@
+//! What is left of a list, and what a run over it costs.
+ghost use Rattle.std.specs.Prelude.{◌≡◌, ℕ, ◌+◌, ◌*◌, ◌≤◌, ◌++◌, List, length, drop, take, slice_get, OnOk, OnErr};
+
+use csicodec::{CSI, CsiParam, Intensity, Look, Run, Sgr, Tokens, parse_all, read_csi};
+use std::alloc::AllocError;
+use std::test::Fail;
+
+#[test]
+fn is_a_suffix(rt: HostRuntime) -> Result<(), Fail> {
+    let list = read_csi(rt.alloc(), b"\x1b[1;1231231;3m")?.params;
+    let unread = read_csi(rt.alloc(), b"\x1b[1231231;3m")?.params;
+    let mut run = CSI::parse(rt.alloc(), &list, false, 'm');
+    assert!(rt; run.rest() == Some(list.as_slice()));
+    let bold = CSI::Sgr(Sgr::Intensity(Intensity::Bold));
+    assert!(rt; matches!(run.next(), Some(Ok(action)) if action == bold));
+    assert!(rt; run.rest() == Some(unread.as_slice()));
+    assert!(rt; matches!(run.next(), Some(Ok(CSI::Unspecified(_)))));
+    assert!(rt; run.rest().is_none());
+    assert!(rt; run.next().is_none());
+    assert!(rt; run.rest().is_none());
+    Ok(())
+}
+
+/// Tokens that count the looks at them when they run, too.
+#[derive(Drop)]
+struct Counting<'a> {
+    tokens: Tokens<'a>,
+    looks: usize,
+}
+
+impl Look for Counting<'_> {
+    ghost tokens = { λ c. c.tokens.list };
+
+    ghost passed = { λ c. c.tokens.passed };
+
+    ghost looks = { λ c. c.tokens.looks };
+
+    fn len(&self) -> usize {
+        self.tokens.len()
+    }
+
+    fn get(&mut self, i: usize) -> Option<CsiParam> {
+        self.looks = self.looks.saturating_add(1);
+        self.tokens.get(i)
+    }
+
+    fn pass(&mut self, k: usize) {
+        self.looks = self.looks.saturating_add(k);
+        self.tokens.pass(k);
+    }
+
+    fn lend(&mut self, from: usize, k: usize) -> &[CsiParam] {
+        self.looks = self.looks.saturating_add(k.saturating_mul(8));
+        // The tokens' own count is charged by their `lend`.
+        let _lent = self.tokens.lend(from, k);
+        &self.tokens.rest()[from..from + k]
+    }
+
+    fn copy_to(&mut self, out: &mut Vec<CsiParam>) -> Result<(), AllocError> {
+        self.looks = self.looks.saturating_add(self.tokens.len());
+        self.tokens.copy_to(out)
+    }
+}
+
+#[test]
+fn looks_are_few(rt: HostRuntime) -> Result<(), Fail> {
+    for (semicolons, resets) in [(10_000usize, 5_000), (10_001, 5_001)] {
+        let list = vec![in rt.alloc(); CsiParam::P(b';'); semicolons]?;
+        let counting = Counting {
+            tokens: Tokens::new(&list),
+            looks: 0,
+        };
+        let mut run = Run::over(rt.alloc(), counting, false, 'm');
+        let mut actions = Vec::new(rt.alloc());
+        for _ in 0..semicolons {
+            if let Some(action) = run.next() {
+                actions.push(action?)?;
+            }
+        }
+        assert!(rt; run.next().is_none());
+        assert_eq!(rt; actions.len(), resets);
+        assert!(rt; actions == parse_all(rt.alloc(), &list, false, 'm')?);
+        assert!(rt; run.look().looks >= semicolons);
+        assert!(rt; run.look().looks <= 128 * (semicolons + 1));
+    }
+    Ok(())
+}

@@ -262,6 +262,3 @@ fn of_two_characters(number: u16) -> Option<EscCode>
         _ => None,
     }
 }
-
-#[cfg(test)]
-mod tests;

@@ -8,9 +8,6 @@ ghost use Rattle.csicodec_base.specs.Shapes.{byte_of, color_of_tokens, color_sha
 ghost use Rattle.csicodec_base.specs.declared.param.CsiParam.{CsiParam};
 ghost use Rattle.csicodec_base.specs.declared.param.CsiParam.TheVariants.{Integer};
 
-#[cfg(test)]
-mod tests;
-
 use crate::CsiParam::{Integer, P};
 use crate::{
     Blink, ColorSpec, CsiParam, Font, Intensity, Sgr, SgrCode, SrgbaTuple, Underline, VerticalAlign,

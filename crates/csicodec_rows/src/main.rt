@@ -8,15 +8,7 @@
 #![tactic(auto)]
 
 #[cfg(test)]
-mod bytes;
-#[cfg(test)]
-mod lists;
-#[cfg(test)]
-mod memory;
-#[cfg(test)]
-mod rest;
-#[cfg(test)]
-mod streams;
+mod tests;
 
 use csicodec::normalise;
 use std::process::ExitCode;

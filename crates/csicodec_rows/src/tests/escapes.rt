@@ -1,7 +1,7 @@
 //! Worked escape sequences.
 
-use super::Esc::{self, Code, Unspecified};
-use super::EscCode;
+use csicodec::Esc::{self, Code, Unspecified};
+use csicodec::EscCode;
 use std::test::Fail;
 
 const CODES: [(Option<u8>, u8, EscCode, &str); 11] = [

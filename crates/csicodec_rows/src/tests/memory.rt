@@ -4,7 +4,7 @@
 //! enough. So each of its requests in turn is the first one that is refused. What is taken is address space, hardly a
 //! page of it is touched.
 
-use crate::streams::{INPUT, OUTPUT, Reader, Taking, Writer};
+use super::streams::{INPUT, OUTPUT, Reader, Taking, Writer};
 use csicodec::{
     CSI, CsiParam, DecodeError, Intensity, ReadError, RunError, Sgr, Unspecified, decode_all,
     encode_all, normalise, parse_all, read_csi, read_csi_into,

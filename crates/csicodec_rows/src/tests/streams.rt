@@ -4,14 +4,14 @@ use csicodec::{RunError, normalise};
 use std::io::{Error, ErrorKind, Read, Result, Write};
 
 /// What goes in.
-pub(crate) const INPUT: &[u8] = b"\x1b[1;1231231;3m";
+pub(super) const INPUT: &[u8] = b"\x1b[1;1231231;3m";
 
 /// What comes out.
-pub(crate) const OUTPUT: &[u8] = b"\x1b[1m\x1b[1231231;3m";
+pub(super) const OUTPUT: &[u8] = b"\x1b[1m\x1b[1231231;3m";
 
 /// A reader that gives at most `step` bytes a call, and whose call number `fails_at`, counted from 1, fails.
 #[derive(Drop)]
-pub(crate) struct Reader {
+pub(super) struct Reader {
     left: &'static [u8],
     step: usize,
     calls: u32,
@@ -21,7 +21,7 @@ pub(crate) struct Reader {
 
 impl Reader {
     /// One that never fails.
-    pub(crate) fn by(step: usize) -> Reader {
+    pub(super) fn by(step: usize) -> Reader {
         Reader::failing(step, 0, ErrorKind::Other)
     }
 
@@ -52,7 +52,7 @@ impl Read for Reader {
 
 /// How a writer behaves.
 #[derive(Clone, Copy, PartialEq, Eq, Debug)]
-pub(crate) enum Taking {
+pub(super) enum Taking {
     /// At most so many bytes a call.
     Steps(usize),
     /// Each write fails.
@@ -65,7 +65,7 @@ pub(crate) enum Taking {
 
 /// A writer into a place of its own.
 #[derive(Drop)]
-pub(crate) struct Writer {
+pub(super) struct Writer {
     held: [u8; 64],
     used: usize,
     taking: Taking,
@@ -73,7 +73,7 @@ pub(crate) struct Writer {
 }
 
 impl Writer {
-    pub(crate) fn new(taking: Taking) -> Writer {
+    pub(super) fn new(taking: Taking) -> Writer {
         Writer {
             held: [0; 64],
             used: 0,
@@ -83,12 +83,12 @@ impl Writer {
     }
 
     /// Whether just these bytes were written, and flushed.
-    pub(crate) fn has(&self, bytes: &[u8]) -> bool {
+    pub(super) fn has(&self, bytes: &[u8]) -> bool {
         self.flushed && self.held.get(..self.used) == Some(bytes)
     }
 
     /// Whether it was never called to any effect.
-    pub(crate) fn is_untouched(&self) -> bool {
+    pub(super) fn is_untouched(&self) -> bool {
         self.used == 0 && !self.flushed
     }
 }

@@ -1,6 +1,6 @@
 //! Worked examples of pieces, and of the texts that are printed for them.
 
-use crate::{ColorSpec, Intensity, Sgr, SrgbaTuple, Underline, read_csi, sgr_front};
+use csicodec::{ColorSpec, Intensity, Sgr, SrgbaTuple, Underline, read_csi, sgr_front};
 
 const ONE_TWO_THREE: ColorSpec = ColorSpec::TrueColor(SrgbaTuple(1, 2, 3, 255));
 

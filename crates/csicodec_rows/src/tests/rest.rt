@@ -1,7 +1,7 @@
 //! What is left of a list, and what a run over it costs.
 ghost use Rattle.std.specs.Prelude.{◌≡◌, ℕ, ◌+◌, ◌*◌, ◌≤◌, ◌++◌, List, length, drop, take, slice_get, OnOk, OnErr};
 
-use csicodec::{CSI, CsiParam, Intensity, Look, Run, Sgr, Tokens, parse_all, read_csi};
+use csicodec::{CSI, CsiParam, Intensity, Look, Run, Sgr, Tokens, encode_all, parse_all, read_csi};
 use std::alloc::AllocError;
 use std::test::Fail;
 
@@ -80,6 +80,7 @@ fn looks_are_few(rt: HostRuntime) -> Result<(), Fail> {
         assert!(rt; run.next().is_none());
         assert_eq!(rt; actions.len(), resets);
         assert!(rt; actions == parse_all(rt.alloc(), &list, false, 'm')?);
+        assert_eq!(rt; encode_all(rt.alloc(), &actions)?.len(), 4 * resets);
         assert!(rt; run.look().looks >= semicolons);
         assert!(rt; run.look().looks <= 128 * (semicolons + 1));
     }

@@ -1,0 +1,10 @@
+//! One module a subject.
+
+mod bytes;
+mod escapes;
+mod lists;
+mod memory;
+mod pieces;
+mod reader;
+mod rest;
+mod streams;

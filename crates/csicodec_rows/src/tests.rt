@@ -6,5 +6,6 @@ mod lists;
 mod memory;
 mod pieces;
 mod reader;
+mod readme;
 mod rest;
 mod streams;

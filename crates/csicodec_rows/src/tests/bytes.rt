@@ -6,22 +6,27 @@ use csicodec::{
 };
 use std::test::Fail;
 
+/// Bold, and a colour by its parts.
+static STYLES: [Sgr; 2] = [
+    Sgr::Intensity(Intensity::Bold),
+    Sgr::Foreground(ColorSpec::TrueColor(SrgbaTuple(1, 2, 3, 255))),
+];
+
 #[test]
 fn reads_sequences(rt: HostRuntime) -> Result<(), Fail> {
     let actions = decode_all(rt.alloc(), b"\x1b[01;38;2;1;2;3m", false)?;
-    let blue = ColorSpec::TrueColor(SrgbaTuple(1, 2, 3, 255));
-    let wanted = [
-        CSI::Sgr(Sgr::Intensity(Intensity::Bold)),
-        CSI::Sgr(Sgr::Foreground(blue)),
-    ];
-    assert!(rt; actions.as_slice() == wanted.as_slice());
+    assert_eq!(rt; actions.len(), STYLES.len());
+    for (action, style) in actions.iter().zip(&STYLES) {
+        assert!(rt; *action == CSI::Sgr(*style));
+    }
     Ok(())
 }
 
 #[test]
 fn nothing_is_nothing(rt: HostRuntime) -> Result<(), Fail> {
     assert!(rt; decode_all(rt.alloc(), b"", false)?.is_empty());
-    assert!(rt; encode_all(rt.alloc(), &[])?.is_empty());
+    let none = Vec::new(rt.alloc());
+    assert!(rt; encode_all(rt.alloc(), &none)?.is_empty());
     let mut written = Vec::new(rt.alloc());
     assert_eq!(rt;
         normalise(rt.alloc(), &mut b"".as_slice(), &mut written),

@@ -4,59 +4,70 @@ use csicodec::Esc::{self, Code, Unspecified};
 use csicodec::EscCode;
 use std::test::Fail;
 
-const CODES: [(Option<u8>, u8, EscCode, &str); 11] = [
-    (None, b'7', EscCode::DecSaveCursorPosition, "\x1b7"),
-    (Some(b'O'), b'S', EscCode::F4Press, "\x1bOS"),
-    (Some(0), b'c', EscCode::FullReset, "\x1bc"),
-    (Some(b'('), b'0', EscCode::DecLineDrawingG0, "\x1b(0"),
-    (Some(b'('), b'B', EscCode::AsciiCharacterSetG0, "\x1b(B"),
-    (Some(b')'), b'0', EscCode::DecLineDrawingG1, "\x1b)0"),
-    (Some(b')'), b'B', EscCode::AsciiCharacterSetG1, "\x1b)B"),
+/// The intermediate and the control, the code that they are, if any, and the text.
+type Escape = (Option<u8>, u8, Option<EscCode>, &'static [u8]);
+
+static ESCAPES: [Escape; 15] = [
+    (None, b'7', Some(EscCode::DecSaveCursorPosition), b"\x1b7"),
+    (Some(b'O'), b'S', Some(EscCode::F4Press), b"\x1bOS"),
+    (Some(0), b'c', Some(EscCode::FullReset), b"\x1bc"),
+    (Some(b'('), b'0', Some(EscCode::DecLineDrawingG0), b"\x1b(0"),
+    (
+        Some(b'('),
+        b'B',
+        Some(EscCode::AsciiCharacterSetG0),
+        b"\x1b(B",
+    ),
+    (Some(b')'), b'0', Some(EscCode::DecLineDrawingG1), b"\x1b)0"),
+    (
+        Some(b')'),
+        b'B',
+        Some(EscCode::AsciiCharacterSetG1),
+        b"\x1b)B",
+    ),
     (
         Some(b'#'),
         b'3',
-        EscCode::DecDoubleHeightTopHalfLine,
-        "\x1b#3",
+        Some(EscCode::DecDoubleHeightTopHalfLine),
+        b"\x1b#3",
     ),
     (
         Some(b'#'),
         b'4',
-        EscCode::DecDoubleHeightBottomHalfLine,
-        "\x1b#4",
+        Some(EscCode::DecDoubleHeightBottomHalfLine),
+        b"\x1b#4",
     ),
-    (Some(b'#'), b'5', EscCode::DecSingleWidthLine, "\x1b#5"),
-    (Some(b'#'), b'6', EscCode::DecDoubleWidthLine, "\x1b#6"),
-];
-
-const NO_CODES: [(Option<u8>, u8, &[u8]); 4] = [
-    (Some(0), b'a', b"\x1b\x00a"),
-    (Some(b'('), b'Z', b"\x1b(Z"),
-    (None, 0xe9, b"\x1b\xc3\xa9"),
-    (Some(0xff), 0xff, b"\x1b\xc3\xbf\xc3\xbf"),
+    (
+        Some(b'#'),
+        b'5',
+        Some(EscCode::DecSingleWidthLine),
+        b"\x1b#5",
+    ),
+    (
+        Some(b'#'),
+        b'6',
+        Some(EscCode::DecDoubleWidthLine),
+        b"\x1b#6",
+    ),
+    (Some(0), b'a', None, b"\x1b\x00a"),
+    (Some(b'('), b'Z', None, b"\x1b(Z"),
+    (None, 0xe9, None, b"\x1b\xc3\xa9"),
+    (Some(0xff), 0xff, None, b"\x1b\xc3\xbf\xc3\xbf"),
 ];
 
 #[test]
-fn parses_and_prints_codes(rt: HostRuntime) -> Result<(), Fail> {
-    for (intermediate, control, code, text) in CODES {
-        let esc = Esc::parse(intermediate, control);
-        assert_eq!(rt; esc, Code(code));
-        assert_eq!(rt; format!(in rt.alloc(); "{esc}")?.as_str(), text);
-    }
-    Ok(())
-}
-
-#[test]
-fn keeps_and_prints_what_is_no_code(rt: HostRuntime) -> Result<(), Fail> {
-    for (intermediate, control, text) in NO_CODES {
-        let esc = Esc::parse(intermediate, control);
-        assert_eq!(rt;
-            esc,
-            Unspecified {
-                intermediate,
-                control
-            }
-        );
-        assert_eq!(rt; format!(in rt.alloc(); "{esc}")?.as_bytes(), text);
+fn parses_and_prints(rt: HostRuntime) -> Result<(), Fail> {
+    for (intermediate, control, code, text) in &ESCAPES {
+        let esc = Esc::parse(*intermediate, *control);
+        let wanted = match code {
+            Some(code) => Code(*code),
+            None => Unspecified {
+                intermediate: *intermediate,
+                control: *control,
+            },
+        };
+        assert_eq!(rt; esc, wanted);
+        assert!(rt; esc.to_string(rt.alloc())?.as_bytes() == *text, "{esc:?}");
     }
     Ok(())
 }

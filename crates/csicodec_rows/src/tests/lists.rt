@@ -2,8 +2,8 @@
 
 use csicodec::CsiParam::{Integer, P};
 use csicodec::{
-    CSI, ColorSpec, CsiParam, Intensity, Sgr, SgrCode, SrgbaTuple, Underline, Unspecified,
-    encode_all, parse_all, read_csi,
+    CSI, CSIParser, ColorSpec, CsiParam, Intensity, Sgr, SgrCode, SrgbaTuple, Underline,
+    Unspecified, encode_all, parse_all, read_csi,
 };
 use std::alloc::Global;
 use std::process::Abort;
@@ -203,10 +203,8 @@ static BUILT: [Built; 6] = [
 
 /// The tokens that a text spells.
 fn tokens_of(alloc: Global, list: &str) -> Result<Vec<CsiParam>, Fail> {
-    let mut bytes = b"\x1b[".to_vec(alloc)?;
-    bytes.extend_from_slice(list.as_bytes())?;
-    bytes.push(b'm')?;
-    Ok(read_csi(alloc, &bytes)?.params)
+    let text = format!(in alloc; "\x1b[{list}m")?;
+    Ok(read_csi(alloc, text.as_bytes())?.params)
 }
 
 /// These attributes, and behind them the unknown list.
@@ -231,7 +229,17 @@ fn actions_of(
     Ok(actions)
 }
 
-/// Asserts that a list stands for these actions, one by one and all at once, and that they have this text.
+/// Whether a run gives these actions in turn, and then no more.
+fn gives(mut run: CSIParser<'_>, actions: &[CSI]) -> bool {
+    for action in actions {
+        if !matches!(run.next(), Some(Ok(next)) if next == *action) {
+            return false;
+        }
+    }
+    run.next().is_none()
+}
+
+/// Asserts that a list stands for these actions, all at once and one by one, and that they have this text.
 fn check(
     rt: &impl Abort,
     alloc: Global,
@@ -240,20 +248,18 @@ fn check(
     actions: &[CSI],
     text: &[u8],
 ) -> Result<(), Fail> {
-    let all = parse_all(alloc, params, false, control)?;
-    assert!(rt; all.as_slice() == actions, "{actions:?}");
+    assert!(rt;
+        parse_all(alloc, params, false, control)?.as_slice() == actions,
+        "{actions:?}"
+    );
     assert!(rt;
         encode_all(alloc, actions)?.as_slice() == text,
         "{actions:?}"
     );
-    let mut run = CSI::parse(alloc, params, false, control);
-    for action in actions {
-        assert!(rt;
-            matches!(run.next(), Some(Ok(next)) if next == *action),
-            "{action:?}"
-        );
-    }
-    assert!(rt; run.next().is_none(), "{actions:?}");
+    assert!(rt;
+        gives(CSI::parse(alloc, params, false, control), actions),
+        "{actions:?}"
+    );
     Ok(())
 }
 

@@ -10,10 +10,15 @@ use csicodec::{
     encode_all, normalise, parse_all, read_csi, read_csi_into,
 };
 use std::alloc::{AllocError, Global};
+use std::mem::forget;
 use std::test::Fail;
 
 /// The room that a call gets in the end.
 const ROOM: usize = 8192;
+
+/// The most blocks that are taken. It takes some ten thousand, and more only from an allocator that never runs dry, as
+/// that of `rt try`, under which this test fails.
+const BLOCKS: u32 = 1 << 17;
 
 /// An attribute, and an unknown action with no parameters.
 const NO_PARAMETERS: &[u8] = b"\x1b[1m\x1b[x";
@@ -197,27 +202,28 @@ fn run(call: Call, ample: &Ample, alloc: Global) -> Outcome {
     }
 }
 
-/// Takes all blocks of this size that can be had.
-fn take_blocks(alloc: Global, size: usize, held: &mut Vec<Vec<u8>>) {
-    for _ in 0..1_000_000 {
-        let Ok(block) = Vec::with_capacity(alloc, size) else {
-            return;
-        };
-        if held.push(block).is_err() {
-            return;
+/// Takes all blocks of this size that can be had, at most `most`, for good. It answers how many.
+fn take_blocks(alloc: Global, size: usize, most: u32) -> u32 {
+    for taken in 0..most {
+        match Vec::<u8>::with_capacity(alloc, size) {
+            Ok(block) => forget(block),
+            Err(AllocError) => return taken,
         }
     }
+    most
 }
 
-/// Takes all memory that can be had.
-fn take_all(alloc: Global, held: &mut Vec<Vec<u8>>) {
+/// Takes all memory that can be had, in at most `most` blocks. It answers how many.
+fn take_all(alloc: Global, most: u32) -> u32 {
+    let mut left = most;
     for shift in (11u32..47).rev() {
-        take_blocks(alloc, 1usize << shift, held);
+        left = left.saturating_sub(take_blocks(alloc, 1usize << shift, left));
     }
     // An allocator keeps small blocks that were freed each for requests of its own size.
     for sixteens in (1usize..128).rev() {
-        take_blocks(alloc, 16 * sixteens, held);
+        left = left.saturating_sub(take_blocks(alloc, 16 * sixteens, left));
     }
+    most.saturating_sub(left)
 }
 
 /// Runs the call with ever more of the last `ROOM` bytes that are free. It answers how often it was refused, and how the
@@ -244,14 +250,13 @@ fn runs_out(rt: HostRuntime) -> Result<(), Fail> {
     for _ in CALLS {
         rooms.push(Vec::with_capacity(rt.alloc(), ROOM)?)?;
     }
-    let mut held = Vec::with_capacity(rt.alloc(), 1 << 17)?;
+    let mut left = BLOCKS;
     for call in CALLS {
-        take_all(rt.alloc(), &mut held);
+        left = left.saturating_sub(take_all(rt.alloc(), left));
         drop(rooms.pop());
         let (refusals, outcome) = grow(call, &ample, rt.alloc());
         let _kept = ends.push((call, refusals, outcome));
     }
-    drop(held);
     assert_eq!(rt; ends.len(), CALLS.len());
     for (call, refusals, outcome) in ends {
         assert_eq!(rt; outcome, Outcome::Right, "{call:?}");

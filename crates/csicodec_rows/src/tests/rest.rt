@@ -1,8 +1,7 @@
 //! What is left of a list, and what a run over it costs.
-ghost use Rattle.std.specs.Prelude.{◌≡◌, ℕ, ◌+◌, ◌*◌, ◌≤◌, ◌++◌, List, length, drop, take, slice_get, OnOk, OnErr};
 
-use csicodec::{CSI, CsiParam, Intensity, Look, Run, Sgr, Tokens, encode_all, parse_all, read_csi};
-use std::alloc::AllocError;
+use csicodec::{CSI, CsiParam, Look, Run, Tokens, encode_all, parse_all, read_csi};
+use std::alloc::{AllocError, Global};
 use std::test::Fail;
 
 #[test]
@@ -10,14 +9,10 @@ fn is_a_suffix(rt: HostRuntime) -> Result<(), Fail> {
     let list = read_csi(rt.alloc(), b"\x1b[1;1231231;3m")?.params;
     let unread = read_csi(rt.alloc(), b"\x1b[1231231;3m")?.params;
     let mut run = CSI::parse(rt.alloc(), &list, false, 'm');
-    assert!(rt; run.rest() == Some(list.as_slice()));
-    let bold = CSI::Sgr(Sgr::Intensity(Intensity::Bold));
-    assert!(rt; matches!(run.next(), Some(Ok(action)) if action == bold));
-    assert!(rt; run.rest() == Some(unread.as_slice()));
-    assert!(rt; matches!(run.next(), Some(Ok(CSI::Unspecified(_)))));
-    assert!(rt; run.rest().is_none());
-    assert!(rt; run.next().is_none());
-    assert!(rt; run.rest().is_none());
+    for rest in [Some(list.as_slice()), Some(unread.as_slice()), None, None] {
+        assert!(rt; run.rest() == rest);
+        assert!(rt; run.next().is_some() == rest.is_some());
+    }
     Ok(())
 }
 
@@ -62,27 +57,32 @@ impl Look for Counting<'_> {
     }
 }
 
+/// The actions of the tokens, and the looks that they cost.
+fn counted(alloc: Global, list: &[CsiParam]) -> Result<(Vec<CSI>, usize), Fail> {
+    let counting = Counting {
+        tokens: Tokens::new(list),
+        looks: 0,
+    };
+    let mut run = Run::over(alloc, counting, false, 'm');
+    let mut actions = Vec::new(alloc);
+    for action in run.by_ref() {
+        actions.push(action?)?;
+    }
+    Ok((actions, run.look().looks))
+}
+
 #[test]
 fn looks_are_few(rt: HostRuntime) -> Result<(), Fail> {
     for (semicolons, resets) in [(10_000usize, 5_000), (10_001, 5_001)] {
         let list = vec![in rt.alloc(); CsiParam::P(b';'); semicolons]?;
-        let counting = Counting {
-            tokens: Tokens::new(&list),
-            looks: 0,
-        };
-        let mut run = Run::over(rt.alloc(), counting, false, 'm');
-        let mut actions = Vec::new(rt.alloc());
-        for _ in 0..semicolons {
-            if let Some(action) = run.next() {
-                actions.push(action?)?;
-            }
-        }
-        assert!(rt; run.next().is_none());
+        let (actions, looks) = counted(rt.alloc(), &list)?;
         assert_eq!(rt; actions.len(), resets);
+        assert!(rt;
+            looks >= semicolons && looks <= 128 * (semicolons + 1),
+            "{looks}"
+        );
         assert!(rt; actions == parse_all(rt.alloc(), &list, false, 'm')?);
         assert_eq!(rt; encode_all(rt.alloc(), &actions)?.len(), 4 * resets);
-        assert!(rt; run.look().looks >= semicolons);
-        assert!(rt; run.look().looks <= 128 * (semicolons + 1));
     }
     Ok(())
 }

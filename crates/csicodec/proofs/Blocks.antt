@@ -1,14 +1,16 @@
 -- The block at the front, and the actions that follow it.
-use Rattle.std.specs.Prelude.{Result, Ok, Err, OnErr, OnOk, IfOk, slice_get}
-use Rattle.std.proofs.Common.{◌≡◌, ℕ, zero, suc, ◌+◌, ◌-◌, ◌<◌, ◌≤◌, Bool, true, false, cond, List, [], ◌∷◌, length, drop, Some, None, Option, refl, sym, ap, ◌∙◌, arith, length-drop}
-use Rattle.std.proofs.lemmas.List.{drop-drop, drop_all}
+use Rattle.std.specs.Prelude.{Result, Ok, Err, OnErr, OnOk, IfOk, slice_get, unwrap_or}
+use Rattle.std.proofs.Common.{◌≡◌, ℕ, zero, suc, ◌+◌, ◌-◌, ◌<◌, ◌≤◌, Bool, true, false, cond, List, [], ◌∷◌, length, drop, take, Some, None, Option, refl, sym, ap, ◌∙◌, arith, length-drop}
+use Rattle.std.specs.Option.{option_map}
+use Rattle.std.proofs.lemmas.List.{drop-drop, drop_all, take_all}
 use Rattle.std.proofs.lemmas.Option.{slice_get_within}
 use Rattle.csicodec_base.specs.declared.param.CsiParam.{CsiParam}
 use Rattle.csicodec.specs.declared.group.Group.{Group}
-use Rattle.csicodec.specs.declared.group.Group.TheVariants.{Styles}
+use Rattle.csicodec.specs.declared.group.Group.TheVariants.{Whole, Styles}
 use Rattle.csicodec.specs.declared.actions.CSI.{CSI}
 use Rattle.csicodec.specs.Actions.{Action, Unspecified, action_of}
 use Rattle.csicodec.specs.Groups.{has_odd}
+use Rattle.csicodec.specs.WholeBy.{whole}
 use Rattle.csicodec.specs.Steps.{front, block, block_of, is_semicolon, with_semicolon, segments, segments_at, actions_after, actions_in}
 use Rattle.csicodec.proofs.Fronts.{front_empty}
 
@@ -79,7 +81,7 @@ pub on_err_any : {T E P : Type 0} (r : Result T E) → P → OnErr r P
 on_err_any (Ok x) p = tt
 on_err_any (Err e) p = p
 
--- an unknown action is the last
+-- an action that all tokens are passed for is the last
 pub unknown_ok : {E : Type 0} (r : Result CSI E) (g : Group) (flag : Bool) (final : ℕ) (tokens after : List CsiParam) (q : ℕ) (u : Action) (xs : List Action)
     → IfOk r (λ a. action_of a ≡ u) → OnOk r (q ≡ length after) → after ≡ tokens → xs ≡ u ∷ [] → IfOk r (λ a. xs ≡ action_of a ∷ actions_after g flag final (drop q tokens))
 unknown_ok (Err e) g flag final tokens after q u xs ok all same is = tt
@@ -104,3 +106,23 @@ first_odd (t ∷ ts) flag final e = rw e refl
 pub first_plain : (list : List CsiParam) (flag : Bool) (final : ℕ) → 0 < length list → has_odd list ≡ false → actions_in Styles list flag final ≡ actions_after Styles flag final list
 first_plain [] flag final h e = absurd (omega arith)
 first_plain (t ∷ ts) flag final h e = rw e refl
+
+-- ---- a list that is read whole
+
+-- what is lent is the whole list
+pub lent_all : (tokens lent : List CsiParam) (p len : ℕ) → p ≡ 0 → p + len ≡ length tokens → lent ≡ take len (drop (p + 0) tokens) → lent ≡ tokens
+lent_all tokens lent p len z h l =
+    let whole_length : len ≡ length tokens = omega (arith, z) in
+    l ∙ ap (λ (q : ℕ). take len (drop (q + 0) tokens)) z ∙ ap (λ (n : ℕ). take n tokens) whole_length ∙ take_all (length tokens) tokens (omega arith)
+
+pub lent_none : (tokens lent : List CsiParam) (final : ℕ) (r : Option CSI) → lent ≡ tokens → option_map action_of r ≡ whole lent final → r ≡ None → whole tokens final ≡ None
+lent_none tokens lent final r all told none = ap (λ (l : List CsiParam). whole l final) (sym all) ∙ sym told ∙ ap (option_map action_of) none
+
+pub lent_some : (tokens lent : List CsiParam) (final : ℕ) (r : Option CSI) (x : CSI) → lent ≡ tokens → option_map action_of r ≡ whole lent final → r ≡ Some x → whole tokens final ≡ Some (action_of x)
+lent_some tokens lent final r x all told some = ap (λ (l : List CsiParam). whole l final) (sym all) ∙ sym told ∙ ap (option_map action_of) some
+
+-- what is unknown is told, where memory is refused
+pub whole_err : {T E : Type 0} (r : Result T E) (list : List CsiParam) (flag : Bool) (final : ℕ) → OnErr r (whole list final ≡ None)
+    → OnErr r ((rest : List CsiParam) × (actions_in Whole list flag final ≡ Unspecified rest flag final ∷ []))
+whole_err (Ok x) list flag final h = tt
+whole_err (Err e) list flag final h = (list, ap (λ o. unwrap_or o (Unspecified list flag final) ∷ []) h)

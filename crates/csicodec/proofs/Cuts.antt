@@ -1,5 +1,5 @@
 -- Every list has one cut that can't be continued, and the computed actions are those of that cut.
-use Rattle.std.specs.Prelude.{slice_get, max}
+use Rattle.std.specs.Prelude.{slice_get, unwrap_or, max}
 use Rattle.std.proofs.Common.{◌≡◌, ◌⊎◌, ℕ, zero, suc, ◌+◌, ◌-◌, ◌<◌, ◌≤◌, Bool, true, List, [], ◌∷◌, ◌++◌, length, take, drop, Option, Some, None, refl, sym, ap, subst, ◌∙◌, inl, inr, arith, add-one, length-append, length-drop, append_assoc}
 use Rattle.std.proofs.Math.Seq.{drop-append_seam}
 use Rattle.std.proofs.lemmas.Bool.{cases_Bool, eqb-true}
@@ -11,9 +11,11 @@ use Rattle.csicodec.specs.declared.group.Group.TheVariants.{Whole, Styles}
 use Rattle.csicodec.specs.Actions.{Action, Unspecified}
 use Rattle.csicodec.specs.Groups.{group, has_odd, Piece}
 use Rattle.csicodec.specs.Cut.{semicolon, NoSemicolon, IsBlock, Cut, IsStuck, IsRestAfter}
-use Rattle.csicodec.specs.Segments.{remainder, Segmented, ActionsIn, Actions}
+use Rattle.csicodec.specs.Segments.{remainder, Segmented, WholeActions, ActionsIn, Actions}
+use Rattle.csicodec.specs.WholeBy.{whole}
 use Rattle.csicodec.specs.Steps.{front, block, block_of, is_semicolon, with_semicolon, actions_after, actions_in, actions, CutsOn}
 use Rattle.csicodec.proofs.Fronts.{piece_front, front_piece, stuck_front, front_stuck, front_fits, front_empty}
+use Rattle.csicodec.proofs.Wholes.{whole-is, is-whole, unread-none, none-unread}
 use Rattle.csicodec.proofs.Blocks.{segments_block, segments_unknown, semicolon_from}
 
 -- ---- a block by the relation, and by the function
@@ -169,8 +171,16 @@ segmented g list flag final =
 segmented_only : (g : Group) (list : List CsiParam) (flag : Bool) (final : ℕ) (xs : List Action) → Segmented g list flag final xs → xs ≡ actions_after g flag final list
 segmented_only g list flag final xs s = s.all ∙ sym (actions_of_cut g flag final list s.pieces s.rest s.cut s.stuck)
 
+whole_are : (list : List CsiParam) (flag : Bool) (final : ℕ) (o : Option Action) → whole list final ≡ o → WholeActions list flag final (unwrap_or o (Unspecified list flag final) ∷ [])
+whole_are list flag final (Some a) e = inl (a, is-whole list final a e, refl)
+whole_are list flag final None e = inr (none-unread list final e, refl)
+
+whole_only : (list : List CsiParam) (flag : Bool) (final : ℕ) (xs : List Action) → WholeActions list flag final xs → xs ≡ unwrap_or (whole list final) (Unspecified list flag final) ∷ []
+whole_only list flag final xs (inl h) = h.2 ∙ ap (λ o. unwrap_or o (Unspecified list flag final) ∷ []) (sym (whole-is list final h.0 h.1))
+whole_only list flag final xs (inr h) = h.1 ∙ ap (λ o. unwrap_or o (Unspecified list flag final) ∷ []) (sym (unread-none list final h.0))
+
 in_are : (g : Group) (list : List CsiParam) (flag : Bool) (final : ℕ) → ActionsIn g list flag final (actions_in g list flag final)
-in_are Whole list flag final = refl
+in_are Whole list flag final = whole_are list flag final (whole list final) refl
 in_are Styles [] flag final = refl
 in_are Styles (t ∷ ts) flag final = elim (cases_Bool (has_odd (t ∷ ts))) [
   | inl odd ↦ rw odd refl
@@ -178,7 +188,7 @@ in_are Styles (t ∷ ts) flag final = elim (cases_Bool (has_odd (t ∷ ts))) [
 ]
 
 in_only : (g : Group) (list : List CsiParam) (flag : Bool) (final : ℕ) (xs : List Action) → ActionsIn g list flag final xs → xs ≡ actions_in g list flag final
-in_only Whole list flag final xs h = h
+in_only Whole list flag final xs h = whole_only list flag final xs h
 in_only Styles [] flag final xs h = h
 in_only Styles (t ∷ ts) flag final xs h = elim (cases_Bool (has_odd (t ∷ ts))) [
   | inl odd ↦ (let e : xs ≡ Unspecified (t ∷ ts) flag final ∷ [] = rw odd at h in rw odd e)
@@ -219,7 +229,8 @@ actions_count list flag final xs h = go (group list final) list h
     one l x e = let n : length xs ≡ 1 = ap length e in (omega arith, omega arith)
 
     go : (g : Group) (l : List CsiParam) → ActionsIn g l flag final xs → (0 < length xs) × (length xs ≤ max 1 (length l))
-    go Whole l e = one l (Unspecified l flag final) e
+    go Whole l (inl h) = one l h.0 h.2
+    go Whole l (inr h) = one l (Unspecified l flag final) h.1
     go Styles [] e = one [] _ e
     go Styles (t ∷ ts) e = elim (cases_Bool (has_odd (t ∷ ts))) [
       | inl odd ↦ one (t ∷ ts) (Unspecified (t ∷ ts) flag final) (rw odd at e)

@@ -1,3 +1,7 @@
+pub mod Enumerations
+pub mod Made
+pub mod Wholes
+pub mod Gives
 pub mod Fronts
 pub mod Blocks
 pub mod Cuts
@@ -11,8 +15,10 @@ pub mod OneReading
 pub mod SgrCanonical
 pub mod Spelling
 pub mod SgrSpelling
+pub mod WholeSpelling
 pub mod Alone
 pub mod SgrKept
+pub mod WholeKept
 pub mod Parsed
 pub mod RoundTrip
 pub mod JoinedCuts

@@ -42,6 +42,12 @@ number-spellable n fits = (omega (arith, ints), omega (arith, ints))
 pub colon-spellable : IsSpellable (P 58)
 colon-spellable = ((omega arith, omega arith), λ digit. omega (arith, digit))
 
+pub semicolon-spellable : IsSpellable (P 59)
+semicolon-spellable = ((omega arith, omega arith), λ digit. omega (arith, digit))
+
+pub space-spellable : IsSpellable (P 32)
+space-spellable = ((omega arith, omega arith), λ digit. omega (arith, digit))
+
 -- ---- a list that is one piece, in any group
 
 pub cut-one : (g : Group) (list : List CsiParam) (a : Action) → Piece g list (length list) a → Cut g list (a ∷ []) []

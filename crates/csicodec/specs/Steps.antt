@@ -1,6 +1,6 @@
 -- What the private steps of a run say to each other: the actions by a function that computes them. Nothing public rests on this
 -- file: that it gives the actions of the segmentation is proved.
-use Rattle.std.specs.Prelude.{ℕ, zero, suc, pred, ◌≡◌, ◌≤◌, ◌<◌, ◌+◌, ◌-◌, ◌*◌, ◌==◌, Bool, true, false, List, [], ◌∷◌, length, drop, slice_get, Option, Some, None, if◌then◌else◌}
+use Rattle.std.specs.Prelude.{ℕ, zero, suc, pred, ◌≡◌, ◌≤◌, ◌<◌, ◌+◌, ◌-◌, ◌*◌, ◌==◌, Bool, true, false, List, [], ◌∷◌, length, drop, slice_get, Option, Some, None, unwrap_or, if◌then◌else◌}
 use Rattle.csicodec_base.specs.declared.param.CsiParam.{CsiParam}
 use Rattle.csicodec_base.specs.declared.param.CsiParam.TheVariants.{Integer, P}
 use Rattle.csicodec_base.specs.declared.sgr.Sgr as sgr_type
@@ -15,6 +15,7 @@ use Rattle.csicodec.specs.Actions.{Action, Sgr, Unspecified, action_of}
 use Rattle.csicodec.specs.Groups.{group, is_odd, has_odd}
 use Rattle.csicodec.specs.Cut.{IsRestAfter}
 use Rattle.csicodec.specs.Progress.{Progress}
+use Rattle.csicodec.specs.WholeBy.{whole}
 
 abbrev pub styled : Option (sgr_type.Sgr × ℕ) → Option (Action × ℕ)
 styled None = None
@@ -67,7 +68,7 @@ style_actions (t ∷ ts) flag final = if has_odd (t ∷ ts) then Unspecified (t 
 
 abbrev pub actions_in : Group → List CsiParam → Bool → ℕ → List Action
 actions_in Styles list flag final = style_actions list flag final
-actions_in Whole list flag final = Unspecified list flag final ∷ []
+actions_in Whole list flag final = unwrap_or (whole list final) (Unspecified list flag final) ∷ []
 
 -- all actions of a list before a final character
 abbrev pub actions : List CsiParam → Bool → ℕ → List Action

@@ -2,7 +2,12 @@
 ghost use Rattle.std.specs.Prelude.{◌≡◌, ◌⊎◌, IfOk, IsOk};
 ghost use Rattle.csicodec.specs.Actions.{action_of, unspecified_of, TakesMemory};
 
+mod cursor;
+mod edit;
+
 use csicodec_base::{CsiParam, Sgr};
+pub use cursor::Cursor;
+pub use edit::Edit;
 use std::alloc::{AllocError, Global};
 
 /// A parameter list, or what is left of one, that none of the rules reads: nothing of it is lost.
@@ -34,6 +39,10 @@ impl Unspecified {
 pub enum CSI {
     /// SGR, select graphic rendition: an attribute of the text that follows.
     Sgr(Sgr),
+    /// Moving the cursor, tab stops and margins.
+    Cursor(Cursor),
+    /// Inserting, deleting, erasing and scrolling.
+    Edit(Edit),
     /// What none of the rules reads.
     Unspecified(Box<Unspecified>),
 }
@@ -46,6 +55,8 @@ impl CSI {
     {
         Ok(match self {
             CSI::Sgr(sgr) => CSI::Sgr(*sgr),
+            CSI::Cursor(cursor) => CSI::Cursor(*cursor),
+            CSI::Edit(edit) => CSI::Edit(*edit),
             CSI::Unspecified(unspecified) => {
                 let copy = (**unspecified).clone(alloc)?;
                 CSI::Unspecified(Box::new(alloc, copy)?)

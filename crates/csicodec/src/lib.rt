@@ -7,17 +7,20 @@ mod count;
 mod group;
 pub mod laws;
 mod look;
+mod params;
 mod parser;
 mod print;
 mod sink;
 mod stream;
 mod tokens;
+mod whole;
 
-pub use actions::{CSI, Unspecified};
+pub use actions::{CSI, Cursor, Edit, Unspecified};
 pub use count::Count;
 pub use csicodec_base::{
-    AnsiColor, Blink, ColorSpec, CsiParam, CsiTail, Esc, EscCode, Font, Intensity, NotSpelled,
-    ReadCsi, ReadError, Sgr, SgrCode, SrgbaTuple, Text, Underline, VerticalAlign, read_csi,
+    AnsiColor, Blink, ColorSpec, CsiParam, CsiTail, CursorStyle, CursorTabulationControl,
+    EraseInDisplay, EraseInLine, Esc, EscCode, Font, Intensity, NotSpelled, OneBased, ReadCsi,
+    ReadError, Sgr, SgrCode, SrgbaTuple, TabulationClear, Text, Underline, VerticalAlign, read_csi,
     read_csi_into, sgr_front,
 };
 pub use look::Look;

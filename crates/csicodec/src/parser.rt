@@ -1,9 +1,10 @@
 //! The parser: an iterator over the actions of one parameter list, for any `Look`.
-ghost use Rattle.std.specs.Prelude.{◌≡◌, ◌↔◌, ℕ, ◌+◌, ◌-◌, ◌*◌, ◌<◌, ◌≤◌, List, [], ◌∷◌, Some, None, length, drop, map, IfOk, OnErr, OnOk, IfSome, IfNone, IsNone};
+ghost use Rattle.std.specs.Prelude.{◌≡◌, ◌↔◌, ℕ, ◌+◌, ◌-◌, ◌*◌, ◌<◌, ◌≤◌, List, [], ◌∷◌, Some, None, unwrap_or, length, drop, map, IfOk, OnErr, OnOk, IfSome, IfNone, IsNone};
 ghost use Rattle.csicodec_base.specs.declared.param.CsiParam.{CsiParam};
 ghost use Rattle.csicodec.specs.Actions.{action_of, Unspecified as Unknown};
 ghost use Rattle.csicodec.specs.Groups.{group, has_odd};
 ghost use Rattle.csicodec.specs.Segments.{Actions};
+ghost use Rattle.csicodec.specs.WholeBy.{whole};
 ghost use Rattle.csicodec.specs.Steps.{with_semicolon, block, actions_after, actions_in, left_at, fresh_cost, GoesBy, CanGo, CutsOn};
 
 use crate::actions::{CSI, Unspecified};
@@ -11,6 +12,7 @@ use crate::count::Count;
 use crate::group::{Group, front, is_odd};
 use crate::look::Look;
 use crate::tokens::Tokens;
+use crate::whole::whole_action;
 use csicodec_base::{CsiParam, Sgr};
 use std::alloc::{AllocError, Global};
 use std::marker::Model;
@@ -132,6 +134,30 @@ fn unspecified<L: Look>(
     Ok(CSI::Unspecified(boxed))
 }
 
+/// The one action of a list that is read whole. All tokens are passed, unless memory is refused.
+fn whole_list<L: Look>(
+    look: &mut L,
+    alloc: Global,
+    truncated: bool,
+    control: char,
+) -> Result<CSI, AllocError>
+    requires { L.passed look.old ≡ 0 }
+    ensures ok { IfOk result (λ action. action_of action ≡ unwrap_or (whole (L.tokens look.old) control) (Unknown (L.tokens look.old) truncated control)) }
+    ensures err { OnErr result (whole (L.tokens look.old) control ≡ None) }
+    ensures all { OnOk result (L.passed look.new ≡ length (L.tokens look.new)) }
+    ensures list { L.tokens look.new ≡ L.tokens look.old }
+    ensures within { L.passed look.new ≤ length (L.tokens look.new) }
+    ensures counted { L.looks look.old ≤ L.looks look.new }
+    ensures costs { L.looks look.new ≤ L.looks look.old + 10 * length (L.tokens look.old) }
+{
+    let len = look.len();
+    let Some(action) = whole_action(look.lend(0, len), control) else {
+        return unspecified(look, alloc, truncated, control);
+    };
+    look.pass(len);
+    Ok(action)
+}
+
 /// The first action of a list.
 fn first_action<L: Look>(
     group: Group,
@@ -151,7 +177,7 @@ fn first_action<L: Look>(
     ensures costs { L.looks look.new ≤ L.looks look.old + 108 * length (L.tokens look.old) }
 {
     match group {
-        Group::Whole => unspecified(look, alloc, truncated, control),
+        Group::Whole => whole_list(look, alloc, truncated, control),
         Group::Styles if look.len() == 0 => Ok(CSI::Sgr(Sgr::Reset)),
         Group::Styles if has_odd(look) => unspecified(look, alloc, truncated, control),
         Group::Styles => next_action(group, look, alloc, truncated, control),

@@ -62,6 +62,18 @@ pub(crate) fn append_text(out: &mut Vec<u8>, action: &CSI) -> Result<(), AllocEr
             sgr.write_to(&mut text);
             text.append_to(out)
         }
+        CSI::Cursor(cursor) => {
+            let mut text = Text::new();
+            text.push_str("\x1b[");
+            cursor.write_to(&mut text);
+            text.append_to(out)
+        }
+        CSI::Edit(edit) => {
+            let mut text = Text::new();
+            text.push_str("\x1b[");
+            edit.write_to(&mut text);
+            text.append_to(out)
+        }
         CSI::Unspecified(unspecified) => {
             out.extend_from_slice(b"\x1b[")?;
             append_unspecified(out, unspecified)

@@ -1,4 +1,6 @@
 pub mod Param
+pub mod OneBased
+pub mod EnumNumbers
 pub mod Digits
 pub mod Sequence
 pub mod Fault

@@ -3,6 +3,7 @@
 
 mod codes;
 mod color;
+mod enums;
 mod esc;
 pub mod laws;
 mod param;
@@ -13,8 +14,11 @@ mod text;
 
 pub use codes::SgrCode;
 pub use color::{AnsiColor, Blink, ColorSpec, Intensity, SrgbaTuple, Underline, VerticalAlign};
+pub use enums::{
+    CursorStyle, CursorTabulationControl, EraseInDisplay, EraseInLine, TabulationClear,
+};
 pub use esc::{Esc, EscCode};
-pub use param::{CsiParam, NotSpelled};
+pub use param::{CsiParam, NotSpelled, OneBased};
 pub use pieces::sgr_front;
 pub use reader::{CsiTail, ReadCsi, ReadError, read_csi, read_csi_into};
 pub use sgr::{Font, Sgr};

@@ -1,17 +1,23 @@
 use Rattle.std.proofs.Common.{◌≡◌, true, false, drop, arith, sym, ◌∙◌, refl}
 use Rattle.csicodec.specs.Groups.{has_odd}
 use Rattle.csicodec.specs.Steps.{actions_in, actions_after}
-use Rattle.csicodec.proofs.Blocks.{first_odd, first_plain, on_err_some, on_err_any}
+use Rattle.csicodec.proofs.Blocks.{first_odd, first_plain, unknown_ok, whole_err, on_err_some, on_err_any}
 use Rattle.csicodec.proofs.parser.first_action.Goals as goal
 
+pub returns-in-Whole-clause-ok : goal.returns-in-Whole-clause-ok
+returns-in-Whole-clause-ok g c =
+    let w = c.whole_list in
+    unknown_ok w.result c.args.group c.args.truncated c.args.control (g.L.Look.tokens c.args.look.now) (g.L.Look.tokens w.new.look) _ _ _ w.ensures.ok w.ensures.all w.ensures.list
+    (rw c.in-Whole.is refl)
+
 pub returns-in-Whole-clause-err : goal.returns-in-Whole-clause-err
-returns-in-Whole-clause-err g c = on_err_any c.unspecified.result (g.L.Look.tokens c.args.look.now, rw c.in-Whole.is refl)
+returns-in-Whole-clause-err g c = rw c.in-Whole.is (whole_err c.whole_list.result (g.L.Look.tokens c.args.look.now) c.args.truncated c.args.control c.whole_list.ensures.err)
 
 pub returns-in-Styles-2-clause-err : goal.returns-in-Styles-2-clause-err
 returns-in-Styles-2-clause-err g c =
     let tokens = g.L.Look.tokens c.args.look.now in
     let odd : has_odd tokens ≡ true = sym c.has_odd.ensures.odd ∙ c.if-has_odd.true in
-    on_err_any c.unspecified-in-Styles-2.result (tokens, rw c.in-Styles.is (first_odd tokens c.args.truncated c.args.control odd))
+    on_err_any c.unspecified.result (tokens, rw c.in-Styles.is (first_odd tokens c.args.truncated c.args.control odd))
 
 pub returns-in-Styles-3-clause-err : goal.returns-in-Styles-3-clause-err
 returns-in-Styles-3-clause-err g c =

@@ -35,7 +35,8 @@ pub fn decoding(bytes: &[u8], parameters_truncated: bool)
 {}
 
 /// The actions of a list that a sequence can have, before a final byte that it can have, are read back from their texts:
-/// these actions, and nothing else.
+/// these actions, and nothing else. The exception is a list that stands for left and right margins from 1 to 4294967295,
+/// which are written as `s`, and read back as [`Cursor::SaveCursor`](crate::Cursor::SaveCursor).
 pub fn round_trip(params: &[CsiParam], parameters_truncated: bool, control: char)
     ensures { RoundTrip params.now parameters_truncated control }
 {}

@@ -55,30 +55,18 @@ impl Sink for Texts {
 pub(crate) fn append_text(out: &mut Vec<u8>, action: &CSI) -> Result<(), AllocError>
     ensures { OnOk result (out.new.items ≡ out.old.items ++ text (action_of action.now)) }
 {
+    let mut text = Text::new();
+    text.push_str("\x1b[");
     match action {
-        CSI::Sgr(sgr) => {
-            let mut text = Text::new();
-            text.push_str("\x1b[");
-            sgr.write_to(&mut text);
-            text.append_to(out)
-        }
-        CSI::Cursor(cursor) => {
-            let mut text = Text::new();
-            text.push_str("\x1b[");
-            cursor.write_to(&mut text);
-            text.append_to(out)
-        }
-        CSI::Edit(edit) => {
-            let mut text = Text::new();
-            text.push_str("\x1b[");
-            edit.write_to(&mut text);
-            text.append_to(out)
-        }
+        CSI::Sgr(sgr) => sgr.write_to(&mut text),
+        CSI::Cursor(cursor) => cursor.write_to(&mut text),
+        CSI::Edit(edit) => edit.write_to(&mut text),
         CSI::Unspecified(unspecified) => {
             out.extend_from_slice(b"\x1b[")?;
-            append_unspecified(out, unspecified)
+            return append_unspecified(out, unspecified);
         }
     }
+    text.append_to(out)
 }
 
 /// Appends the tokens' texts, and then the final character.

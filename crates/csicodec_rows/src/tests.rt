@@ -9,3 +9,4 @@ mod reader;
 mod readme;
 mod rest;
 mod streams;
+mod whole_lists;

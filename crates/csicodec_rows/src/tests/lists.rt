@@ -52,7 +52,7 @@ static RESETS: [Spelled; 6] = [
     ("1;;", b'm', &[BOLD, Sgr::Reset], None, "\x1b[1m\x1b[0m"),
 ];
 
-static CODES: [Spelled; 14] = [
+static CODES: [Spelled; 13] = [
     (
         "1;1231231;3",
         b'm',
@@ -64,7 +64,6 @@ static CODES: [Spelled; 14] = [
     ("1;?", b'm', &[BOLD], Some("?"), "\x1b[1m\x1b[?m"),
     ("1;<", b'm', &[], Some("1;<"), "\x1b[1;<m"),
     ("1;", b'A', &[], Some("1;"), "\x1b[1;A"),
-    ("0", b'C', &[], Some("0"), "\x1b[0C"),
     (
         "1;3",
         b'm',

@@ -123,4 +123,4 @@ unfolding cursor_form
 returns-in-q c = rw c.in-q.is c.style.ensures
 
 pub returns-in_default : goal.returns-in_default
-returns-in_default c = rw (no-cursor c.args.control (λ e. omega arith, (λ e. omega arith, (λ e. omega arith, (λ e. omega arith, (λ e. omega arith, (λ e. omega arith, (λ e. omega arith, (λ e. omega arith, (λ e. omega arith, (λ e. omega arith, (λ e. omega arith, (λ e. omega arith, (λ e. omega arith, (λ e. omega arith, (λ e. omega arith, (λ e. omega arith, (λ e. omega arith, (λ e. omega arith, (λ e. omega arith, (λ e. omega arith, (λ e. omega arith, (λ e. omega arith, (λ e. omega arith, (λ e. omega arith, (λ e. omega arith, (λ e. omega arith, tt))))))))))))))))))))))))))) refl
+returns-in_default c = rw (no-cursor c.args.control (search (rules, arith) depth 40)) refl

@@ -1,5 +1,5 @@
 -- Each final has its row: one line a final.
-use Rattle.std.proofs.Common.{arith, refl}
+use Rattle.std.proofs.Common.{arith, rules, refl}
 use Rattle.csicodec.specs.declared.actions.edit.Edit.TheVariants as edit
 use Rattle.csicodec.specs.Actions.{Edit}
 use Rattle.csicodec.specs.WholeBy.{edit_form, number_in, erases_in_display, erases_in_line}
@@ -47,4 +47,4 @@ unfolding edit_form
 returns-in-K c = rw c.in-K.is (made-numbered (λ x. Edit x) (λ x. edit.EraseInLine x) erases_in_line (number_in c.args.params.now) c.made-in-K.result c.made-in-K.ensures.none c.made-in-K.ensures.some)
 
 pub returns-in_default : goal.returns-in_default
-returns-in_default c = rw (no-edit c.args.control (λ e. omega arith, (λ e. omega arith, (λ e. omega arith, (λ e. omega arith, (λ e. omega arith, (λ e. omega arith, (λ e. omega arith, (λ e. omega arith, (λ e. omega arith, (λ e. omega arith, tt))))))))))) refl
+returns-in_default c = rw (no-edit c.args.control (search (rules, arith) depth 40)) refl

@@ -1,34 +1,50 @@
 -- An action that is in range and canonical is read back alone from its own text: a case for each kind of action.
-use Rattle.std.proofs.Common.{ℕ, List, [], ◌∷◌, Bool, refl, arith, inl, inr}
+use Rattle.std.proofs.Common.{ℕ, ◌≡◌, ◌<◌, List, [], ◌∷◌, Bool, false, length, refl, sym, ap, arith, inl, inr}
 use Rattle.std.proofs.lemmas.Bool.{cases_Bool}
 use Rattle.std.proofs.lemmas.Str.{encode_ascii}
 use Rattle.csicodec_base.specs.declared.param.CsiParam.{CsiParam}
 use Rattle.csicodec_base.specs.Sequence.{IsFinal, Spellable}
 use Rattle.csicodec.specs.declared.group.Group.{Group}
 use Rattle.csicodec.specs.declared.group.Group.TheVariants as groups
-use Rattle.csicodec.specs.Actions.{Action, Sgr, Cursor, Edit, Unspecified}
-use Rattle.csicodec.specs.Groups.{group, has_odd}
-use Rattle.csicodec.specs.Segments.{ActionsIn, Actions}
-use Rattle.csicodec.proofs.Canonical.{InRange, IsUnknownIn, IsCanonical}
+use Rattle.csicodec.specs.Actions.{Action, Sgr, Cursor, Edit, Mode, Unspecified}
+use Rattle.csicodec.specs.Groups.{group, marked, has_odd}
+use Rattle.csicodec.specs.Cut.{body, IsStuck}
+use Rattle.csicodec.specs.Segments.{BodyActions, CutActions, ActionsIn, Actions}
+use Rattle.csicodec.proofs.Canonical.{InRange, IsUncut, IsUnknownIn, IsCanonical}
+use Rattle.csicodec.proofs.GroupOf.{marked-body}
 use Rattle.csicodec.proofs.OneReading.{Alone}
 use Rattle.csicodec.proofs.Spelling.{spelling-alone}
 use Rattle.csicodec.proofs.SgrSpelling.{sgr-spelling}
+use Rattle.csicodec.proofs.ModeSpelling.{mode-spelling}
 use Rattle.csicodec.proofs.WholeSpelling.{cursor-spelling, edit-spelling}
 
--- a list that is unknown is one action
-unknown-actions : (g : Group) (list : List CsiParam) (flag : Bool) (final : ℕ) → IsUnknownIn g list final → ActionsIn g list flag final (Unspecified list flag final ∷ [])
-unknown-actions groups.Whole list flag final unknown = inr (unknown, refl)
-unknown-actions groups.Styles [] flag final unknown = absurd unknown
-unknown-actions groups.Styles (t ∷ ts) flag final unknown = elim (cases_Bool (has_odd (t ∷ ts))) [
+-- ---- a list that is unknown is one action
+
+uncut-body : (g : Group) (list t : List CsiParam) (flag : Bool) (final : ℕ) → marked g t ≡ list → (g ≡ groups.Styles → 0 < length t) → IsStuck g t
+    → BodyActions g list t flag final (Unspecified list flag final ∷ [])
+uncut-body groups.Whole list [] flag final same some stuck = refl
+uncut-body groups.Styles list [] flag final same some stuck = absurd (omega (arith, some refl))
+uncut-body (groups.Modes s) list [] flag final same some stuck = refl
+uncut-body (groups.DecModes c) list [] flag final same some stuck = refl
+uncut-body g list (t ∷ ts) flag final same some stuck =
+    record { pieces = []; rest = t ∷ ts; cut = refl; stuck = stuck; all = ap (λ (l : List CsiParam). Unspecified l flag final ∷ []) (sym same) }
+
+uncut-actions : (g : Group) (list : List CsiParam) (flag : Bool) (final : ℕ) → group list final ≡ g → (g ≡ groups.Styles → 0 < length (body g list)) → IsUncut g list
+    → CutActions g list flag final (Unspecified list flag final ∷ [])
+uncut-actions g list flag final same some unknown = elim (cases_Bool (has_odd g list)) [
   | inl odd ↦ rw odd refl
-  | inr plain ↦ rw plain (record {
-    pieces = [];
-    rest = t ∷ ts;
-    cut = refl;
-    stuck = elim unknown [ inl odd ↦ cc (odd, plain) | inr stuck ↦ stuck ];
-    all = refl;
-  })
+  | inr plain ↦ rw plain (uncut-body g list (body g list) flag final (marked-body g list final same) some (stuck unknown plain))
 ]
+  where
+    stuck : IsUncut g list → has_odd g list ≡ false → IsStuck g (body g list)
+    stuck (inl odd) plain = cc (odd, plain)
+    stuck (inr h) plain = h
+
+unknown-actions : (g : Group) (list : List CsiParam) (flag : Bool) (final : ℕ) → group list final ≡ g → IsUnknownIn g list final → ActionsIn g list flag final (Unspecified list flag final ∷ [])
+unknown-actions groups.Whole list flag final same unknown = inr (unknown, refl)
+unknown-actions groups.Styles list flag final same unknown = uncut-actions groups.Styles list flag final same (λ e. unknown.1) unknown.0
+unknown-actions (groups.Modes s) list flag final same unknown = uncut-actions (groups.Modes s) list flag final same (λ e. cc) unknown
+unknown-actions (groups.DecModes c) list flag final same unknown = uncut-actions (groups.DecModes c) list flag final same (λ e. cc) unknown
 
 unknown-alone : (list : List CsiParam) (flag : Bool) (final : ℕ) → Spellable list → IsFinal final → Actions list flag final (Unspecified list flag final ∷ [])
     → Alone flag (Unspecified list flag final)
@@ -45,5 +61,6 @@ pub canonical-alone : (a : Action) (flag : Bool) → InRange a → IsCanonical a
 canonical-alone (Sgr s) flag range ok = spelling-alone flag (Sgr s) (sgr-spelling flag s range ok)
 canonical-alone (Cursor c) flag range ok = spelling-alone flag (Cursor c) (cursor-spelling flag c range ok)
 canonical-alone (Edit e) flag range ok = spelling-alone flag (Edit e) (edit-spelling flag e range ok)
+canonical-alone (Mode m) flag range ok = spelling-alone flag (Mode m) (mode-spelling flag m range ok)
 canonical-alone (Unspecified list own final) flag range c =
-    rw c.same_flag (unknown-alone list flag final c.spellable c.ends (unknown-actions (group list final) list flag final c.unknown))
+    rw c.same_flag (unknown-alone list flag final c.spellable c.ends (unknown-actions (group list final) list flag final refl c.unknown))

@@ -5,14 +5,19 @@ use Rattle.std.specs.Option.{option_map}
 use Rattle.std.proofs.lemmas.List.{drop-drop, drop_all, take_all}
 use Rattle.std.proofs.lemmas.Option.{slice_get_within}
 use Rattle.csicodec_base.specs.declared.param.CsiParam.{CsiParam}
+use Rattle.csicodec_base.specs.declared.param.CsiParam.TheVariants.{Integer, P}
+use Rattle.csicodec.specs.declared.actions.mode.Change.{Change}
 use Rattle.csicodec.specs.declared.group.Group.{Group}
-use Rattle.csicodec.specs.declared.group.Group.TheVariants.{Whole, Styles}
+use Rattle.csicodec.specs.declared.group.Group.TheVariants.{Whole, Styles, Modes, DecModes}
 use Rattle.csicodec.specs.declared.actions.CSI.{CSI}
 use Rattle.csicodec.specs.Actions.{Action, Unspecified, action_of}
-use Rattle.csicodec.specs.Groups.{has_odd}
+use Rattle.csicodec.specs.Groups.{group, marked, has_odd}
+use Rattle.csicodec.specs.Cut.{body}
+use Rattle.csicodec.specs.Segments.{empty_action}
 use Rattle.csicodec.specs.WholeBy.{whole}
-use Rattle.csicodec.specs.Steps.{front, block, block_of, is_semicolon, with_semicolon, segments, segments_at, actions_after, actions_in}
+use Rattle.csicodec.specs.Steps.{front, block, block_of, is_semicolon, with_semicolon, segments, segments_at, actions_after, body_actions, actions_in}
 use Rattle.csicodec.proofs.Fronts.{front_empty}
+use Rattle.csicodec.proofs.GroupOf.{marked-body}
 
 semicolon_at : (rest : List CsiParam) (len : ℕ) (o : Option CsiParam) → slice_get rest len ≡ o → len ≤ length rest → with_semicolon len o ≤ length rest
 semicolon_at rest len None e h = h
@@ -62,18 +67,18 @@ at_same ts us p q i e h = ap (λ n. slice_get (drop n us) i) h ∙ ap (λ l. sli
 pub after_block : (g : Group) (flag : Bool) (final : ℕ) (tokens : List CsiParam) (p q : ℕ) (x : Action) → block g (drop p tokens) ≡ Some (x, q - p) → p < q → actions_after g flag final (drop p tokens) ≡ x ∷ actions_after g flag final (drop q tokens)
 after_block g flag final tokens p q x e h =
     let n : p + (q - p) ≡ q = omega arith in
-    segments_block g (λ l. Unspecified l flag final) (drop p tokens) x (q - p) e (omega arith)
+    segments_block g (λ l. Unspecified (marked g l) flag final) (drop p tokens) x (q - p) e (omega arith)
     ∙ ap (λ l. x ∷ actions_after g flag final l) (drop-drop (q - p) p tokens ∙ ap (λ k. drop k tokens) n)
 
-pub after_unknown : (g : Group) (flag : Bool) (final : ℕ) (tokens : List CsiParam) (p : ℕ) → block g (drop p tokens) ≡ None → p < length tokens → actions_after g flag final (drop p tokens) ≡ Unspecified (drop p tokens) flag final ∷ []
-after_unknown g flag final tokens p e h = segments_unknown g (λ l. Unspecified l flag final) (drop p tokens) e (omega (arith, length-drop p tokens))
+pub after_unknown : (g : Group) (flag : Bool) (final : ℕ) (tokens : List CsiParam) (p : ℕ) → block g (drop p tokens) ≡ None → p < length tokens → actions_after g flag final (drop p tokens) ≡ Unspecified (marked g (drop p tokens)) flag final ∷ []
+after_unknown g flag final tokens p e h = segments_unknown g (λ l. Unspecified (marked g l) flag final) (drop p tokens) e (omega (arith, length-drop p tokens))
 
 -- a rest with tokens has an action
 pub after_some : (g : Group) (flag : Bool) (final : ℕ) (rest : List CsiParam) → 0 < length rest → 0 < length (actions_after g flag final rest)
 after_some g flag final [] h = absurd (omega arith)
 after_some g flag final (t ∷ ts) h = go (block g (t ∷ ts))
   where
-    go : (o : Option (Action × ℕ)) → 0 < length (segments_at (λ l. Unspecified l flag final) (t ∷ ts) (segments g (λ l. Unspecified l flag final) ts) o)
+    go : (o : Option (Action × ℕ)) → 0 < length (segments_at (λ l. Unspecified (marked g l) flag final) (t ∷ ts) (segments g (λ l. Unspecified (marked g l) flag final) ts) o)
     go None = omega arith
     go (Some b) = omega arith
 
@@ -95,17 +100,48 @@ pub on_err_some : {T E : Type 0} (r : Result T E) (flag : Bool) (final : ℕ) (x
 on_err_some (Ok x) flag final xs ys l same h = tt
 on_err_some (Err e) flag final xs ys l same h = (l, same ∙ h)
 
-pub first_empty : (list : List CsiParam) (flag : Bool) (final : ℕ) (a : Action) → length list ≤ 0 → actions_in Styles [] flag final ≡ a ∷ [] → actions_in Styles list flag final ≡ a ∷ []
-first_empty [] flag final a h e = e
-first_empty (t ∷ ts) flag final a h e = absurd (omega arith)
+-- ---- the first action of a list that is cut
 
-pub first_odd : (list : List CsiParam) (flag : Bool) (final : ℕ) → has_odd list ≡ true → actions_in Styles list flag final ≡ Unspecified list flag final ∷ []
-first_odd [] flag final e = cc
-first_odd (t ∷ ts) flag final e = rw e refl
+pub first_odd : (g : Group) (list : List CsiParam) (flag : Bool) (final : ℕ) → (g ≡ Whole → ⊥) → has_odd g list ≡ true → actions_in g list flag final ≡ Unspecified list flag final ∷ []
+first_odd Whole list flag final cut e = absurd (cut refl)
+first_odd Styles list flag final cut e = rw e refl
+first_odd (Modes s) list flag final cut e = rw e refl
+first_odd (DecModes c) list flag final cut e = rw e refl
 
-pub first_plain : (list : List CsiParam) (flag : Bool) (final : ℕ) → 0 < length list → has_odd list ≡ false → actions_in Styles list flag final ≡ actions_after Styles flag final list
-first_plain [] flag final h e = absurd (omega arith)
-first_plain (t ∷ ts) flag final h e = rw e refl
+first_body : (g : Group) (list : List CsiParam) (flag : Bool) (final : ℕ) → (g ≡ Whole → ⊥) → has_odd g list ≡ false
+    → actions_in g list flag final ≡ body_actions g list flag final (body g list)
+first_body Whole list flag final cut e = absurd (cut refl)
+first_body Styles list flag final cut e = rw e refl
+first_body (Modes s) list flag final cut e = rw e refl
+first_body (DecModes c) list flag final cut e = rw e refl
+
+-- without an odd byte a list is cut
+pub first_cut : (g : Group) (list : List CsiParam) (flag : Bool) (final : ℕ) → (g ≡ Whole → ⊥) → group list final ≡ g → has_odd g list ≡ false
+    → actions_in g list flag final ≡ body_actions g (marked g (body g list)) flag final (body g list)
+first_cut g list flag final cut same plain =
+    first_body g list flag final cut plain ∙ ap (λ (l : List CsiParam). body_actions g l flag final (body g list)) (sym (marked-body g list final same))
+
+pub body_some : (g : Group) (list : List CsiParam) (flag : Bool) (final : ℕ) (rest : List CsiParam) → 0 < length rest → body_actions g list flag final rest ≡ actions_after g flag final rest
+body_some g list flag final [] h = absurd (omega arith)
+body_some g list flag final (t ∷ ts) h = refl
+
+empty_unknown : (g : Group) (list : List CsiParam) (flag : Bool) (final : ℕ) → (g ≡ Styles → ⊥) → empty_action g list flag final ≡ Unspecified list flag final
+empty_unknown Whole list flag final other = refl
+empty_unknown Styles list flag final other = absurd (other refl)
+empty_unknown (Modes s) list flag final other = refl
+empty_unknown (DecModes c) list flag final other = refl
+
+-- where nothing is left to cut
+pub body_end : (g : Group) (flag : Bool) (final : ℕ) (rest : List CsiParam) → length rest ≤ 0 → (g ≡ Styles → ⊥)
+    → body_actions g (marked g rest) flag final rest ≡ Unspecified (marked g rest) flag final ∷ []
+body_end g flag final [] h other = ap (λ (a : Action). a ∷ []) (empty_unknown g (marked g []) flag final other)
+body_end g flag final (t ∷ ts) h other = absurd (omega arith)
+
+-- no byte is odd among private modes
+pub private_plain : (c : Change) (list : List CsiParam) → has_odd (DecModes c) list ≡ false
+private_plain c [] = refl
+private_plain c (Integer z ∷ ts) = private_plain c ts
+private_plain c (P b ∷ ts) = private_plain c ts
 
 -- ---- a list that is read whole
 

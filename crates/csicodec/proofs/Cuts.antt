@@ -7,13 +7,13 @@ use Rattle.std.proofs.lemmas.List.{take-append-drop, length-take-le, drop-drop}
 use Rattle.csicodec_base.specs.declared.param.CsiParam.{CsiParam}
 use Rattle.csicodec_base.specs.declared.param.CsiParam.TheVariants.{Integer, P}
 use Rattle.csicodec.specs.declared.group.Group.{Group}
-use Rattle.csicodec.specs.declared.group.Group.TheVariants.{Whole, Styles}
+use Rattle.csicodec.specs.declared.group.Group.TheVariants.{Whole, Styles, Modes, DecModes}
 use Rattle.csicodec.specs.Actions.{Action, Unspecified}
-use Rattle.csicodec.specs.Groups.{group, has_odd, Piece}
-use Rattle.csicodec.specs.Cut.{semicolon, NoSemicolon, IsBlock, Cut, IsStuck, IsRestAfter}
-use Rattle.csicodec.specs.Segments.{remainder, Segmented, WholeActions, ActionsIn, Actions}
+use Rattle.csicodec.specs.Groups.{group, start, marked, has_odd, Piece}
+use Rattle.csicodec.specs.Cut.{semicolon, NoSemicolon, IsBlock, body, Cut, IsStuck, IsRestAfter}
+use Rattle.csicodec.specs.Segments.{remainder, Segmented, BodyActions, CutActions, WholeActions, ActionsIn, Actions}
 use Rattle.csicodec.specs.WholeBy.{whole}
-use Rattle.csicodec.specs.Steps.{front, block, block_of, is_semicolon, with_semicolon, actions_after, actions_in, actions, CutsOn}
+use Rattle.csicodec.specs.Steps.{front, block, block_of, is_semicolon, with_semicolon, actions_after, body_actions, cut_actions, actions_in, actions, CutsOn}
 use Rattle.csicodec.proofs.Fronts.{piece_front, front_piece, stuck_front, front_stuck, front_fits, front_empty}
 use Rattle.csicodec.proofs.Wholes.{whole-is, is-whole, unread-none, none-unread}
 use Rattle.csicodec.proofs.Blocks.{segments_block, segments_unknown, semicolon_from}
@@ -124,18 +124,18 @@ is_block g body x k n e size = go (slice_get body k) refl
 
 -- ---- cuts
 
-stuck_end : (g : Group) (flag : Bool) (final : ℕ) (rest : List CsiParam) → front g rest ≡ None → actions_after g flag final rest ≡ remainder rest flag final
+stuck_end : (g : Group) (flag : Bool) (final : ℕ) (rest : List CsiParam) → front g rest ≡ None → actions_after g flag final rest ≡ remainder g rest flag final
 stuck_end g flag final [] h = refl
-stuck_end g flag final (t ∷ ts) h = segments_unknown g (λ l. Unspecified l flag final) (t ∷ ts) (ap (block_of (t ∷ ts)) h) (omega arith)
+stuck_end g flag final (t ∷ ts) h = segments_unknown g (λ l. Unspecified (marked g l) flag final) (t ∷ ts) (ap (block_of (t ∷ ts)) h) (omega arith)
 
 -- the actions are those of any cut that can't be continued
 actions_of_cut : (g : Group) (flag : Bool) (final : ℕ) (body : List CsiParam) (xs : List Action) (rest : List CsiParam) → Cut g body xs rest → IsStuck g rest
-    → actions_after g flag final body ≡ xs ++ remainder rest flag final
+    → actions_after g flag final body ≡ xs ++ remainder g rest flag final
 actions_of_cut g flag final body [] rest c s = ap (actions_after g flag final) c ∙ stuck_end g flag final rest (stuck_front g rest s)
 actions_of_cut g flag final body (x ∷ xs) rest c s =
     let b = block_is g c.0 c.1 x c.3 in
     ap (actions_after g flag final) c.2
-    ∙ segments_block g (λ l. Unspecified l flag final) (c.0 ++ c.1) x (length c.0) b.0 b.1
+    ∙ segments_block g (λ l. Unspecified (marked g l) flag final) (c.0 ++ c.1) x (length c.0) b.0 b.1
     ∙ ap (λ l. x ∷ actions_after g flag final l) (drop-append_seam c.0 c.1)
     ∙ ap (λ more. x ∷ more) (actions_of_cut g flag final c.1 xs rest c.4 s)
 
@@ -179,21 +179,37 @@ whole_only : (list : List CsiParam) (flag : Bool) (final : ℕ) (xs : List Actio
 whole_only list flag final xs (inl h) = h.2 ∙ ap (λ o. unwrap_or o (Unspecified list flag final) ∷ []) (sym (whole-is list final h.0 h.1))
 whole_only list flag final xs (inr h) = h.1 ∙ ap (λ o. unwrap_or o (Unspecified list flag final) ∷ []) (sym (unread-none list final h.0))
 
+body_are : (g : Group) (list cut : List CsiParam) (flag : Bool) (final : ℕ) → BodyActions g list cut flag final (body_actions g list flag final cut)
+body_are g list [] flag final = refl
+body_are g list (t ∷ ts) flag final = segmented g (t ∷ ts) flag final
+
+body_only : (g : Group) (list cut : List CsiParam) (flag : Bool) (final : ℕ) (xs : List Action) → BodyActions g list cut flag final xs → xs ≡ body_actions g list flag final cut
+body_only g list [] flag final xs h = h
+body_only g list (t ∷ ts) flag final xs h = segmented_only g (t ∷ ts) flag final xs h
+
+cut_are : (g : Group) (list : List CsiParam) (flag : Bool) (final : ℕ) → CutActions g list flag final (cut_actions g list flag final)
+cut_are g list flag final = elim (cases_Bool (has_odd g list)) [
+  | inl odd ↦ rw odd refl
+  | inr plain ↦ rw plain (body_are g list (body g list) flag final)
+]
+
+cut_only : (g : Group) (list : List CsiParam) (flag : Bool) (final : ℕ) (xs : List Action) → CutActions g list flag final xs → xs ≡ cut_actions g list flag final
+cut_only g list flag final xs h = elim (cases_Bool (has_odd g list)) [
+  | inl odd ↦ (let e : xs ≡ Unspecified list flag final ∷ [] = rw odd at h in rw odd e)
+  | inr plain ↦ (let b : BodyActions g list (body g list) flag final xs = rw plain at h in rw plain (body_only g list (body g list) flag final xs b))
+]
+
 in_are : (g : Group) (list : List CsiParam) (flag : Bool) (final : ℕ) → ActionsIn g list flag final (actions_in g list flag final)
 in_are Whole list flag final = whole_are list flag final (whole list final) refl
-in_are Styles [] flag final = refl
-in_are Styles (t ∷ ts) flag final = elim (cases_Bool (has_odd (t ∷ ts))) [
-  | inl odd ↦ rw odd refl
-  | inr plain ↦ rw plain (segmented Styles (t ∷ ts) flag final)
-]
+in_are Styles list flag final = cut_are Styles list flag final
+in_are (Modes s) list flag final = cut_are (Modes s) list flag final
+in_are (DecModes c) list flag final = cut_are (DecModes c) list flag final
 
 in_only : (g : Group) (list : List CsiParam) (flag : Bool) (final : ℕ) (xs : List Action) → ActionsIn g list flag final xs → xs ≡ actions_in g list flag final
 in_only Whole list flag final xs h = whole_only list flag final xs h
-in_only Styles [] flag final xs h = h
-in_only Styles (t ∷ ts) flag final xs h = elim (cases_Bool (has_odd (t ∷ ts))) [
-  | inl odd ↦ (let e : xs ≡ Unspecified (t ∷ ts) flag final ∷ [] = rw odd at h in rw odd e)
-  | inr plain ↦ (let s : Segmented Styles (t ∷ ts) flag final xs = rw plain at h in rw plain (segmented_only Styles (t ∷ ts) flag final xs s))
-]
+in_only Styles list flag final xs h = cut_only Styles list flag final xs h
+in_only (Modes s) list flag final xs h = cut_only (Modes s) list flag final xs h
+in_only (DecModes c) list flag final xs h = cut_only (DecModes c) list flag final xs h
 
 -- the computed actions are the actions of the list, and there are no others
 pub actions_are : (list : List CsiParam) (flag : Bool) (final : ℕ) → Actions list flag final (actions list flag final)
@@ -213,34 +229,45 @@ cut_count g body (x ∷ xs) rest c =
     let b = block_is g c.0 c.1 x c.3 in
     omega (arith, b.1, ap length c.2, length-append c.0 c.1, cut_count g c.1 xs rest c.4)
 
-remainder_count : (rest : List CsiParam) (flag : Bool) (final : ℕ) → length (remainder rest flag final) ≤ length rest
-remainder_count [] flag final = omega arith
-remainder_count (t ∷ ts) flag final = omega arith
+remainder_count : (g : Group) (rest : List CsiParam) (flag : Bool) (final : ℕ) → length (remainder g rest flag final) ≤ length rest
+remainder_count g [] flag final = omega arith
+remainder_count g (t ∷ ts) flag final = omega arith
 
-cut_some_action : (g : Group) (t : CsiParam) (ts : List CsiParam) (flag : Bool) (final : ℕ) (xs : List Action) (rest : List CsiParam) → Cut g (t ∷ ts) xs rest → 0 < length (xs ++ remainder rest flag final)
+cut_some_action : (g : Group) (t : CsiParam) (ts : List CsiParam) (flag : Bool) (final : ℕ) (xs : List Action) (rest : List CsiParam) → Cut g (t ∷ ts) xs rest → 0 < length (xs ++ remainder g rest flag final)
 cut_some_action g t ts flag final (x ∷ xs) rest c = omega arith
 cut_some_action g t ts flag final [] [] c = cc
 cut_some_action g t ts flag final [] (r ∷ rest) c = omega arith
 
-pub actions_count : (list : List CsiParam) (flag : Bool) (final : ℕ) (xs : List Action) → Actions list flag final xs → (0 < length xs) × (length xs ≤ max 1 (length list))
-actions_count list flag final xs h = go (group list final) list h
-  where
-    one : (l : List CsiParam) (x : Action) → xs ≡ x ∷ [] → (0 < length xs) × (length xs ≤ max 1 (length l))
-    one l x e = let n : length xs ≡ 1 = ap length e in (omega arith, omega arith)
+-- at least one action, and no more than these tokens, or one
+abbrev IsCount : ℕ → List Action → Type 0
+IsCount n xs = (0 < length xs) × (length xs ≤ max 1 n)
 
-    go : (g : Group) (l : List CsiParam) → ActionsIn g l flag final xs → (0 < length xs) × (length xs ≤ max 1 (length l))
-    go Whole l (inl h) = one l h.0 h.2
-    go Whole l (inr h) = one l (Unspecified l flag final) h.1
-    go Styles [] e = one [] _ e
-    go Styles (t ∷ ts) e = elim (cases_Bool (has_odd (t ∷ ts))) [
-      | inl odd ↦ one (t ∷ ts) (Unspecified (t ∷ ts) flag final) (rw odd at e)
-      | inr plain ↦
-          let s : Segmented Styles (t ∷ ts) flag final xs = rw plain at e in
-          let n : length xs ≡ length s.pieces + length (remainder s.rest flag final) = ap length s.all ∙ length-append s.pieces (remainder s.rest flag final) in
-          let some : 0 < length xs = rw s.all (cut_some_action Styles t ts flag final s.pieces s.rest s.cut) in
-          let few = cut_count Styles (t ∷ ts) s.pieces s.rest s.cut in
-          (some, omega (arith, n, few, remainder_count s.rest flag final))
-    ]
+one_count : (n : ℕ) (xs : List Action) (x : Action) → xs ≡ x ∷ [] → IsCount n xs
+one_count n xs x e = let long : length xs ≡ 1 = ap length e in (omega arith, omega arith)
+
+body_count : (g : Group) (list cut : List CsiParam) (flag : Bool) (final : ℕ) (xs : List Action) → length cut ≤ length list → BodyActions g list cut flag final xs → IsCount (length list) xs
+body_count g list [] flag final xs within e = one_count _ xs _ e
+body_count g list (t ∷ ts) flag final xs within s =
+    let n : length xs ≡ length s.pieces + length (remainder g s.rest flag final) = ap length s.all ∙ length-append s.pieces (remainder g s.rest flag final) in
+    let some : 0 < length xs = rw s.all (cut_some_action g t ts flag final s.pieces s.rest s.cut) in
+    let few = cut_count g (t ∷ ts) s.pieces s.rest s.cut in
+    (some, omega (arith, n, few, remainder_count g s.rest flag final))
+
+cuts_count : (g : Group) (list : List CsiParam) (flag : Bool) (final : ℕ) (xs : List Action) → CutActions g list flag final xs → IsCount (length list) xs
+cuts_count g list flag final xs h = elim (cases_Bool (has_odd g list)) [
+  | inl odd ↦ one_count _ xs _ (rw odd at h)
+  | inr plain ↦ body_count g list (body g list) flag final xs (omega (arith, length-drop (start g) list)) (rw plain at h)
+]
+
+in_count : (g : Group) (list : List CsiParam) (flag : Bool) (final : ℕ) (xs : List Action) → ActionsIn g list flag final xs → IsCount (length list) xs
+in_count Whole list flag final xs (inl h) = one_count _ xs h.0 h.2
+in_count Whole list flag final xs (inr h) = one_count _ xs _ h.1
+in_count Styles list flag final xs h = cuts_count Styles list flag final xs h
+in_count (Modes s) list flag final xs h = cuts_count (Modes s) list flag final xs h
+in_count (DecModes c) list flag final xs h = cuts_count (DecModes c) list flag final xs h
+
+pub actions_count : (list : List CsiParam) (flag : Bool) (final : ℕ) (xs : List Action) → Actions list flag final xs → (0 < length xs) × (length xs ≤ max 1 (length list))
+actions_count list flag final xs h = in_count (group list final) list flag final xs h
 
 -- ---- one more block
 
@@ -256,7 +283,8 @@ cut_more : (g : Group) (body : List CsiParam) (xs : List Action) (mid : List Csi
 cut_more g body [] mid b more x c e h = (b, more, c ∙ e, h, refl)
 cut_more g body (y ∷ xs) mid b more x c e h = (c.0, c.1, c.2, c.3, cut_more g c.1 xs mid b more x c.4 e h)
 
-cut_on : (g : Group) (list : List CsiParam) (xs : List Action) (p q : ℕ) (x : Action) → Cut g list xs (drop p list) → block g (drop p list) ≡ Some (x, q - p) → p < q → Cut g list (xs ++ x ∷ []) (drop q list)
+cut_on : (g : Group) (list : List CsiParam) (xs : List Action) (p q : ℕ) (x : Action) → Cut g (body g list) xs (drop p list) → block g (drop p list) ≡ Some (x, q - p) → p < q
+    → Cut g (body g list) (xs ++ x ∷ []) (drop q list)
 cut_on g list xs p q x c e h =
     let mid = drop p list in
     let f = front_of g mid (front g mid) x (q - p) refl e in
@@ -264,14 +292,14 @@ cut_on g list xs p q x c e h =
     let d : drop (q - p) mid ≡ drop q list = drop-drop (q - p) p list ∙ ap (λ k. drop k list) n in
     let b = is_block g mid x f.0 (q - p) f.1 f.2 in
     let j : mid ≡ take (q - p) mid ++ drop (q - p) mid = sym (take-append-drop (q - p) mid) in
-    subst (λ (l : List CsiParam). Cut g list (xs ++ x ∷ []) l) d (cut_more g list xs mid (take (q - p) mid) (drop (q - p) mid) x c j b)
+    subst (λ (l : List CsiParam). Cut g (body g list) (xs ++ x ∷ []) l) d (cut_more g (body g list) xs mid (take (q - p) mid) (drop (q - p) mid) x c j b)
 
-pub first_rest : (g : Group) (list : List CsiParam) (final q i : ℕ) → g ≡ group list final → CutsOn g list 0 q → i ≡ 0 → IsRestAfter list final (suc i) (drop q list)
-first_rest g list final q i same on z = rw (z, ← same) (on.0 ∷ [], cut_on g list [] 0 q on.0 refl on.1 on.2, refl)
+pub first_rest : (g : Group) (list : List CsiParam) (final q i : ℕ) → g ≡ group list final → CutsOn g list (start g) q → i ≡ 0 → IsRestAfter list final (suc i) (drop q list)
+first_rest g list final q i same on z = rw (z, ← same) (on.0 ∷ [], cut_on g list [] (start g) q on.0 refl on.1 on.2, refl)
 
 pub more_rest : (g : Group) (list : List CsiParam) (final p q i : ℕ) → g ≡ group list final → 0 < i → IsRestAfter list final i (drop p list) → CutsOn g list p q → IsRestAfter list final (suc i) (drop q list)
 more_rest g list final p q zero same low r on = absurd (omega arith)
 more_rest g list final p q (suc i) same low r on =
-    let c : Cut g list r.0 (drop p list) = rw same r.1 in
+    let c : Cut g (body g list) r.0 (drop p list) = rw same r.1 in
     let len : length (r.0 ++ on.0 ∷ []) ≡ suc (suc i) = omega (arith, length-append r.0 (on.0 ∷ []), r.2) in
     rw (← same) (r.0 ++ on.0 ∷ [], cut_on g list r.0 p q on.0 c on.1 on.2, len)

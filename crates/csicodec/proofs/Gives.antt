@@ -1,6 +1,6 @@
 -- What holds of all that the rows of whole lists give: said for each kind of form, and proved of any list.
-use Rattle.std.proofs.Common.{◌≡◌, ℕ, zero, suc, ◌<◌, ◌^◌, List, [], ◌∷◌, Option, None, Some, sym, arith, pos, subst}
-use Rattle.std.specs.Prelude.{negsuc}
+use Rattle.std.proofs.Common.{◌≡◌, ℕ, zero, suc, ◌<◌, ◌^◌, List, [], ◌∷◌, Option, None, Some, sym, inl, inr, arith, pos, subst}
+use Rattle.std.specs.Prelude.{ℤ, negsuc}
 use Rattle.std.specs.List.{AllByRecursion}
 use Rattle.std.proofs.lemmas.Bool.{ltb-true}
 use Rattle.std.proofs.lemmas.List.Elements.{All-contains, All-from_recursion}
@@ -8,9 +8,14 @@ use Rattle.std.proofs.lemmas.Option.{cond_some, same_Some}
 use Rattle.csicodec_base.specs.declared.param.CsiParam.{CsiParam}
 use Rattle.csicodec_base.specs.declared.param.CsiParam.TheVariants.{Integer, P}
 use Rattle.csicodec_base.specs.OneBased.{number_or, most}
-use Rattle.csicodec.specs.Actions.{Action}
+use Rattle.csicodec.specs.declared.actions.mode.DecPrivateMode.{DecPrivateMode}
+use Rattle.csicodec.specs.declared.actions.mode.Mode.TheVariants as mode
+use Rattle.csicodec.specs.declared.actions.mode.TerminalMode.{TerminalMode}
+use Rattle.csicodec.specs.declared.actions.mode.XtermKeyModifierResource.{XtermKeyModifierResource}
+use Rattle.csicodec.specs.Actions.{Action, Mode}
 use Rattle.csicodec.specs.Lists.{slot_value}
-use Rattle.csicodec.specs.Whole.{Form, Count, Pair, Choice, Spaced, Empty, Number, Numbered, Reads, Row, whole_rows, Whole}
+use Rattle.csicodec.specs.Modes.{IsDecMode, IsTerminalMode, resource_number}
+use Rattle.csicodec.specs.Whole.{Form, Count, Pair, Choice, Spaced, Empty, Number, Query, KeyMode, Numbered, IsValue, Reads, Row, whole_rows, Whole}
 
 -- a number from 1 on, of 32 bits
 pub record IsOneBased (n : ℕ) : Type 0 where
@@ -37,30 +42,42 @@ slot-fits : (missing nought : ℕ) (slot : Option CsiParam) (n : ℕ) → IsOneB
 slot-fits missing nought None n m z e = let same = same_Some _ _ e in subst IsOneBased same m
 slot-fits missing nought (Some t) n m z e = number_or-fits nought t n z e
 
--- each action that a form gives has the property
-abbrev pub FormGives : (Action → Type 0) → Form → Type 0
-FormGives Q (Count make) = (n : ℕ) → IsOneBased n → Q (make n)
-FormGives Q (Pair empty missing nought make) =
+-- Each action that a form gives has the property Q, where each value for modified keys has the property V.
+abbrev pub FormGives : (Option ℤ → Type 0) → (Action → Type 0) → Form → Type 0
+FormGives V Q (Count make) = (n : ℕ) → IsOneBased n → Q (make n)
+FormGives V Q (Pair empty missing nought make) =
     Q empty × IsOneBased missing × IsOneBased nought × ((a b : ℕ) → IsOneBased a → IsOneBased b → Q (make a b))
-FormGives Q (Choice of) = (n : ℕ) (a : Action) → Numbered of n a → Q a
-FormGives Q (Spaced of) = (n : ℕ) (a : Action) → Numbered of n a → Q a
-FormGives Q (Empty only) = Q only
-FormGives Q (Number n only) = Q only
+FormGives V Q (Choice of) = (n : ℕ) (a : Action) → Numbered of n a → Q a
+FormGives V Q (Spaced of) = (n : ℕ) (a : Action) → Numbered of n a → Q a
+FormGives V Q (Empty only) = Q only
+FormGives V Q (Number n only) = Q only
+FormGives V Q Query =
+    ((n : ℕ) (m : TerminalMode) → IsTerminalMode n m → Q (Mode (mode.QueryMode m)))
+    × ((n : ℕ) (m : DecPrivateMode) → IsDecMode n m → Q (Mode (mode.QueryDecPrivateMode m)))
+FormGives V Q KeyMode = (resource : XtermKeyModifierResource) (value : Option ℤ) → V value → Q (Mode (mode.XtermKeyMode resource value))
 
-abbrev pub RowsGive : (Action → Type 0) → List Row → Type 0
-RowsGive Q rows = AllByRecursion (λ (r : Row). FormGives Q r.form) rows
+abbrev pub RowsGive : (Option ℤ → Type 0) → (Action → Type 0) → List Row → Type 0
+RowsGive V Q rows = AllByRecursion (λ (r : Row). FormGives V Q r.form) rows
 
-form-gives : (Q : Action → Type 0) (form : Form) (list : List CsiParam) (a : Action) → FormGives Q form → Reads form list a → Q a
-form-gives Q (Count make) list a all h = subst Q (sym h.4) (all h.1 (slot-fits 1 1 h.0 h.1 one-fits one-fits h.3))
-form-gives Q (Pair empty missing nought make) [] a all h = subst Q (sym h) all.0
-form-gives Q (Pair empty missing nought make) (t ∷ ts) a all h =
+-- each value that the list has for modified keys has the property
+abbrev pub ValuesHave : (Option ℤ → Type 0) → List CsiParam → Type 0
+ValuesHave V list =
+    (k : ℕ) (value : Option ℤ) (tail : List CsiParam) → list ≡ P 62 ∷ Integer (pos k) ∷ tail → IsValue value tail → V value
+
+form-gives : (V : Option ℤ → Type 0) (Q : Action → Type 0) (form : Form) (list : List CsiParam) (a : Action) → FormGives V Q form → ValuesHave V list → Reads form list a → Q a
+form-gives V Q (Count make) list a all values h = subst Q (sym h.4) (all h.1 (slot-fits 1 1 h.0 h.1 one-fits one-fits h.3))
+form-gives V Q (Pair empty missing nought make) [] a all values h = subst Q (sym h) all.0
+form-gives V Q (Pair empty missing nought make) (t ∷ ts) a all values h =
     subst Q (sym h.7) (all.3 h.2 h.3 (slot-fits 1 1 h.0 h.2 one-fits one-fits h.5) (slot-fits missing nought h.1 h.3 all.1 all.2 h.6))
-form-gives Q (Choice of) list a all h = all h.1 a h.4
-form-gives Q (Spaced of) list a all h = all h.0 a h.2
-form-gives Q (Empty only) list a all h = subst Q (sym h.1) all
-form-gives Q (Number n only) list a all h = subst Q (sym h.1) all
+form-gives V Q (Choice of) list a all values h = all h.1 a h.4
+form-gives V Q (Spaced of) list a all values h = all h.0 a h.2
+form-gives V Q (Empty only) list a all values h = subst Q (sym h.1) all
+form-gives V Q (Number n only) list a all values h = subst Q (sym h.1) all
+form-gives V Q Query list a all values (inl h) = subst Q (sym h.4) (all.0 h.0 h.1 h.3)
+form-gives V Q Query list a all values (inr h) = subst Q (sym h.4) (all.1 h.0 h.1 h.3)
+form-gives V Q KeyMode list a all values h = subst Q (sym h.5) (all h.0 h.1 (values (resource_number h.0) h.1 h.2 h.3 h.4))
 
-pub whole-gives : (Q : Action → Type 0) → RowsGive Q whole_rows → (list : List CsiParam) (final : ℕ) (a : Action) → Whole list final a → Q a
-whole-gives Q all list final a w =
-    let gives = All-contains (λ (r : Row). FormGives Q r.form) whole_rows w.row (All-from_recursion (λ (r : Row). FormGives Q r.form) whole_rows all) w.listed in
-    form-gives Q w.row.form list a gives w.reads
+pub whole-gives : (V : Option ℤ → Type 0) (Q : Action → Type 0) → RowsGive V Q whole_rows → (list : List CsiParam) (final : ℕ) (a : Action) → ValuesHave V list → Whole list final a → Q a
+whole-gives V Q all list final a values w =
+    let gives = All-contains (λ (r : Row). FormGives V Q r.form) whole_rows w.row (All-from_recursion (λ (r : Row). FormGives V Q r.form) whole_rows all) w.listed in
+    form-gives V Q w.row.form list a gives values w.reads

@@ -1,7 +1,11 @@
+pub mod Found
 pub mod Enumerations
+pub mod ModeCodes
+pub mod ModeLists
 pub mod Made
 pub mod Wholes
 pub mod Gives
+pub mod GroupOf
 pub mod Fronts
 pub mod Blocks
 pub mod Cuts
@@ -10,15 +14,18 @@ pub mod Odd
 pub mod Suffixes
 pub mod Splits
 mod Escapes
+pub mod ModeCanonical
 pub mod Canonical
 pub mod OneReading
 pub mod SgrCanonical
 pub mod Spelling
 pub mod SgrSpelling
 pub mod WholeSpelling
+pub mod ModeSpelling
 pub mod Alone
 pub mod SgrKept
 pub mod WholeKept
+pub mod ModeKept
 pub mod Parsed
 pub mod RoundTrip
 pub mod JoinedCuts

@@ -1,6 +1,8 @@
 -- The list that an action is written as, and that is read as this action alone.
-use Rattle.std.proofs.Common.{ℕ, ◌≡◌, ◌≤◌, List, [], ◌∷◌, ◌++◌, Bool, length, refl, sym, subst, inr, pos, arith, append-nil}
+use Rattle.std.proofs.Common.{ℕ, ◌≡◌, ◌≤◌, List, [], ◌∷◌, ◌++◌, Bool, length, refl, sym, subst, Some, inl, inr, pos, arith, append-nil}
+use Rattle.std.specs.Prelude.{encode_utf8}
 use Rattle.std.proofs.lemmas.Int.{ints}
+use Rattle.std.proofs.lemmas.Str.{encode_ascii}
 use Rattle.csicodec_base.specs.declared.param.CsiParam.{CsiParam}
 use Rattle.csicodec_base.specs.declared.param.CsiParam.TheVariants.{Integer, P}
 use Rattle.csicodec_base.specs.Digits.{largest}
@@ -8,13 +10,16 @@ use Rattle.csicodec_base.specs.Param.{spells}
 use Rattle.csicodec_base.specs.Sequence.{IsFinal, IsSpellable, Spellable}
 use Rattle.csicodec_base.proofs.Printed.{printed}
 use Rattle.csicodec.specs.declared.group.Group.{Group}
+use Rattle.csicodec.specs.declared.group.Group.TheVariants as groups
 use Rattle.csicodec.specs.Actions.{Action}
-use Rattle.csicodec.specs.Groups.{Piece}
+use Rattle.csicodec.specs.Groups.{group, Piece}
 use Rattle.csicodec.specs.Cut.{Cut, IsStuck}
 use Rattle.csicodec.specs.Segments.{Actions}
 use Rattle.csicodec.specs.Texts.{text}
+use Rattle.csicodec.specs.WholeBy.{whole}
 use Rattle.csicodec.proofs.Fronts.{front_stuck, front_empty}
 use Rattle.csicodec.proofs.OneReading.{decodes-one, Alone}
+use Rattle.csicodec.proofs.Wholes.{is-whole}
 
 pub record Spelling (flag : Bool) (a : Action) : Type 0 where
   pub list : List CsiParam
@@ -45,8 +50,47 @@ colon-spellable = ((omega arith, omega arith), λ digit. omega (arith, digit))
 pub semicolon-spellable : IsSpellable (P 59)
 semicolon-spellable = ((omega arith, omega arith), λ digit. omega (arith, digit))
 
+pub question-spellable : IsSpellable (P 63)
+question-spellable = ((omega arith, omega arith), λ digit. omega (arith, digit))
+
 pub space-spellable : IsSpellable (P 32)
 space-spellable = ((omega arith, omega arith), λ digit. omega (arith, digit))
+
+pub dollar-spellable : IsSpellable (P 36)
+dollar-spellable = ((omega arith, omega arith), λ digit. omega (arith, digit))
+
+pub greater-spellable : IsSpellable (P 62)
+greater-spellable = ((omega arith, omega arith), λ digit. omega (arith, digit))
+
+-- ---- their texts
+
+pub text-32 : encode_utf8 32 ≡ 32 ∷ []
+text-32 = encode_ascii 32 (omega arith)
+
+pub text-36 : encode_utf8 36 ≡ 36 ∷ []
+text-36 = encode_ascii 36 (omega arith)
+
+pub text-59 : encode_utf8 59 ≡ 59 ∷ []
+text-59 = encode_ascii 59 (omega arith)
+
+pub text-62 : encode_utf8 62 ≡ 62 ∷ []
+text-62 = encode_ascii 62 (omega arith)
+
+pub text-63 : encode_utf8 63 ≡ 63 ∷ []
+text-63 = encode_ascii 63 (omega arith)
+
+-- ---- a list that is read whole
+
+pub whole-spelling : (flag : Bool) (a : Action) (list : List CsiParam) (final : ℕ) → text a ≡ 27 ∷ 91 ∷ (spells list ++ final ∷ []) → Spellable list → IsFinal final
+    → group list final ≡ groups.Whole → whole list final ≡ Some a → Spelling flag a
+whole-spelling flag a list final written ok ends read found = record {
+  list = list;
+  final = final;
+  written = written;
+  spellable = ok;
+  ends = ends;
+  read = rw read (inl (a, is-whole list final a found, refl));
+}
 
 -- ---- a list that is one piece, in any group
 

@@ -1,46 +1,80 @@
 -- What is unknown is the last action, and holds a suffix of the list.
-use Rattle.std.proofs.Common.{◌≡◌, ℕ, Bool, List, [], ◌∷◌, ◌++◌, refl, sym, ap, ◌∙◌, inl, inr, append_assoc, rules}
+use Rattle.std.proofs.Common.{◌≡◌, ℕ, ◌<◌, Bool, true, false, List, [], ◌∷◌, ◌++◌, length, take, refl, sym, ap, ◌∙◌, inl, inr, append_assoc, arith, rules}
 use Rattle.std.proofs.lemmas.Bool.{cases_Bool}
+use Rattle.std.proofs.lemmas.List.{take-append-drop}
 use Rattle.csicodec_base.specs.declared.param.CsiParam.{CsiParam}
+use Rattle.csicodec.specs.declared.actions.mode.Change.{Change}
+use Rattle.csicodec.specs.declared.actions.mode.Change.TheVariants as changes
+use Rattle.csicodec.specs.declared.actions.mode.DecPrivateMode.{DecPrivateMode}
+use Rattle.csicodec.specs.declared.actions.mode.Switch.{Switch}
+use Rattle.csicodec.specs.declared.actions.mode.Switch.TheVariants as switches
+use Rattle.csicodec.specs.declared.actions.mode.TerminalMode.{TerminalMode}
 use Rattle.csicodec.specs.declared.group.Group.{Group}
 use Rattle.csicodec.specs.declared.group.Group.TheVariants as groups
-use Rattle.csicodec.specs.Actions.{Action, Sgr, Cursor, Edit, Unspecified}
-use Rattle.csicodec.specs.Groups.{group, has_odd, Piece}
-use Rattle.csicodec.specs.Cut.{Cut}
-use Rattle.csicodec.specs.Segments.{remainder, Segmented, ActionsIn}
+use Rattle.csicodec.specs.Actions.{Action, Sgr, Cursor, Edit, Mode, Unspecified}
+use Rattle.csicodec.specs.Groups.{group, start, marked, has_odd, Piece}
+use Rattle.csicodec.specs.Cut.{body, Cut}
+use Rattle.csicodec.specs.Modes.{changed, switched}
+use Rattle.csicodec.specs.Segments.{remainder, empty_action, BodyActions, CutActions, ActionsIn}
+use Rattle.csicodec.specs.Suffix.{IsSuffix, changes_private, EndsUnknown, SuffixLaw}
 use Rattle.csicodec.specs.Whole.{Enumeration, CursorStyles, TabulationControls, TabulationClears, ErasesInDisplay, ErasesInLine, Numbered, whole_rows, Whole}
 use Rattle.csicodec.proofs.Gives.{RowsGive, one-fits, most-fits, whole-gives}
-use Rattle.csicodec.specs.Suffix.{IsSuffix, EndsUnknown, SuffixLaw}
+use Rattle.csicodec.proofs.GroupOf.{marked-body}
+
+-- whether a `?` is put ahead of what is unknown behind a piece
+abbrev puts_mark : Group → Bool
+puts_mark groups.Whole = false
+puts_mark groups.Styles = false
+puts_mark (groups.Modes s) = false
+puts_mark (groups.DecModes c) = true
+
+changes-private : (c : Change) (m : DecPrivateMode) → changes_private (changed c m) ≡ true
+changes-private changes.Set m = refl
+changes-private changes.Reset m = refl
+changes-private changes.Save m = refl
+changes-private changes.Restore m = refl
+
+switches-none : (s : Switch) (m : TerminalMode) → changes_private (switched s m) ≡ false
+switches-none switches.Set m = refl
+switches-none switches.Reset m = refl
 
 -- a known piece is no unknown action
-piece-ends : (g : Group) (list rest : List CsiParam) (flag : Bool) (final k : ℕ) (a : Action) (more : List Action) → Piece g rest k a → EndsUnknown list flag final more → EndsUnknown list flag final (a ∷ more)
-piece-ends groups.Styles list rest flag final k a more p h = rw p.2 h
-piece-ends groups.Whole list rest flag final k a more p h = absurd p
+piece-ends : (g : Group) (behind : Bool) (list rest : List CsiParam) (flag : Bool) (final k : ℕ) (a : Action) (more : List Action) → Piece g rest k a
+    → EndsUnknown (puts_mark g) list flag final more → EndsUnknown behind list flag final (a ∷ more)
+piece-ends groups.Whole behind list rest flag final k a more p h = absurd p
+piece-ends groups.Styles behind list rest flag final k a more p h = rw p.2 h
+piece-ends (groups.Modes s) behind list rest flag final k a more p h = rw (p.5, switches-none s p.1) h
+piece-ends (groups.DecModes c) behind list rest flag final k a more p h = rw (p.5, changes-private c p.1) h
 
-cut-ends : (g : Group) (list body : List CsiParam) (flag : Bool) (final : ℕ) (xs : List Action) (rest : List CsiParam) (more : List Action) → Cut g body xs rest → EndsUnknown list flag final more
-    → EndsUnknown list flag final (xs ++ more)
+cut-ends : (g : Group) (list body : List CsiParam) (flag : Bool) (final : ℕ) (xs : List Action) (rest : List CsiParam) (more : List Action) → Cut g body xs rest
+    → EndsUnknown (puts_mark g) list flag final more → EndsUnknown (puts_mark g) list flag final (xs ++ more)
 cut-ends g list body flag final [] rest more c h = h
 cut-ends g list body flag final (x ∷ xs) rest more c h =
-    piece-ends g list (c.0 ++ c.1) flag final _ x (xs ++ more) c.3.piece (cut-ends g list c.1 flag final xs rest more c.4 h)
+    piece-ends g _ list (c.0 ++ c.1) flag final _ x (xs ++ more) c.3.piece (cut-ends g list c.1 flag final xs rest more c.4 h)
+
+suffix-behind : (front list rest : List CsiParam) → IsSuffix list rest → IsSuffix (front ++ list) rest
+suffix-behind front list rest s = (front ++ s.0, ap (λ (l : List CsiParam). front ++ l) s.1 ∙ sym (append_assoc front s.0 rest))
 
 pub cut-suffix : (g : Group) (body : List CsiParam) (xs : List Action) (rest : List CsiParam) → Cut g body xs rest → IsSuffix body rest
 cut-suffix g body [] rest c = ([], c)
-cut-suffix g body (x ∷ xs) rest c =
-    let s = cut-suffix g c.1 xs rest c.4 in
-    (c.0 ++ s.0, c.2 ∙ ap (λ (l : List CsiParam). c.0 ++ l) s.1 ∙ sym (append_assoc c.0 s.0 rest))
+cut-suffix g body (x ∷ xs) rest c = rw c.2 (suffix-behind c.0 c.1 rest (cut-suffix g c.1 xs rest c.4))
 
-unknown-ends : (list : List CsiParam) (flag : Bool) (final : ℕ) (xs : List Action) → xs ≡ Unspecified list flag final ∷ [] → EndsUnknown list flag final xs
+unknown-ends : (list : List CsiParam) (flag : Bool) (final : ℕ) (xs : List Action) → xs ≡ Unspecified list flag final ∷ [] → EndsUnknown false list flag final xs
 unknown-ends list flag final xs e = rw e (refl, refl, refl, ([], refl))
 
-remainder-ends : (list rest : List CsiParam) (flag : Bool) (final : ℕ) → IsSuffix list rest → EndsUnknown list flag final (remainder rest flag final)
-remainder-ends list [] flag final s = tt
-remainder-ends list (t ∷ ts) flag final s = (refl, refl, refl, s)
+remainder-ends : (g : Group) (list rest : List CsiParam) (flag : Bool) (final : ℕ) → IsSuffix list rest → EndsUnknown (puts_mark g) list flag final (remainder g rest flag final)
+remainder-ends g list [] flag final s = tt
+remainder-ends groups.Whole list (t ∷ ts) flag final s = (refl, refl, refl, s)
+remainder-ends groups.Styles list (t ∷ ts) flag final s = (refl, refl, refl, s)
+remainder-ends (groups.Modes c) list (t ∷ ts) flag final s = (refl, refl, refl, s)
+remainder-ends (groups.DecModes c) list (t ∷ ts) flag final s = (refl, refl, refl, (t ∷ ts, refl, s))
 
 -- no row of a whole list gives what is unknown
 abbrev IsKnown : Action → Type 0
 IsKnown (Sgr s) = Unit {0}
 IsKnown (Cursor c) = Unit {0}
 IsKnown (Edit e) = Unit {0}
+IsKnown (Mode m) = Unit {0}
 IsKnown (Unspecified params own final) = ⊥
 
 numbered-known : (of : Enumeration) (n : ℕ) (a : Action) → Numbered of n a → IsKnown a
@@ -50,28 +84,57 @@ numbered-known TabulationClears n a h = rw h.2 tt
 numbered-known ErasesInDisplay n a h = rw h.2 tt
 numbered-known ErasesInLine n a h = rw h.2 tt
 
-rows-known : RowsGive IsKnown whole_rows
+rows-known : RowsGive (λ value. Unit {0}) IsKnown whole_rows
 rows-known = search (rules, numbered-known, one-fits, most-fits) depth 60
 
-whole-ends : (list : List CsiParam) (flag : Bool) (final : ℕ) (a : Action) → Whole list final a → EndsUnknown list flag final (a ∷ [])
-whole-ends list flag final a w = go a (whole-gives IsKnown rows-known list final a w)
+whole-ends : (list : List CsiParam) (flag : Bool) (final : ℕ) (a : Action) → Whole list final a → EndsUnknown false list flag final (a ∷ [])
+whole-ends list flag final a w = go a (whole-gives (λ value. Unit {0}) IsKnown rows-known list final a (λ k value tail same v. tt) w)
   where
-    go : (x : Action) → IsKnown x → EndsUnknown list flag final (x ∷ [])
+    go : (x : Action) → IsKnown x → EndsUnknown false list flag final (x ∷ [])
     go (Sgr s) known = tt
     go (Cursor c) known = tt
     go (Edit e) known = tt
+    go (Mode m) known = tt
     go (Unspecified params own control) known = absurd known
 
-pub suffix_lem : (list : List CsiParam) (flag : Bool) (final : ℕ) → SuffixLaw list flag final
-suffix_lem list flag final xs h = go (group list final) list h
+-- ---- a list that is cut
+
+segmented-ends : (g : Group) (list t : List CsiParam) (flag : Bool) (final : ℕ) (pieces : List Action) (rest : List CsiParam) → IsSuffix list t → 0 < length t → marked g t ≡ list → Cut g t pieces rest
+    → EndsUnknown false list flag final (pieces ++ remainder g rest flag final)
+segmented-ends g list t flag final [] rest suffix some same cut = whole rest cut
   where
-    go : (g : Group) (l : List CsiParam) → ActionsIn g l flag final xs → EndsUnknown l flag final xs
-    go groups.Whole l (inl h) = rw h.2 (whole-ends l flag final h.0 h.1)
-    go groups.Whole l (inr h) = unknown-ends l flag final xs h.1
-    go groups.Styles [] e = rw e tt
-    go groups.Styles (t ∷ ts) e = elim (cases_Bool (has_odd (t ∷ ts))) [
-      | inl odd ↦ unknown-ends (t ∷ ts) flag final xs (rw odd at e)
-      | inr plain ↦
-          let s : Segmented groups.Styles (t ∷ ts) flag final xs = rw plain at e in
-          rw s.all (cut-ends groups.Styles (t ∷ ts) (t ∷ ts) flag final s.pieces s.rest (remainder s.rest flag final) s.cut (remainder-ends (t ∷ ts) s.rest flag final (cut-suffix groups.Styles (t ∷ ts) s.pieces s.rest s.cut)))
-    ]
+    whole : (l : List CsiParam) → t ≡ l → EndsUnknown false list flag final (remainder g l flag final)
+    whole [] e = absurd (omega (arith, some, ap length e))
+    whole (u ∷ us) e = unknown-ends list flag final _ (ap (λ l. Unspecified l flag final ∷ []) (ap (marked g) (sym e) ∙ same))
+segmented-ends g list t flag final (x ∷ xs) rest suffix some same cut =
+    let behind : IsSuffix t rest = cut-suffix g t (x ∷ xs) rest cut in
+    let all : IsSuffix list rest = rw suffix.1 (suffix-behind suffix.0 t rest behind) in
+    piece-ends g false list (cut.0 ++ cut.1) flag final _ x _ cut.3.piece (cut-ends g list cut.1 flag final xs rest _ cut.4 (remainder-ends g list rest flag final all))
+
+empty-ends : (g : Group) (list : List CsiParam) (flag : Bool) (final : ℕ) → EndsUnknown false list flag final (empty_action g list flag final ∷ [])
+empty-ends groups.Whole list flag final = unknown-ends list flag final _ refl
+empty-ends groups.Styles list flag final = tt
+empty-ends (groups.Modes s) list flag final = unknown-ends list flag final _ refl
+empty-ends (groups.DecModes c) list flag final = unknown-ends list flag final _ refl
+
+body-ends : (g : Group) (list t : List CsiParam) (flag : Bool) (final : ℕ) (xs : List Action) → IsSuffix list t → marked g t ≡ list → BodyActions g list t flag final xs → EndsUnknown false list flag final xs
+body-ends g list [] flag final xs suffix same e = rw e (empty-ends g list flag final)
+body-ends g list (t ∷ ts) flag final xs suffix same s = rw s.all (segmented-ends g list (t ∷ ts) flag final s.pieces s.rest suffix (omega arith) same s.cut)
+
+cuts-end : (g : Group) (list : List CsiParam) (flag : Bool) (final : ℕ) (xs : List Action) → group list final ≡ g → CutActions g list flag final xs → EndsUnknown false list flag final xs
+cuts-end g list flag final xs same h = elim (cases_Bool (has_odd g list)) [
+  | inl odd ↦ unknown-ends list flag final xs (rw odd at h)
+  | inr plain ↦
+      let suffix : IsSuffix list (body g list) = (take (start g) list, sym (take-append-drop (start g) list)) in
+      body-ends g list (body g list) flag final xs suffix (marked-body g list final same) (rw plain at h)
+]
+
+pub suffix_lem : (list : List CsiParam) (flag : Bool) (final : ℕ) → SuffixLaw list flag final
+suffix_lem list flag final xs h = go (group list final) refl h
+  where
+    go : (g : Group) → group list final ≡ g → ActionsIn g list flag final xs → EndsUnknown false list flag final xs
+    go groups.Whole same (inl k) = rw k.2 (whole-ends list flag final k.0 k.1)
+    go groups.Whole same (inr k) = unknown-ends list flag final xs k.1
+    go groups.Styles same k = cuts-end groups.Styles list flag final xs same k
+    go (groups.Modes s) same k = cuts-end (groups.Modes s) list flag final xs same k
+    go (groups.DecModes c) same k = cuts-end (groups.DecModes c) list flag final xs same k

@@ -1,12 +1,12 @@
 -- Each action of the cursor and each edit that is in range and canonical is written as a list that is read as it alone: once for each
 -- form of a list, and a line for each final.
 use Rattle.std.proofs.Common.{ℕ, zero, suc, ◌≡◌, ◌^◌, List, [], ◌∷◌, ◌++◌, Bool, true, false, refl, sym, ◌∙◌, arith, rules, append-nil, Some, inl, inr, pos}
-use Rattle.std.specs.Prelude.{◌==◌, ◌&&◌, encode_utf8, codes}
+use Rattle.std.specs.Prelude.{◌==◌, ◌&&◌, Option, None, codes, slice_get}
 use Rattle.std.specs.Fmt.{decimal, digits}
 use Rattle.std.specs.List.{AllByRecursion}
+use Rattle.std.specs.Option.{option_or}
 use Rattle.std.proofs.lemmas.Bool.{cases_Bool, eqb-true, lt-ltb}
 use Rattle.std.proofs.lemmas.List.Elements.{All-contains, All-from_recursion}
-use Rattle.std.proofs.lemmas.Str.{encode_ascii}
 use Rattle.csicodec_base.specs.declared.param.CsiParam.{CsiParam}
 use Rattle.csicodec_base.specs.declared.param.CsiParam.TheVariants.{Integer, P}
 use Rattle.csicodec_base.specs.EnumNumbers.{cursor_style_number, erase_in_display_number, erase_in_line_number, tabulation_clear_number, tabulation_control_number}
@@ -18,19 +18,21 @@ use Rattle.csicodec.specs.declared.actions.cursor.Cursor.TheVariants as cursor
 use Rattle.csicodec.specs.declared.actions.edit.Edit as edit_type
 use Rattle.csicodec.specs.declared.actions.edit.Edit.TheVariants as edit
 use Rattle.csicodec.specs.Actions.{Action, Cursor, Edit}
+use Rattle.csicodec.specs.Groups.{is_byte}
 use Rattle.csicodec.specs.Parts.{unless_default, two, cursor_parts, edit_parts}
 use Rattle.csicodec.specs.Texts.{text}
-use Rattle.csicodec.specs.Whole.{Enumeration, CursorStyles, TabulationControls, TabulationClears, ErasesInDisplay, ErasesInLine, Numbered, Form, Count, Pair, Choice, Spaced, Row, whole_rows}
-use Rattle.csicodec.specs.WholeBy.{read, cursor_form, edit_form, whole}
+use Rattle.csicodec.specs.Whole.{Enumeration, CursorStyles, TabulationControls, TabulationClears, ErasesInDisplay, ErasesInLine, Numbered, Form, Count, Pair, Choice, Spaced, Row, cursor_rows, edit_rows}
+use Rattle.csicodec.specs.WholeBy.{read, form_in, cursor_form, edit_form, mode_form, form_of}
 use Rattle.csicodec.proofs.Canonical.{AreColumnsAllAround, ArgsInRange, IsCanonicalParts}
 use Rattle.csicodec.proofs.Enumerations.{numbered-is, numbered-small}
 use Rattle.csicodec.proofs.Gives.{IsOneBased}
-use Rattle.csicodec.proofs.Spelling.{Spelling, number-spellable, semicolon-spellable, space-spellable}
-use Rattle.csicodec.proofs.Wholes.{form_of, row-of-form, is-whole}
+use Rattle.csicodec.proofs.Spelling.{Spelling, number-spellable, semicolon-spellable, space-spellable, text-32, text-59, whole-spelling}
+use Rattle.csicodec.proofs.Wholes.{row-of, row-of-first}
 
--- a list that the bytes spell, and that a form reads as the action
+-- a list without a `?` ahead that the bytes spell, and that a form reads as the action
 record Back (form : Form) (shown : List ℕ) (a : Action) : Type 0 where
   list : List CsiParam
+  plain : is_byte 63 (slice_get list 0) ≡ false
   written : shown ≡ spells list
   spellable : Spellable list
   found : read form list ≡ Some a
@@ -40,25 +42,20 @@ reads : (default n : ℕ) → IsOneBased n → number_or default (Integer (pos n
 reads default zero fits = absurd (omega (arith, fits.above))
 reads default (suc n) fits = rw (lt-ltb (suc n) (2 ^ 32) fits.fits) refl
 
-text-59 : encode_utf8 59 ≡ 59 ∷ []
-text-59 = encode_ascii 59 (omega arith)
-
-text-32 : encode_utf8 32 ≡ 32 ∷ []
-text-32 = encode_ascii 32 (omega arith)
-
 -- ---- by form
 
 empty-back : (form : Form) (a : Action) → read form [] ≡ Some a → Back form [] a
-empty-back form a found = record { list = []; written = refl; spellable = tt; found = found }
+empty-back form a found = record { list = []; plain = refl; written = refl; spellable = tt; found = found }
 
 count-back : (make : ℕ → Action) (n : ℕ) → IsOneBased n → Back (Count make) (unless_default 1 n) (make n)
 count-back make n fits = elim (cases_Bool (n == 1)) [
   | inl one ↦
       let same : n ≡ 1 = eqb-true _ _ one in
-      record { list = []; written = rw one refl; spellable = tt; found = rw same refl }
+      record { list = []; plain = refl; written = rw one refl; spellable = tt; found = rw same refl }
   | inr more ↦
       record {
         list = Integer (pos n) ∷ [];
+        plain = refl;
         written = rw (more, append-nil) refl;
         spellable = (number-spellable n (omega (arith, fits.fits)), tt, tt);
         found = rw (reads 1 n fits) refl;
@@ -68,6 +65,7 @@ count-back make n fits = elim (cases_Bool (n == 1)) [
 pair-back : (empty : Action) (missing nought : ℕ) (make : ℕ → ℕ → Action) (a b : ℕ) → IsOneBased a → IsOneBased b → Back (Pair empty missing nought make) (two a b) (make a b)
 pair-back empty missing nought make a b fa fb = record {
   list = Integer (pos a) ∷ P 59 ∷ Integer (pos b) ∷ [];
+  plain = refl;
   written = simp (text-59, append-nil);
   spellable = (number-spellable a (omega (arith, fa.fits)), tt, (semicolon-spellable, tt, (number-spellable b (omega (arith, fb.fits)), tt, tt)));
   found = rw (reads 1 a fa, reads nought b fb) refl;
@@ -77,10 +75,11 @@ choice-back : (of : Enumeration) (n : ℕ) (a : Action) → Numbered of n a → 
 choice-back of n a h = elim (cases_Bool (n == 0)) [
   | inl none ↦
       let same : 0 ≡ n = sym (eqb-true _ _ none) in
-      record { list = []; written = rw none refl; spellable = tt; found = rw same (numbered-is of n a h) }
+      record { list = []; plain = refl; written = rw none refl; spellable = tt; found = rw same (numbered-is of n a h) }
   | inr some ↦
       record {
         list = Integer (pos n) ∷ [];
+        plain = refl;
         written = rw (some, append-nil) refl;
         spellable = (number-spellable n (let small = numbered-small of n a h in omega (arith, small)), tt, tt);
         found = numbered-is of n a h;
@@ -90,6 +89,7 @@ choice-back of n a h = elim (cases_Bool (n == 0)) [
 spaced-back : (of : Enumeration) (n : ℕ) (a : Action) → Numbered of n a → Back (Spaced of) (decimal n ++ codes " ") a
 spaced-back of n a h = record {
   list = Integer (pos n) ∷ P 32 ∷ [];
+  plain = refl;
   written = simp (text-32, append-nil);
   spellable = (number-spellable n (let small = numbered-small of n a h in omega (arith, small)), tt, (space-spellable, tt, tt));
   found = numbered-is of n a h;
@@ -97,42 +97,46 @@ spaced-back of n a h = record {
 
 -- ---- by row
 
--- a row stands before a final that a sequence can have, and not before `m`
-abbrev EndsRow : ℕ → Type 0
-EndsRow final = IsFinal final × ((final == 109) ≡ false)
+-- the form of a final in the tables of cursors and edits
+abbrev plain_form : ℕ → Option Form
+plain_form final = option_or (cursor_form final) (edit_form final)
 
-rows-end : AllByRecursion (λ (r : Row). EndsRow r.final) whole_rows
+-- their rows stand before finals that a sequence can have, and before which a list without a `?` ahead is read whole
+abbrev EndsRow : ℕ → Type 0
+EndsRow final = IsFinal final × ((final == 109) ≡ false) × ((final == 104) ≡ false) × ((final == 108) ≡ false)
+
+rows-end : AllByRecursion (λ (r : Row). EndsRow r.final) (cursor_rows ++ edit_rows)
 rows-end = search (rules, arith) depth 60
 
-form-ends : (final : ℕ) (form : Form) → form_of final ≡ Some form → EndsRow final
+form-ends : (final : ℕ) (form : Form) → plain_form final ≡ Some form → EndsRow final
+unfolding cursor_form edit_form
 form-ends final form e =
-    let q = row-of-form final form e in
-    rw (← q.before) (All-contains (λ (r : Row). EndsRow r.final) whole_rows q.row (All-from_recursion (λ (r : Row). EndsRow r.final) whole_rows rows-end) q.listed)
+    let q = row-of-first cursor_rows edit_rows (form_in edit_rows final) final form (row-of edit_rows final form) (form_in cursor_rows final) refl e in
+    rw (← q.before) (All-contains (λ (r : Row). EndsRow r.final) (cursor_rows ++ edit_rows) q.row (All-from_recursion (λ (r : Row). EndsRow r.final) (cursor_rows ++ edit_rows) rows-end) q.listed)
 
-row-spelling : (flag : Bool) (a : Action) (final : ℕ) (form : Form) (shown : List ℕ) → text a ≡ 27 ∷ 91 ∷ (shown ++ final ∷ []) → form_of final ≡ Some form
+-- what is found in one of two places is found with a third behind them
+or-more : (a b c : Option Form) (form : Form) → option_or a b ≡ Some form → option_or a (option_or b c) ≡ Some form
+or-more (Some f) b c form e = e
+or-more None (Some f) c form e = e
+or-more None None c form e = cc
+
+row-spelling : (flag : Bool) (a : Action) (final : ℕ) (form : Form) (shown : List ℕ) → text a ≡ 27 ∷ 91 ∷ (shown ++ final ∷ []) → plain_form final ≡ Some form
     → Back form shown a → Spelling flag a
 row-spelling flag a final form shown written at back =
     let ends = form-ends final form at in
-    let found : whole back.list final ≡ Some a = rw at back.found in
-    record {
-      list = back.list;
-      final = final;
-      written = written ∙ rw back.written refl;
-      spellable = back.spellable;
-      ends = ends.0;
-      read = rw ends.1 (inl (a, is-whole back.list final a found, refl));
-    }
+    let own : form_of final ≡ Some form = or-more (cursor_form final) (edit_form final) (mode_form final) form at in
+    whole-spelling flag a back.list final (written ∙ rw back.written refl) back.spellable ends.0 (rw (ends.1, back.plain, ends.2, ends.3) refl) (rw own back.found)
 
-counted-spelling : (flag : Bool) (make : ℕ → Action) (final n : ℕ) → text (make n) ≡ 27 ∷ 91 ∷ (unless_default 1 n ++ final ∷ []) → form_of final ≡ Some (Count make)
+counted-spelling : (flag : Bool) (make : ℕ → Action) (final n : ℕ) → text (make n) ≡ 27 ∷ 91 ∷ (unless_default 1 n ++ final ∷ []) → plain_form final ≡ Some (Count make)
     → IsOneBased n → Spelling flag (make n)
 counted-spelling flag make final n written at fits = row-spelling flag (make n) final (Count make) (unless_default 1 n) written at (count-back make n fits)
 
 paired-spelling : (flag : Bool) (empty : Action) (missing nought : ℕ) (make : ℕ → ℕ → Action) (final a b : ℕ) → text (make a b) ≡ 27 ∷ 91 ∷ (two a b ++ final ∷ [])
-    → form_of final ≡ Some (Pair empty missing nought make) → IsOneBased a × IsOneBased b → Spelling flag (make a b)
+    → plain_form final ≡ Some (Pair empty missing nought make) → IsOneBased a × IsOneBased b → Spelling flag (make a b)
 paired-spelling flag empty missing nought make final a b written at fits =
     row-spelling flag (make a b) final (Pair empty missing nought make) (two a b) written at (pair-back empty missing nought make a b fits.0 fits.1)
 
-chosen-spelling : (flag : Bool) (of : Enumeration) (a : Action) (final n : ℕ) → text a ≡ 27 ∷ 91 ∷ (unless_default 0 n ++ final ∷ []) → form_of final ≡ Some (Choice of)
+chosen-spelling : (flag : Bool) (of : Enumeration) (a : Action) (final n : ℕ) → text a ≡ 27 ∷ 91 ∷ (unless_default 0 n ++ final ∷ []) → plain_form final ≡ Some (Choice of)
     → Numbered of n a → Spelling flag a
 chosen-spelling flag of a final n written at h = row-spelling flag a final (Choice of) (unless_default 0 n) written at (choice-back of n a h)
 
@@ -187,7 +191,7 @@ cursor-spelling flag (cursor.SetLeftAndRightMargins a b) range ok = columns-spel
 cursor-spelling flag cursor.SaveCursor range ok = row-spelling flag _ 115 _ [] refl refl (empty-back _ _ refl)
 cursor-spelling flag cursor.RestoreCursor range ok = row-spelling flag _ 117 _ [] refl refl (empty-back _ _ refl)
 cursor-spelling flag cursor.RequestActivePositionReport range ok =
-    row-spelling flag _ 110 _ (54 ∷ []) refl refl (record { list = Integer (pos 6) ∷ []; written = refl; spellable = (number-spellable 6 (omega arith), tt, tt); found = refl })
+    row-spelling flag _ 110 _ (54 ∷ []) refl refl (record { list = Integer (pos 6) ∷ []; plain = refl; written = refl; spellable = (number-spellable 6 (omega arith), tt, tt); found = refl })
 cursor-spelling flag (cursor.CursorStyle c) range ok =
     row-spelling flag _ 113 (Spaced CursorStyles) (decimal (cursor_style_number c) ++ codes " ") refl refl (spaced-back CursorStyles (cursor_style_number c) _ (c, refl, refl))
 

@@ -1,8 +1,8 @@
 -- The action of a list that is read whole: by the relation, and by the function that computes it.
-use Rattle.std.proofs.Common.{◌≡◌, ℕ, suc, List, [], ◌∷◌, Option, None, Some, refl, sym, ap, ◌∙◌, inl, inr, arith, rules, pos}
-use Rattle.std.specs.Prelude.{ℤ, ◌==◌, true, false, Bool, option_and_then, negsuc, if◌then◌else◌}
+use Rattle.std.proofs.Common.{◌≡◌, ℕ, suc, List, [], ◌∷◌, ◌++◌, Option, None, Some, refl, sym, ap, ◌∙◌, inl, inr, arith, rules, pos}
+use Rattle.std.specs.Prelude.{ℤ, ◌==◌, true, Bool, option_and_then, negsuc, if◌then◌else◌}
 use Rattle.std.specs.List.{AllByRecursion, Contains}
-use Rattle.std.specs.Option.{option_map, option_or}
+use Rattle.std.specs.Option.{option_or}
 use Rattle.std.proofs.lemmas.Bool.{cases_Bool, eqb-true}
 use Rattle.std.proofs.lemmas.List.Elements.{All-contains, All-from_recursion, Contains-append_left, Contains-append_right}
 use Rattle.std.proofs.lemmas.Option.{same_Some}
@@ -11,13 +11,11 @@ use Rattle.csicodec_base.specs.declared.param.CsiParam.TheVariants.{Integer, P}
 use Rattle.csicodec_base.specs.OneBased.{number_or}
 use Rattle.csicodec.specs.Actions.{Action}
 use Rattle.csicodec.specs.Lists.{single, halves, slot_value, slot_number}
-use Rattle.csicodec.specs.Whole.{Enumeration, Form, Count, Pair, Choice, Spaced, Empty, Number, Reads, Row, cursor_rows, edit_rows, whole_rows, Whole}
-use Rattle.csicodec.specs.WholeBy.{count, both, pair, number_in, spaced_number, numbered, only_empty, only_number, read, form_in, cursor_form, edit_form, whole}
+use Rattle.csicodec.specs.Whole.{Enumeration, Form, Count, Pair, Choice, Spaced, Empty, Number, Query, KeyMode, Reads, Row, cursor_rows, edit_rows, mode_rows, whole_rows, Whole}
+use Rattle.csicodec.specs.WholeBy.{count, both, pair, number_in, spaced_number, numbered, only_empty, only_number, read, form_in, cursor_form, edit_form, mode_form, form_of, whole}
 use Rattle.csicodec.proofs.Enumerations.{numbered-is, is-numbered, none-below}
-
-pub map-some : {A B : Type 0} (f : A → B) (o : Option A) (b : B) → option_map f o ≡ Some b → (a : A) × (o ≡ Some a) × (f a ≡ b)
-map-some f None b e = cc
-map-some f (Some a) b e = (a, refl, same_Some _ _ e)
+use Rattle.csicodec.proofs.Found.{map-some, guarded}
+use Rattle.csicodec.proofs.ModeLists.{query-is, is-query, key_mode-is, is-key_mode}
 
 pub both-some : (x y : Option ℕ) (p : ℕ × ℕ) → both x y ≡ Some p → (x ≡ Some p.0) × (y ≡ Some p.1)
 both-some (Some a) (Some b) p e =
@@ -25,10 +23,6 @@ both-some (Some a) (Some b) p e =
     (ap (λ (q : ℕ × ℕ). Some q.0) same, ap (λ (q : ℕ × ℕ). Some q.1) same)
 both-some (Some a) None p e = cc
 both-some None b p e = cc
-
-guarded : {X : Type 0} (b : Bool) (x : Option X) (y : X) → (if b then x else None) ≡ Some y → (b ≡ true) × (x ≡ Some y)
-guarded true x y e = (refl, e)
-guarded false x y e = cc
 
 -- ---- from the shapes to the function
 
@@ -63,6 +57,8 @@ read-is (Number n only) list a h = rw (h.0, h.1) (here (n == n) (eqb-refl n))
 
     here : (b : Bool) → b ≡ true → (if b then Some only else None) ≡ Some only
     here b e = rw e refl
+read-is Query list a h = query-is list a h
+read-is KeyMode list a h = key_mode-is list a h
 
 -- ---- from the function to the shapes
 
@@ -146,15 +142,14 @@ is-read (Spaced of) list a e =
     let at = at-number of (spaced_number list) a e in (at.0, spaced-list list (pos at.0) at.1, is-numbered of at.0 a at.2)
 is-read (Empty only) list a e = empty-list only list a e
 is-read (Number n only) list a e = number-list n only list a e
+is-read Query list a e = is-query list a e
+is-read KeyMode list a e = is-key_mode list a e
 
 -- ---- the row of a final
 
-abbrev pub form_of : ℕ → Option Form
-form_of final = option_or (cursor_form final) (edit_form final)
-
 -- each final has one row
 rows-own : AllByRecursion (λ (r : Row). form_of r.final ≡ Some r.form) whole_rows
-unfolding cursor_form edit_form
+unfolding cursor_form edit_form mode_form
 rows-own = search rules depth 60
 
 own-form : (r : Row) → Contains whole_rows r → form_of r.final ≡ Some r.form
@@ -167,7 +162,7 @@ pub record RowOf (rows : List Row) (final : ℕ) (form : Form) : Type 0 where
   pub before : row.final ≡ final
   pub same : row.form ≡ form
 
-row-of : (rows : List Row) (final : ℕ) (form : Form) → form_in rows final ≡ Some form → RowOf rows final form
+pub row-of : (rows : List Row) (final : ℕ) (form : Form) → form_in rows final ≡ Some form → RowOf rows final form
 row-of [] final form e = cc
 row-of (r ∷ rows) final form e = elim (cases_Bool (final == r.final)) [
   | inl here ↦
@@ -178,19 +173,22 @@ row-of (r ∷ rows) final form e = elim (cases_Bool (final == r.final)) [
       record { row = q.row; listed = (suc q.listed.0, (let l = q.listed.1 in omega arith), q.listed.2); before = q.before; same = q.same }
 ]
 
+-- the row that a table finds, or else the tables behind it
+pub row-of-first : (rows others : List Row) (other : Option Form) (final : ℕ) (form : Form) → (other ≡ Some form → RowOf others final form) → (o : Option Form) → form_in rows final ≡ o
+    → option_or o other ≡ Some form → RowOf (rows ++ others) final form
+row-of-first rows others other final form later (Some f) at e =
+    let q = row-of rows final form (at ∙ e) in
+    record { row = q.row; listed = Contains-append_left rows others q.row q.listed; before = q.before; same = q.same }
+row-of-first rows others other final form later None at e =
+    let q = later e in
+    record { row = q.row; listed = Contains-append_right rows others q.row q.listed; before = q.before; same = q.same }
+
 pub row-of-form : (final : ℕ) (form : Form) → form_of final ≡ Some form → RowOf whole_rows final form
-unfolding cursor_form edit_form
-row-of-form final form e = go (form_in cursor_rows final) refl
-  where
-    go : (o : Option Form) → form_in cursor_rows final ≡ o → RowOf whole_rows final form
-    go (Some f) at =
-        let found : Some f ≡ Some form = rw at at e in
-        let q = row-of cursor_rows final form (at ∙ found) in
-        record { row = q.row; listed = Contains-append_left cursor_rows edit_rows q.row q.listed; before = q.before; same = q.same }
-    go None at =
-        let found : form_in edit_rows final ≡ Some form = rw at at e in
-        let q = row-of edit_rows final form found in
-        record { row = q.row; listed = Contains-append_right cursor_rows edit_rows q.row q.listed; before = q.before; same = q.same }
+unfolding cursor_form edit_form mode_form
+row-of-form final form e =
+    row-of-first cursor_rows (edit_rows ++ mode_rows) (option_or (form_in edit_rows final) (form_in mode_rows final)) final form
+    (row-of-first edit_rows mode_rows (form_in mode_rows final) final form (row-of mode_rows final form) (form_in edit_rows final) refl)
+    (form_in cursor_rows final) refl e
 
 -- ---- both ways
 

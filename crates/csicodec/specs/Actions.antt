@@ -4,6 +4,7 @@ use Rattle.csicodec_base.specs.declared.param.CsiParam.{CsiParam}
 use Rattle.csicodec_base.specs.declared.sgr.Sgr as sgr_type
 use Rattle.csicodec.specs.declared.actions.cursor.Cursor as cursor_type
 use Rattle.csicodec.specs.declared.actions.edit.Edit as edit_type
+use Rattle.csicodec.specs.declared.actions.mode.Mode as mode_type
 use Rattle.csicodec.specs.declared.actions.Unspecified as unspecified_type
 use Rattle.csicodec.specs.declared.actions.CSI.{CSI}
 use Rattle.csicodec.specs.declared.actions.CSI.TheVariants as csi
@@ -13,6 +14,7 @@ pub data Action : Type 0 where
   Sgr : sgr_type.Sgr → Action
   Cursor : cursor_type.Cursor → Action
   Edit : edit_type.Edit → Action
+  Mode : mode_type.Mode → Action
   Unspecified : (params : List CsiParam) (parameters_truncated : Bool) (control : ℕ) → Action
 
 abbrev pub unspecified_of : unspecified_type.Unspecified → Action
@@ -22,6 +24,7 @@ abbrev pub action_of : CSI → Action
 action_of (csi.Sgr s) = Sgr s
 action_of (csi.Cursor c) = Cursor c
 action_of (csi.Edit e) = Edit e
+action_of (csi.Mode m) = Mode m
 action_of (csi.Unspecified u) = unspecified_of u.value
 
 -- the actions whose values hold memory
@@ -29,4 +32,5 @@ abbrev pub TakesMemory : Action → Type 0
 TakesMemory (Sgr s) = ⊥
 TakesMemory (Cursor c) = ⊥
 TakesMemory (Edit e) = ⊥
+TakesMemory (Mode m) = ⊥
 TakesMemory (Unspecified params flag final) = Unit {0}

@@ -6,6 +6,8 @@ pub mod EscTexts
 pub mod Groups
 pub mod Lists
 pub mod Look
+pub mod Modes
+pub mod ModesBy
 pub mod Parts
 pub mod Place
 pub mod Progress
@@ -24,6 +26,7 @@ pub use Rattle.csicodec_base.specs.EnumNumbers
 pub use Rattle.csicodec_base.specs.Esc
 pub use Rattle.csicodec_base.specs.EscCodes
 pub use Rattle.csicodec_base.specs.Fault
+pub use Rattle.csicodec_base.specs.ModeNumbers
 pub use Rattle.csicodec_base.specs.Numbers
 pub use Rattle.csicodec_base.specs.OneBased
 pub use Rattle.csicodec_base.specs.Palette

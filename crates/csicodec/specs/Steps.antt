@@ -1,30 +1,45 @@
 -- What the private steps of a run say to each other: the actions by a function that computes them. Nothing public rests on this
 -- file: that it gives the actions of the segmentation is proved.
-use Rattle.std.specs.Prelude.{ℕ, zero, suc, pred, ◌≡◌, ◌≤◌, ◌<◌, ◌+◌, ◌-◌, ◌*◌, ◌==◌, Bool, true, false, List, [], ◌∷◌, length, drop, slice_get, Option, Some, None, unwrap_or, if◌then◌else◌}
+use Rattle.std.specs.Prelude.{ℕ, ℤ, zero, suc, pred, ◌≡◌, ◌≤◌, ◌<◌, ◌+◌, ◌-◌, ◌*◌, ◌==◌, Bool, true, false, List, [], ◌∷◌, length, drop, slice_get, Option, Some, None, option_and_then, unwrap_or, if◌then◌else◌}
 use Rattle.csicodec_base.specs.declared.param.CsiParam.{CsiParam}
 use Rattle.csicodec_base.specs.declared.param.CsiParam.TheVariants.{Integer, P}
 use Rattle.csicodec_base.specs.declared.sgr.Sgr as sgr_type
-use Rattle.csicodec_base.specs.declared.sgr.Sgr.TheVariants as sgr
 use Rattle.csicodec_base.specs.FrontBy.{piece}
 use Rattle.csicodec.specs.declared.group.Group.{Group}
-use Rattle.csicodec.specs.declared.group.Group.TheVariants.{Whole, Styles}
+use Rattle.csicodec.specs.declared.group.Group.TheVariants.{Whole, Styles, Modes, DecModes}
 use Rattle.csicodec.specs.declared.parser.Stage.{Stage}
 use Rattle.csicodec.specs.declared.parser.Stage.TheVariants.{Fresh, Going, Failed}
 use Rattle.csicodec.specs.declared.actions.CSI.{CSI}
-use Rattle.csicodec.specs.Actions.{Action, Sgr, Unspecified, action_of}
-use Rattle.csicodec.specs.Groups.{group, is_odd, has_odd}
-use Rattle.csicodec.specs.Cut.{IsRestAfter}
+use Rattle.csicodec.specs.Actions.{Action, Sgr, Mode, Unspecified, action_of}
+use Rattle.csicodec.specs.Groups.{group, start, marked, is_odd, has_odd}
+use Rattle.csicodec.specs.Cut.{body, IsRestAfter}
+use Rattle.csicodec.specs.Modes.{changed, switched}
+use Rattle.csicodec.specs.ModesBy.{dec_mode, terminal_mode}
 use Rattle.csicodec.specs.Progress.{Progress}
+use Rattle.csicodec.specs.Segments.{empty_action}
 use Rattle.csicodec.specs.WholeBy.{whole}
 
 abbrev pub styled : Option (sgr_type.Sgr × ℕ) → Option (Action × ℕ)
 styled None = None
 styled (Some p) = Some (Sgr p.0, p.1)
 
+-- the number at the front
+abbrev pub number_at : List CsiParam → Option ℤ
+number_at [] = None
+number_at (Integer z ∷ ts) = Some z
+number_at (P b ∷ ts) = None
+
+-- one token, of this action
+abbrev pub one_token : {M : Type 0} → (M → Action) → Option M → Option (Action × ℕ)
+one_token make None = None
+one_token make (Some m) = Some (make m, 1)
+
 -- the piece at the front, and its number of tokens
 abbrev pub front : Group → List CsiParam → Option (Action × ℕ)
-front Styles rest = styled (piece rest)
 front Whole rest = None
+front Styles rest = styled (piece rest)
+front (Modes s) rest = one_token (λ m. Mode (switched s m)) (option_and_then terminal_mode (number_at rest))
+front (DecModes c) rest = one_token (λ m. Mode (changed c m)) (option_and_then dec_mode (number_at rest))
 
 -- what was found, as an action
 abbrev pub found : Option (CSI × ℕ) → Option (Action × ℕ)
@@ -60,24 +75,29 @@ segments g unknown (t ∷ ts) zero = segments_at unknown (t ∷ ts) (segments g 
 
 -- the actions of what is left of a list that is cut
 abbrev pub actions_after : Group → Bool → ℕ → List CsiParam → List Action
-actions_after g flag final rest = segments g (λ l. Unspecified l flag final) rest 0
+actions_after g flag final rest = segments g (λ l. Unspecified (marked g l) flag final) rest 0
 
-abbrev pub style_actions : List CsiParam → Bool → ℕ → List Action
-style_actions [] flag final = Sgr sgr.Reset ∷ []
-style_actions (t ∷ ts) flag final = if has_odd (t ∷ ts) then Unspecified (t ∷ ts) flag final ∷ [] else actions_after Styles flag final (t ∷ ts)
+abbrev pub body_actions : Group → List CsiParam → Bool → ℕ → List CsiParam → List Action
+body_actions g list flag final [] = empty_action g list flag final ∷ []
+body_actions g list flag final (t ∷ ts) = actions_after g flag final (t ∷ ts)
+
+abbrev pub cut_actions : Group → List CsiParam → Bool → ℕ → List Action
+cut_actions g list flag final = if has_odd g list then Unspecified list flag final ∷ [] else body_actions g list flag final (body g list)
 
 abbrev pub actions_in : Group → List CsiParam → Bool → ℕ → List Action
-actions_in Styles list flag final = style_actions list flag final
 actions_in Whole list flag final = unwrap_or (whole list final) (Unspecified list flag final) ∷ []
+actions_in Styles list flag final = cut_actions Styles list flag final
+actions_in (Modes s) list flag final = cut_actions (Modes s) list flag final
+actions_in (DecModes c) list flag final = cut_actions (DecModes c) list flag final
 
 -- all actions of a list before a final character
 abbrev pub actions : List CsiParam → Bool → ℕ → List Action
 actions list flag final = actions_in (group list final) list flag final
 
 -- whether a token is there, and is an odd byte
-abbrev pub is_odd_at : Option CsiParam → Bool
-is_odd_at None = false
-is_odd_at (Some t) = is_odd t
+abbrev pub is_odd_at : Group → Option CsiParam → Bool
+is_odd_at g None = false
+is_odd_at g (Some t) = is_odd g t
 
 -- ---- what a stage of a run says
 
@@ -87,7 +107,7 @@ left_at Fresh flag final list passed = actions list flag final
 left_at (Going g) flag final list passed = actions_after g flag final (drop passed list)
 left_at Failed flag final list passed = []
 
--- the first call may look at each token once, for odd bytes
+-- the first call looks at the first token for the group, and may look at each token once for odd bytes
 abbrev pub fresh_cost : Stage → ℕ
 fresh_cost Fresh = 1
 fresh_cost (Going g) = 0
@@ -98,6 +118,12 @@ abbrev pub GoesBy : Stage → List CsiParam → ℕ → Group → Type 0
 GoesBy Fresh list final g = g ≡ group list final
 GoesBy (Going h) list final g = g ≡ h
 GoesBy Failed list final g = ⊥
+
+-- where the next block begins
+abbrev pub from_at : Stage → Group → ℕ → ℕ
+from_at Fresh g passed = start g
+from_at (Going h) g passed = passed
+from_at Failed g passed = passed
 
 -- nothing was read, or there are tokens left
 abbrev pub CanGo : Stage → ℕ → ℕ → Type 0
@@ -124,10 +150,10 @@ Stands Fresh p = (p.given ≡ 0) × (p.passed ≡ 0) × (p.looks ≡ 0)
 Stands (Going g) p =
     (g ≡ group p.list p.final)
     × (drop p.given (all_of p) ≡ left_at (Going g) p.flag p.final p.list p.passed)
-    × (p.looks ≤ length p.list + 107 * p.passed)
+    × (p.looks ≤ 1 + length p.list + 107 * p.passed)
     × (p.passed < length p.list → IsRestAfter p.list p.final p.given (drop p.passed p.list))
     × (0 < p.given)
-Stands Failed p = p.looks ≤ 108 * length p.list
+Stands Failed p = p.looks ≤ 1 + 108 * length p.list
 
 pub record Sound (stage : Stage) (p : Progress) : Type 0 where
   pub within : p.passed ≤ length p.list

@@ -1,5 +1,5 @@
 -- The actions of lists that are read whole, as a table: each row is a final character and the form of the lists before it.
-use Rattle.std.specs.Prelude.{◌≡◌, ℕ, List, [], ◌∷◌, ◌++◌, Option, Some, pos}
+use Rattle.std.specs.Prelude.{◌≡◌, ◌⊎◌, ℕ, ℤ, List, [], ◌∷◌, ◌++◌, Option, Some, None, pos}
 use Rattle.std.specs.List.{Contains}
 use Rattle.csicodec_base.specs.declared.param.CsiParam.{CsiParam}
 use Rattle.csicodec_base.specs.declared.param.CsiParam.TheVariants.{Integer, P}
@@ -12,8 +12,14 @@ use Rattle.csicodec_base.specs.EnumNumbers.{cursor_style_number, erase_in_displa
 use Rattle.csicodec_base.specs.OneBased.{most}
 use Rattle.csicodec.specs.declared.actions.cursor.Cursor.TheVariants as cursor
 use Rattle.csicodec.specs.declared.actions.edit.Edit.TheVariants as edit
-use Rattle.csicodec.specs.Actions.{Action, Cursor, Edit}
+use Rattle.csicodec.specs.declared.actions.mode.DecPrivateMode.{DecPrivateMode}
+use Rattle.csicodec.specs.declared.actions.mode.Mode.TheVariants as mode
+use Rattle.csicodec.specs.declared.actions.mode.TerminalMode.{TerminalMode}
+use Rattle.csicodec.specs.declared.actions.mode.XtermKeyModifierResource.{XtermKeyModifierResource}
+use Rattle.csicodec.specs.Actions.{Action, Cursor, Edit, Mode}
+use Rattle.csicodec.specs.Cut.{semicolon}
 use Rattle.csicodec.specs.Lists.{single, halves, slot_value, slot_number}
+use Rattle.csicodec.specs.Modes.{IsDecMode, IsTerminalMode, resource_number}
 
 -- an enumeration whose number stands as a parameter
 pub data Enumeration : Type 0 where
@@ -32,7 +38,8 @@ Numbered ErasesInDisplay n action = (c : EraseInDisplay) × (n ≡ erase_in_disp
 Numbered ErasesInLine n action = (c : EraseInLine) × (n ≡ erase_in_line_number c) × (action ≡ Edit (edit.EraseInLine c))
 
 -- The form of the lists before a final character: one count; two halves, what the empty list gives, and what a second half counts as
--- where it is left out, and where it is 0; a number of an enumeration; the same, and a space; no token; this number.
+-- where it is left out, and where it is 0; a number of an enumeration; the same, and a space; no token; this number; a question for a mode;
+-- what modified keys send.
 pub data Form : Type 0 where
   Count : (ℕ → Action) → Form
   Pair : (empty : Action) (missing nought : ℕ) (make : ℕ → ℕ → Action) → Form
@@ -40,6 +47,25 @@ pub data Form : Type 0 where
   Spaced : Enumeration → Form
   Empty : Action → Form
   Number : ℕ → Action → Form
+  Query : Form
+  KeyMode : Form
+
+-- `n $` asks for a mode, and `? n $` for a private one
+abbrev pub Asks : List CsiParam → Action → Type 0
+Asks list action =
+    ((n : ℕ) × (m : TerminalMode) × (list ≡ Integer (pos n) ∷ P 36 ∷ []) × IsTerminalMode n m × (action ≡ Mode (mode.QueryMode m)))
+    ⊎ ((n : ℕ) × (m : DecPrivateMode) × (list ≡ P 63 ∷ Integer (pos n) ∷ P 36 ∷ []) × IsDecMode n m × (action ≡ Mode (mode.QueryDecPrivateMode m)))
+
+-- behind the resource: nothing or a `;`, without a value, or a `;` and a value
+abbrev pub IsValue : Option ℤ → List CsiParam → Type 0
+IsValue None tail = (tail ≡ []) ⊎ (tail ≡ semicolon ∷ [])
+IsValue (Some z) tail = tail ≡ semicolon ∷ Integer z ∷ []
+
+-- `> a`, `> a ;` and `> a ; b`
+abbrev pub SetsKeys : List CsiParam → Action → Type 0
+SetsKeys list action =
+    (resource : XtermKeyModifierResource) × (value : Option ℤ) × (tail : List CsiParam)
+    × (list ≡ P 62 ∷ Integer (pos (resource_number resource)) ∷ tail) × IsValue value tail × (action ≡ Mode (mode.XtermKeyMode resource value))
 
 -- the form has a shape that is the whole list, what stands in its slots is in range, and this is the action
 abbrev pub Reads : Form → List CsiParam → Action → Type 0
@@ -54,6 +80,8 @@ Reads (Choice of) list action =
 Reads (Spaced of) list action = (n : ℕ) × (list ≡ Integer (pos n) ∷ P 32 ∷ []) × Numbered of n action
 Reads (Empty only) list action = (list ≡ []) × (action ≡ only)
 Reads (Number n only) list action = (list ≡ Integer (pos n) ∷ []) × (action ≡ only)
+Reads Query list action = Asks list action
+Reads KeyMode list action = SetsKeys list action
 
 pub record Row : Type 0 where
   pub final : ℕ
@@ -106,8 +134,12 @@ edit_rows =
     ∷ row 75 (Choice ErasesInLine)
     ∷ []
 
+-- before p, and before m where the list begins with `>`
+abbrev pub mode_rows : List Row
+mode_rows = row 112 Query ∷ row 109 KeyMode ∷ []
+
 abbrev pub whole_rows : List Row
-whole_rows = cursor_rows ++ edit_rows
+whole_rows = cursor_rows ++ (edit_rows ++ mode_rows)
 
 -- the row of the final character reads the list, and this is its action
 pub record Whole (list : List CsiParam) (final : ℕ) (action : Action) : Type 0 where

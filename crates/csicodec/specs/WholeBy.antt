@@ -17,7 +17,8 @@ use Rattle.csicodec_base.specs.OneBased.{number_or}
 use Rattle.csicodec.specs.declared.actions.cursor.Cursor.TheVariants as cursor
 use Rattle.csicodec.specs.declared.actions.edit.Edit.TheVariants as edit
 use Rattle.csicodec.specs.Actions.{Action, Cursor, Edit}
-use Rattle.csicodec.specs.Whole.{Enumeration, CursorStyles, TabulationControls, TabulationClears, ErasesInDisplay, ErasesInLine, Form, Count, Pair, Choice, Spaced, Empty, Number, Row, cursor_rows, edit_rows}
+use Rattle.csicodec.specs.ModesBy.{query, key_mode}
+use Rattle.csicodec.specs.Whole.{Enumeration, CursorStyles, TabulationControls, TabulationClears, ErasesInDisplay, ErasesInLine, Form, Count, Pair, Choice, Spaced, Empty, Number, Query, KeyMode, Row, cursor_rows, edit_rows, mode_rows}
 
 -- ---- the variants in the order of their numbers
 
@@ -133,6 +134,8 @@ read (Choice of) list = option_and_then (numbered of) (number_in list)
 read (Spaced of) list = option_and_then (numbered of) (spaced_number list)
 read (Empty a) list = only_empty a list
 read (Number k a) list = only_number k a list
+read Query list = query list
+read KeyMode list = key_mode list
 
 -- the form of a final character
 abbrev pub form_in : List Row → ℕ → Option Form
@@ -145,10 +148,16 @@ cursor_form final = form_in cursor_rows final
 unfoldable pub edit_form : ℕ → Option Form
 edit_form final = form_in edit_rows final
 
+unfoldable pub mode_form : ℕ → Option Form
+mode_form final = form_in mode_rows final
+
+abbrev pub form_of : ℕ → Option Form
+form_of final = option_or (cursor_form final) (option_or (edit_form final) (mode_form final))
+
 abbrev pub read_by : Option Form → List CsiParam → Option Action
 read_by None list = None
 read_by (Some form) list = read form list
 
 -- the action of a list that is read whole
 abbrev pub whole : List CsiParam → ℕ → Option Action
-whole list final = read_by (option_or (cursor_form final) (edit_form final)) list
+whole list final = read_by (form_of final) list

@@ -4,16 +4,19 @@ ghost use Rattle.csicodec.specs.Actions.{action_of, unspecified_of, TakesMemory}
 
 mod cursor;
 mod edit;
+mod mode;
 
 use csicodec_base::{CsiParam, Sgr};
 pub use cursor::Cursor;
 pub use edit::Edit;
+pub(crate) use mode::{Change, Switch};
+pub use mode::{DecPrivateMode, Mode, TerminalMode, XtermKeyModifierResource};
 use std::alloc::{AllocError, Global};
 
 /// A parameter list, or what is left of one, that none of the rules reads: nothing of it is lost.
 #[derive(Debug, Drop, PartialEq, Eq)]
 pub struct Unspecified {
-    /// The tokens, as they came.
+    /// The tokens, as they came. What is left behind private modes has a `?` ahead of it, so that its text means the same.
     pub params: Vec<CsiParam>,
     /// What the caller of the parser said: whether the layer below had to drop parameters.
     pub parameters_truncated: bool,
@@ -34,7 +37,8 @@ impl Unspecified {
     }
 }
 
-/// One action of a control sequence (ECMA-48, 5.4). A sequence before `m` can stand for several.
+/// One action of a control sequence (ECMA-48, 5.4). A sequence before `m`, `h`, `l`, and one
+/// of private modes, can stand for several.
 #[derive(Debug, Drop, PartialEq, Eq)]
 pub enum CSI {
     /// SGR, select graphic rendition: an attribute of the text that follows.
@@ -43,6 +47,8 @@ pub enum CSI {
     Cursor(Cursor),
     /// Inserting, deleting, erasing and scrolling.
     Edit(Edit),
+    /// Setting, resetting, saving, restoring and asking for modes.
+    Mode(Mode),
     /// What none of the rules reads.
     Unspecified(Box<Unspecified>),
 }
@@ -57,6 +63,7 @@ impl CSI {
             CSI::Sgr(sgr) => CSI::Sgr(*sgr),
             CSI::Cursor(cursor) => CSI::Cursor(*cursor),
             CSI::Edit(edit) => CSI::Edit(*edit),
+            CSI::Mode(mode) => CSI::Mode(*mode),
             CSI::Unspecified(unspecified) => {
                 let copy = (**unspecified).clone(alloc)?;
                 CSI::Unspecified(Box::new(alloc, copy)?)

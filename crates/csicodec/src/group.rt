@@ -1,10 +1,11 @@
 //! Which rules a list falls under, and the pieces at its front.
-ghost use Rattle.std.specs.Prelude.{◌≡◌, ◌<◌, ◌≤◌, List, length, take, IfSome};
+ghost use Rattle.std.specs.Prelude.{◌≡◌, ◌<◌, ◌≤◌, List, length, take, option_and_then, IfSome};
 ghost use Rattle.csicodec_base.specs.declared.param.CsiParam.{CsiParam};
-ghost use Rattle.csicodec.specs.Groups.{group};
-ghost use Rattle.csicodec.specs.Steps.{found, front, is_odd_at};
+ghost use Rattle.csicodec.specs.Groups.{group_by, start};
+ghost use Rattle.csicodec.specs.ModesBy.{dec_mode, terminal_mode};
+ghost use Rattle.csicodec.specs.Steps.{found, front, is_odd_at, number_at};
 
-use crate::actions::CSI;
+use crate::actions::{CSI, Change, DecPrivateMode, Switch, TerminalMode};
 use csicodec_base::{CsiParam, sgr_front};
 
 /// How a list is read.
@@ -14,27 +15,53 @@ pub(crate) enum Group {
     Whole,
     /// In pieces, each an attribute of text.
     Styles,
+    /// In pieces, each the number of a mode.
+    Modes(Switch),
+    /// After a `?` in pieces, each the number of a private mode.
+    DecModes(Change),
 }
 
 impl Group {
-    /// The group of a list before this final character.
-    pub(crate) fn of(control: char) -> Group
-        ensures { (list : List CsiParam) → result ≡ group list control }
+    /// The group of a list with this first token, before this final character.
+    pub(crate) fn of(first: Option<CsiParam>, control: char) -> Group
+        ensures { result ≡ group_by first control }
     {
+        let private = matches!(first, Some(CsiParam::P(b'?')));
         match control {
+            'm' if matches!(first, Some(CsiParam::P(b'>'))) => Group::Whole,
             'm' => Group::Styles,
+            'h' if private => Group::DecModes(Change::Set),
+            'l' if private => Group::DecModes(Change::Reset),
+            's' if private => Group::DecModes(Change::Save),
+            'r' if private => Group::DecModes(Change::Restore),
+            'h' => Group::Modes(Switch::Set),
+            'l' => Group::Modes(Switch::Reset),
             _ => Group::Whole,
         }
     }
-}
 
-/// Whether a token is there, and is a byte other than `;`, `:` and `?`.
-pub(crate) fn is_odd(token: Option<CsiParam>) -> bool
-    ensures { result ≡ is_odd_at token }
-{
-    match token {
-        Some(CsiParam::P(byte)) => !matches!(byte, b';' | b':' | b'?'),
-        Some(CsiParam::Integer(_)) | None => false,
+    /// How many tokens stand before the pieces.
+    pub(crate) fn start(self) -> usize
+        ensures { result ≡ start self }
+    {
+        match self {
+            Group::DecModes(_) => 1,
+            Group::Whole | Group::Styles | Group::Modes(_) => 0,
+        }
+    }
+
+    /// Whether a token is there, and is a byte that makes the whole list unknown.
+    pub(crate) fn is_odd(self, token: Option<CsiParam>) -> bool
+        ensures { result ≡ is_odd_at self token }
+    {
+        match token {
+            Some(CsiParam::P(byte)) => match self {
+                Group::Styles => !matches!(byte, b';' | b':' | b'?'),
+                Group::Modes(_) => byte == b'?',
+                Group::Whole | Group::DecModes(_) => false,
+            },
+            Some(CsiParam::Integer(_)) | None => false,
+        }
     }
 }
 
@@ -49,5 +76,29 @@ pub(crate) fn front(group: Group, rest: &[CsiParam]) -> Option<(CSI, usize)>
             let (sgr, len) = sgr_front(rest)?;
             Some((CSI::Sgr(sgr), len))
         }
+        Group::Modes(switch) => Some((CSI::Mode(switch.of(terminal_mode_at(rest)?)), 1)),
+        Group::DecModes(change) => Some((CSI::Mode(change.of(dec_mode_at(rest)?)), 1)),
+    }
+}
+
+/// The mode whose number stands at the front.
+fn terminal_mode_at(rest: &[CsiParam]) -> Option<TerminalMode>
+    ensures is { result ≡ option_and_then terminal_mode (number_at rest.now) }
+    ensures some { IfSome result (λ m. 0 < length rest.now) }
+{
+    match rest {
+        [CsiParam::Integer(number), ..] => TerminalMode::at(*number),
+        _ => None,
+    }
+}
+
+/// The private mode whose number stands at the front.
+fn dec_mode_at(rest: &[CsiParam]) -> Option<DecPrivateMode>
+    ensures is { result ≡ option_and_then dec_mode (number_at rest.now) }
+    ensures some { IfSome result (λ m. 0 < length rest.now) }
+{
+    match rest {
+        [CsiParam::Integer(number), ..] => DecPrivateMode::at(*number),
+        _ => None,
     }
 }

@@ -19,7 +19,8 @@ pub fn segmentation(params: &[CsiParam], parameters_truncated: bool, control: ch
     ensures count { (actions : List Action) → Actions params.now parameters_truncated control actions → (0 < length actions) × (length actions ≤ max 1 (length params.now)) }
 {}
 
-/// An unknown action that parsing makes is the last one, has the flag and the final character, and holds a suffix of the list.
+/// An unknown action that parsing makes is the last one, has the flag and the final character, and holds a suffix of the list,
+/// or, behind a private mode, `?` and then a suffix.
 pub fn suffix(params: &[CsiParam], parameters_truncated: bool, control: char)
     ensures { SuffixLaw params.now parameters_truncated control }
 {}

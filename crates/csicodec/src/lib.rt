@@ -15,13 +15,15 @@ mod stream;
 mod tokens;
 mod whole;
 
-pub use actions::{CSI, Cursor, Edit, Unspecified};
+pub use actions::{
+    CSI, Cursor, DecPrivateMode, Edit, Mode, TerminalMode, Unspecified, XtermKeyModifierResource,
+};
 pub use count::Count;
 pub use csicodec_base::{
     AnsiColor, Blink, ColorSpec, CsiParam, CsiTail, CursorStyle, CursorTabulationControl,
-    EraseInDisplay, EraseInLine, Esc, EscCode, Font, Intensity, NotSpelled, OneBased, ReadCsi,
-    ReadError, Sgr, SgrCode, SrgbaTuple, TabulationClear, Text, Underline, VerticalAlign, read_csi,
-    read_csi_into, sgr_front,
+    DecPrivateModeCode, EraseInDisplay, EraseInLine, Esc, EscCode, Font, Intensity, NotSpelled,
+    OneBased, ReadCsi, ReadError, Sgr, SgrCode, SrgbaTuple, TabulationClear, TerminalModeCode,
+    Text, Underline, VerticalAlign, read_csi, read_csi_into, sgr_front,
 };
 pub use look::Look;
 pub use parser::{CSIParser, Run};

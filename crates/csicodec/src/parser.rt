@@ -2,14 +2,14 @@
 ghost use Rattle.std.specs.Prelude.{◌≡◌, ◌↔◌, ℕ, ◌+◌, ◌-◌, ◌*◌, ◌<◌, ◌≤◌, List, [], ◌∷◌, Some, None, unwrap_or, length, drop, map, IfOk, OnErr, OnOk, IfSome, IfNone, IsNone};
 ghost use Rattle.csicodec_base.specs.declared.param.CsiParam.{CsiParam};
 ghost use Rattle.csicodec.specs.Actions.{action_of, Unspecified as Unknown};
-ghost use Rattle.csicodec.specs.Groups.{group, has_odd};
+ghost use Rattle.csicodec.specs.Groups.{group as group_of_list, has_odd, marked, start};
 ghost use Rattle.csicodec.specs.Segments.{Actions};
 ghost use Rattle.csicodec.specs.WholeBy.{whole};
-ghost use Rattle.csicodec.specs.Steps.{with_semicolon, block, actions_after, actions_in, left_at, fresh_cost, GoesBy, CanGo, CutsOn};
+ghost use Rattle.csicodec.specs.Steps.{with_semicolon, block, actions_after, actions_in, body_actions, left_at, fresh_cost, from_at, GoesBy, CanGo, CutsOn};
 
 use crate::actions::{CSI, Unspecified};
 use crate::count::Count;
-use crate::group::{Group, front, is_odd};
+use crate::group::{Group, front};
 use crate::look::Look;
 use crate::tokens::Tokens;
 use crate::whole::whole_action;
@@ -59,17 +59,32 @@ impl<L: Look> Model for Run<L> {
 /// The parser of a slice of parameters.
 pub type CSIParser<'a> = Run<Tokens<'a>>;
 
-/// Whether a byte other than `;`, `:` and `?` is among the tokens. Each is looked at once.
-fn has_odd<L: Look>(look: &mut L) -> bool
+/// The group of the list, by one look at its first token.
+fn group_of<L: Look>(look: &mut L, control: char) -> Group
     requires { L.passed look.old ≡ 0 }
-    ensures odd { result ≡ has_odd (L.tokens look.old) }
+    ensures group { result ≡ group_of_list (L.tokens look.old) control }
+    ensures list { L.tokens look.new ≡ L.tokens look.old }
+    ensures passes { L.passed look.new ≡ 0 }
+    ensures costs { L.looks look.new ≡ L.looks look.old + 1 }
+{
+    let first = look.get(0);
+    Group::of(first, control)
+}
+
+/// Whether a byte among the tokens makes the whole list unknown. Each token is looked at once at most.
+fn has_odd<L: Look>(group: Group, look: &mut L) -> bool
+    requires { L.passed look.old ≡ 0 }
+    ensures odd { result ≡ has_odd group (L.tokens look.old) }
     ensures list { L.tokens look.new ≡ L.tokens look.old }
     ensures passes { L.passed look.new ≡ 0 }
     ensures counted { L.looks look.old ≤ L.looks look.new }
     ensures costs { L.looks look.new ≤ L.looks look.old + length (L.tokens look.old) }
 {
+    if let Group::DecModes(_) = group {
+        return false;
+    }
     for i in 0..look.len() {
-        if is_odd(look.get(i)) {
+        if group.is_odd(look.get(i)) {
             return true;
         }
     }
@@ -107,15 +122,17 @@ fn cut_block<L: Look>(group: Group, look: &mut L) -> Option<CSI>
     Some(action)
 }
 
-/// All unread tokens as one action. They are passed, unless memory is refused.
+/// All unread tokens as one action, with what stands before the pieces of the group ahead of them. They are passed,
+/// unless memory is refused.
 fn unspecified<L: Look>(
+    group: Group,
     look: &mut L,
     alloc: Global,
     truncated: bool,
     control: char,
 ) -> Result<CSI, AllocError>
     requires { L.passed look.old ≤ length (L.tokens look.old) }
-    ensures ok { IfOk result (λ action. action_of action ≡ Unknown (drop (L.passed look.old) (L.tokens look.old)) truncated control) }
+    ensures ok { IfOk result (λ action. action_of action ≡ Unknown (marked group (drop (L.passed look.old) (L.tokens look.old))) truncated control) }
     ensures all { OnOk result (L.passed look.new ≡ length (L.tokens look.new)) }
     ensures list { L.tokens look.new ≡ L.tokens look.old }
     ensures within { L.passed look.new ≤ length (L.tokens look.new) }
@@ -123,6 +140,9 @@ fn unspecified<L: Look>(
     ensures costs { L.looks look.new + 2 * L.passed look.old ≤ L.looks look.old + 2 * length (L.tokens look.old) }
 {
     let mut params = Vec::new(alloc);
+    if let Group::DecModes(_) = group {
+        params.push(CsiParam::P(b'?'))?;
+    }
     look.copy_to(&mut params)?;
     let unspecified = Unspecified {
         params,
@@ -152,7 +172,7 @@ fn whole_list<L: Look>(
 {
     let len = look.len();
     let Some(action) = whole_action(look.lend(0, len), control) else {
-        return unspecified(look, alloc, truncated, control);
+        return unspecified(Group::Whole, look, alloc, truncated, control);
     };
     look.pass(len);
     Ok(action)
@@ -167,10 +187,11 @@ fn first_action<L: Look>(
     control: char,
 ) -> Result<CSI, AllocError>
     requires passed { L.passed look.old ≡ 0 }
+    requires group { group ≡ group_of_list (L.tokens look.old) control }
     ensures ok { IfOk result (λ action. actions_in group (L.tokens look.old) truncated control ≡ action_of action ∷ actions_after group truncated control (drop (L.passed look.new) (L.tokens look.old))) }
     ensures err { OnErr result ((rest : List CsiParam) × (actions_in group (L.tokens look.old) truncated control ≡ Unknown rest truncated control ∷ [])) }
     ensures list { L.tokens look.new ≡ L.tokens look.old }
-    ensures cut { OnOk result (L.passed look.new < length (L.tokens look.new) → CutsOn group (L.tokens look.old) 0 (L.passed look.new)) }
+    ensures cut { OnOk result (L.passed look.new < length (L.tokens look.new) → CutsOn group (L.tokens look.old) (start group) (L.passed look.new)) }
     ensures within { L.passed look.new ≤ length (L.tokens look.new) }
     ensures counted { L.looks look.old ≤ L.looks look.new }
     ensures going { OnOk result (L.looks look.new ≤ L.looks look.old + length (L.tokens look.old) + 107 * L.passed look.new) }
@@ -178,9 +199,37 @@ fn first_action<L: Look>(
 {
     match group {
         Group::Whole => whole_list(look, alloc, truncated, control),
-        Group::Styles if look.len() == 0 => Ok(CSI::Sgr(Sgr::Reset)),
-        Group::Styles if has_odd(look) => unspecified(look, alloc, truncated, control),
-        Group::Styles => next_action(group, look, alloc, truncated, control),
+        _ if has_odd(group, look) => unspecified(Group::Whole, look, alloc, truncated, control),
+        _ => body_action(group, look, alloc, truncated, control),
+    }
+}
+
+/// The first action of what is cut of a list without an odd byte.
+fn body_action<L: Look>(
+    group: Group,
+    look: &mut L,
+    alloc: Global,
+    truncated: bool,
+    control: char,
+) -> Result<CSI, AllocError>
+    requires passed { L.passed look.old ≡ 0 }
+    requires start { start group ≤ length (L.tokens look.old) }
+    ensures ok { IfOk result (λ action. body_actions group (marked group (drop (start group) (L.tokens look.old))) truncated control (drop (start group) (L.tokens look.old)) ≡ action_of action ∷ actions_after group truncated control (drop (L.passed look.new) (L.tokens look.old))) }
+    ensures err { OnErr result ((rest : List CsiParam) × (body_actions group (marked group (drop (start group) (L.tokens look.old))) truncated control (drop (start group) (L.tokens look.old)) ≡ Unknown rest truncated control ∷ [])) }
+    ensures list { L.tokens look.new ≡ L.tokens look.old }
+    ensures cut { OnOk result (L.passed look.new < length (L.tokens look.new) → CutsOn group (L.tokens look.old) (start group) (L.passed look.new)) }
+    ensures within { L.passed look.new ≤ length (L.tokens look.new) }
+    ensures counted { L.looks look.old ≤ L.looks look.new }
+    ensures going { OnOk result (L.looks look.new ≤ L.looks look.old + 107 * L.passed look.new) }
+    ensures costs { L.looks look.new ≤ L.looks look.old + 107 * length (L.tokens look.old) }
+{
+    look.pass(group.start());
+    if look.len() > 0 {
+        return next_action(group, look, alloc, truncated, control);
+    }
+    match group {
+        Group::Styles => Ok(CSI::Sgr(Sgr::Reset)),
+        _ => unspecified(group, look, alloc, truncated, control),
     }
 }
 
@@ -194,7 +243,7 @@ fn next_action<L: Look>(
 ) -> Result<CSI, AllocError>
     requires { L.passed look.old < length (L.tokens look.old) }
     ensures ok { IfOk result (λ action. actions_after group truncated control (drop (L.passed look.old) (L.tokens look.old)) ≡ action_of action ∷ actions_after group truncated control (drop (L.passed look.new) (L.tokens look.old))) }
-    ensures err { OnErr result (actions_after group truncated control (drop (L.passed look.old) (L.tokens look.old)) ≡ Unknown (drop (L.passed look.old) (L.tokens look.old)) truncated control ∷ []) }
+    ensures err { OnErr result (actions_after group truncated control (drop (L.passed look.old) (L.tokens look.old)) ≡ Unknown (marked group (drop (L.passed look.old) (L.tokens look.old))) truncated control ∷ []) }
     ensures list { L.tokens look.new ≡ L.tokens look.old }
     ensures cut { OnOk result (L.passed look.new < length (L.tokens look.new) → CutsOn group (L.tokens look.old) (L.passed look.old) (L.passed look.new)) }
     ensures forward { OnOk result (L.passed look.old < L.passed look.new) }
@@ -205,7 +254,7 @@ fn next_action<L: Look>(
 {
     match cut_block(group, look) {
         Some(action) => Ok(action),
-        None => unspecified(look, alloc, truncated, control),
+        None => unspecified(group, look, alloc, truncated, control),
     }
 }
 
@@ -225,16 +274,16 @@ fn action_at<L: Look>(
     ensures ok { IfSome result (λ r. IfOk r.1 (λ action. left_at stage truncated control (L.tokens look.old) (L.passed look.old) ≡ action_of action ∷ left_at (Stage.Going r.0) truncated control (L.tokens look.old) (L.passed look.new))) }
     ensures err { IfSome result (λ r. OnErr r.1 ((rest : List CsiParam) × (left_at stage truncated control (L.tokens look.old) (L.passed look.old) ≡ Unknown rest truncated control ∷ []))) }
     ensures list { L.tokens look.new ≡ L.tokens look.old }
-    ensures cut { IfSome result (λ r. OnOk r.1 (L.passed look.new < length (L.tokens look.new) → CutsOn r.0 (L.tokens look.old) (L.passed look.old) (L.passed look.new))) }
+    ensures cut { IfSome result (λ r. OnOk r.1 (L.passed look.new < length (L.tokens look.new) → CutsOn r.0 (L.tokens look.old) (from_at stage r.0 (L.passed look.old)) (L.passed look.new))) }
     ensures forward { IfSome result (λ r. OnOk r.1 (L.passed look.old < length (L.tokens look.old) → L.passed look.old < L.passed look.new)) }
     ensures passes { L.passed look.new ≤ length (L.tokens look.new) }
     ensures counted { L.looks look.old ≤ L.looks look.new }
-    ensures going { IfSome result (λ r. OnOk r.1 (L.looks look.new + 107 * L.passed look.old ≤ L.looks look.old + length (L.tokens look.old) * fresh_cost stage + 107 * L.passed look.new)) }
-    ensures costs { L.looks look.new + 107 * L.passed look.old ≤ L.looks look.old + length (L.tokens look.old) * fresh_cost stage + 107 * length (L.tokens look.old) }
+    ensures going { IfSome result (λ r. OnOk r.1 (L.looks look.new + 107 * L.passed look.old ≤ L.looks look.old + (1 + length (L.tokens look.old)) * fresh_cost stage + 107 * L.passed look.new)) }
+    ensures costs { L.looks look.new + 107 * L.passed look.old ≤ L.looks look.old + (1 + length (L.tokens look.old)) * fresh_cost stage + 107 * length (L.tokens look.old) }
 {
     match stage {
         Stage::Fresh => {
-            let group = Group::of(control);
+            let group = group_of(look, control);
             Some((group, first_action(group, look, alloc, truncated, control)))
         }
         Stage::Going(group) if look.len() > 0 => {

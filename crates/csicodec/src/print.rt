@@ -1,10 +1,11 @@
 //! The texts of actions.
-ghost use Rattle.std.specs.Prelude.{◌≡◌, ◌+◌, ◌≤◌, ◌++◌, ◌<◌, [], ◌∷◌, Some, length};
+ghost use Rattle.std.specs.Prelude.{◌≡◌, ◌+◌, ◌≤◌, ◌++◌, ◌<◌, [], ◌∷◌, Some, IsAscii, length};
 ghost use Rattle.csicodec.specs.Actions.{action_of};
+ghost use Rattle.csicodec.specs.Modes.{dec_text, mode_text, terminal_text};
 ghost use Rattle.csicodec.specs.Parts.{Margins, args_text, cursor_text, edit_text};
 ghost use Rattle.csicodec.specs.Texts.{text, unspecified_text};
 
-use crate::actions::{CSI, Cursor, Edit, Unspecified};
+use crate::actions::{CSI, Cursor, DecPrivateMode, Edit, Mode, TerminalMode, Unspecified};
 use crate::params::{EncodeCSIParam, write_pair};
 use csicodec_base::{OneBased, Text};
 use std::fmt;
@@ -88,6 +89,57 @@ impl Edit {
     }
 }
 
+impl Mode {
+    /// Appends the parameters and the final byte: 24 bytes at most.
+    pub(crate) fn write_to(&self, text: &mut Text)
+        requires room { length text.old ≤ 7 }
+        ensures { text.new ≡ text.old ++ mode_text self.now }
+    {
+        match self {
+            Mode::SetDecPrivateMode(mode) => write_dec(text, mode, "h"),
+            Mode::ResetDecPrivateMode(mode) => write_dec(text, mode, "l"),
+            Mode::SaveDecPrivateMode(mode) => write_dec(text, mode, "s"),
+            Mode::RestoreDecPrivateMode(mode) => write_dec(text, mode, "r"),
+            Mode::QueryDecPrivateMode(mode) => write_dec(text, mode, "$p"),
+            Mode::SetMode(mode) => write_terminal(text, mode, "h"),
+            Mode::ResetMode(mode) => write_terminal(text, mode, "l"),
+            Mode::QueryMode(mode) => write_terminal(text, mode, "$p"),
+            Mode::XtermKeyMode { resource, value } => {
+                text.push(b'>');
+                text.push_u8(resource.number());
+                text.push(b';');
+                if let Some(value) = value {
+                    text.push_i64(*value);
+                }
+                text.push(b'm');
+            }
+        }
+    }
+}
+
+/// A `?`, the number of a mode, and this end.
+fn write_dec(text: &mut Text, mode: &DecPrivateMode, end: &str)
+    requires room { length text.old ≤ 8 }
+    requires short { length end.now ≤ 2 }
+    requires ascii { IsAscii end.now }
+    ensures { text.new ≡ text.old ++ dec_text mode.now end.now }
+{
+    text.push(b'?');
+    text.push_u32(mode.number());
+    text.push_str(end);
+}
+
+/// The number of a mode, and this end.
+fn write_terminal(text: &mut Text, mode: &TerminalMode, end: &str)
+    requires room { length text.old ≤ 8 }
+    requires short { length end.now ≤ 2 }
+    requires ascii { IsAscii end.now }
+    ensures { text.new ≡ text.old ++ terminal_text mode.now end.now }
+{
+    text.push_u32(mode.number());
+    text.push_str(end);
+}
+
 /// Writes the parameters and the final character, without `ESC [`.
 impl fmt::Display for Cursor {
     ghost output = { λ c. Some (cursor_text c) };
@@ -102,6 +154,17 @@ impl fmt::Display for Cursor {
 /// Writes the parameter and the final character, without `ESC [`.
 impl fmt::Display for Edit {
     ghost output = { λ e. Some (edit_text e) };
+
+    fn fmt<W: fmt::Write>(&self, f: &mut fmt::Formatter<W>) -> fmt::Result {
+        let mut text = Text::new();
+        self.write_to(&mut text);
+        f.write_str(text.as_str())
+    }
+}
+
+/// Writes the parameters and the final character, without `ESC [`.
+impl fmt::Display for Mode {
+    ghost output = { λ m. Some (mode_text m) };
 
     fn fmt<W: fmt::Write>(&self, f: &mut fmt::Formatter<W>) -> fmt::Result {
         let mut text = Text::new();
@@ -130,6 +193,7 @@ impl fmt::Display for CSI {
             CSI::Sgr(sgr) => write!(f, "\x1b[{sgr}"),
             CSI::Cursor(cursor) => write!(f, "\x1b[{cursor}"),
             CSI::Edit(edit) => write!(f, "\x1b[{edit}"),
+            CSI::Mode(mode) => write!(f, "\x1b[{mode}"),
             CSI::Unspecified(unspecified) => write!(f, "\x1b[{unspecified}"),
         }
     }

@@ -61,6 +61,7 @@ pub(crate) fn append_text(out: &mut Vec<u8>, action: &CSI) -> Result<(), AllocEr
         CSI::Sgr(sgr) => sgr.write_to(&mut text),
         CSI::Cursor(cursor) => cursor.write_to(&mut text),
         CSI::Edit(edit) => edit.write_to(&mut text),
+        CSI::Mode(mode) => mode.write_to(&mut text),
         CSI::Unspecified(unspecified) => {
             out.extend_from_slice(b"\x1b[")?;
             return append_unspecified(out, unspecified);

@@ -6,6 +6,7 @@ ghost use Rattle.csicodec.specs.WholeBy.{whole};
 
 mod cursor;
 mod edit;
+mod mode;
 
 use crate::actions::CSI;
 use csicodec_base::CsiParam;
@@ -18,7 +19,10 @@ pub(crate) fn whole_action(params: &[CsiParam], control: char) -> Option<CSI>
         Some(cursor) => Some(CSI::Cursor(cursor)),
         None => match edit::edit_action(params, control) {
             Some(edit) => Some(CSI::Edit(edit)),
-            None => None,
+            None => match mode::mode_action(params, control) {
+                Some(mode) => Some(CSI::Mode(mode)),
+                None => None,
+            },
         },
     }
 }

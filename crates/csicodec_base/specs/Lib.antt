@@ -1,6 +1,7 @@
 pub mod Param
 pub mod OneBased
 pub mod EnumNumbers
+pub mod ModeNumbers
 pub mod Digits
 pub mod Sequence
 pub mod Fault

@@ -6,6 +6,7 @@ mod color;
 mod enums;
 mod esc;
 pub mod laws;
+mod modes;
 mod param;
 mod pieces;
 mod reader;
@@ -18,6 +19,7 @@ pub use enums::{
     CursorStyle, CursorTabulationControl, EraseInDisplay, EraseInLine, TabulationClear,
 };
 pub use esc::{Esc, EscCode};
+pub use modes::{DecPrivateModeCode, TerminalModeCode};
 pub use param::{CsiParam, NotSpelled, OneBased};
 pub use pieces::sgr_front;
 pub use reader::{CsiTail, ReadCsi, ReadError, read_csi, read_csi_into};

@@ -1,12 +1,8 @@
 //! Worked lists: the actions that they stand for, and the texts of these.
 
+use super::worked::{Built, Spelled, check_built, check_spelled, check_unknown};
 use csicodec::CsiParam::{Integer, P};
-use csicodec::{
-    CSI, CSIParser, ColorSpec, CsiParam, Intensity, Sgr, SgrCode, SrgbaTuple, Underline,
-    Unspecified, encode_all, parse_all, read_csi,
-};
-use std::alloc::Global;
-use std::process::Abort;
+use csicodec::{ColorSpec, CsiParam, Intensity, Sgr, SgrCode, SrgbaTuple, Underline};
 use std::test::Fail;
 
 const BOLD: Sgr = Sgr::Intensity(Intensity::Bold);
@@ -27,17 +23,7 @@ const SEEN_THROUGH: ColorSpec = ColorSpec::TrueColor(SrgbaTuple(1, 2, 3, 4));
 
 const WHITE: ColorSpec = ColorSpec::TrueColor(SrgbaTuple(255, 255, 255, 255));
 
-/// A list as its text, and its final byte; the attributes that it stands for, the list of the unknown action behind
-/// them, and the text of all.
-type Spelled = (
-    &'static str,
-    u8,
-    &'static [Sgr],
-    Option<&'static str>,
-    &'static str,
-);
-
-static RESETS: [Spelled; 6] = [
+static RESETS: [Spelled<Sgr>; 6] = [
     ("", b'm', &[Sgr::Reset], None, "\x1b[0m"),
     (";;", b'm', &[Sgr::Reset], None, "\x1b[0m"),
     (
@@ -52,7 +38,7 @@ static RESETS: [Spelled; 6] = [
     ("1;;", b'm', &[BOLD, Sgr::Reset], None, "\x1b[1m\x1b[0m"),
 ];
 
-static CODES: [Spelled; 13] = [
+static CODES: [Spelled<Sgr>; 13] = [
     (
         "1;1231231;3",
         b'm',
@@ -92,7 +78,7 @@ static CODES: [Spelled; 13] = [
     ),
 ];
 
-static COLORS: [Spelled; 9] = [
+static COLORS: [Spelled<Sgr>; 9] = [
     (
         "48:5:16",
         b'm',
@@ -168,18 +154,9 @@ static UNKNOWN: [&str; 6] = [
     "38",
 ];
 
-/// A list that no text spells and its final character, and what it stands for.
-type Built = (
-    &'static [CsiParam],
-    char,
-    &'static [Sgr],
-    Option<&'static [CsiParam]>,
-    &'static [u8],
-);
-
 const BELOW_ZERO: [CsiParam; 5] = [Integer(38), P(b';'), Integer(5), P(b';'), Integer(-1)];
 
-static BUILT: [Built; 6] = [
+static BUILT: [Built<Sgr>; 6] = [
     (
         &[Integer(1), Integer(2)],
         'm',
@@ -200,107 +177,22 @@ static BUILT: [Built; 6] = [
     (&[], '\u{10ffff}', &[], Some(&[]), b"\x1b[\xf4\x8f\xbf\xbf"),
 ];
 
-/// The tokens that a text spells.
-fn tokens_of(alloc: Global, list: &str) -> Result<Vec<CsiParam>, Fail> {
-    let text = format!(in alloc; "\x1b[{list}m")?;
-    Ok(read_csi(alloc, text.as_bytes())?.params)
-}
-
-/// These attributes, and behind them the unknown list.
-fn actions_of(
-    alloc: Global,
-    styles: &[Sgr],
-    unknown: Option<Vec<CsiParam>>,
-    control: char,
-) -> Result<Vec<CSI>, Fail> {
-    let mut actions = Vec::new(alloc);
-    for style in styles {
-        actions.push(CSI::Sgr(*style))?;
-    }
-    if let Some(params) = unknown {
-        let unspecified = Unspecified {
-            params,
-            parameters_truncated: false,
-            control,
-        };
-        actions.push(CSI::Unspecified(Box::new(alloc, unspecified)?))?;
-    }
-    Ok(actions)
-}
-
-/// Whether a run gives these actions in turn, and then no more.
-fn gives(mut run: CSIParser<'_>, actions: &[CSI]) -> bool {
-    for action in actions {
-        if !matches!(run.next(), Some(Ok(next)) if next == *action) {
-            return false;
-        }
-    }
-    run.next().is_none()
-}
-
-/// Asserts that a list stands for these actions, all at once and one by one, and that they have this text.
-fn check(
-    rt: &impl Abort,
-    alloc: Global,
-    params: &[CsiParam],
-    control: char,
-    actions: &[CSI],
-    text: &[u8],
-) -> Result<(), Fail> {
-    assert!(rt;
-        parse_all(alloc, params, false, control)?.as_slice() == actions,
-        "{actions:?}"
-    );
-    assert!(rt;
-        encode_all(alloc, actions)?.as_slice() == text,
-        "{actions:?}"
-    );
-    assert!(rt;
-        gives(CSI::parse(alloc, params, false, control), actions),
-        "{actions:?}"
-    );
-    Ok(())
-}
-
 #[test]
 fn spelled(rt: HostRuntime) -> Result<(), Fail> {
     for rows in [RESETS.as_slice(), CODES.as_slice(), COLORS.as_slice()] {
-        for (list, control, styles, unknown, text) in rows {
-            let params = tokens_of(rt.alloc(), list)?;
-            let unknown = match unknown {
-                Some(rest) => Some(tokens_of(rt.alloc(), rest)?),
-                None => None,
-            };
-            let control = char::from(*control);
-            let actions = actions_of(rt.alloc(), styles, unknown, control)?;
-            check(&rt, rt.alloc(), &params, control, &actions, text.as_bytes())?;
-        }
+        check_spelled(&rt, rt.alloc(), rows)?;
     }
     Ok(())
 }
 
 #[test]
 fn unknown(rt: HostRuntime) -> Result<(), Fail> {
-    for list in UNKNOWN {
-        let params = tokens_of(rt.alloc(), list)?;
-        let actions = actions_of(rt.alloc(), &[], Some(params.clone()?), 'm')?;
-        let text = format!(in rt.alloc(); "\x1b[{list}m")?;
-        check(&rt, rt.alloc(), &params, 'm', &actions, text.as_bytes())?;
-    }
-    Ok(())
+    check_unknown(&rt, rt.alloc(), &UNKNOWN, 'm')
 }
 
 #[test]
 fn built(rt: HostRuntime) -> Result<(), Fail> {
-    for (params, control, styles, unknown, text) in &BUILT {
-        let unknown = match unknown {
-            Some(rest) => Some(rest.to_vec(rt.alloc())?),
-            None => None,
-        };
-        let actions = actions_of(rt.alloc(), styles, unknown, *control)?;
-        check(&rt, rt.alloc(), params, *control, &actions, text)?;
-    }
-    Ok(())
+    check_built(&rt, rt.alloc(), &BUILT)
 }
 
 #[test]

@@ -1,17 +1,23 @@
 //! What is left of a list, and what a run over it costs.
 
-use csicodec::{CSI, CsiParam, Look, Run, Tokens, encode_all, parse_all, read_csi};
+use super::worked::tokens_of;
+use csicodec::{CSI, CsiParam, Look, Run, Tokens, encode_all, parse_all};
 use std::alloc::{AllocError, Global};
 use std::test::Fail;
 
 #[test]
 fn is_a_suffix(rt: HostRuntime) -> Result<(), Fail> {
-    let list = read_csi(rt.alloc(), b"\x1b[1;1231231;3m")?.params;
-    let unread = read_csi(rt.alloc(), b"\x1b[1231231;3m")?.params;
-    let mut run = CSI::parse(rt.alloc(), &list, false, 'm');
-    for rest in [Some(list.as_slice()), Some(unread.as_slice()), None, None] {
-        assert!(rt; run.rest() == rest);
-        assert!(rt; run.next().is_some() == rest.is_some());
+    for (list, unread, control) in [
+        ("1;1231231;3", "1231231;3", 'm'),
+        ("?1;99999", "99999", 's'),
+    ] {
+        let list = tokens_of(rt.alloc(), list)?;
+        let unread = tokens_of(rt.alloc(), unread)?;
+        let mut run = CSI::parse(rt.alloc(), &list, false, control);
+        for rest in [Some(list.as_slice()), Some(unread.as_slice()), None, None] {
+            assert!(rt; run.rest() == rest);
+            assert!(rt; run.next().is_some() == rest.is_some());
+        }
     }
     Ok(())
 }

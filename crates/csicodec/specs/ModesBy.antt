@@ -1,0 +1,141 @@
+-- What private steps say of modes, by functions that compute it. Nothing public rests on this file.
+use Rattle.std.specs.Prelude.{ℕ, ℤ, ◌==◌, ◌&&◌, List, [], ◌∷◌, if◌then◌else◌, Option, Some, None, nat_lt, pos, negsuc}
+use Rattle.std.specs.Option.{option_map}
+use Rattle.csicodec_base.specs.declared.param.CsiParam.{CsiParam}
+use Rattle.csicodec_base.specs.declared.param.CsiParam.TheVariants.{Integer, P}
+use Rattle.csicodec_base.specs.declared.modes.DecPrivateModeCode.{DecPrivateModeCode}
+use Rattle.csicodec_base.specs.declared.modes.DecPrivateModeCode.TheVariants as code
+use Rattle.csicodec_base.specs.declared.modes.TerminalModeCode.{TerminalModeCode}
+use Rattle.csicodec_base.specs.declared.modes.TerminalModeCode.TheVariants as standard
+use Rattle.csicodec_base.specs.ModeNumbers.{dec_mode_number, terminal_mode_number}
+use Rattle.csicodec.specs.declared.actions.mode.DecPrivateMode.{DecPrivateMode}
+use Rattle.csicodec.specs.declared.actions.mode.DecPrivateMode.TheVariants as dec
+use Rattle.csicodec.specs.declared.actions.mode.Mode.TheVariants as mode
+use Rattle.csicodec.specs.declared.actions.mode.TerminalMode.{TerminalMode}
+use Rattle.csicodec.specs.declared.actions.mode.TerminalMode.TheVariants as terminal
+use Rattle.csicodec.specs.declared.actions.mode.XtermKeyModifierResource.{XtermKeyModifierResource}
+use Rattle.csicodec.specs.declared.actions.mode.XtermKeyModifierResource.TheVariants as resource
+use Rattle.csicodec.specs.Actions.{Action, Mode}
+use Rattle.csicodec.specs.Modes.{resource_number}
+
+-- ---- all that has a number
+
+abbrev pub dec_codes : List DecPrivateModeCode
+dec_codes =
+    code.ApplicationCursorKeys
+    ∷ code.DecAnsiMode
+    ∷ code.Select132Columns
+    ∷ code.SmoothScroll
+    ∷ code.ReverseVideo
+    ∷ code.OriginMode
+    ∷ code.AutoWrap
+    ∷ code.AutoRepeat
+    ∷ code.StartBlinkingCursor
+    ∷ code.ShowCursor
+    ∷ code.ReverseWraparound
+    ∷ code.EnableAlternateScreen
+    ∷ code.LeftRightMarginMode
+    ∷ code.SixelDisplayMode
+    ∷ code.MouseTracking
+    ∷ code.HighlightMouseTracking
+    ∷ code.ButtonEventMouse
+    ∷ code.AnyEventMouse
+    ∷ code.FocusTracking
+    ∷ code.Utf8Mouse
+    ∷ code.SGRMouse
+    ∷ code.SGRPixelsMouse
+    ∷ code.XTermMetaSendsEscape
+    ∷ code.XTermAltSendsEscape
+    ∷ code.OptEnableAlternateScreen
+    ∷ code.SaveCursor
+    ∷ code.ClearAndEnableAlternateScreen
+    ∷ code.UsePrivateColorRegistersForEachGraphic
+    ∷ code.BracketedPaste
+    ∷ code.SynchronizedOutput
+    ∷ code.GraphemeClustering
+    ∷ code.MinTTYApplicationEscapeKeyMode
+    ∷ code.SixelScrollsRight
+    ∷ code.Win32InputMode
+    ∷ []
+
+abbrev pub terminal_codes : List TerminalModeCode
+terminal_codes =
+    standard.KeyboardAction
+    ∷ standard.Insert
+    ∷ standard.BiDirectionalSupportMode
+    ∷ standard.SendReceive
+    ∷ standard.AutomaticNewline
+    ∷ standard.ShowCursor
+    ∷ []
+
+abbrev pub resources : List XtermKeyModifierResource
+resources = resource.Keyboard ∷ resource.CursorKeys ∷ resource.FunctionKeys ∷ resource.OtherKeys ∷ []
+
+-- the first of these that has the number
+abbrev pub with_number : {E : Type 0} → (E → ℕ) → List E → ℕ → Option E
+with_number number [] n = None
+with_number number (x ∷ xs) n = if n == number x then Some x else with_number number xs n
+
+unfoldable pub dec_code : ℕ → Option DecPrivateModeCode
+dec_code n = with_number dec_mode_number dec_codes n
+
+unfoldable pub terminal_code : ℕ → Option TerminalModeCode
+terminal_code n = with_number terminal_mode_number terminal_codes n
+
+-- ---- the mode of a number
+
+abbrev pub dec_mode_by : ℕ → Option DecPrivateModeCode → Option DecPrivateMode
+dec_mode_by n (Some c) = Some (dec.Code c)
+dec_mode_by n None = if nat_lt n 65536 then Some (dec.Unspecified n) else None
+
+abbrev pub dec_mode : ℤ → Option DecPrivateMode
+dec_mode (pos n) = dec_mode_by n (dec_code n)
+dec_mode (negsuc n) = None
+
+abbrev pub terminal_mode_by : ℕ → Option TerminalModeCode → Option TerminalMode
+terminal_mode_by n (Some c) = Some (terminal.Code c)
+terminal_mode_by n None = if nat_lt n 65536 then Some (terminal.Unspecified n) else None
+
+abbrev pub terminal_mode : ℤ → Option TerminalMode
+terminal_mode (pos n) = terminal_mode_by n (terminal_code n)
+terminal_mode (negsuc n) = None
+
+-- the resource of a number
+abbrev pub resource_at : ℤ → Option XtermKeyModifierResource
+resource_at (pos n) = with_number resource_number resources n
+resource_at (negsuc n) = None
+
+-- ---- whole lists
+
+abbrev pub query_mode : ℤ → Option Action
+query_mode z = option_map (λ m. Mode (mode.QueryMode m)) (terminal_mode z)
+
+abbrev pub query_dec_mode : ℤ → Option Action
+query_dec_mode z = option_map (λ m. Mode (mode.QueryDecPrivateMode m)) (dec_mode z)
+
+abbrev pub query : List CsiParam → Option Action
+query [] = None
+query (t ∷ []) = None
+query (Integer z ∷ P b ∷ []) = if b == 36 then query_mode z else None
+query (Integer z ∷ Integer y ∷ []) = None
+query (P b ∷ t ∷ []) = None
+query (P c ∷ Integer z ∷ P b ∷ []) = if c == 63 && b == 36 then query_dec_mode z else None
+query (P c ∷ Integer z ∷ Integer y ∷ []) = None
+query (P c ∷ P b ∷ t ∷ []) = None
+query (Integer z ∷ t ∷ u ∷ []) = None
+query (t ∷ u ∷ v ∷ w ∷ more) = None
+
+abbrev pub key_mode_at : ℤ → Option ℤ → Option Action
+key_mode_at z value = option_map (λ r. Mode (mode.XtermKeyMode r value)) (resource_at z)
+
+abbrev pub key_mode : List CsiParam → Option Action
+key_mode [] = None
+key_mode (t ∷ []) = None
+key_mode (Integer z ∷ t ∷ more) = None
+key_mode (P b ∷ P c ∷ more) = None
+key_mode (P b ∷ Integer z ∷ []) = if b == 62 then key_mode_at z None else None
+key_mode (P b ∷ Integer z ∷ Integer y ∷ more) = None
+key_mode (P b ∷ Integer z ∷ P c ∷ []) = if b == 62 && c == 59 then key_mode_at z None else None
+key_mode (P b ∷ Integer z ∷ P c ∷ Integer y ∷ []) = if b == 62 && c == 59 then key_mode_at z (Some y) else None
+key_mode (P b ∷ Integer z ∷ P c ∷ P d ∷ more) = None
+key_mode (P b ∷ Integer z ∷ P c ∷ Integer y ∷ t ∷ more) = None

@@ -103,6 +103,7 @@ fn with_semicolon(len: usize, next: Option<CsiParam>) -> usize
 }
 
 /// Passes over the block at the front, and answers its action. Without one nothing is passed.
+#[inline(always)]
 fn cut_block<L: Look>(group: Group, look: &mut L) -> Option<CSI>
     ensures some { IfSome result (λ action. block group (drop (L.passed look.old) (L.tokens look.old)) ≡ Some (action_of action, L.passed look.new - L.passed look.old)) }
     ensures forward { IfSome result (λ _. L.passed look.old < L.passed look.new) }
@@ -124,6 +125,7 @@ fn cut_block<L: Look>(group: Group, look: &mut L) -> Option<CSI>
 
 /// All unread tokens as one action, with what stands before the pieces of the group ahead of them. They are passed,
 /// unless memory is refused.
+#[cold]
 fn unspecified<L: Look>(
     group: Group,
     look: &mut L,
@@ -234,6 +236,7 @@ fn body_action<L: Look>(
 }
 
 /// The next action of a list that is cut from the front.
+#[inline(always)]
 fn next_action<L: Look>(
     group: Group,
     look: &mut L,

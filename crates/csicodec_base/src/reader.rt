@@ -1,13 +1,14 @@
 //! Reading one control sequence (ECMA-48, 5.4) at the front of some bytes.
 
-ghost use Rattle.std.specs.Prelude.{◌≡◌, ℕ, ◌+◌, ◌-◌, ◌*◌, ◌^◌, ◌<◌, ◌≤◌, List, [], ◌∷◌, ◌++◌, length, pos, IfOk, IfErr, MatchOption, MatchResult, vec_capacity};
+ghost use Rattle.std.specs.Prelude.{◌≡◌, ℕ, ◌+◌, ◌-◌, ◌*◌, ◌^◌, ◌<◌, ◌≤◌, List, [], ◌∷◌, ◌++◌, length, pos, IfOk, IfErr, IfSome, MatchOption, MatchResult, vec_capacity};
 ghost use Rattle.csicodec_base.specs.declared.param.CsiParam.{CsiParam};
+ghost use Rattle.csicodec_base.specs.declared.param.CsiParam.TheVariants.{P};
 ghost use Rattle.csicodec_base.specs.declared.reader.ReadError.{ReadError};
 ghost use Rattle.csicodec_base.specs.declared.reader.ReadError.TheVariants.{Memory};
 ghost use Rattle.csicodec_base.specs.Digits.{IsDigit, largest};
 ghost use Rattle.csicodec_base.specs.Sequence.{Reads};
 ghost use Rattle.csicodec_base.specs.Fault.{FaultOf, Refuses};
-ghost use Rattle.csicodec_base.specs.Reading.{IsNumber, IsTooLarge, IsPart, HasRead, HasCounted};
+ghost use Rattle.csicodec_base.specs.Reading.{IsNumber, IsTooLarge, IsFirstToken, IsPart, HasRead, HasCounted};
 
 use crate::param::CsiParam;
 use std::alloc::{AllocError, Global};
@@ -159,6 +160,17 @@ fn behind_introducer(bytes: &[u8]) -> Result<&[u8], ReadError>
     }
 }
 
+// The bytes behind a `;` in front: it is what mostly follows a number.
+#[inline(always)]
+fn behind_semicolon(rest: &[u8]) -> Option<&[u8]>
+    ensures { IfSome result (λ behind. IsFirstToken rest.now (P 59) behind.now) }
+{
+    match rest {
+        [b';', behind @ ..] => Some(behind),
+        _ => None,
+    }
+}
+
 // How many tokens stand from a place on, before the final byte.
 fn tokens_from(bytes: &[u8], start: &[u8]) -> Result<usize, ReadError>
     requires { length start.now ≤ length bytes.now }
@@ -207,6 +219,12 @@ fn fill<'a>(params: &mut Vec<CsiParam>, bytes: &'a [u8]) -> Result<CsiTail<'a>, 
                     return Err(refusal(bytes, others));
                 };
                 rest = others;
+                if let Some(behind) = behind_semicolon(others) {
+                    let Ok(()) = params.push(CsiParam::P(b';')) else {
+                        return Err(refusal(bytes, behind));
+                    };
+                    rest = behind;
+                }
             }
             Part::Final(byte, others) => {
                 return Ok(CsiTail {

@@ -1,7 +1,8 @@
 use Rattle.std.proofs.Common.{◌∷◌, [], length, ap, subst, arith}
 use Rattle.std.proofs.lemmas.List.{length-append}
 use Rattle.std.proofs.lemmas.Result.{err_from_is_err_and}
-use Rattle.csicodec_base.specs.Reading.{IsPart}
+use Rattle.csicodec_base.specs.declared.param.CsiParam.TheVariants.{P}
+use Rattle.csicodec_base.specs.Reading.{IsPart, HasRead}
 use Rattle.csicodec_base.proofs.Tokens.{others_shorter}
 use Rattle.csicodec_base.proofs.Reading.{read_none, read_more, read_all, fault_refuses}
 use Rattle.csicodec_base.proofs.reader.fill.Goals as goal
@@ -38,6 +39,24 @@ loop-token-preserved c =
       within = omega (arith, c.loop-token.invariant.within, others_shorter _ _ _ first);
       kept = omega (arith, c.loop-token.invariant.kept, c.push.ensures.capacity);
       read = rw c.in-Ok.ensures.items more;
+    }
+
+pub returns-in_default-push-clause-read : goal.returns-in_default-push-clause-read
+returns-in_default-push-clause-read c =
+    let first = subst (IsPart c.loop-token.rest.now) c.in-Token.is c.in_ok-token.ensures.part in
+    let more : HasRead c.args.bytes.now c.push.new.self.items c.in-Token.others.now = rw c.in-Ok.ensures.items (read_more _ _ _ _ _ c.loop-token.invariant.read first) in
+    let behind = read_more _ _ _ _ _ more c.in-Some.ensures in
+    let full = c.in_default-push.ensures.full in
+    c.refusal-in_default-push.ensures _ _ behind (omega (arith, full, c.loop-token.invariant.kept, c.push.ensures.capacity, c.push.new.self.ok.0, length-append c.push.new.self.items (P 59 ∷ [])))
+
+pub loop-token-preserved-in-Some : goal.loop-token-preserved-in-Some
+loop-token-preserved-in-Some c =
+    let first = subst (IsPart c.loop-token.rest.now) c.in-Token.is c.in_ok-token.ensures.part in
+    let more : HasRead c.args.bytes.now c.push.new.self.items c.in-Token.others.now = rw c.in-Ok.ensures.items (read_more _ _ _ _ _ c.loop-token.invariant.read first) in
+    record {
+      within = omega (arith, c.loop-token.invariant.within, others_shorter _ _ _ first, others_shorter _ _ _ c.in-Some.ensures);
+      kept = omega (arith, c.loop-token.invariant.kept, c.push.ensures.capacity, c.push-in-Some.ensures.capacity);
+      read = rw c.in-Ok-push.ensures.items (read_more _ _ _ _ _ more c.in-Some.ensures);
     }
 
 pub returns-in-Final-clause-read : goal.returns-in-Final-clause-read

@@ -132,7 +132,7 @@ impl DecPrivateModeCode {
 /// A mode that `CSI .. h` sets and `CSI .. l` resets (SM and RM; ECMA-48, 8.3.125 and 8.3.106).
 #[derive(Clone, Copy, PartialEq, Eq, Debug)]
 pub enum TerminalModeCode {
-    /// KAM (ECMA-48, 7.2.9): the keyboard is locked.
+    /// KAM (ECMA-48, 7.2.11): the keyboard is locked.
     KeyboardAction = 2,
     /// IRM (ECMA-48, 7.2.10): characters move to the right what stands there; reset, they replace it.
     Insert = 4,

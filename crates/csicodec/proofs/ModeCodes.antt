@@ -1,14 +1,12 @@
 -- The mode of a number: by the relation, and by the function that computes it.
-use Rattle.std.proofs.Common.{◌≡◌, ℕ, ◌<◌, List, [], ◌∷◌, Option, None, Some, refl, sym, ap, ◌∙◌, inl, inr, arith, pos, subst}
+use Rattle.std.proofs.Common.{◌≡◌, ℕ, ◌<◌, ◌⊎◌, List, [], ◌∷◌, Option, None, Some, refl, sym, ap, ◌∙◌, inl, inr, arith, pos}
 use Rattle.std.specs.Prelude.{ℤ, negsuc, ◌==◌, ◌↔◌, nat_abs, nat_lt, if◌then◌else◌, Result, Ok, Err}
 use Rattle.std.specs.Int.{FitsUnsignedBits}
 use Rattle.std.specs.Option.{option_map}
 use Rattle.std.specs.Result.{OkIff, result_ok}
 use Rattle.std.proofs.lemmas.Bool.{cases_Bool, eqb-true, le-ltb, lt-ltb, ltb-true}
 use Rattle.std.proofs.lemmas.Option.{same_Some, cond_some}
-use Rattle.csicodec_base.specs.declared.modes.DecPrivateModeCode.{DecPrivateModeCode}
 use Rattle.csicodec_base.specs.declared.modes.DecPrivateModeCode.TheVariants as code
-use Rattle.csicodec_base.specs.declared.modes.TerminalModeCode.{TerminalModeCode}
 use Rattle.csicodec_base.specs.declared.modes.TerminalModeCode.TheVariants as standard
 use Rattle.csicodec_base.specs.ModeNumbers.{dec_mode_number, terminal_mode_number}
 use Rattle.csicodec.specs.declared.actions.mode.DecPrivateMode.{DecPrivateMode}
@@ -18,7 +16,7 @@ use Rattle.csicodec.specs.declared.actions.mode.TerminalMode.TheVariants as term
 use Rattle.csicodec.specs.declared.actions.mode.XtermKeyModifierResource.{XtermKeyModifierResource}
 use Rattle.csicodec.specs.declared.actions.mode.XtermKeyModifierResource.TheVariants as resource
 use Rattle.csicodec.specs.Modes.{IsDecMode, IsTerminalMode, resource_number}
-use Rattle.csicodec.specs.ModesBy.{with_number, dec_codes, terminal_codes, resources, dec_code, terminal_code, dec_mode, terminal_mode, resource_at}
+use Rattle.csicodec.specs.ModesBy.{with_number, dec_codes, terminal_codes, resources, dec_code, terminal_code, mode_at, dec_mode, terminal_mode, resource_at}
 
 -- ---- what is found by its number
 
@@ -70,64 +68,73 @@ resources-coded = record {
 
 -- ---- the mode of a number
 
+-- a mode has a code, or is a number of 16 bits that no code has
+abbrev IsCodeOrOwn : {C M : Type 0} → (C → ℕ) → (C → M) → (ℕ → M) → ℕ → M → Type 0
+IsCodeOrOwn number coded own n m = ((c : _) × (m ≡ coded c) × (n ≡ number c)) ⊎ ((m ≡ own n) × (n < 65536) × ((c : _) → n ≡ number c → ⊥))
+
+dec-is : (n : ℕ) (m : DecPrivateMode) → IsDecMode n m → IsCodeOrOwn dec_mode_number (λ c. dec.Code c) (λ k. dec.Unspecified k) n m
+dec-is n (dec.Code c) h = inl (c, refl, h)
+dec-is n (dec.Unspecified k) h = inr (ap (λ (i : ℕ). dec.Unspecified i) (sym h.0), h.1, h.2)
+
+is-dec : (n : ℕ) (m : DecPrivateMode) → IsCodeOrOwn dec_mode_number (λ c. dec.Code c) (λ k. dec.Unspecified k) n m → IsDecMode n m
+is-dec n m (inl h) = rw h.1 h.2
+is-dec n m (inr h) = rw h.0 (refl, h.1, h.2)
+
+terminal-is : (n : ℕ) (m : TerminalMode) → IsTerminalMode n m → IsCodeOrOwn terminal_mode_number (λ c. terminal.Code c) (λ k. terminal.Unspecified k) n m
+terminal-is n (terminal.Code c) h = inl (c, refl, h)
+terminal-is n (terminal.Unspecified k) h = inr (ap (λ (i : ℕ). terminal.Unspecified i) (sym h.0), h.1, h.2)
+
+is-terminal : (n : ℕ) (m : TerminalMode) → IsCodeOrOwn terminal_mode_number (λ c. terminal.Code c) (λ k. terminal.Unspecified k) n m → IsTerminalMode n m
+is-terminal n m (inl h) = rw h.1 h.2
+is-terminal n m (inr h) = rw h.0 (refl, h.1, h.2)
+
+mode-is : {C M : Type 0} (number : C → ℕ) (find : ℕ → Option C) (coded : C → M) (own : ℕ → M) → Coded number find → (n : ℕ) (m : M) → IsCodeOrOwn number coded own n m
+    → mode_at coded own find (pos n) ≡ Some m
+mode-is number find coded own found n m (inl h) = rw (h.1, h.2, found.each h.0) refl
+mode-is number find coded own found n m (inr h) = rw (none-found number find found n h.2, lt-ltb n 65536 h.1, h.0) refl
+
+is-mode : {C M : Type 0} (number : C → ℕ) (find : ℕ → Option C) (coded : C → M) (own : ℕ → M) → Coded number find → (n : ℕ) (m : M) → mode_at coded own find (pos n) ≡ Some m
+    → IsCodeOrOwn number coded own n m
+is-mode number find coded own found n m e = go (find n) refl
+  where
+    go : (o : Option _) → find n ≡ o → IsCodeOrOwn number coded own n m
+    go (Some c) at =
+        let same : Some (coded c) ≡ Some m = rw at at e in
+        inl (c, sym (same_Some _ _ same), found.back n c at)
+    go None at =
+        let p = cond_some (nat_lt n 65536) (own n) m (rw at at e) in
+        inr (sym p.1, ltb-true n 65536 p.0, λ c same. (let here = found.each c in cc (at, same, here)))
+
 pub dec_mode-is : (n : ℕ) (m : DecPrivateMode) → IsDecMode n m → dec_mode (pos n) ≡ Some m
-dec_mode-is n (dec.Code c) h = rw (h, dec-coded.each c) refl
-dec_mode-is n (dec.Unspecified own) h = rw (none-found _ _ dec-coded n h.2, lt-ltb n 65536 h.1) (ap (λ (k : ℕ). Some (dec.Unspecified k)) h.0)
+dec_mode-is n m h = mode-is _ _ _ (λ k. dec.Unspecified k) dec-coded n m (dec-is n m h)
 
 pub is-dec_mode : (n : ℕ) (m : DecPrivateMode) → dec_mode (pos n) ≡ Some m → IsDecMode n m
-is-dec_mode n m e = go (dec_code n) refl
-  where
-    go : (o : Option DecPrivateModeCode) → dec_code n ≡ o → IsDecMode n m
-    go (Some c) at =
-        let same : Some (dec.Code c) ≡ Some m = rw at at e in
-        subst (IsDecMode n) (same_Some _ _ same) (dec-coded.back n c at)
-    go None at =
-        let p = cond_some (nat_lt n 65536) (dec.Unspecified n) m (rw at at e) in
-        subst (IsDecMode n) p.1 (refl, ltb-true n 65536 p.0, λ c same. (let found = dec-coded.each c in cc (at, same, found)))
+is-dec_mode n m e = is-dec n m (is-mode _ _ _ (λ k. dec.Unspecified k) dec-coded n m e)
 
 pub terminal_mode-is : (n : ℕ) (m : TerminalMode) → IsTerminalMode n m → terminal_mode (pos n) ≡ Some m
-terminal_mode-is n (terminal.Code c) h = rw (h, terminal-coded.each c) refl
-terminal_mode-is n (terminal.Unspecified own) h = rw (none-found _ _ terminal-coded n h.2, lt-ltb n 65536 h.1) (ap (λ (k : ℕ). Some (terminal.Unspecified k)) h.0)
+terminal_mode-is n m h = mode-is _ _ _ (λ k. terminal.Unspecified k) terminal-coded n m (terminal-is n m h)
 
 pub is-terminal_mode : (n : ℕ) (m : TerminalMode) → terminal_mode (pos n) ≡ Some m → IsTerminalMode n m
-is-terminal_mode n m e = go (terminal_code n) refl
-  where
-    go : (o : Option TerminalModeCode) → terminal_code n ≡ o → IsTerminalMode n m
-    go (Some c) at =
-        let same : Some (terminal.Code c) ≡ Some m = rw at at e in
-        subst (IsTerminalMode n) (same_Some _ _ same) (terminal-coded.back n c at)
-    go None at =
-        let p = cond_some (nat_lt n 65536) (terminal.Unspecified n) m (rw at at e) in
-        subst (IsTerminalMode n) p.1 (refl, ltb-true n 65536 p.0, λ c same. (let found = terminal-coded.each c in cc (at, same, found)))
+is-terminal_mode n m e = is-terminal n m (is-mode _ _ _ (λ k. terminal.Unspecified k) terminal-coded n m e)
 
 -- ---- how the code finds the mode of a number
 
-pub dec-named : (z : ℤ) (c : DecPrivateModeCode) → z ≡ pos (dec_mode_number c) → Some (dec.Code c) ≡ dec_mode z
-dec-named z c same = rw (same, dec-coded.each c) refl
-
-pub terminal-named : (z : ℤ) (c : TerminalModeCode) → z ≡ pos (terminal_mode_number c) → Some (terminal.Code c) ≡ terminal_mode z
-terminal-named z c same = rw (same, terminal-coded.each c) refl
+pub mode-named : {C M : Type 0} (number : C → ℕ) (find : ℕ → Option C) (coded : C → M) (own : ℕ → M) → Coded number find → (z : ℤ) (c : C) → z ≡ pos (number c)
+    → Some (coded c) ≡ mode_at coded own find z
+mode-named number find coded own found z c same = rw (same, found.each c) refl
 
 -- a number without a code stands for itself, if it has 16 bits
-own-mode : {M E : Type 0} (make : ℕ → M) (n : ℕ) (short : Result ℕ E) → OkIff short (n < 65536) n → option_map make (result_ok short) ≡ (if nat_lt n 65536 then Some (make n) else None)
-own-mode make n (Ok k) h = rw (lt-ltb n 65536 h.0, h.1) refl
-own-mode make n (Err e) h = rw (le-ltb n 65536 (omega (arith, h))) refl
+short-mode : {M E : Type 0} (own : ℕ → M) (n : ℕ) (short : Result ℕ E) → OkIff short (n < 65536) n → option_map own (result_ok short) ≡ (if nat_lt n 65536 then Some (own n) else None)
+short-mode own n (Ok k) h = rw (lt-ltb n 65536 h.0, h.1) refl
+short-mode own n (Err e) h = rw (le-ltb n 65536 (omega (arith, h))) refl
 
-pub dec-own : {E : Type 0} (z : ℤ) (o : Option DecPrivateModeCode) (short : Result ℕ E) → ((c : DecPrivateModeCode) → (o ≡ Some c) ↔ (z ≡ pos (dec_mode_number c))) → o ≡ None
-    → OkIff short (FitsUnsignedBits 16 z) (nat_abs z) → option_map (λ n. dec.Unspecified n) (result_ok short) ≡ dec_mode z
-dec-own (pos n) o short h none fits =
-    let unnamed = none-found _ _ dec-coded n (λ c same. not-found dec_mode_number (pos n) o h none c (ap pos same)) in
-    rw unnamed (own-mode _ n short fits)
-dec-own (negsuc n) o (Ok k) h none fits = absurd fits.0
-dec-own (negsuc n) o (Err e) h none fits = refl
-
-pub terminal-own : {E : Type 0} (z : ℤ) (o : Option TerminalModeCode) (short : Result ℕ E) → ((c : TerminalModeCode) → (o ≡ Some c) ↔ (z ≡ pos (terminal_mode_number c))) → o ≡ None
-    → OkIff short (FitsUnsignedBits 16 z) (nat_abs z) → option_map (λ n. terminal.Unspecified n) (result_ok short) ≡ terminal_mode z
-terminal-own (pos n) o short h none fits =
-    let unnamed = none-found _ _ terminal-coded n (λ c same. not-found terminal_mode_number (pos n) o h none c (ap pos same)) in
-    rw unnamed (own-mode _ n short fits)
-terminal-own (negsuc n) o (Ok k) h none fits = absurd fits.0
-terminal-own (negsuc n) o (Err e) h none fits = refl
+pub mode-own : {C M E : Type 0} (number : C → ℕ) (find : ℕ → Option C) (coded : C → M) (own : ℕ → M) → Coded number find → (z : ℤ) (o : Option C) (short : Result ℕ E)
+    → ((c : C) → (o ≡ Some c) ↔ (z ≡ pos (number c))) → o ≡ None → OkIff short (FitsUnsignedBits 16 z) (nat_abs z) → option_map own (result_ok short) ≡ mode_at coded own find z
+mode-own number find coded own found (pos n) o short h none fits =
+    let unnamed = none-found number find found n (λ c same. not-found number (pos n) o h none c (ap pos same)) in
+    rw unnamed (short-mode own n short fits)
+mode-own number find coded own found (negsuc n) o (Ok k) h none fits = absurd fits.0
+mode-own number find coded own found (negsuc n) o (Err e) h none fits = refl
 
 -- the resource of a number
 pub resource-found : (z : ℤ) (o : Option XtermKeyModifierResource) → ((r : XtermKeyModifierResource) → (o ≡ Some r) ↔ (z ≡ pos (resource_number r))) → o ≡ resource_at z

@@ -84,21 +84,20 @@ terminal_code n = with_number terminal_mode_number terminal_codes n
 
 -- ---- the mode of a number
 
-abbrev pub dec_mode_by : ℕ → Option DecPrivateModeCode → Option DecPrivateMode
-dec_mode_by n (Some c) = Some (dec.Code c)
-dec_mode_by n None = if nat_lt n 65536 then Some (dec.Unspecified n) else None
+-- a number that has a code by its code, and another one of 16 bits by itself
+abbrev pub mode_by : {C M : Type 0} → (C → M) → (ℕ → M) → ℕ → Option C → Option M
+mode_by coded own n (Some c) = Some (coded c)
+mode_by coded own n None = if nat_lt n 65536 then Some (own n) else None
+
+abbrev pub mode_at : {C M : Type 0} → (C → M) → (ℕ → M) → (ℕ → Option C) → ℤ → Option M
+mode_at coded own find (pos n) = mode_by coded own n (find n)
+mode_at coded own find (negsuc n) = None
 
 abbrev pub dec_mode : ℤ → Option DecPrivateMode
-dec_mode (pos n) = dec_mode_by n (dec_code n)
-dec_mode (negsuc n) = None
-
-abbrev pub terminal_mode_by : ℕ → Option TerminalModeCode → Option TerminalMode
-terminal_mode_by n (Some c) = Some (terminal.Code c)
-terminal_mode_by n None = if nat_lt n 65536 then Some (terminal.Unspecified n) else None
+dec_mode z = mode_at (λ c. dec.Code c) (λ n. dec.Unspecified n) dec_code z
 
 abbrev pub terminal_mode : ℤ → Option TerminalMode
-terminal_mode (pos n) = terminal_mode_by n (terminal_code n)
-terminal_mode (negsuc n) = None
+terminal_mode z = mode_at (λ c. terminal.Code c) (λ n. terminal.Unspecified n) terminal_code z
 
 -- the resource of a number
 abbrev pub resource_at : ℤ → Option XtermKeyModifierResource

@@ -4,21 +4,21 @@ use Rattle.std.proofs.lemmas.Int.{to_z-of_z}
 use mir.Syntax.{w64}
 use Rattle.csicodec.specs.declared.actions.mode.TerminalMode.TheVariants as terminal
 use Rattle.csicodec.specs.ModesBy.{terminal_mode}
-use Rattle.csicodec.proofs.ModeCodes.{terminal-named, terminal-own}
+use Rattle.csicodec.proofs.ModeCodes.{terminal-coded, mode-named, mode-own}
 use Rattle.csicodec.proofs.actions.mode.TerminalMode.at.Goals as goal
 
 pub returns-in-Some : goal.returns-in-Some
-returns-in-Some c = terminal-named _ c.in-Some.code ((c.from_i64.ensures _).0 c.in-Some.is) ∙ ap terminal_mode (to_z-of_z w64 c.args.number c.ranges.number)
+returns-in-Some c = mode-named _ _ _ (λ k. terminal.Unspecified k) terminal-coded _ c.in-Some.code ((c.from_i64.ensures _).0 c.in-Some.is) ∙ ap terminal_mode (to_z-of_z w64 c.args.number c.ranges.number)
 
 pub returns-in_ok-ok-in-None : goal.returns-in_ok-ok-in-None
 returns-in_ok-ok-in-None c =
     ap (option_map (λ n. terminal.Unspecified n)) (sym c.in_ok-ok-in-None.was ∙ c.ok.ensures.value)
-    ∙ terminal-own _ c.from_i64.result c.try_from.result c.from_i64.ensures c.in-None.is c.try_from.ensures
+    ∙ mode-own _ _ (λ k. terminal.Code k) _ terminal-coded _ c.from_i64.result c.try_from.result c.from_i64.ensures c.in-None.is c.try_from.ensures
     ∙ ap terminal_mode (to_z-of_z w64 c.args.number c.ranges.number)
 
 pub returns-in_err-ok-in-None : goal.returns-in_err-ok-in-None
 returns-in_err-ok-in-None c =
     c.from_residual.ensures
     ∙ ap (option_map (λ n. terminal.Unspecified n)) (sym c.in_err-ok-in-None.was ∙ c.ok.ensures.value)
-    ∙ terminal-own _ c.from_i64.result c.try_from.result c.from_i64.ensures c.in-None.is c.try_from.ensures
+    ∙ mode-own _ _ (λ k. terminal.Code k) _ terminal-coded _ c.from_i64.result c.try_from.result c.from_i64.ensures c.in-None.is c.try_from.ensures
     ∙ ap terminal_mode (to_z-of_z w64 c.args.number c.ranges.number)

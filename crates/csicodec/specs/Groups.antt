@@ -39,6 +39,7 @@ plain_group final = if final == 104 then Modes switch.Set else if final == 108 t
 abbrev pub style_group : Option CsiParam → Group
 style_group first = if is_byte 62 first then Whole else Styles
 
+-- the group by the first token, if there is one, and the final
 abbrev pub group_by : Option CsiParam → ℕ → Group
 group_by first final = if final == 109 then style_group first else if is_byte 63 first then dec_group final else plain_group final
 

@@ -37,8 +37,8 @@ impl Unspecified {
     }
 }
 
-/// One action of a control sequence (ECMA-48, 5.4). A sequence before `m`, `h`, `l`, and one
-/// of private modes, can stand for several.
+/// One action of a control sequence (ECMA-48, 5.4). A sequence before `m`, `h` or `l` can
+/// stand for several, and so can one that saves or restores private modes.
 #[derive(Debug, Drop, PartialEq, Eq)]
 pub enum CSI {
     /// SGR, select graphic rendition: an attribute of the text that follows.

@@ -120,13 +120,13 @@ pub enum Mode {
     SaveDecPrivateMode(DecPrivateMode),
     /// XTRESTORE (xterm): the private mode becomes what was kept aside.
     RestoreDecPrivateMode(DecPrivateMode),
-    /// DECRQM (DEC VT510): whether the private mode is set?
+    /// DECRQM (DEC VT510): asks whether the private mode is set.
     QueryDecPrivateMode(DecPrivateMode),
     /// SM (ECMA-48, 8.3.125): the mode is set.
     SetMode(TerminalMode),
     /// RM (ECMA-48, 8.3.106): the mode is reset.
     ResetMode(TerminalMode),
-    /// DECRQM (DEC VT510): whether the mode is set?
+    /// DECRQM (DEC VT510): asks whether the mode is set.
     QueryMode(TerminalMode),
     /// XTMODKEYS (xterm): how modifiers are told with these keys.
     XtermKeyMode {
@@ -137,7 +137,7 @@ pub enum Mode {
     },
 }
 
-/// What is done to modes.
+/// What `h` and `l` do to a mode.
 #[derive(Clone, Copy, Debug, PartialEq, Eq)]
 pub(crate) enum Switch {
     Set,
@@ -156,7 +156,7 @@ impl Switch {
     }
 }
 
-/// What is done to private modes.
+/// What `h`, `l`, `s` and `r` do to a private mode.
 #[derive(Clone, Copy, Debug, PartialEq, Eq)]
 pub(crate) enum Change {
     Set,

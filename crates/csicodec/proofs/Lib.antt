@@ -10,6 +10,7 @@ pub mod Fronts
 pub mod Blocks
 pub mod Cuts
 pub mod NextLemmas
+pub mod Taken
 pub mod Odd
 pub mod Suffixes
 pub mod Splits
@@ -30,3 +31,4 @@ pub mod Parsed
 pub mod RoundTrip
 pub mod JoinedCuts
 pub mod Compose
+pub mod Filtered

@@ -1,3 +1,4 @@
+pub mod Filter
 pub mod Actions
 pub mod Compose
 pub mod Cut

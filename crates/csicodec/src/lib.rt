@@ -4,8 +4,10 @@
 
 mod actions;
 mod count;
+mod filter;
 mod group;
 pub mod laws;
+mod list;
 mod look;
 mod params;
 mod parser;
@@ -25,6 +27,7 @@ pub use csicodec_base::{
     OneBased, ReadCsi, ReadError, Sgr, SgrCode, SrgbaTuple, TabulationClear, TerminalModeCode,
     Text, Underline, VerticalAlign, read_csi, read_csi_into, sgr_front,
 };
+pub use filter::{Filter, filter_all};
 pub use look::Look;
 pub use parser::{CSIParser, Run};
 pub use stream::{DecodeError, RunError, decode_all, encode_all, normalise, parse_all};

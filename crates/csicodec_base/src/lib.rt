@@ -10,6 +10,7 @@ mod modes;
 mod param;
 mod pieces;
 mod reader;
+mod ready;
 mod sgr;
 mod text;
 
@@ -22,6 +23,7 @@ pub use esc::{Esc, EscCode};
 pub use modes::{DecPrivateModeCode, TerminalModeCode};
 pub use param::{CsiParam, NotSpelled, OneBased};
 pub use pieces::sgr_front;
-pub use reader::{CsiTail, ReadCsi, ReadError, read_csi, read_csi_into};
+pub use reader::{CsiTail, ReadCsi, ReadError, behind_csi, read_csi, read_csi_into};
+pub use ready::append_code;
 pub use sgr::{Font, Sgr};
 pub use text::Text;

@@ -190,6 +190,28 @@ fn tokens_from(bytes: &[u8], start: &[u8]) -> Result<usize, ReadError>
     }
 }
 
+/// The bytes behind the control sequence at the front of some bytes, or the fault that keeps them from beginning with one.
+///
+/// It takes no memory, and never answers `Memory`.
+///
+/// ```text
+/// let rest = behind_csi(b"\x1b[0001;?m!")?;                     // b"!"
+/// ```
+pub fn behind_csi(bytes: &[u8]) -> Result<&[u8], ReadError>
+    // What stands before them is a sequence.
+    ensures found { IfOk result (λ rest. (list : List CsiParam) × (final : ℕ) × Reads bytes.now list final rest.now) }
+    // An error is the fault of bytes with none in front.
+    ensures refused { IfErr result (FaultOf bytes.now) }
+{
+    let mut rest = behind_introducer(bytes)?;
+    loop {
+        match part_front(bytes, rest)? {
+            Part::Token(_, others) => rest = others,
+            Part::Final(_, others) => return Ok(others),
+        }
+    }
+}
+
 // Why no sequence is read, where there is no memory for a token before the rest.
 #[cold]
 #[inline(never)]

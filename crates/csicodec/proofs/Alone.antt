@@ -6,7 +6,7 @@ use Rattle.csicodec_base.specs.declared.param.CsiParam.{CsiParam}
 use Rattle.csicodec_base.specs.Sequence.{IsFinal, Spellable}
 use Rattle.csicodec.specs.declared.group.Group.{Group}
 use Rattle.csicodec.specs.declared.group.Group.TheVariants as groups
-use Rattle.csicodec.specs.Actions.{Action, Sgr, Cursor, Edit, Mode, Unspecified}
+use Rattle.csicodec.specs.Actions.{Action, Sgr, Cursor, Edit, Mode, Device, Keyboard, Mouse, SelectCharacterPath, Unspecified}
 use Rattle.csicodec.specs.Groups.{group, marked, has_odd}
 use Rattle.csicodec.specs.Cut.{body, IsStuck}
 use Rattle.csicodec.specs.Segments.{BodyActions, CutActions, ActionsIn, Actions}
@@ -15,8 +15,7 @@ use Rattle.csicodec.proofs.GroupOf.{marked-body}
 use Rattle.csicodec.proofs.OneReading.{Alone}
 use Rattle.csicodec.proofs.Spelling.{spelling-alone}
 use Rattle.csicodec.proofs.SgrSpelling.{sgr-spelling}
-use Rattle.csicodec.proofs.ModeSpelling.{mode-spelling}
-use Rattle.csicodec.proofs.WholeSpelling.{cursor-spelling, edit-spelling}
+use Rattle.csicodec.proofs.Back.{written-back}
 
 -- ---- a list that is unknown is one action
 
@@ -59,8 +58,6 @@ unknown-alone list flag final spellable ends read = spelling-alone flag (Unspeci
 
 pub canonical-alone : (a : Action) (flag : Bool) → InRange a → IsCanonical a flag → Alone flag a
 canonical-alone (Sgr s) flag range ok = spelling-alone flag (Sgr s) (sgr-spelling flag s range ok)
-canonical-alone (Cursor c) flag range ok = spelling-alone flag (Cursor c) (cursor-spelling flag c range ok)
-canonical-alone (Edit e) flag range ok = spelling-alone flag (Edit e) (edit-spelling flag e range ok)
-canonical-alone (Mode m) flag range ok = spelling-alone flag (Mode m) (mode-spelling flag m range ok)
 canonical-alone (Unspecified list own final) flag range c =
     rw c.same_flag (unknown-alone list flag final c.spellable c.ends (unknown-actions (group list final) list flag final refl c.unknown))
+canonical-alone a flag range ok = spelling-alone flag a (written-back flag a ok)

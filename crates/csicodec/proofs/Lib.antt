@@ -1,10 +1,10 @@
 pub mod Found
-pub mod Enumerations
-pub mod ModeCodes
-pub mod ModeLists
+pub mod MouseCodes
+pub mod Values
 pub mod Made
-pub mod Wholes
-pub mod Gives
+pub mod AllRows
+pub mod Disjoint
+pub mod Items
 pub mod GroupOf
 pub mod Fronts
 pub mod Blocks
@@ -15,18 +15,16 @@ pub mod Odd
 pub mod Suffixes
 pub mod Splits
 mod Escapes
-pub mod ModeCanonical
 pub mod Canonical
 pub mod OneReading
 pub mod SgrCanonical
 pub mod Spelling
+pub mod LeftOut
+pub mod Back
+pub mod Kept
 pub mod SgrSpelling
-pub mod WholeSpelling
-pub mod ModeSpelling
 pub mod Alone
 pub mod SgrKept
-pub mod WholeKept
-pub mod ModeKept
 pub mod Parsed
 pub mod RoundTrip
 pub mod JoinedCuts

@@ -1,5 +1,5 @@
 -- The list that an action is written as, and that is read as this action alone.
-use Rattle.std.proofs.Common.{ℕ, ◌≡◌, ◌≤◌, List, [], ◌∷◌, ◌++◌, Bool, length, refl, sym, subst, Some, inl, inr, pos, arith, append-nil}
+use Rattle.std.proofs.Common.{ℕ, ◌≡◌, ◌≤◌, List, [], ◌∷◌, ◌++◌, Bool, length, refl, sym, ap, ◌∙◌, true, subst, Some, inl, inr, pos, arith, append-nil}
 use Rattle.std.specs.Prelude.{encode_utf8}
 use Rattle.std.proofs.lemmas.Int.{ints}
 use Rattle.std.proofs.lemmas.Str.{encode_ascii}
@@ -16,10 +16,12 @@ use Rattle.csicodec.specs.Groups.{group, Piece}
 use Rattle.csicodec.specs.Cut.{Cut, IsStuck}
 use Rattle.csicodec.specs.Segments.{Actions}
 use Rattle.csicodec.specs.Texts.{text}
-use Rattle.csicodec.specs.WholeBy.{whole}
+use Rattle.csicodec.specs.Whole.{whole}
+use Rattle.csicodec.specs.Written.{Written, tokens, written_text}
 use Rattle.csicodec.proofs.Fronts.{front_stuck, front_empty}
+use Rattle.csicodec.proofs.Items.{AllGood, is_sound, sound}
+use Rattle.csicodec.proofs.AllRows.{whole-group}
 use Rattle.csicodec.proofs.OneReading.{decodes-one, Alone}
-use Rattle.csicodec.proofs.Wholes.{is-whole}
 
 pub record Spelling (flag : Bool) (a : Action) : Type 0 where
   pub list : List CsiParam
@@ -89,8 +91,14 @@ whole-spelling flag a list final written ok ends read found = record {
   written = written;
   spellable = ok;
   ends = ends;
-  read = rw read (inl (a, is-whole list final a found, refl));
+  read = rw read (inl (a, found, refl));
 }
+
+-- what is written, and read whole
+pub written-spelling : (flag : Bool) (a : Action) (w : Written) → text a ≡ 27 ∷ 91 ∷ written_text w → is_sound w ≡ true → AllGood w.items → whole (tokens w.items) w.final ≡ Some a → Spelling flag a
+written-spelling flag a w shown test good found =
+    let s = sound w test good in
+    whole-spelling flag a (tokens w.items) w.final (shown ∙ ap (λ (l : List ℕ). 27 ∷ 91 ∷ l) s.text) s.spellable s.ends (whole-group (tokens w.items) w.final a found) found
 
 -- ---- a list that is one piece, in any group
 

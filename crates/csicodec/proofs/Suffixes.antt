@@ -11,14 +11,15 @@ use Rattle.csicodec.specs.declared.actions.mode.Switch.TheVariants as switches
 use Rattle.csicodec.specs.declared.actions.mode.TerminalMode.{TerminalMode}
 use Rattle.csicodec.specs.declared.group.Group.{Group}
 use Rattle.csicodec.specs.declared.group.Group.TheVariants as groups
-use Rattle.csicodec.specs.Actions.{Action, Sgr, Cursor, Edit, Mode, Unspecified}
+use Rattle.csicodec.specs.Actions.{Action, Sgr, Cursor, Edit, Mode, Device, Keyboard, Mouse, SelectCharacterPath, Unspecified}
 use Rattle.csicodec.specs.Groups.{group, start, marked, has_odd, Piece}
 use Rattle.csicodec.specs.Cut.{body, Cut}
 use Rattle.csicodec.specs.Modes.{changed, switched}
 use Rattle.csicodec.specs.Segments.{remainder, empty_action, BodyActions, CutActions, ActionsIn}
 use Rattle.csicodec.specs.Suffix.{IsSuffix, changes_private, EndsUnknown, SuffixLaw}
-use Rattle.csicodec.specs.Whole.{Enumeration, CursorStyles, TabulationControls, TabulationClears, ErasesInDisplay, ErasesInLine, Numbered, whole_rows, Whole}
-use Rattle.csicodec.proofs.Gives.{RowsGive, one-fits, most-fits, whole-gives}
+use Rattle.std.specs.List.{AllByRecursion}
+use Rattle.csicodec.specs.Whole.{Whole}
+use Rattle.csicodec.proofs.AllRows.{RowsKeep, whole-keeps}
 use Rattle.csicodec.proofs.GroupOf.{marked-body}
 
 -- whether a `?` is put ahead of what is unknown behind a piece
@@ -28,13 +29,13 @@ puts_mark groups.Styles = false
 puts_mark (groups.Modes s) = false
 puts_mark (groups.DecModes c) = true
 
-changes-private : (c : Change) (m : DecPrivateMode) → changes_private (changed c m) ≡ true
+changes-private : (c : Change) (m : DecPrivateMode) → changes_private (Mode (changed c m)) ≡ true
 changes-private changes.Set m = refl
 changes-private changes.Reset m = refl
 changes-private changes.Save m = refl
 changes-private changes.Restore m = refl
 
-switches-none : (s : Switch) (m : TerminalMode) → changes_private (switched s m) ≡ false
+switches-none : (s : Switch) (m : TerminalMode) → changes_private (Mode (switched s m)) ≡ false
 switches-none switches.Set m = refl
 switches-none switches.Reset m = refl
 
@@ -71,31 +72,23 @@ remainder-ends (groups.DecModes c) list (t ∷ ts) flag final s = (refl, refl, r
 
 -- no row of a whole list gives what is unknown
 abbrev IsKnown : Action → Type 0
-IsKnown (Sgr s) = Unit {0}
-IsKnown (Cursor c) = Unit {0}
-IsKnown (Edit e) = Unit {0}
-IsKnown (Mode m) = Unit {0}
 IsKnown (Unspecified params own final) = ⊥
+IsKnown a = Unit {0}
 
-numbered-known : (of : Enumeration) (n : ℕ) (a : Action) → Numbered of n a → IsKnown a
-numbered-known CursorStyles n a h = rw h.2 tt
-numbered-known TabulationControls n a h = rw h.2 tt
-numbered-known TabulationClears n a h = rw h.2 tt
-numbered-known ErasesInDisplay n a h = rw h.2 tt
-numbered-known ErasesInLine n a h = rw h.2 tt
+rows-known : RowsKeep (λ k v. Unit {0}) IsKnown
+rows-known = search rules depth 60
 
-rows-known : RowsGive (λ value. Unit {0}) IsKnown whole_rows
-rows-known = search (rules, numbered-known, one-fits, most-fits) depth 60
+-- of any tokens
+no-tokens : (list : List CsiParam) → AllByRecursion (λ (t : CsiParam). Unit {0}) list
+no-tokens [] = tt
+no-tokens (t ∷ ts) = (tt, no-tokens ts)
 
 whole-ends : (list : List CsiParam) (flag : Bool) (final : ℕ) (a : Action) → Whole list final a → EndsUnknown false list flag final (a ∷ [])
-whole-ends list flag final a w = go a (whole-gives (λ value. Unit {0}) IsKnown rows-known list final a (λ k value tail same v. tt) w)
+whole-ends list flag final a w = go a (whole-keeps (λ t. Unit {0}) (λ k v. Unit {0}) IsKnown (λ k z v h e. tt) rows-known list final a (no-tokens list) w)
   where
     go : (x : Action) → IsKnown x → EndsUnknown false list flag final (x ∷ [])
-    go (Sgr s) known = tt
-    go (Cursor c) known = tt
-    go (Edit e) known = tt
-    go (Mode m) known = tt
     go (Unspecified params own control) known = absurd known
+    go x known = tt
 
 -- ---- a list that is cut
 

@@ -1,10 +1,14 @@
 -- What an action says, without where it lies in memory: contracts compare these.
-use Rattle.std.specs.Prelude.{ℕ, List, Bool}
+use Rattle.std.specs.Prelude.{ℕ, ℤ, List, Bool}
 use Rattle.csicodec_base.specs.declared.param.CsiParam.{CsiParam}
 use Rattle.csicodec_base.specs.declared.sgr.Sgr as sgr_type
 use Rattle.csicodec.specs.declared.actions.cursor.Cursor as cursor_type
 use Rattle.csicodec.specs.declared.actions.edit.Edit as edit_type
+use Rattle.csicodec.specs.declared.actions.device.Device as device_type
+use Rattle.csicodec.specs.declared.actions.keyboard.CharacterPath.{CharacterPath}
+use Rattle.csicodec.specs.declared.actions.keyboard.Keyboard as keyboard_type
 use Rattle.csicodec.specs.declared.actions.mode.Mode as mode_type
+use Rattle.csicodec.specs.declared.actions.mouse.MouseReport as mouse_type
 use Rattle.csicodec.specs.declared.actions.Unspecified as unspecified_type
 use Rattle.csicodec.specs.declared.actions.CSI.{CSI}
 use Rattle.csicodec.specs.declared.actions.CSI.TheVariants as csi
@@ -15,6 +19,10 @@ pub data Action : Type 0 where
   Cursor : cursor_type.Cursor → Action
   Edit : edit_type.Edit → Action
   Mode : mode_type.Mode → Action
+  Mouse : mouse_type.MouseReport → Action
+  Device : device_type.Device → Action
+  Keyboard : keyboard_type.Keyboard → Action
+  SelectCharacterPath : CharacterPath → ℤ → Action
   Unspecified : (params : List CsiParam) (parameters_truncated : Bool) (control : ℕ) → Action
 
 abbrev pub unspecified_of : unspecified_type.Unspecified → Action
@@ -25,12 +33,13 @@ action_of (csi.Sgr s) = Sgr s
 action_of (csi.Cursor c) = Cursor c
 action_of (csi.Edit e) = Edit e
 action_of (csi.Mode m) = Mode m
+action_of (csi.Mouse m) = Mouse m
+action_of (csi.Device d) = Device d
+action_of (csi.Keyboard k) = Keyboard k
+action_of (csi.SelectCharacterPath path effect) = SelectCharacterPath path effect
 action_of (csi.Unspecified u) = unspecified_of u.value
 
 -- the actions whose values hold memory
 abbrev pub TakesMemory : Action → Type 0
-TakesMemory (Sgr s) = ⊥
-TakesMemory (Cursor c) = ⊥
-TakesMemory (Edit e) = ⊥
-TakesMemory (Mode m) = ⊥
 TakesMemory (Unspecified params flag final) = Unit {0}
+TakesMemory action = ⊥

@@ -4,7 +4,7 @@ use Rattle.csicodec_base.specs.declared.param.CsiParam.{CsiParam}
 use Rattle.csicodec_base.specs.declared.param.CsiParam.TheVariants.{P}
 use Rattle.csicodec.specs.declared.actions.mode.Mode as mode_type
 use Rattle.csicodec.specs.declared.actions.mode.Mode.TheVariants as mode
-use Rattle.csicodec.specs.Actions.{Action, Sgr, Cursor, Edit, Mode, Unspecified}
+use Rattle.csicodec.specs.Actions.{Action, Sgr, Cursor, Edit, Mode, Device, Keyboard, Mouse, SelectCharacterPath, Unspecified}
 use Rattle.csicodec.specs.Segments.{Actions}
 
 -- the list ends in it
@@ -17,27 +17,20 @@ HoldsEnd false list params = IsSuffix list params
 HoldsEnd true list params = (rest : List CsiParam) × (params ≡ P 63 ∷ rest) × IsSuffix list rest
 
 -- private modes are set, reset, saved and restored by lists that begin with `?`
-abbrev pub changes_private : mode_type.Mode → Bool
-changes_private (mode.SetDecPrivateMode m) = true
-changes_private (mode.ResetDecPrivateMode m) = true
-changes_private (mode.SaveDecPrivateMode m) = true
-changes_private (mode.RestoreDecPrivateMode m) = true
-changes_private (mode.QueryDecPrivateMode m) = false
-changes_private (mode.SetMode m) = false
-changes_private (mode.ResetMode m) = false
-changes_private (mode.QueryMode m) = false
-changes_private (mode.XtermKeyMode resource value) = false
+abbrev pub changes_private : Action → Bool
+changes_private (Mode (mode.SetDecPrivateMode m)) = true
+changes_private (Mode (mode.ResetDecPrivateMode m)) = true
+changes_private (Mode (mode.SaveDecPrivateMode m)) = true
+changes_private (Mode (mode.RestoreDecPrivateMode m)) = true
+changes_private action = false
 
 -- Each unknown action is the last, has this flag and this final, and holds an end of the list. What stands directly before decides whether a
 -- `?` is put ahead.
 abbrev pub EndsUnknown : Bool → List CsiParam → Bool → ℕ → List Action → Type 0
 EndsUnknown behind list flag final [] = Unit {0}
-EndsUnknown behind list flag final (Sgr s ∷ more) = EndsUnknown false list flag final more
-EndsUnknown behind list flag final (Cursor c ∷ more) = EndsUnknown false list flag final more
-EndsUnknown behind list flag final (Edit e ∷ more) = EndsUnknown false list flag final more
-EndsUnknown behind list flag final (Mode m ∷ more) = EndsUnknown (changes_private m) list flag final more
 EndsUnknown behind list flag final (Unspecified params own control ∷ more) =
     (more ≡ []) × (own ≡ flag) × (control ≡ final) × HoldsEnd behind list params
+EndsUnknown behind list flag final (action ∷ more) = EndsUnknown (changes_private action) list flag final more
 
 abbrev pub SuffixLaw : List CsiParam → Bool → ℕ → Type 0
 SuffixLaw list flag final = (actions : List Action) → Actions list flag final actions → EndsUnknown false list flag final actions

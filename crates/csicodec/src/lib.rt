@@ -5,6 +5,7 @@
 mod actions;
 mod count;
 mod filter;
+mod flags;
 mod group;
 pub mod laws;
 mod list;
@@ -18,7 +19,8 @@ mod tokens;
 mod whole;
 
 pub use actions::{
-    CSI, Cursor, DecPrivateMode, Edit, Mode, TerminalMode, Unspecified, XtermKeyModifierResource,
+    CSI, CharacterPath, Cursor, DecPrivateMode, Device, Edit, Keyboard, KittyKeyboardMode, Mode,
+    MouseButton, MouseReport, TerminalMode, Unspecified, XtermKeyModifierResource,
 };
 pub use count::Count;
 pub use csicodec_base::{
@@ -28,6 +30,7 @@ pub use csicodec_base::{
     Text, Underline, VerticalAlign, read_csi, read_csi_into, sgr_front,
 };
 pub use filter::{Filter, filter_all};
+pub use flags::{KittyKeyboardFlags, Modifiers};
 pub use look::Look;
 pub use parser::{CSIParser, Run};
 pub use stream::{DecodeError, RunError, decode_all, encode_all, normalise, parse_all};

@@ -1,19 +1,17 @@
 //! The rows of the cursor.
-ghost use Rattle.std.specs.Prelude.{◌≡◌, None, Some, IfNone, IfSome};
+ghost use Rattle.std.specs.Prelude.{◌≡◌};
 ghost use Rattle.std.specs.Option.{option_map};
-ghost use Rattle.csicodec_base.specs.OneBased.{most};
-ghost use Rattle.csicodec.specs.declared.actions.cursor.Cursor.TheVariants as cursors;
 ghost use Rattle.csicodec.specs.Actions.{Cursor as Moves};
-ghost use Rattle.csicodec.specs.Whole.{Spaced, CursorStyles};
-ghost use Rattle.csicodec.specs.WholeBy.{cursor_form, cursor_styles, only_empty, only_number, paired, read, read_by, variant_at};
+ghost use Rattle.csicodec.specs.Kinds.{Style, read};
+ghost use Rattle.csicodec.specs.Table.Cursor.{as_cursor};
 
 use crate::actions::Cursor;
-use crate::params::ParseParams;
+use crate::params::{ParseParams, made};
 use csicodec_base::{CsiParam, CursorStyle, OneBased};
 
-/// The action of the cursor before this final character, if its row reads the list.
+/// The action of the cursor before this final character, if a row reads the list.
 pub(crate) fn cursor_action(params: &[CsiParam], control: char) -> Option<Cursor>
-    ensures { option_map (λ c. Moves c) result ≡ read_by (cursor_form control) params.now }
+    ensures { option_map (λ c. Moves c) result ≡ as_cursor params.now control }
 {
     match control {
         'A' => made(params, Cursor::Up),
@@ -55,19 +53,10 @@ pub(crate) fn cursor_action(params: &[CsiParam], control: char) -> Option<Cursor
     }
 }
 
-/// The action of a list that is one parameter.
-fn made<T: ParseParams, F: FnOnce(T) -> Cursor>(params: &[CsiParam], make: F) -> Option<Cursor>
-    requires { F.IsAlwaysCallable make }
-    ensures none { IfNone result (T.parsed params.now ≡ None) }
-    ensures some { IfSome result (λ cursor. (value : T) × (T.parsed params.now ≡ Some value) × F.post make value cursor) }
-{
-    Some(make(T::parse_params(params)?))
-}
-
 /// A top and a bottom margin. A bottom of 0, or that is left out, is 4294967295.
+#[tactic(auto, unfolding(crate::specs::Kinds::read, crate::specs::Table::Cursor::as_cursor))]
 fn top_and_bottom(params: &[CsiParam]) -> Option<Cursor>
-    ensures { option_map (λ c. Moves c) result
-        ≡ paired (Moves (cursors.SetTopAndBottomMargins 1 most)) most most (λ a b. Moves (cursors.SetTopAndBottomMargins a b)) params.now }
+    ensures { option_map (λ c. Moves c) result ≡ as_cursor params.now 114 }
 {
     let (top, bottom) = match params {
         [] => (OneBased::new(1), OneBased::new(u32::MAX)),
@@ -87,9 +76,9 @@ fn top_and_bottom(params: &[CsiParam]) -> Option<Cursor>
 
 /// Without a parameter the cursor is saved; else a left and a right margin. A right that is left out is 4294967295, and
 /// one of 0 is 1.
+#[tactic(auto, unfolding(crate::specs::Kinds::read, crate::specs::Table::Cursor::as_cursor))]
 fn left_and_right(params: &[CsiParam]) -> Option<Cursor>
-    ensures { option_map (λ c. Moves c) result
-        ≡ paired (Moves cursors.SaveCursor) most 1 (λ a b. Moves (cursors.SetLeftAndRightMargins a b)) params.now }
+    ensures { option_map (λ c. Moves c) result ≡ as_cursor params.now 115 }
 {
     let (left, right) = match params {
         [] => return Some(Cursor::SaveCursor),
@@ -107,9 +96,10 @@ fn left_and_right(params: &[CsiParam]) -> Option<Cursor>
     Some(Cursor::SetLeftAndRightMargins { left, right })
 }
 
-/// No parameter.
+/// No parameter restores the cursor.
+#[tactic(auto, unfolding(crate::specs::Table::Cursor::as_cursor))]
 fn restore(params: &[CsiParam]) -> Option<Cursor>
-    ensures { option_map (λ c. Moves c) result ≡ only_empty (Moves cursors.RestoreCursor) params.now }
+    ensures { option_map (λ c. Moves c) result ≡ as_cursor params.now 117 }
 {
     match params {
         [] => Some(Cursor::RestoreCursor),
@@ -117,9 +107,10 @@ fn restore(params: &[CsiParam]) -> Option<Cursor>
     }
 }
 
-/// The number 6.
+/// The number 6 asks for the place of the cursor.
+#[tactic(auto, unfolding(crate::specs::Table::Cursor::as_cursor))]
 fn request(params: &[CsiParam]) -> Option<Cursor>
-    ensures { option_map (λ c. Moves c) result ≡ only_number 6 (Moves cursors.RequestActivePositionReport) params.now }
+    ensures { option_map (λ c. Moves c) result ≡ as_cursor params.now 110 }
 {
     match params {
         [CsiParam::Integer(6)] => Some(Cursor::RequestActivePositionReport),
@@ -128,8 +119,9 @@ fn request(params: &[CsiParam]) -> Option<Cursor>
 }
 
 /// The number of a style, and a space.
+#[tactic(auto, unfolding(crate::specs::Table::Cursor::as_cursor))]
 fn style(params: &[CsiParam]) -> Option<Cursor>
-    ensures { option_map (λ c. Moves c) result ≡ read (Spaced CursorStyles) params.now }
+    ensures { option_map (λ c. Moves c) result ≡ as_cursor params.now 113 }
 {
     match params {
         [CsiParam::Integer(number), CsiParam::P(b' ')] => {
@@ -140,7 +132,7 @@ fn style(params: &[CsiParam]) -> Option<Cursor>
 }
 
 fn style_at(number: i64) -> Option<CursorStyle>
-    ensures { result ≡ variant_at cursor_styles number }
+    ensures { result ≡ read Style number }
 {
     CursorStyle::from_i64(number)
 }

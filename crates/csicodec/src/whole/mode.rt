@@ -1,16 +1,16 @@
-//! The rows of modes that are read whole.
+//! The rows of modes: those that are asked for, and modified keys.
 ghost use Rattle.std.specs.Prelude.{◌≡◌};
 ghost use Rattle.std.specs.Option.{option_map};
-ghost use Rattle.csicodec.specs.Actions.{Mode as Sets};
-ghost use Rattle.csicodec.specs.ModesBy.{key_mode, query};
-ghost use Rattle.csicodec.specs.WholeBy.{mode_form, read_by};
+ghost use Rattle.csicodec.specs.Actions.{Mode as Modes};
+ghost use Rattle.csicodec.specs.Kinds.{Resource, read};
+ghost use Rattle.csicodec.specs.Table.Mode.{as_mode};
 
 use crate::actions::{DecPrivateMode, Mode, TerminalMode, XtermKeyModifierResource};
-use csicodec_base::CsiParam;
+use csicodec_base::CsiParam::{self, Integer, P};
 
-/// The action of a mode before this final character, if its row reads the list.
+/// What is asked or said of a mode before this final character, if a row reads the list.
 pub(crate) fn mode_action(params: &[CsiParam], control: char) -> Option<Mode>
-    ensures { option_map (λ m. Sets m) result ≡ read_by (mode_form control) params.now }
+    ensures { option_map (λ m. Modes m) result ≡ as_mode params.now control }
 {
     match control {
         'p' => query(params),
@@ -20,41 +20,49 @@ pub(crate) fn mode_action(params: &[CsiParam], control: char) -> Option<Mode>
 }
 
 /// The number of a mode, or `?` and that of a private one, and a `$`.
+#[tactic(auto, unfolding(crate::specs::Table::Mode::as_mode))]
 fn query(params: &[CsiParam]) -> Option<Mode>
-    ensures { option_map (λ m. Sets m) result ≡ query params.now }
+    ensures { option_map (λ m. Modes m) result ≡ as_mode params.now 112 }
 {
     match params {
-        [CsiParam::Integer(number), CsiParam::P(b'$')] => {
-            Some(Mode::QueryMode(TerminalMode::at(*number)?))
+        [Integer(number), P(b'$')] => Some(Mode::QueryMode(TerminalMode::at(*number)?)),
+        [P(b'?'), Integer(number), P(b'$')] => {
+            Some(Mode::QueryDecPrivateMode(DecPrivateMode::at(*number)?))
         }
-        [
-            CsiParam::P(b'?'),
-            CsiParam::Integer(number),
-            CsiParam::P(b'$'),
-        ] => Some(Mode::QueryDecPrivateMode(DecPrivateMode::at(*number)?)),
         _ => None,
     }
 }
 
 /// A `>`, the number of a resource, and perhaps a `;` and a value.
+#[tactic(auto, unfolding(crate::specs::Table::Mode::as_mode))]
 fn key_mode(params: &[CsiParam]) -> Option<Mode>
-    ensures { option_map (λ m. Sets m) result ≡ key_mode params.now }
+    ensures { option_map (λ m. Modes m) result ≡ as_mode params.now 109 }
 {
-    let (number, value) = match params {
-        [CsiParam::P(b'>'), CsiParam::Integer(number)] => (*number, None),
-        [
-            CsiParam::P(b'>'),
-            CsiParam::Integer(number),
-            CsiParam::P(b';'),
-        ] => (*number, None),
-        [
-            CsiParam::P(b'>'),
-            CsiParam::Integer(number),
-            CsiParam::P(b';'),
-            CsiParam::Integer(value),
-        ] => (*number, Some(*value)),
-        _ => return None,
-    };
-    let resource = XtermKeyModifierResource::parse(number)?;
-    Some(Mode::XtermKeyMode { resource, value })
+    match params {
+        [P(b'>'), Integer(number)] => {
+            let resource = resource_at(*number)?;
+            Some(Mode::XtermKeyMode {
+                resource,
+                value: None,
+            })
+        }
+        [P(b'>'), Integer(number), P(b';')] => {
+            let resource = resource_at(*number)?;
+            Some(Mode::XtermKeyMode {
+                resource,
+                value: None,
+            })
+        }
+        [P(b'>'), Integer(number), P(b';'), Integer(value)] => {
+            let (resource, value) = (resource_at(*number)?, Some(*value));
+            Some(Mode::XtermKeyMode { resource, value })
+        }
+        _ => None,
+    }
+}
+
+fn resource_at(number: i64) -> Option<XtermKeyModifierResource>
+    ensures { result ≡ read Resource number }
+{
+    XtermKeyModifierResource::parse(number)
 }

@@ -1,0 +1,25 @@
+-- What the keyboard says is written as is read as it.
+use Rattle.std.proofs.Common.{ℕ, ◌≡◌, List, [], ◌∷◌, Bool, true, Some, refl, rules, pos}
+use Rattle.csicodec.specs.declared.actions.keyboard.Keyboard as keyboard_type
+use Rattle.csicodec.specs.declared.actions.keyboard.Keyboard.TheVariants as keyboard
+use Rattle.csicodec.specs.Actions.{Action, Keyboard}
+use Rattle.csicodec.specs.Table.Keyboard.{as_keyboard, written_keyboard}
+use Rattle.csicodec.specs.Written.{tokens}
+use Rattle.csicodec.proofs.Disjoint.{keyboard-whole}
+use Rattle.csicodec.proofs.Items.{AllGood, is_sound}
+use Rattle.csicodec.proofs.Spelling.{Spelling, written-spelling}
+use Rattle.csicodec.proofs.Values.{Good, read-good}
+
+keyboard-back : (k : keyboard_type.Keyboard) → AllGood (written_keyboard k).items → as_keyboard (tokens (written_keyboard k).items) (written_keyboard k).final ≡ Some (Keyboard k)
+unfolding as_keyboard
+keyboard-back (keyboard.SetKittyState f m) good = search (rules, read-good)
+keyboard-back (keyboard.PushKittyState f m) good = search (rules, read-good)
+keyboard-back (keyboard.PopKittyState n) good = search (rules, read-good)
+keyboard-back keyboard.QueryKittySupport good = search (rules, read-good)
+keyboard-back (keyboard.ReportKittyState f) good = search (rules, read-good)
+
+keyboard-sound : (k : keyboard_type.Keyboard) → is_sound (written_keyboard k) ≡ true
+keyboard-sound k = elim k as (λ x. is_sound (written_keyboard x) ≡ true) [ keyboard.QueryKittySupport ↦ refl | _ ↦ refl ]
+
+pub keyboard-spelling : (flag : Bool) (k : keyboard_type.Keyboard) → AllGood (written_keyboard k).items → Spelling flag (Keyboard k)
+keyboard-spelling flag k good = written-spelling flag (Keyboard k) (written_keyboard k) refl (keyboard-sound k) good (keyboard-whole _ _ _ (keyboard-back k good))

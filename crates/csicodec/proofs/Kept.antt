@@ -1,0 +1,79 @@
+-- What reading makes is canonical or special.
+use Rattle.std.proofs.Common.{ℕ, ◌≡◌, ◌<◌, List, [], ◌∷◌, Bool, true, false, Some, pos, refl, rules, inl, inr}
+use Rattle.std.specs.Prelude.{◌==◌, ◌&&◌}
+use Rattle.std.proofs.lemmas.Bool.{cases_Bool, and_parts, eqb-true}
+use Rattle.csicodec_base.specs.declared.param.CsiParam.{CsiParam}
+use Rattle.csicodec_base.specs.declared.param.CsiParam.TheVariants.{Integer}
+use Rattle.csicodec_base.specs.OneBased.{most}
+use Rattle.csicodec_base.specs.Sequence.{IsSpellable, Spellable}
+use Rattle.csicodec.specs.declared.actions.cursor.Cursor.TheVariants as cursor
+use Rattle.csicodec.specs.declared.actions.mode.Change.{Change}
+use Rattle.csicodec.specs.declared.actions.mode.Change.TheVariants as change
+use Rattle.csicodec.specs.declared.actions.mode.DecPrivateMode.{DecPrivateMode}
+use Rattle.csicodec.specs.declared.actions.mode.Switch.{Switch}
+use Rattle.csicodec.specs.declared.actions.mode.Switch.TheVariants as switch
+use Rattle.csicodec.specs.declared.actions.mode.TerminalMode.{TerminalMode}
+use Rattle.csicodec.specs.Actions.{Action, Cursor, Mode, Mouse}
+use Rattle.csicodec.specs.declared.actions.mouse.MouseButton.{MouseButton}
+use Rattle.csicodec.specs.declared.actions.mouse.MouseReport.TheVariants as mouse
+use Rattle.csicodec.specs.declared.flags.Modifiers.{Modifiers}
+use Rattle.csicodec.specs.Mouse.{pressed, released, is_release}
+use Rattle.csicodec.proofs.MouseCodes.{IsReport, release-pressed, none-released}
+use Rattle.csicodec.specs.Kinds.{Kind, Count, Last, Dec, Terminal, read}
+use Rattle.csicodec.specs.Modes.{changed, switched}
+use Rattle.csicodec.specs.Special.{IsSpecial}
+use Rattle.csicodec.specs.Whole.{whole}
+use Rattle.csicodec.specs.Written.{two}
+use Rattle.csicodec.proofs.Canonical.{Kept}
+use Rattle.csicodec.proofs.Items.{AllGood}
+use Rattle.csicodec.proofs.AllRows.{RowsKeep, spellable-tokens, whole-keeps}
+use Rattle.csicodec.proofs.Values.{Good, IsOneBased, dec-read, terminal-read, good-read, one-fits, most-fits}
+
+-- top and bottom margins, which are left out where they are all around
+rows-kept : (flag : Bool) (a b : ℕ) → IsOneBased a → IsOneBased b → Kept flag (Cursor (cursor.SetTopAndBottomMargins a b))
+rows-kept flag a b fa fb = elim (cases_Bool (a == 1 && b == most)) [
+  | inl all ↦ record { range = tt; canonical = inr (rw all tt, λ h. cc) }
+  | inr less ↦ record { range = tt; canonical = inr (rw less (fa, (fb, tt)), λ h. cc) }
+]
+
+-- left and right margins are special where they are all around
+columns-kept : (flag : Bool) (a b : ℕ) → IsOneBased a → IsOneBased b → Kept flag (Cursor (cursor.SetLeftAndRightMargins a b))
+columns-kept flag a b fa fb = elim (cases_Bool (a == 1 && b == most)) [
+  | inl all ↦
+      let p = and_parts (a == 1) (b == most) all in
+      let one : a ≡ 1 = eqb-true a 1 p.0 in
+      let end : b ≡ most = eqb-true b most p.1 in
+      record { range = tt; canonical = inl (rw (one, end) refl) }
+  | inr less ↦ record { range = tt; canonical = inr (rw less (fa, (fb, tt)), λ h. cc) }
+]
+
+-- a report goes by its button
+press-kept : (flag : Bool) (v : MouseButton × Modifiers) (x y : ℕ) → IsReport pressed v → x < 65536 → y < 65536 → Kept flag (Mouse (mouse.SGR1006 x y v.0 v.1))
+press-kept flag v x y h fx fy = record { range = tt; canonical = inr (rw (release-pressed v.0 h.one) (h, (fx, (fy, tt))), λ e. cc) }
+
+release-kept : (flag : Bool) (v : MouseButton × Modifiers) (x y : ℕ) → IsReport released v → x < 65536 → y < 65536 → Kept flag (Mouse (mouse.SGR1006 x y v.0 v.1))
+release-kept flag v x y h fx fy = elim (cases_Bool (is_release v.0)) [
+  | inl up ↦ record { range = tt; canonical = inr (rw up (h, (fx, (fy, tt))), λ e. cc) }
+  | inr none ↦
+      let here : IsReport pressed v = record { one = none-released v.0 h.one none; held = h.held } in
+      record { range = tt; canonical = inr (rw none (here, (fx, (fy, tt))), λ e. cc) }
+]
+
+table-kept : (flag : Bool) → RowsKeep Good (Kept flag)
+table-kept flag = search (rules, rows-kept, columns-kept, press-kept, release-kept, one-fits, most-fits) depth 60
+
+pub whole-kept : (flag : Bool) (list : List CsiParam) (final : ℕ) (a : Action) → Spellable list → whole list final ≡ Some a → Kept flag a
+whole-kept flag list final a ok e =
+    whole-keeps IsSpellable Good (Kept flag) (λ k z v fits found. good-read k z v fits found) (table-kept flag) list final a (spellable-tokens list ok) e
+
+-- ---- pieces
+
+pub changed-kept : (flag : Bool) (c : Change) (n : ℕ) (m : DecPrivateMode) → read Dec (pos n) ≡ Some m → Kept flag (Mode (changed c m))
+changed-kept flag change.Set n m h = record { range = tt; canonical = inr ((dec-read (pos n) m h, tt), λ e. cc) }
+changed-kept flag change.Reset n m h = record { range = tt; canonical = inr ((dec-read (pos n) m h, tt), λ e. cc) }
+changed-kept flag change.Save n m h = record { range = tt; canonical = inr ((dec-read (pos n) m h, tt), λ e. cc) }
+changed-kept flag change.Restore n m h = record { range = tt; canonical = inr ((dec-read (pos n) m h, tt), λ e. cc) }
+
+pub switched-kept : (flag : Bool) (s : Switch) (n : ℕ) (m : TerminalMode) → read Terminal (pos n) ≡ Some m → Kept flag (Mode (switched s m))
+switched-kept flag switch.Set n m h = record { range = tt; canonical = inr ((terminal-read (pos n) m h, tt), λ e. cc) }
+switched-kept flag switch.Reset n m h = record { range = tt; canonical = inr ((terminal-read (pos n) m h, tt), λ e. cc) }

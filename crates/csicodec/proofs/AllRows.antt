@@ -21,7 +21,7 @@ use Rattle.csicodec.specs.Table.Keyboard.{as_keyboard}
 use Rattle.csicodec.specs.Table.Mode.{as_mode}
 use Rattle.csicodec.specs.Table.Mouse.{as_mouse}
 use Rattle.csicodec.specs.Table.Path.{as_path}
-use Rattle.csicodec.specs.Whole.{table, plain, whole}
+use Rattle.csicodec.specs.Whole.{table, plain, boxed, whole}
 use Rattle.csicodec.proofs.Found.{guarded}
 
 -- ---- several tables as one
@@ -44,7 +44,7 @@ read-append : {R : Type 0} (xs ys : List (Before R)) (list : List CsiParam) (fin
 read-append xs ys list final = ap (λ rows. given rows list) (before-append xs ys final) ∙ given-append (rows_before xs final) (rows_before ys final) list
 
 pub whole-table : (list : List CsiParam) (final : ℕ) → whole list final ≡ read_by table list final
-unfolding whole plain as_cursor as_edit as_mode as_mouse as_keyboard as_path as_device
+unfolding whole plain boxed as_cursor as_edit as_mode as_mouse as_keyboard as_path as_device
 whole-table list final = simp (option_or-assoc, read-append) refl
 
 -- ---- the row that gave an action
@@ -80,8 +80,8 @@ rows-of Q (b ∷ others) final all = elim (cases_Bool (final == b.final)) [
   | inr later ↦ rw later (rows-of Q others final all.1)
 ]
 
-pub row-of : (Q : ℕ → Row Action → Type 0) (list : List CsiParam) (final : ℕ) (a : Action) → AllRows Q table → whole list final ≡ Some a → RowOf Q list final a
-row-of Q list final a all e = given-row Q (rows_before table final) list final a (rows-of Q table final all) (sym (whole-table list final) ∙ e)
+pub row-in : (Q : ℕ → Row Action → Type 0) (rows : List (Before Action)) (list : List CsiParam) (final : ℕ) (a : Action) → AllRows Q rows → read_by rows list final ≡ Some a → RowOf Q list final a
+row-in Q rows list final a all e = given-row Q (rows_before rows final) list final a (rows-of Q rows final all) e
 
 -- ---- what the rows make
 
@@ -109,13 +109,23 @@ made-keeps T G Q reads (One k ∷ shape) make (Integer z ∷ ts) a keeps all e =
     (λ v found is. made-keeps T G Q reads shape (make v) ts a (keeps v (reads k z v all.0 found)) all.1 is)
 made-keeps T G Q reads (One k ∷ shape) make (P c ∷ ts) a keeps all e = cc
 
-abbrev pub RowsKeep : ((k : Kind) → Value k → Type 0) → (Action → Type 0) → Type 0
-RowsKeep G Q = AllRows (λ final row. Keeps G Q row.shape row.make) table
+abbrev pub TableKeeps : ((k : Kind) → Value k → Type 0) → (Action → Type 0) → List (Before Action) → Type 0
+TableKeeps G Q rows = AllRows (λ final row. Keeps G Q row.shape row.make) rows
 
-pub whole-keeps : (T : CsiParam → Type 0) (G : (k : Kind) → Value k → Type 0) (Q : Action → Type 0) → ReadsAs T G → RowsKeep G Q → (list : List CsiParam) (final : ℕ) (a : Action) → AllByRecursion T list
+pub table-keeps : (T : CsiParam → Type 0) (G : (k : Kind) → Value k → Type 0) (Q : Action → Type 0) → ReadsAs T G → (rows : List (Before Action)) → TableKeeps G Q rows → (list : List CsiParam) (final : ℕ)
+    (a : Action) → AllByRecursion T list → read_by rows list final ≡ Some a → Q a
+table-keeps T G Q reads rows keep list final a all e =
+    let r = row-in (λ final row. Keeps G Q row.shape row.make) rows list final a keep e in
+    made-keeps T G Q reads r.row.shape r.row.make list a r.holds all (guarded (has_shape r.row.shape list) _ a r.gave).1
+
+pub whole-keeps : (T : CsiParam → Type 0) (G : (k : Kind) → Value k → Type 0) (Q : Action → Type 0) → ReadsAs T G → TableKeeps G Q table → (list : List CsiParam) (final : ℕ) (a : Action) → AllByRecursion T list
     → whole list final ≡ Some a → Q a
-whole-keeps T G Q reads keep list final a all e =
-    let r = row-of (λ final row. Keeps G Q row.shape row.make) list final a keep e in made-keeps T G Q reads r.row.shape r.row.make list a r.holds all (guarded (has_shape r.row.shape list) _ a r.gave).1
+whole-keeps T G Q reads keep list final a all e = table-keeps T G Q reads table keep list final a all (sym (whole-table list final) ∙ e)
+
+-- of any tokens
+pub no-tokens : (list : List CsiParam) → AllByRecursion (λ (t : CsiParam). Unit {0}) list
+no-tokens [] = tt
+no-tokens (t ∷ ts) = (tt, no-tokens ts)
 
 pub spellable-tokens : (list : List CsiParam) → Spellable list → AllByRecursion IsSpellable list
 spellable-tokens [] ok = tt
@@ -150,4 +160,4 @@ rows-whole = search rules depth 60
 -- what a row reads is no list of pieces
 pub whole-group : (list : List CsiParam) (final : ℕ) (a : Action) → whole list final ≡ Some a → group list final ≡ groups.Whole
 whole-group list final a e =
-    let r = row-of (λ final row. ReadWhole final row.shape) list final a rows-whole e in shape-group final r.row.shape list r.holds (guarded (has_shape r.row.shape list) _ a r.gave).0
+    let r = row-in (λ final row. ReadWhole final row.shape) table list final a rows-whole (sym (whole-table list final) ∙ e) in shape-group final r.row.shape list r.holds (guarded (has_shape r.row.shape list) _ a r.gave).0

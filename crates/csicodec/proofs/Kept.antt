@@ -22,11 +22,11 @@ use Rattle.csicodec.proofs.MouseCodes.{IsReport, release-pressed, none-released}
 use Rattle.csicodec.specs.Kinds.{Kind, Count, Last, Dec, Terminal, read}
 use Rattle.csicodec.specs.Modes.{changed, switched}
 use Rattle.csicodec.specs.Special.{IsSpecial}
-use Rattle.csicodec.specs.Whole.{whole}
+use Rattle.csicodec.specs.Whole.{table, whole}
 use Rattle.csicodec.specs.Written.{two}
 use Rattle.csicodec.proofs.Canonical.{Kept}
 use Rattle.csicodec.proofs.Items.{AllGood}
-use Rattle.csicodec.proofs.AllRows.{RowsKeep, spellable-tokens, whole-keeps}
+use Rattle.csicodec.proofs.AllRows.{TableKeeps, spellable-tokens, whole-keeps}
 use Rattle.csicodec.proofs.Values.{Good, IsOneBased, dec-read, terminal-read, good-read, one-fits, most-fits}
 
 -- top and bottom margins, which are left out where they are all around
@@ -59,7 +59,7 @@ release-kept flag v x y h fx fy = elim (cases_Bool (is_release v.0)) [
       record { range = tt; canonical = inr (rw none (here, (fx, (fy, tt))), λ e. cc) }
 ]
 
-table-kept : (flag : Bool) → RowsKeep Good (Kept flag)
+table-kept : (flag : Bool) → TableKeeps Good (Kept flag) table
 table-kept flag = search (rules, rows-kept, columns-kept, press-kept, release-kept, one-fits, most-fits) depth 60
 
 pub whole-kept : (flag : Bool) (list : List CsiParam) (final : ℕ) (a : Action) → Spellable list → whole list final ≡ Some a → Kept flag a

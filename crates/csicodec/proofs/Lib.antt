@@ -3,6 +3,7 @@ pub mod MouseCodes
 pub mod Values
 pub mod Made
 pub mod AllRows
+pub mod Boxed
 pub mod Disjoint
 pub mod Items
 pub mod GroupOf

@@ -18,8 +18,8 @@ use Rattle.csicodec.specs.Modes.{changed, switched}
 use Rattle.csicodec.specs.Segments.{remainder, empty_action, BodyActions, CutActions, ActionsIn}
 use Rattle.csicodec.specs.Suffix.{IsSuffix, changes_private, EndsUnknown, SuffixLaw}
 use Rattle.std.specs.List.{AllByRecursion}
-use Rattle.csicodec.specs.Whole.{Whole}
-use Rattle.csicodec.proofs.AllRows.{RowsKeep, whole-keeps}
+use Rattle.csicodec.specs.Whole.{table, Whole}
+use Rattle.csicodec.proofs.AllRows.{TableKeeps, no-tokens, whole-keeps}
 use Rattle.csicodec.proofs.GroupOf.{marked-body}
 
 -- whether a `?` is put ahead of what is unknown behind a piece
@@ -75,13 +75,8 @@ abbrev IsKnown : Action → Type 0
 IsKnown (Unspecified params own final) = ⊥
 IsKnown a = Unit {0}
 
-rows-known : RowsKeep (λ k v. Unit {0}) IsKnown
+rows-known : TableKeeps (λ k v. Unit {0}) IsKnown table
 rows-known = search rules depth 60
-
--- of any tokens
-no-tokens : (list : List CsiParam) → AllByRecursion (λ (t : CsiParam). Unit {0}) list
-no-tokens [] = tt
-no-tokens (t ∷ ts) = (tt, no-tokens ts)
 
 whole-ends : (list : List CsiParam) (flag : Bool) (final : ℕ) (a : Action) → Whole list final a → EndsUnknown false list flag final (a ∷ [])
 whole-ends list flag final a w = go a (whole-keeps (λ t. Unit {0}) (λ k v. Unit {0}) IsKnown (λ k z v h e. tt) rows-known list final a (no-tokens list) w)

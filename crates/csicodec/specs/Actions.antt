@@ -1,5 +1,5 @@
 -- What an action says, without where it lies in memory: contracts compare these.
-use Rattle.std.specs.Prelude.{ℕ, ℤ, List, Bool}
+use Rattle.std.specs.Prelude.{ℕ, ℤ, List, Bool, true, false, IsTrue}
 use Rattle.csicodec_base.specs.declared.param.CsiParam.{CsiParam}
 use Rattle.csicodec_base.specs.declared.sgr.Sgr as sgr_type
 use Rattle.csicodec.specs.declared.actions.cursor.Cursor as cursor_type
@@ -34,12 +34,16 @@ action_of (csi.Cursor c) = Cursor c
 action_of (csi.Edit e) = Edit e
 action_of (csi.Mode m) = Mode m
 action_of (csi.Mouse m) = Mouse m
-action_of (csi.Device d) = Device d
+action_of (csi.Device d) = Device d.value
 action_of (csi.Keyboard k) = Keyboard k
 action_of (csi.SelectCharacterPath path effect) = SelectCharacterPath path effect
 action_of (csi.Unspecified u) = unspecified_of u.value
 
--- the actions whose values hold memory
+-- whether the value of an action holds memory
+abbrev pub takes_memory : Action → Bool
+takes_memory (Device d) = true
+takes_memory (Unspecified params flag final) = true
+takes_memory action = false
+
 abbrev pub TakesMemory : Action → Type 0
-TakesMemory (Unspecified params flag final) = Unit {0}
-TakesMemory action = ⊥
+TakesMemory action = IsTrue (takes_memory action)

@@ -19,9 +19,13 @@ plain list final =
     option_or (as_cursor list final)
     (option_or (as_edit list final) (option_or (as_mode list final) (option_or (as_mouse list final) (option_or (as_keyboard list final) (as_path list final)))))
 
+-- the same, where its value holds memory
+unfoldable pub boxed : List CsiParam → ℕ → Option Action
+boxed list final = as_device list final
+
 -- the action of a list before a final character: what a row of any subject gives; no two rows do (`RowsDecide`)
 unfoldable pub whole : List CsiParam → ℕ → Option Action
-whole list final = option_or (plain list final) (as_device list final)
+whole list final = option_or (plain list final) (boxed list final)
 
 abbrev pub Whole : List CsiParam → ℕ → Action → Type 0
 Whole list final action = whole list final ≡ Some action

@@ -5,14 +5,14 @@ use Rattle.std.specs.List.{AllByRecursion}
 use Rattle.std.specs.Option.{option_or}
 use Rattle.std.proofs.lemmas.Bool.{cases_Bool, and_parts, eqb-true}
 use Rattle.std.proofs.lemmas.Option.{same_Some, option_and_then_some}
-use Rattle.csicodec_base.specs.declared.param.CsiParam.{CsiParam}
-use Rattle.csicodec_base.specs.declared.param.CsiParam.TheVariants.{Integer, P}
-use Rattle.csicodec_base.specs.Sequence.{IsSpellable, Spellable}
+use Rattle.csicodec_tokens.specs.declared.param.CsiParam.{CsiParam}
+use Rattle.csicodec_tokens.specs.declared.param.CsiParam.TheVariants.{Integer, P}
+use Rattle.csicodec_tokens.specs.Sequence.{IsSpellable, Spellable}
 use Rattle.csicodec.specs.declared.group.Group.TheVariants as groups
 use Rattle.csicodec.specs.Actions.{Action}
 use Rattle.csicodec.specs.Groups.{group_by, group}
 use Rattle.csicodec.specs.Kinds.{Kind, Value, read}
-use Rattle.csicodec.specs.Numbered.{is_number}
+use Rattle.csicodec_names.specs.Numbered.{is_number}
 use Rattle.csicodec.specs.Rows.{Slot, Byte, Number, One, Makes, fits, has_shape, made, gives, Row, given, Before, rows_before, read_by}
 use Rattle.csicodec.specs.Table.Cursor.{as_cursor}
 use Rattle.csicodec.specs.Table.Device.{as_device}

@@ -2,8 +2,8 @@
 use Rattle.std.proofs.Common.{ℕ, ◌≡◌, ◌<◌, List, [], ◌∷◌, Bool, false, length, refl, sym, ap, arith, inl, inr}
 use Rattle.std.proofs.lemmas.Bool.{cases_Bool}
 use Rattle.std.proofs.lemmas.Str.{encode_ascii}
-use Rattle.csicodec_base.specs.declared.param.CsiParam.{CsiParam}
-use Rattle.csicodec_base.specs.Sequence.{IsFinal, Spellable}
+use Rattle.csicodec_tokens.specs.declared.param.CsiParam.{CsiParam}
+use Rattle.csicodec_tokens.specs.Sequence.{IsFinal, Spellable}
 use Rattle.csicodec.specs.declared.group.Group.{Group}
 use Rattle.csicodec.specs.declared.group.Group.TheVariants as groups
 use Rattle.csicodec.specs.Actions.{Action, Sgr, Cursor, Edit, Mode, Device, Keyboard, Mouse, SelectCharacterPath, Unspecified}

@@ -3,10 +3,10 @@ use Rattle.std.proofs.Common.{◌≡◌, ℕ, zero, suc, ◌<◌, ◌⊎◌, Lis
 use Rattle.std.specs.Prelude.{ℤ, negsuc, ◌==◌, ◌&&◌, ◌||◌, Bool, true, false, not, slice_get, if◌then◌else◌}
 use Rattle.std.specs.Option.{option_or}
 use Rattle.std.proofs.lemmas.Bool.{cases_Bool, and_parts, eqb-true}
-use Rattle.csicodec_base.specs.declared.param.CsiParam.{CsiParam}
-use Rattle.csicodec_base.specs.declared.param.CsiParam.TheVariants.{Integer, P}
+use Rattle.csicodec_tokens.specs.declared.param.CsiParam.{CsiParam}
+use Rattle.csicodec_tokens.specs.declared.param.CsiParam.TheVariants.{Integer, P}
 use Rattle.csicodec.specs.Actions.{Action}
-use Rattle.csicodec.specs.Numbered.{is_number}
+use Rattle.csicodec_names.specs.Numbered.{is_number}
 use Rattle.csicodec.specs.Rows.{Slot, Byte, Number, One, Row, fits, has_shape, gives, given, Before, rows_before, read_by}
 use Rattle.csicodec.specs.Table.Cursor.{cursor_rows, as_cursor}
 use Rattle.csicodec.specs.Table.Device.{device_rows, as_device}
@@ -19,7 +19,7 @@ use Rattle.csicodec.specs.Whole.{table, whole, RowsDecide}
 use Rattle.csicodec.proofs.AllRows.{before-append, given-append, whole-table}
 use Rattle.std.proofs.lemmas.Option.{same_Some, slice_get_read}
 use Rattle.csicodec.proofs.Found.{guarded}
-use Rattle.csicodec.proofs.Values.{is_number-pos}
+use Rattle.csicodec_names.proofs.Coded.{is_number-pos}
 
 -- no token fits both slots
 abbrev differ : Slot → Slot → Bool

@@ -2,10 +2,10 @@
 use Rattle.std.proofs.Common.{ℕ, ◌≡◌, ◌<◌, List, [], ◌∷◌, Bool, true, false, Some, pos, refl, rules, inl, inr}
 use Rattle.std.specs.Prelude.{◌==◌, ◌&&◌}
 use Rattle.std.proofs.lemmas.Bool.{cases_Bool, and_parts, eqb-true}
-use Rattle.csicodec_base.specs.declared.param.CsiParam.{CsiParam}
-use Rattle.csicodec_base.specs.declared.param.CsiParam.TheVariants.{Integer}
-use Rattle.csicodec_base.specs.OneBased.{most}
-use Rattle.csicodec_base.specs.Sequence.{IsSpellable, Spellable}
+use Rattle.csicodec_tokens.specs.declared.param.CsiParam.{CsiParam}
+use Rattle.csicodec_tokens.specs.declared.param.CsiParam.TheVariants.{Integer}
+use Rattle.csicodec_tokens.specs.OneBased.{most}
+use Rattle.csicodec_tokens.specs.Sequence.{IsSpellable, Spellable}
 use Rattle.csicodec.specs.declared.actions.cursor.Cursor.TheVariants as cursor
 use Rattle.csicodec.specs.declared.actions.mode.Change.{Change}
 use Rattle.csicodec.specs.declared.actions.mode.Change.TheVariants as change
@@ -16,7 +16,7 @@ use Rattle.csicodec.specs.declared.actions.mode.TerminalMode.{TerminalMode}
 use Rattle.csicodec.specs.Actions.{Action, Cursor, Mode, Mouse}
 use Rattle.csicodec.specs.declared.actions.mouse.MouseButton.{MouseButton}
 use Rattle.csicodec.specs.declared.actions.mouse.MouseReport.TheVariants as mouse
-use Rattle.csicodec.specs.declared.flags.Modifiers.{Modifiers}
+use Rattle.csicodec_names.specs.declared.flags.Modifiers.{Modifiers}
 use Rattle.csicodec.specs.Mouse.{pressed, released, is_release}
 use Rattle.csicodec.proofs.MouseCodes.{IsReport, release-pressed, none-released}
 use Rattle.csicodec.specs.Kinds.{Kind, Count, Last, Dec, Terminal, read}

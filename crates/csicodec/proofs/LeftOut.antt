@@ -3,17 +3,18 @@ use Rattle.std.proofs.Common.{ℕ, ◌≡◌, List, [], ◌∷◌, Option, Some,
 use Rattle.std.specs.Prelude.{ℤ}
 use Rattle.std.proofs.lemmas.Bool.{cases_Bool}
 use Rattle.std.proofs.lemmas.Option.{same_Some}
-use Rattle.csicodec_base.specs.declared.enums.CursorTabulationControl.TheVariants as control
-use Rattle.csicodec_base.specs.declared.enums.EraseInDisplay.TheVariants as display
-use Rattle.csicodec_base.specs.declared.enums.EraseInLine.TheVariants as line
-use Rattle.csicodec_base.specs.declared.enums.TabulationClear.TheVariants as clear
-use Rattle.csicodec_base.specs.declared.param.CsiParam.{CsiParam}
-use Rattle.csicodec_base.specs.declared.param.CsiParam.TheVariants.{Integer}
+use Rattle.csicodec_names.specs.declared.enums.CursorTabulationControl.TheVariants as control
+use Rattle.csicodec_names.specs.declared.enums.EraseInDisplay.TheVariants as display
+use Rattle.csicodec_names.specs.declared.enums.EraseInLine.TheVariants as line
+use Rattle.csicodec_names.specs.declared.enums.TabulationClear.TheVariants as clear
+use Rattle.csicodec_tokens.specs.declared.param.CsiParam.{CsiParam}
+use Rattle.csicodec_tokens.specs.declared.param.CsiParam.TheVariants.{Integer}
 use Rattle.csicodec.specs.Actions.{Action}
 use Rattle.csicodec.specs.Kinds.{Kind, Count, Control, Clear, InDisplay, InLine, Value, read, number}
-use Rattle.csicodec.specs.Numbered.{is_number}
+use Rattle.csicodec_names.specs.Numbered.{is_number}
 use Rattle.csicodec.specs.Written.{Unless, tokens}
-use Rattle.csicodec.proofs.Values.{Good, IsOneBased, is_number-pos, read-good}
+use Rattle.csicodec.proofs.Values.{Good, IsOneBased, read-good}
+use Rattle.csicodec_names.proofs.Coded.{is_number-pos}
 
 pub left-out : (f : List CsiParam → Option Action) (n : ℕ) (k : Kind) (missing : Value k) (make : Value k → Action) (v : Value k) → read k (pos n) ≡ Some missing → f [] ≡ Some (make missing)
     → ((z : ℤ) (u : Value k) → read k z ≡ Some u → f (Integer z ∷ []) ≡ Some (make u)) → Good k v → f (tokens (Unless n k v ∷ [])) ≡ Some (make v)

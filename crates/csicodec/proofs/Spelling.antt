@@ -3,12 +3,12 @@ use Rattle.std.proofs.Common.{ℕ, ◌≡◌, ◌≤◌, List, [], ◌∷◌, �
 use Rattle.std.specs.Prelude.{encode_utf8}
 use Rattle.std.proofs.lemmas.Int.{ints}
 use Rattle.std.proofs.lemmas.Str.{encode_ascii}
-use Rattle.csicodec_base.specs.declared.param.CsiParam.{CsiParam}
-use Rattle.csicodec_base.specs.declared.param.CsiParam.TheVariants.{Integer, P}
-use Rattle.csicodec_base.specs.Digits.{largest}
-use Rattle.csicodec_base.specs.Param.{spells}
-use Rattle.csicodec_base.specs.Sequence.{IsFinal, IsSpellable, Spellable}
-use Rattle.csicodec_base.proofs.Printed.{printed}
+use Rattle.csicodec_tokens.specs.declared.param.CsiParam.{CsiParam}
+use Rattle.csicodec_tokens.specs.declared.param.CsiParam.TheVariants.{Integer, P}
+use Rattle.csicodec_tokens.specs.Digits.{largest}
+use Rattle.csicodec_tokens.specs.Param.{spells}
+use Rattle.csicodec_tokens.specs.Sequence.{IsFinal, IsSpellable, Spellable}
+use Rattle.csicodec_tokens.proofs.Printed.{printed}
 use Rattle.csicodec.specs.declared.group.Group.{Group}
 use Rattle.csicodec.specs.declared.group.Group.TheVariants as groups
 use Rattle.csicodec.specs.Actions.{Action}

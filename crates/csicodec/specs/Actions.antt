@@ -1,6 +1,6 @@
 -- What an action says, without where it lies in memory: contracts compare these.
 use Rattle.std.specs.Prelude.{ℕ, ℤ, List, Bool, true, false, IsTrue}
-use Rattle.csicodec_base.specs.declared.param.CsiParam.{CsiParam}
+use Rattle.csicodec_tokens.specs.declared.param.CsiParam.{CsiParam}
 use Rattle.csicodec_base.specs.declared.sgr.Sgr as sgr_type
 use Rattle.csicodec.specs.declared.actions.cursor.Cursor as cursor_type
 use Rattle.csicodec.specs.declared.actions.edit.Edit as edit_type

@@ -2,10 +2,10 @@
 use Prim.Native.Char.{Char, code}
 use Rattle.std.specs.Prelude.{ℕ, ◌==◌, ◌&&◌, Bool, true, false, List, [], ◌∷◌, ◌++◌, Option, Some, None, option_and_then, if◌then◌else◌}
 use Rattle.std.specs.Option.{option_or}
-use Rattle.csicodec_base.specs.declared.param.CsiParam.{CsiParam}
-use Rattle.csicodec_base.specs.declared.param.CsiParam.TheVariants.{Integer, P}
+use Rattle.csicodec_tokens.specs.declared.param.CsiParam.{CsiParam}
+use Rattle.csicodec_tokens.specs.declared.param.CsiParam.TheVariants.{Integer, P}
 use Rattle.csicodec.specs.Kinds.{Kind, Count, Value, read}
-use Rattle.csicodec.specs.Numbered.{is_number}
+use Rattle.csicodec_names.specs.Numbered.{is_number}
 
 -- one token of a shape: this byte, this number, or a number that counts as a value of this kind
 pub data Slot : Type 0 where

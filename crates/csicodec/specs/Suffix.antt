@@ -1,7 +1,7 @@
 -- What an unknown action that parsing makes holds.
 use Rattle.std.specs.Prelude.{◌≡◌, ℕ, Bool, true, false, List, [], ◌∷◌, ◌++◌}
-use Rattle.csicodec_base.specs.declared.param.CsiParam.{CsiParam}
-use Rattle.csicodec_base.specs.declared.param.CsiParam.TheVariants.{P}
+use Rattle.csicodec_tokens.specs.declared.param.CsiParam.{CsiParam}
+use Rattle.csicodec_tokens.specs.declared.param.CsiParam.TheVariants.{P}
 use Rattle.csicodec.specs.declared.actions.mode.Mode as mode_type
 use Rattle.csicodec.specs.declared.actions.mode.Mode.TheVariants as mode
 use Rattle.csicodec.specs.Actions.{Action, Sgr, Cursor, Edit, Mode, Device, Keyboard, Mouse, SelectCharacterPath, Unspecified}

@@ -1,7 +1,7 @@
 -- The text of each action.
 use Rattle.std.specs.Prelude.{ℕ, List, [], ◌∷◌, ◌++◌, Option, None, Some, encode_utf8}
 use Rattle.std.specs.List.{flat_map}
-use Rattle.csicodec_base.specs.Param.{spells}
+use Rattle.csicodec_tokens.specs.Param.{spells}
 use Rattle.csicodec_base.specs.SgrText.{sgr_text}
 use Rattle.csicodec.specs.declared.actions.Unspecified as unspecified_type
 use Rattle.csicodec.specs.Actions.{Action, Sgr, Cursor, Edit, Mode, Device, Keyboard, Mouse, SelectCharacterPath, Unspecified}

@@ -2,7 +2,7 @@
 use Rattle.std.specs.Prelude.{◌≡◌, ℕ, List, ◌++◌, Option, Some}
 use Rattle.std.specs.List.{Contains}
 use Rattle.std.specs.Option.{option_or}
-use Rattle.csicodec_base.specs.declared.param.CsiParam.{CsiParam}
+use Rattle.csicodec_tokens.specs.declared.param.CsiParam.{CsiParam}
 use Rattle.csicodec.specs.Actions.{Action}
 use Rattle.csicodec.specs.Rows.{Row, gives, Before, rows_before, read_by}
 use Rattle.csicodec.specs.Table.Cursor.{cursor_rows, as_cursor}

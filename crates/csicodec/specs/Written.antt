@@ -2,10 +2,10 @@
 use Prim.Native.Char.{Char, code}
 use Rattle.std.specs.Prelude.{ℕ, ℤ, List, [], ◌∷◌, ◌++◌, if◌then◌else◌, pos}
 use Rattle.std.specs.Fmt.{signed_decimal}
-use Rattle.csicodec_base.specs.declared.param.CsiParam.{CsiParam}
-use Rattle.csicodec_base.specs.declared.param.CsiParam.TheVariants.{Integer, P}
+use Rattle.csicodec_tokens.specs.declared.param.CsiParam.{CsiParam}
+use Rattle.csicodec_tokens.specs.declared.param.CsiParam.TheVariants.{Integer, P}
 use Rattle.csicodec.specs.Kinds.{Kind, Count, Any, Value, number}
-use Rattle.csicodec.specs.Numbered.{is_number}
+use Rattle.csicodec_names.specs.Numbered.{is_number}
 
 -- a byte; a value of a kind, as its number; a value that is left out where its number is this one
 pub data Item : Type 0 where

@@ -5,7 +5,6 @@
 mod actions;
 mod count;
 mod filter;
-mod flags;
 mod group;
 pub mod laws;
 mod list;
@@ -24,13 +23,13 @@ pub use actions::{
 };
 pub use count::Count;
 pub use csicodec_base::{
-    AnsiColor, Blink, ColorSpec, CsiParam, CsiTail, CursorStyle, CursorTabulationControl,
-    DecPrivateModeCode, EraseInDisplay, EraseInLine, Esc, EscCode, Font, Intensity, NotSpelled,
-    OneBased, ReadCsi, ReadError, Sgr, SgrCode, SrgbaTuple, TabulationClear, TerminalModeCode,
-    Text, Underline, VerticalAlign, read_csi, read_csi_into, sgr_front,
+    AnsiColor, Blink, ColorSpec, Cracked, CsiParam, CsiTail, CursorStyle, CursorTabulationControl,
+    DecPrivateModeCode, DeviceAttributeCodes, EraseInDisplay, EraseInLine, Esc, EscCode, Font,
+    Intensity, KittyKeyboardFlags, Modifiers, MouseButtons, NotSpelled, OneBased, ParseRefusal,
+    ReadCsi, ReadError, Sgr, SgrCode, SrgbaTuple, TabulationClear, TerminalModeCode, Text,
+    Underline, VerticalAlign, behind_csi, read_csi, read_csi_into, sgr_front,
 };
 pub use filter::{Filter, filter_all};
-pub use flags::{KittyKeyboardFlags, Modifiers};
 pub use look::Look;
 pub use parser::{CSIParser, Run};
 pub use stream::{DecodeError, RunError, decode_all, encode_all, normalise, parse_all};

@@ -1,6 +1,6 @@
 //! The texts of actions.
 ghost use Rattle.std.specs.Prelude.{◌≡◌, ◌==◌, ◌&&◌, ◌+◌, ◌≤◌, ◌++◌, ◌<◌, [], ◌∷◌, Some, pos, IsAscii, if◌then◌else◌, length};
-ghost use Rattle.csicodec_base.specs.OneBased.{most};
+ghost use Rattle.csicodec_tokens.specs.OneBased.{most};
 ghost use Rattle.csicodec.specs.Actions.{action_of};
 ghost use Rattle.csicodec.specs.Kinds.{Kind, Any, Count, Dec, Flags as FlagsKind, Last, Terminal, Way};
 ghost use Rattle.csicodec.specs.Table.Cursor.{written_cursor};
@@ -19,10 +19,9 @@ use crate::actions::{
     CSI, CharacterPath, Cursor, DecPrivateMode, Device, Edit, Keyboard, KittyKeyboardMode, Mode,
     MouseReport, TerminalMode, Unspecified,
 };
-use crate::flags::KittyKeyboardFlags;
 use crate::params::{EncodeCSIParam, write_pair};
 use bitflags::Flags;
-use csicodec_base::{OneBased, Text};
+use csicodec_base::{KittyKeyboardFlags, OneBased, Text};
 use std::fmt;
 
 impl Cursor {
@@ -197,7 +196,7 @@ impl MouseReport {
             ..
         } = self;
         text.push(b'<');
-        text.push_u32(button.code() + 2 * u32::from(modifiers.number()));
+        text.push_u32(button.code() + 2 * u32::from(modifiers.bits()));
         text.push(b';');
     }
 

@@ -3,18 +3,19 @@ use Rattle.std.proofs.Common.{ℕ, ◌≡◌, ◌<◌, ◌≤◌, ◌+◌, List,
 use Rattle.std.specs.Prelude.{ℤ, Option, ◌==◌, map, pos, negsuc, if◌then◌else◌, option_and_then, is_some}
 use Rattle.std.specs.List.{list_all}
 use Rattle.std.proofs.lemmas.Bool.{cases_Bool, and_parts, eqb-true}
-use Rattle.csicodec_base.specs.declared.param.CsiParam.{CsiParam}
-use Rattle.csicodec_base.specs.declared.param.CsiParam.TheVariants.{Integer, P}
-use Rattle.csicodec_base.specs.declared.codes.SgrCode.{SgrCode}
-use Rattle.csicodec_base.specs.declared.codes.SgrCode.TheVariants as code
-use Rattle.csicodec_base.specs.declared.codes.TheConstants.{CODES}
+use Rattle.csicodec_tokens.specs.declared.param.CsiParam.{CsiParam}
+use Rattle.csicodec_tokens.specs.declared.param.CsiParam.TheVariants.{Integer, P}
+use Rattle.csicodec_names.specs.declared.codes.SgrCode.{SgrCode}
+use Rattle.csicodec_names.specs.declared.codes.SgrCode.TheVariants as code
 use Rattle.csicodec_base.specs.declared.sgr.Sgr.{Sgr}
-use Rattle.csicodec_base.specs.declared.color.ColorSpec.{ColorSpec}
+use Rattle.csicodec_names.specs.declared.color.ColorSpec.{ColorSpec}
 use Rattle.csicodec_base.specs.declared.sgr.Sgr.TheVariants as sgr
-use Rattle.csicodec_base.specs.Numbers.{number_of, action_of}
+use Rattle.csicodec_names.specs.Numbers.{all_codes, number_of}
+use Rattle.csicodec_base.specs.Attributes.{action_of}
 use Rattle.csicodec_base.specs.Shapes.{Slot, Number, Byte, AnyNumber, Any, Row, Color, Plane, Front, Back, Line, painted, sgr_rows, color_shapes, underline_rows, begins_with, taken, color_of_tokens}
 use Rattle.csicodec_base.specs.FrontBy.{front_by, color_by, piece}
-use Rattle.csicodec_base.proofs.Places.{is_row}
+use Rattle.csicodec_names.specs.Numbered.{with_number}
+use Rattle.csicodec_names.proofs.Coded.{listed-number}
 
 abbrev pub paint : Plane → Option (ColorSpec × ℕ) → Option (Sgr × ℕ)
 paint plane None = None
@@ -147,7 +148,7 @@ one_token_front c after s e = subst (OneToken c after) e (one_token_by c after)
 -- each row that begins with a number begins with that of a code
 abbrev codes_head : List Slot → Bool
 codes_head [] = false
-codes_head (Number n ∷ ss) = is_some (get_or CODES n None)
+codes_head (Number n ∷ ss) = is_some (with_number number_of all_codes (pos n))
 codes_head (Byte b ∷ ss) = b == 59
 codes_head (AnyNumber ∷ ss) = false
 codes_head (Any ∷ ss) = false
@@ -155,15 +156,15 @@ codes_head (Any ∷ ss) = false
 all-heads : list_all (λ (r : Row). codes_head r.shape) sgr_rows ≡ true
 all-heads = refl
 
-coded-number : (n : ℕ) (o : Option SgrCode) → get_or CODES n None ≡ o → is_some o ≡ true → ((c : SgrCode) → n ≢ number_of c) → ⊥
-coded-number n None e h no_code = cc
-coded-number n (Some c) e h no_code = no_code c (is_row n c e)
+coded-number : (z : ℤ) (o : Option SgrCode) → with_number number_of all_codes z ≡ o → is_some o ≡ true → ((c : SgrCode) → z ≢ pos (number_of c)) → ⊥
+coded-number z None e h no_code = cc
+coded-number z (Some c) e h no_code = no_code c (listed-number number_of all_codes z c e)
 
 unknown-row : (shape : List Slot) (z : ℤ) (after : List CsiParam) → codes_head shape ≡ true → ((c : SgrCode) → z ≢ pos (number_of c)) → begins_with shape (Integer z ∷ after) ≡ false
 unknown-row [] z after h no_code = cc
 unknown-row (Number n ∷ ss) (negsuc m) after h no_code = refl
 unknown-row (Number n ∷ ss) (pos m) after h no_code = elim (cases_Bool (m == n)) [
-  | inl same ↦ (let e : m ≡ n = eqb-true _ _ same in absurd (coded-number n (get_or CODES n None) refl h (λ c f. no_code c (ap pos (e ∙ f)))))
+  | inl same ↦ (let e : m ≡ n = eqb-true _ _ same in absurd (coded-number (pos n) (with_number number_of all_codes (pos n)) refl h (λ c f. no_code c (ap pos e ∙ f))))
   | inr other ↦ rw other refl
 ]
 unknown-row (Byte b ∷ ss) z after h no_code = refl

@@ -1,8 +1,8 @@
 -- The shapes of colours, by the three tokens behind the code.
 use Rattle.std.proofs.Common.{◌≡◌, ◌≤◌, List, [], ◌∷◌, drop, length, get_or, refl, arith}
 use Rattle.std.specs.Prelude.{pos}
-use Rattle.csicodec_base.specs.declared.param.CsiParam.{CsiParam}
-use Rattle.csicodec_base.specs.declared.param.CsiParam.TheVariants.{Integer, P}
+use Rattle.csicodec_tokens.specs.declared.param.CsiParam.{CsiParam}
+use Rattle.csicodec_tokens.specs.declared.param.CsiParam.TheVariants.{Integer, P}
 use Rattle.csicodec_base.specs.FrontBy.{color_by}
 use Rattle.csicodec_base.specs.Shapes.{color_shapes, rgba_shapes, rgb_shapes}
 

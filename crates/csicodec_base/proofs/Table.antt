@@ -6,8 +6,8 @@ use Rattle.std.specs.Option.{IfSome}
 use Rattle.std.proofs.lemmas.Option.{option_and_then_some, some_pair_parts}
 use Rattle.std.proofs.lemmas.Bool.{cases_Bool, eqb-true, and_parts}
 use borrow.Author.Tests.{ltb-true}
-use Rattle.csicodec_base.specs.declared.param.CsiParam.{CsiParam}
-use Rattle.csicodec_base.specs.declared.param.CsiParam.TheVariants.{Integer, P}
+use Rattle.csicodec_tokens.specs.declared.param.CsiParam.{CsiParam}
+use Rattle.csicodec_tokens.specs.declared.param.CsiParam.TheVariants.{Integer, P}
 use Rattle.csicodec_base.specs.declared.sgr.Sgr.{Sgr}
 use Rattle.csicodec_base.specs.Shapes.{Slot, Number, Byte, AnyNumber, Any, Row, sgr_rows, fits_slot, begins_with, taken, given}
 use Rattle.csicodec_base.specs.Pieces.{Longest, Piece, IsFront}

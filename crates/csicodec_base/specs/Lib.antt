@@ -1,16 +1,5 @@
-pub mod Param
-pub mod OneBased
-pub mod EnumNumbers
-pub mod ModeNumbers
-pub mod Digits
-pub mod Sequence
-pub mod Fault
-pub mod Reading
-pub mod Numbers
+pub mod Attributes
 pub mod Shapes
 pub mod Pieces
 pub mod FrontBy
 pub mod SgrText
-pub mod Palette
-pub mod EscCodes
-pub mod Esc

@@ -1,29 +1,21 @@
-//! What one token, one control sequence and one piece of a parameter list is.
+//! What one token, one control sequence and one piece of a parameter list is, and what has a name.
 #![tactic(auto)]
 
-mod codes;
-mod color;
-mod enums;
-mod esc;
 pub mod laws;
-mod modes;
-mod param;
 mod pieces;
-mod reader;
 mod ready;
 mod sgr;
-mod text;
 
-pub use codes::SgrCode;
-pub use color::{AnsiColor, Blink, ColorSpec, Intensity, SrgbaTuple, Underline, VerticalAlign};
-pub use enums::{
-    CursorStyle, CursorTabulationControl, EraseInDisplay, EraseInLine, TabulationClear,
+pub use csicodec_names::{
+    AnsiColor, Blink, ColorSpec, CursorStyle, CursorTabulationControl, DecPrivateModeCode,
+    DeviceAttributeCodes, EraseInDisplay, EraseInLine, Esc, EscCode, Intensity, KittyKeyboardFlags,
+    Modifiers, MouseButtons, SgrCode, SrgbaTuple, TabulationClear, TerminalModeCode, Underline,
+    VerticalAlign,
 };
-pub use esc::{Esc, EscCode};
-pub use modes::{DecPrivateModeCode, TerminalModeCode};
-pub use param::{CsiParam, NotSpelled, OneBased};
+pub use csicodec_tokens::{
+    Cracked, CsiParam, CsiTail, NotSpelled, OneBased, ParseRefusal, ReadCsi, ReadError, Text,
+    behind_csi, read_csi, read_csi_into,
+};
 pub use pieces::sgr_front;
-pub use reader::{CsiTail, ReadCsi, ReadError, behind_csi, read_csi, read_csi_into};
 pub use ready::append_code;
 pub use sgr::{Font, Sgr};
-pub use text::Text;

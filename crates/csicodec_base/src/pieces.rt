@@ -1,17 +1,17 @@
 //! The longest spelling of an attribute at the front of a list before `m`.
 
 ghost use Rattle.std.specs.Prelude.{◌≡◌, ◌∷◌, ◌<◌, ◌≤◌, List, IfSome, Some, pos, take, length};
-ghost use Rattle.csicodec_base.specs.Numbers.{action_of, number_of};
+ghost use Rattle.csicodec_names.specs.Numbers.{number_of};
+ghost use Rattle.csicodec_base.specs.Attributes.{action_of};
 ghost use Rattle.csicodec_base.specs.FrontBy.{captured, color_by, front_by, piece};
 ghost use Rattle.csicodec_base.specs.Pieces.{IsFront};
 ghost use Rattle.csicodec_base.specs.Shapes.{byte_of, color_of_tokens, color_shapes, four_shape, palette_shapes, rgb_shapes, rgba_shapes, semicolon_shapes, three_shape, underline_rows};
-ghost use Rattle.csicodec_base.specs.declared.param.CsiParam.{CsiParam};
-ghost use Rattle.csicodec_base.specs.declared.param.CsiParam.TheVariants.{Integer};
+ghost use Rattle.csicodec_tokens.specs.declared.param.CsiParam.{CsiParam};
+ghost use Rattle.csicodec_tokens.specs.declared.param.CsiParam.TheVariants.{Integer};
 
-use crate::CsiParam::{Integer, P};
-use crate::{
-    Blink, ColorSpec, CsiParam, Font, Intensity, Sgr, SgrCode, SrgbaTuple, Underline, VerticalAlign,
-};
+use crate::sgr::{Font, Sgr};
+use csicodec_names::{Blink, ColorSpec, Intensity, SgrCode, SrgbaTuple, Underline, VerticalAlign};
+use csicodec_tokens::CsiParam::{self, Integer, P};
 
 /// The longest piece of the table of attributes at the front of a parameter list before `m`, and its number of tokens,
 /// without the `;` after it.

@@ -4,8 +4,8 @@ ghost use Rattle.std.specs.Prelude.{◌≡◌, ◌+◌, ◌≤◌, ◌++◌, Som
 ghost use Rattle.std.specs.Fmt.{decimal};
 ghost use Rattle.csicodec_base.specs.SgrText.{font_text, palette_text, sgr_text, true_color_text};
 
-use crate::Text;
-use crate::color::{Blink, ColorSpec, Intensity, SrgbaTuple, Underline, VerticalAlign};
+use csicodec_names::{Blink, ColorSpec, Intensity, SrgbaTuple, Underline, VerticalAlign};
+use csicodec_tokens::Text;
 use std::fmt;
 
 /// The font of a character (ECMA-48, 8.3.117).

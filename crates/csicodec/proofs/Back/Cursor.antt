@@ -2,9 +2,9 @@
 use Rattle.std.proofs.Common.{ℕ, ◌≡◌, List, [], ◌∷◌, Bool, true, false, Some, refl, rules, inl, inr, pos}
 use Rattle.std.specs.Prelude.{◌==◌, ◌&&◌, if◌then◌else◌}
 use Rattle.std.proofs.lemmas.Bool.{cases_Bool, and_parts, eqb-true}
-use Rattle.csicodec_base.specs.declared.enums.CursorTabulationControl.TheVariants as control
-use Rattle.csicodec_base.specs.declared.enums.TabulationClear.TheVariants as clear
-use Rattle.csicodec_base.specs.OneBased.{most}
+use Rattle.csicodec_names.specs.declared.enums.CursorTabulationControl.TheVariants as control
+use Rattle.csicodec_names.specs.declared.enums.TabulationClear.TheVariants as clear
+use Rattle.csicodec_tokens.specs.OneBased.{most}
 use Rattle.csicodec.specs.declared.actions.cursor.Cursor as cursor_type
 use Rattle.csicodec.specs.declared.actions.cursor.Cursor.TheVariants as cursor
 use Rattle.csicodec.specs.Actions.{Action, Cursor}

@@ -1,7 +1,7 @@
 -- What a mode is written as is read as it: as a piece, or as a whole list.
 use Rattle.std.proofs.Common.{ℕ, ◌≡◌, List, [], ◌∷◌, Bool, true, None, Some, refl, ap, rules, pos}
 use Rattle.std.specs.Prelude.{ℤ}
-use Rattle.csicodec_base.specs.declared.param.CsiParam.TheVariants.{Integer, P}
+use Rattle.csicodec_tokens.specs.declared.param.CsiParam.TheVariants.{Integer, P}
 use Rattle.csicodec.specs.declared.actions.mode.Change.{Change}
 use Rattle.csicodec.specs.declared.actions.mode.Change.TheVariants as change
 use Rattle.csicodec.specs.declared.actions.mode.DecPrivateMode.{DecPrivateMode}

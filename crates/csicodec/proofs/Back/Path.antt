@@ -6,13 +6,14 @@ use Rattle.csicodec.specs.declared.actions.keyboard.CharacterPath.{CharacterPath
 use Rattle.csicodec.specs.declared.actions.keyboard.CharacterPath.TheVariants as path
 use Rattle.csicodec.specs.Actions.{Action, SelectCharacterPath}
 use Rattle.csicodec.specs.Kinds.{Any, Path}
-use Rattle.csicodec.specs.Numbered.{is_number}
+use Rattle.csicodec_names.specs.Numbered.{is_number}
 use Rattle.csicodec.specs.Table.Path.{as_path, written_path}
 use Rattle.csicodec.specs.Written.{Byte, The, tokens}
 use Rattle.csicodec.proofs.Disjoint.{path-whole}
 use Rattle.csicodec.proofs.Items.{AllGood, is_sound}
 use Rattle.csicodec.proofs.Spelling.{Spelling, written-spelling}
-use Rattle.csicodec.proofs.Values.{is_number-pos, read-good}
+use Rattle.csicodec.proofs.Values.{read-good}
+use Rattle.csicodec_names.proofs.Coded.{is_number-pos}
 
 pub path-spelling : (flag : Bool) (p : CharacterPath) (z : ℤ) → AllGood (written_path p z).items → Spelling flag (SelectCharacterPath p z)
 unfolding as_path

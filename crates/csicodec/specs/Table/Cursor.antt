@@ -1,9 +1,9 @@
 -- The cursor (ECMA-48, 8.3; DEC STD 070; DECSCUSR of the VT520): lists before a final character, and what each action is written as.
 use Rattle.std.specs.Prelude.{ℕ, ◌==◌, ◌&&◌, List, [], ◌∷◌, Option, if◌then◌else◌, pos}
-use Rattle.csicodec_base.specs.declared.param.CsiParam.{CsiParam}
-use Rattle.csicodec_base.specs.declared.enums.CursorTabulationControl.TheVariants as control
-use Rattle.csicodec_base.specs.declared.enums.TabulationClear.TheVariants as clear
-use Rattle.csicodec_base.specs.OneBased.{most}
+use Rattle.csicodec_tokens.specs.declared.param.CsiParam.{CsiParam}
+use Rattle.csicodec_names.specs.declared.enums.CursorTabulationControl.TheVariants as control
+use Rattle.csicodec_names.specs.declared.enums.TabulationClear.TheVariants as clear
+use Rattle.csicodec_tokens.specs.OneBased.{most}
 use Rattle.csicodec.specs.declared.actions.cursor.Cursor as cursor_type
 use Rattle.csicodec.specs.declared.actions.cursor.Cursor.TheVariants as cursor
 use Rattle.csicodec.specs.Actions.{Action, Cursor}

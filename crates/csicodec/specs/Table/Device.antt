@@ -1,7 +1,7 @@
 -- What a terminal is, asked and answered (DA1 to DA3 and DECSTR of DEC's terminals, DSR of ECMA-48, XTVERSION of xterm): lists before a final
 -- character, and what each action is written as.
 use Rattle.std.specs.Prelude.{ℕ, List, [], ◌∷◌, Option}
-use Rattle.csicodec_base.specs.declared.param.CsiParam.{CsiParam}
+use Rattle.csicodec_tokens.specs.declared.param.CsiParam.{CsiParam}
 use Rattle.csicodec.specs.declared.actions.device.Device as device_type
 use Rattle.csicodec.specs.declared.actions.device.Device.TheVariants as device
 use Rattle.csicodec.specs.Actions.{Action, Device}

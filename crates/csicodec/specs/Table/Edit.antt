@@ -1,8 +1,8 @@
 -- Editing (ECMA-48, 8.3): lists before a final character, and what each action is written as.
 use Rattle.std.specs.Prelude.{ℕ, List, [], ◌∷◌, Option}
-use Rattle.csicodec_base.specs.declared.param.CsiParam.{CsiParam}
-use Rattle.csicodec_base.specs.declared.enums.EraseInDisplay.TheVariants as display
-use Rattle.csicodec_base.specs.declared.enums.EraseInLine.TheVariants as line
+use Rattle.csicodec_tokens.specs.declared.param.CsiParam.{CsiParam}
+use Rattle.csicodec_names.specs.declared.enums.EraseInDisplay.TheVariants as display
+use Rattle.csicodec_names.specs.declared.enums.EraseInLine.TheVariants as line
 use Rattle.csicodec.specs.declared.actions.edit.Edit as edit_type
 use Rattle.csicodec.specs.declared.actions.edit.Edit.TheVariants as edit
 use Rattle.csicodec.specs.Actions.{Action, Edit}

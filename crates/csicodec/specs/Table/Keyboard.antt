@@ -1,10 +1,10 @@
 -- The keyboard (kitty, "Comprehensive keyboard handling in terminals"): lists before `u`, and what each action is written as.
 use Rattle.std.specs.Prelude.{ℕ, List, [], ◌∷◌, Option}
-use Rattle.csicodec_base.specs.declared.param.CsiParam.{CsiParam}
+use Rattle.csicodec_tokens.specs.declared.param.CsiParam.{CsiParam}
 use Rattle.csicodec.specs.declared.actions.keyboard.Keyboard as keyboard_type
 use Rattle.csicodec.specs.declared.actions.keyboard.Keyboard.TheVariants as keyboard
 use Rattle.csicodec.specs.declared.actions.keyboard.KittyKeyboardMode.TheVariants as way
-use Rattle.csicodec.specs.declared.flags.KittyKeyboardFlags.{KittyKeyboardFlags}
+use Rattle.csicodec_names.specs.declared.flags.KittyKeyboardFlags.{KittyKeyboardFlags}
 use Rattle.csicodec.specs.Actions.{Action, Keyboard}
 use Rattle.csicodec.specs.Kinds.{Flags, Way, Pops}
 use Rattle.csicodec.specs.Rows.{Row, row, One, mark, Before, before, read_by}

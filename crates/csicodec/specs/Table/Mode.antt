@@ -1,7 +1,7 @@
 -- Modes that are asked for (DECRQM), and modified keys (xterm, XTMODKEYS): lists before a final character, and what each action is written as.
 -- Modes that are set, reset, saved and restored are cut into pieces.
 use Rattle.std.specs.Prelude.{ℕ, List, [], ◌∷◌, Option, Some, None}
-use Rattle.csicodec_base.specs.declared.param.CsiParam.{CsiParam}
+use Rattle.csicodec_tokens.specs.declared.param.CsiParam.{CsiParam}
 use Rattle.csicodec.specs.declared.actions.mode.Mode as mode_type
 use Rattle.csicodec.specs.declared.actions.mode.Mode.TheVariants as mode
 use Rattle.csicodec.specs.Actions.{Action, Mode}

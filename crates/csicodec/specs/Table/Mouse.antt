@@ -1,6 +1,6 @@
 -- Reports of the mouse (xterm, "Extended coordinates"): lists before `M` and `m`, and what each action is written as.
 use Rattle.std.specs.Prelude.{ℕ, List, [], ◌∷◌, Option, if◌then◌else◌}
-use Rattle.csicodec_base.specs.declared.param.CsiParam.{CsiParam}
+use Rattle.csicodec_tokens.specs.declared.param.CsiParam.{CsiParam}
 use Rattle.csicodec.specs.declared.actions.mouse.MouseReport as mouse_type
 use Rattle.csicodec.specs.declared.actions.mouse.MouseReport.TheVariants as mouse
 use Rattle.csicodec.specs.Actions.{Action, Mouse}

@@ -1,11 +1,11 @@
 -- SCP, select character path (ECMA-48, 8.3.111): lists before `k`, and what the action is written as.
 use Rattle.std.specs.Prelude.{ℕ, ℤ, List, [], ◌∷◌, Option, if◌then◌else◌, pos}
-use Rattle.csicodec_base.specs.declared.param.CsiParam.{CsiParam}
+use Rattle.csicodec_tokens.specs.declared.param.CsiParam.{CsiParam}
 use Rattle.csicodec.specs.declared.actions.keyboard.CharacterPath.{CharacterPath}
 use Rattle.csicodec.specs.declared.actions.keyboard.CharacterPath.TheVariants as path
 use Rattle.csicodec.specs.Actions.{Action, SelectCharacterPath}
 use Rattle.csicodec.specs.Kinds.{Any, Path}
-use Rattle.csicodec.specs.Numbered.{is_number}
+use Rattle.csicodec_names.specs.Numbered.{is_number}
 use Rattle.csicodec.specs.Rows.{Row, row, One, mark, Before, before, read_by}
 use Rattle.csicodec.specs.Written.{Written, The, Unless, write, put}
 

@@ -1,13 +1,15 @@
 //! The rows of the keyboard.
 ghost use Rattle.std.specs.Prelude.{◌≡◌};
+ghost use Rattle.std.specs.Int.RustNames.{bit_and};
 ghost use Rattle.std.specs.Option.{option_map};
 ghost use Rattle.csicodec.specs.Actions.{Keyboard as Keys};
 ghost use Rattle.csicodec.specs.Kinds.{Flags as FlagsKind, Pops, Way, read};
 ghost use Rattle.csicodec.specs.Table.Keyboard.{as_keyboard};
 
 use crate::actions::{Keyboard, KittyKeyboardMode};
-use crate::flags::KittyKeyboardFlags;
+use bitflags::Flags;
 use csicodec_base::CsiParam::{self, Integer, P};
+use csicodec_base::KittyKeyboardFlags;
 
 /// What is said of the keyboard before this final character, if a row reads the list.
 pub(crate) fn keyboard_action(params: &[CsiParam], control: char) -> Option<Keyboard>
@@ -33,7 +35,7 @@ fn keyboard(params: &[CsiParam]) -> Option<Keyboard>
             mode: mode_at(*mode)?,
         }),
         [P(b'>')] => Some(Keyboard::PushKittyState {
-            flags: KittyKeyboardFlags::known(0),
+            flags: known(0),
             mode: KittyKeyboardMode::AssignAll,
         }),
         [P(b'>'), Integer(bits)] => Some(Keyboard::PushKittyState {
@@ -56,7 +58,7 @@ fn flags_at(number: i64) -> Option<KittyKeyboardFlags>
     ensures { result ≡ read FlagsKind number }
 {
     let bits = u16::try_from(number).ok()?;
-    Some(KittyKeyboardFlags::known(bits))
+    Some(known(bits))
 }
 
 fn mode_at(number: i64) -> Option<KittyKeyboardMode>
@@ -70,4 +72,11 @@ fn pops_at(number: i64) -> Option<u32>
     ensures { result ≡ read Pops number }
 {
     u32::try_from(number).ok()
+}
+
+/// The flags that have a name, of these bits.
+fn known(bits: u16) -> KittyKeyboardFlags
+    ensures { result ≡ record { bits = bit_and bits 31 } }
+{
+    KittyKeyboardFlags::from_bits_truncate(bits)
 }

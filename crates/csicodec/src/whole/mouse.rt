@@ -4,12 +4,13 @@ ghost use Rattle.std.specs.Option.{option_map};
 ghost use Rattle.csicodec.specs.Actions.{Mouse as Reports};
 ghost use Rattle.csicodec.specs.Kinds.{Pressed, Released, Word, read};
 ghost use Rattle.csicodec.specs.Mouse.{button_bits, button_code, pressed, released};
-ghost use Rattle.csicodec.specs.Numbered.{with_number};
+ghost use Rattle.csicodec_names.specs.Numbered.{with_number};
 ghost use Rattle.csicodec.specs.Table.Mouse.{as_mouse};
 
 use crate::actions::{MouseButton, MouseReport};
-use crate::flags::Modifiers;
+use bitflags::Flags;
 use csicodec_base::CsiParam::{self, Integer, P};
+use csicodec_base::Modifiers;
 
 /// The report before this final character, if a row reads the list.
 pub(crate) fn mouse_action(params: &[CsiParam], control: char) -> Option<MouseReport>
@@ -129,7 +130,7 @@ fn press(code: i64) -> Option<(MouseButton, Modifiers)>
     let bits = code as u64;
     let button = button_pressed(bits & 99)?;
     let held = (bits & 28) / 2;
-    Some((button, Modifiers::of(held as u16)))
+    Some((button, held_keys(held as u16)))
 }
 
 /// What a code before `m` says.
@@ -143,5 +144,11 @@ fn release(code: i64) -> Option<(MouseButton, Modifiers)>
     let bits = code as u64;
     let button = button_released(bits & 99)?;
     let held = (bits & 28) / 2;
-    Some((button, Modifiers::of(held as u16)))
+    Some((button, held_keys(held as u16)))
+}
+
+fn held_keys(bits: u16) -> Modifiers
+    ensures { result ≡ record { bits = bits } }
+{
+    Modifiers::from_bits_retain(bits)
 }

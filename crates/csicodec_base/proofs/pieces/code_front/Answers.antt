@@ -1,5 +1,5 @@
 use Rattle.std.proofs.Common.{rules, ◌∙◌, sym, None}
-use Rattle.csicodec_base.specs.declared.codes.SgrCode.TheVariants.{ForegroundColor, BackgroundColor, UnderlineColor}
+use Rattle.csicodec_names.specs.declared.codes.SgrCode.TheVariants.{ForegroundColor, BackgroundColor, UnderlineColor}
 use Rattle.csicodec_base.specs.Shapes.{Front, Back, Line}
 use Rattle.csicodec_base.proofs.CodePieces.{front_38, front_48, front_58, color_front, underline_front, one_token_front}
 use Rattle.csicodec_base.proofs.pieces.code_front.Goals as goal

@@ -4,7 +4,7 @@ use Rattle.std.specs.Prelude.{pos}
 use Rattle.std.proofs.lemmas.Int.{ints}
 use mir.Val.{SFits}
 use mir.Syntax.{w64}
-use Rattle.csicodec_base.specs.declared.param.CsiParam.TheVariants.{Integer}
+use Rattle.csicodec_tokens.specs.declared.param.CsiParam.TheVariants.{Integer}
 use Rattle.csicodec_base.proofs.Colors.{behind_six, behind_two}
 use Rattle.csicodec_base.proofs.pieces.color_front.Goals as goal
 

@@ -4,9 +4,9 @@ use Rattle.std.proofs.lemmas.List.{take_rest}
 use Rattle.std.proofs.lemmas.Int.{to_z-of_z}
 use mir.Val.{SFits}
 use mir.Syntax.{w64}
-use Rattle.csicodec_base.specs.declared.param.CsiParam.TheVariants.{Integer, P}
-use Rattle.csicodec_base.specs.declared.codes.SgrCode.{SgrCode}
-use Rattle.csicodec_base.specs.Numbers.{number_of}
+use Rattle.csicodec_tokens.specs.declared.param.CsiParam.TheVariants.{Integer, P}
+use Rattle.csicodec_names.specs.declared.codes.SgrCode.{SgrCode}
+use Rattle.csicodec_names.specs.Numbers.{number_of}
 use Rattle.csicodec_base.proofs.Table.{is_front, is_near, is_within}
 use Rattle.csicodec_base.proofs.CodePieces.{at_end, at_semicolon, at_other_byte, at_number, at_unknown_number}
 use Rattle.csicodec_base.proofs.pieces.sgr_front.Goals as goal

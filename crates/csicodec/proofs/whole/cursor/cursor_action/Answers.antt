@@ -1,7 +1,7 @@
 -- Each final has its rows: one line a final.
 use Rattle.std.proofs.Common.{arith, rules, refl, sym}
-use Rattle.csicodec_base.specs.declared.enums.CursorTabulationControl.TheVariants as control
-use Rattle.csicodec_base.specs.declared.enums.TabulationClear.TheVariants as clear
+use Rattle.csicodec_names.specs.declared.enums.CursorTabulationControl.TheVariants as control
+use Rattle.csicodec_names.specs.declared.enums.TabulationClear.TheVariants as clear
 use Rattle.csicodec.specs.declared.actions.cursor.Cursor.TheVariants as cursor
 use Rattle.csicodec.specs.Actions.{Cursor}
 use Rattle.csicodec.specs.Kinds.{read, Control, Clear}

@@ -1,7 +1,7 @@
 -- Each final has its rows: one line a final.
 use Rattle.std.proofs.Common.{arith, rules, refl, sym}
-use Rattle.csicodec_base.specs.declared.enums.EraseInDisplay.TheVariants as display
-use Rattle.csicodec_base.specs.declared.enums.EraseInLine.TheVariants as line
+use Rattle.csicodec_names.specs.declared.enums.EraseInDisplay.TheVariants as display
+use Rattle.csicodec_names.specs.declared.enums.EraseInLine.TheVariants as line
 use Rattle.csicodec.specs.declared.actions.edit.Edit.TheVariants as edit
 use Rattle.csicodec.specs.Actions.{Edit}
 use Rattle.csicodec.specs.Kinds.{read, InDisplay, InLine}

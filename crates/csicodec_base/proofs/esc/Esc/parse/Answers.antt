@@ -1,9 +1,0 @@
-use Rattle.std.proofs.Common.{arith}
-use Rattle.csicodec_base.proofs.esc.Esc.parse.Goals as goal
-
-pub returns-in-Some : goal.returns-in-Some
-returns-in-Some c =
-    record {
-      code = λ known. grind arith;
-      other = λ none. absurd (none c.in-Some.code (grind arith));
-    }

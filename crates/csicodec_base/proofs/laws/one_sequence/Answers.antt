@@ -1,5 +1,0 @@
-use Rattle.csicodec_base.proofs.Unique.{one_seq}
-use Rattle.csicodec_base.proofs.laws.one_sequence.Goals as goal
-
-pub returns : goal.returns
-returns c = λ a b x y l m f g s t e. one_seq a b x y l m f g s t e

@@ -1,0 +1,97 @@
+-- Each variant is found by its number.
+use Rattle.std.proofs.Common.{◌≡◌, ℕ, ◌≤◌, List, [], ◌∷◌, Option, None, Some, refl, sym, ap, ◌∙◌, inl, inr, pos}
+use Rattle.std.specs.Prelude.{ℤ, negsuc, ◌↔◌, true}
+use Rattle.std.proofs.lemmas.Bool.{cases_Bool, eqb-true}
+use Rattle.std.proofs.lemmas.Int.{to_z-of_z}
+use Rattle.std.proofs.lemmas.Option.{same_Some}
+use mir.Syntax.{w64}
+use mir.Val.{SFits, of_z, to_z}
+use Rattle.csicodec_names.specs.declared.device.DeviceAttributeCodes.TheVariants as device
+use Rattle.csicodec_names.specs.declared.enums.CursorStyle.TheVariants as style
+use Rattle.csicodec_names.specs.declared.enums.CursorTabulationControl.TheVariants as control
+use Rattle.csicodec_names.specs.declared.enums.EraseInDisplay.TheVariants as display
+use Rattle.csicodec_names.specs.declared.enums.EraseInLine.TheVariants as line
+use Rattle.csicodec_names.specs.declared.enums.TabulationClear.TheVariants as clear
+use Rattle.csicodec_names.specs.declared.modes.DecPrivateModeCode.TheVariants as dec
+use Rattle.csicodec_names.specs.declared.modes.TerminalModeCode.TheVariants as terminal
+use Rattle.csicodec_names.specs.DeviceNumbers.{device_attribute_codes, device_attribute_number}
+use Rattle.csicodec_names.specs.EnumNumbers.{cursor_style_number, cursor_styles, erase_in_display_number, erases_in_display, erase_in_line_number, erases_in_line, tabulation_clear_number, tabulation_clears, tabulation_control_number, tabulation_controls}
+use Rattle.csicodec_names.specs.ModeNumbers.{dec_mode_number, dec_codes, terminal_mode_number, terminal_codes}
+use Rattle.csicodec_names.specs.Numbered.{is_number, with_number}
+
+pub is_number-pos : (k : ℕ) (z : ℤ) → is_number k z ≡ true → z ≡ pos k
+is_number-pos k (pos n) e = ap pos (eqb-true n k e)
+is_number-pos k (negsuc n) e = cc
+
+-- what is found has the number
+pub listed-number : {E : Type 0} (number : E → ℕ) (xs : List E) (z : ℤ) (x : E) → with_number number xs z ≡ Some x → z ≡ pos (number x)
+listed-number number [] z c e = cc
+listed-number number (x ∷ xs) z c e = elim (cases_Bool (is_number (number x) z)) [
+  | inl here ↦
+      let same : Some x ≡ Some c = rw here at e in
+      is_number-pos (number x) z here ∙ ap (λ y. pos (number y)) (same_Some _ _ same)
+  | inr later ↦ listed-number number xs z c (rw later at e)
+]
+
+-- a number that none has finds nothing
+pub none-found : {E : Type 0} (number : E → ℕ) (all : List E) (z : ℤ) → ((x : E) → z ≡ pos (number x) → ⊥) → with_number number all z ≡ None
+none-found number all z none = go (with_number number all z) refl
+  where
+    go : (o : Option _) → with_number number all z ≡ o → with_number number all z ≡ None
+    go None e = e
+    go (Some x) e = absurd (none x (listed-number number all z x e))
+
+-- the list is complete: each is found by its number
+pub record Coded {E : Type 0} (number : E → ℕ) (all : List E) : Type 0 where
+  pub each : (x : E) → with_number number all (pos (number x)) ≡ Some x
+
+-- an answer that is each one exactly at its number is the one that has the number
+pub found : {E : Type 0} (number : E → ℕ) (all : List E) → Coded number all → (z : ℤ) (o : Option E) → ((x : E) → (o ≡ Some x) ↔ (z ≡ pos (number x))) → o ≡ with_number number all z
+found number all coded z (Some x) h = let here : z ≡ pos (number x) = (h x).0 refl in rw here (sym (coded.each x))
+found number all coded z None h = sym (none-found number all z (λ x same. (let none = (h x).1 same in cc)))
+
+-- the same for a number as it is passed
+pub found-of : {E : Type 0} (number : E → ℕ) (all : List E) → Coded number all → (z : ℤ) → SFits w64 z → (o : Option E)
+    → ((x : E) → (o ≡ Some x) ↔ (to_z w64 (of_z w64 z) ≡ pos (number x))) → o ≡ with_number number all z
+found-of number all coded z fits o h = found number all coded _ o h ∙ ap (with_number number all) (to_z-of_z w64 z fits)
+
+-- no number of the list is above the bound
+abbrev pub AllBelow : {E : Type 0} → (E → ℕ) → ℕ → List E → Type 0
+AllBelow number bound [] = Unit {0}
+AllBelow number bound (x ∷ xs) = (number x ≤ bound) × AllBelow number bound xs
+
+pub small : {E : Type 0} (number : E → ℕ) (all : List E) → Coded number all → (bound : ℕ) → AllBelow number bound all → (x : E) → number x ≤ bound
+small number all is bound below x = among all (pos (number x)) x below (is.each x)
+  where
+    among : (xs : List _) (z : ℤ) (y : _) → AllBelow number bound xs → with_number number xs z ≡ Some y → number y ≤ bound
+    among [] z y below e = cc
+    among (w ∷ ws) z y below e = elim (cases_Bool (is_number (number w) z)) [
+      | inl here ↦ (let same : w ≡ y = same_Some _ _ (rw here at e) in rw (← same) below.0)
+      | inr later ↦ among ws z y below.1 (rw later at e)
+    ]
+
+pub styles : Coded cursor_style_number cursor_styles
+styles = record { each = λ c. elim c as (λ x. with_number cursor_style_number cursor_styles (pos (cursor_style_number x)) ≡ Some x) [ style.Default ↦ refl | _ ↦ refl ] }
+
+pub controls : Coded tabulation_control_number tabulation_controls
+controls = record {
+  each = λ c. elim c as (λ x. with_number tabulation_control_number tabulation_controls (pos (tabulation_control_number x)) ≡ Some x) [ control.ClearAllLineTabStops ↦ refl | _ ↦ refl ];
+}
+
+pub clears : Coded tabulation_clear_number tabulation_clears
+clears = record { each = λ c. elim c as (λ x. with_number tabulation_clear_number tabulation_clears (pos (tabulation_clear_number x)) ≡ Some x) [ clear.ClearAllTabStops ↦ refl | _ ↦ refl ] }
+
+pub lines : Coded erase_in_line_number erases_in_line
+lines = record { each = λ c. elim c as (λ x. with_number erase_in_line_number erases_in_line (pos (erase_in_line_number x)) ≡ Some x) [ line.EraseLine ↦ refl | _ ↦ refl ] }
+
+pub displays : Coded erase_in_display_number erases_in_display
+displays = record { each = λ c. elim c as (λ x. with_number erase_in_display_number erases_in_display (pos (erase_in_display_number x)) ≡ Some x) [ display.EraseDisplay ↦ refl | _ ↦ refl ] }
+
+pub decs : Coded dec_mode_number dec_codes
+decs = record { each = λ c. elim c as (λ x. with_number dec_mode_number dec_codes (pos (dec_mode_number x)) ≡ Some x) [ dec.AutoWrap ↦ refl | _ ↦ refl ] }
+
+pub terminals : Coded terminal_mode_number terminal_codes
+terminals = record { each = λ c. elim c as (λ x. with_number terminal_mode_number terminal_codes (pos (terminal_mode_number x)) ≡ Some x) [ terminal.Insert ↦ refl | _ ↦ refl ] }
+
+pub attributes : Coded device_attribute_number device_attribute_codes
+attributes = record { each = λ c. elim c as (λ x. with_number device_attribute_number device_attribute_codes (pos (device_attribute_number x)) ≡ Some x) [ device.Printer ↦ refl | _ ↦ refl ] }

@@ -1,0 +1,29 @@
+-- Escape sequences of one or two characters: what a pair of bytes is, and what is printed.
+use Rattle.std.specs.Prelude.{◌≡◌, ◌≢◌, ◌↔◌, ℕ, ◌+◌, ◌*◌, List, [], ◌∷◌, Option, Some, None, unwrap_or, encode_utf8_all}
+use Rattle.csicodec_names.specs.declared.esc.Esc.{Esc}
+use Rattle.csicodec_names.specs.declared.esc.Esc.TheVariants.{Unspecified, Code}
+use Rattle.csicodec_names.specs.declared.esc.EscCode.{EscCode}
+use Rattle.csicodec_names.specs.EscCodes.{characters_of, esc_number}
+
+-- 256 times the intermediate and the control, where no intermediate counts as 0
+abbrev pub packed : Option ℕ → ℕ → ℕ
+packed intermediate control = 256 * unwrap_or intermediate 0 + control
+
+-- an intermediate and a control are a code exactly where they pack its number, and stay as they are where they pack no code's
+pub record EscOf (intermediate : Option ℕ) (control : ℕ) (esc : Esc) : Type 0 where
+  pub code : (known : EscCode) → (esc ≡ Code known) ↔ (packed intermediate control ≡ esc_number known)
+  pub other : ((known : EscCode) → packed intermediate control ≢ esc_number known) → esc ≡ Unspecified intermediate control
+
+-- the intermediate, if any, and the control
+abbrev pub in_turn : Option ℕ → ℕ → List ℕ
+in_turn None control = control ∷ []
+in_turn (Some intermediate) control = intermediate ∷ control ∷ []
+
+-- what stands after ESC
+abbrev pub after_esc : Esc → List ℕ
+after_esc (Unspecified intermediate control) = in_turn intermediate control
+after_esc (Code known) = characters_of known
+
+-- the character ESC and those after it, in UTF-8
+abbrev pub esc_text : Esc → List ℕ
+esc_text esc = 27 ∷ encode_utf8_all (after_esc esc)

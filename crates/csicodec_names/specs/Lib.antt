@@ -1,0 +1,9 @@
+pub mod Numbered
+pub mod EnumNumbers
+pub mod ModeNumbers
+pub mod DeviceNumbers
+pub mod FlagBits
+pub mod Numbers
+pub mod Palette
+pub mod EscCodes
+pub mod Esc

@@ -1,0 +1,20 @@
+//! The names of what control and escape sequences say by a number.
+#![tactic(auto)]
+
+mod codes;
+mod color;
+mod device;
+mod enums;
+mod esc;
+mod flags;
+mod modes;
+
+pub use codes::SgrCode;
+pub use color::{AnsiColor, Blink, ColorSpec, Intensity, SrgbaTuple, Underline, VerticalAlign};
+pub use device::DeviceAttributeCodes;
+pub use enums::{
+    CursorStyle, CursorTabulationControl, EraseInDisplay, EraseInLine, TabulationClear,
+};
+pub use esc::{Esc, EscCode};
+pub use flags::{KittyKeyboardFlags, Modifiers, MouseButtons};
+pub use modes::{DecPrivateModeCode, TerminalModeCode};

@@ -1,0 +1,112 @@
+-- The beginnings of sequences are the bytes that go on to a sequence.
+use Rattle.std.proofs.Common.{◌≡◌, ℕ, ℤ, pos, List, [], ◌∷◌, ◌++◌, length, refl, sym, ap, subst, inl, inr, arith}
+use Rattle.std.proofs.lemmas.Bool.{cases_lt}
+use Rattle.std.proofs.lemmas.List.{length-append}
+use Rattle.csicodec_tokens.specs.declared.param.CsiParam.{CsiParam}
+use Rattle.csicodec_tokens.specs.declared.param.CsiParam.TheVariants.{Integer, P}
+use Rattle.csicodec_tokens.specs.Digits.{IsDigit, value}
+use Rattle.csicodec_tokens.specs.Sequence.{Spells, Apart, Spellable, Seq}
+use Rattle.csicodec_tokens.specs.Fault.{IsBody, Begins}
+use Rattle.csicodec_tokens.proofs.Faults.{cut_cases}
+use Rattle.csicodec_tokens.proofs.Reading.{IsSpellable-number}
+use Rattle.csicodec_tokens.proofs.Runs.{IsBody-front, IsBody-back}
+use Rattle.csicodec_tokens.proofs.Spelled.{IsBody-from_spelling}
+
+-- ---- each body spells a list
+
+record IsSpelled (body : List ℕ) : Type 0 where
+  list : List CsiParam
+  spelled : Spells body list
+  spellable : Spellable list
+
+apart_any : (y z : ℤ) (list : List CsiParam) → Apart (Integer y) list → Apart (Integer z) list
+apart_any y z [] h = tt
+apart_any y z (Integer m ∷ list) h = absurd h
+apart_any y z (P b ∷ list) h = tt
+
+-- a digit before a spelled body: the first digit of its first number, or a number of its own
+with_digit : (b : ℕ) (rest : List ℕ) (list : List CsiParam) → IsDigit b → IsBody (b ∷ rest) → Spells rest list → Spellable list → IsSpelled (b ∷ rest)
+with_digit b rest [] d h s can = record {
+  list = Integer (pos (value (b ∷ []))) ∷ [];
+  spelled = (b ∷ [], rest, refl, (omega arith, (d, tt), refl), s);
+  spellable = (IsSpellable-number (value (b ∷ [])) (h.runs [] (b ∷ []) rest refl (d, tt)), tt, tt);
+}
+with_digit b rest (P c ∷ list) d h s can = record {
+  list = Integer (pos (value (b ∷ []))) ∷ P c ∷ list;
+  spelled = (b ∷ [], rest, refl, (omega arith, (d, tt), refl), s);
+  spellable = (IsSpellable-number (value (b ∷ [])) (h.runs [] (b ∷ []) rest refl (d, tt)), tt, can);
+}
+with_digit b rest (Integer z ∷ list) d h s can =
+    let run = b ∷ s.0 in
+    let parts : b ∷ rest ≡ run ++ s.1 = ap (λ (t : List ℕ). b ∷ t) s.2 in
+    record {
+      list = Integer (pos (value run)) ∷ list;
+      spelled = (run, s.1, parts, (omega arith, (d, s.3.1), refl), s.4);
+      spellable = (IsSpellable-number (value run) (h.runs [] run s.1 parts (d, s.3.1)), apart_any z (pos (value run)) list can.1, can.2);
+    }
+
+with_other : (b : ℕ) (rest : List ℕ) → ¬ IsDigit b → IsBody (b ∷ rest) → IsSpelled rest → IsSpelled (b ∷ rest)
+with_other b rest other h s = record {
+  list = P b ∷ s.list;
+  spelled = (b ∷ [], rest, refl, refl, s.spelled);
+  spellable = ((h.bytes.0, other), tt, s.spellable);
+}
+
+spelled_body : (body : List ℕ) → IsBody body → IsSpelled body
+spelled_body [] h = record { list = []; spelled = refl; spellable = tt }
+spelled_body (b ∷ rest) h =
+    let s = spelled_body rest (IsBody-back (b ∷ []) rest h) in
+    elim (cases_lt b 48) [
+      | inl below ↦ with_other b rest (λ d. omega (arith, d.0)) h s
+      | inr ge ↦ elim (cases_lt 57 b) [
+        | inl above ↦ with_other b rest (λ d. omega (arith, d.1)) h s
+        | inr le ↦ with_digit b rest s.list (ge, le) h s.spelled s.spellable
+      ]
+    ]
+
+-- ---- the two directions
+
+-- bytes that are a sequence with some more, at least one
+pub record GoesOn (bytes : List ℕ) : Type 0 where
+  pub byte : ℕ
+  pub more : List ℕ
+  pub list : List CsiParam
+  pub final : ℕ
+  pub seq : Seq (bytes ++ byte ∷ more) list final
+
+shortest : Seq (27 ∷ 91 ∷ 64 ∷ []) [] 64
+shortest = record { spellable = tt; ends = (omega arith, omega arith); body = []; spelled = refl; whole = refl }
+
+pub goes_on : (bytes : List ℕ) → Begins bytes → GoesOn bytes
+goes_on bytes (inl e) = record { byte = 27; more = 91 ∷ 64 ∷ []; list = []; final = 64; seq = rw e shortest }
+goes_on bytes (inr (inl e)) = record { byte = 91; more = 64 ∷ []; list = []; final = 64; seq = rw e shortest }
+goes_on bytes (inr (inr w)) =
+    let s = spelled_body w.0 w.2 in
+    record {
+      byte = 64;
+      more = [];
+      list = s.list;
+      final = 64;
+      seq = rw w.1 (record { spellable = s.spellable; ends = (omega arith, omega arith); body = w.0; spelled = s.spelled; whole = refl });
+    }
+
+front_of_body : (x body more : List ℕ) (byte final : ℕ) → x ++ byte ∷ more ≡ body ++ final ∷ [] → IsBody body → IsBody x
+front_of_body x body more byte final e h =
+    elim (cut_cases x body more [] byte final e) [
+      | inl k ↦ IsBody-front x (byte ∷ k.0) (subst IsBody k.1 h)
+      | inr c ↦ elim c [
+        | inl same ↦ subst IsBody (sym same.0) h
+        | inr k ↦ absurd (omega (arith, ap length e, ap length k.1, length-append x (byte ∷ more), length-append body (final ∷ []), length-append body (final ∷ k.0)))
+      ]
+    ]
+
+pub begins : (bytes : List ℕ) → GoesOn bytes → Begins bytes
+begins [] g = inl refl
+begins (a ∷ []) g = let e = g.seq.whole in let first : a ≡ 27 = cc in inr (inl cc)
+begins (a ∷ b ∷ x) g =
+    let e = g.seq.whole in
+    let first : a ≡ 27 = cc in
+    let second : b ≡ 91 = cc in
+    let others : x ++ g.byte ∷ g.more ≡ g.seq.body ++ g.final ∷ [] = cc in
+    let body = IsBody-from_spelling g.seq.body g.list g.seq.spellable g.seq.spelled in
+    inr (inr (x, cc, front_of_body x g.seq.body g.more g.byte g.final others body))

@@ -1,0 +1,11 @@
+pub mod Runs
+pub mod Faults
+pub mod OneFault
+pub mod Spelled
+pub mod Printed
+pub mod Tokens
+pub mod Unique
+pub mod Reading
+pub mod Beginnings
+pub mod Decimal
+pub mod FieldsOf

@@ -1,0 +1,52 @@
+-- Bytes have one fault.
+use Rattle.std.proofs.Common.{ℕ, ◌≡◌, zero, suc, ◌+◌, ◌<◌, List, get_or, take, sym, ap, subst, ◌∙◌, inl, inr, arith, refl}
+use Rattle.std.proofs.lemmas.Bool.{cases_lt}
+use Rattle.csicodec_tokens.specs.declared.reader.ReadError.{ReadError}
+use Rattle.csicodec_tokens.specs.declared.reader.ReadError.TheVariants.{NotCsi, BadByte, NumberTooLarge, Truncated, Memory}
+use Rattle.csicodec_tokens.specs.Fault.{Begins, IsLeast, IsBad, Fault}
+use Rattle.csicodec_tokens.proofs.Faults.{IsBody-take}
+
+-- the fronts of a beginning are beginnings
+Begins-take : (bytes : List ℕ) (k : ℕ) → Begins bytes → Begins (take k bytes)
+Begins-take bytes zero b = inl refl
+Begins-take bytes (suc k) (inl e) = inl (ap (take (suc k)) e)
+Begins-take bytes (suc zero) (inr (inl e)) = inr (inl (ap (take 1) e))
+Begins-take bytes (suc (suc k)) (inr (inl e)) = inr (inl (ap (take (suc (suc k))) e))
+Begins-take bytes (suc zero) (inr (inr w)) = inr (inl (ap (take 1) w.1))
+Begins-take bytes (suc (suc k)) (inr (inr w)) = inr (inr (take k w.0, ap (take (suc (suc k))) w.1, IsBody-take k w.0 w.2))
+
+not_both : (bytes : List ℕ) (k : ℕ) → Begins bytes → IsLeast bytes k → ⊥
+not_both bytes k b l = l.there (Begins-take bytes (k + 1) b)
+
+not_before : (bytes : List ℕ) (j k : ℕ) → IsLeast bytes j → IsLeast bytes k → j < k → ⊥
+not_before bytes j k l m lt = l.there (m.before (j + 1) (omega arith))
+
+one_least : (bytes : List ℕ) (j k : ℕ) → IsLeast bytes j → IsLeast bytes k → j ≡ k
+one_least bytes j k l m =
+    elim (cases_lt j k) [
+      | inl lt ↦ absurd (not_before bytes j k l m lt)
+      | inr ge ↦ elim (cases_lt k j) [
+        | inl lt ↦ absurd (not_before bytes k j m l lt)
+        | inr le ↦ omega arith
+      ]
+    ]
+
+pub one_fault : (bytes : List ℕ) (d e : ReadError) → Fault bytes d → Fault bytes e → d ≡ e
+one_fault bytes (NotCsi j) (NotCsi k) l m = ap NotCsi (one_least bytes j k l.0 m.0)
+one_fault bytes (NotCsi j) (BadByte k) l m = let e = one_least bytes j k l.0 m.0 in absurd (omega (arith, e, l.1, m.1))
+one_fault bytes (NotCsi j) (NumberTooLarge k) l m = let e = one_least bytes j k l.0 m.0 in absurd (omega (arith, e, l.1, m.1))
+one_fault bytes (NotCsi j) (Truncated k) l m = absurd (not_both bytes j m.0 l.0)
+one_fault bytes (BadByte j) (NotCsi k) l m = let e = one_least bytes j k l.0 m.0 in absurd (omega (arith, e, l.1, m.1))
+one_fault bytes (BadByte j) (BadByte k) l m = ap BadByte (one_least bytes j k l.0 m.0)
+one_fault bytes (BadByte j) (NumberTooLarge k) l m = let e = one_least bytes j k l.0 m.0 in absurd (m.2 (subst (λ (i : ℕ). IsBad (get_or bytes i 0)) e l.2))
+one_fault bytes (BadByte j) (Truncated k) l m = absurd (not_both bytes j m.0 l.0)
+one_fault bytes (NumberTooLarge j) (NotCsi k) l m = let e = one_least bytes j k l.0 m.0 in absurd (omega (arith, e, l.1, m.1))
+one_fault bytes (NumberTooLarge j) (BadByte k) l m = let e = one_least bytes j k l.0 m.0 in absurd (l.2 (subst (λ (i : ℕ). IsBad (get_or bytes i 0)) (sym e) m.2))
+one_fault bytes (NumberTooLarge j) (NumberTooLarge k) l m = ap NumberTooLarge (one_least bytes j k l.0 m.0)
+one_fault bytes (NumberTooLarge j) (Truncated k) l m = absurd (not_both bytes j m.0 l.0)
+one_fault bytes (Truncated j) (NotCsi k) l m = absurd (not_both bytes k l.0 m.0)
+one_fault bytes (Truncated j) (BadByte k) l m = absurd (not_both bytes k l.0 m.0)
+one_fault bytes (Truncated j) (NumberTooLarge k) l m = absurd (not_both bytes k l.0 m.0)
+one_fault bytes (Truncated j) (Truncated k) l m = ap Truncated (l.1 ∙ sym m.1)
+one_fault bytes d Memory l m = absurd m
+one_fault bytes Memory e l m = absurd l

@@ -1,0 +1,137 @@
+-- Bodies of sequences byte by byte: runs of digits that end where a text ends.
+use Rattle.std.proofs.Common.{◌≡◌, ℕ, ◌+◌, ◌-◌, ◌*◌, ◌≤◌, ◌⊎◌, List, [], ◌∷◌, ◌++◌, refl, sym, ap, subst, ◌∙◌, inl, inr, append_assoc, arith}
+use Rattle.std.specs.List.{AllByRecursion}
+use Rattle.std.proofs.lemmas.List.{append-nil}
+use Rattle.csicodec_tokens.specs.Digits.{IsDigit, AreDigits, value_after, value, largest}
+use Rattle.csicodec_tokens.specs.Sequence.{IsBodyByte}
+use Rattle.csicodec_tokens.specs.Fault.{IsBody}
+
+-- a text with one more byte, cut in two: the byte is the last of either part
+pub snoc_cases : (a b c : List ℕ) (x : ℕ) → a ++ x ∷ [] ≡ b ++ c
+    → ((c ≡ []) × (b ≡ a ++ x ∷ [])) ⊎ ((c' : List ℕ) × (c ≡ c' ++ x ∷ []) × (a ≡ b ++ c'))
+snoc_cases a [] c x e = inr (a, sym e, refl)
+snoc_cases [] (y ∷ []) c x e = inl (cc, cc)
+snoc_cases [] (y ∷ z ∷ b) c x e = absurd cc
+snoc_cases (w ∷ a) (y ∷ b) c x e =
+    let first : w ≡ y = cc in
+    let others : a ++ x ∷ [] ≡ b ++ c = cc in
+    elim (snoc_cases a b c x others) [
+      | inl h ↦ inl (h.0, cc)
+      | inr h ↦ inr (h.0, h.1, cc)
+    ]
+
+pub value_push : (n : ℕ) (ds : List ℕ) (d : ℕ) → value_after n (ds ++ d ∷ []) ≡ 10 * value_after n ds + (d - 48)
+value_push n [] d = refl
+value_push n (c ∷ ds) d = value_push (10 * n + (c - 48)) ds d
+
+pub value_grows : (n : ℕ) (ds : List ℕ) → n ≤ value_after n ds
+value_grows n [] = omega arith
+value_grows n (d ∷ ds) = omega (arith, value_grows (10 * n + (d - 48)) ds)
+
+pub AreDigits-push : (ds : List ℕ) (d : ℕ) → AreDigits ds → IsDigit d → AreDigits (ds ++ d ∷ [])
+AreDigits-push [] d h p = (p, tt)
+AreDigits-push (c ∷ ds) d h p = (h.0, AreDigits-push ds d h.1 p)
+
+pub AreDigits-pushed : (ds : List ℕ) (d : ℕ) → AreDigits (ds ++ d ∷ []) → AreDigits ds × IsDigit d
+AreDigits-pushed [] d h = (tt, h.0)
+AreDigits-pushed (c ∷ ds) d h = let p = AreDigits-pushed ds d h.1 in ((h.0, p.0), p.1)
+
+module _ (P : ℕ → Type 0) where
+  pub All-push : (xs : List ℕ) (x : ℕ) → AllByRecursion P xs → P x → AllByRecursion P (xs ++ x ∷ [])
+  All-push [] x h p = (p, tt)
+  All-push (y ∷ xs) x h p = (h.0, All-push xs x h.1 p)
+
+  pub All-front : (xs ys : List ℕ) → AllByRecursion P (xs ++ ys) → AllByRecursion P xs
+  All-front [] ys h = tt
+  All-front (x ∷ xs) ys h = (h.0, All-front xs ys h.1)
+
+  pub All-back : (xs ys : List ℕ) → AllByRecursion P (xs ++ ys) → AllByRecursion P ys
+  All-back [] ys h = h
+  All-back (x ∷ xs) ys h = All-back xs ys h.1
+
+-- the body of a sequence, and no run of digits that ends where it ends has a value above n
+pub record Ends (text : List ℕ) (n : ℕ) : Type 0 where
+  pub body : IsBody text
+  pub bound : (before run : List ℕ) → text ≡ before ++ run → AreDigits run → value run ≤ n
+
+nil_value : (run after : List ℕ) → run ++ after ≡ [] → value run ≡ 0
+nil_value [] after e = refl
+nil_value (r ∷ run) after e = absurd cc
+
+nil_only : (run : List ℕ) → [] ≡ run → value run ≡ 0
+nil_only [] e = refl
+nil_only (r ∷ run) e = absurd cc
+
+IsBody-none : IsBody []
+IsBody-none = record { bytes = tt; runs = λ before run after e h. nil_body before run after e }
+  where
+    nil_body : (before run after : List ℕ) → [] ≡ before ++ (run ++ after) → value run ≤ largest
+    nil_body [] run after e = let z : value run ≡ 0 = nil_value run after (sym e) in omega arith
+    nil_body (b ∷ before) run after e = absurd cc
+
+-- one more byte, where no run that ends with it has too large a value
+IsBody-push : (text : List ℕ) (b : ℕ) → IsBody text → IsBodyByte b → ((before run : List ℕ) → text ++ b ∷ [] ≡ before ++ run → AreDigits run → value run ≤ largest) → IsBody (text ++ b ∷ [])
+IsBody-push text b body p bound = record {
+  bytes = All-push IsBodyByte text b body.bytes p;
+  runs = λ before run after e h. elim (snoc_cases text before (run ++ after) b e) [
+    | inl c ↦ let z : value run ≡ 0 = nil_value run after c.0 in omega arith
+    | inr c ↦ elim (snoc_cases c.0 run after b (sym c.1)) [
+      | inl k ↦ bound before run (e ∙ ap (λ (t : List ℕ). before ++ (run ++ t)) k.0 ∙ ap (λ (t : List ℕ). before ++ t) (append-nil run)) h
+      | inr k ↦ body.runs before run k.0 (c.2 ∙ ap (λ (t : List ℕ). before ++ t) k.2) h
+    ]
+  ];
+}
+
+pub Ends-none : Ends [] 0
+Ends-none = record { body = IsBody-none; bound = λ before run e h. none before run e }
+  where
+    none : (before run : List ℕ) → [] ≡ before ++ run → value run ≤ 0
+    none [] run e = let z : value run ≡ 0 = nil_only run e in omega arith
+    none (b ∷ before) run e = absurd cc
+
+-- ---- one more digit
+
+digit_bound : (text : List ℕ) (n d : ℕ) → Ends text n → (before run : List ℕ) → text ++ d ∷ [] ≡ before ++ run → AreDigits run → value run ≤ 10 * n + (d - 48)
+digit_bound text n d ends before run e h =
+    elim (snoc_cases text before run d e) [
+      | inl c ↦ let z : value run ≡ 0 = nil_only run (sym c.0) in omega arith
+      | inr c ↦
+          let v : value run ≡ 10 * value c.0 + (d - 48) = ap value c.1 ∙ value_push 0 c.0 d in
+          let b : value c.0 ≤ n = ends.bound before c.0 c.2 (AreDigits-pushed c.0 d (subst AreDigits c.1 h)).0 in
+          omega arith
+    ]
+
+pub Ends-digit : (text : List ℕ) (n d : ℕ) → Ends text n → IsDigit d → 10 * n + (d - 48) ≤ largest → Ends (text ++ d ∷ []) (10 * n + (d - 48))
+Ends-digit text n d ends p le = record {
+  body = IsBody-push text d ends.body (omega arith, omega arith) (λ before run e h. let b = digit_bound text n d ends before run e h in omega arith);
+  bound = digit_bound text n d ends;
+}
+
+-- ---- one more byte that is no digit
+
+other_bound : (text : List ℕ) (b : ℕ) → ¬ IsDigit b → (before run : List ℕ) → text ++ b ∷ [] ≡ before ++ run → AreDigits run → value run ≡ 0
+other_bound text b other before run e h =
+    elim (snoc_cases text before run b e) [
+      | inl c ↦ nil_only run (sym c.0)
+      | inr c ↦ absurd (other (AreDigits-pushed c.0 b (subst AreDigits c.1 h)).1)
+    ]
+
+pub Ends-other : (text : List ℕ) (n b : ℕ) → Ends text n → IsBodyByte b → ¬ IsDigit b → Ends (text ++ b ∷ []) 0
+Ends-other text n b ends p other = record {
+  body = IsBody-push text b ends.body p (λ before run e h. let z = other_bound text b other before run e h in omega arith);
+  bound = λ before run e h. let z = other_bound text b other before run e h in omega arith;
+}
+
+-- ---- parts of a body
+
+pub IsBody-front : (a b : List ℕ) → IsBody (a ++ b) → IsBody a
+IsBody-front a b body = record {
+  bytes = All-front IsBodyByte a b body.bytes;
+  runs = λ before run after e h. body.runs before run (after ++ b) (ap (λ (t : List ℕ). t ++ b) e ∙ simp append_assoc) h;
+}
+
+pub IsBody-back : (a b : List ℕ) → IsBody (a ++ b) → IsBody b
+IsBody-back a b body = record {
+  bytes = All-back IsBodyByte a b body.bytes;
+  runs = λ before run after e h. body.runs (a ++ before) run after (ap (λ (t : List ℕ). a ++ t) e ∙ sym (append_assoc a before (run ++ after))) h;
+}

@@ -1,0 +1,31 @@
+-- Fields of a parameter list: optional numbers, each with its block of tokens.
+use Rattle.std.specs.Prelude.{◌≡◌, ℤ, ◌<◌, ◌⊎◌, List, [], ◌∷◌, ◌++◌, length, Option, Some, None}
+use Rattle.csicodec_tokens.specs.declared.param.CsiParam.{CsiParam}
+use Rattle.csicodec_tokens.specs.declared.param.CsiParam.TheVariants.{Integer, P}
+use Rattle.csicodec_tokens.specs.declared.refusal.ParseRefusal.{ParseRefusal}
+use Rattle.csicodec_tokens.specs.declared.refusal.ParseRefusal.TheVariants.{NotSpelled, Memory}
+
+-- `;`, the separator 03/11 of ECMA-48
+abbrev pub separator : CsiParam
+separator = P 59
+
+-- the first field is empty
+abbrev pub BeginsEmpty : List (Option ℤ) → Type 0
+BeginsEmpty [] = ⊥
+BeginsEmpty (None ∷ f) = Unit {0}
+BeginsEmpty (Some z ∷ f) = ⊥
+
+-- an empty field is `;`; a number has the `;` behind it, or stands alone where the next field isn't empty
+abbrev pub IsBlock : List CsiParam → Option ℤ → List (Option ℤ) → Type 0
+IsBlock block None next = block ≡ separator ∷ []
+IsBlock block (Some z) next = (block ≡ Integer z ∷ separator ∷ []) ⊎ ((block ≡ Integer z ∷ []) × ¬ BeginsEmpty next)
+
+-- the list is the join of one block for each field
+abbrev pub Fields : List CsiParam → List (Option ℤ) → Type 0
+Fields list [] = list ≡ []
+Fields list (x ∷ f) = (block : List CsiParam) × (rest : List CsiParam) × (list ≡ block ++ rest) × IsBlock block x f × Fields rest f
+
+-- why this list may be refused so: it has no fields, or it has some, which take memory
+abbrev pub RefusesFields : List CsiParam → ParseRefusal → Type 0
+RefusesFields list NotSpelled = (f : List (Option ℤ)) → Fields list f → ⊥
+RefusesFields list Memory = (f : List (Option ℤ)) × Fields list f × (0 < length f)

@@ -1,0 +1,15 @@
+//! What one token and one control sequence is, the fields of a list of tokens, and a short text to build one in.
+#![tactic(auto)]
+
+mod fields;
+pub mod laws;
+mod param;
+mod reader;
+mod refusal;
+mod text;
+
+pub use fields::Cracked;
+pub use param::{CsiParam, OneBased};
+pub use reader::{CsiTail, ReadCsi, ReadError, behind_csi, read_csi, read_csi_into};
+pub use refusal::{NotSpelled, ParseRefusal};
+pub use text::Text;

@@ -1,0 +1,325 @@
+//! Reading one control sequence (ECMA-48, 5.4) at the front of some bytes.
+
+ghost use Rattle.std.specs.Prelude.{◌≡◌, ℕ, ◌+◌, ◌-◌, ◌*◌, ◌^◌, ◌<◌, ◌≤◌, List, [], ◌∷◌, ◌++◌, length, pos, IfOk, IfErr, IfSome, MatchOption, MatchResult, vec_capacity};
+ghost use Rattle.csicodec_tokens.specs.declared.param.CsiParam.{CsiParam};
+ghost use Rattle.csicodec_tokens.specs.declared.param.CsiParam.TheVariants.{P};
+ghost use Rattle.csicodec_tokens.specs.declared.reader.ReadError.{ReadError};
+ghost use Rattle.csicodec_tokens.specs.declared.reader.ReadError.TheVariants.{Memory};
+ghost use Rattle.csicodec_tokens.specs.Digits.{IsDigit, largest};
+ghost use Rattle.csicodec_tokens.specs.Sequence.{Reads};
+ghost use Rattle.csicodec_tokens.specs.Fault.{FaultOf, Refuses};
+ghost use Rattle.csicodec_tokens.specs.Reading.{IsNumber, IsTooLarge, IsFirstToken, IsPart, HasRead, HasCounted};
+
+use crate::param::CsiParam;
+use std::alloc::{AllocError, Global};
+
+/// A control sequence that was read, and the bytes behind it.
+#[derive(Debug, Drop)]
+pub struct ReadCsi<'a> {
+    /// The tokens between `ESC [` and the final byte, in their order. No two numbers stand side by
+    /// side.
+    pub params: Vec<CsiParam>,
+
+    /// The final byte as a character, from `'@'` to `'~'`.
+    pub control: char,
+
+    /// The bytes behind the final byte: the end of the slice that was passed, not a copy.
+    pub rest: &'a [u8],
+}
+
+/// What stands behind the tokens of a control sequence that was read.
+#[derive(Clone, Copy, Debug, PartialEq, Eq)]
+pub struct CsiTail<'a> {
+    /// The final byte as a character, from `'@'` to `'~'`.
+    pub control: char,
+
+    /// The bytes behind the final byte: the end of the slice that was passed, not a copy.
+    pub rest: &'a [u8],
+}
+
+/// Why no control sequence was read.
+///
+/// Each `at` is a place in the bytes that were passed, counted from 0. But for `Truncated` it is the
+/// first byte with which they are the beginning of no control sequence.
+#[derive(Clone, Copy, Debug, PartialEq, Eq)]
+pub enum ReadError {
+    /// The bytes don't begin with `ESC [`: `at` is 0 where the first byte isn't ESC, and 1 where
+    /// another byte than `[` follows it. CSI as the one byte 9b is refused so, at 0.
+    NotCsi { at: usize },
+
+    /// Before any final byte stands one that is no part of a sequence: a control character, DEL, or
+    /// a byte above it.
+    BadByte { at: usize },
+
+    /// The digit at `at` makes its number larger than `i64::MAX`, whatever follows.
+    NumberTooLarge { at: usize },
+
+    /// The bytes end before the final byte, and more bytes could make them a sequence; `at` is how
+    /// many they are.
+    Truncated { at: usize },
+
+    /// A sequence stands in front, and there was no memory for its tokens.
+    Memory,
+}
+
+impl From<AllocError> for ReadError {
+    ghost from_gives = { λ _ e. e ≡ Memory };
+
+    fn from(_e: AllocError) -> ReadError {
+        ReadError::Memory
+    }
+}
+
+const LARGEST: u64 = i64::MAX as u64;
+
+// The number with one more digit of that value, if it isn't too large.
+#[cold]
+fn with_last_digit(number: u64, value: u64) -> Option<u64>
+    ensures { MatchOption result (largest < 10 * number + value) (λ n. (n ≡ 10 * number + value) × (n ≤ largest)) }
+{
+    let longer = number.checked_mul(10)?.checked_add(value)?;
+    if longer <= LARGEST {
+        Some(longer)
+    } else {
+        None
+    }
+}
+
+// The same of a digit. All but the last digits of a very long number cost one test.
+#[inline(always)]
+fn with_digit(number: u64, digit: u8) -> Option<u64>
+    requires { IsDigit digit }
+    ensures { MatchOption result (largest < 10 * number + (digit - 48)) (λ n. (n ≡ 10 * number + (digit - 48)) × (n ≤ largest)) }
+{
+    let value = u64::from(digit - b'0');
+    if number < LARGEST / 10 {
+        Some(10 * number + value)
+    } else {
+        with_last_digit(number, value)
+    }
+}
+
+// The number that a digit and the digits behind it write, and what is behind them; or the bytes
+// from the digit on that makes it too large.
+#[inline(always)]
+fn number_front(first: u8, text: &[u8]) -> Result<(u64, &[u8]), &[u8]>
+    requires { IsDigit first }
+    ensures { MatchResult result (λ x. IsNumber first text.now x.0 x.1.now) (λ left. IsTooLarge first text.now left.now) }
+{
+    let mut number = u64::from(first - b'0');
+    let mut rest = text;
+    while let [digit @ b'0'..=b'9', others @ ..] = rest {
+        let Some(longer) = with_digit(number, *digit) else {
+            return Err(rest);
+        };
+        number = longer;
+        rest = others;
+    }
+    Ok((number, rest))
+}
+
+// What stands in front of the bytes behind ESC and '['.
+#[derive(Clone, Copy)]
+enum Part<'a> {
+    Token(CsiParam, &'a [u8]),
+    Final(u8, &'a [u8]),
+}
+
+// The part in front of the rest of the bytes.
+#[inline(always)]
+fn part_front<'a>(bytes: &[u8], rest: &'a [u8]) -> Result<Part<'a>, ReadError>
+    requires { length rest.now ≤ length bytes.now }
+    ensures part { IfOk result (IsPart rest.now) }
+    ensures fault { IfErr result (λ e. (list : List CsiParam) → HasRead bytes.now list rest.now → FaultOf bytes.now e) }
+{
+    let at = bytes.len() - rest.len();
+    match rest {
+        [] => Err(ReadError::Truncated { at }),
+        [0x00..=0x1f, ..] => Err(ReadError::BadByte { at }),
+        [digit @ b'0'..=b'9', others @ ..] => match number_front(*digit, others) {
+            Ok((number, behind)) => Ok(Part::Token(CsiParam::Integer(number as i64), behind)),
+            Err(left) => Err(ReadError::NumberTooLarge {
+                at: bytes.len() - left.len(),
+            }),
+        },
+        [byte @ b' '..=b'?', others @ ..] => Ok(Part::Token(CsiParam::P(*byte), others)),
+        [byte @ b'@'..=b'~', others @ ..] => Ok(Part::Final(*byte, others)),
+        [0x7f..=0xff, ..] => Err(ReadError::BadByte { at }),
+    }
+}
+
+// The bytes behind ESC and '['.
+fn behind_introducer(bytes: &[u8]) -> Result<&[u8], ReadError>
+    ensures { MatchResult result (λ body. bytes.now ≡ 27 ∷ 91 ∷ body.now) (λ e. FaultOf bytes.now e) }
+{
+    match bytes {
+        [0x1b, b'[', body @ ..] => Ok(body),
+        [] | [0x1b] => Err(ReadError::Truncated { at: bytes.len() }),
+        [0x1b, ..] => Err(ReadError::NotCsi { at: 1 }),
+        _ => Err(ReadError::NotCsi { at: 0 }),
+    }
+}
+
+// The bytes behind a `;` in front: it is what mostly follows a number.
+#[inline(always)]
+fn behind_semicolon(rest: &[u8]) -> Option<&[u8]>
+    ensures { IfSome result (λ behind. IsFirstToken rest.now (P 59) behind.now) }
+{
+    match rest {
+        [b';', behind @ ..] => Some(behind),
+        _ => None,
+    }
+}
+
+// How many tokens stand from a place on, before the final byte.
+fn tokens_from(bytes: &[u8], start: &[u8]) -> Result<usize, ReadError>
+    requires { length start.now ≤ length bytes.now }
+    ensures { (list : List CsiParam) → HasRead bytes.now list start.now →
+        MatchResult result (λ count. HasCounted bytes.now list count) (λ e. FaultOf bytes.now e) }
+{
+    let mut tokens = 0;
+    let mut rest = start;
+    loop {
+        match part_front(bytes, rest)? {
+            Part::Token(_, others) => {
+                tokens += 1;
+                rest = others;
+            }
+            Part::Final(..) => return Ok(tokens),
+        }
+    }
+}
+
+/// The bytes behind the control sequence at the front of some bytes, or the fault that keeps them from beginning with one.
+///
+/// It takes no memory, and never answers `Memory`.
+///
+/// ```text
+/// let rest = behind_csi(b"\x1b[0001;?m!")?;                     // b"!"
+/// ```
+pub fn behind_csi(bytes: &[u8]) -> Result<&[u8], ReadError>
+    // What stands before them is a sequence.
+    ensures found { IfOk result (λ rest. (list : List CsiParam) × (final : ℕ) × Reads bytes.now list final rest.now) }
+    // An error is the fault of bytes with none in front.
+    ensures refused { IfErr result (FaultOf bytes.now) }
+{
+    let mut rest = behind_introducer(bytes)?;
+    loop {
+        match part_front(bytes, rest)? {
+            Part::Token(_, others) => rest = others,
+            Part::Final(_, others) => return Ok(others),
+        }
+    }
+}
+
+// Why no sequence is read, where there is no memory for a token before the rest.
+#[cold]
+#[inline(never)]
+fn refusal(bytes: &[u8], rest: &[u8]) -> ReadError
+    requires { length rest.now ≤ length bytes.now }
+    ensures { (list : List CsiParam) (room : ℕ) → HasRead bytes.now list rest.now → room < length list → Refuses bytes.now room result }
+{
+    match tokens_from(bytes, rest) {
+        Ok(_) => ReadError::Memory,
+        Err(fault) => fault,
+    }
+}
+
+// The sequence in front, or why there is none, from which the clauses of the public calls follow.
+fn fill<'a>(params: &mut Vec<CsiParam>, bytes: &'a [u8]) -> Result<CsiTail<'a>, ReadError>
+    ensures kept { vec_capacity params.old ≤ vec_capacity params.new }
+    ensures read { MatchResult result
+        (λ tail. Reads bytes.now params.new.items tail.control tail.rest.now)
+        (λ e. Refuses bytes.now (vec_capacity params.old) e) }
+{
+    params.clear();
+    let mut rest = behind_introducer(bytes)?;
+    loop {
+        match part_front(bytes, rest)? {
+            Part::Token(token, others) => {
+                let Ok(()) = params.push(token) else {
+                    return Err(refusal(bytes, others));
+                };
+                rest = others;
+                if let Some(behind) = behind_semicolon(others) {
+                    let Ok(()) = params.push(CsiParam::P(b';')) else {
+                        return Err(refusal(bytes, behind));
+                    };
+                    rest = behind;
+                }
+            }
+            Part::Final(byte, others) => {
+                return Ok(CsiTail {
+                    control: char::from(byte),
+                    rest: others,
+                });
+            }
+        }
+    }
+}
+
+/// Reads the control sequence at the front of the bytes, its tokens into a buffer that is kept from
+/// call to call.
+///
+/// `params` is cleared first. After an `Ok` it holds the tokens of this sequence, those of
+/// [`read_csi`]; after an `Err` it holds anything. It never loses room, and `Memory` comes only for
+/// more tokens than it had room for.
+///
+/// ```text
+/// let tail = read_csi_into(&mut params, b"\x1b[0001;?m!")?;   // 1, ';', '?' then 'm' and b"!"
+/// ```
+pub fn read_csi_into<'a>(
+    params: &mut Vec<CsiParam>,
+    bytes: &'a [u8],
+) -> Result<CsiTail<'a>, ReadError>
+    // What is read is a sequence, and the bytes behind it are left.
+    ensures found { IfOk result (λ tail. Reads bytes.now params.new.items tail.control tail.rest.now) }
+    // Where a front is a sequence, this one is read, unless it needs more room than there was.
+    ensures only { (list : List CsiParam) (final : ℕ) (rest : List ℕ) → Reads bytes.now list final rest → MatchResult result
+        (λ tail. (params.new.items ≡ list) × (tail.control ≡ final) × (tail.rest.now ≡ rest))
+        (λ e. (e ≡ Memory) × (vec_capacity params.old < length list)) }
+    // Memory is refused only to a sequence, and any other error is the fault of bytes with none in front.
+    ensures refused { IfErr result (λ e. Refuses bytes.now (vec_capacity params.old) e) }
+    ensures kept { vec_capacity params.old ≤ vec_capacity params.new }
+{
+    fill(params, bytes)
+}
+
+// The same with a list of its own.
+fn read(alloc: Global, bytes: &[u8]) -> Result<ReadCsi<'_>, ReadError>
+    ensures { MatchResult result (λ read. Reads bytes.now read.params.items read.control read.rest.now) (λ e. Refuses bytes.now 0 e) }
+{
+    let tokens = tokens_from(bytes, behind_introducer(bytes)?)?;
+    let mut params = Vec::with_capacity(alloc, tokens)?;
+    let tail = fill(&mut params, bytes)?;
+    Ok(ReadCsi {
+        params,
+        control: tail.control,
+        rest: tail.rest,
+    })
+}
+
+/// Reads the control sequence at the front of the bytes, its tokens into a list of its own, which
+/// grows once.
+///
+/// ECMA-48, 5.4, in its 7-bit form: `ESC [` (1b 5b), then parameter bytes (30 to 3f), intermediate
+/// bytes (20 to 2f), and one final byte (40 to 7e). The bytes from 20 to 3f are read in any order
+/// here. A longest run of digits is one number, its leading zeros read; each other byte is a token.
+/// `Memory` never comes for a sequence with no tokens.
+///
+/// ```text
+/// let read = read_csi(alloc, b"\x1b[0001;?m!")?;              // 1, ';', '?' then 'm' and b"!"
+/// let refused = read_csi(alloc, b"\x1b[1");                   // Truncated { at: 3 }
+/// ```
+pub fn read_csi<'a>(alloc: Global, bytes: &'a [u8]) -> Result<ReadCsi<'a>, ReadError>
+    // What is read is a sequence, and the bytes behind it are left.
+    ensures found { IfOk result (λ read. Reads bytes.now read.params.items read.control read.rest.now) }
+    // Where a front is a sequence, this one is read, unless there is no memory for its tokens.
+    ensures only { (list : List CsiParam) (final : ℕ) (rest : List ℕ) → Reads bytes.now list final rest → MatchResult result
+        (λ read. (read.params.items ≡ list) × (read.control ≡ final) × (read.rest.now ≡ rest))
+        (λ e. (e ≡ Memory) × (0 < length list)) }
+    // Memory is refused only to a sequence, and any other error is the fault of bytes with none in front.
+    ensures refused { IfErr result (λ e. Refuses bytes.now 0 e) }
+{
+    read(alloc, bytes)
+}

@@ -1,0 +1,29 @@
+//! Why a parameter, or a list of them, was refused.
+
+ghost use Rattle.std.specs.Prelude.{◌≡◌};
+ghost use Rattle.csicodec_tokens.specs.declared.refusal.ParseRefusal.TheVariants.{Memory};
+
+use std::alloc::AllocError;
+
+/// The refusal "this is no spelling": the token, or the list of them, is none that a value of the
+/// type asked for is written as.
+#[derive(Clone, Copy, Debug, PartialEq, Eq)]
+pub struct NotSpelled;
+
+/// Why no value was made of a parameter list, where making one takes memory.
+#[derive(Clone, Copy, Debug, PartialEq, Eq)]
+pub enum ParseRefusal {
+    /// The list is none that a value of the type asked for is written as.
+    NotSpelled,
+
+    /// Out of memory. The list is one that a value is written as.
+    Memory,
+}
+
+impl From<AllocError> for ParseRefusal {
+    ghost from_gives = { λ _ e. e ≡ Memory };
+
+    fn from(_e: AllocError) -> ParseRefusal {
+        ParseRefusal::Memory
+    }
+}

@@ -4,9 +4,9 @@ ghost use Rattle.std.specs.Prelude.{◌<◌};
 
 use csicodec::CsiParam::{Integer, P};
 use csicodec::{
-    CSI, ColorSpec, CsiParam, Cursor, CursorStyle, CursorTabulationControl, Edit, EraseInDisplay,
-    EraseInLine, Intensity, NotSpelled, OneBased, Sgr, SrgbaTuple, TabulationClear, decode_all,
-    encode_all, parse_all,
+    CSI, ColorSpec, CsiParam, Cursor, CursorStyle, CursorTabulationControl, Device, Edit,
+    EraseInDisplay, EraseInLine, Intensity, NotSpelled, OneBased, Sgr, SrgbaTuple, TabulationClear,
+    decode_all, encode_all, parse_all, read_csi,
 };
 use std::alloc::Global;
 use std::process::Abort;
@@ -182,6 +182,47 @@ fn edits(rt: HostRuntime) -> Result<(), Fail> {
     Ok(())
 }
 
+/// Devices take memory: the parser makes them apart from the others, and so does what goes over bytes.
+#[test]
+fn devices(rt: HostRuntime) -> Result<(), Fail> {
+    let rows: [(&str, Device, &str); 9] = [
+        ("\x1b[!p", Device::SoftReset, "\x1b[!p"),
+        ("\x1b[0c", Device::RequestPrimaryDeviceAttributes, "\x1b[c"),
+        (
+            "\x1b[>c",
+            Device::RequestSecondaryDeviceAttributes,
+            "\x1b[>c",
+        ),
+        (
+            "\x1b[=0c",
+            Device::RequestTertiaryDeviceAttributes,
+            "\x1b[=c",
+        ),
+        ("\x1b[>0q", Device::RequestTerminalNameAndVersion, "\x1b[>q"),
+        ("\x1b[5n", Device::StatusReport, "\x1b[5n"),
+        (
+            "\x1b[?1;2c",
+            Device::Vt100WithAdvancedVideoOption,
+            "\x1b[?1;2c",
+        ),
+        ("\x1b[?1;0c", Device::Vt101WithNoOptions, "\x1b[?1;0c"),
+        ("\x1b[?6c", Device::Vt102, "\x1b[?6c"),
+    ];
+    for (sequence, device, text) in rows {
+        let action = CSI::Device(Box::new(rt.alloc(), device)?);
+        let read = read_csi(rt.alloc(), sequence.as_bytes())?;
+        let mut run = CSI::parse(rt.alloc(), &read.params, false, read.control);
+        assert!(rt;
+            matches!(run.next(), Some(Ok(found)) if found == action),
+            "{sequence:?}"
+        );
+        assert!(rt; run.next().is_none(), "{sequence:?}");
+        assert!(rt; action.clone(rt.alloc())? == action);
+        check(&rt, rt.alloc(), sequence, action, text)?;
+    }
+    Ok(())
+}
+
 /// What no row reads comes as it is, and is written as it came.
 #[test]
 fn unread(rt: HostRuntime) -> Result<(), Fail> {
@@ -205,7 +246,7 @@ fn unread(rt: HostRuntime) -> Result<(), Fail> {
         (&[Integer(7), P(b' ')], 'q', "\x1b[7 q"),
         (&[Integer(2)], 'q', "\x1b[2q"),
         (&[Integer(6), P(b';')], 'n', "\x1b[6;n"),
-        (&[Integer(5)], 'n', "\x1b[5n"),
+        (&[Integer(7)], 'n', "\x1b[7n"),
         (&[Integer(0)], 'u', "\x1b[0u"),
     ];
     for (params, control, text) in rows {

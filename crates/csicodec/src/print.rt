@@ -1,161 +1,19 @@
 //! The texts of actions.
 ghost use Rattle.std.specs.Prelude.{◌≡◌, ◌==◌, ◌&&◌, ◌+◌, ◌≤◌, ◌++◌, ◌<◌, [], ◌∷◌, Some, pos, IsAscii, if◌then◌else◌, length};
-ghost use Rattle.csicodec_tokens.specs.OneBased.{most};
 ghost use Rattle.csicodec.specs.Actions.{action_of};
-ghost use Rattle.csicodec.specs.Kinds.{Kind, Any, Count, Dec, Flags as FlagsKind, Last, Terminal, Way};
-ghost use Rattle.csicodec.specs.Table.Cursor.{written_cursor};
+ghost use Rattle.csicodec.specs.Kinds.{Kind, Any};
 ghost use Rattle.csicodec.specs.Table.Device.{written_device};
-ghost use Rattle.csicodec.specs.Table.Edit.{written_edit};
-ghost use Rattle.csicodec.specs.Table.Keyboard.{written_keyboard};
-ghost use Rattle.csicodec.specs.Table.Mode.{written_mode};
 ghost use Rattle.csicodec.specs.Table.Mouse.{written_mouse};
 ghost use Rattle.csicodec.specs.Table.Path.{written_path};
-ghost use Rattle.csicodec.specs.Written.{Byte, The, shown, two, written_text};
+ghost use Rattle.csicodec.specs.Written.{Byte, The, shown, written_text};
 ghost use Rattle.csicodec.specs.MouseTexts.{mouse_code, mouse_place};
 ghost use Rattle.std.specs.Fmt.{decimal};
 ghost use Rattle.csicodec.specs.Texts.{text, unspecified_text};
 
-use crate::actions::{
-    CSI, CharacterPath, Cursor, DecPrivateMode, Device, Edit, Keyboard, KittyKeyboardMode, Mode,
-    MouseReport, TerminalMode, Unspecified,
-};
-use crate::params::{EncodeCSIParam, write_pair};
+use crate::actions::{CSI, CharacterPath, Device, MouseReport, Unspecified};
 use bitflags::Flags;
-use csicodec_base::{KittyKeyboardFlags, OneBased, Text};
+use csicodec_base::Text;
 use std::fmt;
-
-impl Cursor {
-    /// Appends the parameters and the final byte: 22 bytes at most.
-    pub(crate) fn write_to(&self, text: &mut Text)
-        requires room { length text.old ≤ 10 }
-        ensures { text.new ≡ text.old ++ written_text (written_cursor self.now) }
-    {
-        match self {
-            Cursor::Up(count) => count.write_csi(text, b'A'),
-            Cursor::Down(count) => count.write_csi(text, b'B'),
-            Cursor::Right(count) => count.write_csi(text, b'C'),
-            Cursor::Left(count) => count.write_csi(text, b'D'),
-            Cursor::NextLine(count) => count.write_csi(text, b'E'),
-            Cursor::PrecedingLine(count) => count.write_csi(text, b'F'),
-            Cursor::CharacterAbsolute(col) => col.write_csi(text, b'G'),
-            Cursor::CharacterPositionAbsolute(col) => col.write_csi(text, b'`'),
-            Cursor::Position { line, col } => write_pair(text, *line, *col, b'H'),
-            Cursor::ActivePositionReport { line, col } => write_pair(text, *line, *col, b'R'),
-            Cursor::CharacterAndLinePosition { line, col } => write_pair(text, *line, *col, b'f'),
-            Cursor::ForwardTabulation(count) => count.write_csi(text, b'I'),
-            Cursor::BackwardTabulation(count) => count.write_csi(text, b'Z'),
-            Cursor::LineTabulation(count) => count.write_csi(text, b'Y'),
-            Cursor::CharacterPositionForward(count) => count.write_csi(text, b'a'),
-            Cursor::CharacterPositionBackward(count) => count.write_csi(text, b'j'),
-            Cursor::LinePositionAbsolute(count) => count.write_csi(text, b'd'),
-            Cursor::LinePositionForward(count) => count.write_csi(text, b'e'),
-            Cursor::LinePositionBackward(count) => count.write_csi(text, b'k'),
-            Cursor::TabulationControl(control) => control.write_csi(text, b'W'),
-            Cursor::TabulationClear(clear) => clear.write_csi(text, b'g'),
-            Cursor::SetTopAndBottomMargins { top, bottom } => {
-                write_margins(text, *top, *bottom, b'r');
-            }
-            Cursor::SetLeftAndRightMargins { left, right } => {
-                write_margins(text, *left, *right, b's');
-            }
-            Cursor::SaveCursor => text.push(b's'),
-            Cursor::RestoreCursor => text.push(b'u'),
-            Cursor::RequestActivePositionReport => {
-                text.push_u8(6);
-                text.push(b'n');
-            }
-            Cursor::CursorStyle(style) => {
-                text.push_u8(style.to_i64() as u8);
-                text.push_str(" q");
-            }
-        }
-    }
-}
-
-/// Two margins, unless they are all around, and the final byte.
-fn write_margins(text: &mut Text, first: OneBased, second: OneBased, control: u8)
-    requires room { length text.old ≤ 10 }
-    requires ascii { control < 128 }
-    ensures { text.new ≡ text.old ++ shown (if first == 1 && second == most then [] else two Count first second) (control ∷ []) }
-{
-    if first.as_one_based() == 1 && second.as_one_based() == u32::MAX {
-        text.push(control);
-    } else {
-        write_pair(text, first, second, control);
-    }
-}
-
-impl Edit {
-    /// Appends the parameter and the final byte: 11 bytes at most.
-    pub(crate) fn write_to(&self, text: &mut Text)
-        requires room { length text.old ≤ 10 }
-        ensures { text.new ≡ text.old ++ written_text (written_edit self.now) }
-    {
-        match self {
-            Edit::InsertCharacter(count) => count.write_csi(text, b'@'),
-            Edit::InsertLine(count) => count.write_csi(text, b'L'),
-            Edit::DeleteCharacter(count) => count.write_csi(text, b'P'),
-            Edit::DeleteLine(count) => count.write_csi(text, b'M'),
-            Edit::EraseCharacter(count) => count.write_csi(text, b'X'),
-            Edit::ScrollUp(count) => count.write_csi(text, b'S'),
-            Edit::ScrollDown(count) => count.write_csi(text, b'T'),
-            Edit::Repeat(count) => count.write_csi(text, b'b'),
-            Edit::EraseInDisplay(part) => part.write_csi(text, b'J'),
-            Edit::EraseInLine(part) => part.write_csi(text, b'K'),
-        }
-    }
-}
-
-impl Mode {
-    /// Appends the parameters and the final byte: 24 bytes at most.
-    pub(crate) fn write_to(&self, text: &mut Text)
-        requires room { length text.old ≤ 7 }
-        ensures { text.new ≡ text.old ++ written_text (written_mode self.now) }
-    {
-        match self {
-            Mode::SetDecPrivateMode(mode) => write_dec(text, mode, "h"),
-            Mode::ResetDecPrivateMode(mode) => write_dec(text, mode, "l"),
-            Mode::SaveDecPrivateMode(mode) => write_dec(text, mode, "s"),
-            Mode::RestoreDecPrivateMode(mode) => write_dec(text, mode, "r"),
-            Mode::QueryDecPrivateMode(mode) => write_dec(text, mode, "$p"),
-            Mode::SetMode(mode) => write_terminal(text, mode, "h"),
-            Mode::ResetMode(mode) => write_terminal(text, mode, "l"),
-            Mode::QueryMode(mode) => write_terminal(text, mode, "$p"),
-            Mode::XtermKeyMode { resource, value } => {
-                text.push(b'>');
-                text.push_u8(resource.number());
-                text.push(b';');
-                if let Some(value) = value {
-                    text.push_i64(*value);
-                }
-                text.push(b'm');
-            }
-        }
-    }
-}
-
-/// A `?`, the number of a mode, and this end.
-fn write_dec(text: &mut Text, mode: &DecPrivateMode, end: &str)
-    requires room { length text.old ≤ 8 }
-    requires short { length end.now ≤ 2 }
-    requires ascii { IsAscii end.now }
-    ensures { text.new ≡ text.old ++ shown (Byte 63 ∷ The Dec mode.now ∷ []) end.now }
-{
-    text.push(b'?');
-    text.push_u32(mode.number());
-    text.push_str(end);
-}
-
-/// The number of a mode, and this end.
-fn write_terminal(text: &mut Text, mode: &TerminalMode, end: &str)
-    requires room { length text.old ≤ 8 }
-    requires short { length end.now ≤ 2 }
-    requires ascii { IsAscii end.now }
-    ensures { text.new ≡ text.old ++ shown (The Terminal mode.now ∷ []) end.now }
-{
-    text.push_u32(mode.number());
-    text.push_str(end);
-}
 
 impl Device {
     /// Appends the parameters and the final byte: 5 bytes at most.
@@ -239,43 +97,6 @@ fn write_answer(text: &mut Text, first: u8, second: u8)
     text.push(b'c');
 }
 
-impl Keyboard {
-    /// Appends the parameters and the final byte: 16 bytes at most.
-    pub(crate) fn write_to(&self, text: &mut Text)
-        requires room { length text.old ≤ 10 }
-        ensures { text.new ≡ text.old ++ written_text (written_keyboard self.now) }
-    {
-        match self {
-            Keyboard::SetKittyState { flags, mode } => write_state(text, b'=', flags, mode),
-            Keyboard::PushKittyState { flags, mode } => write_state(text, b'>', flags, mode),
-            Keyboard::PopKittyState(count) => {
-                text.push(b'<');
-                text.push_u32(*count);
-                text.push(b'u');
-            }
-            Keyboard::QueryKittySupport => text.push_str("?u"),
-            Keyboard::ReportKittyState(flags) => {
-                text.push(b'?');
-                text.push_u32(u32::from(flags.bits()));
-                text.push(b'u');
-            }
-        }
-    }
-}
-
-/// This mark, flags and the way that they are set.
-fn write_state(text: &mut Text, mark: u8, flags: &KittyKeyboardFlags, mode: &KittyKeyboardMode)
-    requires room { length text.old ≤ 10 }
-    requires ascii { mark < 128 }
-    ensures { text.new ≡ text.old ++ shown (Byte mark ∷ The FlagsKind flags.now ∷ Byte 59 ∷ The Way mode.now ∷ []) (117 ∷ []) }
-{
-    text.push(mark);
-    text.push_u32(u32::from(flags.bits()));
-    text.push(b';');
-    text.push_u8(mode.number());
-    text.push(b'u');
-}
-
 /// A path and its effect, as far as they aren't 0.
 pub(crate) fn write_path(text: &mut Text, path: &CharacterPath, effect: i64)
     requires room { length text.old ≤ 5 }
@@ -295,50 +116,6 @@ pub(crate) fn write_path(text: &mut Text, path: &CharacterPath, effect: i64)
 /// Writes the parameters and the final character, without `ESC [`.
 impl fmt::Display for Device {
     ghost output = { λ d. Some (written_text (written_device d)) };
-
-    fn fmt<W: fmt::Write>(&self, f: &mut fmt::Formatter<W>) -> fmt::Result {
-        let mut text = Text::new();
-        self.write_to(&mut text);
-        f.write_str(text.as_str())
-    }
-}
-
-/// Writes the parameters and the final character, without `ESC [`.
-impl fmt::Display for Keyboard {
-    ghost output = { λ k. Some (written_text (written_keyboard k)) };
-
-    fn fmt<W: fmt::Write>(&self, f: &mut fmt::Formatter<W>) -> fmt::Result {
-        let mut text = Text::new();
-        self.write_to(&mut text);
-        f.write_str(text.as_str())
-    }
-}
-
-/// Writes the parameters and the final character, without `ESC [`.
-impl fmt::Display for Cursor {
-    ghost output = { λ c. Some (written_text (written_cursor c)) };
-
-    fn fmt<W: fmt::Write>(&self, f: &mut fmt::Formatter<W>) -> fmt::Result {
-        let mut text = Text::new();
-        self.write_to(&mut text);
-        f.write_str(text.as_str())
-    }
-}
-
-/// Writes the parameter and the final character, without `ESC [`.
-impl fmt::Display for Edit {
-    ghost output = { λ e. Some (written_text (written_edit e)) };
-
-    fn fmt<W: fmt::Write>(&self, f: &mut fmt::Formatter<W>) -> fmt::Result {
-        let mut text = Text::new();
-        self.write_to(&mut text);
-        f.write_str(text.as_str())
-    }
-}
-
-/// Writes the parameters and the final character, without `ESC [`.
-impl fmt::Display for Mode {
-    ghost output = { λ m. Some (written_text (written_mode m)) };
 
     fn fmt<W: fmt::Write>(&self, f: &mut fmt::Formatter<W>) -> fmt::Result {
         let mut text = Text::new();

@@ -1,6 +1,6 @@
 -- What holds of all that the rows of whole lists give: said for each row, and proved of any list.
-use Rattle.std.proofs.Common.{◌≡◌, ℕ, List, [], ◌∷◌, ◌++◌, Option, None, Some, refl, sym, ap, ◌∙◌, inl, inr, rules, pos, append_assoc}
-use Rattle.std.specs.Prelude.{ℤ, ◌==◌, Bool, true, false, option_and_then, if◌then◌else◌}
+use Rattle.std.proofs.Common.{◌≡◌, ℕ, List, [], ◌∷◌, ◌++◌, Option, None, Some, refl, sym, ap, ◌∙◌, inl, inr, rules, append_assoc}
+use Rattle.std.specs.Prelude.{ℤ, ◌==◌, true, if◌then◌else◌}
 use Rattle.std.specs.List.{AllByRecursion}
 use Rattle.std.specs.Option.{option_or}
 use Rattle.std.proofs.lemmas.Bool.{cases_Bool, and_parts, eqb-true}
@@ -12,7 +12,6 @@ use Rattle.csicodec.specs.declared.group.Group.TheVariants as groups
 use Rattle.csicodec.specs.Actions.{Action}
 use Rattle.csicodec.specs.Groups.{group_by, group}
 use Rattle.csicodec.specs.Kinds.{Kind, Value, read}
-use Rattle.csicodec_names.specs.Numbered.{is_number}
 use Rattle.csicodec.specs.Rows.{Slot, Byte, Number, One, Makes, fits, has_shape, made, gives, Row, given, Before, rows_before, read_by}
 use Rattle.csicodec.specs.Table.Cursor.{as_cursor}
 use Rattle.csicodec.specs.Table.Device.{as_device}

@@ -6,7 +6,7 @@ use Rattle.csicodec_tokens.specs.declared.param.CsiParam.{CsiParam}
 use Rattle.csicodec_tokens.specs.Sequence.{IsFinal, Spellable}
 use Rattle.csicodec.specs.declared.group.Group.{Group}
 use Rattle.csicodec.specs.declared.group.Group.TheVariants as groups
-use Rattle.csicodec.specs.Actions.{Action, Sgr, Cursor, Edit, Mode, Device, Keyboard, Mouse, SelectCharacterPath, Unspecified}
+use Rattle.csicodec.specs.Actions.{Action, Sgr, Unspecified}
 use Rattle.csicodec.specs.Groups.{group, marked, has_odd}
 use Rattle.csicodec.specs.Cut.{body, IsStuck}
 use Rattle.csicodec.specs.Segments.{BodyActions, CutActions, ActionsIn, Actions}

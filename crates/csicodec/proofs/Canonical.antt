@@ -1,12 +1,11 @@
 -- The actions that the types let stand, and those that are read back alone from their own text: a case for each kind of action.
 use Rattle.std.proofs.Common.{inr}
-use Rattle.std.specs.Prelude.{ℕ, ◌≡◌, ◌⊎◌, ◌<◌, ◌^◌, List, Bool, true, length, Option, None, Some}
+use Rattle.std.specs.Prelude.{ℕ, ◌≡◌, ◌⊎◌, ◌<◌, List, Bool, true, length, Option, None, Some}
 use Rattle.csicodec_tokens.specs.declared.param.CsiParam.{CsiParam}
 use Rattle.csicodec_tokens.specs.Sequence.{IsFinal, Spellable}
 use Rattle.csicodec.specs.declared.group.Group.{Group}
 use Rattle.csicodec.specs.declared.group.Group.TheVariants as groups
-use Rattle.csicodec_tokens.specs.OneBased.{most}
-use Rattle.csicodec.specs.Actions.{Action, Sgr, Cursor, Edit, Mode, Device, Keyboard, Mouse, SelectCharacterPath, Unspecified}
+use Rattle.csicodec.specs.Actions.{Action, Sgr, Unspecified}
 use Rattle.csicodec.specs.Groups.{group, has_odd}
 use Rattle.csicodec.specs.Cut.{body, IsStuck}
 use Rattle.csicodec.specs.Segments.{IsUnread}

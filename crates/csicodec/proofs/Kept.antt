@@ -1,9 +1,8 @@
 -- What reading makes is canonical or special.
-use Rattle.std.proofs.Common.{ℕ, ◌≡◌, ◌<◌, List, [], ◌∷◌, Bool, true, false, Some, pos, refl, rules, inl, inr}
+use Rattle.std.proofs.Common.{ℕ, ◌≡◌, ◌<◌, List, Bool, Some, pos, refl, rules, inl, inr}
 use Rattle.std.specs.Prelude.{◌==◌, ◌&&◌}
 use Rattle.std.proofs.lemmas.Bool.{cases_Bool, and_parts, eqb-true}
 use Rattle.csicodec_tokens.specs.declared.param.CsiParam.{CsiParam}
-use Rattle.csicodec_tokens.specs.declared.param.CsiParam.TheVariants.{Integer}
 use Rattle.csicodec_tokens.specs.OneBased.{most}
 use Rattle.csicodec_tokens.specs.Sequence.{IsSpellable, Spellable}
 use Rattle.csicodec.specs.declared.actions.cursor.Cursor.TheVariants as cursor
@@ -19,13 +18,10 @@ use Rattle.csicodec.specs.declared.actions.mouse.MouseReport.TheVariants as mous
 use Rattle.csicodec_names.specs.declared.flags.Modifiers.{Modifiers}
 use Rattle.csicodec.specs.Mouse.{pressed, released, is_release}
 use Rattle.csicodec.proofs.MouseCodes.{IsReport, release-pressed, none-released}
-use Rattle.csicodec.specs.Kinds.{Kind, Count, Last, Dec, Terminal, read}
+use Rattle.csicodec.specs.Kinds.{Dec, Terminal, read}
 use Rattle.csicodec.specs.Modes.{changed, switched}
-use Rattle.csicodec.specs.Special.{IsSpecial}
 use Rattle.csicodec.specs.Whole.{table, whole}
-use Rattle.csicodec.specs.Written.{two}
 use Rattle.csicodec.proofs.Canonical.{Kept}
-use Rattle.csicodec.proofs.Items.{AllGood}
 use Rattle.csicodec.proofs.AllRows.{TableKeeps, spellable-tokens, whole-keeps}
 use Rattle.csicodec.proofs.Values.{Good, IsOneBased, dec-read, terminal-read, good-read, one-fits, most-fits}
 

@@ -1,13 +1,10 @@
 -- What the code makes of a list that is one parameter or two, by the rows.
-use Rattle.std.proofs.Common.{◌≡◌, ℕ, List, [], ◌∷◌, Option, None, Some, refl, sym, ◌∙◌, pos}
-use Rattle.std.specs.Prelude.{ℤ, ◌==◌, Bool, true, false, IfSome, IfNone, option_and_then, if◌then◌else◌}
-use Rattle.std.specs.List.{AllByRecursion}
+use Rattle.std.proofs.Common.{◌≡◌, ℕ, List, [], ◌∷◌, Option, None, Some, refl, ◌∙◌, pos}
+use Rattle.std.specs.Prelude.{IfSome, IfNone, option_and_then}
 use Rattle.std.specs.Option.{option_map, option_or}
 use Rattle.std.proofs.lemmas.Bool.{ne_eqb}
 use Rattle.csicodec_tokens.specs.declared.param.CsiParam.{CsiParam}
 use Rattle.csicodec_tokens.specs.declared.param.CsiParam.TheVariants.{Integer, P}
-use Rattle.csicodec.specs.declared.actions.CSI.{CSI}
-use Rattle.csicodec.specs.Actions.{Action, action_of}
 use Rattle.csicodec.specs.Kinds.{Kind, Count, Value, read}
 use Rattle.csicodec.specs.Params.{one_or_zero}
 use Rattle.csicodec.specs.Rows.{given, counted, chosen, Before, rows_before, read_by}

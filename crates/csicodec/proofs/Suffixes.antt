@@ -11,13 +11,12 @@ use Rattle.csicodec.specs.declared.actions.mode.Switch.TheVariants as switches
 use Rattle.csicodec.specs.declared.actions.mode.TerminalMode.{TerminalMode}
 use Rattle.csicodec.specs.declared.group.Group.{Group}
 use Rattle.csicodec.specs.declared.group.Group.TheVariants as groups
-use Rattle.csicodec.specs.Actions.{Action, Sgr, Cursor, Edit, Mode, Device, Keyboard, Mouse, SelectCharacterPath, Unspecified}
+use Rattle.csicodec.specs.Actions.{Action, Mode, Unspecified}
 use Rattle.csicodec.specs.Groups.{group, start, marked, has_odd, Piece}
 use Rattle.csicodec.specs.Cut.{body, Cut}
 use Rattle.csicodec.specs.Modes.{changed, switched}
 use Rattle.csicodec.specs.Segments.{remainder, empty_action, BodyActions, CutActions, ActionsIn}
 use Rattle.csicodec.specs.Suffix.{IsSuffix, changes_private, EndsUnknown, SuffixLaw}
-use Rattle.std.specs.List.{AllByRecursion}
 use Rattle.csicodec.specs.Whole.{table, Whole}
 use Rattle.csicodec.proofs.AllRows.{TableKeeps, no-tokens, whole-keeps}
 use Rattle.csicodec.proofs.GroupOf.{marked-body}

@@ -4,7 +4,7 @@ use Rattle.std.specs.List.{Contains}
 use Rattle.std.specs.Option.{option_or}
 use Rattle.csicodec_tokens.specs.declared.param.CsiParam.{CsiParam}
 use Rattle.csicodec.specs.Actions.{Action}
-use Rattle.csicodec.specs.Rows.{Row, gives, Before, rows_before, read_by}
+use Rattle.csicodec.specs.Rows.{Row, gives, Before, rows_before}
 use Rattle.csicodec.specs.Table.Cursor.{cursor_rows, as_cursor}
 use Rattle.csicodec.specs.Table.Device.{device_rows, as_device}
 use Rattle.csicodec.specs.Table.Edit.{edit_rows, as_edit}

@@ -1,5 +1,5 @@
 -- What an action of the cursor is written as is read as it.
-use Rattle.std.proofs.Common.{ℕ, ◌≡◌, List, [], ◌∷◌, Bool, true, false, Some, refl, rules, inl, inr, pos}
+use Rattle.std.proofs.Common.{ℕ, ◌≡◌, [], Bool, true, false, Some, refl, rules, inl, inr}
 use Rattle.std.specs.Prelude.{◌==◌, ◌&&◌, if◌then◌else◌}
 use Rattle.std.proofs.lemmas.Bool.{cases_Bool, and_parts, eqb-true}
 use Rattle.csicodec_names.specs.declared.enums.CursorTabulationControl.TheVariants as control
@@ -7,7 +7,7 @@ use Rattle.csicodec_names.specs.declared.enums.TabulationClear.TheVariants as cl
 use Rattle.csicodec_tokens.specs.OneBased.{most}
 use Rattle.csicodec.specs.declared.actions.cursor.Cursor as cursor_type
 use Rattle.csicodec.specs.declared.actions.cursor.Cursor.TheVariants as cursor
-use Rattle.csicodec.specs.Actions.{Action, Cursor}
+use Rattle.csicodec.specs.Actions.{Cursor}
 use Rattle.csicodec.specs.Kinds.{Count, Last, Control, Clear}
 use Rattle.csicodec.specs.Special.{IsSpecial}
 use Rattle.csicodec.specs.Table.Cursor.{as_cursor, written_cursor}
@@ -16,7 +16,7 @@ use Rattle.csicodec.proofs.Disjoint.{cursor-whole}
 use Rattle.csicodec.proofs.Items.{AllGood, is_sound}
 use Rattle.csicodec.proofs.LeftOut.{left-out, counted, no-control, no-clear}
 use Rattle.csicodec.proofs.Spelling.{Spelling, written-spelling}
-use Rattle.csicodec.proofs.Values.{Good, read-good}
+use Rattle.csicodec.proofs.Values.{read-good}
 
 -- ---- margins, which are left out where they are all around
 

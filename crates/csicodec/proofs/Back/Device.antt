@@ -1,8 +1,8 @@
 -- What a device says is written as is read as it.
-use Rattle.std.proofs.Common.{ℕ, ◌≡◌, List, [], ◌∷◌, Bool, true, Some, refl, rules, pos}
+use Rattle.std.proofs.Common.{◌≡◌, Bool, true, Some, refl}
 use Rattle.csicodec.specs.declared.actions.device.Device as device_type
 use Rattle.csicodec.specs.declared.actions.device.Device.TheVariants as device
-use Rattle.csicodec.specs.Actions.{Action, Device}
+use Rattle.csicodec.specs.Actions.{Device}
 use Rattle.csicodec.specs.Table.Device.{as_device, written_device}
 use Rattle.csicodec.specs.Written.{tokens}
 use Rattle.csicodec.proofs.Disjoint.{device-whole}

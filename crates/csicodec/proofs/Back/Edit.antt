@@ -1,10 +1,10 @@
 -- What an edit is written as is read as it.
-use Rattle.std.proofs.Common.{ℕ, ◌≡◌, List, [], ◌∷◌, Bool, true, Some, refl, rules, pos}
+use Rattle.std.proofs.Common.{◌≡◌, Bool, true, Some, refl}
 use Rattle.csicodec_names.specs.declared.enums.EraseInDisplay.TheVariants as display
 use Rattle.csicodec_names.specs.declared.enums.EraseInLine.TheVariants as line
 use Rattle.csicodec.specs.declared.actions.edit.Edit as edit_type
 use Rattle.csicodec.specs.declared.actions.edit.Edit.TheVariants as edit
-use Rattle.csicodec.specs.Actions.{Action, Edit}
+use Rattle.csicodec.specs.Actions.{Edit}
 use Rattle.csicodec.specs.Kinds.{InDisplay, InLine}
 use Rattle.csicodec.specs.Table.Edit.{as_edit, written_edit}
 use Rattle.csicodec.specs.Written.{tokens}

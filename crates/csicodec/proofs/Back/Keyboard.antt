@@ -1,14 +1,14 @@
 -- What the keyboard says is written as is read as it.
-use Rattle.std.proofs.Common.{ℕ, ◌≡◌, List, [], ◌∷◌, Bool, true, Some, refl, rules, pos}
+use Rattle.std.proofs.Common.{◌≡◌, Bool, true, Some, refl, rules}
 use Rattle.csicodec.specs.declared.actions.keyboard.Keyboard as keyboard_type
 use Rattle.csicodec.specs.declared.actions.keyboard.Keyboard.TheVariants as keyboard
-use Rattle.csicodec.specs.Actions.{Action, Keyboard}
+use Rattle.csicodec.specs.Actions.{Keyboard}
 use Rattle.csicodec.specs.Table.Keyboard.{as_keyboard, written_keyboard}
 use Rattle.csicodec.specs.Written.{tokens}
 use Rattle.csicodec.proofs.Disjoint.{keyboard-whole}
 use Rattle.csicodec.proofs.Items.{AllGood, is_sound}
 use Rattle.csicodec.proofs.Spelling.{Spelling, written-spelling}
-use Rattle.csicodec.proofs.Values.{Good, read-good}
+use Rattle.csicodec.proofs.Values.{read-good}
 
 keyboard-back : (k : keyboard_type.Keyboard) → AllGood (written_keyboard k).items → as_keyboard (tokens (written_keyboard k).items) (written_keyboard k).final ≡ Some (Keyboard k)
 unfolding as_keyboard

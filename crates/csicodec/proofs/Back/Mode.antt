@@ -1,6 +1,5 @@
 -- What a mode is written as is read as it: as a piece, or as a whole list.
 use Rattle.std.proofs.Common.{ℕ, ◌≡◌, List, [], ◌∷◌, Bool, true, None, Some, refl, ap, rules, pos}
-use Rattle.std.specs.Prelude.{ℤ}
 use Rattle.csicodec_tokens.specs.declared.param.CsiParam.TheVariants.{Integer, P}
 use Rattle.csicodec.specs.declared.actions.mode.Change.{Change}
 use Rattle.csicodec.specs.declared.actions.mode.Change.TheVariants as change
@@ -11,7 +10,7 @@ use Rattle.csicodec.specs.declared.actions.mode.Switch.{Switch}
 use Rattle.csicodec.specs.declared.actions.mode.Switch.TheVariants as switch
 use Rattle.csicodec.specs.declared.actions.mode.TerminalMode.{TerminalMode}
 use Rattle.csicodec.specs.declared.group.Group.TheVariants as groups
-use Rattle.csicodec.specs.Actions.{Action, Mode}
+use Rattle.csicodec.specs.Actions.{Mode}
 use Rattle.csicodec.specs.Groups.{group, Piece}
 use Rattle.csicodec.specs.Kinds.{Dec, Terminal}
 use Rattle.csicodec.specs.Modes.{changed, switched, dec_number, terminal_number}

@@ -1,17 +1,16 @@
 -- What a report of the mouse is written as is read as it.
-use Rattle.std.proofs.Common.{ℕ, ◌≡◌, List, [], ◌∷◌, Bool, true, Some, refl, rules, inl, inr, pos}
+use Rattle.std.proofs.Common.{Bool, refl, rules, inl, inr}
 use Rattle.std.proofs.lemmas.Bool.{cases_Bool}
 use Rattle.csicodec.specs.declared.actions.mouse.MouseReport as mouse_type
 use Rattle.csicodec.specs.declared.actions.mouse.MouseReport.TheVariants as mouse
-use Rattle.csicodec.specs.Actions.{Action, Mouse}
-use Rattle.csicodec.specs.Kinds.{Pressed, Released, Word}
+use Rattle.csicodec.specs.Actions.{Mouse}
+use Rattle.csicodec.specs.Kinds.{Pressed, Released}
 use Rattle.csicodec.specs.Mouse.{is_release}
 use Rattle.csicodec.specs.Table.Mouse.{as_mouse, report, written_mouse}
-use Rattle.csicodec.specs.Written.{tokens}
 use Rattle.csicodec.proofs.Disjoint.{mouse-whole}
-use Rattle.csicodec.proofs.Items.{AllGood, is_sound}
+use Rattle.csicodec.proofs.Items.{AllGood}
 use Rattle.csicodec.proofs.Spelling.{Spelling, written-spelling}
-use Rattle.csicodec.proofs.Values.{Good, read-good}
+use Rattle.csicodec.proofs.Values.{read-good}
 
 pub mouse-spelling : (flag : Bool) (m : mouse_type.MouseReport) → AllGood (written_mouse m).items → Spelling flag (Mouse m)
 unfolding as_mouse

@@ -1,16 +1,16 @@
 -- What a path of characters is written as is read as it.
-use Rattle.std.proofs.Common.{ℕ, ◌≡◌, List, [], ◌∷◌, Bool, true, Some, refl, rules, inl, inr, pos}
+use Rattle.std.proofs.Common.{◌≡◌, [], ◌∷◌, Bool, refl, rules, inl, inr, pos}
 use Rattle.std.specs.Prelude.{ℤ}
 use Rattle.std.proofs.lemmas.Bool.{cases_Bool}
 use Rattle.csicodec.specs.declared.actions.keyboard.CharacterPath.{CharacterPath}
 use Rattle.csicodec.specs.declared.actions.keyboard.CharacterPath.TheVariants as path
-use Rattle.csicodec.specs.Actions.{Action, SelectCharacterPath}
+use Rattle.csicodec.specs.Actions.{SelectCharacterPath}
 use Rattle.csicodec.specs.Kinds.{Any, Path}
 use Rattle.csicodec_names.specs.Numbered.{is_number}
 use Rattle.csicodec.specs.Table.Path.{as_path, written_path}
-use Rattle.csicodec.specs.Written.{Byte, The, tokens}
+use Rattle.csicodec.specs.Written.{Byte, The}
 use Rattle.csicodec.proofs.Disjoint.{path-whole}
-use Rattle.csicodec.proofs.Items.{AllGood, is_sound}
+use Rattle.csicodec.proofs.Items.{AllGood}
 use Rattle.csicodec.proofs.Spelling.{Spelling, written-spelling}
 use Rattle.csicodec.proofs.Values.{read-good}
 use Rattle.csicodec_names.proofs.Coded.{is_number-pos}

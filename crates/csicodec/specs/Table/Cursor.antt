@@ -1,5 +1,5 @@
 -- The cursor (ECMA-48, 8.3; DEC STD 070; DECSCUSR of the VT520): lists before a final character, and what each action is written as.
-use Rattle.std.specs.Prelude.{ℕ, ◌==◌, ◌&&◌, List, [], ◌∷◌, Option, if◌then◌else◌, pos}
+use Rattle.std.specs.Prelude.{ℕ, ◌==◌, ◌&&◌, List, [], ◌∷◌, Option, if◌then◌else◌}
 use Rattle.csicodec_tokens.specs.declared.param.CsiParam.{CsiParam}
 use Rattle.csicodec_names.specs.declared.enums.CursorTabulationControl.TheVariants as control
 use Rattle.csicodec_names.specs.declared.enums.TabulationClear.TheVariants as clear
@@ -9,7 +9,7 @@ use Rattle.csicodec.specs.declared.actions.cursor.Cursor.TheVariants as cursor
 use Rattle.csicodec.specs.Actions.{Action, Cursor}
 use Rattle.csicodec.specs.Kinds.{Count, Last, Style, Control, Clear}
 use Rattle.csicodec.specs.Rows.{Row, row, One, Number, mark, counted, chosen, halves, paired, Before, before, read_by}
-use Rattle.csicodec.specs.Written.{Written, The, Unless, count, choice, two, plain, write, put}
+use Rattle.csicodec.specs.Written.{Written, The, count, choice, two, plain, write, put}
 
 -- the top, and a bottom that is 4294967295 where it is left out or 0
 abbrev pub top_and_bottom : List (Row Action)

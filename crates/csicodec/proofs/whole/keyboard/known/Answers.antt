@@ -2,7 +2,6 @@ use Rattle.std.proofs.Common.{ap, ◌≡◌}
 use Rattle.std.specs.Prelude.{ℕ}
 use Rattle.std.specs.Int.RustNames.{bit_and}
 use Rattle.bitflags.proofs.OnLiterals.{bitflags_on_literals}
-use Rattle.csicodec_names.specs.declared.flags.KittyKeyboardFlags.{KittyKeyboardFlags}
 use Rattle.csicodec_names.specs.FlagBits.{kitty_bits}
 use Rattle.csicodec.proofs.whole.keyboard.known.Goals as goal
 

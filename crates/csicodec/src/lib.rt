@@ -29,7 +29,7 @@ pub use csicodec_base::{
     ReadCsi, ReadError, Sgr, SgrCode, SrgbaTuple, TabulationClear, TerminalModeCode, Text,
     Underline, VerticalAlign, behind_csi, read_csi, read_csi_into, sgr_front,
 };
-pub use filter::{Filter, filter_all};
+pub use filter::{Filter, NormalForm, Rewrite, filter_all};
 pub use look::Look;
 pub use parser::{CSIParser, Run};
 pub use stream::{DecodeError, RunError, decode_all, encode_all, normalise, parse_all};

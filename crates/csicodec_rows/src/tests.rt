@@ -2,6 +2,7 @@
 
 mod bytes;
 mod escapes;
+mod filter;
 mod lists;
 mod memory;
 mod modes;
@@ -9,6 +10,7 @@ mod pieces;
 mod reader;
 mod readme;
 mod rest;
+mod spans;
 mod streams;
 mod whole_lists;
 mod worked;

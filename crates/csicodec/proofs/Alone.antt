@@ -10,7 +10,8 @@ use Rattle.csicodec.specs.Actions.{Action, Sgr, Unspecified}
 use Rattle.csicodec.specs.Groups.{group, marked, has_odd}
 use Rattle.csicodec.specs.Cut.{body, IsStuck}
 use Rattle.csicodec.specs.Segments.{BodyActions, CutActions, ActionsIn, Actions}
-use Rattle.csicodec.proofs.Canonical.{InRange, IsUncut, IsUnknownIn, IsCanonical}
+use Rattle.csicodec.specs.Canonical.{IsUncut, IsUnknownIn, Canonical}
+use Rattle.csicodec.specs.Ranges.{InRange}
 use Rattle.csicodec.proofs.GroupOf.{marked-body}
 use Rattle.csicodec.proofs.OneReading.{Alone}
 use Rattle.csicodec.proofs.Spelling.{spelling-alone}
@@ -56,7 +57,7 @@ unknown-alone list flag final spellable ends read = spelling-alone flag (Unspeci
   read = read;
 })
 
-pub canonical-alone : (a : Action) (flag : Bool) → InRange a → IsCanonical a flag → Alone flag a
+pub canonical-alone : (a : Action) (flag : Bool) → InRange a → Canonical a flag → Alone flag a
 canonical-alone (Sgr s) flag range ok = spelling-alone flag (Sgr s) (sgr-spelling flag s range ok)
 canonical-alone (Unspecified list own final) flag range c =
     rw c.same_flag (unknown-alone list flag final c.spellable c.ends (unknown-actions (group list final) list flag final refl c.unknown))

@@ -3,7 +3,7 @@ use Rattle.std.proofs.Common.{Bool}
 use Rattle.csicodec.specs.Actions.{Action}
 use Rattle.csicodec.specs.Actions as actions
 use Rattle.csicodec.specs.Texts.{written}
-use Rattle.csicodec.proofs.Canonical.{IsCanonicalWritten}
+use Rattle.csicodec.specs.Canonical.{IsCanonicalWritten}
 use Rattle.csicodec.proofs.Spelling.{Spelling}
 use Rattle.csicodec.proofs.Back.Cursor.{cursor-spelling}
 use Rattle.csicodec.proofs.Back.Device.{device-spelling}

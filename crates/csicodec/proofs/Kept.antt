@@ -1,5 +1,5 @@
 -- What reading makes is canonical or special.
-use Rattle.std.proofs.Common.{ℕ, ◌≡◌, ◌<◌, List, Bool, Some, pos, refl, rules, inl, inr}
+use Rattle.std.proofs.Common.{ℕ, ◌≡◌, ◌⊎◌, ◌<◌, List, Bool, Some, pos, refl, rules, inl, inr}
 use Rattle.std.specs.Prelude.{◌==◌, ◌&&◌}
 use Rattle.std.proofs.lemmas.Bool.{cases_Bool, and_parts, eqb-true}
 use Rattle.csicodec_tokens.specs.declared.param.CsiParam.{CsiParam}
@@ -17,13 +17,21 @@ use Rattle.csicodec.specs.declared.actions.mouse.MouseButton.{MouseButton}
 use Rattle.csicodec.specs.declared.actions.mouse.MouseReport.TheVariants as mouse
 use Rattle.csicodec_names.specs.declared.flags.Modifiers.{Modifiers}
 use Rattle.csicodec.specs.Mouse.{pressed, released, is_release}
-use Rattle.csicodec.proofs.MouseCodes.{IsReport, release-pressed, none-released}
+use Rattle.csicodec.specs.Good.{IsReport, Good, IsOneBased}
+use Rattle.csicodec.proofs.MouseCodes.{release-pressed, none-released}
+use Rattle.csicodec.specs.Canonical.{Canonical}
 use Rattle.csicodec.specs.Kinds.{Dec, Terminal, read}
 use Rattle.csicodec.specs.Modes.{changed, switched}
+use Rattle.csicodec.specs.Ranges.{InRange}
+use Rattle.csicodec.specs.Special.{IsSpecial}
 use Rattle.csicodec.specs.Whole.{table, whole}
-use Rattle.csicodec.proofs.Canonical.{Kept}
 use Rattle.csicodec.proofs.AllRows.{TableKeeps, spellable-tokens, whole-keeps}
-use Rattle.csicodec.proofs.Values.{Good, IsOneBased, dec-read, terminal-read, good-read, one-fits, most-fits}
+use Rattle.csicodec.proofs.Values.{dec-read, terminal-read, good-read, one-fits, most-fits}
+
+-- each action that parsing makes is in range, and canonical or special
+pub record Kept (flag : Bool) (a : Action) : Type 0 where
+  pub range : InRange a
+  pub canonical : IsSpecial a ⊎ Canonical a flag
 
 -- top and bottom margins, which are left out where they are all around
 rows-kept : (flag : Bool) (a b : ℕ) → IsOneBased a → IsOneBased b → Kept flag (Cursor (cursor.SetTopAndBottomMargins a b))

@@ -13,7 +13,8 @@ use Rattle.csicodec.specs.Actions.{Action}
 use Rattle.csicodec.specs.Kinds.{Kind, Count, Control, Clear, InDisplay, InLine, Value, read, number}
 use Rattle.csicodec_names.specs.Numbered.{is_number}
 use Rattle.csicodec.specs.Written.{Unless, tokens}
-use Rattle.csicodec.proofs.Values.{Good, IsOneBased, read-good}
+use Rattle.csicodec.specs.Good.{Good, IsOneBased}
+use Rattle.csicodec.proofs.Values.{read-good}
 use Rattle.csicodec_names.proofs.Coded.{is_number-pos}
 
 pub left-out : (f : List CsiParam → Option Action) (n : ℕ) (k : Kind) (missing : Value k) (make : Value k → Action) (v : Value k) → read k (pos n) ≡ Some missing → f [] ≡ Some (make missing)

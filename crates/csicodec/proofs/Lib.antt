@@ -16,9 +16,7 @@ pub mod Odd
 pub mod Suffixes
 pub mod Splits
 mod Escapes
-pub mod Canonical
 pub mod OneReading
-pub mod SgrCanonical
 pub mod Spelling
 pub mod LeftOut
 pub mod Back
@@ -27,7 +25,10 @@ pub mod SgrSpelling
 pub mod Alone
 pub mod SgrKept
 pub mod Parsed
+pub mod Twins
 pub mod RoundTrip
+pub mod Exactly
+pub mod Twice
 pub mod JoinedCuts
 pub mod Compose
 pub mod Filtered

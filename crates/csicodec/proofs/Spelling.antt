@@ -19,7 +19,8 @@ use Rattle.csicodec.specs.Texts.{text}
 use Rattle.csicodec.specs.Whole.{whole}
 use Rattle.csicodec.specs.Written.{Written, tokens, written_text}
 use Rattle.csicodec.proofs.Fronts.{front_stuck, front_empty}
-use Rattle.csicodec.proofs.Items.{AllGood, is_sound, sound}
+use Rattle.csicodec.specs.Good.{AllGood}
+use Rattle.csicodec.proofs.Items.{is_sound, sound}
 use Rattle.csicodec.proofs.AllRows.{whole-group}
 use Rattle.csicodec.proofs.OneReading.{decodes-one, Alone}
 

@@ -1,9 +1,12 @@
 pub mod Actions
+pub mod Canonical
 pub mod Compose
 pub mod Cut
 pub mod Decoding
 pub mod EscTexts
+pub mod Exact
 pub mod Filter
+pub mod Good
 pub mod Groups
 pub mod KeyNumbers
 pub mod Kinds
@@ -14,6 +17,7 @@ pub mod MouseTexts
 pub mod Params
 pub mod Place
 pub mod Progress
+pub mod Ranges
 pub mod RoundTrip
 pub mod Rows
 pub mod Run
@@ -21,6 +25,7 @@ pub mod Segments
 pub mod Special
 pub mod Steps
 pub mod Stream
+pub mod Streams
 pub mod Suffix
 pub mod Table
 pub mod Texts

@@ -13,7 +13,8 @@ use Rattle.csicodec.specs.Special.{IsSpecial}
 use Rattle.csicodec.specs.Table.Cursor.{as_cursor, written_cursor}
 use Rattle.csicodec.specs.Written.{tokens, two}
 use Rattle.csicodec.proofs.Disjoint.{cursor-whole}
-use Rattle.csicodec.proofs.Items.{AllGood, is_sound}
+use Rattle.csicodec.specs.Good.{AllGood}
+use Rattle.csicodec.proofs.Items.{is_sound}
 use Rattle.csicodec.proofs.LeftOut.{left-out, counted, no-control, no-clear}
 use Rattle.csicodec.proofs.Spelling.{Spelling, written-spelling}
 use Rattle.csicodec.proofs.Values.{read-good}

@@ -6,7 +6,8 @@ use Rattle.csicodec.specs.Actions.{Device}
 use Rattle.csicodec.specs.Table.Device.{as_device, written_device}
 use Rattle.csicodec.specs.Written.{tokens}
 use Rattle.csicodec.proofs.Disjoint.{device-whole}
-use Rattle.csicodec.proofs.Items.{AllGood, is_sound}
+use Rattle.csicodec.specs.Good.{AllGood}
+use Rattle.csicodec.proofs.Items.{is_sound}
 use Rattle.csicodec.proofs.Spelling.{Spelling, written-spelling}
 
 device-back : (d : device_type.Device) → AllGood (written_device d).items → as_device (tokens (written_device d).items) (written_device d).final ≡ Some (Device d)

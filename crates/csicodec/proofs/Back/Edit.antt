@@ -9,7 +9,8 @@ use Rattle.csicodec.specs.Kinds.{InDisplay, InLine}
 use Rattle.csicodec.specs.Table.Edit.{as_edit, written_edit}
 use Rattle.csicodec.specs.Written.{tokens}
 use Rattle.csicodec.proofs.Disjoint.{edit-whole}
-use Rattle.csicodec.proofs.Items.{AllGood, is_sound}
+use Rattle.csicodec.specs.Good.{AllGood}
+use Rattle.csicodec.proofs.Items.{is_sound}
 use Rattle.csicodec.proofs.LeftOut.{left-out, counted, no-display, no-line}
 use Rattle.csicodec.proofs.Spelling.{Spelling, written-spelling}
 

@@ -6,7 +6,8 @@ use Rattle.csicodec.specs.Actions.{Keyboard}
 use Rattle.csicodec.specs.Table.Keyboard.{as_keyboard, written_keyboard}
 use Rattle.csicodec.specs.Written.{tokens}
 use Rattle.csicodec.proofs.Disjoint.{keyboard-whole}
-use Rattle.csicodec.proofs.Items.{AllGood, is_sound}
+use Rattle.csicodec.specs.Good.{AllGood}
+use Rattle.csicodec.proofs.Items.{is_sound}
 use Rattle.csicodec.proofs.Spelling.{Spelling, written-spelling}
 use Rattle.csicodec.proofs.Values.{read-good}
 

@@ -18,9 +18,10 @@ use Rattle.csicodec.specs.Segments.{Actions}
 use Rattle.csicodec.specs.Table.Mode.{as_mode, written_mode}
 use Rattle.csicodec.specs.Written.{tokens}
 use Rattle.csicodec.proofs.Disjoint.{mode-whole}
-use Rattle.csicodec.proofs.Items.{AllGood, is_sound, sound}
+use Rattle.csicodec.specs.Good.{AllGood, Good}
+use Rattle.csicodec.proofs.Items.{is_sound, sound}
 use Rattle.csicodec.proofs.Spelling.{Spelling, written-spelling, cut-one, stuck-empty}
-use Rattle.csicodec.proofs.Values.{Good, read-good}
+use Rattle.csicodec.proofs.Values.{read-good}
 
 dec-read : (flag : Bool) (c : Change) (final : ℕ) (m : DecPrivateMode) → group (P 63 ∷ Integer (pos (dec_number m)) ∷ []) final ≡ groups.DecModes c → Good Dec m
     → Actions (P 63 ∷ Integer (pos (dec_number m)) ∷ []) flag final (Mode (changed c m) ∷ [])

@@ -8,7 +8,7 @@ use Rattle.csicodec.specs.Kinds.{Pressed, Released}
 use Rattle.csicodec.specs.Mouse.{is_release}
 use Rattle.csicodec.specs.Table.Mouse.{as_mouse, report, written_mouse}
 use Rattle.csicodec.proofs.Disjoint.{mouse-whole}
-use Rattle.csicodec.proofs.Items.{AllGood}
+use Rattle.csicodec.specs.Good.{AllGood}
 use Rattle.csicodec.proofs.Spelling.{Spelling, written-spelling}
 use Rattle.csicodec.proofs.Values.{read-good}
 

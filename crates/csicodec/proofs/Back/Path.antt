@@ -10,7 +10,7 @@ use Rattle.csicodec_names.specs.Numbered.{is_number}
 use Rattle.csicodec.specs.Table.Path.{as_path, written_path}
 use Rattle.csicodec.specs.Written.{Byte, The}
 use Rattle.csicodec.proofs.Disjoint.{path-whole}
-use Rattle.csicodec.proofs.Items.{AllGood}
+use Rattle.csicodec.specs.Good.{AllGood}
 use Rattle.csicodec.proofs.Spelling.{Spelling, written-spelling}
 use Rattle.csicodec.proofs.Values.{read-good}
 use Rattle.csicodec_names.proofs.Coded.{is_number-pos}

@@ -27,6 +27,8 @@ pub mod SgrKept
 pub mod Parsed
 pub mod Twins
 pub mod RoundTrip
+pub mod OwnNumbers
+pub mod Unread
 pub mod Exactly
 pub mod Twice
 pub mod JoinedCuts

@@ -55,3 +55,8 @@ abbrev pub Canonical : Action → Bool → Type 0
 Canonical (Sgr s) flag = IsCanonicalSgr s
 Canonical (Unspecified params own final) flag = IsCanonicalUnknown params own flag final
 Canonical a flag = IsCanonicalWritten a (written a)
+
+-- what none of the rules reads
+abbrev pub IsUnspecified : Action → Type 0
+IsUnspecified (Unspecified params own final) = Unit {0}
+IsUnspecified a = ⊥

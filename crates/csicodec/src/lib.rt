@@ -3,6 +3,7 @@
 #![tactic(auto)]
 
 mod actions;
+mod canonical;
 mod count;
 mod filter;
 mod group;

@@ -6,17 +6,17 @@ use Rattle.csicodec_tokens.specs.declared.param.CsiParam.{CsiParam}
 use Rattle.csicodec_tokens.specs.Sequence.{IsFinal, Spellable}
 use Rattle.csicodec.specs.declared.group.Group.{Group}
 use Rattle.csicodec.specs.declared.group.Group.TheVariants as groups
-use Rattle.csicodec.specs.Actions.{Action, Sgr, Unspecified}
+use Rattle.csicodec_actions.specs.Actions.{Action, Sgr, Unspecified}
 use Rattle.csicodec.specs.Groups.{group, marked, has_odd}
 use Rattle.csicodec.specs.Cut.{body, IsStuck}
 use Rattle.csicodec.specs.Segments.{BodyActions, CutActions, ActionsIn, Actions}
 use Rattle.csicodec.specs.Canonical.{IsUncut, IsUnknownIn, Canonical}
-use Rattle.csicodec.specs.Ranges.{InRange}
+use Rattle.csicodec_actions.specs.Ranges.{InRange}
 use Rattle.csicodec.proofs.GroupOf.{marked-body}
 use Rattle.csicodec.proofs.OneReading.{Alone}
 use Rattle.csicodec.proofs.Spelling.{spelling-alone}
 use Rattle.csicodec.proofs.SgrSpelling.{sgr-spelling}
-use Rattle.csicodec.proofs.Back.{written-back}
+use Rattle.csicodec.proofs.WrittenBack.{written-back}
 
 -- ---- a list that is unknown is one action
 

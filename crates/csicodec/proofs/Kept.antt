@@ -5,28 +5,28 @@ use Rattle.std.proofs.lemmas.Bool.{cases_Bool, and_parts, eqb-true}
 use Rattle.csicodec_tokens.specs.declared.param.CsiParam.{CsiParam}
 use Rattle.csicodec_tokens.specs.OneBased.{most}
 use Rattle.csicodec_tokens.specs.Sequence.{IsSpellable, Spellable}
-use Rattle.csicodec.specs.declared.actions.cursor.Cursor.TheVariants as cursor
-use Rattle.csicodec.specs.declared.actions.mode.Change.{Change}
-use Rattle.csicodec.specs.declared.actions.mode.Change.TheVariants as change
-use Rattle.csicodec.specs.declared.actions.mode.DecPrivateMode.{DecPrivateMode}
-use Rattle.csicodec.specs.declared.actions.mode.Switch.{Switch}
-use Rattle.csicodec.specs.declared.actions.mode.Switch.TheVariants as switch
-use Rattle.csicodec.specs.declared.actions.mode.TerminalMode.{TerminalMode}
-use Rattle.csicodec.specs.Actions.{Action, Cursor, Mode, Mouse}
-use Rattle.csicodec.specs.declared.actions.mouse.MouseButton.{MouseButton}
-use Rattle.csicodec.specs.declared.actions.mouse.MouseReport.TheVariants as mouse
+use Rattle.csicodec_actions.specs.declared.actions.cursor.Cursor.TheVariants as cursor
+use Rattle.csicodec_actions.specs.declared.actions.mode.Change.{Change}
+use Rattle.csicodec_actions.specs.declared.actions.mode.Change.TheVariants as change
+use Rattle.csicodec_actions.specs.declared.actions.mode.DecPrivateMode.{DecPrivateMode}
+use Rattle.csicodec_actions.specs.declared.actions.mode.Switch.{Switch}
+use Rattle.csicodec_actions.specs.declared.actions.mode.Switch.TheVariants as switch
+use Rattle.csicodec_actions.specs.declared.actions.mode.TerminalMode.{TerminalMode}
+use Rattle.csicodec_actions.specs.Actions.{Action, Cursor, Mode, Mouse}
+use Rattle.csicodec_actions.specs.declared.actions.mouse.MouseButton.{MouseButton}
+use Rattle.csicodec_actions.specs.declared.actions.mouse.MouseReport.TheVariants as mouse
 use Rattle.csicodec_names.specs.declared.flags.Modifiers.{Modifiers}
-use Rattle.csicodec.specs.Mouse.{pressed, released, is_release}
-use Rattle.csicodec.specs.Good.{IsReport, Good, IsOneBased}
-use Rattle.csicodec.proofs.MouseCodes.{release-pressed, none-released}
+use Rattle.csicodec_actions.specs.Mouse.{pressed, released, is_release}
+use Rattle.csicodec_actions.specs.Good.{IsReport, Good, IsOneBased}
+use Rattle.csicodec_actions.proofs.MouseCodes.{release-pressed, none-released}
 use Rattle.csicodec.specs.Canonical.{Canonical}
-use Rattle.csicodec.specs.Kinds.{Dec, Terminal, read}
-use Rattle.csicodec.specs.Modes.{changed, switched}
-use Rattle.csicodec.specs.Ranges.{InRange}
-use Rattle.csicodec.specs.Special.{IsSpecial}
-use Rattle.csicodec.specs.Whole.{table, whole}
-use Rattle.csicodec.proofs.AllRows.{TableKeeps, spellable-tokens, whole-keeps}
-use Rattle.csicodec.proofs.Values.{dec-read, terminal-read, good-read, one-fits, most-fits}
+use Rattle.csicodec_actions.specs.Kinds.{Dec, Terminal, read}
+use Rattle.csicodec_actions.specs.Modes.{changed, switched}
+use Rattle.csicodec_actions.specs.Ranges.{InRange}
+use Rattle.csicodec_actions.specs.Special.{IsSpecial}
+use Rattle.csicodec_actions.specs.Whole.{table, whole}
+use Rattle.csicodec_actions.proofs.AllRows.{TableKeeps, spellable-tokens, whole-keeps}
+use Rattle.csicodec_actions.proofs.Values.{dec-read, terminal-read, good-read, one-fits, most-fits}
 
 -- each action that parsing makes is in range, and canonical or special
 pub record Kept (flag : Bool) (a : Action) : Type 0 where

@@ -1,11 +1,5 @@
-pub mod Found
-pub mod MouseCodes
-pub mod Values
-pub mod Made
-pub mod AllRows
-pub mod Boxed
-pub mod Disjoint
-pub mod Items
+pub mod RowGroups
+pub mod Rests
 pub mod GroupOf
 pub mod Fronts
 pub mod Blocks
@@ -18,8 +12,8 @@ pub mod Splits
 mod Escapes
 pub mod OneReading
 pub mod Spelling
-pub mod LeftOut
-pub mod Back
+pub mod Modes
+pub mod WrittenBack
 pub mod Kept
 pub mod SgrSpelling
 pub mod Alone
@@ -27,7 +21,6 @@ pub mod SgrKept
 pub mod Parsed
 pub mod Twins
 pub mod RoundTrip
-pub mod OwnNumbers
 pub mod Unread
 pub mod Exactly
 pub mod Twice

@@ -11,17 +11,17 @@ use Rattle.csicodec_tokens.specs.Sequence.{IsFinal, IsSpellable, Spellable}
 use Rattle.csicodec_tokens.proofs.Printed.{printed}
 use Rattle.csicodec.specs.declared.group.Group.{Group}
 use Rattle.csicodec.specs.declared.group.Group.TheVariants as groups
-use Rattle.csicodec.specs.Actions.{Action}
+use Rattle.csicodec_actions.specs.Actions.{Action}
 use Rattle.csicodec.specs.Groups.{group, Piece}
 use Rattle.csicodec.specs.Cut.{Cut, IsStuck}
 use Rattle.csicodec.specs.Segments.{Actions}
-use Rattle.csicodec.specs.Texts.{text}
-use Rattle.csicodec.specs.Whole.{whole}
-use Rattle.csicodec.specs.Written.{Written, tokens, written_text}
+use Rattle.csicodec_actions.specs.Texts.{text}
+use Rattle.csicodec_actions.specs.Whole.{whole}
+use Rattle.csicodec_actions.specs.Written.{Written, tokens, written_text}
 use Rattle.csicodec.proofs.Fronts.{front_stuck, front_empty}
-use Rattle.csicodec.specs.Good.{AllGood}
-use Rattle.csicodec.proofs.Items.{is_sound, sound}
-use Rattle.csicodec.proofs.AllRows.{whole-group}
+use Rattle.csicodec_actions.specs.Good.{AllGood}
+use Rattle.csicodec_actions.proofs.Items.{sound, IsRead}
+use Rattle.csicodec.proofs.RowGroups.{whole-group}
 use Rattle.csicodec.proofs.OneReading.{decodes-one, Alone}
 
 pub record Spelling (flag : Bool) (a : Action) : Type 0 where
@@ -96,10 +96,10 @@ whole-spelling flag a list final written ok ends read found = record {
 }
 
 -- what is written, and read whole
-pub written-spelling : (flag : Bool) (a : Action) (w : Written) → text a ≡ 27 ∷ 91 ∷ written_text w → is_sound w ≡ true → AllGood w.items → whole (tokens w.items) w.final ≡ Some a → Spelling flag a
-written-spelling flag a w shown test good found =
-    let s = sound w test good in
-    whole-spelling flag a (tokens w.items) w.final (shown ∙ ap (λ (l : List ℕ). 27 ∷ 91 ∷ l) s.text) s.spellable s.ends (whole-group (tokens w.items) w.final a found) found
+pub written-spelling : (flag : Bool) (a : Action) (w : Written) → text a ≡ 27 ∷ 91 ∷ written_text w → AllGood w.items → IsRead w a → Spelling flag a
+written-spelling flag a w shown good back =
+    let s = sound w back.sound good in
+    whole-spelling flag a (tokens w.items) w.final (shown ∙ ap (λ (l : List ℕ). 27 ∷ 91 ∷ l) s.text) s.spellable s.ends (whole-group (tokens w.items) w.final a back.read) back.read
 
 -- ---- a list that is one piece, in any group
 

@@ -3,22 +3,22 @@ use Rattle.std.proofs.Common.{◌≡◌, ℕ, ◌<◌, Bool, true, false, List, 
 use Rattle.std.proofs.lemmas.Bool.{cases_Bool}
 use Rattle.std.proofs.lemmas.List.{take-append-drop}
 use Rattle.csicodec_tokens.specs.declared.param.CsiParam.{CsiParam}
-use Rattle.csicodec.specs.declared.actions.mode.Change.{Change}
-use Rattle.csicodec.specs.declared.actions.mode.Change.TheVariants as changes
-use Rattle.csicodec.specs.declared.actions.mode.DecPrivateMode.{DecPrivateMode}
-use Rattle.csicodec.specs.declared.actions.mode.Switch.{Switch}
-use Rattle.csicodec.specs.declared.actions.mode.Switch.TheVariants as switches
-use Rattle.csicodec.specs.declared.actions.mode.TerminalMode.{TerminalMode}
+use Rattle.csicodec_actions.specs.declared.actions.mode.Change.{Change}
+use Rattle.csicodec_actions.specs.declared.actions.mode.Change.TheVariants as changes
+use Rattle.csicodec_actions.specs.declared.actions.mode.DecPrivateMode.{DecPrivateMode}
+use Rattle.csicodec_actions.specs.declared.actions.mode.Switch.{Switch}
+use Rattle.csicodec_actions.specs.declared.actions.mode.Switch.TheVariants as switches
+use Rattle.csicodec_actions.specs.declared.actions.mode.TerminalMode.{TerminalMode}
 use Rattle.csicodec.specs.declared.group.Group.{Group}
 use Rattle.csicodec.specs.declared.group.Group.TheVariants as groups
-use Rattle.csicodec.specs.Actions.{Action, Mode, Unspecified}
+use Rattle.csicodec_actions.specs.Actions.{Action, Mode, Unspecified}
 use Rattle.csicodec.specs.Groups.{group, start, marked, has_odd, Piece}
 use Rattle.csicodec.specs.Cut.{body, Cut}
-use Rattle.csicodec.specs.Modes.{changed, switched}
+use Rattle.csicodec_actions.specs.Modes.{changed, switched}
 use Rattle.csicodec.specs.Segments.{remainder, empty_action, BodyActions, CutActions, ActionsIn}
 use Rattle.csicodec.specs.Suffix.{IsSuffix, changes_private, EndsUnknown, SuffixLaw}
-use Rattle.csicodec.specs.Whole.{table, Whole}
-use Rattle.csicodec.proofs.AllRows.{TableKeeps, no-tokens, whole-keeps}
+use Rattle.csicodec_actions.specs.Whole.{table, Whole}
+use Rattle.csicodec_actions.proofs.AllRows.{TableKeeps, no-tokens, whole-keeps}
 use Rattle.csicodec.proofs.GroupOf.{marked-body}
 
 -- whether a `?` is put ahead of what is unknown behind a piece

@@ -3,12 +3,12 @@ use Rattle.std.proofs.Common.{ℕ, ◌≡◌, ◌⊎◌, List, [], ◌∷◌, �
 use Rattle.std.specs.List.{AllByRecursion}
 use Rattle.std.proofs.lemmas.Grind.{flat_map-append}
 use Rattle.csicodec_tokens.specs.declared.param.CsiParam.{CsiParam}
-use Rattle.csicodec.specs.Actions.{Action}
+use Rattle.csicodec_actions.specs.Actions.{Action}
 use Rattle.csicodec.specs.Canonical.{Canonical}
 use Rattle.csicodec.specs.Decoding.{Joins, AreActions, Decodes}
-use Rattle.csicodec.specs.Special.{IsSpecial}
+use Rattle.csicodec_actions.specs.Special.{IsSpecial}
 use Rattle.csicodec.specs.Streams.{IsNormal, NormaliseTwice, Join}
-use Rattle.csicodec.specs.Texts.{text, texts}
+use Rattle.csicodec_actions.specs.Texts.{text, texts}
 use Rattle.csicodec.proofs.Alone.{canonical-alone}
 use Rattle.csicodec.proofs.Kept.{Kept}
 use Rattle.csicodec.proofs.OneReading.{decodes-append}

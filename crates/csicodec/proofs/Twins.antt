@@ -3,12 +3,12 @@ use Rattle.std.proofs.Common.{◌≡◌, Bool, refl}
 use Rattle.csicodec_tokens.specs.declared.param.CsiParam.{CsiParam}
 use Rattle.std.specs.Prelude.{ℕ, List}
 use Rattle.csicodec_base.specs.declared.sgr.Sgr as sgr_type
-use Rattle.csicodec.specs.declared.actions.cursor.Cursor.TheVariants as cursor
-use Rattle.csicodec.specs.Actions.{Action, Sgr, Cursor, Unspecified}
+use Rattle.csicodec_actions.specs.declared.actions.cursor.Cursor.TheVariants as cursor
+use Rattle.csicodec_actions.specs.Actions.{Action, Sgr, Cursor, Unspecified}
 use Rattle.csicodec.specs.Canonical.{Canonical}
-use Rattle.csicodec.specs.Ranges.{InRange}
-use Rattle.csicodec.specs.Special.{IsSpecial}
-use Rattle.csicodec.specs.Texts.{text}
+use Rattle.csicodec_actions.specs.Ranges.{InRange}
+use Rattle.csicodec_actions.specs.Special.{IsSpecial}
+use Rattle.csicodec_actions.specs.Texts.{text}
 
 pub record Twin (flag : Bool) (a : Action) : Type 0 where
   pub other : Action

@@ -6,14 +6,14 @@ use Rattle.csicodec_tokens.specs.declared.param.CsiParam.{CsiParam}
 use Rattle.csicodec.specs.declared.actions.CSI.{CSI}
 use Rattle.csicodec.specs.declared.group.Group.{Group}
 use Rattle.csicodec.specs.declared.group.Group.TheVariants as groups
-use Rattle.csicodec.specs.Actions.{action_of}
+use Rattle.csicodec.specs.ActionOf.{action_of}
 use Rattle.csicodec.specs.Canonical.{IsUncut, IsUnknownIn}
 use Rattle.csicodec.specs.Cut.{body}
 use Rattle.csicodec.specs.Groups.{has_odd}
 use Rattle.csicodec.specs.Segments.{IsUnread}
 use Rattle.csicodec.specs.Steps.{found, front}
-use Rattle.csicodec.specs.Whole.{plain, boxed}
-use Rattle.csicodec.proofs.Boxed.{plain_whole, boxed_whole}
+use Rattle.csicodec_actions.specs.Whole.{plain, boxed}
+use Rattle.csicodec_actions.proofs.Boxed.{plain_whole, boxed_whole}
 use Rattle.csicodec.proofs.Fronts.{front_stuck, stuck_front}
 
 -- ---- a list that is read whole

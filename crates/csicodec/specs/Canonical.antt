@@ -7,14 +7,14 @@ use Rattle.csicodec_base.specs.declared.sgr.Sgr.TheVariants as sgr
 use Rattle.csicodec_base.specs.declared.sgr.Font.TheVariants as font
 use Rattle.csicodec.specs.declared.group.Group.{Group}
 use Rattle.csicodec.specs.declared.group.Group.TheVariants as groups
-use Rattle.csicodec.specs.Actions.{Action, Sgr, Unspecified}
+use Rattle.csicodec_actions.specs.Actions.{Action, Sgr, Unspecified}
 use Rattle.csicodec.specs.Cut.{body, IsStuck}
-use Rattle.csicodec.specs.Good.{AllGood}
+use Rattle.csicodec_actions.specs.Good.{AllGood}
 use Rattle.csicodec.specs.Groups.{group, has_odd}
 use Rattle.csicodec.specs.Segments.{IsUnread}
-use Rattle.csicodec.specs.Special.{IsSpecial}
-use Rattle.csicodec.specs.Texts.{written}
-use Rattle.csicodec.specs.Written.{Written}
+use Rattle.csicodec_actions.specs.Special.{IsSpecial}
+use Rattle.csicodec_actions.specs.Texts.{written}
+use Rattle.csicodec_actions.specs.Written.{Written}
 
 -- ---- attributes
 

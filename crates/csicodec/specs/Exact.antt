@@ -1,9 +1,9 @@
 -- A value is read back from its own text exactly where it is canonical.
 use Rattle.std.specs.Prelude.{◌≡◌, ◌↔◌, List, [], ◌∷◌, Bool}
-use Rattle.csicodec.specs.Actions.{Action}
+use Rattle.csicodec_actions.specs.Actions.{Action}
 use Rattle.csicodec.specs.Canonical.{Canonical}
 use Rattle.csicodec.specs.Decoding.{Decodes}
-use Rattle.csicodec.specs.Texts.{text}
+use Rattle.csicodec_actions.specs.Texts.{text}
 
 -- the text of the value is read as this one value, and as nothing else
 pub record ReadsAlone (a : Action) (flag : Bool) : Type 0 where

@@ -1,8 +1,8 @@
 -- Streams that are written again, and streams that are joined.
 use Rattle.std.specs.Prelude.{ℕ, ◌≡◌, List, ◌++◌, Bool, false}
-use Rattle.csicodec.specs.Actions.{Action}
+use Rattle.csicodec_actions.specs.Actions.{Action}
 use Rattle.csicodec.specs.Decoding.{Decodes}
-use Rattle.csicodec.specs.Texts.{texts}
+use Rattle.csicodec_actions.specs.Texts.{texts}
 
 -- the bytes are read, and what they are read as is written as these bytes
 pub record IsNormal (bytes : List ℕ) (flag : Bool) : Type 0 where

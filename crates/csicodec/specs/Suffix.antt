@@ -2,8 +2,8 @@
 use Rattle.std.specs.Prelude.{◌≡◌, ℕ, Bool, true, false, List, [], ◌∷◌, ◌++◌}
 use Rattle.csicodec_tokens.specs.declared.param.CsiParam.{CsiParam}
 use Rattle.csicodec_tokens.specs.declared.param.CsiParam.TheVariants.{P}
-use Rattle.csicodec.specs.declared.actions.mode.Mode.TheVariants as mode
-use Rattle.csicodec.specs.Actions.{Action, Mode, Unspecified}
+use Rattle.csicodec_actions.specs.declared.actions.mode.Mode.TheVariants as mode
+use Rattle.csicodec_actions.specs.Actions.{Action, Mode, Unspecified}
 use Rattle.csicodec.specs.Segments.{Actions}
 
 -- the list ends in it

@@ -10,7 +10,6 @@ mod group;
 pub mod laws;
 mod list;
 mod look;
-mod params;
 mod parser;
 mod print;
 mod sink;
@@ -18,11 +17,12 @@ mod stream;
 mod tokens;
 mod whole;
 
-pub use actions::{
-    CSI, CharacterPath, Cursor, DecPrivateMode, Device, Edit, Keyboard, KittyKeyboardMode, Mode,
-    MouseButton, MouseReport, TerminalMode, Unspecified, XtermKeyModifierResource,
-};
+pub use actions::{CSI, Unspecified};
 pub use count::Count;
+pub use csicodec_actions::{
+    CharacterPath, Cursor, DecPrivateMode, Device, Edit, Keyboard, KittyKeyboardMode, Mode,
+    MouseButton, MouseReport, TerminalMode, XtermKeyModifierResource,
+};
 pub use csicodec_base::{
     AnsiColor, Blink, ColorSpec, Cracked, CsiParam, CsiTail, CursorStyle, CursorTabulationControl,
     DecPrivateModeCode, DeviceAttributeCodes, EraseInDisplay, EraseInLine, Esc, EscCode, Font,

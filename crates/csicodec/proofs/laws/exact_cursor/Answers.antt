@@ -1,4 +1,4 @@
-use Rattle.csicodec.specs.Actions.{Cursor}
+use Rattle.csicodec_actions.specs.Actions.{Cursor}
 use Rattle.csicodec.proofs.Exactly.{exact_lem}
 use Rattle.csicodec.proofs.laws.exact_cursor.Goals as goal
 

@@ -1,4 +1,4 @@
-use Rattle.csicodec.specs.Actions.{Device}
+use Rattle.csicodec_actions.specs.Actions.{Device}
 use Rattle.csicodec.proofs.Exactly.{exact_lem}
 use Rattle.csicodec.proofs.laws.exact_device.Goals as goal
 

@@ -1,4 +1,4 @@
-use Rattle.csicodec.specs.Actions.{Edit}
+use Rattle.csicodec_actions.specs.Actions.{Edit}
 use Rattle.csicodec.proofs.Exactly.{exact_lem}
 use Rattle.csicodec.proofs.laws.exact_edit.Goals as goal
 

@@ -1,4 +1,4 @@
-use Rattle.csicodec.specs.Actions.{Keyboard}
+use Rattle.csicodec_actions.specs.Actions.{Keyboard}
 use Rattle.csicodec.proofs.Exactly.{exact_lem}
 use Rattle.csicodec.proofs.laws.exact_keyboard.Goals as goal
 

@@ -1,4 +1,4 @@
-use Rattle.csicodec.specs.Actions.{Mode}
+use Rattle.csicodec_actions.specs.Actions.{Mode}
 use Rattle.csicodec.proofs.Exactly.{exact_lem}
 use Rattle.csicodec.proofs.laws.exact_mode.Goals as goal
 

@@ -1,4 +1,4 @@
-use Rattle.csicodec.specs.Actions.{Mouse}
+use Rattle.csicodec_actions.specs.Actions.{Mouse}
 use Rattle.csicodec.proofs.Exactly.{exact_lem}
 use Rattle.csicodec.proofs.laws.exact_mouse.Goals as goal
 

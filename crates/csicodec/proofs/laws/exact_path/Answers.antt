@@ -1,4 +1,4 @@
-use Rattle.csicodec.specs.Actions.{SelectCharacterPath}
+use Rattle.csicodec_actions.specs.Actions.{SelectCharacterPath}
 use Rattle.csicodec.proofs.Exactly.{exact_lem}
 use Rattle.csicodec.proofs.laws.exact_path.Goals as goal
 

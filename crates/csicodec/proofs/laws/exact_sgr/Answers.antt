@@ -1,4 +1,4 @@
-use Rattle.csicodec.specs.Actions.{Sgr}
+use Rattle.csicodec_actions.specs.Actions.{Sgr}
 use Rattle.csicodec.proofs.Exactly.{exact_lem}
 use Rattle.csicodec.proofs.laws.exact_sgr.Goals as goal
 

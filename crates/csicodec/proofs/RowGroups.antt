@@ -1,0 +1,42 @@
+-- The group of what the rows read: lists that are read whole.
+use Rattle.std.proofs.Common.{◌≡◌, ℕ, List, [], ◌∷◌, None, Some, sym, ◌∙◌, rules}
+use Rattle.std.specs.Prelude.{ℤ, true}
+use Rattle.std.proofs.lemmas.Bool.{and_parts, eqb-true}
+use Rattle.csicodec_tokens.specs.declared.param.CsiParam.{CsiParam}
+use Rattle.csicodec_tokens.specs.declared.param.CsiParam.TheVariants.{Integer, P}
+use Rattle.csicodec_actions.specs.Actions.{Action}
+use Rattle.csicodec_actions.specs.Rows.{Slot, Byte, Number, One, fits, has_shape}
+use Rattle.csicodec_actions.specs.Whole.{table, whole}
+use Rattle.csicodec_actions.proofs.AllRows.{AllRows, row-in, whole-table}
+use Rattle.csicodec_actions.proofs.Found.{guarded}
+use Rattle.csicodec.specs.declared.group.Group.TheVariants as groups
+use Rattle.csicodec.specs.Groups.{group_by, group}
+
+-- lists of this shape, before this final, are read whole
+abbrev ReadWhole : ℕ → List Slot → Type 0
+ReadWhole final [] = group_by None final ≡ groups.Whole
+ReadWhole final (Byte b ∷ shape) = group_by (Some (P b)) final ≡ groups.Whole
+ReadWhole final (Number n ∷ shape) = (z : ℤ) → group_by (Some (Integer z)) final ≡ groups.Whole
+ReadWhole final (One k ∷ shape) = (z : ℤ) → group_by (Some (Integer z)) final ≡ groups.Whole
+
+shape-group : (final : ℕ) (shape : List Slot) (list : List CsiParam) → ReadWhole final shape → has_shape shape list ≡ true → group list final ≡ groups.Whole
+shape-group final [] [] w e = w
+shape-group final [] (t ∷ ts) w e = cc
+shape-group final (s ∷ shape) [] w e = cc
+shape-group final (s ∷ shape) (t ∷ ts) w e = slot-group final s shape t ts w (and_parts (has_shape shape ts) (fits s t) e).1
+  where
+    slot-group : (final : ℕ) (s : Slot) (shape : List Slot) (t : CsiParam) (ts : List CsiParam) → ReadWhole final (s ∷ shape) → fits s t ≡ true → group (t ∷ ts) final ≡ groups.Whole
+    slot-group final (Byte b) shape (Integer z) ts w e = cc
+    slot-group final (Byte b) shape (P c) ts w e = let same : c ≡ b = eqb-true c b e in rw same w
+    slot-group final (Number n) shape (Integer z) ts w e = w z
+    slot-group final (Number n) shape (P c) ts w e = cc
+    slot-group final (One k) shape (Integer z) ts w e = w z
+    slot-group final (One k) shape (P c) ts w e = cc
+
+rows-whole : AllRows (λ final row. ReadWhole final row.shape) table
+rows-whole = search rules depth 60
+
+-- what a row reads is no list of pieces
+pub whole-group : (list : List CsiParam) (final : ℕ) (a : Action) → whole list final ≡ Some a → group list final ≡ groups.Whole
+whole-group list final a e =
+    let r = row-in (λ final row. ReadWhole final row.shape) table list final a rows-whole (sym (whole-table list final) ∙ e) in shape-group final r.row.shape list r.holds (guarded (has_shape r.row.shape list) _ a r.gave).0

@@ -1,8 +1,0 @@
-use Rattle.std.proofs.Common.{arith, rules, sym}
-use Rattle.csicodec.specs.Table.Device.{device_rows, as_device}
-use Rattle.csicodec.proofs.Made.{no-row}
-use Rattle.csicodec.proofs.whole.device.device_action.Goals as goal
-
-pub returns-in_default : goal.returns-in_default
-unfolding as_device
-returns-in_default c = sym (no-row device_rows c.args.params.now c.args.control (search (rules, arith)))

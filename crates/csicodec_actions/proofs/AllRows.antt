@@ -1,0 +1,129 @@
+-- What holds of all that the rows of whole lists give: said for each row, and proved of any list.
+use Rattle.std.proofs.Common.{◌≡◌, ℕ, List, [], ◌∷◌, ◌++◌, Option, None, Some, refl, sym, ap, ◌∙◌, inl, inr, rules, append_assoc}
+use Rattle.std.specs.Prelude.{ℤ, ◌==◌, true, if◌then◌else◌}
+use Rattle.std.specs.List.{AllByRecursion}
+use Rattle.std.specs.Option.{option_or}
+use Rattle.std.proofs.lemmas.Bool.{cases_Bool, and_parts, eqb-true}
+use Rattle.std.proofs.lemmas.Option.{same_Some, option_and_then_some}
+use Rattle.csicodec_tokens.specs.declared.param.CsiParam.{CsiParam}
+use Rattle.csicodec_tokens.specs.declared.param.CsiParam.TheVariants.{Integer, P}
+use Rattle.csicodec_tokens.specs.Sequence.{IsSpellable, Spellable}
+use Rattle.csicodec_actions.specs.Actions.{Action}
+use Rattle.csicodec_actions.specs.Kinds.{Kind, Value, read}
+use Rattle.csicodec_actions.specs.Rows.{Slot, Byte, Number, One, Makes, fits, has_shape, made, gives, Row, given, Before, rows_before, read_by}
+use Rattle.csicodec_actions.specs.Table.Cursor.{as_cursor}
+use Rattle.csicodec_actions.specs.Table.Device.{as_device}
+use Rattle.csicodec_actions.specs.Table.Edit.{as_edit}
+use Rattle.csicodec_actions.specs.Table.Keyboard.{as_keyboard}
+use Rattle.csicodec_actions.specs.Table.Mode.{as_mode}
+use Rattle.csicodec_actions.specs.Table.Mouse.{as_mouse}
+use Rattle.csicodec_actions.specs.Table.Path.{as_path}
+use Rattle.csicodec_actions.specs.Whole.{table, plain, boxed, whole}
+use Rattle.csicodec_actions.proofs.Found.{guarded}
+
+-- ---- several tables as one
+
+option_or-assoc : {R : Type 0} (a b c : Option R) → option_or (option_or a b) c ≡ option_or a (option_or b c)
+option_or-assoc None b c = refl
+option_or-assoc (Some x) b c = refl
+
+pub given-append : {R : Type 0} (xs ys : List (Row R)) (list : List CsiParam) → given (xs ++ ys) list ≡ option_or (given xs list) (given ys list)
+given-append [] ys list = refl
+given-append (r ∷ rows) ys list =
+    ap (option_or (gives r.shape r.make list)) (given-append rows ys list) ∙ sym (option_or-assoc (gives r.shape r.make list) (given rows list) (given ys list))
+
+pub before-append : {R : Type 0} (xs ys : List (Before R)) (final : ℕ) → rows_before (xs ++ ys) final ≡ rows_before xs final ++ rows_before ys final
+before-append [] ys final = refl
+before-append (b ∷ others) ys final =
+    ap (λ rows. (if final == b.final then b.rows else []) ++ rows) (before-append others ys final) ∙ sym (append_assoc (if final == b.final then b.rows else []) (rows_before others final) (rows_before ys final))
+
+read-append : {R : Type 0} (xs ys : List (Before R)) (list : List CsiParam) (final : ℕ) → read_by (xs ++ ys) list final ≡ option_or (read_by xs list final) (read_by ys list final)
+read-append xs ys list final = ap (λ rows. given rows list) (before-append xs ys final) ∙ given-append (rows_before xs final) (rows_before ys final) list
+
+pub whole-table : (list : List CsiParam) (final : ℕ) → whole list final ≡ read_by table list final
+unfolding whole plain boxed as_cursor as_edit as_mode as_mouse as_keyboard as_path as_device
+whole-table list final = simp (option_or-assoc, read-append) refl
+
+-- ---- the row that gave an action
+
+-- of each row of the table
+abbrev pub AllRows : (ℕ → Row Action → Type 0) → List (Before Action) → Type 0
+AllRows Q others = AllByRecursion (λ (b : Before Action). AllByRecursion (λ (r : Row Action). Q b.final r) b.rows) others
+
+pub record RowOf (Q : ℕ → Row Action → Type 0) (list : List CsiParam) (final : ℕ) (a : Action) : Type 0 where
+  pub row : Row Action
+  pub holds : Q final row
+  pub gave : gives row.shape row.make list ≡ Some a
+
+given-row : (Q : ℕ → Row Action → Type 0) (rows : List (Row Action)) (list : List CsiParam) (final : ℕ) (a : Action) → AllByRecursion (λ (r : Row Action). Q final r) rows → given rows list ≡ Some a
+    → RowOf Q list final a
+given-row Q [] list final a all e = cc
+given-row Q (r ∷ rows) list final a all e = go (gives r.shape r.make list) refl e (given-row Q rows list final a all.1)
+  where
+    go : (o : Option Action) → gives r.shape r.make list ≡ o → option_or o (given rows list) ≡ Some a → (given rows list ≡ Some a → RowOf Q list final a) → RowOf Q list final a
+    go (Some x) gave e later = record { row = r; holds = all.0; gave = gave ∙ e }
+    go None gave e later = later e
+
+both : (Q : Row Action → Type 0) (xs ys : List (Row Action)) → AllByRecursion Q xs → AllByRecursion Q ys → AllByRecursion Q (xs ++ ys)
+both Q [] ys all more = more
+both Q (x ∷ xs) ys all more = (all.0, both Q xs ys all.1 more)
+
+rows-of : (Q : ℕ → Row Action → Type 0) (others : List (Before Action)) (final : ℕ) → AllRows Q others → AllByRecursion (λ (r : Row Action). Q final r) (rows_before others final)
+rows-of Q [] final all = tt
+rows-of Q (b ∷ others) final all = elim (cases_Bool (final == b.final)) [
+  | inl here ↦
+      let mine : AllByRecursion (λ (r : Row Action). Q final r) b.rows = rw (eqb-true final b.final here) all.0 in
+      rw here (both (λ (r : Row Action). Q final r) b.rows (rows_before others final) mine (rows-of Q others final all.1))
+  | inr later ↦ rw later (rows-of Q others final all.1)
+]
+
+pub row-in : (Q : ℕ → Row Action → Type 0) (rows : List (Before Action)) (list : List CsiParam) (final : ℕ) (a : Action) → AllRows Q rows → read_by rows list final ≡ Some a → RowOf Q list final a
+row-in Q rows list final a all e = given-row Q (rows_before rows final) list final a (rows-of Q rows final all) e
+
+-- ---- what the rows make
+
+-- Each action that the row makes has the property Q, where each value has the property G.
+abbrev pub Keeps : ((k : Kind) → Value k → Type 0) → (Action → Type 0) → (shape : List Slot) → Makes Action shape → Type 0
+Keeps G Q [] made = Q made
+Keeps G Q (Byte b ∷ shape) make = Keeps G Q shape make
+Keeps G Q (Number n ∷ shape) make = Keeps G Q shape make
+Keeps G Q (One k ∷ shape) make = (v : Value k) → G k v → Keeps G Q shape (make v)
+
+-- the tokens have the property T, and what counts as a value then has the property G
+abbrev pub ReadsAs : (CsiParam → Type 0) → ((k : Kind) → Value k → Type 0) → Type 0
+ReadsAs T G = (k : Kind) (z : ℤ) (v : Value k) → T (Integer z) → read k z ≡ Some v → G k v
+
+made-keeps : (T : CsiParam → Type 0) (G : (k : Kind) → Value k → Type 0) (Q : Action → Type 0) → ReadsAs T G → (shape : List Slot) (make : Makes Action shape) (list : List CsiParam) (a : Action)
+    → Keeps G Q shape make → AllByRecursion T list → made shape make list ≡ Some a → Q a
+made-keeps T G Q reads [] made list a keeps all e = rw (← same_Some _ _ e) keeps
+made-keeps T G Q reads (Byte b ∷ shape) make [] a keeps all e = cc
+made-keeps T G Q reads (Number n ∷ shape) make [] a keeps all e = cc
+made-keeps T G Q reads (One k ∷ shape) make [] a keeps all e = cc
+made-keeps T G Q reads (Byte b ∷ shape) make (t ∷ ts) a keeps all e = made-keeps T G Q reads shape make ts a keeps all.1 e
+made-keeps T G Q reads (Number n ∷ shape) make (t ∷ ts) a keeps all e = made-keeps T G Q reads shape make ts a keeps all.1 e
+made-keeps T G Q reads (One k ∷ shape) make (Integer z ∷ ts) a keeps all e =
+    option_and_then_some (λ v. made shape (make v) ts) (read k z) a e
+    (λ v found is. made-keeps T G Q reads shape (make v) ts a (keeps v (reads k z v all.0 found)) all.1 is)
+made-keeps T G Q reads (One k ∷ shape) make (P c ∷ ts) a keeps all e = cc
+
+abbrev pub TableKeeps : ((k : Kind) → Value k → Type 0) → (Action → Type 0) → List (Before Action) → Type 0
+TableKeeps G Q rows = AllRows (λ final row. Keeps G Q row.shape row.make) rows
+
+pub table-keeps : (T : CsiParam → Type 0) (G : (k : Kind) → Value k → Type 0) (Q : Action → Type 0) → ReadsAs T G → (rows : List (Before Action)) → TableKeeps G Q rows → (list : List CsiParam) (final : ℕ)
+    (a : Action) → AllByRecursion T list → read_by rows list final ≡ Some a → Q a
+table-keeps T G Q reads rows keep list final a all e =
+    let r = row-in (λ final row. Keeps G Q row.shape row.make) rows list final a keep e in
+    made-keeps T G Q reads r.row.shape r.row.make list a r.holds all (guarded (has_shape r.row.shape list) _ a r.gave).1
+
+pub whole-keeps : (T : CsiParam → Type 0) (G : (k : Kind) → Value k → Type 0) (Q : Action → Type 0) → ReadsAs T G → TableKeeps G Q table → (list : List CsiParam) (final : ℕ) (a : Action) → AllByRecursion T list
+    → whole list final ≡ Some a → Q a
+whole-keeps T G Q reads keep list final a all e = table-keeps T G Q reads table keep list final a all (sym (whole-table list final) ∙ e)
+
+-- of any tokens
+pub no-tokens : (list : List CsiParam) → AllByRecursion (λ (t : CsiParam). Unit {0}) list
+no-tokens [] = tt
+no-tokens (t ∷ ts) = (tt, no-tokens ts)
+
+pub spellable-tokens : (list : List CsiParam) → Spellable list → AllByRecursion IsSpellable list
+spellable-tokens [] ok = tt
+spellable-tokens (t ∷ ts) ok = (ok.0, spellable-tokens ts ok.2)

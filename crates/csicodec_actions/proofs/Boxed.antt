@@ -1,0 +1,22 @@
+-- Actions of lists that are read whole, made with memory and without.
+use Rattle.std.proofs.Common.{◌≡◌, ℕ, List, None, Some, refl, rules}
+use Rattle.csicodec_tokens.specs.declared.param.CsiParam.{CsiParam}
+use Rattle.csicodec_actions.specs.Actions.{Action, TakesMemory}
+use Rattle.csicodec_actions.specs.Table.Device.{device_rows, as_device}
+use Rattle.csicodec_actions.specs.Whole.{plain, boxed, whole}
+use Rattle.csicodec_actions.proofs.AllRows.{TableKeeps, table-keeps, no-tokens}
+
+pub plain_whole : (list : List CsiParam) (final : ℕ) (a : Action) → plain list final ≡ Some a → whole list final ≡ Some a
+unfolding whole
+plain_whole list final a e = rw e refl
+
+pub boxed_whole : (list : List CsiParam) (final : ℕ) → plain list final ≡ None → boxed list final ≡ whole list final
+unfolding whole
+boxed_whole list final e = rw e refl
+
+rows-take : TableKeeps (λ k v. Unit {0}) TakesMemory device_rows
+rows-take = search rules depth 60
+
+pub boxed-takes : (list : List CsiParam) (final : ℕ) (a : Action) → boxed list final ≡ Some a → TakesMemory a
+unfolding boxed as_device
+boxed-takes list final a e = table-keeps (λ t. Unit {0}) (λ k v. Unit {0}) TakesMemory (λ k z v h f. tt) device_rows rows-take list final a (no-tokens list) e

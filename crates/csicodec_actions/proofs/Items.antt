@@ -1,0 +1,111 @@
+-- The list that an action is written as, and its text.
+use Rattle.std.proofs.Common.{◌≡◌, ℕ, ◌<◌, ◌⊎◌, List, [], ◌∷◌, ◌++◌, Some, refl, sym, inl, inr, arith, append_assoc}
+use Rattle.std.specs.Prelude.{Bool, true, false, ◌&&◌, ◌||◌, nat_lt}
+use Rattle.std.proofs.lemmas.Bool.{cases_Bool, and_parts, ltb-true}
+use Rattle.std.proofs.lemmas.Str.{encode_ascii}
+use Rattle.csicodec_tokens.specs.declared.param.CsiParam.TheVariants.{Integer, P}
+use Rattle.csicodec_tokens.specs.Param.{spells}
+use Rattle.csicodec_tokens.specs.Sequence.{IsFinal, IsSpellable, Apart, Spellable}
+use Rattle.csicodec_actions.specs.Actions.{Action}
+use Rattle.csicodec_actions.specs.Kinds.{Kind, Value, number}
+use Rattle.csicodec_names.specs.Numbered.{is_number}
+use Rattle.csicodec_actions.specs.Written.{Item, Byte, The, Unless, Written, tokens, shown, written_text}
+use Rattle.csicodec_actions.specs.Good.{Good, AllGood}
+use Rattle.csicodec_actions.specs.Whole.{whole}
+use Rattle.csicodec_actions.proofs.Values.{number-said}
+
+-- ---- a test that is computed for each action: its bytes can stand in a sequence, no two numbers side by side, and its final can end one
+
+abbrev pub is_mark : ℕ → Bool
+is_mark b = nat_lt 31 b && ((nat_lt b 48 || nat_lt 57 b) && nat_lt b 64)
+
+abbrev pub begins_apart : List Item → Bool
+begins_apart [] = true
+begins_apart (Byte b ∷ items) = true
+begins_apart (The k v ∷ items) = false
+begins_apart (Unless n k v ∷ items) = false
+
+abbrev pub are_sound : List Item → Bool
+are_sound [] = true
+are_sound (Byte b ∷ items) = is_mark b && are_sound items
+are_sound (The k v ∷ items) = begins_apart items && are_sound items
+are_sound (Unless n k v ∷ items) = begins_apart items && are_sound items
+
+abbrev pub is_sound : Written → Bool
+is_sound w = are_sound w.items && (nat_lt 63 w.final && nat_lt w.final 127)
+
+-- what the test says of a byte
+record Mark (b : ℕ) : Type 0 where
+  above : 31 < b
+  apart : (b < 48) ⊎ (57 < b)
+  below : b < 64
+
+mark : (b : ℕ) → is_mark b ≡ true → Mark b
+mark b e =
+    let p = and_parts (nat_lt 31 b) ((nat_lt b 48 || nat_lt 57 b) && nat_lt b 64) e in
+    let q = and_parts (nat_lt b 48 || nat_lt 57 b) (nat_lt b 64) p.1 in
+    record {
+      above = ltb-true 31 b p.0;
+      apart = elim (cases_Bool (nat_lt b 48)) [ inl low ↦ inl (ltb-true b 48 low) | inr high ↦ inr (ltb-true 57 b (rw high at q.0)) ];
+      below = ltb-true b 64 q.1;
+    }
+
+mark-spellable : (b : ℕ) → is_mark b ≡ true → IsSpellable (P b)
+mark-spellable b e =
+    let m = mark b e in
+    ((omega (arith, m.above), omega (arith, m.below)), λ digit. elim m.apart [ inl low ↦ omega (arith, low, digit) | inr high ↦ omega (arith, high, digit) ])
+
+apart : (k : Kind) (v : Value k) (items : List Item) → begins_apart items ≡ true → Apart (Integer (number k v)) (tokens items)
+apart k v [] e = tt
+apart k v (Byte b ∷ items) e = tt
+apart k v (The j u ∷ items) e = cc
+apart k v (Unless n j u ∷ items) e = cc
+
+value-spellable : (k : Kind) (v : Value k) → Good k v → IsSpellable (Integer (number k v))
+value-spellable k v good = let s = number-said k v good in (s.above, s.fits)
+
+items-spellable : (items : List Item) → are_sound items ≡ true → AllGood items → Spellable (tokens items)
+items-spellable [] e good = tt
+items-spellable (Byte b ∷ items) e good = let p = and_parts (is_mark b) (are_sound items) e in (mark-spellable b p.0, tt, items-spellable items p.1 good)
+items-spellable (The k v ∷ items) e good =
+    let p = and_parts (begins_apart items) (are_sound items) e in (value-spellable k v good.0, apart k v items p.0, items-spellable items p.1 good.1)
+items-spellable (Unless n k v ∷ items) e good =
+    let p = and_parts (begins_apart items) (are_sound items) e in
+    elim (cases_Bool (is_number n (number k v))) [
+      | inl here ↦ rw here (items-spellable items p.1 good.1)
+      | inr there ↦ rw there (value-spellable k v good.0, apart k v items p.0, items-spellable items p.1 good.1)
+    ]
+
+mark-text : (b : ℕ) → is_mark b ≡ true → b < 128
+mark-text b e = let m = mark b e in omega (arith, m.below)
+
+shown-spells : (items : List Item) (end : List ℕ) → are_sound items ≡ true → shown items end ≡ spells (tokens items) ++ end
+shown-spells [] end e = refl
+shown-spells (Byte b ∷ items) end e =
+    let p = and_parts (is_mark b) (are_sound items) e in rw (encode_ascii b (mark-text b p.0), shown-spells items end p.1) refl
+shown-spells (The k v ∷ items) end e = let p = and_parts (begins_apart items) (are_sound items) e in rw (shown-spells items end p.1) (sym (append_assoc _ (spells (tokens items)) end))
+shown-spells (Unless n k v ∷ items) end e =
+    let p = and_parts (begins_apart items) (are_sound items) e in
+    elim (cases_Bool (is_number n (number k v))) [
+      | inl here ↦ rw here (shown-spells items end p.1)
+      | inr there ↦ rw (there, shown-spells items end p.1) (sym (append_assoc _ (spells (tokens items)) end))
+    ]
+
+-- the list that is written, before a final, whose text is that of the action
+pub record Sound (w : Written) : Type 0 where
+  pub spellable : Spellable (tokens w.items)
+  pub ends : IsFinal w.final
+  pub text : written_text w ≡ spells (tokens w.items) ++ w.final ∷ []
+
+pub sound : (w : Written) → is_sound w ≡ true → AllGood w.items → Sound w
+sound w e good =
+    let p = and_parts (are_sound w.items) (nat_lt 63 w.final && nat_lt w.final 127) e in
+    let q = and_parts (nat_lt 63 w.final) (nat_lt w.final 127) p.1 in
+    let low = ltb-true 63 w.final q.0 in
+    let high = ltb-true w.final 127 q.1 in
+    record { spellable = items-spellable w.items p.0 good; ends = (omega (arith, low), omega (arith, high)); text = shown-spells w.items (w.final ∷ []) p.0 }
+
+-- the list that is written is one of a sequence, and is read as the action
+pub record IsRead (w : Written) (a : Action) : Type 0 where
+  pub sound : is_sound w ≡ true
+  pub read : whole (tokens w.items) w.final ≡ Some a

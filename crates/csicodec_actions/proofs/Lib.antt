@@ -1,0 +1,11 @@
+pub mod Found
+pub mod MouseCodes
+pub mod Values
+pub mod Made
+pub mod AllRows
+pub mod Boxed
+pub mod Disjoint
+pub mod Items
+pub mod LeftOut
+pub mod Back
+pub mod OwnNumbers

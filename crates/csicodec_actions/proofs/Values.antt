@@ -1,0 +1,282 @@
+-- What numbers count as: by the code, and back from what is written.
+use Rattle.std.proofs.Common.{◌≡◌, ℕ, zero, suc, ◌<◌, ◌≤◌, ◌^◌, ◌%◌, List, Option, None, Some, refl, sym, ap, ◌∙◌, arith, rules, pos, subst}
+use Rattle.std.specs.Prelude.{ℤ, negsuc, ◌↔◌, nat_abs, Result, Ok, Err}
+use Rattle.std.specs.Int.{FitsUnsignedBits}
+use Rattle.std.specs.Int.RustNames.{bit_and}
+use Rattle.std.specs.Option.{option_map}
+use Rattle.std.specs.Result.{OkIff, result_ok}
+use Rattle.std.proofs.lemmas.Bool.{le-ltb, lt-ltb, ltb-true}
+use Rattle.std.proofs.lemmas.Int.{to_z-of_z, ints}
+use Rattle.std.proofs.lemmas.Option.{same_Some, cond_some}
+use mir.Syntax.{w64}
+use mir.Val.{SFits, of_z, to_z}
+use Rattle.csicodec_tokens.specs.declared.param.CsiParam.TheVariants.{Integer}
+use Rattle.csicodec_tokens.specs.Digits.{largest}
+use Rattle.csicodec_names.specs.EnumNumbers.{cursor_style_number, erase_in_display_number, erase_in_line_number, tabulation_clear_number, tabulation_control_number}
+use Rattle.csicodec_names.specs.ModeNumbers.{dec_mode_number, terminal_mode_number}
+use Rattle.csicodec_tokens.specs.OneBased.{most, number_or}
+use Rattle.csicodec_tokens.specs.Sequence.{IsSpellable}
+use Rattle.csicodec_actions.specs.declared.actions.mode.DecPrivateMode.{DecPrivateMode}
+use Rattle.csicodec_actions.specs.declared.actions.mode.DecPrivateMode.TheVariants as dec
+use Rattle.csicodec_actions.specs.declared.actions.mode.TerminalMode.{TerminalMode}
+use Rattle.csicodec_actions.specs.declared.actions.mode.TerminalMode.TheVariants as terminal
+use Rattle.csicodec_actions.specs.declared.actions.mode.XtermKeyModifierResource.TheVariants as resource
+use Rattle.csicodec_actions.specs.Kinds.{Kind, Count, Last, Any, Style, Control, Clear, InDisplay, InLine, Dec, Terminal, Resource, Flags, Way, Path, Pops, Word, Pressed, Released, Value, read, number, below, short, code_or}
+use Rattle.csicodec_names.specs.Numbered.{with_number}
+use Rattle.csicodec_actions.specs.declared.actions.keyboard.CharacterPath.TheVariants as path
+use Rattle.csicodec_actions.specs.declared.actions.keyboard.KittyKeyboardMode.TheVariants as way
+use Rattle.csicodec_names.specs.declared.flags.KittyKeyboardFlags.{KittyKeyboardFlags}
+use Rattle.csicodec_names.specs.FlagBits.{kitty_bits}
+use Rattle.csicodec_actions.specs.KeyNumbers.{kitty_mode_number, kitty_modes, path_number, paths}
+use Rattle.csicodec_names.proofs.Coded.{none-found, Coded, found-of, small, styles, controls, clears, lines, displays, decs, terminals}
+use Rattle.csicodec_actions.proofs.Found.{map-some}
+use Rattle.csicodec_actions.specs.Good.{IsOneBased, IsSaid, IsOwn, GoodDec, GoodTerminal, Good}
+use Rattle.csicodec_actions.proofs.MouseCodes.{report-good, report-read, report-small, pressed-found, released-found}
+use Rattle.csicodec_actions.specs.Mouse.{pressed, released, report_code}
+use Rattle.std.proofs.lemmas.Nat.{and_mask, and_le_r}
+use Rattle.csicodec_actions.specs.Modes.{dec_number, terminal_number, resource_number}
+use Rattle.csicodec_names.specs.EnumNumbers.{cursor_styles, tabulation_controls, tabulation_clears, erases_in_display, erases_in_line}
+use Rattle.csicodec_names.specs.ModeNumbers.{dec_codes, terminal_codes}
+use Rattle.csicodec_actions.specs.Modes.{resources}
+
+-- ---- what is found by its number
+
+pub ways : Coded kitty_mode_number kitty_modes
+ways = record { each = λ r. elim r as (λ x. with_number kitty_mode_number kitty_modes (pos (kitty_mode_number x)) ≡ Some x) [ way.AssignAll ↦ refl | _ ↦ refl ] }
+
+pub tracks : Coded path_number paths
+tracks = record { each = λ r. elim r as (λ x. with_number path_number paths (pos (path_number x)) ≡ Some x) [ path.ImplementationDefault ↦ refl | _ ↦ refl ] }
+
+pub keys : Coded resource_number resources
+keys = record { each = λ r. elim r as (λ x. with_number resource_number resources (pos (resource_number x)) ≡ Some x) [ resource.Keyboard ↦ refl | _ ↦ refl ] }
+
+-- ---- how the code finds them
+
+pub style-found : (z : ℤ) → SFits w64 z → (o : Option _) → ((x : _) → (o ≡ Some x) ↔ (to_z w64 (of_z w64 z) ≡ pos (cursor_style_number x))) → o ≡ read Style z
+unfolding read
+style-found z fits o h = found-of _ _ styles z fits o h
+
+pub control-found : (z : ℤ) → SFits w64 z → (o : Option _) → ((x : _) → (o ≡ Some x) ↔ (to_z w64 (of_z w64 z) ≡ pos (tabulation_control_number x))) → o ≡ read Control z
+unfolding read
+control-found z fits o h = found-of _ _ controls z fits o h
+
+pub clear-found : (z : ℤ) → SFits w64 z → (o : Option _) → ((x : _) → (o ≡ Some x) ↔ (to_z w64 (of_z w64 z) ≡ pos (tabulation_clear_number x))) → o ≡ read Clear z
+unfolding read
+clear-found z fits o h = found-of _ _ clears z fits o h
+
+pub display-found : (z : ℤ) → SFits w64 z → (o : Option _) → ((x : _) → (o ≡ Some x) ↔ (to_z w64 (of_z w64 z) ≡ pos (erase_in_display_number x))) → o ≡ read InDisplay z
+unfolding read
+display-found z fits o h = found-of _ _ displays z fits o h
+
+pub line-found : (z : ℤ) → SFits w64 z → (o : Option _) → ((x : _) → (o ≡ Some x) ↔ (to_z w64 (of_z w64 z) ≡ pos (erase_in_line_number x))) → o ≡ read InLine z
+unfolding read
+line-found z fits o h = found-of _ _ lines z fits o h
+
+pub way-found : (z : ℤ) → SFits w64 z → (o : Option _) → ((x : _) → (o ≡ Some x) ↔ (to_z w64 (of_z w64 z) ≡ pos (kitty_mode_number x))) → o ≡ read Way z
+unfolding read
+way-found z fits o h = found-of _ _ ways z fits o h
+
+pub path-found : (z : ℤ) → SFits w64 z → (o : Option _) → ((x : _) → (o ≡ Some x) ↔ (to_z w64 (of_z w64 z) ≡ pos (path_number x))) → o ≡ read Path z
+unfolding read
+path-found z fits o h = found-of _ _ tracks z fits o h
+
+pub resource-found : (z : ℤ) → SFits w64 z → (o : Option _) → ((x : _) → (o ≡ Some x) ↔ (to_z w64 (of_z w64 z) ≡ pos (resource_number x))) → o ≡ read Resource z
+unfolding read
+resource-found z fits o h = found-of _ _ keys z fits o h
+
+-- a mode: the code that was found, or the number itself
+short-found : {E : Type 0} (z : ℤ) (r : Result ℕ E) → OkIff r (FitsUnsignedBits 16 z) (nat_abs z) → result_ok r ≡ short z
+short-found (pos n) (Ok k) h = rw (lt-ltb n 65536 h.0, h.1) refl
+short-found (pos n) (Err e) h = rw (le-ltb n 65536 (omega (arith, h))) refl
+short-found (negsuc n) (Ok k) h = absurd h.0
+short-found (negsuc n) (Err e) h = refl
+
+pub flags-found : {E : Type 0} (z : ℤ) → SFits w64 z → (r : Result ℕ E) → OkIff r (FitsUnsignedBits 16 (to_z w64 (of_z w64 z))) (nat_abs (to_z w64 (of_z w64 z)))
+    → option_map (λ n. record { bits = bit_and n 31 }) (result_ok r) ≡ read Flags z
+unfolding read
+flags-found z fits r ok = ap (option_map (λ n. record { bits = bit_and n 31 })) (short-found _ r ok ∙ ap short (to_z-of_z w64 z fits))
+
+-- the mode of a number, by its code
+pub named : {C M : Type 0} (number : C → ℕ) (all : List C) (coded : C → M) (own : ℕ → M) → Coded number all → (z : ℤ) → SFits w64 z → (o : Option C) (c : C)
+    → ((x : C) → (o ≡ Some x) ↔ (to_z w64 (of_z w64 z) ≡ pos (number x))) → o ≡ Some c → Some (coded c) ≡ code_or coded own (with_number number all z) (short z)
+named number all coded own is z fits o c h e = rw (sym (found-of number all is z fits o h) ∙ e) refl
+
+-- and by itself
+pub unnamed : {C M E : Type 0} (number : C → ℕ) (all : List C) (coded : C → M) (own : ℕ → M) → Coded number all → (z : ℤ) → SFits w64 z → (o : Option C) (r : Result ℕ E)
+    → ((x : C) → (o ≡ Some x) ↔ (to_z w64 (of_z w64 z) ≡ pos (number x))) → o ≡ None → OkIff r (FitsUnsignedBits 16 (to_z w64 (of_z w64 z))) (nat_abs (to_z w64 (of_z w64 z)))
+    → option_map own (result_ok r) ≡ code_or coded own (with_number number all z) (short z)
+unnamed number all coded own is z fits o r h e ok = rw (sym (found-of number all is z fits o h) ∙ e, sym (short-found _ r ok ∙ ap short (to_z-of_z w64 z fits))) (go (result_ok r))
+  where
+    go : (s : Option ℕ) → option_map own s ≡ code_or coded own None s
+    go None = refl
+    go (Some n) = refl
+
+-- ---- the values that are written as numbers that count as them
+
+pub one-fits : IsOneBased 1
+one-fits = record { above = omega arith; fits = omega arith }
+
+pub most-fits : IsOneBased most
+most-fits = record { above = omega arith; fits = omega arith }
+
+-- ---- what is written is read back
+
+number_or-good : (default n : ℕ) → IsOneBased n → number_or default (Integer (pos n)) ≡ Some n
+number_or-good default zero h = absurd (omega (arith, h.above))
+number_or-good default (suc n) h = rw (lt-ltb (suc n) (2 ^ 32) h.fits) refl
+
+own-good : {C M : Type 0} (number : C → ℕ) (all : List C) (coded : C → M) (own : ℕ → M) (n : ℕ) → IsOwn number n → code_or coded own (with_number number all (pos n)) (short (pos n)) ≡ Some (own n)
+own-good number all coded own n h =
+    rw (none-found number all (pos n) (λ x same. h.own x (ap nat_abs same)), lt-ltb n 65536 h.fits) refl
+
+dec-good : (m : DecPrivateMode) → GoodDec m → read Dec (pos (dec_number m)) ≡ Some m
+unfolding read
+dec-good (dec.Code c) h = rw (decs.each c) refl
+dec-good (dec.Unspecified n) h = own-good dec_mode_number dec_codes _ (λ k. dec.Unspecified k) n h
+
+terminal-good : (m : TerminalMode) → GoodTerminal m → read Terminal (pos (terminal_number m)) ≡ Some m
+unfolding read
+terminal-good (terminal.Code c) h = rw (terminals.each c) refl
+terminal-good (terminal.Unspecified n) h = own-good terminal_mode_number terminal_codes _ (λ k. terminal.Unspecified k) n h
+
+small-mod : (n : ℕ) → n < 32 → n % 32 ≡ n
+small-mod n h = omega (arith, h)
+
+flags-good : (f : KittyKeyboardFlags) → kitty_bits f < 32 → read Flags (pos (kitty_bits f)) ≡ Some f
+unfolding read
+flags-good f h = rw (lt-ltb (kitty_bits f) 65536 (omega (arith, h)), and_mask (kitty_bits f) 5, small-mod (kitty_bits f) h) refl
+
+pub read-good : (k : Kind) (v : Value k) → Good k v → read k (number k v) ≡ Some v
+unfolding read
+read-good Count n h = number_or-good 1 n h
+read-good Last n h = number_or-good most n h
+read-good Any z h = refl
+read-good Style c h = styles.each c
+read-good Control c h = controls.each c
+read-good Clear c h = clears.each c
+read-good InDisplay c h = displays.each c
+read-good InLine c h = lines.each c
+read-good Dec m h = dec-good m h
+read-good Terminal m h = terminal-good m h
+read-good Resource r h = keys.each r
+read-good Flags f h = flags-good f h
+read-good Way m h = ways.each m
+read-good Path p h = tracks.each p
+read-good Pops n h = rw (lt-ltb n (2 ^ 32) h) refl
+read-good Word n h = rw (lt-ltb n 65536 h) refl
+read-good Pressed v h = report-good pressed v h
+read-good Released v h = report-good released v h
+
+-- ---- what is read is written back
+
+number_or-fits : (default : ℕ) (z : ℤ) (n : ℕ) → IsOneBased default → number_or default (Integer z) ≡ Some n → IsOneBased n
+number_or-fits default (pos zero) n fits e = let same = same_Some _ _ e in subst IsOneBased same fits
+number_or-fits default (pos (suc m)) n fits e =
+    let p = cond_some _ (suc m) n e in
+    let low = ltb-true (suc m) (2 ^ 32) p.0 in
+    record { above = omega (arith, p.1); fits = omega (arith, p.1, low) }
+number_or-fits default (negsuc m) n fits e = cc
+
+below-fits : (bound : ℕ) (z : ℤ) (n : ℕ) → below bound z ≡ Some n → (z ≡ pos n) × (n < bound)
+below-fits bound (pos m) n e =
+    let p = cond_some _ m n e in
+    let low = ltb-true m bound p.0 in (ap pos p.1, omega (arith, p.1, low))
+below-fits bound (negsuc m) n e = cc
+
+short-fits : (z : ℤ) (n : ℕ) → short z ≡ Some n → (z ≡ pos n) × (n < 65536)
+short-fits z n e = below-fits 65536 z n e
+
+-- a mode that is read
+owned : {C M : Type 0} (number : C → ℕ) (all : List C) (coded : C → M) (own : ℕ → M) → Coded number all → (Q : M → Type 0) → ((c : C) → Q (coded c)) → ((n : ℕ) → IsOwn number n → Q (own n))
+    → (z : ℤ) (m : M) → code_or coded own (with_number number all z) (short z) ≡ Some m → Q m
+owned number all coded own is Q by_code by_number z m e = go (with_number number all z) (short z) refl refl e
+  where
+    go : (c : Option _) (s : Option ℕ) → with_number number all z ≡ c → short z ≡ s → code_or coded own c s ≡ Some m → Q m
+    go (Some c) s found small e = subst Q (same_Some _ _ e) (by_code c)
+    go None None found small e = cc
+    go None (Some n) found small e =
+        let fits = short-fits z n small in
+        subst Q (same_Some _ _ e) (by_number n (record {
+          fits = fits.1;
+          own = λ c same. (let here : z ≡ pos (number c) = fits.0 ∙ ap pos same in let each = is.each c in cc (found, here, each));
+        }))
+
+pub dec-read : (z : ℤ) (m : DecPrivateMode) → read Dec z ≡ Some m → GoodDec m
+unfolding read
+dec-read z m e = owned dec_mode_number dec_codes _ _ decs GoodDec (λ c. tt) (λ n h. h) z m e
+
+pub terminal-read : (z : ℤ) (m : TerminalMode) → read Terminal z ≡ Some m → GoodTerminal m
+unfolding read
+terminal-read z m e = owned terminal_mode_number terminal_codes _ _ terminals GoodTerminal (λ c. tt) (λ n h. h) z m e
+
+flags-read : (z : ℤ) (f : KittyKeyboardFlags) → read Flags z ≡ Some f → kitty_bits f < 32
+unfolding read
+flags-read z f e = let m = map-some _ (short z) f e in let small = and_le_r m.0 31 in rw (← m.2) (omega (arith, small))
+
+pub good-read : (k : Kind) (z : ℤ) (v : Value k) → IsSpellable (Integer z) → read k z ≡ Some v → Good k v
+unfolding read
+good-read Count z n ok e = number_or-fits 1 z n one-fits e
+good-read Last z n ok e = number_or-fits most z n most-fits e
+good-read Any z y ok e = let same : z ≡ y = same_Some _ _ e in rw (← same) (record { above = ok.0; fits = ok.1 })
+good-read Style z c ok e = tt
+good-read Control z c ok e = tt
+good-read Clear z c ok e = tt
+good-read InDisplay z c ok e = tt
+good-read InLine z c ok e = tt
+good-read Dec z m ok e = dec-read z m e
+good-read Terminal z m ok e = terminal-read z m e
+good-read Resource z r ok e = tt
+good-read Flags z f ok e = flags-read z f e
+good-read Way z m ok e = tt
+good-read Path z p ok e = tt
+good-read Pops z n ok e = (below-fits (2 ^ 32) z n e).1
+good-read Word z n ok e = (below-fits 65536 z n e).1
+good-read Pressed z v ok e = report-read pressed z v pressed-found e
+good-read Released z v ok e = report-read released z v released-found e
+
+-- ---- a number that is written can be spelled
+
+said : (n : ℕ) → n ≤ largest → IsSaid (pos n)
+said n fits = record { above = omega (arith, ints); fits = omega (arith, ints) }
+
+dec-said : (m : DecPrivateMode) → GoodDec m → IsSaid (pos (dec_number m))
+dec-said (dec.Code c) h = said (dec_mode_number c) (small dec_mode_number dec_codes decs largest (search (rules, arith) depth 60) c)
+dec-said (dec.Unspecified n) h = said n (omega (arith, h.fits))
+
+terminal-said : (m : TerminalMode) → GoodTerminal m → IsSaid (pos (terminal_number m))
+terminal-said (terminal.Code c) h = said (terminal_mode_number c) (small terminal_mode_number terminal_codes terminals largest (search (rules, arith) depth 60) c)
+terminal-said (terminal.Unspecified n) h = said n (omega (arith, h.fits))
+
+pub number-said : (k : Kind) (v : Value k) → Good k v → IsSaid (number k v)
+number-said Count n h = said n (omega (arith, h.fits))
+number-said Last n h = said n (omega (arith, h.fits))
+number-said Any z h = h
+number-said Style c h = said (cursor_style_number c) (small cursor_style_number cursor_styles styles largest (search (rules, arith) depth 60) c)
+number-said Control c h = said (tabulation_control_number c) (small tabulation_control_number tabulation_controls controls largest (search (rules, arith) depth 60) c)
+number-said Clear c h = said (tabulation_clear_number c) (small tabulation_clear_number tabulation_clears clears largest (search (rules, arith) depth 60) c)
+number-said InDisplay c h = said (erase_in_display_number c) (small erase_in_display_number erases_in_display displays largest (search (rules, arith) depth 60) c)
+number-said InLine c h = said (erase_in_line_number c) (small erase_in_line_number erases_in_line lines largest (search (rules, arith) depth 60) c)
+number-said Dec m h = dec-said m h
+number-said Terminal m h = terminal-said m h
+number-said Flags f h = said (kitty_bits f) (omega (arith, h))
+number-said Way m h = said (kitty_mode_number m) (small kitty_mode_number kitty_modes ways largest (search (rules, arith) depth 60) m)
+number-said Path p h = said (path_number p) (small path_number paths tracks largest (search (rules, arith) depth 60) p)
+number-said Pops n h = said n (omega (arith, h))
+number-said Word n h = said n (omega (arith, h))
+number-said Pressed v h = let small = report-small v h.held in said (report_code v) (omega (arith, small))
+number-said Released v h = let small = report-small v h.held in said (report_code v) (omega (arith, small))
+number-said Resource r h = said (resource_number r) (small resource_number resources keys largest (search (rules, arith) depth 60) r)
+
+-- no mode has a number below 0
+pub dec-above : (n : ℕ) → read Dec (negsuc n) ≡ None
+unfolding read
+dec-above n = refl
+
+pub terminal-above : (n : ℕ) → read Terminal (negsuc n) ≡ None
+unfolding read
+terminal-above n = refl
+
+-- any number counts as itself
+pub read_any : (z : ℤ) → read Any z ≡ Some z
+unfolding read
+read_any z = refl

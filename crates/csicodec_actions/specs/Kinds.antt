@@ -1,0 +1,131 @@
+-- What a number in a list counts as: kinds of values, each with the numbers that it is read from, and the one that it is written as.
+use Rattle.std.specs.Prelude.{ℕ, ℤ, Option, Some, None, if◌then◌else◌, nat_lt, pos, negsuc, ◌^◌}
+use Rattle.std.specs.Int.RustNames.{bit_and}
+use Rattle.std.specs.Option.{option_map}
+use Rattle.csicodec_names.specs.declared.enums.CursorStyle.{CursorStyle}
+use Rattle.csicodec_names.specs.declared.enums.CursorTabulationControl.{CursorTabulationControl}
+use Rattle.csicodec_names.specs.declared.enums.EraseInDisplay.{EraseInDisplay}
+use Rattle.csicodec_names.specs.declared.enums.EraseInLine.{EraseInLine}
+use Rattle.csicodec_names.specs.declared.enums.TabulationClear.{TabulationClear}
+use Rattle.csicodec_names.specs.EnumNumbers.{cursor_style_number, erase_in_display_number, erase_in_line_number, tabulation_clear_number, tabulation_control_number}
+use Rattle.csicodec_names.specs.ModeNumbers.{dec_mode_number, terminal_mode_number}
+use Rattle.csicodec_tokens.specs.declared.param.CsiParam.TheVariants.{Integer}
+use Rattle.csicodec_tokens.specs.OneBased.{most, number_or}
+use Rattle.csicodec_actions.specs.declared.actions.mode.DecPrivateMode.{DecPrivateMode}
+use Rattle.csicodec_actions.specs.declared.actions.mode.DecPrivateMode.TheVariants as dec
+use Rattle.csicodec_actions.specs.declared.actions.mode.TerminalMode.{TerminalMode}
+use Rattle.csicodec_actions.specs.declared.actions.mode.TerminalMode.TheVariants as terminal
+use Rattle.csicodec_actions.specs.declared.actions.mode.XtermKeyModifierResource.{XtermKeyModifierResource}
+use Rattle.csicodec_actions.specs.declared.actions.keyboard.CharacterPath.{CharacterPath}
+use Rattle.csicodec_actions.specs.declared.actions.keyboard.KittyKeyboardMode.{KittyKeyboardMode}
+use Rattle.csicodec_names.specs.declared.flags.KittyKeyboardFlags.{KittyKeyboardFlags}
+use Rattle.csicodec_names.specs.FlagBits.{kitty_bits}
+use Rattle.csicodec_actions.specs.KeyNumbers.{kitty_mode_number, kitty_modes, path_number, paths}
+use Rattle.csicodec_actions.specs.Modes.{dec_number, terminal_number, resource_number}
+use Rattle.csicodec_actions.specs.Mouse.{pressed, released, reported, report_code}
+use Rattle.csicodec_actions.specs.declared.actions.mouse.MouseButton.{MouseButton}
+use Rattle.csicodec_names.specs.declared.flags.Modifiers.{Modifiers}
+use Rattle.csicodec_names.specs.Numbered.{with_number}
+use Rattle.csicodec_names.specs.EnumNumbers.{cursor_styles, tabulation_controls, tabulation_clears, erases_in_display, erases_in_line}
+use Rattle.csicodec_names.specs.ModeNumbers.{dec_codes, terminal_codes}
+use Rattle.csicodec_actions.specs.Modes.{resources}
+
+-- a count, and a last line or column, from 1 to 4294967295; any number; numbers of enumerations, of modes and of the resources of keys
+pub data Kind : Type 0 where
+  Count : Kind
+  Last : Kind
+  Any : Kind
+  Style : Kind
+  Control : Kind
+  Clear : Kind
+  InDisplay : Kind
+  InLine : Kind
+  Dec : Kind
+  Terminal : Kind
+  Resource : Kind
+  Flags : Kind
+  Way : Kind
+  Path : Kind
+  Pops : Kind
+  Word : Kind
+  Pressed : Kind
+  Released : Kind
+
+abbrev pub Value : Kind → Type 0
+Value Count = ℕ
+Value Last = ℕ
+Value Any = ℤ
+Value Style = CursorStyle
+Value Control = CursorTabulationControl
+Value Clear = TabulationClear
+Value InDisplay = EraseInDisplay
+Value InLine = EraseInLine
+Value Dec = DecPrivateMode
+Value Terminal = TerminalMode
+Value Resource = XtermKeyModifierResource
+Value Flags = KittyKeyboardFlags
+Value Way = KittyKeyboardMode
+Value Path = CharacterPath
+Value Pops = ℕ
+Value Word = ℕ
+Value Pressed = MouseButton × Modifiers
+Value Released = MouseButton × Modifiers
+
+-- ---- reading
+
+-- a number from 0 on that is below this bound is itself
+abbrev pub below : ℕ → ℤ → Option ℕ
+below bound (pos n) = if nat_lt n bound then Some n else None
+below bound (negsuc n) = None
+
+abbrev pub short : ℤ → Option ℕ
+short z = below 65536 z
+
+-- the code, if there is one, and else the number
+abbrev pub code_or : {C M : Type 0} → (C → M) → (ℕ → M) → Option C → Option ℕ → Option M
+code_or coded own (Some c) n = Some (coded c)
+code_or coded own None (Some n) = Some (own n)
+code_or coded own None None = None
+
+-- what a number counts as; 0 as a count is 1, and as a last one 4294967295
+unfoldable pub read : (k : Kind) → ℤ → Option (Value k)
+read Count z = number_or 1 (Integer z)
+read Last z = number_or most (Integer z)
+read Any z = Some z
+read Style z = with_number cursor_style_number cursor_styles z
+read Control z = with_number tabulation_control_number tabulation_controls z
+read Clear z = with_number tabulation_clear_number tabulation_clears z
+read InDisplay z = with_number erase_in_display_number erases_in_display z
+read InLine z = with_number erase_in_line_number erases_in_line z
+read Dec z = code_or (λ c. dec.Code c) (λ n. dec.Unspecified n) (with_number dec_mode_number dec_codes z) (short z)
+read Terminal z = code_or (λ c. terminal.Code c) (λ n. terminal.Unspecified n) (with_number terminal_mode_number terminal_codes z) (short z)
+read Resource z = with_number resource_number resources z
+read Flags z = option_map (λ n. record { bits = bit_and n 31 }) (short z)
+read Way z = with_number kitty_mode_number kitty_modes z
+read Path z = with_number path_number paths z
+read Pops z = below (2 ^ 32) z
+read Word z = short z
+read Pressed z = reported pressed z
+read Released z = reported released z
+
+-- ---- writing
+
+abbrev pub number : (k : Kind) → Value k → ℤ
+number Count n = pos n
+number Last n = pos n
+number Any z = z
+number Style c = pos (cursor_style_number c)
+number Control c = pos (tabulation_control_number c)
+number Clear c = pos (tabulation_clear_number c)
+number InDisplay c = pos (erase_in_display_number c)
+number InLine c = pos (erase_in_line_number c)
+number Dec m = pos (dec_number m)
+number Terminal m = pos (terminal_number m)
+number Resource r = pos (resource_number r)
+number Flags flags = pos (kitty_bits flags)
+number Way mode = pos (kitty_mode_number mode)
+number Path path = pos (path_number path)
+number Pops n = pos n
+number Word n = pos n
+number Pressed v = pos (report_code v)
+number Released v = pos (report_code v)

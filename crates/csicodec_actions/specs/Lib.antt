@@ -1,0 +1,15 @@
+pub mod Actions
+pub mod Good
+pub mod KeyNumbers
+pub mod Kinds
+pub mod Modes
+pub mod Mouse
+pub mod MouseTexts
+pub mod Params
+pub mod Ranges
+pub mod Rows
+pub mod Special
+pub mod Table
+pub mod Texts
+pub mod Whole
+pub mod Written

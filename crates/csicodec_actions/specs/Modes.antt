@@ -1,0 +1,49 @@
+-- Modes: which one a number stands for, what is done to it, and how that is written.
+use Rattle.std.specs.Prelude.{ℕ, List, [], ◌∷◌}
+use Rattle.csicodec_names.specs.ModeNumbers.{dec_mode_number, terminal_mode_number}
+use Rattle.csicodec_actions.specs.declared.actions.mode.Change.{Change}
+use Rattle.csicodec_actions.specs.declared.actions.mode.Change.TheVariants as change
+use Rattle.csicodec_actions.specs.declared.actions.mode.DecPrivateMode.{DecPrivateMode}
+use Rattle.csicodec_actions.specs.declared.actions.mode.DecPrivateMode.TheVariants as dec
+use Rattle.csicodec_actions.specs.declared.actions.mode.Mode.{Mode}
+use Rattle.csicodec_actions.specs.declared.actions.mode.Mode.TheVariants as mode
+use Rattle.csicodec_actions.specs.declared.actions.mode.Switch.{Switch}
+use Rattle.csicodec_actions.specs.declared.actions.mode.Switch.TheVariants as switch
+use Rattle.csicodec_actions.specs.declared.actions.mode.TerminalMode.{TerminalMode}
+use Rattle.csicodec_actions.specs.declared.actions.mode.TerminalMode.TheVariants as terminal
+use Rattle.csicodec_actions.specs.declared.actions.mode.XtermKeyModifierResource.{XtermKeyModifierResource}
+use Rattle.csicodec_actions.specs.declared.actions.mode.XtermKeyModifierResource.TheVariants as resource
+
+-- ---- numbers
+
+-- the number that a mode is written as
+abbrev pub dec_number : DecPrivateMode → ℕ
+dec_number (dec.Code code) = dec_mode_number code
+dec_number (dec.Unspecified own) = own
+
+abbrev pub terminal_number : TerminalMode → ℕ
+terminal_number (terminal.Code code) = terminal_mode_number code
+terminal_number (terminal.Unspecified own) = own
+
+-- the resources of modified keys (xterm, XTMODKEYS)
+abbrev pub resource_number : XtermKeyModifierResource → ℕ
+resource_number resource.Keyboard = 0
+resource_number resource.CursorKeys = 1
+resource_number resource.FunctionKeys = 2
+resource_number resource.OtherKeys = 4
+
+-- all resources: the list must be complete, a line for each variant
+abbrev pub resources : List XtermKeyModifierResource
+resources = resource.Keyboard ∷ resource.CursorKeys ∷ resource.FunctionKeys ∷ resource.OtherKeys ∷ []
+
+-- ---- what is done
+
+abbrev pub changed : Change → DecPrivateMode → Mode
+changed change.Set m = mode.SetDecPrivateMode m
+changed change.Reset m = mode.ResetDecPrivateMode m
+changed change.Save m = mode.SaveDecPrivateMode m
+changed change.Restore m = mode.RestoreDecPrivateMode m
+
+abbrev pub switched : Switch → TerminalMode → Mode
+switched switch.Set m = mode.SetMode m
+switched switch.Reset m = mode.ResetMode m

@@ -1,0 +1,88 @@
+-- The code of a mouse report: a button, and the modifiers that are held.
+use Rattle.std.specs.Prelude.{ℕ, ℤ, ◌+◌, ◌*◌, ◌/◌, ◌==◌, Bool, true, false, List, [], ◌∷◌, Option, None, if◌then◌else◌, pos, negsuc}
+use Rattle.std.specs.Int.RustNames.{bit_and}
+use Rattle.std.specs.Option.{option_map}
+use Rattle.csicodec_names.specs.Numbered.{with_number}
+use Rattle.csicodec_names.specs.declared.flags.Modifiers.{Modifiers}
+use Rattle.csicodec_actions.specs.declared.actions.mouse.MouseButton.{MouseButton}
+use Rattle.csicodec_actions.specs.declared.actions.mouse.MouseButton.TheVariants as button
+
+abbrev pub button_code : MouseButton → ℕ
+button_code button.Button1Press = 0
+button_code button.Button2Press = 1
+button_code button.Button3Press = 2
+button_code button.Button4Press = 64
+button_code button.Button5Press = 65
+button_code button.Button6Press = 66
+button_code button.Button7Press = 67
+button_code button.Button1Release = 0
+button_code button.Button2Release = 1
+button_code button.Button3Release = 2
+button_code button.Button4Release = 64
+button_code button.Button5Release = 65
+button_code button.Button6Release = 66
+button_code button.Button7Release = 67
+button_code button.Button1Drag = 32
+button_code button.Button2Drag = 33
+button_code button.Button3Drag = 34
+button_code button.None = 35
+
+-- before M and before m
+abbrev pub pressed : List MouseButton
+pressed =
+    button.Button1Press
+    ∷ button.Button2Press
+    ∷ button.Button3Press
+    ∷ button.Button4Press
+    ∷ button.Button5Press
+    ∷ button.Button6Press
+    ∷ button.Button7Press
+    ∷ button.Button1Drag
+    ∷ button.Button2Drag
+    ∷ button.Button3Drag
+    ∷ button.None
+    ∷ []
+
+abbrev pub released : List MouseButton
+released =
+    button.Button1Release
+    ∷ button.Button2Release
+    ∷ button.Button3Release
+    ∷ button.Button4Release
+    ∷ button.Button5Release
+    ∷ button.Button6Release
+    ∷ button.Button7Release
+    ∷ button.None
+    ∷ []
+
+-- the bits of the button; 3 stands for no button, as 35 does
+abbrev pub button_bits : ℕ → ℕ
+button_bits n = if n == 3 then 35 else n
+
+-- the bits 4, 8 and 16 are SHIFT, ALT and CTRL, which are 2, 4 and 8; other bits are ignored
+abbrev pub reported : List MouseButton → ℤ → Option (MouseButton × Modifiers)
+reported buttons (pos n) = option_map (λ b. (b, record { bits = bit_and n 28 / 2 })) (with_number button_code buttons (pos (button_bits (bit_and n 99))))
+reported buttons (negsuc n) = None
+
+abbrev pub report_code : MouseButton × Modifiers → ℕ
+report_code v = button_code v.0 + 2 * v.1.bits
+
+abbrev pub is_release : MouseButton → Bool
+is_release button.Button1Press = false
+is_release button.Button2Press = false
+is_release button.Button3Press = false
+is_release button.Button4Press = false
+is_release button.Button5Press = false
+is_release button.Button6Press = false
+is_release button.Button7Press = false
+is_release button.Button1Release = true
+is_release button.Button2Release = true
+is_release button.Button3Release = true
+is_release button.Button4Release = true
+is_release button.Button5Release = true
+is_release button.Button6Release = true
+is_release button.Button7Release = true
+is_release button.Button1Drag = false
+is_release button.Button2Drag = false
+is_release button.Button3Drag = false
+is_release button.None = false

@@ -1,0 +1,104 @@
+-- Rows of lists that are read whole: a row is the shape of a list, and what is made of the values in it.
+use Prim.Native.Char.{Char, code}
+use Rattle.std.specs.Prelude.{ℕ, ◌==◌, ◌&&◌, Bool, true, false, List, [], ◌∷◌, ◌++◌, Option, Some, None, option_and_then, if◌then◌else◌}
+use Rattle.std.specs.Option.{option_or}
+use Rattle.csicodec_tokens.specs.declared.param.CsiParam.{CsiParam}
+use Rattle.csicodec_tokens.specs.declared.param.CsiParam.TheVariants.{Integer, P}
+use Rattle.csicodec_actions.specs.Kinds.{Kind, Count, Value, read}
+use Rattle.csicodec_names.specs.Numbered.{is_number}
+
+-- one token of a shape: this byte, this number, or a number that counts as a value of this kind
+pub data Slot : Type 0 where
+  Byte : ℕ → Slot
+  Number : ℕ → Slot
+  One : Kind → Slot
+
+abbrev pub mark : Char → Slot
+mark c = Byte (code c)
+
+-- what is made of the values of a shape, one after the other
+abbrev pub Makes : Type 0 → List Slot → Type 0
+Makes R [] = R
+Makes R (Byte b ∷ shape) = Makes R shape
+Makes R (Number n ∷ shape) = Makes R shape
+Makes R (One k ∷ shape) = Value k → Makes R shape
+
+-- the token is one that the slot allows
+abbrev pub fits : Slot → CsiParam → Bool
+fits (Byte b) (Integer z) = false
+fits (Byte b) (P c) = c == b
+fits (Number n) (Integer z) = is_number n z
+fits (Number n) (P c) = false
+fits (One k) (Integer z) = true
+fits (One k) (P c) = false
+
+-- the list has this shape: a token for each slot
+abbrev pub has_shape : List Slot → List CsiParam → Bool
+has_shape [] [] = true
+has_shape [] (t ∷ ts) = false
+has_shape (s ∷ shape) [] = false
+has_shape (s ∷ shape) (t ∷ ts) = has_shape shape ts && fits s t
+
+-- what is made of a list of this shape; nothing where a number counts as no value of its kind
+abbrev pub made : {R : Type 0} → (shape : List Slot) → Makes R shape → List CsiParam → Option R
+made [] whole list = Some whole
+made (s ∷ shape) make [] = None
+made (Byte b ∷ shape) make (t ∷ ts) = made shape make ts
+made (Number n ∷ shape) make (t ∷ ts) = made shape make ts
+made (One k ∷ shape) make (Integer z ∷ ts) = option_and_then (λ v. made shape (make v) ts) (read k z)
+made (One k ∷ shape) make (P c ∷ ts) = None
+
+abbrev pub gives : {R : Type 0} → (shape : List Slot) → Makes R shape → List CsiParam → Option R
+gives shape make list = if has_shape shape list then made shape make list else None
+
+pub record Row (R : Type 0) : Type 0 where
+  pub shape : List Slot
+  pub make : Makes R shape
+
+abbrev pub row : {R : Type 0} → (shape : List Slot) → Makes R shape → Row R
+row shape make = record { shape = shape; make = make }
+
+-- what the row gives that gives something; no two rows of a final do
+abbrev pub given : {R : Type 0} → List (Row R) → List CsiParam → Option R
+given [] list = None
+given (r ∷ rows) list = option_or (gives r.shape r.make list) (given rows list)
+
+-- ---- rows that many finals have
+
+-- a count, which is 1 where it is left out
+abbrev pub counted : {R : Type 0} → (ℕ → R) → List (Row R)
+counted make = row [] (make 1) ∷ row (One Count ∷ []) make ∷ []
+
+-- a number of an enumeration, or nothing for this variant
+abbrev pub chosen : {R : Type 0} → (k : Kind) → Value k → (Value k → R) → List (Row R)
+chosen k missing make = row [] (make missing) ∷ row (One k ∷ []) make ∷ []
+
+-- one half or both: the first is a count, 1 where it is left out, and this the second where it is left out
+abbrev pub halves : {R : Type 0} → (second : Kind) → Value second → (ℕ → Value second → R) → List (Row R)
+halves second missing make =
+    row (One Count ∷ []) (λ a. make a missing)
+    ∷ row (One Count ∷ mark ";" ∷ One second ∷ []) make
+    ∷ row (mark ";" ∷ One second ∷ []) (λ b. make 1 b)
+    ∷ []
+
+-- two counts, both 1 where they are left out
+abbrev pub paired : {R : Type 0} → (ℕ → ℕ → R) → List (Row R)
+paired make = row [] (make 1 1) ∷ halves Count 1 make
+
+-- ---- the rows before a final character
+
+pub record Before (R : Type 0) : Type 0 where
+  pub final : ℕ
+  pub rows : List (Row R)
+
+abbrev pub before : {R : Type 0} → Char → List (Row R) → Before R
+before final rows = record { final = code final; rows = rows }
+
+-- those of all entries with this final
+abbrev pub rows_before : {R : Type 0} → List (Before R) → ℕ → List (Row R)
+rows_before [] final = []
+rows_before (b ∷ others) final = (if final == b.final then b.rows else []) ++ rows_before others final
+
+-- what is read by these rows
+abbrev pub read_by : {R : Type 0} → List (Before R) → List CsiParam → ℕ → Option R
+read_by table list final = given (rows_before table final) list

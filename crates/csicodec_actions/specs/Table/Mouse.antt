@@ -1,0 +1,31 @@
+-- Reports of the mouse (xterm, "Extended coordinates"): lists before `M` and `m`, and what each action is written as.
+use Rattle.std.specs.Prelude.{ℕ, List, [], ◌∷◌, Option, if◌then◌else◌}
+use Rattle.csicodec_tokens.specs.declared.param.CsiParam.{CsiParam}
+use Rattle.csicodec_actions.specs.declared.actions.mouse.MouseReport as mouse_type
+use Rattle.csicodec_actions.specs.declared.actions.mouse.MouseReport.TheVariants as mouse
+use Rattle.csicodec_actions.specs.Actions.{Action, Mouse}
+use Rattle.csicodec_actions.specs.Kinds.{Kind, Value, Pressed, Released, Word}
+use Rattle.csicodec_actions.specs.Mouse.{is_release}
+use Rattle.csicodec_actions.specs.Rows.{Row, row, One, mark, Before, before, read_by}
+use Rattle.csicodec_actions.specs.Written.{Item, Written, The, write, put}
+
+-- `< code ; x ; y`
+abbrev pub mouse_report : (k : Kind) → (Value k → ℕ → ℕ → Action) → Row Action
+mouse_report k make = row (mark "<" ∷ One k ∷ mark ";" ∷ One Word ∷ mark ";" ∷ One Word ∷ []) make
+
+abbrev pub mouse_rows : List (Before Action)
+mouse_rows =
+    before "M" (mouse_report Pressed (λ c x y. Mouse (mouse.SGR1006 x y c.0 c.1)) ∷ [])
+    ∷ before "m" (mouse_report Released (λ c x y. Mouse (mouse.SGR1006 x y c.0 c.1)) ∷ [])
+    ∷ []
+
+unfoldable pub as_mouse : List CsiParam → ℕ → Option Action
+as_mouse list final = read_by mouse_rows list final
+
+-- `< code ; x ; y`
+abbrev pub report : (k : Kind) → Value k → ℕ → ℕ → List Item
+report k v x y = put "<" ∷ The k v ∷ put ";" ∷ The Word x ∷ put ";" ∷ The Word y ∷ []
+
+-- releases end in `m`, all else in `M`
+abbrev pub written_mouse : mouse_type.MouseReport → Written
+written_mouse (mouse.SGR1006 x y b m) = if is_release b then write (report Released (b, m) x y) "m" else write (report Pressed (b, m) x y) "M"

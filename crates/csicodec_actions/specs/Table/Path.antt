@@ -1,0 +1,30 @@
+-- SCP, select character path (ECMA-48, 8.3.111): lists before `k`, and what the action is written as.
+use Rattle.std.specs.Prelude.{ℕ, ℤ, List, [], ◌∷◌, Option, if◌then◌else◌, pos}
+use Rattle.csicodec_tokens.specs.declared.param.CsiParam.{CsiParam}
+use Rattle.csicodec_actions.specs.declared.actions.keyboard.CharacterPath.{CharacterPath}
+use Rattle.csicodec_actions.specs.declared.actions.keyboard.CharacterPath.TheVariants as path
+use Rattle.csicodec_actions.specs.Actions.{Action, SelectCharacterPath}
+use Rattle.csicodec_actions.specs.Kinds.{Any, Path}
+use Rattle.csicodec_names.specs.Numbered.{is_number}
+use Rattle.csicodec_actions.specs.Rows.{Row, row, One, mark, Before, before, read_by}
+use Rattle.csicodec_actions.specs.Written.{Written, The, Unless, write, put}
+
+-- ` `, `a ` and `a ; b `
+abbrev pub paths : List (Row Action)
+paths =
+    row (mark " " ∷ []) (SelectCharacterPath path.ImplementationDefault (pos 0))
+    ∷ row (One Path ∷ mark " " ∷ []) (λ p. SelectCharacterPath p (pos 0))
+    ∷ row (One Path ∷ mark ";" ∷ One Any ∷ mark " " ∷ []) SelectCharacterPath
+    ∷ []
+
+abbrev pub path_rows : List (Before Action)
+path_rows =
+    before "k" paths
+    ∷ []
+
+unfoldable pub as_path : List CsiParam → ℕ → Option Action
+as_path list final = read_by path_rows list final
+
+-- an effect of 0 is left out, and then a path of 0 too
+abbrev pub written_path : CharacterPath → ℤ → Written
+written_path p z = write (if is_number 0 z then Unless 0 Path p ∷ put " " ∷ [] else The Path p ∷ put ";" ∷ The Any z ∷ put " " ∷ []) "k"

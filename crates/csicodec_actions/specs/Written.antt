@@ -1,0 +1,61 @@
+-- What an action of a list is written as: bytes and values, and then the final character.
+use Prim.Native.Char.{Char, code}
+use Rattle.std.specs.Prelude.{ℕ, List, [], ◌∷◌, ◌++◌, if◌then◌else◌, pos}
+use Rattle.std.specs.Fmt.{signed_decimal}
+use Rattle.csicodec_tokens.specs.declared.param.CsiParam.{CsiParam}
+use Rattle.csicodec_tokens.specs.declared.param.CsiParam.TheVariants.{Integer, P}
+use Rattle.csicodec_actions.specs.Kinds.{Kind, Count, Any, Value, number}
+use Rattle.csicodec_names.specs.Numbered.{is_number}
+
+-- a byte; a value of a kind, as its number; a value that is left out where its number is this one
+pub data Item : Type 0 where
+  Byte : ℕ → Item
+  The : (k : Kind) → Value k → Item
+  Unless : ℕ → (k : Kind) → Value k → Item
+
+abbrev pub put : Char → Item
+put c = Byte (code c)
+
+pub record Written : Type 0 where
+  pub items : List Item
+  pub final : ℕ
+
+abbrev pub write : List Item → Char → Written
+write items final = record { items = items; final = code final }
+
+-- ---- what is written
+
+-- the list that is written
+abbrev pub tokens : List Item → List CsiParam
+tokens [] = []
+tokens (Byte b ∷ items) = P b ∷ tokens items
+tokens (The k v ∷ items) = Integer (number k v) ∷ tokens items
+tokens (Unless n k v ∷ items) = if is_number n (number k v) then tokens items else Integer (number k v) ∷ tokens items
+
+-- its text, and this behind it
+abbrev pub shown : List Item → List ℕ → List ℕ
+shown [] end = end
+shown (Byte b ∷ items) end = b ∷ shown items end
+shown (The k v ∷ items) end = signed_decimal (number k v) ++ shown items end
+shown (Unless n k v ∷ items) end = if is_number n (number k v) then shown items end else signed_decimal (number k v) ++ shown items end
+
+abbrev pub written_text : Written → List ℕ
+written_text w = shown w.items (w.final ∷ [])
+
+-- ---- items that many actions have
+
+-- a number that is left out where it is 1
+abbrev pub count : ℕ → Char → Written
+count n final = write (Unless 1 Count n ∷ []) final
+
+-- a number of an enumeration that is left out where it is 0
+abbrev pub choice : (k : Kind) → Value k → Char → Written
+choice k c final = write (Unless 0 k c ∷ []) final
+
+-- two numbers
+abbrev pub two : (second : Kind) → ℕ → Value second → List Item
+two second a b = The Count a ∷ put ";" ∷ The second b ∷ []
+
+-- a number by itself
+abbrev pub plain : ℕ → Item
+plain n = The Any (pos n)

@@ -1,0 +1,14 @@
+//! The actions of each subject.
+mod cursor;
+mod device;
+mod edit;
+mod keyboard;
+mod mode;
+mod mouse;
+
+pub use cursor::Cursor;
+pub use device::Device;
+pub use edit::Edit;
+pub use keyboard::{CharacterPath, Keyboard, KittyKeyboardMode};
+pub use mode::{Change, DecPrivateMode, Mode, Switch, TerminalMode, XtermKeyModifierResource};
+pub use mouse::{MouseButton, MouseReport};

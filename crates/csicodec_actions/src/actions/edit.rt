@@ -1,0 +1,66 @@
+//! Inserting, deleting, erasing and scrolling.
+ghost use Rattle.std.specs.Prelude.{◌≡◌, ◌≤◌, ◌++◌, Some, length};
+ghost use Rattle.csicodec_actions.specs.Table.Edit.{written_edit};
+ghost use Rattle.csicodec_actions.specs.Written.{written_text};
+
+use crate::params::EncodeCSIParam;
+use csicodec_base::{EraseInDisplay, EraseInLine, Text};
+use std::fmt;
+
+/// What a sequence does with the characters of the page. The unit is the cell of one character. Counts are 1 or more
+/// where they were read, and a terminal takes 0 for 1.
+#[derive(Clone, Copy, Debug, PartialEq, Eq)]
+pub enum Edit {
+    /// ICH (ECMA-48, 8.3.64): this many blanks at the cursor, and what stood there moves to the right.
+    InsertCharacter(u32),
+    /// IL (ECMA-48, 8.3.67): this many blank lines at the cursor's line, which moves down.
+    InsertLine(u32),
+    /// DCH (ECMA-48, 8.3.26): takes out this many characters from the cursor on, and what is behind them moves to the left.
+    DeleteCharacter(u32),
+    /// DL (ECMA-48, 8.3.32): takes out this many lines from the cursor's line on, and what is below moves up.
+    DeleteLine(u32),
+    /// ECH (ECMA-48, 8.3.38): blanks this many characters from the cursor on.
+    EraseCharacter(u32),
+    /// SU (ECMA-48, 8.3.147): moves what is shown up by this many lines.
+    ScrollUp(u32),
+    /// SD (ECMA-48, 8.3.113): moves what is shown down by this many lines.
+    ScrollDown(u32),
+    /// REP (ECMA-48, 8.3.103): the character before this sequence, this many times more.
+    Repeat(u32),
+    /// ED (ECMA-48, 8.3.39): blanks a part of the page.
+    EraseInDisplay(EraseInDisplay),
+    /// EL (ECMA-48, 8.3.41): blanks a part of the cursor's line.
+    EraseInLine(EraseInLine),
+}
+
+impl Edit {
+    /// Appends the parameter and the final byte: 11 bytes at most.
+    pub fn write_to(&self, text: &mut Text)
+        requires room { length text.old ≤ 10 }
+        ensures { text.new ≡ text.old ++ written_text (written_edit self.now) }
+    {
+        match self {
+            Edit::InsertCharacter(count) => count.write_csi(text, b'@'),
+            Edit::InsertLine(count) => count.write_csi(text, b'L'),
+            Edit::DeleteCharacter(count) => count.write_csi(text, b'P'),
+            Edit::DeleteLine(count) => count.write_csi(text, b'M'),
+            Edit::EraseCharacter(count) => count.write_csi(text, b'X'),
+            Edit::ScrollUp(count) => count.write_csi(text, b'S'),
+            Edit::ScrollDown(count) => count.write_csi(text, b'T'),
+            Edit::Repeat(count) => count.write_csi(text, b'b'),
+            Edit::EraseInDisplay(part) => part.write_csi(text, b'J'),
+            Edit::EraseInLine(part) => part.write_csi(text, b'K'),
+        }
+    }
+}
+
+/// Writes the parameter and the final character, without `ESC [`.
+impl fmt::Display for Edit {
+    ghost output = { λ e. Some (written_text (written_edit e)) };
+
+    fn fmt<W: fmt::Write>(&self, f: &mut fmt::Formatter<W>) -> fmt::Result {
+        let mut text = Text::new();
+        self.write_to(&mut text);
+        f.write_str(text.as_str())
+    }
+}

@@ -1,0 +1,155 @@
+//! The keyboard, and paths of characters.
+ghost use Rattle.std.specs.Prelude.{◌≤◌, ◌++◌, [], ◌∷◌, length, ◌≡◌, ◌↔◌, ◌<◌, Some, pos};
+ghost use Rattle.csicodec_actions.specs.Kinds.{Flags as FlagsKind, Way};
+ghost use Rattle.csicodec_actions.specs.Table.Keyboard.{written_keyboard};
+ghost use Rattle.csicodec_actions.specs.Written.{Byte, The, shown, written_text};
+ghost use Rattle.csicodec_actions.specs.KeyNumbers.{kitty_mode_number, path_number};
+ghost use Rattle.csicodec_actions.specs.declared.actions.keyboard.CharacterPath.{CharacterPath};
+ghost use Rattle.csicodec_actions.specs.declared.actions.keyboard.KittyKeyboardMode.{KittyKeyboardMode};
+
+use bitflags::Flags;
+use csicodec_base::{KittyKeyboardFlags, Text};
+use std::fmt;
+
+/// How flags change what the keyboard reports.
+#[derive(Clone, Copy, Debug, PartialEq, Eq)]
+pub enum KittyKeyboardMode {
+    /// They take the place of the old ones.
+    AssignAll,
+    /// They are added.
+    SetSpecified,
+    /// They are taken away.
+    ClearSpecified,
+}
+
+impl KittyKeyboardMode {
+    pub fn from_i64(number: i64) -> Option<Self>
+        ensures { (mode : KittyKeyboardMode) → (result ≡ Some mode) ↔ (number ≡ pos (kitty_mode_number mode)) }
+    {
+        match number {
+            1 => Some(KittyKeyboardMode::AssignAll),
+            2 => Some(KittyKeyboardMode::SetSpecified),
+            3 => Some(KittyKeyboardMode::ClearSpecified),
+            _ => None,
+        }
+    }
+
+    pub fn number(&self) -> u8
+        ensures value { result ≡ kitty_mode_number self.now }
+        ensures short { result < 10 }
+    {
+        match self {
+            KittyKeyboardMode::AssignAll => 1,
+            KittyKeyboardMode::SetSpecified => 2,
+            KittyKeyboardMode::ClearSpecified => 3,
+        }
+    }
+}
+
+/// What the keyboard reports, set and asked for.
+#[derive(Clone, Copy, Debug, PartialEq, Eq)]
+pub enum Keyboard {
+    /// The flags change in this way.
+    SetKittyState {
+        /// The flags.
+        flags: KittyKeyboardFlags,
+        /// The way.
+        mode: KittyKeyboardMode,
+    },
+    /// They are put onto a stack, and changed.
+    PushKittyState {
+        /// The flags.
+        flags: KittyKeyboardFlags,
+        /// The way.
+        mode: KittyKeyboardMode,
+    },
+    /// This many are taken off the stack.
+    PopKittyState(u32),
+    /// Asks for the flags.
+    QueryKittySupport,
+    /// The answer.
+    ReportKittyState(KittyKeyboardFlags),
+}
+
+/// SCP (ECMA-48, 8.3.111): the path of characters.
+#[derive(Clone, Copy, Debug, PartialEq, Eq)]
+pub enum CharacterPath {
+    /// As the terminal has it.
+    ImplementationDefault,
+    /// From left to right, or from top to bottom.
+    LeftToRightOrTopToBottom,
+    /// From right to left, or from bottom to top.
+    RightToLeftOrBottomToTop,
+}
+
+impl CharacterPath {
+    pub fn from_i64(number: i64) -> Option<Self>
+        ensures { (path : CharacterPath) → (result ≡ Some path) ↔ (number ≡ pos (path_number path)) }
+    {
+        match number {
+            0 => Some(CharacterPath::ImplementationDefault),
+            1 => Some(CharacterPath::LeftToRightOrTopToBottom),
+            2 => Some(CharacterPath::RightToLeftOrBottomToTop),
+            _ => None,
+        }
+    }
+
+    pub fn number(&self) -> u8
+        ensures value { result ≡ path_number self.now }
+        ensures short { result < 10 }
+    {
+        match self {
+            CharacterPath::ImplementationDefault => 0,
+            CharacterPath::LeftToRightOrTopToBottom => 1,
+            CharacterPath::RightToLeftOrBottomToTop => 2,
+        }
+    }
+}
+
+impl Keyboard {
+    /// Appends the parameters and the final byte: 16 bytes at most.
+    pub fn write_to(&self, text: &mut Text)
+        requires room { length text.old ≤ 10 }
+        ensures { text.new ≡ text.old ++ written_text (written_keyboard self.now) }
+    {
+        match self {
+            Keyboard::SetKittyState { flags, mode } => write_state(text, b'=', flags, mode),
+            Keyboard::PushKittyState { flags, mode } => write_state(text, b'>', flags, mode),
+            Keyboard::PopKittyState(count) => {
+                text.push(b'<');
+                text.push_u32(*count);
+                text.push(b'u');
+            }
+            Keyboard::QueryKittySupport => text.push_str("?u"),
+            Keyboard::ReportKittyState(flags) => {
+                text.push(b'?');
+                text.push_u32(u32::from(flags.bits()));
+                text.push(b'u');
+            }
+        }
+    }
+}
+
+/// This mark, flags and the way that they are set.
+fn write_state(text: &mut Text, mark: u8, flags: &KittyKeyboardFlags, mode: &KittyKeyboardMode)
+    requires room { length text.old ≤ 10 }
+    requires ascii { mark < 128 }
+    ensures { text.new ≡ text.old ++ shown (Byte mark ∷ The FlagsKind flags.now ∷ Byte 59 ∷ The Way mode.now ∷ []) (117 ∷ []) }
+{
+    text.push(mark);
+    text.push_u32(u32::from(flags.bits()));
+    text.push(b';');
+    text.push_u8(mode.number());
+    text.push(b'u');
+}
+
+/// Writes the parameters and the final character, without `ESC [`.
+impl fmt::Display for Keyboard {
+    ghost output = { λ k. Some (written_text (written_keyboard k)) };
+
+    fn fmt<W: fmt::Write>(&self, f: &mut fmt::Formatter<W>) -> fmt::Result {
+        let mut text = Text::new();
+        self.write_to(&mut text);
+        f.write_str(text.as_str())
+    }
+}

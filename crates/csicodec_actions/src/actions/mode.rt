@@ -1,0 +1,245 @@
+//! Modes: what is set, reset, saved, restored or asked for.
+ghost use Rattle.std.specs.Prelude.{◌≤◌, ◌++◌, [], ◌∷◌, IsAscii, length, ◌≡◌, ◌↔◌, ◌<◌, Some, pos};
+ghost use Rattle.csicodec_actions.specs.Table.Mode.{written_mode};
+ghost use Rattle.csicodec_actions.specs.Written.{Byte, The, shown, written_text};
+ghost use Rattle.csicodec_actions.specs.Modes.{changed, dec_number, resource_number, switched, terminal_number};
+ghost use Rattle.csicodec_actions.specs.Kinds.{read, Dec, Terminal};
+ghost use Rattle.csicodec_actions.specs.declared.actions.mode.XtermKeyModifierResource.{XtermKeyModifierResource};
+
+use csicodec_base::{DecPrivateModeCode, TerminalModeCode, Text};
+use std::fmt;
+
+/// A private mode.
+#[derive(Clone, Copy, Debug, PartialEq, Eq)]
+pub enum DecPrivateMode {
+    /// One that has a name.
+    Code(DecPrivateModeCode),
+    /// Any other number from 0 to 65535. The number of a mode that has a name is read back as its `Code`.
+    Unspecified(u16),
+}
+
+impl DecPrivateMode {
+    /// The mode of a number from 0 to 65535, and none for another one.
+    pub fn at(number: i64) -> Option<DecPrivateMode>
+        ensures { result ≡ read Dec number }
+    {
+        match DecPrivateModeCode::from_i64(number) {
+            Some(code) => Some(DecPrivateMode::Code(code)),
+            None => Some(DecPrivateMode::Unspecified(u16::try_from(number).ok()?)),
+        }
+    }
+
+    /// The number of this mode.
+    pub fn number(&self) -> u32
+        ensures { result ≡ dec_number self.now }
+    {
+        match self {
+            DecPrivateMode::Code(code) => code.to_i64() as u32,
+            DecPrivateMode::Unspecified(number) => u32::from(*number),
+        }
+    }
+}
+
+/// A mode of the standard, or of a terminal that took a number beside it.
+#[derive(Clone, Copy, Debug, PartialEq, Eq)]
+pub enum TerminalMode {
+    /// One that has a name.
+    Code(TerminalModeCode),
+    /// Any other number from 0 to 65535. The number of a mode that has a name is read back as its `Code`.
+    Unspecified(u16),
+}
+
+impl TerminalMode {
+    /// The mode of a number from 0 to 65535, and none for another one.
+    pub fn at(number: i64) -> Option<TerminalMode>
+        ensures { result ≡ read Terminal number }
+    {
+        match TerminalModeCode::from_i64(number) {
+            Some(code) => Some(TerminalMode::Code(code)),
+            None => Some(TerminalMode::Unspecified(u16::try_from(number).ok()?)),
+        }
+    }
+
+    /// The number of this mode.
+    pub fn number(&self) -> u32
+        ensures { result ≡ terminal_number self.now }
+    {
+        match self {
+            TerminalMode::Code(code) => code.to_i64() as u32,
+            TerminalMode::Unspecified(number) => u32::from(*number),
+        }
+    }
+}
+
+/// Which keys `XtermKeyMode` is about (xterm, XTMODKEYS).
+#[derive(Clone, Copy, Debug, PartialEq, Eq)]
+pub enum XtermKeyModifierResource {
+    /// `modifyKeyboard`, number 0.
+    Keyboard,
+    /// `modifyCursorKeys`, number 1.
+    CursorKeys,
+    /// `modifyFunctionKeys`, number 2.
+    FunctionKeys,
+    /// `modifyOtherKeys`, number 4.
+    OtherKeys,
+}
+
+impl XtermKeyModifierResource {
+    /// The resource that has this number: 0, 1, 2 or 4. None has another one.
+    pub fn parse(value: i64) -> Option<Self>
+        ensures { (resource : XtermKeyModifierResource) → (result ≡ Some resource) ↔ (value ≡ pos (resource_number resource)) }
+    {
+        match value {
+            0 => Some(XtermKeyModifierResource::Keyboard),
+            1 => Some(XtermKeyModifierResource::CursorKeys),
+            2 => Some(XtermKeyModifierResource::FunctionKeys),
+            4 => Some(XtermKeyModifierResource::OtherKeys),
+            _ => None,
+        }
+    }
+
+    /// The number of this resource.
+    pub fn number(&self) -> u8
+        ensures value { result ≡ resource_number self.now }
+        ensures short { result < 10 }
+    {
+        match self {
+            XtermKeyModifierResource::Keyboard => 0,
+            XtermKeyModifierResource::CursorKeys => 1,
+            XtermKeyModifierResource::FunctionKeys => 2,
+            XtermKeyModifierResource::OtherKeys => 4,
+        }
+    }
+}
+
+/// What a sequence does with one mode of the terminal, and what xterm sends for a key with modifiers.
+#[derive(Clone, Copy, Debug, PartialEq, Eq)]
+pub enum Mode {
+    /// DECSET (DEC VT510, xterm): the private mode is set.
+    SetDecPrivateMode(DecPrivateMode),
+    /// DECRST (DEC VT510, xterm): the private mode is reset.
+    ResetDecPrivateMode(DecPrivateMode),
+    /// XTSAVE (xterm): whether the private mode is set is kept aside.
+    SaveDecPrivateMode(DecPrivateMode),
+    /// XTRESTORE (xterm): the private mode becomes what was kept aside.
+    RestoreDecPrivateMode(DecPrivateMode),
+    /// DECRQM (DEC VT510): asks whether the private mode is set.
+    QueryDecPrivateMode(DecPrivateMode),
+    /// SM (ECMA-48, 8.3.125): the mode is set.
+    SetMode(TerminalMode),
+    /// RM (ECMA-48, 8.3.106): the mode is reset.
+    ResetMode(TerminalMode),
+    /// DECRQM (DEC VT510): asks whether the mode is set.
+    QueryMode(TerminalMode),
+    /// XTMODKEYS (xterm): how modifiers are told with these keys.
+    XtermKeyMode {
+        /// The keys.
+        resource: XtermKeyModifierResource,
+        /// The new value, 0 or more where it was read from bytes; none sets the initial one.
+        value: Option<i64>,
+    },
+}
+
+/// What `h` and `l` do to a mode.
+#[derive(Clone, Copy, Debug, PartialEq, Eq)]
+pub enum Switch {
+    Set,
+    Reset,
+}
+
+impl Switch {
+    /// This done to a mode.
+    pub fn of(self, mode: TerminalMode) -> Mode
+        ensures { result ≡ switched self mode }
+    {
+        match self {
+            Switch::Set => Mode::SetMode(mode),
+            Switch::Reset => Mode::ResetMode(mode),
+        }
+    }
+}
+
+/// What `h`, `l`, `s` and `r` do to a private mode.
+#[derive(Clone, Copy, Debug, PartialEq, Eq)]
+pub enum Change {
+    Set,
+    Reset,
+    Save,
+    Restore,
+}
+
+impl Change {
+    /// This done to a private mode.
+    pub fn of(self, mode: DecPrivateMode) -> Mode
+        ensures { result ≡ changed self mode }
+    {
+        match self {
+            Change::Set => Mode::SetDecPrivateMode(mode),
+            Change::Reset => Mode::ResetDecPrivateMode(mode),
+            Change::Save => Mode::SaveDecPrivateMode(mode),
+            Change::Restore => Mode::RestoreDecPrivateMode(mode),
+        }
+    }
+}
+
+impl Mode {
+    /// Appends the parameters and the final byte: 24 bytes at most.
+    pub fn write_to(&self, text: &mut Text)
+        requires room { length text.old ≤ 7 }
+        ensures { text.new ≡ text.old ++ written_text (written_mode self.now) }
+    {
+        match self {
+            Mode::SetDecPrivateMode(mode) => write_dec(text, mode, "h"),
+            Mode::ResetDecPrivateMode(mode) => write_dec(text, mode, "l"),
+            Mode::SaveDecPrivateMode(mode) => write_dec(text, mode, "s"),
+            Mode::RestoreDecPrivateMode(mode) => write_dec(text, mode, "r"),
+            Mode::QueryDecPrivateMode(mode) => write_dec(text, mode, "$p"),
+            Mode::SetMode(mode) => write_terminal(text, mode, "h"),
+            Mode::ResetMode(mode) => write_terminal(text, mode, "l"),
+            Mode::QueryMode(mode) => write_terminal(text, mode, "$p"),
+            Mode::XtermKeyMode { resource, value } => {
+                text.push(b'>');
+                text.push_u8(resource.number());
+                text.push(b';');
+                if let Some(value) = value {
+                    text.push_i64(*value);
+                }
+                text.push(b'm');
+            }
+        }
+    }
+}
+
+/// A `?`, the number of a mode, and this end.
+fn write_dec(text: &mut Text, mode: &DecPrivateMode, end: &str)
+    requires room { length text.old ≤ 8 }
+    requires short { length end.now ≤ 2 }
+    requires ascii { IsAscii end.now }
+    ensures { text.new ≡ text.old ++ shown (Byte 63 ∷ The Dec mode.now ∷ []) end.now }
+{
+    text.push(b'?');
+    text.push_u32(mode.number());
+    text.push_str(end);
+}
+
+/// The number of a mode, and this end.
+fn write_terminal(text: &mut Text, mode: &TerminalMode, end: &str)
+    requires room { length text.old ≤ 8 }
+    requires short { length end.now ≤ 2 }
+    requires ascii { IsAscii end.now }
+    ensures { text.new ≡ text.old ++ shown (The Terminal mode.now ∷ []) end.now }
+{
+    text.push_u32(mode.number());
+    text.push_str(end);
+}
+
+/// Writes the parameters and the final character, without `ESC [`.
+impl fmt::Display for Mode {
+    ghost output = { λ m. Some (written_text (written_mode m)) };
+
+    fn fmt<W: fmt::Write>(&self, f: &mut fmt::Formatter<W>) -> fmt::Result {
+        let mut text = Text::new();
+        self.write_to(&mut text);
+        f.write_str(text.as_str())
+    }
+}

@@ -1,0 +1,9 @@
+//! Laws of the table. Each is the contract of a function that does nothing.
+ghost use Rattle.csicodec_actions.specs.Whole.{RowsDecide};
+
+use csicodec_base::CsiParam;
+
+/// What any row of a final gives is the action of the list: no two rows read one list.
+pub fn rows(params: &[CsiParam], control: char)
+    ensures { RowsDecide params.now control }
+{}

@@ -50,39 +50,7 @@ tracks = record { each = λ r. elim r as (λ x. with_number path_number paths (p
 pub keys : Coded resource_number resources
 keys = record { each = λ r. elim r as (λ x. with_number resource_number resources (pos (resource_number x)) ≡ Some x) [ resource.Keyboard ↦ refl | _ ↦ refl ] }
 
--- ---- how the code finds them
-
-pub style-found : (z : ℤ) → SFits w64 z → (o : Option _) → ((x : _) → (o ≡ Some x) ↔ (to_z w64 (of_z w64 z) ≡ pos (cursor_style_number x))) → o ≡ read Style z
-unfolding read
-style-found z fits o h = found-of _ _ styles z fits o h
-
-pub control-found : (z : ℤ) → SFits w64 z → (o : Option _) → ((x : _) → (o ≡ Some x) ↔ (to_z w64 (of_z w64 z) ≡ pos (tabulation_control_number x))) → o ≡ read Control z
-unfolding read
-control-found z fits o h = found-of _ _ controls z fits o h
-
-pub clear-found : (z : ℤ) → SFits w64 z → (o : Option _) → ((x : _) → (o ≡ Some x) ↔ (to_z w64 (of_z w64 z) ≡ pos (tabulation_clear_number x))) → o ≡ read Clear z
-unfolding read
-clear-found z fits o h = found-of _ _ clears z fits o h
-
-pub display-found : (z : ℤ) → SFits w64 z → (o : Option _) → ((x : _) → (o ≡ Some x) ↔ (to_z w64 (of_z w64 z) ≡ pos (erase_in_display_number x))) → o ≡ read InDisplay z
-unfolding read
-display-found z fits o h = found-of _ _ displays z fits o h
-
-pub line-found : (z : ℤ) → SFits w64 z → (o : Option _) → ((x : _) → (o ≡ Some x) ↔ (to_z w64 (of_z w64 z) ≡ pos (erase_in_line_number x))) → o ≡ read InLine z
-unfolding read
-line-found z fits o h = found-of _ _ lines z fits o h
-
-pub way-found : (z : ℤ) → SFits w64 z → (o : Option _) → ((x : _) → (o ≡ Some x) ↔ (to_z w64 (of_z w64 z) ≡ pos (kitty_mode_number x))) → o ≡ read Way z
-unfolding read
-way-found z fits o h = found-of _ _ ways z fits o h
-
-pub path-found : (z : ℤ) → SFits w64 z → (o : Option _) → ((x : _) → (o ≡ Some x) ↔ (to_z w64 (of_z w64 z) ≡ pos (path_number x))) → o ≡ read Path z
-unfolding read
-path-found z fits o h = found-of _ _ tracks z fits o h
-
-pub resource-found : (z : ℤ) → SFits w64 z → (o : Option _) → ((x : _) → (o ≡ Some x) ↔ (to_z w64 (of_z w64 z) ≡ pos (resource_number x))) → o ≡ read Resource z
-unfolding read
-resource-found z fits o h = found-of _ _ keys z fits o h
+-- ---- how the code finds the others
 
 -- a mode: the code that was found, or the number itself
 short-found : {E : Type 0} (z : ℤ) (r : Result ℕ E) → OkIff r (FitsUnsignedBits 16 z) (nat_abs z) → result_ok r ≡ short z

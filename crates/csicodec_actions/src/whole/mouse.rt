@@ -1,5 +1,6 @@
 //! The rows of the mouse.
-ghost use Rattle.std.specs.Prelude.{◌≡◌, pos};
+ghost use Rattle.std.specs.Prelude.{◌≡◌, ◌/◌, pos};
+ghost use Rattle.std.specs.Int.RustNames.{bit_and};
 ghost use Rattle.std.specs.Option.{option_map};
 ghost use Rattle.csicodec_actions.specs.Actions.{Mouse as Reports};
 ghost use Rattle.csicodec_actions.specs.Kinds.{Pressed, Released, Word, read};
@@ -13,20 +14,10 @@ use csicodec_base::CsiParam::{self, Integer, P};
 use csicodec_base::Modifiers;
 
 /// The report before this final character, if a row reads the list.
+#[tactic(auto, unfolding(crate::specs::Table::Mouse::as_mouse))]
 pub fn mouse_action(params: &[CsiParam], control: char) -> Option<MouseReport>
     ensures { option_map (λ m. Reports m) result ≡ as_mouse params.now control }
 {
-    match control {
-        'M' => pressed(params),
-        'm' => released(params),
-        _ => None,
-    }
-}
-
-#[tactic(auto, unfolding(crate::specs::Table::Mouse::as_mouse))]
-fn pressed(params: &[CsiParam]) -> Option<MouseReport>
-    ensures { option_map (λ m. Reports m) result ≡ as_mouse params.now 77 }
-{
     match params {
         [
             P(b'<'),
@@ -36,33 +27,11 @@ fn pressed(params: &[CsiParam]) -> Option<MouseReport>
             P(b';'),
             Integer(y),
         ] => {
-            let (button, modifiers) = press(*code)?;
-            let (x, y) = (word_at(*x)?, word_at(*y)?);
-            Some(MouseReport::SGR1006 {
-                x,
-                y,
-                button,
-                modifiers,
-            })
-        }
-        _ => None,
-    }
-}
-
-#[tactic(auto, unfolding(crate::specs::Table::Mouse::as_mouse))]
-fn released(params: &[CsiParam]) -> Option<MouseReport>
-    ensures { option_map (λ m. Reports m) result ≡ as_mouse params.now 109 }
-{
-    match params {
-        [
-            P(b'<'),
-            Integer(code),
-            P(b';'),
-            Integer(x),
-            P(b';'),
-            Integer(y),
-        ] => {
-            let (button, modifiers) = release(*code)?;
+            let (button, modifiers) = match control {
+                'M' => press(*code)?,
+                'm' => release(*code)?,
+                _ => return None,
+            };
             let (x, y) = (word_at(*x)?, word_at(*y)?);
             Some(MouseReport::SGR1006 {
                 x,
@@ -124,13 +93,8 @@ fn button_released(bits: u64) -> Option<MouseButton>
 fn press(code: i64) -> Option<(MouseButton, Modifiers)>
     ensures { result ≡ read Pressed code }
 {
-    if code < 0 {
-        return None;
-    }
-    let bits = code as u64;
-    let button = button_pressed(bits & 99)?;
-    let held = (bits & 28) / 2;
-    Some((button, held_keys(held as u16)))
+    let bits = u64::try_from(code).ok()?;
+    Some((button_pressed(bits & 99)?, held(bits)))
 }
 
 /// What a code before `m` says.
@@ -138,17 +102,14 @@ fn press(code: i64) -> Option<(MouseButton, Modifiers)>
 fn release(code: i64) -> Option<(MouseButton, Modifiers)>
     ensures { result ≡ read Released code }
 {
-    if code < 0 {
-        return None;
-    }
-    let bits = code as u64;
-    let button = button_released(bits & 99)?;
-    let held = (bits & 28) / 2;
-    Some((button, held_keys(held as u16)))
+    let bits = u64::try_from(code).ok()?;
+    Some((button_released(bits & 99)?, held(bits)))
 }
 
-fn held_keys(bits: u16) -> Modifiers
-    ensures { result ≡ record { bits = bits } }
+/// The modifiers of a code.
+fn held(bits: u64) -> Modifiers
+    ensures { result ≡ record { bits = bit_and bits 28 / 2 } }
 {
-    Modifiers::from_bits_retain(bits)
+    let bits = (bits & 28) / 2;
+    Modifiers::from_bits_retain(bits as u16)
 }

@@ -1,5 +1,8 @@
-use Rattle.csicodec_actions.proofs.Values.{resource-found}
+use Rattle.csicodec_names.proofs.Coded.{found-of}
+use Rattle.csicodec_actions.proofs.Values.{keys}
+use Rattle.csicodec_actions.specs.Kinds.{read}
 use Rattle.csicodec_actions.proofs.whole.mode.resource_at.Goals as goal
 
 pub returns : goal.returns
-returns c = resource-found c.args.number c.ranges.number c.parse.result c.parse.ensures
+unfolding read
+returns c = found-of _ _ keys c.args.number c.ranges.number c.parse.result c.parse.ensures

@@ -1,6 +1,7 @@
 //! One module a subject.
 
 mod bytes;
+mod canonical;
 mod escapes;
 mod filter;
 mod lists;

@@ -1,7 +1,7 @@
 //! Streams that a filter rewrites.
 ghost use Rattle.std.specs.Prelude.{◌≡◌, ◌<◌, List};
-ghost use Rattle.csicodec_actions.specs.Actions.{Action};
-ghost use Rattle.csicodec_actions.specs.Texts.{texts};
+ghost use Rattle.csicodec.specs.Actions.{Action};
+ghost use Rattle.csicodec.specs.Texts.{texts};
 
 use crate::tests::streams::{Taking, Writer};
 use csicodec::{

@@ -17,6 +17,7 @@ pub mod Steps
 pub mod Stream
 pub mod Streams
 pub mod Suffix
+pub mod Words
 pub use Rattle.csicodec_tokens.specs.Digits
 pub use Rattle.csicodec_names.specs.EnumNumbers
 pub use Rattle.csicodec_names.specs.Esc

@@ -16,6 +16,7 @@ mod sink;
 mod stream;
 mod tokens;
 mod whole;
+mod words;
 
 pub use actions::{CSI, Unspecified};
 pub use count::Count;

@@ -6,3 +6,4 @@ pub mod Fault
 pub mod Reading
 pub mod Fields
 pub mod FieldsBy
+pub mod Words

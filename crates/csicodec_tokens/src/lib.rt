@@ -7,6 +7,7 @@ mod param;
 mod reader;
 mod refusal;
 mod text;
+mod words;
 
 pub use fields::Cracked;
 pub use param::{CsiParam, OneBased};

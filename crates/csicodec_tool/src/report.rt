@@ -1,7 +1,6 @@
 //! What the program tells of a run that failed.
 ghost use Rattle.std.specs.Prelude.{◌≡◌, Some};
-ghost use Rattle.csicodec_tool.specs.Report.{line, refusal_line, refusal_status, status};
-ghost use Rattle.std.specs.Fmt.{DisplaysOnOk};
+ghost use Rattle.csicodec_tool.specs.Report.{line, refusal_status, status};
 
 use csicodec::{DecodeError, ReadError, RunError};
 use std::fmt;
@@ -21,7 +20,7 @@ impl From<RunError> for Report {
 }
 
 impl Report {
-    /// 1 for input that is refused, 2 for a read or a write that failed, 3 for want of memory.
+    /// 1 for input that is refused, 2 for a read or a write that failed, 3 where memory ran out.
     pub fn status(&self) -> u8
         ensures { result ≡ status self.now.error }
     {
@@ -38,14 +37,8 @@ impl fmt::Display for Report {
     ghost output = { λ report. Some (line report.error) };
 
     fn fmt<W: fmt::Write>(&self, f: &mut fmt::Formatter<W>) -> fmt::Result {
-        match self.error {
-            RunError::Read => f.write_str("csicodec: read fault"),
-            RunError::Write => f.write_str("csicodec: write fault"),
-            RunError::Memory | RunError::Decode(DecodeError::Memory) => {
-                f.write_str("csicodec: no memory")
-            }
-            RunError::Decode(DecodeError::Read { start, error }) => fmt_refusal(f, start, error),
-        }
+        let error = self.error;
+        write!(f, "csicodec: {error}")
     }
 }
 
@@ -59,25 +52,6 @@ fn refusal_status(error: ReadError) -> u8
         | ReadError::Truncated { .. } => 1,
         ReadError::Memory => 3,
     }
-}
-
-/// The place and the fault of a refused sequence; their sum may pass 64 bits.
-fn fmt_refusal<W: fmt::Write>(
-    f: &mut fmt::Formatter<W>,
-    start: usize,
-    error: ReadError,
-) -> fmt::Result
-    ensures { DisplaysOnOk W.write_str_gives f.old result (Some (refusal_line start error)) f.new }
-{
-    let (at, text) = match error {
-        ReadError::NotCsi { at } => (at, "not a sequence"),
-        ReadError::BadByte { at } => (at, "bad byte"),
-        ReadError::NumberTooLarge { at } => (at, "number too large"),
-        ReadError::Truncated { at } => (at, "truncated"),
-        ReadError::Memory => return f.write_str("csicodec: no memory"),
-    };
-    let byte = start as u128 + at as u128;
-    write!(f, "csicodec: byte {byte}: {text}")
 }
 
 #[cfg(test)]

@@ -25,8 +25,10 @@ use Rattle.csicodec_actions.specs.Modes.{changed, switched}
 use Rattle.csicodec_actions.specs.Ranges.{InRange}
 use Rattle.csicodec_actions.specs.Special.{IsSpecial}
 use Rattle.csicodec_actions.specs.Whole.{table, whole}
+use Rattle.csicodec_actions.specs.Table.Window.{window_fields}
+use Rattle.csicodec_actions.proofs.AllFieldRows.{FieldRowsKeep}
 use Rattle.csicodec_actions.proofs.AllRows.{TableKeeps, spellable-tokens, whole-keeps}
-use Rattle.csicodec_actions.proofs.Values.{dec-read, terminal-read, good-read, one-fits, most-fits}
+use Rattle.csicodec_actions.proofs.Values.{dec-read, terminal-read, good-read, one-fits, most-fits, zero-said}
 
 -- each action that parsing makes is in range, and canonical or special
 pub record Kept (flag : Bool) (a : Action) : Type 0 where
@@ -66,9 +68,12 @@ release-kept flag v x y h fx fy = elim (cases_Bool (is_release v.0)) [
 table-kept : (flag : Bool) → TableKeeps Good (Kept flag) table
 table-kept flag = search (rules, rows-kept, columns-kept, press-kept, release-kept, one-fits, most-fits) depth 60
 
+fields-kept : (flag : Bool) → FieldRowsKeep Good (Kept flag) window_fields
+fields-kept flag = search (rules, one-fits, zero-said) depth 60
+
 pub whole-kept : (flag : Bool) (list : List CsiParam) (final : ℕ) (a : Action) → Spellable list → whole list final ≡ Some a → Kept flag a
 whole-kept flag list final a ok e =
-    whole-keeps IsSpellable Good (Kept flag) (λ k z v fits found. good-read k z v fits found) (table-kept flag) list final a (spellable-tokens list ok) e
+    whole-keeps IsSpellable Good (Kept flag) (λ k z v fits found. good-read k z v fits found) (table-kept flag) (fields-kept flag) list final a (spellable-tokens list ok) e
 
 -- ---- pieces
 

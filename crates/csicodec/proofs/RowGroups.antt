@@ -1,16 +1,19 @@
 -- The group of what the rows read: lists that are read whole.
-use Rattle.std.proofs.Common.{◌≡◌, ℕ, List, [], ◌∷◌, None, Some, sym, ◌∙◌, rules}
-use Rattle.std.specs.Prelude.{ℤ, true}
-use Rattle.std.proofs.lemmas.Bool.{and_parts, eqb-true}
+use Rattle.std.proofs.Common.{◌≡◌, ℕ, List, [], ◌∷◌, None, Some, sym, ◌∙◌, inl, inr, rules}
+use Rattle.std.specs.Prelude.{ℤ, ◌==◌, false, true, Option, slice_get}
+use Rattle.std.proofs.lemmas.Bool.{cases_Bool, and_parts, eqb-true}
 use Rattle.csicodec_tokens.specs.declared.param.CsiParam.{CsiParam}
 use Rattle.csicodec_tokens.specs.declared.param.CsiParam.TheVariants.{Integer, P}
 use Rattle.csicodec_actions.specs.Actions.{Action}
-use Rattle.csicodec_actions.specs.Rows.{Slot, Byte, Number, One, fits, has_shape}
+use Rattle.csicodec_actions.specs.Rows.{Slot, Byte, Number, One, fits, has_shape, read_by}
+use Rattle.csicodec_actions.specs.FieldRows.{read_fields}
+use Rattle.csicodec_actions.specs.Table.Window.{window_fields}
 use Rattle.csicodec_actions.specs.Whole.{table, whole}
+use Rattle.csicodec_actions.proofs.AllFieldRows.{over-in}
 use Rattle.csicodec_actions.proofs.AllRows.{AllRows, row-in, whole-table}
-use Rattle.csicodec_actions.proofs.Found.{guarded}
+use Rattle.csicodec_actions.proofs.Found.{guarded, one-of}
 use Rattle.csicodec.specs.declared.group.Group.TheVariants as groups
-use Rattle.csicodec.specs.Groups.{group_by, group}
+use Rattle.csicodec.specs.Groups.{group_by, group, is_byte, dec_group, plain_group}
 
 -- lists of this shape, before this final, are read whole
 abbrev ReadWhole : ℕ → List Slot → Type 0
@@ -36,7 +39,27 @@ shape-group final (s ∷ shape) (t ∷ ts) w e = slot-group final s shape t ts w
 rows-whole : AllRows (λ final row. ReadWhole final row.shape) table
 rows-whole = search rules depth 60
 
+-- ---- over fields
+
+-- whatever stands first, lists before this final are read whole
+record IsWholeFinal (final : ℕ) : Type 0 where
+  other : (final == 109) ≡ false
+  dec : dec_group final ≡ groups.Whole
+  plain : plain_group final ≡ groups.Whole
+
+any-whole : (final : ℕ) (first : Option CsiParam) → IsWholeFinal final → group_by first final ≡ groups.Whole
+any-whole final first is = elim (cases_Bool (is_byte 63 first)) [ inl here ↦ rw (is.other, here) is.dec | inr none ↦ rw (is.other, none) is.plain ]
+
+fields-whole : (list : List CsiParam) (final : ℕ) (a : Action) → read_fields window_fields list final ≡ Some a → group list final ≡ groups.Whole
+fields-whole list final a e = let o = over-in (λ o row. IsWholeFinal o.final) window_fields list final a (search rules depth 60) e in rw o.here (any-whole o.entry.final (slice_get list 0) (o.found.holds))
+
+-- ---- all rows
+
 -- what a row reads is no list of pieces
 pub whole-group : (list : List CsiParam) (final : ℕ) (a : Action) → whole list final ≡ Some a → group list final ≡ groups.Whole
-whole-group list final a e =
-    let r = row-in (λ final row. ReadWhole final row.shape) table list final a rows-whole (sym (whole-table list final) ∙ e) in shape-group final r.row.shape list r.holds (guarded (has_shape r.row.shape list) _ a r.gave).0
+whole-group list final a e = elim (one-of (read_by table list final) (read_fields window_fields list final) a (sym (whole-table list final) ∙ e)) [
+  | inl row ↦
+      let r = row-in (λ final row. ReadWhole final row.shape) table list final a rows-whole row in
+      shape-group final r.row.shape list r.holds (guarded (has_shape r.row.shape list) _ a r.gave).0
+  | inr fields ↦ fields-whole list final a fields
+]

@@ -18,6 +18,8 @@ use Rattle.csicodec_actions.specs.Modes.{changed, switched}
 use Rattle.csicodec.specs.Segments.{remainder, empty_action, BodyActions, CutActions, ActionsIn}
 use Rattle.csicodec.specs.Suffix.{IsSuffix, changes_private, EndsUnknown, SuffixLaw}
 use Rattle.csicodec_actions.specs.Whole.{table, Whole}
+use Rattle.csicodec_actions.specs.Table.Window.{window_fields}
+use Rattle.csicodec_actions.proofs.AllFieldRows.{FieldRowsKeep}
 use Rattle.csicodec_actions.proofs.AllRows.{TableKeeps, no-tokens, whole-keeps}
 use Rattle.csicodec.proofs.GroupOf.{marked-body}
 
@@ -77,8 +79,11 @@ IsKnown a = Unit {0}
 rows-known : TableKeeps (λ k v. Unit {0}) IsKnown table
 rows-known = search rules depth 60
 
+field-rows-known : FieldRowsKeep (λ k v. Unit {0}) IsKnown window_fields
+field-rows-known = search rules depth 60
+
 whole-ends : (list : List CsiParam) (flag : Bool) (final : ℕ) (a : Action) → Whole list final a → EndsUnknown false list flag final (a ∷ [])
-whole-ends list flag final a w = go a (whole-keeps (λ t. Unit {0}) (λ k v. Unit {0}) IsKnown (λ k z v h e. tt) rows-known list final a (no-tokens list) w)
+whole-ends list flag final a w = go a (whole-keeps (λ t. Unit {0}) (λ k v. Unit {0}) IsKnown (λ k z v h e. tt) rows-known field-rows-known list final a (no-tokens list) w)
   where
     go : (x : Action) → IsKnown x → EndsUnknown false list flag final (x ∷ [])
     go (Unspecified params own control) known = absurd known

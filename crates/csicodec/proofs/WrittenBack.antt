@@ -8,6 +8,7 @@ use Rattle.csicodec_actions.specs.Table.Edit.{written_edit}
 use Rattle.csicodec_actions.specs.Table.Keyboard.{written_keyboard}
 use Rattle.csicodec_actions.specs.Table.Mouse.{written_mouse}
 use Rattle.csicodec_actions.specs.Table.Path.{written_path}
+use Rattle.csicodec_actions.specs.Table.Window.{written_window}
 use Rattle.csicodec_actions.specs.Texts.{written}
 use Rattle.csicodec_actions.proofs.Back.Cursor.{cursor-read}
 use Rattle.csicodec_actions.proofs.Back.Device.{device-read}
@@ -15,6 +16,7 @@ use Rattle.csicodec_actions.proofs.Back.Edit.{edit-read}
 use Rattle.csicodec_actions.proofs.Back.Keyboard.{keyboard-read}
 use Rattle.csicodec_actions.proofs.Back.Mouse.{mouse-read}
 use Rattle.csicodec_actions.proofs.Back.Path.{path-read}
+use Rattle.csicodec_actions.proofs.Back.Window.{window-read}
 use Rattle.csicodec.specs.Canonical.{IsCanonicalWritten}
 use Rattle.csicodec.proofs.Modes.{mode-spelling}
 use Rattle.csicodec.proofs.Spelling.{Spelling, written-spelling}
@@ -26,6 +28,7 @@ written-back flag (actions.Edit e) ok = written-spelling flag (actions.Edit e) (
 written-back flag (actions.Mode m) ok = mode-spelling flag m ok.0
 written-back flag (actions.Mouse m) ok = written-spelling flag (actions.Mouse m) (written_mouse m) refl ok.0 (mouse-read m ok.0)
 written-back flag (actions.Device d) ok = written-spelling flag (actions.Device d) (written_device d) refl ok.0 (device-read d ok.0)
+written-back flag (actions.Window w) ok = written-spelling flag (actions.Window w) (written_window w) refl ok.0 (window-read w ok.0)
 written-back flag (actions.Keyboard k) ok = written-spelling flag (actions.Keyboard k) (written_keyboard k) refl ok.0 (keyboard-read k ok.0)
 written-back flag (actions.SelectCharacterPath p z) ok = written-spelling flag (actions.SelectCharacterPath p z) (written_path p z) refl ok.0 (path-read p z ok.0)
 written-back flag (actions.Unspecified params own final) ok = absurd ok

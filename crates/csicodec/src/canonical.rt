@@ -12,7 +12,7 @@ use crate::list::{group_of, is_odd};
 use crate::whole::{boxed_action, plain_action};
 use csicodec_actions::canonical::{
     is_canonical_cursor, is_canonical_edit, is_canonical_keyboard, is_canonical_mode,
-    is_canonical_mouse, is_said, is_special,
+    is_canonical_mouse, is_canonical_window, is_said, is_special,
 };
 use csicodec_base::{CsiParam, Font, Sgr};
 use std::alloc::{AllocError, Global};
@@ -144,6 +144,7 @@ impl CSI {
             CSI::Edit(edit) => Ok(is_canonical_edit(edit)),
             CSI::Mode(mode) => Ok(is_canonical_mode(mode)),
             CSI::Device(_) => Ok(true),
+            CSI::Window(window) => Ok(is_canonical_window(window)),
             CSI::Keyboard(keyboard) => Ok(is_canonical_keyboard(keyboard)),
             CSI::SelectCharacterPath(_, effect) => Ok(is_said(*effect)),
             CSI::Mouse(report) => Ok(is_canonical_mouse(report)),

@@ -22,7 +22,7 @@ pub use actions::{CSI, Unspecified};
 pub use count::Count;
 pub use csicodec_actions::{
     CharacterPath, Cursor, DecPrivateMode, Device, Edit, Keyboard, KittyKeyboardMode, Mode,
-    MouseButton, MouseReport, TerminalMode, XtermKeyModifierResource,
+    MouseButton, MouseReport, TerminalMode, Window, XtermKeyModifierResource,
 };
 pub use csicodec_base::{
     AnsiColor, Blink, ColorSpec, Cracked, CsiParam, CsiTail, CursorStyle, CursorTabulationControl,

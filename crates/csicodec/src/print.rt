@@ -31,6 +31,7 @@ impl fmt::Display for CSI {
             CSI::Mode(mode) => write!(f, "\x1b[{mode}"),
             CSI::Mouse(mouse) => write!(f, "\x1b[{mouse}"),
             CSI::Device(device) => write!(f, "\x1b[{device}"),
+            CSI::Window(window) => write!(f, "\x1b[{window}"),
             CSI::Keyboard(keyboard) => write!(f, "\x1b[{keyboard}"),
             CSI::SelectCharacterPath(path, effect) => {
                 let mut text = Text::new();

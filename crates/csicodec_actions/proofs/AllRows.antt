@@ -9,6 +9,7 @@ use Rattle.csicodec_tokens.specs.declared.param.CsiParam.{CsiParam}
 use Rattle.csicodec_tokens.specs.declared.param.CsiParam.TheVariants.{Integer, P}
 use Rattle.csicodec_tokens.specs.Sequence.{IsSpellable, Spellable}
 use Rattle.csicodec_actions.specs.Actions.{Action}
+use Rattle.csicodec_actions.specs.FieldRows.{read_fields}
 use Rattle.csicodec_actions.specs.Kinds.{Kind, Value, read}
 use Rattle.csicodec_actions.specs.Rows.{Slot, Byte, Number, One, Makes, fits, has_shape, made, gives, Row, given, Before, rows_before, read_by}
 use Rattle.csicodec_actions.specs.Table.Cursor.{as_cursor}
@@ -18,14 +19,12 @@ use Rattle.csicodec_actions.specs.Table.Keyboard.{as_keyboard}
 use Rattle.csicodec_actions.specs.Table.Mode.{as_mode}
 use Rattle.csicodec_actions.specs.Table.Mouse.{as_mouse}
 use Rattle.csicodec_actions.specs.Table.Path.{as_path}
+use Rattle.csicodec_actions.specs.Table.Window.{window_fields, as_window}
 use Rattle.csicodec_actions.specs.Whole.{table, plain, boxed, whole}
-use Rattle.csicodec_actions.proofs.Found.{guarded}
+use Rattle.csicodec_actions.proofs.AllFieldRows.{FieldRowsKeep, fields-keep, option_or-assoc}
+use Rattle.csicodec_actions.proofs.Found.{guarded, one-of}
 
 -- ---- several tables as one
-
-option_or-assoc : {R : Type 0} (a b c : Option R) → option_or (option_or a b) c ≡ option_or a (option_or b c)
-option_or-assoc None b c = refl
-option_or-assoc (Some x) b c = refl
 
 pub given-append : {R : Type 0} (xs ys : List (Row R)) (list : List CsiParam) → given (xs ++ ys) list ≡ option_or (given xs list) (given ys list)
 given-append [] ys list = refl
@@ -40,8 +39,8 @@ before-append (b ∷ others) ys final =
 read-append : {R : Type 0} (xs ys : List (Before R)) (list : List CsiParam) (final : ℕ) → read_by (xs ++ ys) list final ≡ option_or (read_by xs list final) (read_by ys list final)
 read-append xs ys list final = ap (λ rows. given rows list) (before-append xs ys final) ∙ given-append (rows_before xs final) (rows_before ys final) list
 
-pub whole-table : (list : List CsiParam) (final : ℕ) → whole list final ≡ read_by table list final
-unfolding whole plain boxed as_cursor as_edit as_mode as_mouse as_keyboard as_path as_device
+pub whole-table : (list : List CsiParam) (final : ℕ) → whole list final ≡ option_or (read_by table list final) (read_fields window_fields list final)
+unfolding whole plain boxed as_cursor as_edit as_mode as_mouse as_keyboard as_path as_device as_window
 whole-table list final = simp (option_or-assoc, read-append) refl
 
 -- ---- the row that gave an action
@@ -115,9 +114,12 @@ table-keeps T G Q reads rows keep list final a all e =
     let r = row-in (λ final row. Keeps G Q row.shape row.make) rows list final a keep e in
     made-keeps T G Q reads r.row.shape r.row.make list a r.holds all (guarded (has_shape r.row.shape list) _ a r.gave).1
 
-pub whole-keeps : (T : CsiParam → Type 0) (G : (k : Kind) → Value k → Type 0) (Q : Action → Type 0) → ReadsAs T G → TableKeeps G Q table → (list : List CsiParam) (final : ℕ) (a : Action) → AllByRecursion T list
-    → whole list final ≡ Some a → Q a
-whole-keeps T G Q reads keep list final a all e = table-keeps T G Q reads table keep list final a all (sym (whole-table list final) ∙ e)
+pub whole-keeps : (T : CsiParam → Type 0) (G : (k : Kind) → Value k → Type 0) (Q : Action → Type 0) → ReadsAs T G → TableKeeps G Q table → FieldRowsKeep G Q window_fields → (list : List CsiParam) (final : ℕ)
+    (a : Action) → AllByRecursion T list → whole list final ≡ Some a → Q a
+whole-keeps T G Q reads keep keep-fields list final a all e = elim (one-of (read_by table list final) (read_fields window_fields list final) a (sym (whole-table list final) ∙ e)) [
+  | inl row ↦ table-keeps T G Q reads table keep list final a all row
+  | inr fields ↦ fields-keep T G Q reads window_fields keep-fields list final a all fields
+]
 
 -- of any tokens
 pub no-tokens : (list : List CsiParam) → AllByRecursion (λ (t : CsiParam). Unit {0}) list

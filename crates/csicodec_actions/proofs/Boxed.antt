@@ -1,9 +1,14 @@
 -- Actions of lists that are read whole, made with memory and without.
-use Rattle.std.proofs.Common.{◌≡◌, ℕ, List, None, Some, refl, rules}
+use Rattle.std.proofs.Common.{◌≡◌, ℕ, List, None, Some, refl, rules, inl, inr}
 use Rattle.csicodec_tokens.specs.declared.param.CsiParam.{CsiParam}
 use Rattle.csicodec_actions.specs.Actions.{Action, TakesMemory}
 use Rattle.csicodec_actions.specs.Table.Device.{device_rows, as_device}
+use Rattle.csicodec_actions.specs.FieldRows.{read_fields}
+use Rattle.csicodec_actions.specs.Rows.{read_by}
+use Rattle.csicodec_actions.specs.Table.Window.{window_fields, as_window}
 use Rattle.csicodec_actions.specs.Whole.{plain, boxed, whole}
+use Rattle.csicodec_actions.proofs.AllFieldRows.{FieldRowsKeep, fields-keep}
+use Rattle.csicodec_actions.proofs.Found.{one-of}
 use Rattle.csicodec_actions.proofs.AllRows.{TableKeeps, table-keeps, no-tokens}
 
 pub plain_whole : (list : List CsiParam) (final : ℕ) (a : Action) → plain list final ≡ Some a → whole list final ≡ Some a
@@ -17,6 +22,12 @@ boxed_whole list final e = rw e refl
 rows-take : TableKeeps (λ k v. Unit {0}) TakesMemory device_rows
 rows-take = search rules depth 60
 
+field-rows-take : FieldRowsKeep (λ k v. Unit {0}) TakesMemory window_fields
+field-rows-take = search rules depth 60
+
 pub boxed-takes : (list : List CsiParam) (final : ℕ) (a : Action) → boxed list final ≡ Some a → TakesMemory a
-unfolding boxed as_device
-boxed-takes list final a e = table-keeps (λ t. Unit {0}) (λ k v. Unit {0}) TakesMemory (λ k z v h f. tt) device_rows rows-take list final a (no-tokens list) e
+unfolding boxed as_device as_window
+boxed-takes list final a e = elim (one-of (read_by device_rows list final) (read_fields window_fields list final) a e) [
+  | inl row ↦ table-keeps (λ t. Unit {0}) (λ k v. Unit {0}) TakesMemory (λ k z v h f. tt) device_rows rows-take list final a (no-tokens list) row
+  | inr fields ↦ fields-keep (λ t. Unit {0}) (λ k v. Unit {0}) TakesMemory (λ k z v h f. tt) window_fields field-rows-take list final a (no-tokens list) fields
+]

@@ -6,6 +6,7 @@ use Rattle.std.proofs.lemmas.Bool.{cases_Bool, and_parts, eqb-true}
 use Rattle.csicodec_tokens.specs.declared.param.CsiParam.{CsiParam}
 use Rattle.csicodec_tokens.specs.declared.param.CsiParam.TheVariants.{Integer, P}
 use Rattle.csicodec_actions.specs.Actions.{Action}
+use Rattle.csicodec_actions.specs.FieldRows.{read_fields}
 use Rattle.csicodec_actions.specs.Rows.{Slot, Byte, Number, One, Row, fits, has_shape, gives, given, Before, rows_before, read_by}
 use Rattle.csicodec_actions.specs.Table.Cursor.{cursor_rows, as_cursor}
 use Rattle.csicodec_actions.specs.Table.Device.{device_rows, as_device}
@@ -14,6 +15,7 @@ use Rattle.csicodec_actions.specs.Table.Keyboard.{keyboard_rows, as_keyboard}
 use Rattle.csicodec_actions.specs.Table.Mode.{mode_rows, as_mode}
 use Rattle.csicodec_actions.specs.Table.Mouse.{mouse_rows, as_mouse}
 use Rattle.csicodec_actions.specs.Table.Path.{path_rows, as_path}
+use Rattle.csicodec_actions.specs.Table.Window.{window_fields}
 use Rattle.csicodec_actions.specs.Whole.{table, whole, RowsDecide}
 use Rattle.csicodec_actions.proofs.AllRows.{before-append, given-append, whole-table}
 use Rattle.std.proofs.lemmas.Option.{same_Some, slice_get_read}
@@ -126,10 +128,13 @@ rows-apart all (b ∷ others) final d =
 table-apart : (final : ℕ) → all_apart (rows_before table final) ≡ true
 table-apart final = elim (rows-apart table table final is-apart) [ inl none ↦ rw none refl | inr apart ↦ apart ]
 
+row-whole : (list : List CsiParam) (final : ℕ) (a : Action) → read_by table list final ≡ Some a → whole list final ≡ Some a
+row-whole list final a e = whole-table list final ∙ ap (λ o. option_or o (read_fields window_fields list final)) e
+
 pub rows_lem : (list : List CsiParam) (final : ℕ) → RowsDecide list final
 rows_lem list final r a listed e =
-    whole-table list final
-    ∙ decides (rows_before table final) list listed.0 r a (table-apart final) (slice_get_read (rows_before table final) _ listed.0 r refl listed.1 (sym listed.2)) e
+    row-whole list final a
+    (decides (rows_before table final) list listed.0 r a (table-apart final) (slice_get_read (rows_before table final) _ listed.0 r refl listed.1 (sym listed.2)) e)
 
 -- ---- what one subject's rows give is the action
 
@@ -164,7 +169,7 @@ part-whole front part back list final a is e =
     given-append (rows_before part final) (rows_before back final) list ∙ ap (λ o. option_or o (given (rows_before back final) list)) e
     in
     let apart : all_apart (rows_before front final ++ (rows_before part final ++ rows_before back final)) ≡ true = rw rows at (table-apart final) in
-    whole-table list final ∙ ap (λ r. given r list) rows ∙ given-behind (rows_before front final) _ list a apart here
+    row-whole list final a (ap (λ r. given r list) rows ∙ given-behind (rows_before front final) _ list a apart here)
 
 pub cursor-whole : (list : List CsiParam) (final : ℕ) (a : Action) → as_cursor list final ≡ Some a → whole list final ≡ Some a
 unfolding as_cursor

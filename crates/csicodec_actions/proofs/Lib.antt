@@ -3,8 +3,11 @@ pub mod MouseCodes
 pub mod Values
 pub mod Made
 pub mod AllRows
+pub mod FieldsAt
+pub mod AllFieldRows
 pub mod Boxed
 pub mod Disjoint
+pub mod FieldsApart
 pub mod Items
 pub mod LeftOut
 pub mod Back

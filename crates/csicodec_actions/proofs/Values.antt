@@ -207,6 +207,9 @@ good-read Released z v ok e = report-read released z v released-found e
 said : (n : ℕ) → n ≤ largest → IsSaid (pos n)
 said n fits = record { above = omega (arith, ints); fits = omega (arith, ints) }
 
+pub zero-said : IsSaid (pos 0)
+zero-said = said 0 (omega arith)
+
 dec-said : (m : DecPrivateMode) → GoodDec m → IsSaid (pos (dec_number m))
 dec-said (dec.Code c) h = said (dec_mode_number c) (small dec_mode_number dec_codes decs largest (search (rules, arith) depth 60) c)
 dec-said (dec.Unspecified n) h = said n (omega (arith, h.fits))

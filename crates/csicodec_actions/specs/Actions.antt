@@ -9,6 +9,7 @@ use Rattle.csicodec_actions.specs.declared.actions.keyboard.CharacterPath.{Chara
 use Rattle.csicodec_actions.specs.declared.actions.keyboard.Keyboard as keyboard_type
 use Rattle.csicodec_actions.specs.declared.actions.mode.Mode as mode_type
 use Rattle.csicodec_actions.specs.declared.actions.mouse.MouseReport as mouse_type
+use Rattle.csicodec_actions.specs.declared.actions.window.Window as window_type
 
 -- one constructor for each variant of `CSI`, with lists in place of vectors
 pub data Action : Type 0 where
@@ -18,6 +19,7 @@ pub data Action : Type 0 where
   Mode : mode_type.Mode → Action
   Mouse : mouse_type.MouseReport → Action
   Device : device_type.Device → Action
+  Window : window_type.Window → Action
   Keyboard : keyboard_type.Keyboard → Action
   SelectCharacterPath : CharacterPath → ℤ → Action
   Unspecified : (params : List CsiParam) (parameters_truncated : Bool) (control : ℕ) → Action
@@ -25,6 +27,7 @@ pub data Action : Type 0 where
 -- whether the value of an action holds memory
 abbrev pub takes_memory : Action → Bool
 takes_memory (Device d) = true
+takes_memory (Window w) = true
 takes_memory (Unspecified params flag final) = true
 takes_memory action = false
 

@@ -8,6 +8,8 @@ pub mod MouseTexts
 pub mod Params
 pub mod Ranges
 pub mod Rows
+pub mod FieldRows
+pub mod FieldSteps
 pub mod Special
 pub mod Table
 pub mod Texts

@@ -6,3 +6,4 @@ pub mod Keyboard
 pub mod Mode
 pub mod Mouse
 pub mod Path
+pub mod Window

@@ -5,6 +5,7 @@ mod edit;
 mod keyboard;
 mod mode;
 mod mouse;
+mod window;
 
 pub use cursor::Cursor;
 pub use device::Device;
@@ -12,3 +13,4 @@ pub use edit::Edit;
 pub use keyboard::{CharacterPath, Keyboard, KittyKeyboardMode};
 pub use mode::{Change, DecPrivateMode, Mode, Switch, TerminalMode, XtermKeyModifierResource};
 pub use mouse::{MouseButton, MouseReport};
+pub use window::Window;

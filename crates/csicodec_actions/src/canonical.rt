@@ -10,8 +10,11 @@ ghost use Rattle.csicodec_actions.specs.Table.Edit.{written_edit};
 ghost use Rattle.csicodec_actions.specs.Table.Keyboard.{written_keyboard};
 ghost use Rattle.csicodec_actions.specs.Table.Mode.{written_mode};
 ghost use Rattle.csicodec_actions.specs.Table.Mouse.{written_mouse};
+ghost use Rattle.csicodec_actions.specs.Table.Window.{maybe, written_window};
 
-use crate::actions::{Cursor, DecPrivateMode, Edit, Keyboard, Mode, MouseReport, TerminalMode};
+use crate::actions::{
+    Cursor, DecPrivateMode, Edit, Keyboard, Mode, MouseReport, TerminalMode, Window,
+};
 use bitflags::Flags;
 use csicodec_base::{
     DecPrivateModeCode, KittyKeyboardFlags, Modifiers, OneBased, TerminalModeCode,
@@ -197,6 +200,46 @@ pub fn is_canonical_mouse(report: &MouseReport) -> bool
             let _place = (*x, *y);
             are_held(*modifiers)
         }
+    }
+}
+
+/// An absent number is read as itself, and so is one from 0 on.
+fn is_said_or_absent(number: Option<i64>) -> bool
+    ensures { IsTrue result ↔ AllGood (maybe number) }
+{
+    match number {
+        Some(number) => is_said(number),
+        None => true,
+    }
+}
+
+/// Whether each number of a window or an area is read as itself.
+pub fn is_canonical_window(window: &Window) -> bool
+    ensures { IsTrue result ↔ AllGood (written_window window.now).items }
+{
+    match window {
+        Window::MoveWindow { x, y } => is_said(*x) && is_said(*y),
+        Window::ResizeWindowPixels { width, height }
+        | Window::ReportCellSizePixelsResponse { width, height }
+        | Window::ResizeWindowCells { width, height } => {
+            is_said_or_absent(*width) && is_said_or_absent(*height)
+        }
+        Window::ChecksumRectangularArea {
+            request_id,
+            page_number,
+            top,
+            left,
+            bottom,
+            right,
+        } => {
+            is_said(*request_id)
+                && is_said(*page_number)
+                && is_one_based(*top)
+                && is_one_based(*left)
+                && is_one_based(*bottom)
+                && is_one_based(*right)
+        }
+        _ => true,
     }
 }
 

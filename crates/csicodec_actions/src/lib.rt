@@ -10,10 +10,10 @@ mod whole;
 
 pub use actions::{
     Change, CharacterPath, Cursor, DecPrivateMode, Device, Edit, Keyboard, KittyKeyboardMode, Mode,
-    MouseButton, MouseReport, Switch, TerminalMode, XtermKeyModifierResource,
+    MouseButton, MouseReport, Switch, TerminalMode, Window, XtermKeyModifierResource,
 };
 pub use print::write_path;
 pub use whole::{
     cursor_action, device_action, edit_action, keyboard_action, mode_action, mouse_action,
-    path_action,
+    path_action, window_action,
 };

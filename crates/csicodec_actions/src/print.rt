@@ -8,6 +8,8 @@ ghost use Rattle.csicodec_actions.specs.Written.{Byte, The, shown, written_text}
 ghost use Rattle.csicodec_actions.specs.MouseTexts.{mouse_code, mouse_place};
 ghost use Rattle.std.specs.Fmt.{decimal};
 
+mod window;
+
 use crate::actions::{CharacterPath, Device, MouseReport};
 use bitflags::Flags;
 use csicodec_base::Text;

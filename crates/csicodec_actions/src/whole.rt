@@ -3,10 +3,12 @@
 mod cursor;
 mod device;
 mod edit;
+mod fields;
 mod keyboard;
 mod mode;
 mod mouse;
 mod path;
+mod window;
 
 pub use cursor::cursor_action;
 pub use device::device_action;
@@ -15,3 +17,4 @@ pub use keyboard::keyboard_action;
 pub use mode::mode_action;
 pub use mouse::mouse_action;
 pub use path::path_action;
+pub use window::window_action;

@@ -7,7 +7,7 @@ ghost use Rattle.csicodec_base.specs.FrontBy.{piece};
 ghost use Rattle.csicodec_base.specs.Pieces.{NoColon, Piece};
 
 pub use csicodec_tokens::laws::{
-    beginnings_go_on, one_fault, one_fields, one_sequence, printed_is_spelled,
+    beginnings_go_on, fields_in_turn, one_fault, one_fields, one_sequence, printed_is_spelled,
 };
 
 /// The piece at a front is found by going through the table row by row. So there is at most one.

@@ -1,14 +1,14 @@
 -- The fields of a list are those that are computed, and no others.
 use Rattle.std.proofs.Common.{◌≡◌, ℕ, ℤ, ◌<◌, true, List, [], ◌∷◌, ◌++◌, length, Option, Some, None, refl, sym, ap, subst, ◌∙◌, inl, inr, arith}
-use Rattle.std.specs.Prelude.{◌==◌, Bool, if◌then◌else◌}
+use Rattle.std.specs.Prelude.{◌==◌, ◌↔◌, Bool, if◌then◌else◌}
 use Rattle.std.specs.List.{list_all}
 use Rattle.std.proofs.lemmas.Bool.{and_parts, cases_Bool, eqb-true}
 use Rattle.std.proofs.lemmas.Option.{same_Some}
 use Rattle.csicodec_tokens.specs.declared.param.CsiParam.{CsiParam}
 use Rattle.csicodec_tokens.specs.declared.param.CsiParam.TheVariants.{Integer, P}
 use Rattle.csicodec_tokens.specs.declared.refusal.ParseRefusal.TheVariants.{Memory}
-use Rattle.csicodec_tokens.specs.Fields.{separator, BeginsEmpty, IsBlock, Fields, RefusesFields}
-use Rattle.csicodec_tokens.specs.FieldsBy.{fields_of, is_field_token, with_field}
+use Rattle.csicodec_tokens.specs.Fields.{separator, BeginsEmpty, IsBlock, Fields, RefusesFields, fields_of, with_field}
+use Rattle.csicodec_tokens.specs.FieldsBy.{is_field_token}
 
 -- ---- fields are computed
 
@@ -78,6 +78,9 @@ are_fields (Integer z ∷ Integer y ∷ list) = with-alone z y list (fields_of (
 
 pub computed-fields : (list : List CsiParam) (f : List (Option ℤ)) → fields_of list ≡ Some f → Fields list f
 computed-fields list f e = (are_fields list).each f e
+
+pub fields_in_turn : (list : List CsiParam) (f : List (Option ℤ)) → Fields list f ↔ (fields_of list ≡ Some f)
+fields_in_turn list f = (fields-computed f list, computed-fields list f)
 
 pub one_fields : (list : List CsiParam) (f g : List (Option ℤ)) → Fields list f → Fields list g → f ≡ g
 one_fields list f g h i = same_Some _ _ (sym (fields-computed f list h) ∙ fields-computed g list i)

@@ -1,22 +1,9 @@
--- The fields of a list as a computation, and how they are kept. What fields are is in `Fields`; only private steps and
--- proofs speak of this file.
-use Rattle.std.specs.Prelude.{◌≡◌, ℤ, ◌<◌, ◌==◌, Bool, true, if◌then◌else◌, List, [], ◌∷◌, length, Option, Some, None}
+-- How the fields of a list are kept. What fields are is in `Fields`; only private steps and proofs speak of this file.
+use Rattle.std.specs.Prelude.{◌≡◌, ℤ, ◌<◌, ◌==◌, Bool, true, List, length, Option, Some, None}
 use Rattle.std.specs.List.{list_all}
 use Rattle.csicodec_tokens.specs.declared.param.CsiParam.{CsiParam}
 use Rattle.csicodec_tokens.specs.declared.param.CsiParam.TheVariants.{Integer, P}
-
--- the fields with one more ahead, if there are any
-abbrev pub with_field : Option ℤ → Option (List (Option ℤ)) → Option (List (Option ℤ))
-with_field x None = None
-with_field x (Some f) = Some (x ∷ f)
-
--- the fields of a list, by going through it
-abbrev pub fields_of : List CsiParam → Option (List (Option ℤ))
-fields_of [] = Some []
-fields_of (P b ∷ list) = if b == 59 then with_field None (fields_of list) else None
-fields_of (Integer z ∷ []) = Some (Some z ∷ [])
-fields_of (Integer z ∷ P b ∷ list) = if b == 59 then with_field (Some z) (fields_of list) else None
-fields_of (Integer z ∷ Integer y ∷ list) = with_field (Some z) (fields_of (Integer y ∷ list))
+use Rattle.csicodec_tokens.specs.Fields.{fields_of, with_field}
 
 -- a number or `;`
 abbrev pub is_field_token : CsiParam → Bool

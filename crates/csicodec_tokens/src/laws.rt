@@ -1,10 +1,10 @@
 //! Laws of the definitions. Each is the contract of a function that does nothing.
 
-ghost use Rattle.std.specs.Prelude.{◌≡◌, ◌↔◌, ℕ, ℤ, List, ◌∷◌, ◌++◌, Option};
+ghost use Rattle.std.specs.Prelude.{◌≡◌, ◌↔◌, ℕ, ℤ, List, ◌∷◌, ◌++◌, Option, Some};
 ghost use Rattle.csicodec_tokens.specs.declared.param.CsiParam.{CsiParam};
 ghost use Rattle.csicodec_tokens.specs.declared.reader.ReadError.{ReadError};
 ghost use Rattle.csicodec_tokens.specs.Fault.{Begins, Fault};
-ghost use Rattle.csicodec_tokens.specs.Fields.{Fields};
+ghost use Rattle.csicodec_tokens.specs.Fields.{Fields, fields_of};
 ghost use Rattle.csicodec_tokens.specs.Param.{spells};
 ghost use Rattle.csicodec_tokens.specs.Sequence.{Seq, Spellable, Spells};
 
@@ -33,4 +33,9 @@ pub fn printed_is_spelled()
 /// A list has at most one list of fields.
 pub fn one_fields()
     ensures { (list : List CsiParam) (f g : List (Option ℤ)) → Fields list f → Fields list g → f ≡ g }
+{}
+
+/// The fields of a list are found by going through it, token by token; a list that has none gives none so.
+pub fn fields_in_turn()
+    ensures { (list : List CsiParam) (f : List (Option ℤ)) → Fields list f ↔ (fields_of list ≡ Some f) }
 {}

@@ -1,0 +1,186 @@
+-- What holds of all that the rows over fields give: said for each row, and proved of any list.
+use Rattle.std.proofs.Common.{◌≡◌, ℕ, List, [], ◌∷◌, ◌++◌, Option, None, Some, refl, sym, ap, ◌∙◌, inl, inr, rules, append_assoc, subst}
+use Rattle.std.specs.Prelude.{ℤ, ◌==◌, ◌&&◌, Bool, true, false, if◌then◌else◌, option_and_then, slice_get}
+use Rattle.std.specs.List.{AllByRecursion}
+use Rattle.std.specs.Option.{option_or}
+use Rattle.std.proofs.lemmas.Bool.{cases_Bool, and_parts, eqb-true, ne_eqb}
+use Rattle.std.proofs.lemmas.Option.{same_Some, option_and_then_some}
+use Rattle.csicodec_tokens.specs.declared.param.CsiParam.{CsiParam}
+use Rattle.csicodec_tokens.specs.declared.param.CsiParam.TheVariants.{Integer, P}
+use Rattle.csicodec_tokens.specs.Fields.{fields_of, with_field}
+use Rattle.csicodec_actions.specs.Actions.{Action}
+use Rattle.csicodec_actions.specs.FieldRows.{Slot, This, Empty, End, Maybe, There, Must, Or, Makes, first, behind, value_or, have_shape, made, FieldRow, gives, given, Over, ahead_of_byte, behind_byte, fields_over, read_over, read_fields}
+use Rattle.csicodec_actions.specs.Kinds.{Kind, Any, Value, read}
+use Rattle.csicodec_actions.specs.Table.Window.{window_fields}
+use Rattle.csicodec_actions.proofs.Found.{guarded, map-some}
+use Rattle.csicodec_actions.proofs.Values.{read_any}
+
+-- ---- several tables as one
+
+pub option_or-assoc : {R : Type 0} (a b c : Option R) → option_or (option_or a b) c ≡ option_or a (option_or b c)
+option_or-assoc None b c = refl
+option_or-assoc (Some x) b c = refl
+
+pub given-append : {R : Type 0} (xs ys : List (FieldRow R)) (fs : List (Option ℤ)) → given (xs ++ ys) fs ≡ option_or (given xs fs) (given ys fs)
+given-append [] ys fs = refl
+given-append (r ∷ rows) ys fs = ap (option_or (gives r fs)) (given-append rows ys fs) ∙ sym (option_or-assoc (gives r fs) (given rows fs) (given ys fs))
+
+-- ---- which final has no row
+
+abbrev pub HasNone : {R : Type 0} → List (Over R) → ℕ → Type 0
+HasNone [] final = Unit {0}
+HasNone (o ∷ others) final = (final ≡ o.final → ⊥) × HasNone others final
+
+pub no-row : {R : Type 0} (entries : List (Over R)) (list : List CsiParam) (final : ℕ) → HasNone entries final → read_fields entries list final ≡ None
+no-row [] list final none = refl
+no-row (o ∷ others) list final none = rw (ne_eqb final o.final none.0) (no-row others list final none.1)
+
+-- ---- the row that gave an action
+
+-- of each row of each entry
+abbrev pub AllFieldRows : (Over Action → FieldRow Action → Type 0) → List (Over Action) → Type 0
+AllFieldRows Q entries = AllByRecursion (λ (o : Over Action). AllByRecursion (Q o) o.rows) entries
+
+pub record RowOf (Q : FieldRow Action → Type 0) (fs : List (Option ℤ)) (a : Action) : Type 0 where
+  pub row : FieldRow Action
+  pub holds : Q row
+  pub gave : gives row fs ≡ Some a
+
+given-row : (Q : FieldRow Action → Type 0) (rows : List (FieldRow Action)) (fs : List (Option ℤ)) (a : Action) → AllByRecursion Q rows → given rows fs ≡ Some a → RowOf Q fs a
+given-row Q [] fs a all e = cc
+given-row Q (r ∷ rows) fs a all e = go (gives r fs) refl e (given-row Q rows fs a all.1)
+  where
+    go : (o : Option Action) → gives r fs ≡ o → option_or o (given rows fs) ≡ Some a → (given rows fs ≡ Some a → RowOf Q fs a) → RowOf Q fs a
+    go (Some x) gave e later = record { row = r; holds = all.0; gave = gave ∙ e }
+    go None gave e later = later e
+
+-- the fields that it was given of
+pub record OverOf (Q : Over Action → FieldRow Action → Type 0) (list : List CsiParam) (final : ℕ) (a : Action) : Type 0 where
+  pub entry : Over Action
+  pub here : final ≡ entry.final
+  pub fields : List (Option ℤ)
+  pub are : fields_over entry list ≡ Some fields
+  pub found : RowOf (Q entry) fields a
+
+over-row : (Q : Over Action → FieldRow Action → Type 0) (o : Over Action) (list : List CsiParam) (final : ℕ) (a : Action) → AllByRecursion (Q o) o.rows → final ≡ o.final → read_over o list ≡ Some a
+    → OverOf Q list final a
+over-row Q o list final a all here e =
+    option_and_then_some (given o.rows) (fields_over o list) a e
+    (λ fs are is. record { entry = o; here = here; fields = fs; are = are; found = given-row (Q o) o.rows fs a all is })
+
+pub over-in : (Q : Over Action → FieldRow Action → Type 0) (entries : List (Over Action)) (list : List CsiParam) (final : ℕ) (a : Action) → AllFieldRows Q entries → read_fields entries list final ≡ Some a
+    → OverOf Q list final a
+over-in Q [] list final a all e = cc
+over-in Q (o ∷ others) list final a all e = elim (cases_Bool (final == o.final)) [
+  | inl here ↦ go (read_over o list) refl (rw here at e) (eqb-true final o.final here) (λ next. over-in Q others list final a all.1 next)
+  | inr later ↦ over-in Q others list final a all.1 (rw later at e)
+]
+  where
+    go : (r : Option Action) → read_over o list ≡ r → option_or r (read_fields others list final) ≡ Some a → final ≡ o.final → (read_fields others list final ≡ Some a → OverOf Q list final a) → OverOf Q list final a
+    go (Some x) gave e here later = over-row Q o list final a all.0 here (gave ∙ e)
+    go None gave e here later = later e
+
+-- ---- what the rows make
+
+-- Each action that the row makes has the property Q, where each value has the property G.
+abbrev pub FieldsKeep : ((k : Kind) → Value k → Type 0) → (Action → Type 0) → (slots : List Slot) → Makes Action slots → Type 0
+FieldsKeep G Q [] made = Q made
+FieldsKeep G Q (This n ∷ row) make = FieldsKeep G Q row make
+FieldsKeep G Q (Empty ∷ row) make = FieldsKeep G Q row make
+FieldsKeep G Q (End ∷ row) make = FieldsKeep G Q row make
+FieldsKeep G Q (Maybe ∷ row) make = FieldsKeep G Q row (make None) × ((z : ℤ) → G Any z → FieldsKeep G Q row (make (Some z)))
+FieldsKeep G Q (There ∷ row) make = FieldsKeep G Q row (make None) × ((z : ℤ) → G Any z → FieldsKeep G Q row (make (Some z)))
+FieldsKeep G Q (Must k ∷ row) make = (v : Value k) → G k v → FieldsKeep G Q row (make v)
+FieldsKeep G Q (Or k missing ∷ row) make = G k missing × ((v : Value k) → G k v → FieldsKeep G Q row (make v))
+
+abbrev pub FieldRowsKeep : ((k : Kind) → Value k → Type 0) → (Action → Type 0) → List (Over Action) → Type 0
+FieldRowsKeep G Q entries = AllFieldRows (λ o row. FieldsKeep G Q row.slots row.make) entries
+
+-- the number of a field, if it has one, has the property that its token has
+abbrev Has : (CsiParam → Type 0) → Option ℤ → Type 0
+Has T None = Unit {0}
+Has T (Some z) = T (Integer z)
+
+-- numbers with the property T count as values with the property G
+abbrev NumbersCount : (CsiParam → Type 0) → ((k : Kind) → Value k → Type 0) → Type 0
+NumbersCount T G = (k : Kind) (z : ℤ) (v : Value k) → T (Integer z) → read k z ≡ Some v → G k v
+
+first-has : (T : CsiParam → Type 0) (fs : List (Option ℤ)) → AllByRecursion (Has T) fs → Has T (first fs)
+first-has T [] all = tt
+first-has T (f ∷ fs) all = all.0
+
+behind-has : (T : CsiParam → Type 0) (fs : List (Option ℤ)) → AllByRecursion (Has T) fs → AllByRecursion (Has T) (behind fs)
+behind-has T [] all = tt
+behind-has T (f ∷ fs) all = all.1
+
+value-counts : (T : CsiParam → Type 0) (G : (k : Kind) → Value k → Type 0) → NumbersCount T G → (k : Kind) (missing v : Value k) (o : Option ℤ) → G k missing → Has T o → value_or k missing o ≡ Some v → G k v
+value-counts T G counts k missing v None good has e = subst (G k) (same_Some _ _ e) good
+value-counts T G counts k missing v (Some z) good has e = counts k z v has e
+
+must-count : (T : CsiParam → Type 0) (G : (k : Kind) → Value k → Type 0) → NumbersCount T G → (k : Kind) (v : Value k) (o : Option ℤ) → Has T o → option_and_then (read k) o ≡ Some v → G k v
+must-count T G counts k v None has e = cc
+must-count T G counts k v (Some z) has e = counts k z v has e
+
+maybe-keep : (T : CsiParam → Type 0) (G : (k : Kind) → Value k → Type 0) (Q : Action → Type 0) → NumbersCount T G → (row : List Slot) (make : Option ℤ → Makes Action row) (o : Option ℤ)
+    → FieldsKeep G Q row (make None) × ((z : ℤ) → G Any z → FieldsKeep G Q row (make (Some z))) → Has T o → FieldsKeep G Q row (make o)
+maybe-keep T G Q counts row make None keeps has = keeps.0
+maybe-keep T G Q counts row make (Some z) keeps has = keeps.1 z (counts Any z z has (read_any z))
+
+made-keeps : (T : CsiParam → Type 0) (G : (k : Kind) → Value k → Type 0) (Q : Action → Type 0) → NumbersCount T G → (slots : List Slot) (make : Makes Action slots) (fs : List (Option ℤ)) (a : Action)
+    → FieldsKeep G Q slots make → AllByRecursion (Has T) fs → made slots make fs ≡ Some a → Q a
+made-keeps T G Q counts [] made fs a keeps all e = rw (← same_Some _ _ e) keeps
+made-keeps T G Q counts (This n ∷ row) make fs a keeps all e = made-keeps T G Q counts row make (behind fs) a keeps (behind-has T fs all) e
+made-keeps T G Q counts (Empty ∷ row) make fs a keeps all e = made-keeps T G Q counts row make (behind fs) a keeps (behind-has T fs all) e
+made-keeps T G Q counts (End ∷ row) make fs a keeps all e = made-keeps T G Q counts row make (behind fs) a keeps (behind-has T fs all) e
+made-keeps T G Q counts (Maybe ∷ row) make fs a keeps all e =
+    made-keeps T G Q counts row (make (first fs)) (behind fs) a (maybe-keep T G Q counts row make (first fs) keeps (first-has T fs all)) (behind-has T fs all) e
+made-keeps T G Q counts (There ∷ row) make fs a keeps all e =
+    made-keeps T G Q counts row (make (first fs)) (behind fs) a (maybe-keep T G Q counts row make (first fs) keeps (first-has T fs all)) (behind-has T fs all) e
+made-keeps T G Q counts (Must k ∷ row) make fs a keeps all e =
+    option_and_then_some (λ v. made row (make v) (behind fs)) (option_and_then (read k) (first fs)) a e
+    (λ v found is. made-keeps T G Q counts row (make v) (behind fs) a (keeps v (must-count T G counts k v (first fs) (first-has T fs all) found)) (behind-has T fs all) is)
+made-keeps T G Q counts (Or k missing ∷ row) make fs a keeps all e =
+    option_and_then_some (λ v. made row (make v) (behind fs)) (value_or k missing (first fs)) a e
+    (λ v found is. made-keeps T G Q counts row (make v) (behind fs) a (keeps.1 v (value-counts T G counts k missing v (first fs) keeps.0 (first-has T fs all) found)) (behind-has T fs all) is)
+
+-- ---- the tokens of the fields
+
+with-has : (T : CsiParam → Type 0) (x : Option ℤ) (o : Option (List (Option ℤ))) (fs : List (Option ℤ)) → Has T x → ((g : List (Option ℤ)) → o ≡ Some g → AllByRecursion (Has T) g) → with_field x o ≡ Some fs
+    → AllByRecursion (Has T) fs
+with-has T x None fs has others e = cc
+with-has T x (Some g) fs has others e = rw (← same_Some _ _ e) (has, others g refl)
+
+fields-have : (T : CsiParam → Type 0) (list : List CsiParam) (fs : List (Option ℤ)) → AllByRecursion T list → fields_of list ≡ Some fs → AllByRecursion (Has T) fs
+fields-have T [] fs all e = rw (← same_Some _ _ e) tt
+fields-have T (P b ∷ list) fs all e = with-has T None (fields_of list) fs tt (λ g is. fields-have T list g all.1 is) (guarded (b == 59) _ fs e).1
+fields-have T (Integer z ∷ []) fs all e = rw (← same_Some _ _ e) (all.0, tt)
+fields-have T (Integer z ∷ P b ∷ list) fs all e = with-has T (Some z) (fields_of list) fs all.0 (λ g is. fields-have T list g all.1.1 is) (guarded (b == 59) _ fs e).1
+fields-have T (Integer z ∷ Integer y ∷ list) fs all e = with-has T (Some z) (fields_of (Integer y ∷ list)) fs all.0 (λ g is. fields-have T (Integer y ∷ list) g all.1 is) e
+
+behind-tokens : (T : CsiParam → Type 0) (b : Option ℕ) (list rest : List CsiParam) → AllByRecursion T list → behind_byte b list ≡ Some rest → AllByRecursion T rest
+behind-tokens T None list rest all e = rw (← same_Some _ _ e) all
+behind-tokens T (Some b) [] rest all e = cc
+behind-tokens T (Some b) (Integer z ∷ ts) rest all e = cc
+behind-tokens T (Some b) (P c ∷ ts) rest all e = rw (← same_Some _ _ (guarded (c == b) _ rest e).1) all.1
+
+ahead-tokens : (T : CsiParam → Type 0) (b : Option ℕ) (list rest : List CsiParam) → AllByRecursion T list → ahead_of_byte b list ≡ Some rest → AllByRecursion T rest
+ahead-tokens T None list rest all e = rw (← same_Some _ _ e) all
+ahead-tokens T (Some b) [] rest all e = cc
+ahead-tokens T (Some b) (Integer z ∷ []) rest all e = cc
+ahead-tokens T (Some b) (P c ∷ []) rest all e = rw (← same_Some _ _ (guarded (c == b) _ rest e).1) tt
+ahead-tokens T (Some b) (t ∷ u ∷ ts) rest all e =
+    let m = map-some (λ l. t ∷ l) (ahead_of_byte (Some b) (u ∷ ts)) rest e in
+    rw (← m.2) (all.0, ahead-tokens T (Some b) (u ∷ ts) m.0 all.1 m.1)
+
+over-have : (T : CsiParam → Type 0) (o : Over Action) (list : List CsiParam) (fs : List (Option ℤ)) → AllByRecursion T list → fields_over o list ≡ Some fs → AllByRecursion (Has T) fs
+over-have T o list fs all e =
+    option_and_then_some fields_of (option_and_then (ahead_of_byte o.end) (behind_byte o.ahead list)) fs e
+    (λ front cut are. option_and_then_some (ahead_of_byte o.end) (behind_byte o.ahead list) front cut
+    (λ rest begun ended. fields-have T front fs (ahead-tokens T o.end rest front (behind-tokens T o.ahead list rest all begun) ended) are))
+
+pub fields-keep : (T : CsiParam → Type 0) (G : (k : Kind) → Value k → Type 0) (Q : Action → Type 0) → NumbersCount T G → (entries : List (Over Action)) → FieldRowsKeep G Q entries → (list : List CsiParam)
+    (final : ℕ) (a : Action) → AllByRecursion T list → read_fields entries list final ≡ Some a → Q a
+fields-keep T G Q counts entries keep list final a all e =
+    let o = over-in (λ o row. FieldsKeep G Q row.slots row.make) entries list final a keep e in
+    let r = o.found in
+    made-keeps T G Q counts r.row.slots r.row.make o.fields a r.holds (over-have T o.entry list o.fields all o.are) (guarded (have_shape r.row.slots o.fields) _ a r.gave).1

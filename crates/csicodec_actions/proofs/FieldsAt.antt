@@ -1,0 +1,76 @@
+-- What the code finds in the fields of a list.
+use Rattle.std.proofs.Common.{◌≡◌, ℕ, zero, suc, List, [], ◌∷◌, ◌++◌, inl, inr, length, Option, None, Some, refl, sym, ap, ◌∙◌, arith, get_or, Bor, false}
+use Rattle.std.proofs.lemmas.Bool.{cases_Bool, le-ltb, lt-ltb}
+use Rattle.std.specs.Prelude.{ℤ, ◌==◌, if◌then◌else◌, nat_lt, IsNone, IfSome, Result, Ok}
+use Rattle.std.specs.Bool.{then_some}
+use Rattle.std.specs.Option.{ok_or, option_copied, option_map}
+use Rattle.std.specs.Result.{result_ok}
+use Rattle.std.proofs.lemmas.Option.{same_Some}
+use Rattle.csicodec_tokens.specs.declared.param.CsiParam.{CsiParam}
+use Rattle.csicodec_tokens.specs.declared.param.CsiParam.TheVariants.{Integer, P}
+use Rattle.csicodec_tokens.specs.declared.refusal.ParseRefusal.TheVariants.{NotSpelled}
+use Rattle.csicodec_tokens.specs.Fields.{RefusesFields, fields_of}
+use Rattle.csicodec_tokens.specs.OneBased.{number_or}
+use Rattle.csicodec_tokens.proofs.FieldsOf.{computed-fields}
+use Rattle.csicodec_actions.specs.FieldRows.{ahead_of_byte, value_or}
+use Rattle.csicodec_actions.specs.FieldSteps.{field, has_field}
+use Rattle.csicodec_actions.specs.Kinds.{Count, read}
+
+pub field-at : (fs : List (Option ℤ)) (i : ℕ) → get_or fs i None ≡ field fs i
+field-at [] zero = refl
+field-at [] (suc i) = field-at [] i
+field-at (f ∷ fs) zero = refl
+field-at (f ∷ fs) (suc i) = field-at fs i
+
+none-there : (i : ℕ) → has_field [] i ≡ false
+none-there zero = refl
+none-there (suc i) = none-there i
+
+suc-lt : (i n : ℕ) → nat_lt (suc i) (suc n) ≡ nat_lt i n
+suc-lt i n = grind arith
+
+pub there-at : (fs : List (Option ℤ)) (i : ℕ) → nat_lt i (length fs) ≡ has_field fs i
+there-at [] i = le-ltb i 0 (omega arith) ∙ sym (none-there i)
+there-at (f ∷ fs) zero = lt-ltb 0 (suc (length fs)) (omega arith)
+there-at (f ∷ fs) (suc i) = suc-lt i (length fs) ∙ there-at fs i
+
+ok-of : {T E : Type 0} (o : Option T) (e : E) → result_ok (ok_or o e) ≡ o
+ok-of None e = refl
+ok-of (Some x) e = refl
+
+pub place-read : {E : Type 0} (o : Option (Bor CsiParam)) (z : Option ℤ) (r : Result ℕ E) (e : E) → option_copied o ≡ option_map Integer z → (IsNone o → r ≡ Ok 1)
+    → IfSome o (λ token. r ≡ ok_or (number_or 1 token.now) e) → result_ok r ≡ value_or Count 1 z
+unfolding read
+place-read None None r e same none some = rw (none refl) refl
+place-read None (Some z) r e same none some = cc
+place-read (Some t) None r e same none some = cc
+place-read (Some t) (Some z) r e same none some = let is : t.now ≡ Integer z = same_Some _ _ same in rw (some, is) (ok-of (number_or 1 (Integer z)) e)
+
+pub no-fields : (list : List CsiParam) → RefusesFields list NotSpelled → None ≡ fields_of list
+no-fields list refused = go (fields_of list) refl
+  where
+    go : (o : Option (List (Option ℤ))) → fields_of list ≡ o → None ≡ fields_of list
+    go None e = sym e
+    go (Some f) e = absurd (refused f (computed-fields list f e))
+
+-- ---- the byte at the end
+
+abbrev pub ends : ℕ → CsiParam → List CsiParam → Option (List CsiParam)
+ends b (Integer z) front = None
+ends b (P c) front = if c == b then Some front else None
+
+ends-behind : (b : ℕ) (x t : CsiParam) (front : List CsiParam) → option_map (λ l. x ∷ l) (ends b t front) ≡ ends b t (x ∷ front)
+ends-behind b x (Integer z) front = refl
+ends-behind b x (P c) front = elim (cases_Bool (c == b)) [ inl same ↦ rw same refl | inr other ↦ rw other refl ]
+
+ahead-of : (b : ℕ) (front : List CsiParam) (t : CsiParam) → ahead_of_byte (Some b) (front ++ t ∷ []) ≡ ends b t front
+ahead-of b [] (Integer z) = refl
+ahead-of b [] (P c) = refl
+ahead-of b (x ∷ []) t = ap (option_map (λ l. x ∷ l)) (ahead-of b [] t) ∙ ends-behind b x t []
+ahead-of b (x ∷ y ∷ front) t = ap (option_map (λ l. x ∷ l)) (ahead-of b (y ∷ front) t) ∙ ends-behind b x t (y ∷ front)
+
+pub at-end : (b : ℕ) (list front : List CsiParam) (t u : CsiParam) → list ≡ front ++ t ∷ [] → t ≡ u → ahead_of_byte (Some b) list ≡ ends b u front
+at-end b list front t u parts is = rw (parts, is) (ahead-of b front u)
+
+pub then-ends : (b c : ℕ) (front : Bor (List CsiParam)) → option_map (λ l. l.now) (then_some (c == b) front) ≡ ends b (P c) front.now
+then-ends b c front = elim (cases_Bool (c == b)) [ inl same ↦ rw same refl | inr other ↦ rw other refl ]

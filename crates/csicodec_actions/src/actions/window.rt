@@ -1,0 +1,115 @@
+//! Operations on the terminal's window and its title, and the checksum of an area of the page.
+
+use csicodec_base::OneBased;
+
+/// What is done to the window of a terminal, asked of it and answered: XTWINOPS (xterm's ctlseqs, "Window manipulation";
+/// the operations 1 to 8 and their numbers come from dtterm), and DECRQCRA (DEC VT420).
+///
+/// Sizes and places are of 64 bits and take any sign where a value is built by hand; what is read from a sequence is 0
+/// or more. An absent number is one that the sequence leaves out: the terminal then keeps that size as it is (xterm).
+#[derive(Clone, Copy, Debug, PartialEq, Eq)]
+pub enum Window {
+    /// 1: the window is opened again, if it was an icon.
+    DeIconify,
+    /// 2: it becomes an icon.
+    Iconify,
+    /// 3: it is moved; a place that a sequence leaves out is 0.
+    MoveWindow {
+        /// The left edge, in pixels from the screen's.
+        x: i64,
+        /// The upper edge, in pixels from the screen's.
+        y: i64,
+    },
+    /// 4: the text area gets this size, in pixels.
+    ResizeWindowPixels {
+        /// The width, in pixels.
+        width: Option<i64>,
+        /// The height, in pixels, which a sequence names first.
+        height: Option<i64>,
+    },
+    /// 5: it is put in front of the others.
+    RaiseWindow,
+    /// 6, alone: it is put behind the others.
+    LowerWindow,
+    /// 6, with a size: the answer to `ReportCellSizePixels`.
+    ReportCellSizePixelsResponse {
+        /// The width of a cell, in pixels.
+        width: Option<i64>,
+        /// Its height, in pixels, which a sequence names first.
+        height: Option<i64>,
+    },
+    /// 7: it is drawn again.
+    RefreshWindow,
+    /// 8: the text area gets this size, in cells.
+    ResizeWindowCells {
+        /// The columns.
+        width: Option<i64>,
+        /// The lines, which a sequence names first.
+        height: Option<i64>,
+    },
+    /// 9 and 0: a window that was maximized gets its size back.
+    RestoreMaximizedWindow,
+    /// 9 and 1: it becomes as large as the screen.
+    MaximizeWindow,
+    /// 9 and 2: it becomes as high as the screen.
+    MaximizeWindowVertically,
+    /// 9 and 3: it becomes as wide as the screen.
+    MaximizeWindowHorizontally,
+    /// 10 and 0: full screen ends.
+    UndoFullScreenMode,
+    /// 10 and 1: full screen begins.
+    ChangeToFullScreenMode,
+    /// 10 and 2: full screen begins or ends.
+    ToggleFullScreen,
+    /// 11: asks whether the window is open or an icon; the answer is `CSI 1 t` or `CSI 2 t`.
+    ReportWindowState,
+    /// 13: asks for the window's place; the answer is `CSI 3 ; x ; y t`, in pixels.
+    ReportWindowPosition,
+    /// 13 and 2: asks for the place of the text area; the answer is `CSI 3 ; x ; y t`, in pixels.
+    ReportTextAreaPosition,
+    /// 14: asks for the size of the text area; the answer is `CSI 4 ; height ; width t`, in pixels.
+    ReportTextAreaSizePixels,
+    /// 14 and 2: asks for the size of the window; the answer is `CSI 4 ; height ; width t`, in pixels.
+    ReportWindowSizePixels,
+    /// 15: asks for the size of the screen; the answer is `CSI 5 ; height ; width t`, in pixels, which is read back as
+    /// `RaiseWindow`.
+    ReportScreenSizePixels,
+    /// 16: asks for the size of a cell; the answer is `ReportCellSizePixelsResponse`.
+    ReportCellSizePixels,
+    /// 18: asks for the size of the text area; the answer is `CSI 8 ; lines ; columns t`.
+    ReportTextAreaSizeCells,
+    /// 19: asks for the size of the screen in cells; the answer is `CSI 9 ; lines ; columns t`.
+    ReportScreenSizeCells,
+    /// 20: asks for the icon's label; the answer is `OSC L label ST`.
+    ReportIconLabel,
+    /// 21: asks for the window's title; the answer is `OSC l title ST`.
+    ReportWindowTitle,
+    /// 22 and 0: the icon's label and the window's title are put onto a stack.
+    PushIconAndWindowTitle,
+    /// 22 and 1: the icon's label is.
+    PushIconTitle,
+    /// 22 and 2: the window's title is.
+    PushWindowTitle,
+    /// 23 and 0: the icon's label and the window's title are taken off the stack.
+    PopIconAndWindowTitle,
+    /// 23 and 1: the icon's label is.
+    PopIconTitle,
+    /// 23 and 2: the window's title is.
+    PopWindowTitle,
+    /// DECRQCRA (DEC VT420): asks for the checksum of the characters in an area of a page, in cells; the answer is
+    /// `DCS request_id ! ~ checksum ST`. A side that a sequence leaves out, or that is 0, is 1.
+    ChecksumRectangularArea {
+        /// Comes back with the answer, so that it can be told from others.
+        request_id: i64,
+        /// The page of the terminal's memory.
+        page_number: i64,
+        /// The first line.
+        top: OneBased,
+        /// The first column.
+        left: OneBased,
+        /// The last line.
+        bottom: OneBased,
+        /// The last column.
+        right: OneBased,
+    },
+}

@@ -8,14 +8,13 @@ use Rattle.csicodec.specs.Decoding.{Joins, AreActions, Decodes}
 use Rattle.csicodec.specs.Exact.{Exact}
 use Rattle.csicodec_actions.specs.Ranges.{InRange}
 use Rattle.csicodec.specs.Segments.{Actions}
-use Rattle.csicodec_actions.specs.Special.{IsSpecial}
 use Rattle.csicodec_actions.specs.Texts.{text}
 use Rattle.csicodec.proofs.Alone.{canonical-alone}
 use Rattle.csicodec.proofs.Cuts.{actions_count}
 use Rattle.csicodec.proofs.OneReading.{Alone, one_decoding}
 use Rattle.csicodec.proofs.Parsed.{parsed-kept}
 use Rattle.csicodec.proofs.RoundTrip.{alone-only}
-use Rattle.csicodec.proofs.Twins.{special-twin}
+use Rattle.csicodec.proofs.Twins.{IsParsedSpecial, special-twin}
 
 -- ---- bytes that are one action are one sequence
 
@@ -51,7 +50,7 @@ one-sequence bytes flag a d = go d.sequences d.join d.each
 
 -- ---- both ways
 
-not_special : (a : Action) (flag : Bool) → Alone flag a → IsSpecial a → ⊥
+not_special : (a : Action) (flag : Bool) → Alone flag a → IsParsedSpecial a → ⊥
 not_special a flag d special =
     let t = special-twin flag a special in
     let back : Decodes (text a) flag (t.other ∷ []) = rw t.same (canonical-alone t.other flag t.range t.canonical) in
@@ -63,7 +62,7 @@ read-canonical a flag d =
     let s = one-sequence (text a) flag a d in
     told (parsed-kept s.list flag s.final (a ∷ []) s.is.spellable s.is.ends s.read).0.canonical
   where
-    told : IsSpecial a ⊎ Canonical a flag → Canonical a flag
+    told : IsParsedSpecial a ⊎ Canonical a flag → Canonical a flag
     told (inl special) = absurd (not_special a flag d special)
     told (inr ok) = ok
 

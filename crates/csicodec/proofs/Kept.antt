@@ -1,7 +1,22 @@
 -- What reading makes is canonical or special.
-use Rattle.std.proofs.Common.{ℕ, ◌≡◌, ◌⊎◌, ◌<◌, List, Bool, Some, pos, refl, rules, inl, inr}
-use Rattle.std.specs.Prelude.{◌==◌, ◌&&◌}
-use Rattle.std.proofs.lemmas.Bool.{cases_Bool, and_parts, eqb-true}
+use Rattle.std.proofs.Common.{ℕ, ◌≡◌, ◌⊎◌, ◌<◌, List, [], ◌∷◌, ◌++◌, Bool, Some, pos, refl, rules, inl, inr}
+use Rattle.std.specs.List.{AllByRecursion}
+use Rattle.std.specs.Prelude.{ℤ, ◌==◌, ◌&&◌, true, Option, None}
+use Rattle.std.proofs.lemmas.Bool.{cases_Bool, and_parts, eq-eqb, eqb-true}
+use Rattle.csicodec_names.proofs.Coded.{attributes}
+use Rattle.csicodec_names.specs.declared.device.DeviceAttributeCodes.{DeviceAttributeCodes}
+use Rattle.csicodec_names.specs.DeviceNumbers.{device_attribute_codes, device_attribute_number}
+use Rattle.csicodec_names.specs.Numbered.{with_number}
+use Rattle.csicodec_tokens.specs.declared.param.CsiParam.TheVariants.{Integer, P}
+use Rattle.csicodec_actions.specs.Devices.{Attributes, Vt220, Vt320, Vt420, code_or_token, listed_attributes}
+use Rattle.csicodec_actions.specs.Table.Cursor.{cursor_rows}
+use Rattle.csicodec_actions.specs.Table.Edit.{edit_rows}
+use Rattle.csicodec_actions.specs.Table.Keyboard.{keyboard_rows}
+use Rattle.csicodec_actions.specs.Table.Mode.{mode_rows}
+use Rattle.csicodec_actions.specs.Table.Mouse.{mouse_rows}
+use Rattle.csicodec_actions.specs.Table.Path.{path_rows}
+use Rattle.csicodec_actions.specs.Table.Device.{device_rows, answer, written_attributes}
+use Rattle.csicodec_actions.specs.Written.{Attribute, listed}
 use Rattle.csicodec_tokens.specs.declared.param.CsiParam.{CsiParam}
 use Rattle.csicodec_tokens.specs.OneBased.{most}
 use Rattle.csicodec_tokens.specs.Sequence.{IsSpellable, Spellable}
@@ -17,29 +32,30 @@ use Rattle.csicodec_actions.specs.declared.actions.mouse.MouseButton.{MouseButto
 use Rattle.csicodec_actions.specs.declared.actions.mouse.MouseReport.TheVariants as mouse
 use Rattle.csicodec_names.specs.declared.flags.Modifiers.{Modifiers}
 use Rattle.csicodec_actions.specs.Mouse.{pressed, released, is_release}
-use Rattle.csicodec_actions.specs.Good.{IsReport, Good, IsOneBased}
+use Rattle.csicodec_actions.specs.Good.{AllGood, IsReport, Good, GoodAttribute, IsOneBased}
 use Rattle.csicodec_actions.proofs.MouseCodes.{release-pressed, none-released}
 use Rattle.csicodec.specs.Canonical.{Canonical}
 use Rattle.csicodec_actions.specs.Kinds.{Dec, Terminal, read}
 use Rattle.csicodec_actions.specs.Modes.{changed, switched}
 use Rattle.csicodec_actions.specs.Ranges.{InRange}
-use Rattle.csicodec_actions.specs.Special.{IsSpecial}
 use Rattle.csicodec_actions.specs.Whole.{table, whole}
 use Rattle.csicodec_actions.specs.Table.Window.{window_fields}
+use Rattle.csicodec_actions.specs.declared.actions.device.DeviceAttribute.{DeviceAttribute}
 use Rattle.csicodec_actions.proofs.AllFieldRows.{FieldRowsKeep}
-use Rattle.csicodec_actions.proofs.AllRows.{TableKeeps, spellable-tokens, whole-keeps}
+use Rattle.csicodec_actions.proofs.AllRows.{KeepsTail, TableKeeps, table-append, spellable-tokens, whole-keeps}
+use Rattle.csicodec.proofs.Twins.{IsParsedSpecial}
 use Rattle.csicodec_actions.proofs.Values.{dec-read, terminal-read, good-read, one-fits, most-fits, zero-said}
 
 -- each action that parsing makes is in range, and canonical or special
 pub record Kept (flag : Bool) (a : Action) : Type 0 where
   pub range : InRange a
-  pub canonical : IsSpecial a ⊎ Canonical a flag
+  pub canonical : IsParsedSpecial a ⊎ Canonical a flag
 
 -- top and bottom margins, which are left out where they are all around
 rows-kept : (flag : Bool) (a b : ℕ) → IsOneBased a → IsOneBased b → Kept flag (Cursor (cursor.SetTopAndBottomMargins a b))
 rows-kept flag a b fa fb = elim (cases_Bool (a == 1 && b == most)) [
-  | inl all ↦ record { range = tt; canonical = inr (rw all tt, λ h. cc) }
-  | inr less ↦ record { range = tt; canonical = inr (rw less (fa, (fb, tt)), λ h. cc) }
+  | inl all ↦ record { range = tt; canonical = inr (rw all tt, λ h. h) }
+  | inr less ↦ record { range = tt; canonical = inr (rw less (fa, (fb, tt)), λ h. h) }
 ]
 
 -- left and right margins are special where they are all around
@@ -49,24 +65,61 @@ columns-kept flag a b fa fb = elim (cases_Bool (a == 1 && b == most)) [
       let p = and_parts (a == 1) (b == most) all in
       let one : a ≡ 1 = eqb-true a 1 p.0 in
       let end : b ≡ most = eqb-true b most p.1 in
-      record { range = tt; canonical = inl (rw (one, end) refl) }
-  | inr less ↦ record { range = tt; canonical = inr (rw less (fa, (fb, tt)), λ h. cc) }
+      record { range = tt; canonical = inl (inl (rw (one, end) refl)) }
+  | inr less ↦
+      let around : (a ≡ 1) × (b ≡ most) → ⊥ = λ h. (let all : (a == 1 && b == most) ≡ true = rw (h.0, h.1) refl in cc (all, less)) in
+      record { range = tt; canonical = inr (rw less (fa, (fb, tt)), around) }
 ]
 
 -- a report goes by its button
 press-kept : (flag : Bool) (v : MouseButton × Modifiers) (x y : ℕ) → IsReport pressed v → x < 65536 → y < 65536 → Kept flag (Mouse (mouse.SGR1006 x y v.0 v.1))
-press-kept flag v x y h fx fy = record { range = tt; canonical = inr (rw (release-pressed v.0 h.one) (h, (fx, (fy, tt))), λ e. cc) }
+press-kept flag v x y h fx fy = record { range = tt; canonical = inr (rw (release-pressed v.0 h.one) (h, (fx, (fy, tt))), λ e. e) }
 
 release-kept : (flag : Bool) (v : MouseButton × Modifiers) (x y : ℕ) → IsReport released v → x < 65536 → y < 65536 → Kept flag (Mouse (mouse.SGR1006 x y v.0 v.1))
 release-kept flag v x y h fx fy = elim (cases_Bool (is_release v.0)) [
-  | inl up ↦ record { range = tt; canonical = inr (rw up (h, (fx, (fy, tt))), λ e. cc) }
+  | inl up ↦ record { range = tt; canonical = inr (rw up (h, (fx, (fy, tt))), λ e. e) }
   | inr none ↦
       let here : IsReport pressed v = record { one = none-released v.0 h.one none; held = h.held } in
-      record { range = tt; canonical = inr (rw none (here, (fx, (fy, tt))), λ e. cc) }
+      record { range = tt; canonical = inr (rw none (here, (fx, (fy, tt))), λ e. e) }
 ]
 
-table-kept : (flag : Bool) → TableKeeps Good (Kept flag) table
-table-kept flag = search (rules, rows-kept, columns-kept, press-kept, release-kept, one-fits, most-fits) depth 60
+-- an answer names extensions by their tokens
+attribute-kept : (z : ℤ) (o : Option DeviceAttributeCodes) → with_number device_attribute_number device_attribute_codes z ≡ o → IsSpellable (Integer z) → GoodAttribute (code_or_token (Integer z) o)
+attribute-kept z (Some c) found ok = tt
+attribute-kept z None found ok = (ok, λ c same. (let here = attributes.each c in cc (found, same, here)))
+
+attributes-kept : (list : List CsiParam) → AllByRecursion IsSpellable list → AllGood (listed Attribute (listed_attributes list))
+attributes-kept [] ok = tt
+attributes-kept (Integer z ∷ ts) ok = (attribute-kept z _ refl ok.0, attributes-kept ts ok.1)
+attributes-kept (P b ∷ ts) ok = elim (cases_Bool (b == 59)) [
+  | inl semicolon ↦ rw semicolon (attributes-kept ts ok.1)
+  | inr other ↦ rw other ((ok.0, λ same. cc (other, eq-eqb b 59 same)), attributes-kept ts ok.1)
+]
+
+class-kept : (flag : Bool) (class : List DeviceAttribute → Attributes)
+    → ((all : List DeviceAttribute) → AllGood (listed Attribute all) → AllGood (written_attributes (class all)).items)
+    → KeepsTail IsSpellable (Kept flag) (λ rest. answer (class (listed_attributes rest)))
+class-kept flag class good = record { each = λ rest ok. record { range = tt; canonical = inr (good (listed_attributes rest) (attributes-kept rest ok), λ e. e) } }
+
+vt220-kept : (flag : Bool) → KeepsTail IsSpellable (Kept flag) (λ rest. answer (Vt220 (listed_attributes rest)))
+vt220-kept flag = class-kept flag Vt220 (λ all good. search rules)
+
+vt320-kept : (flag : Bool) → KeepsTail IsSpellable (Kept flag) (λ rest. answer (Vt320 (listed_attributes rest)))
+vt320-kept flag = class-kept flag Vt320 (λ all good. search rules)
+
+vt420-kept : (flag : Bool) → KeepsTail IsSpellable (Kept flag) (λ rest. answer (Vt420 (listed_attributes rest)))
+vt420-kept flag = class-kept flag Vt420 (λ all good. search rules)
+
+-- by subject, since a search over all rows is long
+devices-kept : (flag : Bool) → TableKeeps IsSpellable Good (Kept flag) device_rows
+devices-kept flag = search (rules, vt220-kept, vt320-kept, vt420-kept) depth 60
+
+others-kept : (flag : Bool) → TableKeeps IsSpellable Good (Kept flag) (cursor_rows ++ (edit_rows ++ (mode_rows ++ (mouse_rows ++ (keyboard_rows ++ path_rows)))))
+others-kept flag = search (rules, rows-kept, columns-kept, press-kept, release-kept, one-fits, most-fits) depth 60
+
+table-kept : (flag : Bool) → TableKeeps IsSpellable Good (Kept flag) table
+table-kept flag =
+    table-append IsSpellable Good (Kept flag) (cursor_rows ++ (edit_rows ++ (mode_rows ++ (mouse_rows ++ (keyboard_rows ++ path_rows))))) device_rows (others-kept flag) (devices-kept flag)
 
 fields-kept : (flag : Bool) → FieldRowsKeep Good (Kept flag) window_fields
 fields-kept flag = search (rules, one-fits, zero-said) depth 60
@@ -78,11 +131,11 @@ whole-kept flag list final a ok e =
 -- ---- pieces
 
 pub changed-kept : (flag : Bool) (c : Change) (n : ℕ) (m : DecPrivateMode) → read Dec (pos n) ≡ Some m → Kept flag (Mode (changed c m))
-changed-kept flag change.Set n m h = record { range = tt; canonical = inr ((dec-read (pos n) m h, tt), λ e. cc) }
-changed-kept flag change.Reset n m h = record { range = tt; canonical = inr ((dec-read (pos n) m h, tt), λ e. cc) }
-changed-kept flag change.Save n m h = record { range = tt; canonical = inr ((dec-read (pos n) m h, tt), λ e. cc) }
-changed-kept flag change.Restore n m h = record { range = tt; canonical = inr ((dec-read (pos n) m h, tt), λ e. cc) }
+changed-kept flag change.Set n m h = record { range = tt; canonical = inr ((dec-read (pos n) m h, tt), λ e. e) }
+changed-kept flag change.Reset n m h = record { range = tt; canonical = inr ((dec-read (pos n) m h, tt), λ e. e) }
+changed-kept flag change.Save n m h = record { range = tt; canonical = inr ((dec-read (pos n) m h, tt), λ e. e) }
+changed-kept flag change.Restore n m h = record { range = tt; canonical = inr ((dec-read (pos n) m h, tt), λ e. e) }
 
 pub switched-kept : (flag : Bool) (s : Switch) (n : ℕ) (m : TerminalMode) → read Terminal (pos n) ≡ Some m → Kept flag (Mode (switched s m))
-switched-kept flag switch.Set n m h = record { range = tt; canonical = inr ((terminal-read (pos n) m h, tt), λ e. cc) }
-switched-kept flag switch.Reset n m h = record { range = tt; canonical = inr ((terminal-read (pos n) m h, tt), λ e. cc) }
+switched-kept flag switch.Set n m h = record { range = tt; canonical = inr ((terminal-read (pos n) m h, tt), λ e. e) }
+switched-kept flag switch.Reset n m h = record { range = tt; canonical = inr ((terminal-read (pos n) m h, tt), λ e. e) }

@@ -76,7 +76,7 @@ abbrev IsKnown : Action → Type 0
 IsKnown (Unspecified params own final) = ⊥
 IsKnown a = Unit {0}
 
-rows-known : TableKeeps (λ k v. Unit {0}) IsKnown table
+rows-known : TableKeeps (λ t. Unit {0}) (λ k v. Unit {0}) IsKnown table
 rows-known = search rules depth 60
 
 field-rows-known : FieldRowsKeep (λ k v. Unit {0}) IsKnown window_fields

@@ -6,14 +6,14 @@ use Rattle.csicodec_tokens.specs.declared.param.CsiParam.{CsiParam}
 use Rattle.csicodec_actions.specs.Actions.{Action}
 use Rattle.csicodec.specs.Canonical.{Canonical}
 use Rattle.csicodec.specs.Decoding.{Joins, AreActions, Decodes}
-use Rattle.csicodec_actions.specs.Special.{IsSpecial}
 use Rattle.csicodec.specs.Streams.{IsNormal, NormaliseTwice, Join}
 use Rattle.csicodec_actions.specs.Texts.{text, texts}
+use Rattle.csicodec_actions.proofs.AllRows.{all-append}
 use Rattle.csicodec.proofs.Alone.{canonical-alone}
 use Rattle.csicodec.proofs.Kept.{Kept}
 use Rattle.csicodec.proofs.OneReading.{decodes-append}
-use Rattle.csicodec.proofs.Parsed.{all-append, parsed-kept}
-use Rattle.csicodec.proofs.Twins.{special-twin}
+use Rattle.csicodec.proofs.Parsed.{parsed-kept}
+use Rattle.csicodec.proofs.Twins.{IsParsedSpecial, special-twin}
 
 pub join_lem : (front back : List ℕ) (flag : Bool) → Join front back flag
 join_lem front back flag first second x y = record { read = decodes-append front back flag first second x y; written = flat_map-append text first second }
@@ -33,7 +33,7 @@ canonical-normal flag a bytes read same = record { actions = a ∷ []; read = re
 action-normal : (flag : Bool) (a : Action) → Kept flag a → IsNormal (text a) flag
 action-normal flag a kept = go kept.canonical
   where
-    go : IsSpecial a ⊎ Canonical a flag → IsNormal (text a) flag
+    go : IsParsedSpecial a ⊎ Canonical a flag → IsNormal (text a) flag
     go (inl special) =
         let t = special-twin flag a special in
         canonical-normal flag t.other (text a) (rw t.same (canonical-alone t.other flag t.range t.canonical)) t.same

@@ -2,6 +2,7 @@
 use Rattle.std.specs.Prelude.{ℕ, List, ◌++◌, encode_utf8}
 use Rattle.csicodec_tokens.specs.Param.{spells}
 use Rattle.csicodec_actions.specs.Actions.{Action, Sgr, Cursor, Edit, Mode, Mouse, Device, Window, Keyboard, SelectCharacterPath, Unspecified}
+use Rattle.csicodec_actions.specs.Devices.{device_of}
 use Rattle.csicodec.specs.declared.actions.Unspecified as unspecified_type
 use Rattle.csicodec.specs.declared.actions.CSI.{CSI}
 use Rattle.csicodec.specs.declared.actions.CSI.TheVariants as csi
@@ -15,7 +16,7 @@ action_of (csi.Cursor c) = Cursor c
 action_of (csi.Edit e) = Edit e
 action_of (csi.Mode m) = Mode m
 action_of (csi.Mouse m) = Mouse m
-action_of (csi.Device d) = Device d.value
+action_of (csi.Device d) = Device (device_of d.value)
 action_of (csi.Window w) = Window w.value
 action_of (csi.Keyboard k) = Keyboard k
 action_of (csi.SelectCharacterPath path effect) = SelectCharacterPath path effect

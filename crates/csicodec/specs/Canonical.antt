@@ -12,7 +12,7 @@ use Rattle.csicodec.specs.Cut.{body, IsStuck}
 use Rattle.csicodec_actions.specs.Good.{AllGood}
 use Rattle.csicodec.specs.Groups.{group, has_odd}
 use Rattle.csicodec.specs.Segments.{IsUnread}
-use Rattle.csicodec_actions.specs.Special.{IsSpecial}
+use Rattle.csicodec_actions.specs.Special.{IsNeverRead}
 use Rattle.csicodec_actions.specs.Texts.{written}
 use Rattle.csicodec_actions.specs.Written.{Written}
 
@@ -45,10 +45,10 @@ pub record IsCanonicalUnknown (params : List CsiParam) (own flag : Bool) (final 
 
 -- ---- all values
 
--- each value that the action is written with is read as itself, and it isn't special
+-- each value that the action is written with is read as itself, and so is the action
 abbrev pub IsCanonicalWritten : Action → Option Written → Type 0
 IsCanonicalWritten a None = ⊥
-IsCanonicalWritten a (Some w) = AllGood w.items × ¬ IsSpecial a
+IsCanonicalWritten a (Some w) = AllGood w.items × ¬ IsNeverRead a
 
 -- where the bytes are read with this flag
 abbrev pub Canonical : Action → Bool → Type 0

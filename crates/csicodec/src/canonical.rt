@@ -11,8 +11,9 @@ use crate::group::{Group, front};
 use crate::list::{group_of, is_odd};
 use crate::whole::{boxed_action, plain_action};
 use csicodec_actions::canonical::{
-    is_canonical_cursor, is_canonical_edit, is_canonical_keyboard, is_canonical_mode,
-    is_canonical_mouse, is_canonical_window, is_said, is_special,
+    is_canonical_cursor, is_canonical_device, is_canonical_edit, is_canonical_keyboard,
+    is_canonical_mode,
+    is_canonical_mouse, is_canonical_window, is_said, is_special, is_spellable_token,
 };
 use csicodec_base::{CsiParam, Font, Sgr};
 use std::alloc::{AllocError, Global};
@@ -24,16 +25,6 @@ fn is_canonical_sgr(sgr: &Sgr) -> bool
     match sgr {
         Sgr::Font(Font::Alternate(number)) => matches!(number, 1..=9),
         _ => true,
-    }
-}
-
-/// A token that a sequence can have.
-fn is_spellable_token(token: &CsiParam) -> bool
-    ensures { IsTrue result ↔ IsSpellable token.now }
-{
-    match token {
-        CsiParam::Integer(number) => *number >= 0,
-        CsiParam::P(byte) => matches!(byte, b' '..=b'/' | b':'..=b'?'),
     }
 }
 
@@ -126,10 +117,11 @@ fn is_canonical_unknown(
 
 impl CSI {
     /// Whether the text of this value, read with the flag, is this one value. It holds of all that is read, but for left
-    /// and right margins from 1 to 4294967295, and not of each value that is built by hand: counts are 1 or more, other
-    /// numbers 0 or more; a mode without a name has no number of one that has a name; an alternative font is 1 to 9; flags
-    /// and modifiers are those that have names; and what is unknown has this flag, tokens and a final character that a
-    /// sequence can have, and none of the rules reads it. An `Err` comes only for an `Unspecified`.
+    /// and right margins from 1 to 4294967295 and requests for the terminal's parameters, and not of each value that is
+    /// built by hand: counts are 1 or more, other numbers 0 or more; a mode or an extension without a name has no number of
+    /// one that has a name; an alternative font is 1 to 9; flags and modifiers are those that have names; no report of the
+    /// mouse is in pixels; and what is unknown has this flag, tokens and a final character that a sequence can have, and
+    /// none of the rules reads it. An `Err` comes only for an `Unspecified`.
     pub fn is_canonical(
         &self,
         alloc: Global,
@@ -143,7 +135,7 @@ impl CSI {
             CSI::Cursor(cursor) => Ok(is_canonical_cursor(cursor) && !is_special(cursor)),
             CSI::Edit(edit) => Ok(is_canonical_edit(edit)),
             CSI::Mode(mode) => Ok(is_canonical_mode(mode)),
-            CSI::Device(_) => Ok(true),
+            CSI::Device(device) => Ok(is_canonical_device(device)),
             CSI::Window(window) => Ok(is_canonical_window(window)),
             CSI::Keyboard(keyboard) => Ok(is_canonical_keyboard(keyboard)),
             CSI::SelectCharacterPath(_, effect) => Ok(is_said(*effect)),

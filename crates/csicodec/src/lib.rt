@@ -21,8 +21,10 @@ mod words;
 pub use actions::{CSI, Unspecified};
 pub use count::Count;
 pub use csicodec_actions::{
-    CharacterPath, Cursor, DecPrivateMode, Device, Edit, Keyboard, KittyKeyboardMode, Mode,
-    MouseButton, MouseReport, TerminalMode, Window, XtermKeyModifierResource,
+    CharacterPath, Cursor, DecPrivateMode, Device, DeviceAttribute, DeviceAttributeFlags,
+    DeviceAttributes, Edit, Keyboard, KittyKeyboardMode, Mode, MouseButton, MouseReport,
+    TerminalMode, Window, XtSmGraphics, XtSmGraphicsAction, XtSmGraphicsItem, XtSmGraphicsStatus,
+    XtermKeyModifierResource,
 };
 pub use csicodec_base::{
     AnsiColor, Blink, ColorSpec, Cracked, CsiParam, CsiTail, CursorStyle, CursorTabulationControl,

@@ -1,6 +1,6 @@
 -- What holds of all that the rows of whole lists give: said for each row, and proved of any list.
 use Rattle.std.proofs.Common.{◌≡◌, ℕ, List, [], ◌∷◌, ◌++◌, Option, None, Some, refl, sym, ap, ◌∙◌, inl, inr, rules, append_assoc}
-use Rattle.std.specs.Prelude.{ℤ, ◌==◌, true, if◌then◌else◌}
+use Rattle.std.specs.Prelude.{ℤ, ◌==◌, Bool, true, false, if◌then◌else◌}
 use Rattle.std.specs.List.{AllByRecursion}
 use Rattle.std.specs.Option.{option_or}
 use Rattle.std.proofs.lemmas.Bool.{cases_Bool, and_parts, eqb-true}
@@ -11,7 +11,7 @@ use Rattle.csicodec_tokens.specs.Sequence.{IsSpellable, Spellable}
 use Rattle.csicodec_actions.specs.Actions.{Action}
 use Rattle.csicodec_actions.specs.FieldRows.{read_fields}
 use Rattle.csicodec_actions.specs.Kinds.{Kind, Value, read}
-use Rattle.csicodec_actions.specs.Rows.{Slot, Byte, Number, One, Makes, fits, has_shape, made, gives, Row, given, Before, rows_before, read_by}
+use Rattle.csicodec_actions.specs.Rows.{Slot, Byte, Number, One, Makes, AtEnd, ended, fits, has_shape, made, gives, Row, given, Before, rows_before, read_by}
 use Rattle.csicodec_actions.specs.Table.Cursor.{as_cursor}
 use Rattle.csicodec_actions.specs.Table.Device.{as_device}
 use Rattle.csicodec_actions.specs.Table.Edit.{as_edit}
@@ -29,7 +29,7 @@ use Rattle.csicodec_actions.proofs.Found.{guarded, one-of}
 pub given-append : {R : Type 0} (xs ys : List (Row R)) (list : List CsiParam) → given (xs ++ ys) list ≡ option_or (given xs list) (given ys list)
 given-append [] ys list = refl
 given-append (r ∷ rows) ys list =
-    ap (option_or (gives r.shape r.make list)) (given-append rows ys list) ∙ sym (option_or-assoc (gives r.shape r.make list) (given rows list) (given ys list))
+    ap (option_or (gives r list)) (given-append rows ys list) ∙ sym (option_or-assoc (gives r list) (given rows list) (given ys list))
 
 pub before-append : {R : Type 0} (xs ys : List (Before R)) (final : ℕ) → rows_before (xs ++ ys) final ≡ rows_before xs final ++ rows_before ys final
 before-append [] ys final = refl
@@ -52,27 +52,27 @@ AllRows Q others = AllByRecursion (λ (b : Before Action). AllByRecursion (λ (r
 pub record RowOf (Q : ℕ → Row Action → Type 0) (list : List CsiParam) (final : ℕ) (a : Action) : Type 0 where
   pub row : Row Action
   pub holds : Q final row
-  pub gave : gives row.shape row.make list ≡ Some a
+  pub gave : gives row list ≡ Some a
 
 given-row : (Q : ℕ → Row Action → Type 0) (rows : List (Row Action)) (list : List CsiParam) (final : ℕ) (a : Action) → AllByRecursion (λ (r : Row Action). Q final r) rows → given rows list ≡ Some a
     → RowOf Q list final a
 given-row Q [] list final a all e = cc
-given-row Q (r ∷ rows) list final a all e = go (gives r.shape r.make list) refl e (given-row Q rows list final a all.1)
+given-row Q (r ∷ rows) list final a all e = go (gives r list) refl e (given-row Q rows list final a all.1)
   where
-    go : (o : Option Action) → gives r.shape r.make list ≡ o → option_or o (given rows list) ≡ Some a → (given rows list ≡ Some a → RowOf Q list final a) → RowOf Q list final a
+    go : (o : Option Action) → gives r list ≡ o → option_or o (given rows list) ≡ Some a → (given rows list ≡ Some a → RowOf Q list final a) → RowOf Q list final a
     go (Some x) gave e later = record { row = r; holds = all.0; gave = gave ∙ e }
     go None gave e later = later e
 
-both : (Q : Row Action → Type 0) (xs ys : List (Row Action)) → AllByRecursion Q xs → AllByRecursion Q ys → AllByRecursion Q (xs ++ ys)
-both Q [] ys all more = more
-both Q (x ∷ xs) ys all more = (all.0, both Q xs ys all.1 more)
+pub all-append : {X : Type 0} (Q : X → Type 0) (xs ys : List X) → AllByRecursion Q xs → AllByRecursion Q ys → AllByRecursion Q (xs ++ ys)
+all-append Q [] ys all more = more
+all-append Q (x ∷ xs) ys all more = (all.0, all-append Q xs ys all.1 more)
 
 rows-of : (Q : ℕ → Row Action → Type 0) (others : List (Before Action)) (final : ℕ) → AllRows Q others → AllByRecursion (λ (r : Row Action). Q final r) (rows_before others final)
 rows-of Q [] final all = tt
 rows-of Q (b ∷ others) final all = elim (cases_Bool (final == b.final)) [
   | inl here ↦
       let mine : AllByRecursion (λ (r : Row Action). Q final r) b.rows = rw (eqb-true final b.final here) all.0 in
-      rw here (both (λ (r : Row Action). Q final r) b.rows (rows_before others final) mine (rows-of Q others final all.1))
+      rw here (all-append (λ (r : Row Action). Q final r) b.rows (rows_before others final) mine (rows-of Q others final all.1))
   | inr later ↦ rw later (rows-of Q others final all.1)
 ]
 
@@ -81,40 +81,57 @@ row-in Q rows list final a all e = given-row Q (rows_before rows final) list fin
 
 -- ---- what the rows make
 
--- Each action that the row makes has the property Q, where each value has the property G.
-abbrev pub Keeps : ((k : Kind) → Value k → Type 0) → (Action → Type 0) → (shape : List Slot) → Makes Action shape → Type 0
-Keeps G Q [] made = Q made
-Keeps G Q (Byte b ∷ shape) make = Keeps G Q shape make
-Keeps G Q (Number n ∷ shape) make = Keeps G Q shape make
-Keeps G Q (One k ∷ shape) make = (v : Value k) → G k v → Keeps G Q shape (make v)
+-- what is made of tokens with the property T has the property Q
+pub record KeepsTail (T : CsiParam → Type 0) (Q : Action → Type 0) (make : List CsiParam → Action) : Type 0 where
+  pub each : (rest : List CsiParam) → AllByRecursion T rest → Q (make rest)
+
+-- the same of what is made at the end of a row, with a tail or without
+abbrev pub KeepsEnd : (CsiParam → Type 0) → (Action → Type 0) → (tail : Bool) → AtEnd tail Action → Type 0
+KeepsEnd T Q true make = KeepsTail T Q make
+KeepsEnd T Q false whole = Q whole
+
+-- Each action that the row makes has the property Q, where each value has the property G, and each token of a tail the property T.
+abbrev pub Keeps : (CsiParam → Type 0) → ((k : Kind) → Value k → Type 0) → (Action → Type 0) → (tail : Bool) (shape : List Slot) → Makes (AtEnd tail Action) shape → Type 0
+Keeps T G Q tail [] end = KeepsEnd T Q tail end
+Keeps T G Q tail (Byte b ∷ shape) make = Keeps T G Q tail shape make
+Keeps T G Q tail (Number n ∷ shape) make = Keeps T G Q tail shape make
+Keeps T G Q tail (One k ∷ shape) make = (v : Value k) → G k v → Keeps T G Q tail shape (make v)
 
 -- the tokens have the property T, and what counts as a value then has the property G
 abbrev pub ReadsAs : (CsiParam → Type 0) → ((k : Kind) → Value k → Type 0) → Type 0
 ReadsAs T G = (k : Kind) (z : ℤ) (v : Value k) → T (Integer z) → read k z ≡ Some v → G k v
 
-made-keeps : (T : CsiParam → Type 0) (G : (k : Kind) → Value k → Type 0) (Q : Action → Type 0) → ReadsAs T G → (shape : List Slot) (make : Makes Action shape) (list : List CsiParam) (a : Action)
-    → Keeps G Q shape make → AllByRecursion T list → made shape make list ≡ Some a → Q a
-made-keeps T G Q reads [] made list a keeps all e = rw (← same_Some _ _ e) keeps
-made-keeps T G Q reads (Byte b ∷ shape) make [] a keeps all e = cc
-made-keeps T G Q reads (Number n ∷ shape) make [] a keeps all e = cc
-made-keeps T G Q reads (One k ∷ shape) make [] a keeps all e = cc
-made-keeps T G Q reads (Byte b ∷ shape) make (t ∷ ts) a keeps all e = made-keeps T G Q reads shape make ts a keeps all.1 e
-made-keeps T G Q reads (Number n ∷ shape) make (t ∷ ts) a keeps all e = made-keeps T G Q reads shape make ts a keeps all.1 e
-made-keeps T G Q reads (One k ∷ shape) make (Integer z ∷ ts) a keeps all e =
-    option_and_then_some (λ v. made shape (make v) ts) (read k z) a e
-    (λ v found is. made-keeps T G Q reads shape (make v) ts a (keeps v (reads k z v all.0 found)) all.1 is)
-made-keeps T G Q reads (One k ∷ shape) make (P c ∷ ts) a keeps all e = cc
+end-keeps : (T : CsiParam → Type 0) (Q : Action → Type 0) (tail : Bool) (end : AtEnd tail Action) (list : List CsiParam) (a : Action) → KeepsEnd T Q tail end → AllByRecursion T list
+    → ended tail end list ≡ a → Q a
+end-keeps T Q true make list a keeps all e = rw (← e) (keeps.each list all)
+end-keeps T Q false whole list a keeps all e = rw (← e) keeps
 
-abbrev pub TableKeeps : ((k : Kind) → Value k → Type 0) → (Action → Type 0) → List (Before Action) → Type 0
-TableKeeps G Q rows = AllRows (λ final row. Keeps G Q row.shape row.make) rows
+made-keeps : (T : CsiParam → Type 0) (G : (k : Kind) → Value k → Type 0) (Q : Action → Type 0) → ReadsAs T G → (tail : Bool) (shape : List Slot) (make : Makes (AtEnd tail Action) shape)
+    (list : List CsiParam) (a : Action) → Keeps T G Q tail shape make → AllByRecursion T list → made tail shape make list ≡ Some a → Q a
+made-keeps T G Q reads tail [] end list a keeps all e = end-keeps T Q tail end list a keeps all (same_Some _ _ e)
+made-keeps T G Q reads tail (Byte b ∷ shape) make [] a keeps all e = cc
+made-keeps T G Q reads tail (Number n ∷ shape) make [] a keeps all e = cc
+made-keeps T G Q reads tail (One k ∷ shape) make [] a keeps all e = cc
+made-keeps T G Q reads tail (Byte b ∷ shape) make (t ∷ ts) a keeps all e = made-keeps T G Q reads tail shape make ts a keeps all.1 e
+made-keeps T G Q reads tail (Number n ∷ shape) make (t ∷ ts) a keeps all e = made-keeps T G Q reads tail shape make ts a keeps all.1 e
+made-keeps T G Q reads tail (One k ∷ shape) make (Integer z ∷ ts) a keeps all e =
+    option_and_then_some (λ v. made tail shape (make v) ts) (read k z) a e
+    (λ v found is. made-keeps T G Q reads tail shape (make v) ts a (keeps v (reads k z v all.0 found)) all.1 is)
+made-keeps T G Q reads tail (One k ∷ shape) make (P c ∷ ts) a keeps all e = cc
 
-pub table-keeps : (T : CsiParam → Type 0) (G : (k : Kind) → Value k → Type 0) (Q : Action → Type 0) → ReadsAs T G → (rows : List (Before Action)) → TableKeeps G Q rows → (list : List CsiParam) (final : ℕ)
+abbrev pub TableKeeps : (CsiParam → Type 0) → ((k : Kind) → Value k → Type 0) → (Action → Type 0) → List (Before Action) → Type 0
+TableKeeps T G Q rows = AllRows (λ final row. Keeps T G Q row.tail row.shape row.make) rows
+
+pub table-append : (T : CsiParam → Type 0) (G : (k : Kind) → Value k → Type 0) (Q : Action → Type 0) (xs ys : List (Before Action)) → TableKeeps T G Q xs → TableKeeps T G Q ys → TableKeeps T G Q (xs ++ ys)
+table-append T G Q xs ys keep more = all-append (λ (b : Before Action). AllByRecursion (λ (r : Row Action). Keeps T G Q r.tail r.shape r.make) b.rows) xs ys keep more
+
+pub table-keeps : (T : CsiParam → Type 0) (G : (k : Kind) → Value k → Type 0) (Q : Action → Type 0) → ReadsAs T G → (rows : List (Before Action)) → TableKeeps T G Q rows → (list : List CsiParam) (final : ℕ)
     (a : Action) → AllByRecursion T list → read_by rows list final ≡ Some a → Q a
 table-keeps T G Q reads rows keep list final a all e =
-    let r = row-in (λ final row. Keeps G Q row.shape row.make) rows list final a keep e in
-    made-keeps T G Q reads r.row.shape r.row.make list a r.holds all (guarded (has_shape r.row.shape list) _ a r.gave).1
+    let r = row-in (λ final row. Keeps T G Q row.tail row.shape row.make) rows list final a keep e in
+    made-keeps T G Q reads r.row.tail r.row.shape r.row.make list a r.holds all (guarded (has_shape r.row.tail r.row.shape list) _ a r.gave).1
 
-pub whole-keeps : (T : CsiParam → Type 0) (G : (k : Kind) → Value k → Type 0) (Q : Action → Type 0) → ReadsAs T G → TableKeeps G Q table → FieldRowsKeep G Q window_fields → (list : List CsiParam) (final : ℕ)
+pub whole-keeps : (T : CsiParam → Type 0) (G : (k : Kind) → Value k → Type 0) (Q : Action → Type 0) → ReadsAs T G → TableKeeps T G Q table → FieldRowsKeep G Q window_fields → (list : List CsiParam) (final : ℕ)
     (a : Action) → AllByRecursion T list → whole list final ≡ Some a → Q a
 whole-keeps T G Q reads keep keep-fields list final a all e = elim (one-of (read_by table list final) (read_fields window_fields list final) a (sym (whole-table list final) ∙ e)) [
   | inl row ↦ table-keeps T G Q reads table keep list final a all row

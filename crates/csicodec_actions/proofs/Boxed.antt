@@ -19,7 +19,7 @@ pub boxed_whole : (list : List CsiParam) (final : ℕ) → plain list final ≡ 
 unfolding whole
 boxed_whole list final e = rw e refl
 
-rows-take : TableKeeps (λ k v. Unit {0}) TakesMemory device_rows
+rows-take : TableKeeps (λ t. Unit {0}) (λ k v. Unit {0}) TakesMemory device_rows
 rows-take = search rules depth 60
 
 field-rows-take : FieldRowsKeep (λ k v. Unit {0}) TakesMemory window_fields

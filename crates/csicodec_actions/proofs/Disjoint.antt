@@ -34,20 +34,23 @@ differ (One k) (Byte b) = true
 differ (One k) (Number n) = false
 differ (One k) (One j) = false
 
--- no list has both shapes
-abbrev are_apart : List Slot → List Slot → Bool
-are_apart [] [] = false
-are_apart [] (t ∷ ts) = true
-are_apart (s ∷ ss) [] = true
-are_apart (s ∷ ss) (t ∷ ts) = differ s t || are_apart ss ts
+-- no list has both shapes, each with a tail or without
+abbrev shapes_apart : Bool → List Slot → Bool → List Slot → Bool
+shapes_apart tail [] other [] = false
+shapes_apart tail [] other (t ∷ ts) = not tail
+shapes_apart tail (s ∷ ss) other [] = not other
+shapes_apart tail (s ∷ ss) other (t ∷ ts) = differ s t || shapes_apart tail ss other ts
 
-abbrev apart_from : List Slot → List (Row Action) → Bool
-apart_from shape [] = true
-apart_from shape (r ∷ rows) = are_apart shape r.shape && apart_from shape rows
+abbrev are_apart : Row Action → Row Action → Bool
+are_apart q r = shapes_apart q.tail q.shape r.tail r.shape
+
+abbrev apart_from : Row Action → List (Row Action) → Bool
+apart_from q [] = true
+apart_from q (r ∷ rows) = are_apart q r && apart_from q rows
 
 abbrev all_apart : List (Row Action) → Bool
 all_apart [] = true
-all_apart (r ∷ rows) = apart_from r.shape rows && all_apart rows
+all_apart (r ∷ rows) = apart_from r rows && all_apart rows
 
 -- of each final of these
 abbrev finals_apart : List (Before Action) → List (Before Action) → Bool
@@ -82,40 +85,49 @@ differ-slots (One k) (Byte b) (Integer z) d e f = cc
 differ-slots (One k) (Number n) (Integer z) d e f = cc
 differ-slots (One k) (One j) (Integer z) d e f = cc
 
-apart-shapes : (s t : List Slot) (list : List CsiParam) → are_apart s t ≡ true → has_shape s list ≡ true → has_shape t list ≡ true → ⊥
-apart-shapes [] [] list d e f = cc
-apart-shapes [] (t ∷ ts) [] d e f = cc
-apart-shapes [] (t ∷ ts) (x ∷ xs) d e f = cc
-apart-shapes (s ∷ ss) [] [] d e f = cc
-apart-shapes (s ∷ ss) [] (x ∷ xs) d e f = cc
-apart-shapes (s ∷ ss) (t ∷ ts) [] d e f = cc
-apart-shapes (s ∷ ss) (t ∷ ts) (x ∷ xs) d e f =
-    let p = and_parts (has_shape ss xs) (fits s x) e in
-    let q = and_parts (has_shape ts xs) (fits t x) f in
-    elim (cases_Bool (differ s t)) [ inl here ↦ differ-slots s t x here p.1 q.1 | inr later ↦ apart-shapes ss ts xs (rw later at d) p.0 q.0 ]
+apart-shapes : (tail : Bool) (s : List Slot) (other : Bool) (t : List Slot) (list : List CsiParam) → shapes_apart tail s other t ≡ true → has_shape tail s list ≡ true → has_shape other t list ≡ true → ⊥
+apart-shapes tail [] other [] list d e f = cc
+apart-shapes true [] other (t ∷ ts) list d e f = cc
+apart-shapes false [] other (t ∷ ts) [] d e f = cc
+apart-shapes false [] other (t ∷ ts) (x ∷ xs) d e f = cc
+apart-shapes tail (s ∷ ss) true [] list d e f = cc
+apart-shapes tail (s ∷ ss) false [] [] d e f = cc
+apart-shapes tail (s ∷ ss) false [] (x ∷ xs) d e f = cc
+apart-shapes tail (s ∷ ss) other (t ∷ ts) [] d e f = cc
+apart-shapes tail (s ∷ ss) other (t ∷ ts) (x ∷ xs) d e f =
+    let p = and_parts (has_shape tail ss xs) (fits s x) e in
+    let q = and_parts (has_shape other ts xs) (fits t x) f in
+    elim (cases_Bool (differ s t)) [ inl here ↦ differ-slots s t x here p.1 q.1 | inr later ↦ apart-shapes tail ss other ts xs (rw later at d) p.0 q.0 ]
 
-apart-row : (shape : List Slot) (rows : List (Row Action)) (list : List CsiParam) (i : ℕ) (r : Row Action) → apart_from shape rows ≡ true → slice_get rows i ≡ Some r → has_shape shape list ≡ true
-    → has_shape r.shape list ≡ true → ⊥
-apart-row shape [] list zero r d e f g = cc
-apart-row shape [] list (suc i) r d e f g = cc
-apart-row shape (q ∷ rows) list zero r d e f g =
-    let p = and_parts (are_apart shape q.shape) (apart_from shape rows) d in
-    let same : q ≡ r = same_Some q r e in
-    apart-shapes shape r.shape list (subst (λ (x : List Slot). are_apart shape x ≡ true) (ap (λ (x : Row Action). x.shape) same) p.0) f g
-apart-row shape (q ∷ rows) list (suc i) r d e f g = let p = and_parts (are_apart shape q.shape) (apart_from shape rows) d in apart-row shape rows list i r p.1 e f g
+-- the list has the shape of the row
+abbrev has : Row Action → List CsiParam → Bool
+has r list = has_shape r.tail r.shape list
+
+apart-rows : (q r : Row Action) (list : List CsiParam) → are_apart q r ≡ true → has q list ≡ true → has r list ≡ true → ⊥
+apart-rows q r list d e f = apart-shapes q.tail q.shape r.tail r.shape list d e f
+
+apart-row : (q : Row Action) (rows : List (Row Action)) (list : List CsiParam) (i : ℕ) (r : Row Action) → apart_from q rows ≡ true → slice_get rows i ≡ Some r → has q list ≡ true
+    → has r list ≡ true → ⊥
+apart-row q [] list zero r d e f g = cc
+apart-row q [] list (suc i) r d e f g = cc
+apart-row q (p ∷ rows) list zero r d e f g =
+    let both = and_parts (are_apart q p) (apart_from q rows) d in
+    let same : p ≡ r = same_Some p r e in
+    apart-rows q r list (subst (λ (x : Row Action). are_apart q x ≡ true) same both.0) f g
+apart-row q (p ∷ rows) list (suc i) r d e f g = let both = and_parts (are_apart q p) (apart_from q rows) d in apart-row q rows list i r both.1 e f g
 
 -- the row that gives something decides, wherever it stands
-decides : (rows : List (Row Action)) (list : List CsiParam) (i : ℕ) (r : Row Action) (a : Action) → all_apart rows ≡ true → slice_get rows i ≡ Some r → gives r.shape r.make list ≡ Some a
+decides : (rows : List (Row Action)) (list : List CsiParam) (i : ℕ) (r : Row Action) (a : Action) → all_apart rows ≡ true → slice_get rows i ≡ Some r → gives r list ≡ Some a
     → given rows list ≡ Some a
 decides [] list zero r a d at e = cc
 decides [] list (suc i) r a d at e = cc
 decides (q ∷ rows) list zero r a d at e =
     let same : q ≡ r = same_Some q r at in
-    let here : gives q.shape q.make list ≡ Some a = subst (λ (x : Row Action). gives x.shape x.make list ≡ Some a) (sym same) e in rw here refl
+    let here : gives q list ≡ Some a = subst (λ (x : Row Action). gives x list ≡ Some a) (sym same) e in rw here refl
 decides (q ∷ rows) list (suc i) r a d at e =
-    let p = and_parts (apart_from q.shape rows) (all_apart rows) d in
-    elim (cases_Bool (has_shape q.shape list)) [
-      | inl fits ↦ absurd (apart-row q.shape rows list i r p.0 at fits (guarded (has_shape r.shape list) _ a e).0)
+    let p = and_parts (apart_from q rows) (all_apart rows) d in
+    elim (cases_Bool (has q list)) [
+      | inl fits ↦ absurd (apart-row q rows list i r p.0 at fits (guarded (has r list) _ a e).0)
       | inr other ↦ rw other (decides rows list i r a p.1 at e)
     ]
 
@@ -139,23 +151,23 @@ rows_lem list final r a listed e =
 -- ---- what one subject's rows give is the action
 
 -- the row that gave something fits, so no row apart from it does
-apart-given : (shape : List Slot) (front rows : List (Row Action)) (list : List CsiParam) (a : Action) → apart_from shape (front ++ rows) ≡ true → has_shape shape list ≡ true → given rows list ≡ Some a → ⊥
-apart-given shape [] [] list a d f e = cc
-apart-given shape [] (r ∷ rows) list a d f e =
-    let p = and_parts (are_apart shape r.shape) (apart_from shape rows) d in go (gives r.shape r.make list) refl p.0 (apart-given shape [] rows list a p.1 f) e
+apart-given : (p : Row Action) (front rows : List (Row Action)) (list : List CsiParam) (a : Action) → apart_from p (front ++ rows) ≡ true → has p list ≡ true → given rows list ≡ Some a → ⊥
+apart-given p [] [] list a d f e = cc
+apart-given p [] (r ∷ rows) list a d f e =
+    let both = and_parts (are_apart p r) (apart_from p rows) d in go (gives r list) refl both.0 (apart-given p [] rows list a both.1 f) e
   where
-    go : (o : Option Action) → gives r.shape r.make list ≡ o → are_apart shape r.shape ≡ true → (given rows list ≡ Some a → ⊥) → option_or o (given rows list) ≡ Some a → ⊥
+    go : (o : Option Action) → gives r list ≡ o → are_apart p r ≡ true → (given rows list ≡ Some a → ⊥) → option_or o (given rows list) ≡ Some a → ⊥
     go None gave here later e = later e
-    go (Some x) gave here later e = apart-shapes shape r.shape list here f (guarded (has_shape r.shape list) _ x gave).0
-apart-given shape (q ∷ front) rows list a d f e =
-    let p = and_parts (are_apart shape q.shape) (apart_from shape (front ++ rows)) d in apart-given shape front rows list a p.1 f e
+    go (Some x) gave here later e = apart-rows p r list here f (guarded (has r list) _ x gave).0
+apart-given p (q ∷ front) rows list a d f e =
+    let both = and_parts (are_apart p q) (apart_from p (front ++ rows)) d in apart-given p front rows list a both.1 f e
 
 given-behind : (front rows : List (Row Action)) (list : List CsiParam) (a : Action) → all_apart (front ++ rows) ≡ true → given rows list ≡ Some a → given (front ++ rows) list ≡ Some a
 given-behind [] rows list a d e = e
 given-behind (q ∷ front) rows list a d e =
-    let p = and_parts (apart_from q.shape (front ++ rows)) (all_apart (front ++ rows)) d in
-    elim (cases_Bool (has_shape q.shape list)) [
-      | inl fits ↦ absurd (apart-given q.shape front rows list a p.0 fits e)
+    let p = and_parts (apart_from q (front ++ rows)) (all_apart (front ++ rows)) d in
+    elim (cases_Bool (has q list)) [
+      | inl fits ↦ absurd (apart-given q front rows list a p.0 fits e)
       | inr other ↦ rw other (given-behind front rows list a p.1 e)
     ]
 

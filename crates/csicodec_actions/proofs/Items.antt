@@ -1,18 +1,23 @@
 -- The list that an action is written as, and its text.
-use Rattle.std.proofs.Common.{◌≡◌, ℕ, ◌<◌, ◌⊎◌, List, [], ◌∷◌, ◌++◌, Some, refl, sym, inl, inr, arith, append_assoc}
+use Rattle.std.proofs.Common.{◌≡◌, ℕ, ◌<◌, ◌⊎◌, List, [], ◌∷◌, ◌++◌, Some, refl, sym, inl, inr, arith, append_assoc, pos}
 use Rattle.std.specs.Prelude.{Bool, true, false, ◌&&◌, ◌||◌, nat_lt}
 use Rattle.std.proofs.lemmas.Bool.{cases_Bool, and_parts, ltb-true}
 use Rattle.std.proofs.lemmas.Str.{encode_ascii}
+use Rattle.csicodec_names.specs.DeviceNumbers.{device_attribute_number}
+use Rattle.csicodec_tokens.specs.declared.param.CsiParam.{CsiParam}
 use Rattle.csicodec_tokens.specs.declared.param.CsiParam.TheVariants.{Integer, P}
-use Rattle.csicodec_tokens.specs.Param.{spells}
+use Rattle.csicodec_tokens.specs.Param.{spells, token_text}
 use Rattle.csicodec_tokens.specs.Sequence.{IsFinal, IsSpellable, Apart, Spellable}
 use Rattle.csicodec_actions.specs.Actions.{Action}
 use Rattle.csicodec_actions.specs.Kinds.{Kind, Value, number}
 use Rattle.csicodec_names.specs.Numbered.{is_number}
-use Rattle.csicodec_actions.specs.Written.{Item, Byte, The, Unless, Written, tokens, shown, written_text}
-use Rattle.csicodec_actions.specs.Good.{Good, AllGood}
+use Rattle.csicodec_actions.specs.declared.actions.device.DeviceAttribute.{DeviceAttribute}
+use Rattle.csicodec_actions.specs.declared.actions.device.DeviceAttribute.TheVariants as attribute
+use Rattle.csicodec_actions.specs.Devices.{attribute_token}
+use Rattle.csicodec_actions.specs.Written.{Item, Byte, The, Unless, Attribute, Written, tokens, shown, written_text}
+use Rattle.csicodec_actions.specs.Good.{Good, GoodAttribute, AllGood, IsSaid}
+use Rattle.csicodec_actions.proofs.Values.{number-said, attribute-said}
 use Rattle.csicodec_actions.specs.Whole.{whole}
-use Rattle.csicodec_actions.proofs.Values.{number-said}
 
 -- ---- a test that is computed for each action: its bytes can stand in a sequence, no two numbers side by side, and its final can end one
 
@@ -24,12 +29,14 @@ begins_apart [] = true
 begins_apart (Byte b ∷ items) = true
 begins_apart (The k v ∷ items) = false
 begins_apart (Unless n k v ∷ items) = false
+begins_apart (Attribute a ∷ items) = false
 
 abbrev pub are_sound : List Item → Bool
 are_sound [] = true
 are_sound (Byte b ∷ items) = is_mark b && are_sound items
 are_sound (The k v ∷ items) = begins_apart items && are_sound items
 are_sound (Unless n k v ∷ items) = begins_apart items && are_sound items
+are_sound (Attribute a ∷ items) = begins_apart items && are_sound items
 
 abbrev pub is_sound : Written → Bool
 is_sound w = are_sound w.items && (nat_lt 63 w.final && nat_lt w.final 127)
@@ -55,26 +62,35 @@ mark-spellable b e =
     let m = mark b e in
     ((omega (arith, m.above), omega (arith, m.below)), λ digit. elim m.apart [ inl low ↦ omega (arith, low, digit) | inr high ↦ omega (arith, high, digit) ])
 
-apart : (k : Kind) (v : Value k) (items : List Item) → begins_apart items ≡ true → Apart (Integer (number k v)) (tokens items)
-apart k v [] e = tt
-apart k v (Byte b ∷ items) e = tt
-apart k v (The j u ∷ items) e = cc
-apart k v (Unless n j u ∷ items) e = cc
+apart : (t : CsiParam) (items : List Item) → begins_apart items ≡ true → Apart t (tokens items)
+apart (P b) items e = tt
+apart (Integer z) [] e = tt
+apart (Integer z) (Byte b ∷ items) e = tt
+apart (Integer z) (The j u ∷ items) e = cc
+apart (Integer z) (Unless n j u ∷ items) e = cc
+apart (Integer z) (Attribute a ∷ items) e = cc
 
 value-spellable : (k : Kind) (v : Value k) → Good k v → IsSpellable (Integer (number k v))
 value-spellable k v good = let s = number-said k v good in (s.above, s.fits)
+
+attribute-spellable : (a : DeviceAttribute) → GoodAttribute a → IsSpellable (attribute_token a)
+attribute-spellable (attribute.Code c) good =
+    let small : IsSaid (pos (device_attribute_number c)) = attribute-said c in (small.above, small.fits)
+attribute-spellable (attribute.Unspecified t) good = good.0
 
 items-spellable : (items : List Item) → are_sound items ≡ true → AllGood items → Spellable (tokens items)
 items-spellable [] e good = tt
 items-spellable (Byte b ∷ items) e good = let p = and_parts (is_mark b) (are_sound items) e in (mark-spellable b p.0, tt, items-spellable items p.1 good)
 items-spellable (The k v ∷ items) e good =
-    let p = and_parts (begins_apart items) (are_sound items) e in (value-spellable k v good.0, apart k v items p.0, items-spellable items p.1 good.1)
+    let p = and_parts (begins_apart items) (are_sound items) e in (value-spellable k v good.0, apart (Integer (number k v)) items p.0, items-spellable items p.1 good.1)
 items-spellable (Unless n k v ∷ items) e good =
     let p = and_parts (begins_apart items) (are_sound items) e in
     elim (cases_Bool (is_number n (number k v))) [
       | inl here ↦ rw here (items-spellable items p.1 good.1)
-      | inr there ↦ rw there (value-spellable k v good.0, apart k v items p.0, items-spellable items p.1 good.1)
+      | inr there ↦ rw there (value-spellable k v good.0, apart (Integer (number k v)) items p.0, items-spellable items p.1 good.1)
     ]
+items-spellable (Attribute a ∷ items) e good =
+    let p = and_parts (begins_apart items) (are_sound items) e in (attribute-spellable a good.0, apart (attribute_token a) items p.0, items-spellable items p.1 good.1)
 
 mark-text : (b : ℕ) → is_mark b ≡ true → b < 128
 mark-text b e = let m = mark b e in omega (arith, m.below)
@@ -90,6 +106,8 @@ shown-spells (Unless n k v ∷ items) end e =
       | inl here ↦ rw here (shown-spells items end p.1)
       | inr there ↦ rw (there, shown-spells items end p.1) (sym (append_assoc _ (spells (tokens items)) end))
     ]
+shown-spells (Attribute a ∷ items) end e =
+    let p = and_parts (begins_apart items) (are_sound items) e in rw (shown-spells items end p.1) (sym (append_assoc (token_text (attribute_token a)) (spells (tokens items)) end))
 
 -- the list that is written, before a final, whose text is that of the action
 pub record Sound (w : Written) : Type 0 where

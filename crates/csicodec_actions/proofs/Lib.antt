@@ -1,6 +1,7 @@
 pub mod Found
 pub mod MouseCodes
 pub mod Values
+pub mod DeviceTexts
 pub mod Made
 pub mod AllRows
 pub mod FieldsAt

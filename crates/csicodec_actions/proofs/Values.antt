@@ -12,6 +12,8 @@ use mir.Syntax.{w64}
 use mir.Val.{SFits, of_z, to_z}
 use Rattle.csicodec_tokens.specs.declared.param.CsiParam.TheVariants.{Integer}
 use Rattle.csicodec_tokens.specs.Digits.{largest}
+use Rattle.csicodec_names.specs.DeviceNumbers.{device_attribute_codes, device_attribute_number}
+use Rattle.csicodec_names.specs.declared.device.DeviceAttributeCodes.{DeviceAttributeCodes}
 use Rattle.csicodec_names.specs.EnumNumbers.{cursor_style_number, erase_in_display_number, erase_in_line_number, tabulation_clear_number, tabulation_control_number}
 use Rattle.csicodec_names.specs.ModeNumbers.{dec_mode_number, terminal_mode_number}
 use Rattle.csicodec_tokens.specs.OneBased.{most, number_or}
@@ -28,7 +30,7 @@ use Rattle.csicodec_actions.specs.declared.actions.keyboard.KittyKeyboardMode.Th
 use Rattle.csicodec_names.specs.declared.flags.KittyKeyboardFlags.{KittyKeyboardFlags}
 use Rattle.csicodec_names.specs.FlagBits.{kitty_bits}
 use Rattle.csicodec_actions.specs.KeyNumbers.{kitty_mode_number, kitty_modes, path_number, paths}
-use Rattle.csicodec_names.proofs.Coded.{none-found, Coded, found-of, small, styles, controls, clears, lines, displays, decs, terminals}
+use Rattle.csicodec_names.proofs.Coded.{none-found, Coded, found-of, small, attributes, styles, controls, clears, lines, displays, decs, terminals}
 use Rattle.csicodec_actions.proofs.Found.{map-some}
 use Rattle.csicodec_actions.specs.Good.{IsOneBased, IsSaid, IsOwn, GoodDec, GoodTerminal, Good}
 use Rattle.csicodec_actions.proofs.MouseCodes.{report-good, report-read, report-small, pressed-found, released-found}
@@ -217,6 +219,9 @@ dec-said (dec.Unspecified n) h = said n (omega (arith, h.fits))
 terminal-said : (m : TerminalMode) → GoodTerminal m → IsSaid (pos (terminal_number m))
 terminal-said (terminal.Code c) h = said (terminal_mode_number c) (small terminal_mode_number terminal_codes terminals largest (search (rules, arith) depth 60) c)
 terminal-said (terminal.Unspecified n) h = said n (omega (arith, h.fits))
+
+pub attribute-said : (c : DeviceAttributeCodes) → IsSaid (pos (device_attribute_number c))
+attribute-said c = said (device_attribute_number c) (small device_attribute_number device_attribute_codes attributes largest (search (rules, arith) depth 60) c)
 
 pub number-said : (k : Kind) (v : Value k) → Good k v → IsSaid (number k v)
 number-said Count n h = said n (omega (arith, h.fits))

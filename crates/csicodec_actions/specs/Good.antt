@@ -5,7 +5,14 @@ use Rattle.csicodec_names.specs.declared.flags.Modifiers.{Modifiers}
 use Rattle.csicodec_names.specs.FlagBits.{kitty_bits, modifier_bits}
 use Rattle.csicodec_names.specs.ModeNumbers.{dec_mode_number, terminal_mode_number}
 use Rattle.csicodec_names.specs.Numbered.{with_number}
+use Rattle.csicodec_names.specs.DeviceNumbers.{device_attribute_number}
+use Rattle.csicodec_names.specs.declared.device.DeviceAttributeCodes.{DeviceAttributeCodes}
 use Rattle.csicodec_tokens.specs.Digits.{largest}
+use Rattle.csicodec_tokens.specs.Sequence.{IsSpellable}
+use Rattle.csicodec_tokens.specs.declared.param.CsiParam.{CsiParam}
+use Rattle.csicodec_tokens.specs.declared.param.CsiParam.TheVariants.{Integer, P}
+use Rattle.csicodec_actions.specs.declared.actions.device.DeviceAttribute.{DeviceAttribute}
+use Rattle.csicodec_actions.specs.declared.actions.device.DeviceAttribute.TheVariants as attribute
 use Rattle.csicodec_actions.specs.declared.actions.mode.DecPrivateMode.{DecPrivateMode}
 use Rattle.csicodec_actions.specs.declared.actions.mode.DecPrivateMode.TheVariants as dec
 use Rattle.csicodec_actions.specs.declared.actions.mode.TerminalMode.{TerminalMode}
@@ -13,7 +20,7 @@ use Rattle.csicodec_actions.specs.declared.actions.mode.TerminalMode.TheVariants
 use Rattle.csicodec_actions.specs.declared.actions.mouse.MouseButton.{MouseButton}
 use Rattle.csicodec_actions.specs.Kinds.{Kind, Count, Last, Any, Style, Control, Clear, InDisplay, InLine, Dec, Terminal, Resource, Flags, Way, Path, Pops, Word, Pressed, Released, Value}
 use Rattle.csicodec_actions.specs.Mouse.{button_code, pressed, released}
-use Rattle.csicodec_actions.specs.Written.{Item, Byte, The, Unless}
+use Rattle.csicodec_actions.specs.Written.{Item, Byte, The, Unless, Attribute}
 
 -- a number from 1 on, of 32 bits
 pub record IsOneBased (n : ℕ) : Type 0 where
@@ -68,9 +75,20 @@ Good Word n = n < 65536
 Good Pressed v = IsReport pressed v
 Good Released v = IsReport released v
 
--- each value is written as a number that counts as it
+-- the token is no number of an extension that has a name, and no `;`
+abbrev pub IsUnnamed : CsiParam → Type 0
+IsUnnamed (Integer z) = (c : DeviceAttributeCodes) → z ≡ pos (device_attribute_number c) → ⊥
+IsUnnamed (P b) = b ≡ 59 → ⊥
+
+-- an extension that has a name, or any other token that a sequence can have
+abbrev pub GoodAttribute : DeviceAttribute → Type 0
+GoodAttribute (attribute.Code c) = Unit {0}
+GoodAttribute (attribute.Unspecified t) = IsSpellable t × IsUnnamed t
+
+-- each value is written as a number that counts as it, and each extension as its token
 abbrev pub AllGood : List Item → Type 0
 AllGood [] = Unit {0}
 AllGood (Byte b ∷ items) = AllGood items
 AllGood (The k v ∷ items) = Good k v × AllGood items
 AllGood (Unless n k v ∷ items) = Good k v × AllGood items
+AllGood (Attribute a ∷ items) = GoodAttribute a × AllGood items

@@ -15,3 +15,6 @@ pub mod Table
 pub mod Texts
 pub mod Whole
 pub mod Written
+pub mod Devices
+pub mod DeviceTexts
+pub mod Graphics

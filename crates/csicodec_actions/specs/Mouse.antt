@@ -86,3 +86,24 @@ is_release button.Button1Drag = false
 is_release button.Button2Drag = false
 is_release button.Button3Drag = false
 is_release button.None = false
+
+-- the bits of what is held: LEFT 1, RIGHT 2, MIDDLE 4; the wheels VERT_WHEEL 8 and HORZ_WHEEL 16, and WHEEL_POSITIVE 32. A release holds nothing
+abbrev pub held_buttons : MouseButton → ℕ
+held_buttons button.Button1Press = 1
+held_buttons button.Button2Press = 4
+held_buttons button.Button3Press = 2
+held_buttons button.Button4Press = 40
+held_buttons button.Button5Press = 8
+held_buttons button.Button6Press = 48
+held_buttons button.Button7Press = 16
+held_buttons button.Button1Drag = 1
+held_buttons button.Button2Drag = 4
+held_buttons button.Button3Drag = 2
+held_buttons button.Button1Release = 0
+held_buttons button.Button2Release = 0
+held_buttons button.Button3Release = 0
+held_buttons button.Button4Release = 0
+held_buttons button.Button5Release = 0
+held_buttons button.Button6Release = 0
+held_buttons button.Button7Release = 0
+held_buttons button.None = 0

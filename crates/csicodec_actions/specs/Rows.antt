@@ -32,36 +32,56 @@ fits (Number n) (P c) = false
 fits (One k) (Integer z) = true
 fits (One k) (P c) = false
 
--- the list has this shape: a token for each slot
-abbrev pub has_shape : List Slot → List CsiParam → Bool
-has_shape [] [] = true
-has_shape [] (t ∷ ts) = false
-has_shape (s ∷ shape) [] = false
-has_shape (s ∷ shape) (t ∷ ts) = has_shape shape ts && fits s t
+-- behind the slots of a row with a tail any tokens can stand, and behind those of another none
+abbrev pub can_end : Bool → List CsiParam → Bool
+can_end true list = true
+can_end false [] = true
+can_end false (t ∷ ts) = false
+
+-- the list has this shape: a token for each slot, and then what can end it
+abbrev pub has_shape : Bool → List Slot → List CsiParam → Bool
+has_shape tail [] list = can_end tail list
+has_shape tail (s ∷ shape) [] = false
+has_shape tail (s ∷ shape) (t ∷ ts) = has_shape tail shape ts && fits s t
+
+-- what is made at the end of a shape: of the tokens that are left, where it has a tail
+abbrev pub AtEnd : Bool → Type 0 → Type 0
+AtEnd true R = List CsiParam → R
+AtEnd false R = R
+
+abbrev pub ended : {R : Type 0} → (tail : Bool) → AtEnd tail R → List CsiParam → R
+ended true make list = make list
+ended false whole list = whole
 
 -- what is made of a list of this shape; nothing where a number counts as no value of its kind
-abbrev pub made : {R : Type 0} → (shape : List Slot) → Makes R shape → List CsiParam → Option R
-made [] whole list = Some whole
-made (s ∷ shape) make [] = None
-made (Byte b ∷ shape) make (t ∷ ts) = made shape make ts
-made (Number n ∷ shape) make (t ∷ ts) = made shape make ts
-made (One k ∷ shape) make (Integer z ∷ ts) = option_and_then (λ v. made shape (make v) ts) (read k z)
-made (One k ∷ shape) make (P c ∷ ts) = None
-
-abbrev pub gives : {R : Type 0} → (shape : List Slot) → Makes R shape → List CsiParam → Option R
-gives shape make list = if has_shape shape list then made shape make list else None
+abbrev pub made : {R : Type 0} → (tail : Bool) (shape : List Slot) → Makes (AtEnd tail R) shape → List CsiParam → Option R
+made tail [] end list = Some (ended tail end list)
+made tail (s ∷ shape) make [] = None
+made tail (Byte b ∷ shape) make (t ∷ ts) = made tail shape make ts
+made tail (Number n ∷ shape) make (t ∷ ts) = made tail shape make ts
+made tail (One k ∷ shape) make (Integer z ∷ ts) = option_and_then (λ v. made tail shape (make v) ts) (read k z)
+made tail (One k ∷ shape) make (P c ∷ ts) = None
 
 pub record Row (R : Type 0) : Type 0 where
+  pub tail : Bool
   pub shape : List Slot
-  pub make : Makes R shape
+  pub make : Makes (AtEnd tail R) shape
 
+abbrev pub gives : {R : Type 0} → Row R → List CsiParam → Option R
+gives r list = if has_shape r.tail r.shape list then made r.tail r.shape r.make list else None
+
+-- these slots, and nothing else
 abbrev pub row : {R : Type 0} → (shape : List Slot) → Makes R shape → Row R
-row shape make = record { shape = shape; make = make }
+row shape make = record { tail = false; shape = shape; make = make }
+
+-- these slots, and then any tokens
+abbrev pub open_row : {R : Type 0} → (shape : List Slot) → Makes (List CsiParam → R) shape → Row R
+open_row shape make = record { tail = true; shape = shape; make = make }
 
 -- what the row gives that gives something; no two rows of a final do
 abbrev pub given : {R : Type 0} → List (Row R) → List CsiParam → Option R
 given [] list = None
-given (r ∷ rows) list = option_or (gives r.shape r.make list) (given rows list)
+given (r ∷ rows) list = option_or (gives r list) (given rows list)
 
 -- ---- rows that many finals have
 

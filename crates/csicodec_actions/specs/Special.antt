@@ -1,13 +1,23 @@
--- The action that parsing makes and whose text is read as another one.
-use Rattle.std.specs.Prelude.{◌≡◌, List}
+-- The actions that parsing makes and whose text is read as another one, and all those whose text is never read as them.
+use Rattle.std.specs.Prelude.{ℕ, ◌≡◌, List}
 use Rattle.std.specs.List.{All}
 use Rattle.csicodec_tokens.specs.OneBased.{most}
 use Rattle.csicodec_actions.specs.declared.actions.cursor.Cursor.TheVariants as cursor
-use Rattle.csicodec_actions.specs.Actions.{Action, Cursor}
+use Rattle.csicodec_actions.specs.declared.actions.mouse.MouseReport.TheVariants as mouse
+use Rattle.csicodec_actions.specs.Actions.{Action, Cursor, Device, Mouse}
+use Rattle.csicodec_actions.specs.Devices.{RequestTerminalParameters, XtSmGraphics}
 
--- left and right margins all around are written as `s`, which saves the cursor
+-- left and right margins all around are written as `s`, which saves the cursor; a request for the terminal's parameters is written as the report
 abbrev pub IsSpecial : Action → Type 0
-IsSpecial action = action ≡ Cursor (cursor.SetLeftAndRightMargins 1 most)
+IsSpecial (Cursor (cursor.SetLeftAndRightMargins left right)) = (left ≡ 1) × (right ≡ most)
+IsSpecial (Device (RequestTerminalParameters n)) = Unit {0}
+IsSpecial action = ⊥
 
 abbrev pub NoneSpecial : List Action → Type 0
 NoneSpecial actions = All (λ action. ¬ IsSpecial action) actions
+
+-- a report in pixels is written as one in cells is, and no row reads graphics
+abbrev pub IsNeverRead : Action → Type 0
+IsNeverRead (Mouse (mouse.SGR1016 x_pixels y_pixels button modifiers)) = Unit {0}
+IsNeverRead (Device (XtSmGraphics item action_or_status value)) = Unit {0}
+IsNeverRead action = IsSpecial action

@@ -39,7 +39,7 @@ table = cursor_rows ++ (edit_rows ++ (mode_rows ++ (mouse_rows ++ (keyboard_rows
 
 -- The order of rows and subjects doesn't matter: what any row of the final gives is the action, and so is what any row over fields gives.
 abbrev pub RowsDecide : List CsiParam → ℕ → Type 0
-RowsDecide list final = (r : Row Action) (action : Action) → Contains (rows_before table final) r → gives r.shape r.make list ≡ Some action → Whole list final action
+RowsDecide list final = (r : Row Action) (action : Action) → Contains (rows_before table final) r → gives r list ≡ Some action → Whole list final action
 
 abbrev pub FieldRowsDecide : List CsiParam → ℕ → Type 0
 FieldRowsDecide list final = (o : Over Action) (r : FieldRow Action) (fields : List (Option ℤ)) (action : Action) → Contains window_fields o → o.final ≡ final → Contains o.rows r

@@ -4,14 +4,18 @@ use Rattle.std.specs.Prelude.{ℕ, List, [], ◌∷◌, ◌++◌, if◌then◌el
 use Rattle.std.specs.Fmt.{signed_decimal}
 use Rattle.csicodec_tokens.specs.declared.param.CsiParam.{CsiParam}
 use Rattle.csicodec_tokens.specs.declared.param.CsiParam.TheVariants.{Integer, P}
+use Rattle.csicodec_tokens.specs.Param.{token_text}
+use Rattle.csicodec_actions.specs.declared.actions.device.DeviceAttribute.{DeviceAttribute}
+use Rattle.csicodec_actions.specs.Devices.{attribute_token}
 use Rattle.csicodec_actions.specs.Kinds.{Kind, Count, Any, Value, number}
 use Rattle.csicodec_names.specs.Numbered.{is_number}
 
--- a byte; a value of a kind, as its number; a value that is left out where its number is this one
+-- a byte; a value of a kind, as its number; a value that is left out where its number is this one; an extension of a terminal, as its token
 pub data Item : Type 0 where
   Byte : ℕ → Item
   The : (k : Kind) → Value k → Item
   Unless : ℕ → (k : Kind) → Value k → Item
+  Attribute : DeviceAttribute → Item
 
 abbrev pub put : Char → Item
 put c = Byte (code c)
@@ -31,6 +35,7 @@ tokens [] = []
 tokens (Byte b ∷ items) = P b ∷ tokens items
 tokens (The k v ∷ items) = Integer (number k v) ∷ tokens items
 tokens (Unless n k v ∷ items) = if is_number n (number k v) then tokens items else Integer (number k v) ∷ tokens items
+tokens (Attribute a ∷ items) = attribute_token a ∷ tokens items
 
 -- its text, and this behind it
 abbrev pub shown : List Item → List ℕ → List ℕ
@@ -38,6 +43,7 @@ shown [] end = end
 shown (Byte b ∷ items) end = b ∷ shown items end
 shown (The k v ∷ items) end = signed_decimal (number k v) ++ shown items end
 shown (Unless n k v ∷ items) end = if is_number n (number k v) then shown items end else signed_decimal (number k v) ++ shown items end
+shown (Attribute a ∷ items) end = token_text (attribute_token a) ++ shown items end
 
 abbrev pub written_text : Written → List ℕ
 written_text w = shown w.items (w.final ∷ [])
@@ -59,3 +65,8 @@ two second a b = The Count a ∷ put ";" ∷ The second b ∷ []
 -- a number by itself
 abbrev pub plain : ℕ → Item
 plain n = The Any (pos n)
+
+-- each of these, a `;` before it
+abbrev pub listed : {A : Type 0} → (A → Item) → List A → List Item
+listed item [] = []
+listed item (a ∷ others) = put ";" ∷ item a ∷ listed item others

@@ -1,23 +1,29 @@
 //! Which values of each subject are read back from their own texts.
-ghost use Rattle.std.specs.Prelude.{◌↔◌, IsTrue};
+ghost use Rattle.std.specs.Prelude.{◌≡◌, ◌↔◌, IsTrue};
+ghost use Rattle.csicodec_tokens.specs.Sequence.{IsSpellable};
 ghost use Rattle.csicodec_names.specs.declared.flags.Modifiers.{Modifiers};
 ghost use Rattle.csicodec_actions.specs.Actions as action;
-ghost use Rattle.csicodec_actions.specs.Good.{AllGood, AreHeld, Good};
+ghost use Rattle.csicodec_actions.specs.Devices.{attributes_of, device_of};
+ghost use Rattle.csicodec_actions.specs.Good.{AllGood, AreHeld, Good, GoodAttribute, IsUnnamed};
 ghost use Rattle.csicodec_actions.specs.Kinds.{Any, Count, Dec, Flags, Terminal};
-ghost use Rattle.csicodec_actions.specs.Special.{IsSpecial};
+ghost use Rattle.csicodec_actions.specs.Special.{IsNeverRead, IsSpecial};
 ghost use Rattle.csicodec_actions.specs.Table.Cursor.{written_cursor};
+ghost use Rattle.csicodec_actions.specs.Table.Device.{written_attributes, written_device};
 ghost use Rattle.csicodec_actions.specs.Table.Edit.{written_edit};
 ghost use Rattle.csicodec_actions.specs.Table.Keyboard.{written_keyboard};
 ghost use Rattle.csicodec_actions.specs.Table.Mode.{written_mode};
 ghost use Rattle.csicodec_actions.specs.Table.Mouse.{written_mouse};
 ghost use Rattle.csicodec_actions.specs.Table.Window.{maybe, written_window};
+ghost use Rattle.csicodec_actions.specs.Written.{Attribute, listed};
 
 use crate::actions::{
-    Cursor, DecPrivateMode, Edit, Keyboard, Mode, MouseReport, TerminalMode, Window,
+    Cursor, DecPrivateMode, Device, DeviceAttribute, DeviceAttributes, Edit, Keyboard, Mode,
+    MouseReport, TerminalMode, Window,
 };
 use bitflags::Flags;
 use csicodec_base::{
-    DecPrivateModeCode, KittyKeyboardFlags, Modifiers, OneBased, TerminalModeCode,
+    CsiParam, DecPrivateModeCode, DeviceAttributeCodes, KittyKeyboardFlags, Modifiers, OneBased,
+    TerminalModeCode,
 };
 
 /// A count is read as itself from 1 on.
@@ -185,9 +191,9 @@ pub fn is_canonical_keyboard(keyboard: &Keyboard) -> bool
     }
 }
 
-/// Whether each number of a report of the mouse is read as itself.
+/// A report in pixels is read as one in cells.
 pub fn is_canonical_mouse(report: &MouseReport) -> bool
-    ensures { IsTrue result ↔ AllGood (written_mouse report.now).items }
+    ensures { IsTrue result ↔ (AllGood (written_mouse report.now).items × ¬ IsNeverRead (action.Mouse report.now)) }
 {
     match report {
         MouseReport::SGR1006 {
@@ -200,6 +206,72 @@ pub fn is_canonical_mouse(report: &MouseReport) -> bool
             let _place = (*x, *y);
             are_held(*modifiers)
         }
+        MouseReport::SGR1016 { .. } => false,
+    }
+}
+
+/// A token that a sequence can have.
+pub fn is_spellable_token(token: &CsiParam) -> bool
+    ensures { IsTrue result ↔ IsSpellable token.now }
+{
+    match token {
+        CsiParam::Integer(number) => *number >= 0,
+        CsiParam::P(byte) => matches!(byte, b' '..=b'/' | b':'..=b'?'),
+    }
+}
+
+/// An extension is read as itself by its code, or by any other token than `;` and the number of a code.
+fn is_attribute(attribute: &DeviceAttribute) -> bool
+    ensures { IsTrue result ↔ GoodAttribute attribute.now }
+{
+    match attribute {
+        DeviceAttribute::Code(_) => true,
+        DeviceAttribute::Unspecified(token) => is_spellable_token(token) && is_unnamed(token),
+    }
+}
+
+/// No `;`, and no number of a code.
+fn is_unnamed(token: &CsiParam) -> bool
+    ensures { IsTrue result ↔ IsUnnamed token.now }
+{
+    match token {
+        CsiParam::Integer(number) => DeviceAttributeCodes::from_i64(*number).is_none(),
+        CsiParam::P(byte) => *byte != b';',
+    }
+}
+
+fn are_attributes(attributes: &[DeviceAttribute]) -> bool
+    ensures { IsTrue result ↔ AllGood (listed Attribute attributes.now) }
+{
+    let mut rest = attributes;
+    while let [first, others @ ..] = rest {
+        if !is_attribute(first) {
+            return false;
+        }
+        rest = others;
+    }
+    true
+}
+
+fn is_canonical_answer(attributes: &DeviceAttributes) -> bool
+    ensures { IsTrue result ↔ AllGood (written_attributes (attributes_of attributes.now)).items }
+{
+    match attributes {
+        DeviceAttributes::Vt220(flags)
+        | DeviceAttributes::Vt320(flags)
+        | DeviceAttributes::Vt420(flags) => are_attributes(&flags.attributes),
+        _ => true,
+    }
+}
+
+/// A request for the terminal's parameters is written as the report, and no row reads graphics.
+pub fn is_canonical_device(device: &Device) -> bool
+    ensures { IsTrue result ↔ (AllGood (written_device (device_of device.now)).items × ¬ IsNeverRead (action.Device (device_of device.now))) }
+{
+    match device {
+        Device::DeviceAttributes(attributes) => is_canonical_answer(attributes),
+        Device::RequestTerminalParameters(_) | Device::XtSmGraphics(_) => false,
+        _ => true,
     }
 }
 

@@ -9,8 +9,10 @@ mod print;
 mod whole;
 
 pub use actions::{
-    Change, CharacterPath, Cursor, DecPrivateMode, Device, Edit, Keyboard, KittyKeyboardMode, Mode,
-    MouseButton, MouseReport, Switch, TerminalMode, Window, XtermKeyModifierResource,
+    Change, CharacterPath, Cursor, DecPrivateMode, Device, DeviceAttribute, DeviceAttributeFlags,
+    DeviceAttributes, Edit, Keyboard, KittyKeyboardMode, Mode, MouseButton, MouseReport, Switch,
+    TerminalMode, Window, XtSmGraphics, XtSmGraphicsAction, XtSmGraphicsItem, XtSmGraphicsStatus,
+    XtermKeyModifierResource,
 };
 pub use print::write_path;
 pub use whole::{

@@ -1,46 +1,19 @@
 //! The texts of devices, of reports of the mouse, and of paths.
 ghost use Rattle.std.specs.Prelude.{◌≡◌, ◌==◌, ◌&&◌, ◌+◌, ◌≤◌, ◌++◌, ◌<◌, [], ◌∷◌, Some, pos, IsAscii, if◌then◌else◌, length};
 ghost use Rattle.csicodec_actions.specs.Kinds.{Kind, Any};
-ghost use Rattle.csicodec_actions.specs.Table.Device.{written_device};
 ghost use Rattle.csicodec_actions.specs.Table.Mouse.{written_mouse};
 ghost use Rattle.csicodec_actions.specs.Table.Path.{written_path};
 ghost use Rattle.csicodec_actions.specs.Written.{Byte, The, shown, written_text};
 ghost use Rattle.csicodec_actions.specs.MouseTexts.{mouse_code, mouse_place};
 ghost use Rattle.std.specs.Fmt.{decimal};
 
+mod device;
 mod window;
 
-use crate::actions::{CharacterPath, Device, MouseReport};
+use crate::actions::{CharacterPath, MouseReport};
 use bitflags::Flags;
 use csicodec_base::Text;
 use std::fmt;
-
-impl Device {
-    /// Appends the parameters and the final byte: 5 bytes at most.
-    pub fn write_to(&self, text: &mut Text)
-        requires room { length text.old ≤ 10 }
-        ensures { text.new ≡ text.old ++ written_text (written_device self.now) }
-    {
-        match self {
-            Device::SoftReset => text.push_str("!p"),
-            Device::RequestPrimaryDeviceAttributes => text.push(b'c'),
-            Device::RequestSecondaryDeviceAttributes => text.push_str(">c"),
-            Device::RequestTertiaryDeviceAttributes => text.push_str("=c"),
-            Device::RequestTerminalNameAndVersion => text.push_str(">q"),
-            Device::StatusReport => {
-                text.push_u8(5);
-                text.push(b'n');
-            }
-            Device::Vt100WithAdvancedVideoOption => write_answer(text, 1, 2),
-            Device::Vt101WithNoOptions => write_answer(text, 1, 0),
-            Device::Vt102 => {
-                text.push(b'?');
-                text.push_u8(6);
-                text.push(b'c');
-            }
-        }
-    }
-}
 
 impl MouseReport {
     /// A `<` and the code: 12 bytes at most.
@@ -48,11 +21,12 @@ impl MouseReport {
         requires room { length text.old ≤ 5 }
         ensures { text.new ≡ text.old ++ (60 ∷ (decimal (mouse_code self.now) ++ 59 ∷ [])) }
     {
-        let MouseReport::SGR1006 {
-            button,
-            modifiers,
-            ..
-        } = self;
+        let (MouseReport::SGR1006 {
+            button, modifiers, ..
+        }
+        | MouseReport::SGR1016 {
+            button, modifiers, ..
+        }) = self;
         text.push(b'<');
         text.push_u32(button.code() + 2 * u32::from(modifiers.bits()));
         text.push(b';');
@@ -63,7 +37,13 @@ impl MouseReport {
         requires room { length text.old ≤ 5 }
         ensures { text.new ≡ text.old ++ mouse_place self.now }
     {
-        let MouseReport::SGR1006 { x, y, button, .. } = self;
+        let (MouseReport::SGR1006 { x, y, button, .. }
+        | MouseReport::SGR1016 {
+            x_pixels: x,
+            y_pixels: y,
+            button,
+            ..
+        }) = self;
         text.push_u32(u32::from(*x));
         text.push(b';');
         text.push_u32(u32::from(*y));
@@ -85,18 +65,6 @@ impl fmt::Display for MouseReport {
     }
 }
 
-/// A `?` and two numbers.
-fn write_answer(text: &mut Text, first: u8, second: u8)
-    requires room { length text.old ≤ 10 }
-    ensures { text.new ≡ text.old ++ shown (Byte 63 ∷ The Any (pos first) ∷ Byte 59 ∷ The Any (pos second) ∷ []) (99 ∷ []) }
-{
-    text.push(b'?');
-    text.push_u8(first);
-    text.push(b';');
-    text.push_u8(second);
-    text.push(b'c');
-}
-
 /// A path and its effect, as far as they aren't 0.
 pub fn write_path(text: &mut Text, path: &CharacterPath, effect: i64)
     requires room { length text.old ≤ 5 }
@@ -111,15 +79,4 @@ pub fn write_path(text: &mut Text, path: &CharacterPath, effect: i64)
         text.push_u8(number);
     }
     text.push_str(" k");
-}
-
-/// Writes the parameters and the final character, without `ESC [`.
-impl fmt::Display for Device {
-    ghost output = { λ d. Some (written_text (written_device d)) };
-
-    fn fmt<W: fmt::Write>(&self, f: &mut fmt::Formatter<W>) -> fmt::Result {
-        let mut text = Text::new();
-        self.write_to(&mut text);
-        f.write_str(text.as_str())
-    }
 }

@@ -37,7 +37,7 @@ rows-back a b good = elim (cases_Bool (a == 1 && b == most)) [
 columns-back : (a b : ℕ) → AllGood (written_cursor (cursor.SetLeftAndRightMargins a b)).items → ¬ IsSpecial (Cursor (cursor.SetLeftAndRightMargins a b)) → Returns (cursor.SetLeftAndRightMargins a b)
 unfolding as_cursor
 columns-back a b good ok = elim (cases_Bool (a == 1 && b == most)) [
-  | inl all ↦ (let same = all-around a b all in absurd (ok (rw (same.0, same.1) refl)))
+  | inl all ↦ (let same = all-around a b all in absurd (ok same))
   | inr less ↦ (let both : AllGood (two Count a b) = rw less at good in rw less (search (rules, read-good)))
 ]
 

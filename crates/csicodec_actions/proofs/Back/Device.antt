@@ -1,20 +1,74 @@
 -- What a device says is written as is read as it.
-use Rattle.std.proofs.Common.{◌≡◌, Bool, true, Some, refl}
-use Rattle.csicodec_actions.specs.declared.actions.device.Device as device_type
-use Rattle.csicodec_actions.specs.declared.actions.device.Device.TheVariants as device
-use Rattle.csicodec_actions.specs.Actions.{Device}
-use Rattle.csicodec_actions.specs.Table.Device.{as_device, written_device}
-use Rattle.csicodec_actions.specs.Written.{tokens}
-use Rattle.csicodec_actions.proofs.Disjoint.{device-whole}
-use Rattle.csicodec_actions.specs.Good.{AllGood}
-use Rattle.csicodec_actions.proofs.Items.{is_sound, IsRead}
+use Rattle.std.proofs.Common.{◌≡◌, ℕ, List, [], ◌∷◌, Bool, true, Some, refl, ap, arith}
+use Rattle.std.proofs.lemmas.Bool.{eq-eqb, ne_eqb}
+use Rattle.std.specs.List.{Contains}
+use Rattle.csicodec_names.proofs.Coded.{attributes, none-found}
+use Rattle.csicodec_names.specs.DeviceNumbers.{device_attribute_codes, device_attribute_number}
+use Rattle.csicodec_tokens.specs.declared.param.CsiParam.TheVariants.{Integer, P}
+use Rattle.csicodec_actions.specs.declared.actions.device.DeviceAttribute.{DeviceAttribute}
+use Rattle.csicodec_actions.specs.declared.actions.device.DeviceAttribute.TheVariants as attribute
+use Rattle.csicodec_actions.specs.Actions.{Action, Device}
+use Rattle.csicodec_actions.specs.Devices as devices
+use Rattle.csicodec_actions.specs.Devices.{attribute_at, attribute_token, listed_attributes}
+use Rattle.csicodec_actions.specs.Rows.{Row, open_row, mark, Number, rows_before}
+use Rattle.csicodec_actions.specs.Special.{IsNeverRead}
+use Rattle.csicodec_actions.specs.Table.Device.{answer, as_device, written_attributes, written_class, written_device}
+use Rattle.csicodec_actions.specs.Whole.{table, whole}
+use Rattle.csicodec_actions.specs.Written.{Attribute, listed, tokens}
+use Rattle.csicodec_actions.proofs.Disjoint.{device-whole, rows_lem}
+use Rattle.csicodec_actions.specs.Good.{AllGood, GoodAttribute}
+use Rattle.csicodec_actions.proofs.Items.{are_sound, begins_apart, is_sound, IsRead}
 
-device-back : (d : device_type.Device) → AllGood (written_device d).items → as_device (tokens (written_device d).items) (written_device d).final ≡ Some (Device d)
+-- ---- extensions
+
+attribute-back : (a : DeviceAttribute) → GoodAttribute a → attribute_at (attribute_token a) ≡ a ∷ []
+attribute-back (attribute.Code c) good = rw (attributes.each c) refl
+attribute-back (attribute.Unspecified (Integer z)) good = rw (none-found device_attribute_number device_attribute_codes z good.1) refl
+attribute-back (attribute.Unspecified (P b)) good = rw (ne_eqb b 59 good.1) refl
+
+attributes-back : (all : List DeviceAttribute) → AllGood (listed Attribute all) → listed_attributes (tokens (listed Attribute all)) ≡ all
+attributes-back [] good = refl
+attributes-back (a ∷ others) good = rw (attribute-back a good.0, attributes-back others good.1) refl
+
+listed-apart : (all : List DeviceAttribute) → begins_apart (listed Attribute all) ≡ true
+listed-apart [] = refl
+listed-apart (a ∷ others) = refl
+
+listed-sound : (all : List DeviceAttribute) → are_sound (listed Attribute all) ≡ true
+listed-sound [] = refl
+listed-sound (a ∷ others) = rw (listed-apart others, listed-sound others) refl
+
+-- a service class and its extensions, by the row of the class
+class-read : (n : ℕ) (class : List DeviceAttribute → devices.Attributes) (all : List DeviceAttribute) → written_attributes (class all) ≡ written_class n all → AllGood (written_class n all).items
+    → Contains (rows_before table 99) (open_row (mark "?" ∷ Number n ∷ []) (λ rest. answer (class (listed_attributes rest)))) → IsRead (written_attributes (class all)) (answer (class all))
+class-read n class all same good row =
+    let test : is_sound (written_class n all) ≡ true = rw (listed-apart all, listed-sound all) refl in
+    let makes = ap (λ (l : List DeviceAttribute). Some (answer (class l))) (attributes-back all good.1) in
+    let number = eq-eqb n n refl in
+    let found = rows_lem (tokens (written_class n all).items) 99 _ _ row (rw number makes) in
+    rw same (record { sound = test; read = found })
+
+-- ---- the terminal
+
+answer-read : (a : devices.Attributes) → AllGood (written_attributes a).items → IsRead (written_attributes a) (answer a)
 unfolding as_device
-device-back d good = elim d as (λ x. as_device (tokens (written_device x).items) (written_device x).final ≡ Some (Device x)) [ device.SoftReset ↦ refl | _ ↦ refl ]
+answer-read devices.Vt100WithAdvancedVideoOption good = record { sound = refl; read = device-whole _ _ _ refl }
+answer-read devices.Vt101WithNoOptions good = record { sound = refl; read = device-whole _ _ _ refl }
+answer-read devices.Vt102 good = record { sound = refl; read = device-whole _ _ _ refl }
+answer-read (devices.Vt220 all) good = class-read 62 devices.Vt220 all refl good (9, omega arith, refl)
+answer-read (devices.Vt320 all) good = class-read 63 devices.Vt320 all refl good (10, omega arith, refl)
+answer-read (devices.Vt420 all) good = class-read 64 devices.Vt420 all refl good (11, omega arith, refl)
 
-device-sound : (d : device_type.Device) → is_sound (written_device d) ≡ true
-device-sound d = elim d as (λ x. is_sound (written_device x) ≡ true) [ device.SoftReset ↦ refl | _ ↦ refl ]
+-- ---- all devices
 
-pub device-read : (d : device_type.Device) → AllGood (written_device d).items → IsRead (written_device d) (Device d)
-device-read d good = record { sound = device-sound d; read = device-whole _ _ _ (device-back d good) }
+pub device-read : (d : devices.Device) → AllGood (written_device d).items → ¬ IsNeverRead (Device d) → IsRead (written_device d) (Device d)
+unfolding as_device
+device-read (devices.DeviceAttributes a) good ok = answer-read a good
+device-read (devices.RequestTerminalParameters n) good ok = absurd (ok tt)
+device-read (devices.XtSmGraphics item action_or_status value) good ok = absurd (ok tt)
+device-read devices.SoftReset good ok = record { sound = refl; read = device-whole _ _ _ refl }
+device-read devices.RequestPrimaryDeviceAttributes good ok = record { sound = refl; read = device-whole _ _ _ refl }
+device-read devices.RequestSecondaryDeviceAttributes good ok = record { sound = refl; read = device-whole _ _ _ refl }
+device-read devices.RequestTertiaryDeviceAttributes good ok = record { sound = refl; read = device-whole _ _ _ refl }
+device-read devices.RequestTerminalNameAndVersion good ok = record { sound = refl; read = device-whole _ _ _ refl }
+device-read devices.StatusReport good ok = record { sound = refl; read = device-whole _ _ _ refl }

@@ -1,46 +1,100 @@
--- What a terminal is, asked and answered (DA1 to DA3 and DECSTR of DEC's terminals, DSR of ECMA-48, XTVERSION of xterm): lists before a final
--- character, and what each action is written as.
-use Rattle.std.specs.Prelude.{ℕ, List, [], ◌∷◌, Option}
+-- What a terminal is, asked and answered (DA1 to DA3 and DECSTR of DEC's terminals, DECREQTPARM of the VT100, DSR of ECMA-48, XTVERSION and XTSMGRAPHICS of
+-- xterm): lists before a final character, and what each action is written as.
+use Rattle.std.specs.Prelude.{ℕ, ℤ, ◌+ℤ◌, List, [], ◌∷◌, ◌++◌, Option, pos}
 use Rattle.csicodec_tokens.specs.declared.param.CsiParam.{CsiParam}
-use Rattle.csicodec_actions.specs.declared.actions.device.Device as device_type
-use Rattle.csicodec_actions.specs.declared.actions.device.Device.TheVariants as device
+use Rattle.csicodec_actions.specs.declared.actions.device.DeviceAttribute.{DeviceAttribute}
+use Rattle.csicodec_actions.specs.declared.actions.graphics.XtSmGraphicsItem.{XtSmGraphicsItem}
+use Rattle.csicodec_actions.specs.Devices as devices
 use Rattle.csicodec_actions.specs.Actions.{Action, Device}
-use Rattle.csicodec_actions.specs.Rows.{Row, row, Number, mark, Before, before, read_by}
-use Rattle.csicodec_actions.specs.Written.{Written, plain, write, put}
+use Rattle.csicodec_actions.specs.Graphics.{item_number}
+use Rattle.csicodec_actions.specs.Kinds.{Any}
+use Rattle.csicodec_actions.specs.Rows.{Row, row, open_row, Number, mark, Before, before, read_by}
+use Rattle.csicodec_actions.specs.Written.{Item, Attribute, The, Written, listed, plain, write, put}
 
--- nothing or 0, also behind `>` and `=`; and the answers
-abbrev pub devices : List (Row Action)
-devices =
-    row [] (Device device.RequestPrimaryDeviceAttributes)
-    ∷ row (Number 0 ∷ []) (Device device.RequestPrimaryDeviceAttributes)
-    ∷ row (mark ">" ∷ []) (Device device.RequestSecondaryDeviceAttributes)
-    ∷ row (mark ">" ∷ Number 0 ∷ []) (Device device.RequestSecondaryDeviceAttributes)
-    ∷ row (mark "=" ∷ []) (Device device.RequestTertiaryDeviceAttributes)
-    ∷ row (mark "=" ∷ Number 0 ∷ []) (Device device.RequestTertiaryDeviceAttributes)
-    ∷ row (mark "?" ∷ Number 1 ∷ mark ";" ∷ Number 2 ∷ []) (Device device.Vt100WithAdvancedVideoOption)
-    ∷ row (mark "?" ∷ Number 1 ∷ mark ";" ∷ Number 0 ∷ []) (Device device.Vt101WithNoOptions)
-    ∷ row (mark "?" ∷ Number 6 ∷ []) (Device device.Vt102)
+-- nothing or 0, also behind `>` and `=`
+abbrev pub requests : List (Row Action)
+requests =
+    row [] (Device devices.RequestPrimaryDeviceAttributes)
+    ∷ row (Number 0 ∷ []) (Device devices.RequestPrimaryDeviceAttributes)
+    ∷ row (mark ">" ∷ []) (Device devices.RequestSecondaryDeviceAttributes)
+    ∷ row (mark ">" ∷ Number 0 ∷ []) (Device devices.RequestSecondaryDeviceAttributes)
+    ∷ row (mark "=" ∷ []) (Device devices.RequestTertiaryDeviceAttributes)
+    ∷ row (mark "=" ∷ Number 0 ∷ []) (Device devices.RequestTertiaryDeviceAttributes)
+    ∷ []
+
+abbrev pub answer : devices.Attributes → Action
+answer a = Device (devices.DeviceAttributes a)
+
+-- behind `?` a terminal
+abbrev pub terminals : List (Row Action)
+terminals =
+    row (mark "?" ∷ Number 1 ∷ mark ";" ∷ Number 2 ∷ []) (answer devices.Vt100WithAdvancedVideoOption)
+    ∷ row (mark "?" ∷ Number 1 ∷ mark ";" ∷ Number 0 ∷ []) (answer devices.Vt101WithNoOptions)
+    ∷ row (mark "?" ∷ Number 6 ∷ []) (answer devices.Vt102)
+    ∷ []
+
+-- behind `?` the service class of a terminal, and then its extensions
+abbrev pub classes : List (Row Action)
+classes =
+    open_row (mark "?" ∷ Number 62 ∷ []) (λ rest. answer (devices.Vt220 (devices.listed_attributes rest)))
+    ∷ open_row (mark "?" ∷ Number 63 ∷ []) (λ rest. answer (devices.Vt320 (devices.listed_attributes rest)))
+    ∷ open_row (mark "?" ∷ Number 64 ∷ []) (λ rest. answer (devices.Vt420 (devices.listed_attributes rest)))
+    ∷ []
+
+-- nothing is 0
+abbrev pub parameters : List (Row Action)
+parameters =
+    row [] (Device (devices.RequestTerminalParameters (pos 0)))
+    ∷ row (Number 0 ∷ []) (Device (devices.RequestTerminalParameters (pos 0)))
+    ∷ row (Number 1 ∷ []) (Device (devices.RequestTerminalParameters (pos 1)))
     ∷ []
 
 abbrev pub device_rows : List (Before Action)
 device_rows =
-    before "c" devices
-    ∷ before "p" (row (mark "!" ∷ []) (Device device.SoftReset) ∷ [])
-    ∷ before "n" (row (Number 5 ∷ []) (Device device.StatusReport) ∷ [])
-    ∷ before "q" (row (mark ">" ∷ []) (Device device.RequestTerminalNameAndVersion) ∷ row (mark ">" ∷ Number 0 ∷ []) (Device device.RequestTerminalNameAndVersion) ∷ [])
+    before "c" (requests ++ (terminals ++ classes))
+    ∷ before "p" (row (mark "!" ∷ []) (Device devices.SoftReset) ∷ [])
+    ∷ before "n" (row (Number 5 ∷ []) (Device devices.StatusReport) ∷ [])
+    ∷ before "q" (row (mark ">" ∷ []) (Device devices.RequestTerminalNameAndVersion) ∷ row (mark ">" ∷ Number 0 ∷ []) (Device devices.RequestTerminalNameAndVersion) ∷ [])
+    ∷ before "x" parameters
     ∷ []
 
 unfoldable pub as_device : List CsiParam → ℕ → Option Action
 as_device list final = read_by device_rows list final
 
+-- the number of the service class, and then each extension
+abbrev pub written_class : ℕ → List DeviceAttribute → Written
+written_class class attributes = write (put "?" ∷ plain class ∷ listed Attribute attributes) "c"
+
+abbrev pub written_attributes : devices.Attributes → Written
+written_attributes devices.Vt100WithAdvancedVideoOption = write (put "?" ∷ plain 1 ∷ put ";" ∷ plain 2 ∷ []) "c"
+written_attributes devices.Vt101WithNoOptions = write (put "?" ∷ plain 1 ∷ put ";" ∷ plain 0 ∷ []) "c"
+written_attributes devices.Vt102 = write (put "?" ∷ plain 6 ∷ []) "c"
+written_attributes (devices.Vt220 attributes) = written_class 62 attributes
+written_attributes (devices.Vt320 attributes) = written_class 63 attributes
+written_attributes (devices.Vt420 attributes) = written_class 64 attributes
+
+abbrev pub any_number : ℤ → Item
+any_number z = The Any z
+
+-- the parameters of a line: no parity, 8 bits, 128 for 38400 baud both ways, a clock multiplier of 1, and no switches
+abbrev pub line : List Item
+line = listed plain (1 ∷ 1 ∷ 128 ∷ 128 ∷ 1 ∷ 0 ∷ [])
+
+-- a request is written as the report: its number and 2, and then the parameters
+abbrev pub written_parameters : ℤ → Written
+written_parameters z = write (any_number (z +ℤ pos 2) ∷ line) "x"
+
+abbrev pub written_graphics : XtSmGraphicsItem → ℤ → List ℤ → Written
+written_graphics item action_or_status value = write (put "?" ∷ any_number (item_number item) ∷ listed any_number (action_or_status ∷ value)) "S"
+
 -- a line for each variant
-abbrev pub written_device : device_type.Device → Written
-written_device device.SoftReset = write (put "!" ∷ []) "p"
-written_device device.RequestPrimaryDeviceAttributes = write [] "c"
-written_device device.RequestSecondaryDeviceAttributes = write (put ">" ∷ []) "c"
-written_device device.RequestTertiaryDeviceAttributes = write (put "=" ∷ []) "c"
-written_device device.RequestTerminalNameAndVersion = write (put ">" ∷ []) "q"
-written_device device.StatusReport = write (plain 5 ∷ []) "n"
-written_device device.Vt100WithAdvancedVideoOption = write (put "?" ∷ plain 1 ∷ put ";" ∷ plain 2 ∷ []) "c"
-written_device device.Vt101WithNoOptions = write (put "?" ∷ plain 1 ∷ put ";" ∷ plain 0 ∷ []) "c"
-written_device device.Vt102 = write (put "?" ∷ plain 6 ∷ []) "c"
+abbrev pub written_device : devices.Device → Written
+written_device (devices.DeviceAttributes a) = written_attributes a
+written_device devices.SoftReset = write (put "!" ∷ []) "p"
+written_device devices.RequestPrimaryDeviceAttributes = write [] "c"
+written_device devices.RequestSecondaryDeviceAttributes = write (put ">" ∷ []) "c"
+written_device devices.RequestTertiaryDeviceAttributes = write (put "=" ∷ []) "c"
+written_device devices.RequestTerminalNameAndVersion = write (put ">" ∷ []) "q"
+written_device (devices.RequestTerminalParameters n) = written_parameters n
+written_device devices.StatusReport = write (plain 5 ∷ []) "n"
+written_device (devices.XtSmGraphics item action_or_status value) = written_graphics item action_or_status value

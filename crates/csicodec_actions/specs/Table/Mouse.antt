@@ -1,6 +1,8 @@
 -- Reports of the mouse (xterm, "Extended coordinates"): lists before `M` and `m`, and what each action is written as.
 use Rattle.std.specs.Prelude.{ℕ, List, [], ◌∷◌, Option, if◌then◌else◌}
 use Rattle.csicodec_tokens.specs.declared.param.CsiParam.{CsiParam}
+use Rattle.csicodec_names.specs.declared.flags.Modifiers.{Modifiers}
+use Rattle.csicodec_actions.specs.declared.actions.mouse.MouseButton.{MouseButton}
 use Rattle.csicodec_actions.specs.declared.actions.mouse.MouseReport as mouse_type
 use Rattle.csicodec_actions.specs.declared.actions.mouse.MouseReport.TheVariants as mouse
 use Rattle.csicodec_actions.specs.Actions.{Action, Mouse}
@@ -27,5 +29,10 @@ abbrev pub report : (k : Kind) → Value k → ℕ → ℕ → List Item
 report k v x y = put "<" ∷ The k v ∷ put ";" ∷ The Word x ∷ put ";" ∷ The Word y ∷ []
 
 -- releases end in `m`, all else in `M`
+abbrev pub written_report : MouseButton → Modifiers → ℕ → ℕ → Written
+written_report b m x y = if is_release b then write (report Released (b, m) x y) "m" else write (report Pressed (b, m) x y) "M"
+
+-- a place in pixels is written as one in cells is
 abbrev pub written_mouse : mouse_type.MouseReport → Written
-written_mouse (mouse.SGR1006 x y b m) = if is_release b then write (report Released (b, m) x y) "m" else write (report Pressed (b, m) x y) "M"
+written_mouse (mouse.SGR1006 x y b m) = written_report b m x y
+written_mouse (mouse.SGR1016 x y b m) = written_report b m x y

@@ -1,8 +1,10 @@
 //! Reports of the mouse.
 ghost use Rattle.std.specs.Prelude.{◌≡◌, ◌<◌};
-ghost use Rattle.csicodec_actions.specs.Mouse.{button_code, is_release};
+ghost use Rattle.csicodec_actions.specs.Mouse.{button_code, held_buttons, is_release};
+ghost use Rattle.csicodec_names.specs.FlagBits.{button_bits};
 
-use csicodec_base::Modifiers;
+use bitflags::Flags;
+use csicodec_base::{Modifiers, MouseButtons};
 
 /// A button.
 #[derive(Clone, Copy, PartialEq, Eq, Debug)]
@@ -27,7 +29,7 @@ pub enum MouseButton {
     None,
 }
 
-/// A report (xterm's SGR mode): the place, the button and what is held.
+/// A report (xterm's ctlseqs, modes 1006 and 1016): the place, the button and what is held.
 #[derive(Clone, Copy, PartialEq, Eq, Debug)]
 pub enum MouseReport {
     /// In cells.
@@ -41,6 +43,40 @@ pub enum MouseReport {
         /// What is held.
         modifiers: Modifiers,
     },
+    /// In pixels. It is written as a report in cells is, and so is never read: which of the two modes the terminal is in
+    /// stands in no report.
+    SGR1016 {
+        /// How far it is to the right.
+        x_pixels: u16,
+        /// How far it is down.
+        y_pixels: u16,
+        /// The button.
+        button: MouseButton,
+        /// What is held.
+        modifiers: Modifiers,
+    },
+}
+
+/// The buttons that are held down, and the turn of a wheel. After a release there are none.
+impl From<MouseButton> for MouseButtons {
+    ghost from_gives = { λ button buttons. button_bits buttons ≡ held_buttons button };
+
+    fn from(button: MouseButton) -> MouseButtons {
+        match button {
+            MouseButton::Button1Press | MouseButton::Button1Drag => MouseButtons::LEFT,
+            MouseButton::Button2Press | MouseButton::Button2Drag => MouseButtons::MIDDLE,
+            MouseButton::Button3Press | MouseButton::Button3Drag => MouseButtons::RIGHT,
+            MouseButton::Button4Press => {
+                MouseButtons::VERT_WHEEL.union(MouseButtons::WHEEL_POSITIVE)
+            }
+            MouseButton::Button5Press => MouseButtons::VERT_WHEEL,
+            MouseButton::Button6Press => {
+                MouseButtons::HORZ_WHEEL.union(MouseButtons::WHEEL_POSITIVE)
+            }
+            MouseButton::Button7Press => MouseButtons::HORZ_WHEEL,
+            _ => MouseButtons::NONE,
+        }
+    }
 }
 
 impl MouseButton {

@@ -1,0 +1,84 @@
+-- What a device says or is asked, without where it lies in memory; and the extensions that a terminal names, as tokens.
+use Rattle.std.specs.Prelude.{ℤ, ◌==◌, List, [], ◌∷◌, Option, None, Some, if◌then◌else◌, pos}
+use Rattle.std.specs.List.{flat_map}
+use Rattle.csicodec_names.specs.DeviceNumbers.{device_attribute_codes, device_attribute_number}
+use Rattle.csicodec_names.specs.Numbered.{with_number}
+use Rattle.csicodec_names.specs.declared.device.DeviceAttributeCodes.{DeviceAttributeCodes}
+use Rattle.csicodec_tokens.specs.declared.param.CsiParam.{CsiParam}
+use Rattle.csicodec_tokens.specs.declared.param.CsiParam.TheVariants.{Integer, P}
+use Rattle.csicodec_actions.specs.declared.actions.device.Device as device_type
+use Rattle.csicodec_actions.specs.declared.actions.device.Device.TheVariants as device
+use Rattle.csicodec_actions.specs.declared.actions.device.DeviceAttribute.{DeviceAttribute}
+use Rattle.csicodec_actions.specs.declared.actions.device.DeviceAttribute.TheVariants.{Code, Unspecified}
+use Rattle.csicodec_actions.specs.declared.actions.device.DeviceAttributes as attributes_type
+use Rattle.csicodec_actions.specs.declared.actions.device.DeviceAttributes.TheVariants as attributes
+use Rattle.csicodec_actions.specs.declared.actions.graphics.XtSmGraphics as graphics_type
+use Rattle.csicodec_actions.specs.declared.actions.graphics.XtSmGraphicsItem.{XtSmGraphicsItem}
+
+-- ---- one constructor for each variant, with lists in place of vectors
+
+pub data Attributes : Type 0 where
+  Vt100WithAdvancedVideoOption : Attributes
+  Vt101WithNoOptions : Attributes
+  Vt102 : Attributes
+  Vt220 : List DeviceAttribute → Attributes
+  Vt320 : List DeviceAttribute → Attributes
+  Vt420 : List DeviceAttribute → Attributes
+
+pub data Device : Type 0 where
+  DeviceAttributes : Attributes → Device
+  SoftReset : Device
+  RequestPrimaryDeviceAttributes : Device
+  RequestSecondaryDeviceAttributes : Device
+  RequestTertiaryDeviceAttributes : Device
+  RequestTerminalNameAndVersion : Device
+  RequestTerminalParameters : ℤ → Device
+  StatusReport : Device
+  XtSmGraphics : (item : XtSmGraphicsItem) (action_or_status : ℤ) (value : List ℤ) → Device
+
+abbrev pub attributes_of : attributes_type.DeviceAttributes → Attributes
+attributes_of attributes.Vt100WithAdvancedVideoOption = Vt100WithAdvancedVideoOption
+attributes_of attributes.Vt101WithNoOptions = Vt101WithNoOptions
+attributes_of attributes.Vt102 = Vt102
+attributes_of (attributes.Vt220 flags) = Vt220 flags.attributes.items
+attributes_of (attributes.Vt320 flags) = Vt320 flags.attributes.items
+attributes_of (attributes.Vt420 flags) = Vt420 flags.attributes.items
+
+abbrev pub graphics_of : graphics_type.XtSmGraphics → Device
+graphics_of g = XtSmGraphics g.item g.action_or_status g.value.items
+
+abbrev pub device_of : device_type.Device → Device
+device_of (device.DeviceAttributes a) = DeviceAttributes (attributes_of a)
+device_of device.SoftReset = SoftReset
+device_of device.RequestPrimaryDeviceAttributes = RequestPrimaryDeviceAttributes
+device_of device.RequestSecondaryDeviceAttributes = RequestSecondaryDeviceAttributes
+device_of device.RequestTertiaryDeviceAttributes = RequestTertiaryDeviceAttributes
+device_of device.RequestTerminalNameAndVersion = RequestTerminalNameAndVersion
+device_of (device.RequestTerminalParameters n) = RequestTerminalParameters n
+device_of device.StatusReport = StatusReport
+device_of (device.XtSmGraphics g) = graphics_of g
+
+-- ---- extensions as tokens
+
+-- the code, if there is one, and else the token
+abbrev pub code_or_token : CsiParam → Option DeviceAttributeCodes → DeviceAttribute
+code_or_token t None = Unspecified t
+code_or_token t (Some c) = Code c
+
+-- the number of a code is the code, and any other token is itself
+abbrev pub attribute_of : CsiParam → DeviceAttribute
+attribute_of (Integer z) = code_or_token (Integer z) (with_number device_attribute_number device_attribute_codes z)
+attribute_of (P b) = Unspecified (P b)
+
+-- none for `;`
+abbrev pub attribute_at : CsiParam → List DeviceAttribute
+attribute_at (Integer z) = attribute_of (Integer z) ∷ []
+attribute_at (P b) = if b == 59 then [] else attribute_of (P b) ∷ []
+
+-- one for each token but `;`
+abbrev pub listed_attributes : List CsiParam → List DeviceAttribute
+listed_attributes list = flat_map attribute_at list
+
+abbrev pub attribute_token : DeviceAttribute → CsiParam
+attribute_token (Code c) = Integer (pos (device_attribute_number c))
+attribute_token (Unspecified t) = t

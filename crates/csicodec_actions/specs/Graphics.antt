@@ -1,0 +1,26 @@
+-- The numbers of XTSMGRAPHICS (xterm's ctlseqs).
+use Rattle.std.specs.Prelude.{ℕ, ℤ, pos}
+use Rattle.csicodec_actions.specs.declared.actions.graphics.XtSmGraphicsAction.{XtSmGraphicsAction}
+use Rattle.csicodec_actions.specs.declared.actions.graphics.XtSmGraphicsAction.TheVariants as action
+use Rattle.csicodec_actions.specs.declared.actions.graphics.XtSmGraphicsItem.{XtSmGraphicsItem}
+use Rattle.csicodec_actions.specs.declared.actions.graphics.XtSmGraphicsItem.TheVariants as item
+use Rattle.csicodec_actions.specs.declared.actions.graphics.XtSmGraphicsStatus.{XtSmGraphicsStatus}
+use Rattle.csicodec_actions.specs.declared.actions.graphics.XtSmGraphicsStatus.TheVariants as status
+
+abbrev pub item_number : XtSmGraphicsItem → ℤ
+item_number item.NumberOfColorRegisters = pos 1
+item_number item.SixelGraphicsGeometry = pos 2
+item_number item.RegisGraphicsGeometry = pos 3
+item_number (item.Unspecified n) = n
+
+abbrev pub action_number : XtSmGraphicsAction → ℕ
+action_number action.ReadAttribute = 1
+action_number action.ResetToDefault = 2
+action_number action.SetToValue = 3
+action_number action.ReadMaximumAllowedValue = 4
+
+abbrev pub status_number : XtSmGraphicsStatus → ℕ
+status_number status.Success = 0
+status_number status.InvalidItem = 1
+status_number status.InvalidAction = 2
+status_number status.Failure = 3

@@ -7,15 +7,15 @@ use Rattle.csicodec_spans.specs.declared.table.Mode.{Mode}
 use Rattle.csicodec_spans.specs.declared.table.Mode.TheVariants as mode
 use Rattle.csicodec_spans.specs.declared.table.Front.{Front}
 use Rattle.csicodec_spans.specs.declared.table.Front.TheVariants.{GoesOn, Ends, New, Esc, Csi, Unsure}
-use Rattle.csicodec_spans.specs.Table.{kind_in, stays, look}
-use Rattle.csicodec_spans.specs.Steps.{Cuts, IsMore, IsMaximal}
-use Rattle.csicodec_spans.proofs.Pieces.{run_cut, goes_cut, ends_cut}
-use Rattle.csicodec_spans.proofs.Says.{Says, says}
+use Rattle.csicodec_spans.specs.TableBy.{kind_in, stays, look, meant}
+use Rattle.csicodec_spans.specs.Parts.{Cuts, IsMore, IsMaximal}
+use Rattle.csicodec_spans.proofs.OneSpan.{run_cut, taken_cut}
+use Rattle.csicodec_spans.proofs.Agrees.{Agrees, agrees, found}
 use Rattle.csicodec_spans.proofs.Spanned.{join_cuts}
 
 -- the rest is behind some bytes, and where the first rest was behind a span, this one is behind a longer one
 pub record IsLonger (bytes first rest : List ℕ) (k : Kind) (m a : Mode) : Type 0 where
-  pub parts : (text : List ℕ) × (bytes ≡ text ++ rest)
+  pub split : (text : List ℕ) × (bytes ≡ text ++ rest)
   pub cut : (limit : ℕ) (start : Mode) (text : List ℕ) → Cuts limit start bytes k text first m → (longer : List ℕ) × Cuts limit start bytes k longer rest a
 
 pub parts_drop : (bytes rest : List ℕ) (n : ℕ) → (text : List ℕ) × (bytes ≡ text ++ rest) → (text : List ℕ) × (bytes ≡ text ++ drop n rest)
@@ -25,7 +25,7 @@ parts_drop bytes rest n (text, e) = (text ++ take n rest, e ∙ ap (λ (t : List
 more_longer : (bytes first rest : List ℕ) (k : Kind) (m a : Mode) (n : ℕ) → k ≡ kind_in m → IsLonger bytes first rest k m m
     → ((limit : ℕ) → Cuts limit m rest (kind_in m) (take n rest) (drop n rest) a) → IsLonger bytes first (drop n rest) k m a
 more_longer bytes first rest k m a n e h more = record {
-  parts = parts_drop bytes rest n h.parts;
+  split = parts_drop bytes rest n h.split;
   cut = λ limit start text c.
       let (longer, d) = h.cut limit start text c in
       (longer ++ take n rest, join_cuts limit start m a bytes longer rest (take n rest) (drop n rest) k e d (subst (λ (x : Kind). Cuts limit m rest x (take n rest) (drop n rest) a) (sym e) (more limit)));
@@ -37,10 +37,10 @@ stays_longer bytes first rest k m zero e stay le h = h
 stays_longer bytes first rest k m (suc n) e stay le h = more_longer bytes first rest k m m (suc n) e h (λ limit. run_cut limit (suc n) m rest stay le (omega arith))
 
 pub goes_longer : (bytes first rest : List ℕ) (k : Kind) (m : Mode) (n : ℕ) → k ≡ kind_in m → look m rest ≡ GoesOn n → IsLonger bytes first rest k m m → IsLonger bytes first (drop n rest) k m m
-goes_longer bytes first rest k m n e is h = more_longer bytes first rest k m m n e h (λ limit. goes_cut limit m rest n is)
+goes_longer bytes first rest k m n e is h = more_longer bytes first rest k m m n e h (λ limit. taken_cut limit m rest (GoesOn n) (kind_in m) n m is (inl refl))
 
 pub ends_longer : (bytes first rest : List ℕ) (k : Kind) (m : Mode) (n : ℕ) → k ≡ kind_in m → look m rest ≡ Ends n → IsLonger bytes first rest k m m → IsLonger bytes first (drop n rest) k m mode.Text
-ends_longer bytes first rest k m n e is h = more_longer bytes first rest k m mode.Text n e h (λ limit. ends_cut limit m rest n is)
+ends_longer bytes first rest k m n e is h = more_longer bytes first rest k m mode.Text n e h (λ limit. taken_cut limit m rest (Ends n) (kind_in m) n mode.Text is (inl refl))
 
 not_text : (m : Mode) → m ≢ mode.Text → kind_in m ≢ kind.Text
 not_text mode.Text other e = other refl
@@ -58,17 +58,17 @@ closed_maximal k rest other (inr e) more = e refl
 -- what ended isn't text
 pub ends_maximal : (m : Mode) (k : Kind) (bytes rest : List ℕ) (n : ℕ) → k ≡ kind_in m → look m bytes ≡ Ends n → IsMaximal k mode.Text rest
 ends_maximal m k bytes rest n e is =
-    let other = (subst (Says m bytes) is (says m bytes)).1 in
+    let other = (subst (Agrees m bytes) is (agrees m bytes)).ends in
     closed_maximal k rest (λ text. not_text m other (sym e ∙ text))
 
 abbrev IsOther : Front → Type 0
 IsOther f = ((n : ℕ) × (a : Mode) × (f ≡ New n a)) ⊎ (((n : ℕ) × (f ≡ Esc n)) ⊎ ((f ≡ Csi) ⊎ (f ≡ Unsure)))
 
-none_more : (f : Front) → IsOther f → ¬ IsMore f
-none_more f (inl h) more = subst IsMore h.2 more
-none_more f (inr (inl h)) more = subst IsMore h.1 more
-none_more f (inr (inr (inl h))) more = subst IsMore h more
-none_more f (inr (inr (inr h))) more = subst IsMore h more
+none_more : (m : Mode) (f : Front) → IsOther f → ¬ IsMore (meant m f)
+none_more m f (inl h) more = subst (λ (x : Front). IsMore (meant m x)) h.2 more
+none_more m f (inr (inl h)) more = subst (λ (x : Front). IsMore (meant m x)) h.1 more
+none_more m f (inr (inr (inl h))) more = subst (λ (x : Front). IsMore (meant m x)) h more
+none_more m f (inr (inr (inr h))) more = subst (λ (x : Front). IsMore (meant m x)) h more
 
 pub stops_maximal : (k : Kind) (a : Mode) (rest : List ℕ) (f : Front) → look a rest ≡ f → IsOther f → IsMaximal k a rest
-stops_maximal k a rest f is none which more = none_more f none (subst IsMore is more)
+stops_maximal k a rest f is none which more = none_more a f none (subst IsMore (found a rest f is) more)

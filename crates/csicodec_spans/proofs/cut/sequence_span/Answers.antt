@@ -1,9 +1,9 @@
 use Rattle.std.proofs.Common.{◌-◌, length, take, refl}
 use Rattle.csicodec_spans.specs.declared.table.Kind.TheVariants as kind
 use Rattle.csicodec_spans.specs.declared.table.Mode.TheVariants as mode
-use Rattle.csicodec_spans.specs.Steps.{StandsCsi}
+use Rattle.csicodec_spans.specs.Parts.{AllowsCsi}
 use Rattle.csicodec_spans.proofs.Longest.{closed_maximal}
-use Rattle.csicodec_spans.proofs.Pieces.{csi_cut}
+use Rattle.csicodec_spans.proofs.OneSpan.{csi_cut}
 use Rattle.csicodec_spans.proofs.Sequences.{whole, short}
 use Rattle.csicodec_spans.proofs.cut.sequence_span.Goals as goal
 
@@ -15,7 +15,7 @@ returns-clause-cut c = λ m is.
     let (list, final, r) = c.requires in
     let e = c.split.ensures in
     let n = length (take c.args.limit c.args.bytes.now) - length c.args.behind.now in
-    let stands : StandsCsi c.args.limit c.args.bytes.now kind.Csi (take n c.args.bytes.now) mode.Text =
+    let stands : AllowsCsi c.args.limit c.args.bytes.now kind.Csi (take n c.args.bytes.now) mode.Text =
     ((list, final, whole c.args.limit c.args.bytes.now c.args.behind.now list final r), short c.args.limit c.args.bytes.now c.args.behind.now, refl) in
     rw (e.mode, e.text, e.rest, c.near.ensures) (csi_cut c.args.limit m mode.Text c.args.bytes.now kind.Csi n is stands)
 

@@ -1,8 +1,8 @@
 use Rattle.std.proofs.Common.{length, take, refl}
 use Rattle.csicodec_spans.specs.declared.table.Kind.TheVariants as kind
 use Rattle.csicodec_spans.specs.declared.table.Mode.TheVariants as mode
-use Rattle.csicodec_spans.specs.Steps.{IsMalformed}
-use Rattle.csicodec_spans.proofs.Pieces.{csi_cut, csi_unsure}
+use Rattle.csicodec_spans.specs.Parts.{IsMalformed}
+use Rattle.csicodec_spans.proofs.OneSpan.{csi_cut, csi_unsure}
 use Rattle.csicodec_spans.proofs.Sequences.{malformed, too_long, all_of_it}
 use Rattle.csicodec_spans.proofs.cut.wrong_span.Goals.{in-Some, in-None+else-bytes-limit}
 use Rattle.csicodec_spans.proofs.cut.wrong_span.Goals as goal

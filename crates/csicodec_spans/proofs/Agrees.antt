@@ -1,0 +1,187 @@
+-- What the tests of `table.rt` find in front of bytes is what the one row says that fits them.
+use Rattle.std.proofs.Common.{◌≡◌, ◌≢◌, ℕ, List, [], ◌∷◌, Some, refl, sym, ap, subst, ◌∙◌, inl, inr, arith}
+use Rattle.std.specs.Prelude.{◌==◌, ◌&&◌, Bool, true, false, not, nat_lt, slice_get, if◌then◌else◌}
+use Rattle.std.proofs.lemmas.Bool.{cases_Bool, and_from, eqb-true}
+use Rattle.std.proofs.lemmas.Bool.Decides.{nat_tests}
+use Rattle.csicodec_spans.specs.declared.table.Kind.TheVariants as kind
+use Rattle.csicodec_spans.specs.declared.table.Mode.{Mode}
+use Rattle.csicodec_spans.specs.declared.table.Mode.TheVariants as mode
+use Rattle.csicodec_spans.specs.declared.table.Front.{Front}
+use Rattle.csicodec_spans.specs.declared.table.Front.TheVariants.{GoesOn, Ends, New, Esc, Csi, Unsure}
+use Rattle.csicodec_spans.specs.Table.{More, Sequence, ModeRow, mode_table, every_mode, holds_in, begin_with, fits_front, ahead, HasOneRow}
+use Rattle.csicodec_spans.specs.TableBy.{is_within, opens_string, is_string, is_dcs, stays, ends, intermediate, opened, escape, look, meant}
+use Rattle.csicodec_spans.proofs.Apart.{one_row, said}
+use Rattle.csicodec_spans.proofs.Rows.{Sound, sound_row}
+
+-- text has no end
+abbrev pub IsNoText : Mode → Front → Type 0
+IsNoText m (GoesOn n) = Unit {0}
+IsNoText m (Ends n) = m ≢ mode.Text
+IsNoText m (New n a) = Unit {0}
+IsNoText m (Esc n) = Unit {0}
+IsNoText m Csi = Unit {0}
+IsNoText m Unsure = Unit {0}
+
+pub record Agrees (m : Mode) (bytes : List ℕ) (f : Front) : Type 0 where
+  pub one : HasOneRow m bytes
+  pub same : ahead m bytes ≡ meant m f
+  pub ends : IsNoText m f
+
+by_row : (i : ℕ) (r : ModeRow) (m : Mode) (bytes : List ℕ) (f : Front) → slice_get mode_table i ≡ Some r → fits_front m bytes r ≡ true → r.answer ≡ meant m f → IsNoText m f → Agrees m bytes f
+by_row i r m bytes f at fit same ends = record { one = one_row i r m bytes at fit; same = said i r m bytes at fit ∙ same; ends = ends }
+
+-- either way of a test
+test : (m : Mode) (bytes : List ℕ) (b : Bool) (x y : Front) → (b ≡ true → Agrees m bytes x) → (b ≡ false → Agrees m bytes y) → Agrees m bytes (if b then x else y)
+test m bytes true x y h k = h refl
+test m bytes false x y h k = k refl
+
+in_every : (m : Mode) → holds_in every_mode m ≡ true
+in_every mode.Text = refl
+in_every mode.Osc = refl
+in_every mode.Dcs = refl
+in_every mode.Str = refl
+in_every mode.BadCsi = refl
+in_every mode.BadEsc = refl
+
+-- a row that holds in every mode
+by_any : (i : ℕ) (r : ModeRow) (m : Mode) (bytes : List ℕ) (f : Front) → slice_get mode_table i ≡ Some r → r.modes ≡ every_mode → begin_with r.spots bytes ≡ true → r.answer ≡ meant m f → IsNoText m f → Agrees m bytes f
+by_any i r m bytes f at modes fit same ends = by_row i r m bytes f at (and_from (holds_in r.modes m) (begin_with r.spots bytes) (rw modes (in_every m)) fit) same ends
+
+-- ---- the first byte
+
+agrees_stays : (m : Mode) (b : ℕ) (bytes : List ℕ) → stays m b ≡ true → Agrees m (b ∷ bytes) (GoesOn 1)
+agrees_stays mode.Text b bytes e = by_row 0 _ mode.Text (b ∷ bytes) (GoesOn 1) refl (grind (arith, nat_tests)) refl tt
+agrees_stays mode.Osc b bytes e = by_row 2 _ mode.Osc (b ∷ bytes) (GoesOn 1) refl (grind (arith, nat_tests)) refl tt
+agrees_stays mode.Dcs b bytes e = by_row 3 _ mode.Dcs (b ∷ bytes) (GoesOn 1) refl (grind (arith, nat_tests)) refl tt
+agrees_stays mode.Str b bytes e = by_row 4 _ mode.Str (b ∷ bytes) (GoesOn 1) refl (grind (arith, nat_tests)) refl tt
+agrees_stays mode.BadCsi b bytes e = by_row 5 _ mode.BadCsi (b ∷ bytes) (GoesOn 1) refl (grind (arith, nat_tests)) refl tt
+agrees_stays mode.BadEsc b bytes e = by_row 7 _ mode.BadEsc (b ∷ bytes) (GoesOn 1) refl (grind (arith, nat_tests)) refl tt
+
+agrees_ends : (m : Mode) (b : ℕ) (bytes : List ℕ) → ends m b ≡ true → Agrees m (b ∷ bytes) (Ends 1)
+agrees_ends mode.Text b bytes e = cc
+agrees_ends mode.Osc b bytes e = by_row 1 _ mode.Osc (b ∷ bytes) (Ends 1) refl (grind (arith, nat_tests)) refl (λ text. absurd cc)
+agrees_ends mode.Dcs b bytes e = cc
+agrees_ends mode.Str b bytes e = cc
+agrees_ends mode.BadCsi b bytes e = by_row 6 _ mode.BadCsi (b ∷ bytes) (Ends 1) refl (grind (arith, nat_tests)) refl (λ text. absurd cc)
+agrees_ends mode.BadEsc b bytes e = by_row 8 _ mode.BadEsc (b ∷ bytes) (Ends 1) refl (grind (arith, nat_tests)) refl (λ text. absurd cc)
+
+-- CAN or SUB, or behind what went wrong a byte that is no ASCII
+agrees_left : (m : Mode) (b : ℕ) (bytes : List ℕ) → stays m b ≡ false → ends m b ≡ false → (b == 27) ≡ false → Agrees m (b ∷ bytes) (New 1 mode.Text)
+agrees_left mode.Text b bytes e f g = absurd (no_text b e g)
+  where
+    no_text : (b : ℕ) → not (b == 27) ≡ false → (b == 27) ≡ false → ⊥
+    no_text b e g = grind (arith, nat_tests)
+agrees_left mode.Osc b bytes e f g = by_row 10 _ mode.Osc (b ∷ bytes) (New 1 mode.Text) refl (grind (arith, nat_tests)) refl tt
+agrees_left mode.Dcs b bytes e f g = by_row 10 _ mode.Dcs (b ∷ bytes) (New 1 mode.Text) refl (grind (arith, nat_tests)) refl tt
+agrees_left mode.Str b bytes e f g = by_row 10 _ mode.Str (b ∷ bytes) (New 1 mode.Text) refl (grind (arith, nat_tests)) refl tt
+agrees_left mode.BadCsi b bytes e f g = elim (cases_Bool (nat_lt b 128)) [
+  | inl low ↦ by_row 10 _ mode.BadCsi (b ∷ bytes) (New 1 mode.Text) refl (grind (arith, nat_tests)) refl tt
+  | inr high ↦ by_row 9 _ mode.BadCsi (b ∷ bytes) (New 1 mode.Text) refl (grind (arith, nat_tests)) refl tt
+]
+agrees_left mode.BadEsc b bytes e f g = elim (cases_Bool (nat_lt b 128)) [
+  | inl low ↦ by_row 10 _ mode.BadEsc (b ∷ bytes) (New 1 mode.Text) refl (grind (arith, nat_tests)) refl tt
+  | inr high ↦ by_row 9 _ mode.BadEsc (b ∷ bytes) (New 1 mode.Text) refl (grind (arith, nat_tests)) refl tt
+]
+
+-- ---- behind ESC
+
+agrees_intermediate : (m : Mode) (b : ℕ) (bytes : List ℕ) → is_within 32 47 b ≡ true → Agrees m (27 ∷ b ∷ bytes) (intermediate bytes)
+agrees_intermediate m b [] e = by_any 25 _ m (27 ∷ b ∷ []) Unsure refl refl (grind (arith, nat_tests)) refl tt
+agrees_intermediate m b (c ∷ bytes) e =
+    test m (27 ∷ b ∷ c ∷ bytes) (is_within 48 126 c) (Esc 3) (New 2 mode.BadEsc)
+    (λ f. by_any 18 _ m (27 ∷ b ∷ c ∷ bytes) (Esc 3) refl refl (grind (arith, nat_tests)) refl tt)
+    (λ f. by_any 19 _ m (27 ∷ b ∷ c ∷ bytes) (New 2 mode.BadEsc) refl refl (grind (arith, nat_tests)) refl tt)
+
+-- behind what is no `\` of an open string, nor a second ESC in a DCS
+agrees_opened : (m : Mode) (b : ℕ) (bytes : List ℕ) → (is_string m && b == 92) ≡ false → (is_dcs m && b == 27) ≡ false → Agrees m (27 ∷ b ∷ bytes) (opened b bytes)
+agrees_opened m b bytes st quote =
+    let t = test m (27 ∷ b ∷ bytes) in
+    t (b == 91) Csi _ (λ e. by_any 11 _ m (27 ∷ b ∷ bytes) Csi refl refl (grind (arith, nat_tests)) refl tt)
+    (λ csi. t (b == 93) (New 2 mode.Osc) _ (λ e. by_any 12 _ m (27 ∷ b ∷ bytes) (New 2 mode.Osc) refl refl (grind (arith, nat_tests)) refl tt)
+    (λ osc. t (b == 80) (New 2 mode.Dcs) _ (λ e. by_any 13 _ m (27 ∷ b ∷ bytes) (New 2 mode.Dcs) refl refl (grind (arith, nat_tests)) refl tt)
+    (λ dcs. t (opens_string b) (New 2 mode.Str) _ (λ e. by_any 14 _ m (27 ∷ b ∷ bytes) (New 2 mode.Str) refl refl (grind (arith, nat_tests)) refl tt)
+    (λ str. t (is_within 48 126 b) (Esc 2) _ (λ e. agrees_final m b bytes st csi osc dcs str e)
+    (λ final. t (is_within 32 47 b) (intermediate bytes) (New 1 mode.BadEsc) (λ e. agrees_intermediate m b bytes e)
+    (λ e. agrees_wrong m b bytes quote final e))))))
+  where
+    plain : (m : Mode) (b : ℕ) (bytes : List ℕ) → (b == 91) ≡ false → (b == 93) ≡ false → (b == 80) ≡ false → opens_string b ≡ false → is_within 48 126 b ≡ true → (b == 92) ≡ false → Agrees m (27 ∷ b ∷ bytes) (Esc 2)
+    plain m b bytes csi osc dcs str e st = by_any 17 _ m (27 ∷ b ∷ bytes) (Esc 2) refl refl (grind (arith, nat_tests)) refl tt
+
+    closes : (m : Mode) (b : ℕ) (bytes : List ℕ) → (is_string m && b == 92) ≡ false → (b == 92) ≡ true → Agrees m (27 ∷ b ∷ bytes) (Esc 2)
+    closes mode.Text b bytes st e = by_row 16 _ mode.Text (27 ∷ b ∷ bytes) (Esc 2) refl (grind (arith, nat_tests)) refl tt
+    closes mode.Osc b bytes st e = cc
+    closes mode.Dcs b bytes st e = cc
+    closes mode.Str b bytes st e = cc
+    closes mode.BadCsi b bytes st e = by_row 16 _ mode.BadCsi (27 ∷ b ∷ bytes) (Esc 2) refl (grind (arith, nat_tests)) refl tt
+    closes mode.BadEsc b bytes st e = by_row 16 _ mode.BadEsc (27 ∷ b ∷ bytes) (Esc 2) refl (grind (arith, nat_tests)) refl tt
+
+    agrees_final : (m : Mode) (b : ℕ) (bytes : List ℕ) → (is_string m && b == 92) ≡ false → (b == 91) ≡ false → (b == 93) ≡ false → (b == 80) ≡ false → opens_string b ≡ false → is_within 48 126 b ≡ true
+        → Agrees m (27 ∷ b ∷ bytes) (Esc 2)
+    agrees_final m b bytes st csi osc dcs str e = elim (cases_Bool (b == 92)) [ inl is ↦ closes m b bytes st is | inr other ↦ plain m b bytes csi osc dcs str e other ]
+
+    twice : (m : Mode) (b : ℕ) (bytes : List ℕ) → (is_dcs m && b == 27) ≡ false → (b == 27) ≡ true → Agrees m (27 ∷ b ∷ bytes) (New 1 mode.BadEsc)
+    twice mode.Text b bytes q e = by_row 21 _ mode.Text (27 ∷ b ∷ bytes) (New 1 mode.BadEsc) refl (grind (arith, nat_tests)) refl tt
+    twice mode.Osc b bytes q e = by_row 21 _ mode.Osc (27 ∷ b ∷ bytes) (New 1 mode.BadEsc) refl (grind (arith, nat_tests)) refl tt
+    twice mode.Dcs b bytes q e = cc
+    twice mode.Str b bytes q e = by_row 21 _ mode.Str (27 ∷ b ∷ bytes) (New 1 mode.BadEsc) refl (grind (arith, nat_tests)) refl tt
+    twice mode.BadCsi b bytes q e = by_row 21 _ mode.BadCsi (27 ∷ b ∷ bytes) (New 1 mode.BadEsc) refl (grind (arith, nat_tests)) refl tt
+    twice mode.BadEsc b bytes q e = by_row 21 _ mode.BadEsc (27 ∷ b ∷ bytes) (New 1 mode.BadEsc) refl (grind (arith, nat_tests)) refl tt
+
+    other : (m : Mode) (b : ℕ) (bytes : List ℕ) → is_within 48 126 b ≡ false → is_within 32 47 b ≡ false → (b == 27) ≡ false → Agrees m (27 ∷ b ∷ bytes) (New 1 mode.BadEsc)
+    other m b bytes final e q = by_any 22 _ m (27 ∷ b ∷ bytes) (New 1 mode.BadEsc) refl refl (grind (arith, nat_tests)) refl tt
+
+    agrees_wrong : (m : Mode) (b : ℕ) (bytes : List ℕ) → (is_dcs m && b == 27) ≡ false → is_within 48 126 b ≡ false → is_within 32 47 b ≡ false → Agrees m (27 ∷ b ∷ bytes) (New 1 mode.BadEsc)
+    agrees_wrong m b bytes quote final e = elim (cases_Bool (b == 27)) [ inl is ↦ twice m b bytes quote is | inr apart ↦ other m b bytes final e apart ]
+
+agrees_escape : (m : Mode) (bytes : List ℕ) → Agrees m (27 ∷ bytes) (escape m bytes)
+agrees_escape m [] = by_any 24 _ m (27 ∷ []) Unsure refl refl refl refl tt
+agrees_escape m (b ∷ bytes) =
+    let t = test m (27 ∷ b ∷ bytes) in
+    t (is_string m && b == 92) (Ends 2) _ (λ e. st m b bytes e)
+    (λ no. t (is_dcs m && b == 27) (GoesOn 2) (opened b bytes) (λ e. quote m b bytes e) (λ other. agrees_opened m b bytes no other))
+  where
+    st : (m : Mode) (b : ℕ) (bytes : List ℕ) → (is_string m && b == 92) ≡ true → Agrees m (27 ∷ b ∷ bytes) (Ends 2)
+    st mode.Text b bytes e = cc
+    st mode.Osc b bytes e = by_row 15 _ mode.Osc (27 ∷ b ∷ bytes) (Ends 2) refl (grind (arith, nat_tests)) refl (λ text. absurd cc)
+    st mode.Dcs b bytes e = by_row 15 _ mode.Dcs (27 ∷ b ∷ bytes) (Ends 2) refl (grind (arith, nat_tests)) refl (λ text. absurd cc)
+    st mode.Str b bytes e = by_row 15 _ mode.Str (27 ∷ b ∷ bytes) (Ends 2) refl (grind (arith, nat_tests)) refl (λ text. absurd cc)
+    st mode.BadCsi b bytes e = cc
+    st mode.BadEsc b bytes e = cc
+
+    quote : (m : Mode) (b : ℕ) (bytes : List ℕ) → (is_dcs m && b == 27) ≡ true → Agrees m (27 ∷ b ∷ bytes) (GoesOn 2)
+    quote mode.Text b bytes e = cc
+    quote mode.Osc b bytes e = cc
+    quote mode.Dcs b bytes e = by_row 20 _ mode.Dcs (27 ∷ b ∷ bytes) (GoesOn 2) refl (grind (arith, nat_tests)) refl tt
+    quote mode.Str b bytes e = cc
+    quote mode.BadCsi b bytes e = cc
+    quote mode.BadEsc b bytes e = cc
+
+-- ---- any bytes
+
+pub agrees : (m : Mode) (bytes : List ℕ) → Agrees m bytes (look m bytes)
+agrees m [] = by_any 23 _ m [] Unsure refl refl refl refl tt
+agrees m (b ∷ bytes) =
+    let t = test m (b ∷ bytes) in
+    t (stays m b) (GoesOn 1) _ (agrees_stays m b bytes)
+    (λ stays. t (ends m b) (Ends 1) _ (agrees_ends m b bytes)
+    (λ ends. t (b == 27) (escape m bytes) (New 1 mode.Text)
+    (λ e. subst (λ (x : ℕ). Agrees m (x ∷ bytes) (escape m bytes)) (sym (eqb-true b 27 e)) (agrees_escape m bytes))
+    (λ e. agrees_left m b bytes stays ends e)))
+
+pub only_row : (m : Mode) (bytes : List ℕ) → HasOneRow m bytes
+only_row m bytes = (agrees m bytes).one
+
+-- the table says what was found
+pub found : (m : Mode) (bytes : List ℕ) (f : Front) → look m bytes ≡ f → ahead m bytes ≡ meant m f
+found m bytes f e = (agrees m bytes).same ∙ ap (meant m) e
+
+pub sound : (m : Mode) (bytes : List ℕ) → Sound m bytes (ahead m bytes)
+sound m bytes = sound_row m bytes (only_row m bytes)
+
+-- ESC and `[` begin a sequence in every mode
+pub opens : (m : Mode) (bytes : List ℕ) → ahead m (27 ∷ 91 ∷ bytes) ≡ Sequence
+opens m bytes = said 11 _ m (27 ∷ 91 ∷ bytes) refl (and_from (holds_in every_mode m) true (in_every m) refl)
+
+-- text goes on with every byte but ESC
+pub text_goes_on : (b : ℕ) (bytes : List ℕ) → b ≢ 27 → ahead mode.Text (b ∷ bytes) ≡ More kind.Text 1 mode.Text
+text_goes_on b bytes other = said 0 _ mode.Text (b ∷ bytes) refl (grind (arith, nat_tests))

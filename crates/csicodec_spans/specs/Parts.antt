@@ -1,0 +1,143 @@
+-- The parts of a stream, as the table of modes says: what stands in front of bytes, whatever follows them.
+use Rattle.std.specs.Prelude.{ℕ, ◌≡◌, ◌≢◌, ◌<◌, ◌≤◌, ◌⊎◌, List, [], ◌∷◌, ◌++◌, length, take}
+use Rattle.std.specs.List.{AllByRecursion, flat_map}
+use Rattle.csicodec_tokens.specs.declared.param.CsiParam.{CsiParam}
+use Rattle.csicodec_tokens.specs.declared.reader.ReadError.{ReadError}
+use Rattle.csicodec_tokens.specs.declared.reader.ReadError.TheVariants.{NotCsi, BadByte, NumberTooLarge, Truncated, Memory}
+use Rattle.csicodec_tokens.specs.Sequence.{Seq}
+use Rattle.csicodec_tokens.specs.Fault.{Begins, FaultOf}
+use Rattle.csicodec_spans.specs.declared.table.Kind.{Kind}
+use Rattle.csicodec_spans.specs.declared.table.Kind.TheVariants as kind
+use Rattle.csicodec_spans.specs.declared.table.Mode.{Mode}
+use Rattle.csicodec_spans.specs.declared.table.Mode.TheVariants as mode
+use Rattle.csicodec_spans.specs.Table.{Answer, More, Anew, Sequence, Undecided, ahead}
+
+-- some bytes and what they are: a whole control sequence or escape sequence, or a few bytes of text, of a string or of
+-- what went wrong
+pub record Part : Type 0 where
+  pub kind : Kind
+  pub bytes : List ℕ
+
+abbrev pub part : Kind → List ℕ → Part
+part k bs = record { kind = k; bytes = bs }
+
+-- the bytes are one control sequence
+abbrev pub IsSequence : List ℕ → Type 0
+IsSequence text = (list : List CsiParam) × (final : ℕ) × Seq text list final
+
+-- the fault is met at this place
+abbrev pub IsMetAt : ReadError → ℕ → Type 0
+IsMetAt (NotCsi place) n = n ≡ place
+IsMetAt (BadByte place) n = n ≡ place
+IsMetAt (NumberTooLarge place) n = n ≡ place
+IsMetAt (Truncated place) n = ⊥
+IsMetAt Memory n = ⊥
+
+-- the first n bytes are the beginning of a sequence that goes wrong: they go up to the fault, or they are the first `limit`
+-- bytes, and have no end
+abbrev pub IsMalformed : ℕ → List ℕ → ℕ → Type 0
+IsMalformed limit bytes n =
+    ((e : ReadError) × FaultOf bytes e × IsMetAt e n × (n < limit)) ⊎ (Begins (take limit bytes) × (limit ≤ length bytes) × (n ≡ limit))
+
+-- where ESC and `[` stand in front: a whole sequence of at most `limit` bytes, or the beginning of one that goes wrong
+abbrev pub AllowsCsi : ℕ → List ℕ → Kind → List ℕ → Mode → Type 0
+AllowsCsi limit bytes kind.Csi text after = IsSequence text × (length text ≤ limit) × (after ≡ mode.Text)
+AllowsCsi limit bytes kind.Other text after = IsMalformed limit bytes (length text) × (after ≡ mode.BadCsi)
+AllowsCsi limit bytes kind.Text text after = ⊥
+AllowsCsi limit bytes kind.Esc text after = ⊥
+AllowsCsi limit bytes kind.Str text after = ⊥
+
+-- by the table's answer: a text of this kind in front of the bytes, and the mode behind it
+abbrev pub Allows : Answer → ℕ → List ℕ → Kind → List ℕ → Mode → Type 0
+Allows (More k n a) limit bytes kind text after = (kind ≡ k) × (length text ≡ n) × (after ≡ a)
+Allows (Anew k n a) limit bytes kind text after = (kind ≡ k) × (length text ≡ n) × (after ≡ a)
+Allows Sequence limit bytes kind text after = AllowsCsi limit bytes kind text after
+Allows Undecided limit bytes kind text after = ⊥
+
+-- the part in front of the bytes in a mode, what is behind it, and the mode there
+abbrev pub IsFirstPart : ℕ → Mode → List ℕ → Part → List ℕ → Mode → Type 0
+IsFirstPart limit m bytes p rest after = (bytes ≡ p.bytes ++ rest) × Allows (ahead m bytes) limit bytes p.kind p.bytes after
+
+-- one part after the other
+abbrev pub AreFirstParts : ℕ → Mode → List ℕ → List Part → List ℕ → Mode → Type 0
+AreFirstParts limit m bytes [] rest after = (rest ≡ bytes) × (after ≡ m)
+AreFirstParts limit m bytes (p ∷ ps) rest after =
+    (behind : List ℕ) × (mid : Mode) × IsFirstPart limit m bytes p behind mid × AreFirstParts limit mid behind ps rest after
+
+-- nothing is sure of the bytes yet: more could make them a sequence of at most `limit` bytes, or something else
+abbrev pub IsUnsureBy : Answer → ℕ → List ℕ → Type 0
+IsUnsureBy (More k n a) limit bytes = ⊥
+IsUnsureBy (Anew k n a) limit bytes = ⊥
+IsUnsureBy Sequence limit bytes = Begins bytes × (length bytes < limit)
+IsUnsureBy Undecided limit bytes = Unit {0}
+
+abbrev pub IsUnsure : ℕ → Mode → List ℕ → Type 0
+IsUnsure limit m bytes = IsUnsureBy (ahead m bytes) limit bytes
+
+abbrev pub bytes_of : Part → List ℕ
+bytes_of p = p.bytes
+
+-- all of them are of this kind, and their bytes joined are the text
+pub record AreAll (kind : Kind) (text : List ℕ) (parts : List Part) : Type 0 where
+  pub some : 0 < length parts
+  pub all : AllByRecursion (λ (p : Part). p.kind ≡ kind) parts
+  pub joined : flat_map bytes_of parts ≡ text
+
+-- what a span is made of: one whole sequence, or parts of text, of a string or of what went wrong
+abbrev pub IsSpan : Kind → List ℕ → List Part → Type 0
+IsSpan kind.Csi text parts = parts ≡ part kind.Csi text ∷ []
+IsSpan kind.Esc text parts = parts ≡ part kind.Esc text ∷ []
+IsSpan kind.Text text parts = AreAll kind.Text text parts
+IsSpan kind.Str text parts = AreAll kind.Str text parts
+IsSpan kind.Other text parts = AreAll kind.Other text parts
+
+-- a span of this kind and text in front of the bytes, what is behind it, and the mode there
+pub record Cuts (limit : ℕ) (m : Mode) (bytes : List ℕ) (kind : Kind) (text : List ℕ) (rest : List ℕ) (next : Mode) : Type 0 where
+  pub parts : List Part
+  pub span : IsSpan kind text parts
+  pub first : AreFirstParts limit m bytes parts rest next
+
+-- behind these bytes, the text is a part of this kind
+pub record IsPartAt (parts : List Part) (before : List ℕ) (kind : Kind) (text : List ℕ) : Type 0 where
+  pub earlier : List Part
+  pub later : List Part
+  pub whole : parts ≡ earlier ++ part kind text ∷ later
+  pub joined : flat_map bytes_of earlier ≡ before
+
+-- the bytes end within an ESC ESC of a device control string
+pub record EndsInQuote (parts : List Part) (before : List ℕ) : Type 0 where
+  pub outside : List ℕ
+  pub ends : before ≡ outside ++ 27 ∷ []
+  pub quote : IsPartAt parts outside kind.Str (27 ∷ 27 ∷ [])
+
+-- more of what is open stands in front
+abbrev pub IsMore : Answer → Type 0
+IsMore (More k n a) = Unit {0}
+IsMore (Anew k n a) = ⊥
+IsMore Sequence = ⊥
+IsMore Undecided = ⊥
+
+-- a span of this kind is as long as it can be: neither text nor what is open behind it goes on there
+abbrev pub IsMaximal : Kind → Mode → List ℕ → Type 0
+IsMaximal k after rest = (k ≡ kind.Text) ⊎ (after ≢ mode.Text) → ¬ IsMore (ahead after rest)
+
+-- what is left where nothing follows
+abbrev pub left_over : List ℕ → List Part
+left_over [] = []
+left_over (b ∷ bytes) = part kind.Other (b ∷ bytes) ∷ []
+
+-- the bytes are parts, and then bytes of which nothing is sure, which have gone wrong by the end
+pub record IsWhole (limit : ℕ) (m : Mode) (bytes : List ℕ) (parts : List Part) : Type 0 where
+  pub sure : List Part
+  pub rest : List ℕ
+  pub after : Mode
+  pub first : AreFirstParts limit m bytes sure rest after
+  pub unsure : IsUnsure limit after rest
+  pub whole : parts ≡ sure ++ left_over rest
+
+-- a stream that comes chunk by chunk: each is cut with what the ones before it left, and what is left is passed on
+abbrev pub InChunks : ℕ → Mode → List ℕ → List (List ℕ) → List Part → List ℕ → Mode → Type 0
+InChunks limit m left [] parts rest after = (parts ≡ []) × (rest ≡ left) × (after ≡ m)
+InChunks limit m left (chunk ∷ chunks) parts rest after =
+    (now : List Part) × (later : List Part) × (held : List ℕ) × (mid : Mode) × (parts ≡ now ++ later)
+    × AreFirstParts limit m (left ++ chunk) now held mid × InChunks limit mid held chunks later rest after

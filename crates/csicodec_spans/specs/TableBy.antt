@@ -1,0 +1,111 @@
+-- What the private steps of `table.rt` find in front of bytes, by tests of one byte after the other. No promise rests on it:
+-- what it finds is what the one row of the table of modes says that fits the bytes (`proofs/Agrees.antt`).
+use Rattle.std.specs.Prelude.{ℕ, ◌==◌, Bool, true, false, not, ◌&&◌, ◌||◌, nat_lt, nat_le, List, [], ◌∷◌, if◌then◌else◌}
+use Rattle.csicodec_spans.specs.declared.table.Kind as kinds
+use Rattle.csicodec_spans.specs.declared.table.Kind.TheVariants as kind
+use Rattle.csicodec_spans.specs.declared.table.Mode as modes
+use Rattle.csicodec_spans.specs.declared.table.Mode.TheVariants as mode
+use Rattle.csicodec_spans.specs.declared.table.Front.{Front}
+use Rattle.csicodec_spans.specs.declared.table.Front.TheVariants.{GoesOn, Ends, New, Esc, Csi, Unsure}
+use Rattle.csicodec_spans.specs.Table.{Answer, More, Anew, Sequence, Undecided}
+
+-- from the low byte to the high one
+abbrev pub is_within : ℕ → ℕ → ℕ → Bool
+is_within low high b = nat_le low b && nat_le b high
+
+-- CAN, SUB or ESC: they cancel what is open, and don't belong to it
+abbrev pub is_cancel : ℕ → Bool
+is_cancel b = b == 24 || b == 26 || b == 27
+
+-- the last character of SOS, PM or APC
+abbrev pub opens_string : ℕ → Bool
+opens_string b = b == 88 || b == 94 || b == 95
+
+-- a control string is open
+abbrev pub is_string : modes.Mode → Bool
+is_string mode.Text = false
+is_string mode.Osc = true
+is_string mode.Dcs = true
+is_string mode.Str = true
+is_string mode.BadCsi = false
+is_string mode.BadEsc = false
+
+-- a device control string is open
+abbrev pub is_dcs : modes.Mode → Bool
+is_dcs mode.Text = false
+is_dcs mode.Osc = false
+is_dcs mode.Dcs = true
+is_dcs mode.Str = false
+is_dcs mode.BadCsi = false
+is_dcs mode.BadEsc = false
+
+-- what the bytes are that belong to what is open
+abbrev pub kind_in : modes.Mode → kinds.Kind
+kind_in mode.Text = kind.Text
+kind_in mode.Osc = kind.Str
+kind_in mode.Dcs = kind.Str
+kind_in mode.Str = kind.Str
+kind_in mode.BadCsi = kind.Other
+kind_in mode.BadEsc = kind.Other
+
+-- the byte ends nothing: text is all but ESC, a string all but what ends it, and what went wrong goes on over control
+-- characters, DEL, and the bytes below the final ones
+abbrev pub stays : modes.Mode → ℕ → Bool
+stays mode.Text b = not (b == 27)
+stays mode.Osc b = not (b == 7 || is_cancel b)
+stays mode.Dcs b = not (is_cancel b)
+stays mode.Str b = not (is_cancel b)
+stays mode.BadCsi b = not (is_cancel b) && (nat_lt b 64 || b == 127)
+stays mode.BadEsc b = not (is_cancel b) && (nat_lt b 48 || b == 127)
+
+-- the byte ends what is open, and belongs to it: BEL an OSC, and a final byte what went wrong
+abbrev pub ends : modes.Mode → ℕ → Bool
+ends mode.Text b = false
+ends mode.Osc b = b == 7
+ends mode.Dcs b = false
+ends mode.Str b = false
+ends mode.BadCsi b = is_within 64 126 b
+ends mode.BadEsc b = is_within 48 126 b
+
+-- behind ESC and an intermediate byte: a final byte, or the two have gone wrong
+abbrev pub intermediate : List ℕ → Front
+intermediate [] = Unsure
+intermediate (b ∷ bytes) = if is_within 48 126 b then Esc 3 else New 2 mode.BadEsc
+
+-- behind an ESC that begins anew: `[`, `]`, `P`, `X`, `^` or `_`, another final byte, an intermediate one, or the ESC has
+-- gone wrong
+abbrev pub opened : ℕ → List ℕ → Front
+opened b bytes =
+    if b == 91 then Csi else
+    if b == 93 then New 2 mode.Osc else
+    if b == 80 then New 2 mode.Dcs else
+    if opens_string b then New 2 mode.Str else
+    if is_within 48 126 b then Esc 2 else
+    if is_within 32 47 b then intermediate bytes else
+    New 1 mode.BadEsc
+
+-- behind ESC: `\` closes the string that is open, a second ESC belongs to a DCS, and anything else begins anew
+abbrev pub escape : modes.Mode → List ℕ → Front
+escape m [] = Unsure
+escape m (b ∷ bytes) =
+    if is_string m && b == 92 then Ends 2 else
+    if is_dcs m && b == 27 then GoesOn 2 else
+    opened b bytes
+
+-- a byte that stays, or ends and belongs, or ESC; CAN and SUB are left, and are text
+abbrev pub look : modes.Mode → List ℕ → Front
+look m [] = Unsure
+look m (b ∷ bytes) =
+    if stays m b then GoesOn 1 else
+    if ends m b then Ends 1 else
+    if b == 27 then escape m bytes else
+    New 1 mode.Text
+
+-- the answer of the table that it stands for
+abbrev pub meant : modes.Mode → Front → Answer
+meant m (GoesOn n) = More (kind_in m) n m
+meant m (Ends n) = More (kind_in m) n mode.Text
+meant m (New n a) = Anew (kind_in a) n a
+meant m (Esc n) = Anew kind.Esc n mode.Text
+meant m Csi = Sequence
+meant m Unsure = Undecided

@@ -1,5 +1,5 @@
 -- No two rows over fields read one list, and none reads what a row of tokens does: tests that are computed over all pairs.
-use Rattle.std.proofs.Common.{◌≡◌, ℕ, zero, suc, ◌⊎◌, List, [], ◌∷◌, Option, None, Some, refl, sym, ap, ◌∙◌, inl, inr, arith, pos, rules, subst}
+use Rattle.std.proofs.Common.{◌≡◌, ℕ, zero, suc, List, [], ◌∷◌, Option, None, Some, refl, sym, ap, ◌∙◌, inl, inr, pos, rules, subst}
 use Rattle.std.specs.Prelude.{ℤ, ◌==◌, ◌&&◌, ◌||◌, Bool, true, false, not, slice_get, if◌then◌else◌, option_and_then}
 use Rattle.std.specs.List.{AllByRecursion}
 use Rattle.std.specs.Option.{option_or}
@@ -8,7 +8,7 @@ use Rattle.std.proofs.lemmas.Option.{same_Some, slice_get_read}
 use Rattle.csicodec_tokens.specs.declared.param.CsiParam.{CsiParam}
 use Rattle.csicodec_names.proofs.Coded.{is_number-pos}
 use Rattle.csicodec_actions.specs.Actions.{Action}
-use Rattle.csicodec_actions.specs.FieldRows.{Slot, This, Empty, End, Maybe, There, Must, Or, behind, fits, have_shape, FieldRow, gives, given, Over, fields_over, read_over, read_fields}
+use Rattle.csicodec_actions.specs.FieldRows.{Slot, This, Empty, End, Maybe, There, Must, Or, behind, fits, have_shape, FieldRow, gives, given, Over, read_over, read_fields}
 use Rattle.csicodec_actions.specs.Rows.{rows_before, read_by}
 use Rattle.csicodec_actions.specs.Rows.{given as given_tokens}
 use Rattle.csicodec_actions.specs.Table.Window.{window_fields, as_window}

@@ -14,4 +14,5 @@ mod rest;
 mod spans;
 mod streams;
 mod whole_lists;
+mod windows;
 mod worked;

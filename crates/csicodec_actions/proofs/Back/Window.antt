@@ -3,7 +3,7 @@ use Rattle.std.proofs.Common.{◌≡◌, true, None, Some, refl}
 use Rattle.csicodec_actions.specs.declared.actions.window.Window as window_type
 use Rattle.csicodec_actions.specs.declared.actions.window.Window.TheVariants as window
 use Rattle.csicodec_actions.specs.Actions.{Window}
-use Rattle.csicodec_actions.specs.Kinds.{Count, read}
+use Rattle.csicodec_actions.specs.Kinds.{Count}
 use Rattle.csicodec_actions.specs.Table.Window.{as_window, written_window}
 use Rattle.csicodec_actions.specs.Written.{tokens}
 use Rattle.csicodec_actions.specs.Good.{AllGood}

@@ -6,8 +6,8 @@
 
 use super::streams::{INPUT, OUTPUT, Reader, Taking, Writer};
 use csicodec::{
-    CSI, CsiParam, DecodeError, Intensity, ReadError, RunError, Sgr, Unspecified, decode_all,
-    encode_all, normalise, parse_all, read_csi, read_csi_into,
+    CSI, CsiParam, DecodeError, Intensity, ReadError, RunError, Sgr, Unspecified, Window,
+    decode_all, encode_all, normalise, parse_all, read_csi, read_csi_into,
 };
 use std::alloc::{AllocError, Global};
 use std::mem::forget;
@@ -23,6 +23,9 @@ const BLOCKS: u32 = 1 << 17;
 /// An attribute, and an unknown action with no parameters.
 const NO_PARAMETERS: &[u8] = b"\x1b[1m\x1b[x";
 
+/// A window that is moved.
+const WINDOW: &[u8] = b"\x1b[3;1;2t";
+
 #[derive(Clone, Copy, Debug, PartialEq, Eq)]
 enum Call {
     Read,
@@ -33,10 +36,13 @@ enum Call {
     DecodeAll,
     CloneUnspecified,
     CloneAction,
+    NextWindow,
+    CloneWindow,
+    EncodeWindow,
     Normalise,
 }
 
-const CALLS: [Call; 9] = [
+const CALLS: [Call; 12] = [
     Call::Read,
     Call::ReadInto,
     Call::Next,
@@ -45,6 +51,9 @@ const CALLS: [Call; 9] = [
     Call::DecodeAll,
     Call::CloneUnspecified,
     Call::CloneAction,
+    Call::NextWindow,
+    Call::CloneWindow,
+    Call::EncodeWindow,
     Call::Normalise,
 ];
 
@@ -67,6 +76,10 @@ struct Ample {
     actions: Vec<CSI>,
     /// The actions of `NO_PARAMETERS`.
     decoded: Vec<CSI>,
+    /// The tokens of `WINDOW`.
+    fields: Vec<CsiParam>,
+    /// Its action.
+    window: Vec<CSI>,
 }
 
 impl Ample {
@@ -76,6 +89,10 @@ impl Ample {
             params: read_csi(alloc, INPUT)?.params,
             actions: bold_and(alloc, unread, 'm')?,
             decoded: bold_and(alloc, Vec::new(alloc), 'x')?,
+            fields: read_csi(alloc, WINDOW)?.params,
+            window: vec![in alloc;
+                CSI::Window(Box::new(alloc, Window::MoveWindow { x: 1, y: 2 })?),
+            ]?,
         })
     }
 
@@ -169,12 +186,31 @@ fn run_clone_unspecified(ample: &Ample, alloc: Global) -> Outcome {
     }
 }
 
-fn run_clone_action(ample: &Ample, alloc: Global) -> Outcome {
-    let Some(action) = ample.actions.last() else {
+fn run_clone(action: Option<&CSI>, alloc: Global) -> Outcome {
+    let Some(action) = action else {
         return Outcome::Wrong;
     };
     match action.clone(alloc) {
         Ok(copy) => judge(false, copy == *action),
+        Err(AllocError) => Outcome::Refused,
+    }
+}
+
+/// The fields take memory, and so does the window. After a refusal nothing more comes, and nothing is left.
+fn run_next_window(ample: &Ample, alloc: Global) -> Outcome {
+    let mut run = CSI::parse(alloc, &ample.fields, false, 't');
+    let first = run.next();
+    let over = run.rest().is_none() && run.next().is_none() && run.next().is_none();
+    match first {
+        Some(Ok(action)) => judge(false, over && ample.window.first() == Some(&action)),
+        Some(Err(AllocError)) => judge(over, false),
+        None => Outcome::Wrong,
+    }
+}
+
+fn run_encode_window(ample: &Ample, alloc: Global) -> Outcome {
+    match encode_all(alloc, &ample.window) {
+        Ok(text) => judge(false, text.as_slice() == WINDOW),
         Err(AllocError) => Outcome::Refused,
     }
 }
@@ -197,7 +233,10 @@ fn run(call: Call, ample: &Ample, alloc: Global) -> Outcome {
         Call::EncodeAll => run_encode_all(ample, alloc),
         Call::DecodeAll => run_decode_all(ample, alloc),
         Call::CloneUnspecified => run_clone_unspecified(ample, alloc),
-        Call::CloneAction => run_clone_action(ample, alloc),
+        Call::CloneAction => run_clone(ample.actions.last(), alloc),
+        Call::NextWindow => run_next_window(ample, alloc),
+        Call::CloneWindow => run_clone(ample.window.first(), alloc),
+        Call::EncodeWindow => run_encode_window(ample, alloc),
         Call::Normalise => run_normalise(alloc),
     }
 }

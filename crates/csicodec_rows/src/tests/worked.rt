@@ -80,7 +80,7 @@ fn gives(mut run: CSIParser<'_>, actions: &[CSI]) -> bool {
 }
 
 /// Asserts that a list stands for these actions, all at once and one by one, and that they have this text.
-fn check(
+pub(super) fn check(
     rt: &impl Abort,
     alloc: Global,
     params: &[CsiParam],

@@ -1,5 +1,5 @@
 -- A special action that parsing makes is written as another one, which isn't special.
-use Rattle.std.proofs.Common.{◌≡◌, ◌⊎◌, ℕ, List, [], ◌∷◌, Bool, true, None, Some, refl, sym, ap, ◌∙◌, inl, inr, pos, arith, rules}
+use Rattle.std.proofs.Common.{◌≡◌, ◌⊎◌, ℕ, List, ◌∷◌, Bool, true, None, refl, ap, inl, inr, pos, arith, rules}
 use Rattle.std.specs.Prelude.{ℤ}
 use Rattle.std.proofs.lemmas.Str.{encode_ascii}
 use Rattle.csicodec_tokens.specs.declared.param.CsiParam.{CsiParam}

@@ -1,7 +1,7 @@
 -- The text of a device is its front, and what stands behind it.
-use Rattle.std.proofs.Common.{◌≡◌, ℕ, List, [], ◌∷◌, ◌++◌, refl, sym, ap, ◌∙◌, append-nil, append_assoc, pos}
+use Rattle.std.proofs.Common.{◌≡◌, ℕ, List, [], ◌∷◌, ◌++◌, refl, sym, ap, ◌∙◌, append-nil, append_assoc}
 use Rattle.std.specs.Prelude.{ℤ, codes}
-use Rattle.std.specs.Fmt.{decimal, digits, signed_decimal}
+use Rattle.std.specs.Fmt.{digits, signed_decimal}
 use Rattle.csicodec_tokens.specs.Param.{token_text}
 use Rattle.csicodec_tokens.specs.declared.param.CsiParam.{CsiParam}
 use Rattle.csicodec_tokens.specs.declared.param.CsiParam.TheVariants.{Integer}
@@ -9,7 +9,6 @@ use Rattle.csicodec_actions.specs.declared.actions.device.DeviceAttribute.{Devic
 use Rattle.csicodec_actions.specs.Devices as devices
 use Rattle.csicodec_actions.specs.Devices.{attribute_token}
 use Rattle.csicodec_actions.specs.DeviceTexts.{attributes_behind, device_behind, device_front, listed_text, terminal_front}
-use Rattle.csicodec_actions.specs.Graphics.{item_number}
 use Rattle.csicodec_actions.specs.Table.Device.{any_number, line, written_attributes, written_device}
 use Rattle.csicodec_actions.specs.Written.{Item, Attribute, listed, shown, written_text}
 

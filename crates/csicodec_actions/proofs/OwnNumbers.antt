@@ -17,8 +17,7 @@ unnamed-told number z fits (Some x) found false e = (λ t. cc, λ own. absurd (o
 pub own-told : {C : Type 0} (number : C → ℕ) (n : ℕ) (z : ℤ) → n < 65536 → z ≡ pos n → SFits w64 z → (o : Option C) → ((x : C) → (o ≡ Some x) ↔ (to_z w64 (of_z w64 z) ≡ pos (number x))) → (b : Bool)
     → is_some o ≡ not b → IsTrue b ↔ IsOwn number n
 own-told number n z small same fits o found b e =
-    let told = unnamed-told number z fits o found b e in
-    (
+    let told = unnamed-told number z fits o found b e in (
       λ t. record { fits = small; own = λ x is. told.0 t x (same ∙ ap pos is) },
       λ own. told.1 (λ x is. own.own x (ap nat_abs (sym same ∙ is))),
     )

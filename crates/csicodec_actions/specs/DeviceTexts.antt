@@ -1,5 +1,5 @@
 -- What private steps say of the text of a device: a front, and what stands behind it. Nothing public rests on this file.
-use Rattle.std.specs.Prelude.{ℕ, ℤ, ◌+ℤ◌, List, [], ◌∷◌, ◌++◌, pos}
+use Rattle.std.specs.Prelude.{ℕ, ◌+ℤ◌, List, [], ◌∷◌, ◌++◌, pos}
 use Rattle.std.specs.Fmt.{decimal, signed_decimal}
 use Rattle.std.specs.List.{flat_map}
 use Rattle.csicodec_tokens.specs.Param.{token_text}

@@ -1,5 +1,5 @@
 -- The actions that parsing makes and whose text is read as another one, and all those whose text is never read as them.
-use Rattle.std.specs.Prelude.{ℕ, ◌≡◌, List}
+use Rattle.std.specs.Prelude.{◌≡◌, List}
 use Rattle.std.specs.List.{All}
 use Rattle.csicodec_tokens.specs.OneBased.{most}
 use Rattle.csicodec_actions.specs.declared.actions.cursor.Cursor.TheVariants as cursor

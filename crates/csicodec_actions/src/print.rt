@@ -22,10 +22,14 @@ impl MouseReport {
         ensures { text.new ≡ text.old ++ (60 ∷ (decimal (mouse_code self.now) ++ 59 ∷ [])) }
     {
         let (MouseReport::SGR1006 {
-            button, modifiers, ..
+            button,
+            modifiers,
+            ..
         }
         | MouseReport::SGR1016 {
-            button, modifiers, ..
+            button,
+            modifiers,
+            ..
         }) = self;
         text.push(b'<');
         text.push_u32(button.code() + 2 * u32::from(modifiers.bits()));

@@ -2,6 +2,7 @@
 
 mod bytes;
 mod canonical;
+mod devices;
 mod escapes;
 mod filter;
 mod lists;
@@ -10,6 +11,7 @@ mod modes;
 mod pieces;
 mod reader;
 mod readme;
+mod reports;
 mod rest;
 mod spans;
 mod streams;

@@ -7,13 +7,13 @@ use Rattle.csicodec_names.specs.DeviceNumbers.{device_attribute_codes, device_at
 use Rattle.csicodec_tokens.specs.declared.param.CsiParam.TheVariants.{Integer, P}
 use Rattle.csicodec_actions.specs.declared.actions.device.DeviceAttribute.{DeviceAttribute}
 use Rattle.csicodec_actions.specs.declared.actions.device.DeviceAttribute.TheVariants as attribute
-use Rattle.csicodec_actions.specs.Actions.{Action, Device}
+use Rattle.csicodec_actions.specs.Actions.{Device}
 use Rattle.csicodec_actions.specs.Devices as devices
 use Rattle.csicodec_actions.specs.Devices.{attribute_at, attribute_token, listed_attributes}
-use Rattle.csicodec_actions.specs.Rows.{Row, open_row, mark, Number, rows_before}
+use Rattle.csicodec_actions.specs.Rows.{open_row, mark, Number, rows_before}
 use Rattle.csicodec_actions.specs.Special.{IsNeverRead}
 use Rattle.csicodec_actions.specs.Table.Device.{answer, as_device, written_attributes, written_class, written_device}
-use Rattle.csicodec_actions.specs.Whole.{table, whole}
+use Rattle.csicodec_actions.specs.Whole.{table}
 use Rattle.csicodec_actions.specs.Written.{Attribute, listed, tokens}
 use Rattle.csicodec_actions.proofs.Disjoint.{device-whole, rows_lem}
 use Rattle.csicodec_actions.specs.Good.{AllGood, GoodAttribute}

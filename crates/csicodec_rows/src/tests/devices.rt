@@ -46,7 +46,10 @@ fn graphics(
 /// Asserts that the device has this text, by all that writes it, and that a copy equals it.
 fn check_text(rt: &impl Abort, alloc: Global, device: Device, text: &str) -> Result<(), Fail> {
     assert!(rt; device.clone(alloc)? == device, "{text:?}");
-    assert!(rt; format!(in alloc; "\x1b[{device}")?.as_str() == text, "{text:?}");
+    assert!(rt;
+        format!(in alloc; "\x1b[{device}")?.as_str() == text,
+        "{text:?}"
+    );
     let action = CSI::Device(Box::new(alloc, device)?);
     assert!(rt; format!(in alloc; "{action}")?.as_str() == text, "{text:?}");
     assert!(rt; action.clone(alloc)? == action, "{text:?}");
@@ -58,13 +61,8 @@ fn check_text(rt: &impl Abort, alloc: Global, device: Device, text: &str) -> Res
     Ok(())
 }
 
-/// Asserts that a sequence stands for this device alone, and that it is canonical where its text is the same sequence.
-fn check_read(
-    rt: &impl Abort,
-    alloc: Global,
-    sequence: &str,
-    device: Device,
-) -> Result<(), Fail> {
+/// Asserts that a sequence stands for this device alone.
+fn check_read(rt: &impl Abort, alloc: Global, sequence: &str, device: Device) -> Result<(), Fail> {
     let actions = vec![in alloc; CSI::Device(Box::new(alloc, device)?)]?;
     assert!(rt;
         matches!(decode_all(alloc, sequence.as_bytes(), false), Ok(read) if read.as_slice() == actions.as_slice()),
@@ -144,9 +142,24 @@ static ATTRIBUTES: [(&str, Class, &[DeviceAttribute], &str); 8] = [
 #[test]
 fn attributes(rt: HostRuntime) -> Result<(), Fail> {
     for (sequence, class, attributes, text) in ATTRIBUTES {
-        check_read(&rt, rt.alloc(), sequence, answer(rt.alloc(), class, attributes)?)?;
-        check_read(&rt, rt.alloc(), text, answer(rt.alloc(), class, attributes)?)?;
-        check_text(&rt, rt.alloc(), answer(rt.alloc(), class, attributes)?, text)?;
+        check_read(
+            &rt,
+            rt.alloc(),
+            sequence,
+            answer(rt.alloc(), class, attributes)?,
+        )?;
+        check_read(
+            &rt,
+            rt.alloc(),
+            text,
+            answer(rt.alloc(), class, attributes)?,
+        )?;
+        check_text(
+            &rt,
+            rt.alloc(),
+            answer(rt.alloc(), class, attributes)?,
+            text,
+        )?;
     }
     Ok(())
 }
@@ -154,9 +167,16 @@ fn attributes(rt: HostRuntime) -> Result<(), Fail> {
 /// Where no row reads the list.
 #[test]
 fn unknown(rt: HostRuntime) -> Result<(), Fail> {
-    let lists = ["?1;1", "?1;2;", "?1", "?6;", "?61", "?65;1", "?", "?;62", "=1", ">1", "1", "62"];
+    let lists = [
+        "?1;1", "?1;2;", "?1", "?6;", "?61", "?65;1", "?", "?;62", "=1", ">1", "1", "62",
+    ];
     check_unknown(&rt, rt.alloc(), &lists, 'c')?;
-    check_unknown(&rt, rt.alloc(), &["2", "?1", "0;", "2;1;1;128;128;1;0"], 'x')?;
+    check_unknown(
+        &rt,
+        rt.alloc(),
+        &["2", "?1", "0;", "2;1;1;128;128;1;0"],
+        'x',
+    )?;
     check_unknown(&rt, rt.alloc(), &["?1;1", "?1;1;;5"], 'S')
 }
 
@@ -174,7 +194,10 @@ fn parameters(rt: HostRuntime) -> Result<(), Fail> {
         (-2, "\x1b[0;1;1;128;128;1;0x"),
         (-3, "\x1b[-1;1;1;128;128;1;0x"),
         (i64::MAX, "\x1b[9223372036854775809;1;1;128;128;1;0x"),
-        (9223372036854775805, "\x1b[9223372036854775807;1;1;128;128;1;0x"),
+        (
+            9223372036854775805,
+            "\x1b[9223372036854775807;1;1;128;128;1;0x",
+        ),
         (i64::MIN, "\x1b[-9223372036854775806;1;1;128;128;1;0x"),
     ];
     for (number, text) in rows {
@@ -296,7 +319,11 @@ fn built_attributes(rt: HostRuntime) -> Result<(), Fail> {
         check_text(&rt, rt.alloc(), device, text.as_str())?;
         let device = answer(rt.alloc(), Class::Vt320, &attributes)?;
         let action = CSI::Device(Box::new(rt.alloc(), device)?);
-        assert_eq!(rt; action.is_canonical(rt.alloc(), false)?, canonical, "{token:?}");
+        assert_eq!(rt;
+            action.is_canonical(rt.alloc(), false)?,
+            canonical,
+            "{token:?}"
+        );
     }
     Ok(())
 }

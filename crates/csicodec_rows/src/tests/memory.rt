@@ -1,4 +1,4 @@
-//! Want of memory, at each request of each call.
+//! Out of memory, at each request of each call.
 //!
 //! The test takes all memory that can be had and then runs each call again and again with ever more room, until it has
 //! enough. So each of its requests in turn is the first one that is refused. What is taken is address space, hardly a
@@ -21,7 +21,14 @@ const ROOM: usize = 8192;
 const BLOCKS: u32 = 1 << 17;
 
 /// An attribute, and an unknown action with no parameters.
-const NO_PARAMETERS: &[u8] = b"\x1b[1m\x1b[x";
+const NO_PARAMETERS: &[u8] = b"\x1b[1m\x1b[z";
+
+/// The same, and then the beginning of a sequence.
+const CUT_SHORT: &[u8] = b"\x1b[1m\x1b[z\x1b[";
+
+/// An answer of a terminal that names so many extensions that a list of them grows several times.
+const ANSWER: &[u8] =
+    b"\x1b[?62;1;2;3;4;6;8;9;15;18;21;22;29;30;31;32;33;34;35;36;37;38;39;40;41;42c";
 
 /// A window that is moved.
 const WINDOW: &[u8] = b"\x1b[3;1;2t";
@@ -34,33 +41,41 @@ enum Call {
     ParseAll,
     EncodeAll,
     DecodeAll,
+    DecodeCutShort,
     CloneUnspecified,
     CloneAction,
     NextWindow,
     CloneWindow,
     EncodeWindow,
+    ParseAnswer,
+    EncodeAnswer,
+    CloneAnswer,
     Normalise,
 }
 
-const CALLS: [Call; 12] = [
+const CALLS: [Call; 16] = [
     Call::Read,
     Call::ReadInto,
     Call::Next,
     Call::ParseAll,
     Call::EncodeAll,
     Call::DecodeAll,
+    Call::DecodeCutShort,
     Call::CloneUnspecified,
     Call::CloneAction,
     Call::NextWindow,
     Call::CloneWindow,
     Call::EncodeWindow,
+    Call::ParseAnswer,
+    Call::EncodeAnswer,
+    Call::CloneAnswer,
     Call::Normalise,
 ];
 
 /// How a call ended.
 #[derive(Clone, Copy, Debug, PartialEq, Eq)]
 enum Outcome {
-    /// With want of memory, by its name.
+    /// Out of memory, by its name.
     Refused,
     /// As with ample memory.
     Right,
@@ -80,19 +95,26 @@ struct Ample {
     fields: Vec<CsiParam>,
     /// Its action.
     window: Vec<CSI>,
+    /// The tokens of `ANSWER`.
+    answer: Vec<CsiParam>,
+    /// Its one action.
+    device: Vec<CSI>,
 }
 
 impl Ample {
     fn new(alloc: Global) -> Result<Ample, Fail> {
         let unread = read_csi(alloc, b"\x1b[1231231;3m")?.params;
+        let answer = read_csi(alloc, ANSWER)?.params;
         Ok(Ample {
             params: read_csi(alloc, INPUT)?.params,
             actions: bold_and(alloc, unread, 'm')?,
-            decoded: bold_and(alloc, Vec::new(alloc), 'x')?,
+            decoded: bold_and(alloc, Vec::new(alloc), 'z')?,
             fields: read_csi(alloc, WINDOW)?.params,
             window: vec![in alloc;
                 CSI::Window(Box::new(alloc, Window::MoveWindow { x: 1, y: 2 })?),
             ]?,
+            device: parse_all(alloc, &answer, false, 'c')?,
+            answer,
         })
     }
 
@@ -176,6 +198,18 @@ fn run_decode_all(ample: &Ample, alloc: Global) -> Outcome {
     }
 }
 
+/// Out of memory comes before the fault that stands behind it.
+fn run_decode_cut_short(alloc: Global) -> Outcome {
+    let fault = DecodeError::Read {
+        start: 7,
+        error: ReadError::Truncated { at: 2 },
+    };
+    match decode_all(alloc, CUT_SHORT, false) {
+        Ok(_) => Outcome::Wrong,
+        Err(error) => judge(error == DecodeError::Memory, error == fault),
+    }
+}
+
 fn run_clone_unspecified(ample: &Ample, alloc: Global) -> Outcome {
     let Some(unknown) = ample.unknown() else {
         return Outcome::Wrong;
@@ -208,6 +242,20 @@ fn run_next_window(ample: &Ample, alloc: Global) -> Outcome {
     }
 }
 
+fn run_parse_answer(ample: &Ample, alloc: Global) -> Outcome {
+    match parse_all(alloc, &ample.answer, false, 'c') {
+        Ok(all) => judge(false, all == ample.device),
+        Err(AllocError) => Outcome::Refused,
+    }
+}
+
+fn run_encode_answer(ample: &Ample, alloc: Global) -> Outcome {
+    match encode_all(alloc, &ample.device) {
+        Ok(text) => judge(false, text.as_slice() == ANSWER),
+        Err(AllocError) => Outcome::Refused,
+    }
+}
+
 fn run_encode_window(ample: &Ample, alloc: Global) -> Outcome {
     match encode_all(alloc, &ample.window) {
         Ok(text) => judge(false, text.as_slice() == WINDOW),
@@ -232,11 +280,15 @@ fn run(call: Call, ample: &Ample, alloc: Global) -> Outcome {
         Call::ParseAll => run_parse_all(ample, alloc),
         Call::EncodeAll => run_encode_all(ample, alloc),
         Call::DecodeAll => run_decode_all(ample, alloc),
+        Call::DecodeCutShort => run_decode_cut_short(alloc),
         Call::CloneUnspecified => run_clone_unspecified(ample, alloc),
         Call::CloneAction => run_clone(ample.actions.last(), alloc),
         Call::NextWindow => run_next_window(ample, alloc),
         Call::CloneWindow => run_clone(ample.window.first(), alloc),
         Call::EncodeWindow => run_encode_window(ample, alloc),
+        Call::ParseAnswer => run_parse_answer(ample, alloc),
+        Call::EncodeAnswer => run_encode_answer(ample, alloc),
+        Call::CloneAnswer => run_clone(ample.device.first(), alloc),
         Call::Normalise => run_normalise(alloc),
     }
 }

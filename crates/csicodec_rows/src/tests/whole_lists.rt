@@ -4,9 +4,9 @@ ghost use Rattle.std.specs.Prelude.{◌<◌};
 
 use csicodec::CsiParam::{Integer, P};
 use csicodec::{
-    CSI, ColorSpec, CsiParam, Cursor, CursorStyle, CursorTabulationControl, Device, Edit,
-    EraseInDisplay, EraseInLine, Intensity, NotSpelled, OneBased, Sgr, SrgbaTuple, TabulationClear,
-    decode_all, encode_all, parse_all, read_csi,
+    CSI, ColorSpec, CsiParam, Cursor, CursorStyle, CursorTabulationControl, Device,
+    DeviceAttributes, Edit, EraseInDisplay, EraseInLine, Intensity, NotSpelled, OneBased, Sgr,
+    SrgbaTuple, TabulationClear, decode_all, encode_all, parse_all, read_csi,
 };
 use std::alloc::Global;
 use std::process::Abort;
@@ -202,11 +202,19 @@ fn devices(rt: HostRuntime) -> Result<(), Fail> {
         ("\x1b[5n", Device::StatusReport, "\x1b[5n"),
         (
             "\x1b[?1;2c",
-            Device::Vt100WithAdvancedVideoOption,
+            Device::DeviceAttributes(DeviceAttributes::Vt100WithAdvancedVideoOption),
             "\x1b[?1;2c",
         ),
-        ("\x1b[?1;0c", Device::Vt101WithNoOptions, "\x1b[?1;0c"),
-        ("\x1b[?6c", Device::Vt102, "\x1b[?6c"),
+        (
+            "\x1b[?1;0c",
+            Device::DeviceAttributes(DeviceAttributes::Vt101WithNoOptions),
+            "\x1b[?1;0c",
+        ),
+        (
+            "\x1b[?6c",
+            Device::DeviceAttributes(DeviceAttributes::Vt102),
+            "\x1b[?6c",
+        ),
     ];
     for (sequence, device, text) in rows {
         let action = CSI::Device(Box::new(rt.alloc(), device)?);

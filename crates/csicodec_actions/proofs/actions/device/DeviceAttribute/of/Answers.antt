@@ -1,4 +1,4 @@
-use Rattle.std.proofs.Common.{◌≡◌, refl, rules, sym}
+use Rattle.std.proofs.Common.{refl, rules, sym}
 use mir.Syntax.{w64}
 use mir.Val.{SFits}
 use Rattle.csicodec_names.proofs.Coded.{attributes, found-of}

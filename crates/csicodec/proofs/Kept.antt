@@ -8,7 +8,7 @@ use Rattle.csicodec_names.specs.declared.device.DeviceAttributeCodes.{DeviceAttr
 use Rattle.csicodec_names.specs.DeviceNumbers.{device_attribute_codes, device_attribute_number}
 use Rattle.csicodec_names.specs.Numbered.{with_number}
 use Rattle.csicodec_tokens.specs.declared.param.CsiParam.TheVariants.{Integer, P}
-use Rattle.csicodec_actions.specs.Devices.{Attributes, Vt220, Vt320, Vt420, code_or_token, listed_attributes}
+use Rattle.csicodec_actions.specs.Devices.{Attributes, Vt220, Vt320, Vt420, XtSmGraphics, code_or_token, listed_attributes}
 use Rattle.csicodec_actions.specs.Table.Cursor.{cursor_rows}
 use Rattle.csicodec_actions.specs.Table.Edit.{edit_rows}
 use Rattle.csicodec_actions.specs.Table.Keyboard.{keyboard_rows}
@@ -16,7 +16,7 @@ use Rattle.csicodec_actions.specs.Table.Mode.{mode_rows}
 use Rattle.csicodec_actions.specs.Table.Mouse.{mouse_rows}
 use Rattle.csicodec_actions.specs.Table.Path.{path_rows}
 use Rattle.csicodec_actions.specs.Table.Device.{device_rows, answer, written_attributes}
-use Rattle.csicodec_actions.specs.Written.{Attribute, listed}
+use Rattle.csicodec_actions.specs.Written.{Attribute, any_number, listed}
 use Rattle.csicodec_tokens.specs.declared.param.CsiParam.{CsiParam}
 use Rattle.csicodec_tokens.specs.OneBased.{most}
 use Rattle.csicodec_tokens.specs.Sequence.{IsSpellable, Spellable}
@@ -27,7 +27,7 @@ use Rattle.csicodec_actions.specs.declared.actions.mode.DecPrivateMode.{DecPriva
 use Rattle.csicodec_actions.specs.declared.actions.mode.Switch.{Switch}
 use Rattle.csicodec_actions.specs.declared.actions.mode.Switch.TheVariants as switch
 use Rattle.csicodec_actions.specs.declared.actions.mode.TerminalMode.{TerminalMode}
-use Rattle.csicodec_actions.specs.Actions.{Action, Cursor, Mode, Mouse}
+use Rattle.csicodec_actions.specs.Actions.{Action, Cursor, Device, Mode, Mouse}
 use Rattle.csicodec_actions.specs.declared.actions.mouse.MouseButton.{MouseButton}
 use Rattle.csicodec_actions.specs.declared.actions.mouse.MouseReport.TheVariants as mouse
 use Rattle.csicodec_names.specs.declared.flags.Modifiers.{Modifiers}
@@ -35,13 +35,13 @@ use Rattle.csicodec_actions.specs.Mouse.{pressed, released, is_release}
 use Rattle.csicodec_actions.specs.Good.{AllGood, IsReport, Good, GoodAttribute, IsOneBased}
 use Rattle.csicodec_actions.proofs.MouseCodes.{release-pressed, none-released}
 use Rattle.csicodec.specs.Canonical.{Canonical}
-use Rattle.csicodec_actions.specs.Kinds.{Dec, Terminal, read}
+use Rattle.csicodec_actions.specs.declared.actions.graphics.XtSmGraphicsItem.{XtSmGraphicsItem}
+use Rattle.csicodec_actions.specs.Kinds.{Any, Dec, GraphicsItem, Terminal, read}
 use Rattle.csicodec_actions.specs.Modes.{changed, switched}
 use Rattle.csicodec_actions.specs.Ranges.{InRange}
-use Rattle.csicodec_actions.specs.Whole.{table, whole}
-use Rattle.csicodec_actions.specs.Table.Window.{window_fields}
+use Rattle.csicodec_actions.specs.Whole.{table, field_table, whole}
 use Rattle.csicodec_actions.specs.declared.actions.device.DeviceAttribute.{DeviceAttribute}
-use Rattle.csicodec_actions.proofs.AllFieldRows.{FieldRowsKeep}
+use Rattle.csicodec_actions.proofs.AllFieldRows.{FieldRowsKeep, KeepsRest}
 use Rattle.csicodec_actions.proofs.AllRows.{KeepsTail, TableKeeps, table-append, spellable-tokens, whole-keeps}
 use Rattle.csicodec.proofs.Twins.{IsParsedSpecial}
 use Rattle.csicodec_actions.proofs.Values.{dec-read, terminal-read, good-read, one-fits, most-fits, zero-said}
@@ -121,8 +121,16 @@ table-kept : (flag : Bool) → TableKeeps IsSpellable Good (Kept flag) table
 table-kept flag =
     table-append IsSpellable Good (Kept flag) (cursor_rows ++ (edit_rows ++ (mode_rows ++ (mouse_rows ++ (keyboard_rows ++ path_rows))))) device_rows (others-kept flag) (devices-kept flag)
 
-fields-kept : (flag : Bool) → FieldRowsKeep Good (Kept flag) window_fields
-fields-kept flag = search (rules, one-fits, zero-said) depth 60
+-- graphics have numbers that are said
+numbers-kept : (all : List ℤ) → AllByRecursion (Good Any) all → AllGood (listed any_number all)
+numbers-kept [] ok = tt
+numbers-kept (z ∷ others) ok = (ok.0, numbers-kept others ok.1)
+
+graphics-kept : (flag : Bool) (item : XtSmGraphicsItem) (z : ℤ) → Good GraphicsItem item → Good Any z → KeepsRest Good (λ all. Kept flag (Device (XtSmGraphics item z all)))
+graphics-kept flag item z named said = record { each = λ all ok. record { range = tt; canonical = inr ((named, (said, numbers-kept all ok)), λ e. e) } }
+
+fields-kept : (flag : Bool) → FieldRowsKeep Good (Kept flag) field_table
+fields-kept flag = search (rules, one-fits, zero-said, graphics-kept) depth 60
 
 pub whole-kept : (flag : Bool) (list : List CsiParam) (final : ℕ) (a : Action) → Spellable list → whole list final ≡ Some a → Kept flag a
 whole-kept flag list final a ok e =

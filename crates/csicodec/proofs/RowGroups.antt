@@ -7,8 +7,7 @@ use Rattle.csicodec_tokens.specs.declared.param.CsiParam.TheVariants.{Integer, P
 use Rattle.csicodec_actions.specs.Actions.{Action}
 use Rattle.csicodec_actions.specs.Rows.{Slot, Byte, Number, One, fits, has_shape, read_by}
 use Rattle.csicodec_actions.specs.FieldRows.{read_fields}
-use Rattle.csicodec_actions.specs.Table.Window.{window_fields}
-use Rattle.csicodec_actions.specs.Whole.{table, whole}
+use Rattle.csicodec_actions.specs.Whole.{table, field_table, whole}
 use Rattle.csicodec_actions.proofs.AllFieldRows.{over-in}
 use Rattle.csicodec_actions.proofs.AllRows.{AllRows, row-in, whole-table}
 use Rattle.csicodec_actions.proofs.Found.{guarded, one-of}
@@ -52,14 +51,14 @@ record IsWholeFinal (final : ℕ) : Type 0 where
 any-whole : (final : ℕ) (first : Option CsiParam) → IsWholeFinal final → group_by first final ≡ groups.Whole
 any-whole final first is = elim (cases_Bool (is_byte 63 first)) [ inl here ↦ rw (is.other, here) is.dec | inr none ↦ rw (is.other, none) is.plain ]
 
-fields-whole : (list : List CsiParam) (final : ℕ) (a : Action) → read_fields window_fields list final ≡ Some a → group list final ≡ groups.Whole
-fields-whole list final a e = let o = over-in (λ o row. IsWholeFinal o.final) window_fields list final a (search rules depth 60) e in rw o.here (any-whole o.entry.final (slice_get list 0) (o.found.holds))
+fields-whole : (list : List CsiParam) (final : ℕ) (a : Action) → read_fields field_table list final ≡ Some a → group list final ≡ groups.Whole
+fields-whole list final a e = let o = over-in (λ o row. IsWholeFinal o.final) field_table list final a (search rules depth 60) e in rw o.here (any-whole o.entry.final (slice_get list 0) (o.found.holds))
 
 -- ---- all rows
 
 -- what a row reads is no list of pieces
 pub whole-group : (list : List CsiParam) (final : ℕ) (a : Action) → whole list final ≡ Some a → group list final ≡ groups.Whole
-whole-group list final a e = elim (one-of (read_by table list final) (read_fields window_fields list final) a (sym (whole-table list final) ∙ e)) [
+whole-group list final a e = elim (one-of (read_by table list final) (read_fields field_table list final) a (sym (whole-table list final) ∙ e)) [
   | inl row ↦
       let r = row-in (λ final row. ReadWhole final row.tail row.shape) table list final a rows-whole row in
       shape-group final r.row.tail r.row.shape list r.holds (guarded (has_shape r.row.tail r.row.shape list) _ a r.gave).0

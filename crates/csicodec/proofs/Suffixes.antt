@@ -17,8 +17,7 @@ use Rattle.csicodec.specs.Cut.{body, Cut}
 use Rattle.csicodec_actions.specs.Modes.{changed, switched}
 use Rattle.csicodec.specs.Segments.{remainder, empty_action, BodyActions, CutActions, ActionsIn}
 use Rattle.csicodec.specs.Suffix.{IsSuffix, changes_private, EndsUnknown, SuffixLaw}
-use Rattle.csicodec_actions.specs.Whole.{table, Whole}
-use Rattle.csicodec_actions.specs.Table.Window.{window_fields}
+use Rattle.csicodec_actions.specs.Whole.{table, field_table, Whole}
 use Rattle.csicodec_actions.proofs.AllFieldRows.{FieldRowsKeep}
 use Rattle.csicodec_actions.proofs.AllRows.{TableKeeps, no-tokens, whole-keeps}
 use Rattle.csicodec.proofs.GroupOf.{marked-body}
@@ -79,7 +78,7 @@ IsKnown a = Unit {0}
 rows-known : TableKeeps (λ t. Unit {0}) (λ k v. Unit {0}) IsKnown table
 rows-known = search rules depth 60
 
-field-rows-known : FieldRowsKeep (λ k v. Unit {0}) IsKnown window_fields
+field-rows-known : FieldRowsKeep (λ k v. Unit {0}) IsKnown field_table
 field-rows-known = search rules depth 60
 
 whole-ends : (list : List CsiParam) (flag : Bool) (final : ℕ) (a : Action) → Whole list final a → EndsUnknown false list flag final (a ∷ [])

@@ -1,6 +1,6 @@
 -- What holds of all that the rows over fields give: said for each row, and proved of any list.
-use Rattle.std.proofs.Common.{◌≡◌, ℕ, List, [], ◌∷◌, ◌++◌, Option, None, Some, refl, sym, ap, ◌∙◌, inl, inr, rules, subst}
-use Rattle.std.specs.Prelude.{ℤ, ◌==◌, false, option_and_then, slice_get}
+use Rattle.std.proofs.Common.{◌≡◌, ℕ, List, [], ◌∷◌, ◌++◌, Option, None, Some, refl, sym, ap, ◌∙◌, inl, inr, subst}
+use Rattle.std.specs.Prelude.{ℤ, ◌==◌, if◌then◌else◌, option_and_then}
 use Rattle.std.specs.List.{AllByRecursion}
 use Rattle.std.specs.Option.{option_or}
 use Rattle.std.proofs.lemmas.Bool.{cases_Bool, eqb-true, ne_eqb}
@@ -9,9 +9,8 @@ use Rattle.csicodec_tokens.specs.declared.param.CsiParam.{CsiParam}
 use Rattle.csicodec_tokens.specs.declared.param.CsiParam.TheVariants.{Integer, P}
 use Rattle.csicodec_tokens.specs.Fields.{fields_of, with_field}
 use Rattle.csicodec_actions.specs.Actions.{Action}
-use Rattle.csicodec_actions.specs.FieldRows.{Slot, This, Empty, End, Maybe, There, Must, Or, Makes, first, behind, value_or, have_shape, made, FieldRow, gives, given, Over, ahead_of_byte, behind_byte, fields_over, read_over, read_fields}
+use Rattle.csicodec_actions.specs.FieldRows.{Slot, This, Empty, End, Maybe, There, Must, Or, Rest, Makes, first, behind, numbers, value_or, have_shape, made, FieldRow, gives, given, Over, ahead_of_byte, behind_byte, fields_over, read_over, read_fields}
 use Rattle.csicodec_actions.specs.Kinds.{Kind, Any, Value, read}
-use Rattle.csicodec_actions.specs.Table.Window.{window_fields}
 use Rattle.csicodec_actions.proofs.Found.{guarded, map-some}
 use Rattle.csicodec_actions.proofs.Values.{read_any}
 
@@ -24,6 +23,12 @@ option_or-assoc (Some x) b c = refl
 pub given-append : {R : Type 0} (xs ys : List (FieldRow R)) (fs : List (Option ℤ)) → given (xs ++ ys) fs ≡ option_or (given xs fs) (given ys fs)
 given-append [] ys fs = refl
 given-append (r ∷ rows) ys fs = ap (option_or (gives r fs)) (given-append rows ys fs) ∙ sym (option_or-assoc (gives r fs) (given rows fs) (given ys fs))
+
+pub fields-append : {R : Type 0} (xs ys : List (Over R)) (list : List CsiParam) (final : ℕ) → read_fields (xs ++ ys) list final ≡ option_or (read_fields xs list final) (read_fields ys list final)
+fields-append [] ys list final = refl
+fields-append (o ∷ others) ys list final =
+    ap (option_or (if final == o.final then read_over o list else None)) (fields-append others ys list final)
+    ∙ sym (option_or-assoc (if final == o.final then read_over o list else None) (read_fields others list final) (read_fields ys list final))
 
 -- ---- which final has no row
 
@@ -82,6 +87,10 @@ over-in Q (o ∷ others) list final a all e = elim (cases_Bool (final == o.final
 
 -- ---- what the rows make
 
+-- what is made of numbers with the property G has the property that is asked for
+pub record KeepsRest (G : (k : Kind) → Value k → Type 0) (Kept : List ℤ → Type 0) : Type 0 where
+  pub each : (all : List ℤ) → AllByRecursion (G Any) all → Kept all
+
 -- Each action that the row makes has the property Q, where each value has the property G.
 abbrev pub FieldsKeep : ((k : Kind) → Value k → Type 0) → (Action → Type 0) → (slots : List Slot) → Makes Action slots → Type 0
 FieldsKeep G Q [] made = Q made
@@ -92,6 +101,7 @@ FieldsKeep G Q (Maybe ∷ row) make = FieldsKeep G Q row (make None) × ((z : �
 FieldsKeep G Q (There ∷ row) make = FieldsKeep G Q row (make None) × ((z : ℤ) → G Any z → FieldsKeep G Q row (make (Some z)))
 FieldsKeep G Q (Must k ∷ row) make = (v : Value k) → G k v → FieldsKeep G Q row (make v)
 FieldsKeep G Q (Or k missing ∷ row) make = G k missing × ((v : Value k) → G k v → FieldsKeep G Q row (make v))
+FieldsKeep G Q (Rest ∷ row) make = KeepsRest G (λ all. FieldsKeep G Q row (make all))
 
 abbrev pub FieldRowsKeep : ((k : Kind) → Value k → Type 0) → (Action → Type 0) → List (Over Action) → Type 0
 FieldRowsKeep G Q entries = AllFieldRows (λ o row. FieldsKeep G Q row.slots row.make) entries
@@ -126,6 +136,11 @@ maybe-keep : (T : CsiParam → Type 0) (G : (k : Kind) → Value k → Type 0) (
 maybe-keep T G Q counts row make None keeps has = keeps.0
 maybe-keep T G Q counts row make (Some z) keeps has = keeps.1 z (counts Any z z has (read_any z))
 
+numbers-count : (T : CsiParam → Type 0) (G : (k : Kind) → Value k → Type 0) → NumbersCount T G → (fs : List (Option ℤ)) → AllByRecursion (Has T) fs → AllByRecursion (G Any) (numbers fs)
+numbers-count T G counts [] has = tt
+numbers-count T G counts (None ∷ fs) has = numbers-count T G counts fs has.1
+numbers-count T G counts (Some z ∷ fs) has = (counts Any z z has.0 (read_any z), numbers-count T G counts fs has.1)
+
 made-keeps : (T : CsiParam → Type 0) (G : (k : Kind) → Value k → Type 0) (Q : Action → Type 0) → NumbersCount T G → (slots : List Slot) (make : Makes Action slots) (fs : List (Option ℤ)) (a : Action)
     → FieldsKeep G Q slots make → AllByRecursion (Has T) fs → made slots make fs ≡ Some a → Q a
 made-keeps T G Q counts [] made fs a keeps all e = rw (← same_Some _ _ e) keeps
@@ -142,6 +157,8 @@ made-keeps T G Q counts (Must k ∷ row) make fs a keeps all e =
 made-keeps T G Q counts (Or k missing ∷ row) make fs a keeps all e =
     option_and_then_some (λ v. made row (make v) (behind fs)) (value_or k missing (first fs)) a e
     (λ v found is. made-keeps T G Q counts row (make v) (behind fs) a (keeps.1 v (value-counts T G counts k missing v (first fs) keeps.0 (first-has T fs all) found)) (behind-has T fs all) is)
+made-keeps T G Q counts (Rest ∷ row) make fs a keeps all e =
+    made-keeps T G Q counts row (make (numbers fs)) (behind fs) a (keeps.each (numbers fs) (numbers-count T G counts fs all)) (behind-has T fs all) e
 
 -- ---- the tokens of the fields
 

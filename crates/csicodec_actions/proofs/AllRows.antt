@@ -1,9 +1,9 @@
 -- What holds of all that the rows of whole lists give: said for each row, and proved of any list.
-use Rattle.std.proofs.Common.{◌≡◌, ℕ, List, [], ◌∷◌, ◌++◌, Option, None, Some, refl, sym, ap, ◌∙◌, inl, inr, rules, append_assoc}
+use Rattle.std.proofs.Common.{◌≡◌, ℕ, List, [], ◌∷◌, ◌++◌, Option, None, Some, refl, sym, ap, ◌∙◌, inl, inr, append_assoc}
 use Rattle.std.specs.Prelude.{ℤ, ◌==◌, Bool, true, false, if◌then◌else◌}
 use Rattle.std.specs.List.{AllByRecursion}
 use Rattle.std.specs.Option.{option_or}
-use Rattle.std.proofs.lemmas.Bool.{cases_Bool, and_parts, eqb-true}
+use Rattle.std.proofs.lemmas.Bool.{cases_Bool, eqb-true}
 use Rattle.std.proofs.lemmas.Option.{same_Some, option_and_then_some}
 use Rattle.csicodec_tokens.specs.declared.param.CsiParam.{CsiParam}
 use Rattle.csicodec_tokens.specs.declared.param.CsiParam.TheVariants.{Integer, P}
@@ -11,17 +11,18 @@ use Rattle.csicodec_tokens.specs.Sequence.{IsSpellable, Spellable}
 use Rattle.csicodec_actions.specs.Actions.{Action}
 use Rattle.csicodec_actions.specs.FieldRows.{read_fields}
 use Rattle.csicodec_actions.specs.Kinds.{Kind, Value, read}
-use Rattle.csicodec_actions.specs.Rows.{Slot, Byte, Number, One, Makes, AtEnd, ended, fits, has_shape, made, gives, Row, given, Before, rows_before, read_by}
+use Rattle.csicodec_actions.specs.Rows.{Slot, Byte, Number, One, Makes, AtEnd, ended, has_shape, made, gives, Row, given, Before, rows_before, read_by}
 use Rattle.csicodec_actions.specs.Table.Cursor.{as_cursor}
 use Rattle.csicodec_actions.specs.Table.Device.{as_device}
 use Rattle.csicodec_actions.specs.Table.Edit.{as_edit}
+use Rattle.csicodec_actions.specs.Table.Graphics.{graphics_fields, as_graphics}
 use Rattle.csicodec_actions.specs.Table.Keyboard.{as_keyboard}
 use Rattle.csicodec_actions.specs.Table.Mode.{as_mode}
 use Rattle.csicodec_actions.specs.Table.Mouse.{as_mouse}
 use Rattle.csicodec_actions.specs.Table.Path.{as_path}
 use Rattle.csicodec_actions.specs.Table.Window.{window_fields, as_window}
-use Rattle.csicodec_actions.specs.Whole.{table, plain, boxed, whole}
-use Rattle.csicodec_actions.proofs.AllFieldRows.{FieldRowsKeep, fields-keep, option_or-assoc}
+use Rattle.csicodec_actions.specs.Whole.{table, field_table, plain, boxed, whole}
+use Rattle.csicodec_actions.proofs.AllFieldRows.{FieldRowsKeep, fields-append, fields-keep, option_or-assoc}
 use Rattle.csicodec_actions.proofs.Found.{guarded, one-of}
 
 -- ---- several tables as one
@@ -39,9 +40,12 @@ before-append (b ∷ others) ys final =
 read-append : {R : Type 0} (xs ys : List (Before R)) (list : List CsiParam) (final : ℕ) → read_by (xs ++ ys) list final ≡ option_or (read_by xs list final) (read_by ys list final)
 read-append xs ys list final = ap (λ rows. given rows list) (before-append xs ys final) ∙ given-append (rows_before xs final) (rows_before ys final) list
 
-pub whole-table : (list : List CsiParam) (final : ℕ) → whole list final ≡ option_or (read_by table list final) (read_fields window_fields list final)
-unfolding whole plain boxed as_cursor as_edit as_mode as_mouse as_keyboard as_path as_device as_window
-whole-table list final = simp (option_or-assoc, read-append) refl
+whole-parts : (list : List CsiParam) (final : ℕ) → whole list final ≡ option_or (read_by table list final) (option_or (read_fields window_fields list final) (read_fields graphics_fields list final))
+unfolding whole plain boxed as_cursor as_edit as_mode as_mouse as_keyboard as_path as_device as_window as_graphics
+whole-parts list final = simp (option_or-assoc, read-append) refl
+
+pub whole-table : (list : List CsiParam) (final : ℕ) → whole list final ≡ option_or (read_by table list final) (read_fields field_table list final)
+whole-table list final = whole-parts list final ∙ ap (option_or (read_by table list final)) (sym (fields-append window_fields graphics_fields list final))
 
 -- ---- the row that gave an action
 
@@ -131,11 +135,11 @@ table-keeps T G Q reads rows keep list final a all e =
     let r = row-in (λ final row. Keeps T G Q row.tail row.shape row.make) rows list final a keep e in
     made-keeps T G Q reads r.row.tail r.row.shape r.row.make list a r.holds all (guarded (has_shape r.row.tail r.row.shape list) _ a r.gave).1
 
-pub whole-keeps : (T : CsiParam → Type 0) (G : (k : Kind) → Value k → Type 0) (Q : Action → Type 0) → ReadsAs T G → TableKeeps T G Q table → FieldRowsKeep G Q window_fields → (list : List CsiParam) (final : ℕ)
+pub whole-keeps : (T : CsiParam → Type 0) (G : (k : Kind) → Value k → Type 0) (Q : Action → Type 0) → ReadsAs T G → TableKeeps T G Q table → FieldRowsKeep G Q field_table → (list : List CsiParam) (final : ℕ)
     (a : Action) → AllByRecursion T list → whole list final ≡ Some a → Q a
-whole-keeps T G Q reads keep keep-fields list final a all e = elim (one-of (read_by table list final) (read_fields window_fields list final) a (sym (whole-table list final) ∙ e)) [
+whole-keeps T G Q reads keep keep-fields list final a all e = elim (one-of (read_by table list final) (read_fields field_table list final) a (sym (whole-table list final) ∙ e)) [
   | inl row ↦ table-keeps T G Q reads table keep list final a all row
-  | inr fields ↦ fields-keep T G Q reads window_fields keep-fields list final a all fields
+  | inr fields ↦ fields-keep T G Q reads field_table keep-fields list final a all fields
 ]
 
 -- of any tokens

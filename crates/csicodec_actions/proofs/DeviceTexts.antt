@@ -1,5 +1,5 @@
 -- The text of a device is its front, and what stands behind it.
-use Rattle.std.proofs.Common.{◌≡◌, ℕ, List, [], ◌∷◌, ◌++◌, refl, sym, ap, ◌∙◌, append-nil, append_assoc}
+use Rattle.std.proofs.Common.{◌≡◌, ℕ, List, [], ◌∷◌, ◌++◌, refl, sym, ap, append-nil, append_assoc}
 use Rattle.std.specs.Prelude.{ℤ, codes}
 use Rattle.std.specs.Fmt.{digits, signed_decimal}
 use Rattle.csicodec_tokens.specs.Param.{token_text}
@@ -9,8 +9,8 @@ use Rattle.csicodec_actions.specs.declared.actions.device.DeviceAttribute.{Devic
 use Rattle.csicodec_actions.specs.Devices as devices
 use Rattle.csicodec_actions.specs.Devices.{attribute_token}
 use Rattle.csicodec_actions.specs.DeviceTexts.{attributes_behind, device_behind, device_front, listed_text, terminal_front}
-use Rattle.csicodec_actions.specs.Table.Device.{any_number, line, written_attributes, written_device}
-use Rattle.csicodec_actions.specs.Written.{Item, Attribute, listed, shown, written_text}
+use Rattle.csicodec_actions.specs.Table.Device.{line, written_attributes, written_device}
+use Rattle.csicodec_actions.specs.Written.{Item, Attribute, any_number, listed, shown, written_text}
 
 pub line_text : shown line (120 ∷ []) ≡ codes ";1;1;128;128;1;0x"
 unfolding digits

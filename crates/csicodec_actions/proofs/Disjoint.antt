@@ -15,8 +15,7 @@ use Rattle.csicodec_actions.specs.Table.Keyboard.{keyboard_rows, as_keyboard}
 use Rattle.csicodec_actions.specs.Table.Mode.{mode_rows, as_mode}
 use Rattle.csicodec_actions.specs.Table.Mouse.{mouse_rows, as_mouse}
 use Rattle.csicodec_actions.specs.Table.Path.{path_rows, as_path}
-use Rattle.csicodec_actions.specs.Table.Window.{window_fields}
-use Rattle.csicodec_actions.specs.Whole.{table, whole, RowsDecide}
+use Rattle.csicodec_actions.specs.Whole.{table, field_table, whole, RowsDecide}
 use Rattle.csicodec_actions.proofs.AllRows.{before-append, given-append, whole-table}
 use Rattle.std.proofs.lemmas.Option.{same_Some, slice_get_read}
 use Rattle.csicodec_actions.proofs.Found.{guarded}
@@ -44,7 +43,7 @@ shapes_apart tail (s ∷ ss) other (t ∷ ts) = differ s t || shapes_apart tail 
 abbrev are_apart : Row Action → Row Action → Bool
 are_apart q r = shapes_apart q.tail q.shape r.tail r.shape
 
-abbrev apart_from : Row Action → List (Row Action) → Bool
+abbrev pub apart_from : Row Action → List (Row Action) → Bool
 apart_from q [] = true
 apart_from q (r ∷ rows) = are_apart q r && apart_from q rows
 
@@ -100,7 +99,7 @@ apart-shapes tail (s ∷ ss) other (t ∷ ts) (x ∷ xs) d e f =
     elim (cases_Bool (differ s t)) [ inl here ↦ differ-slots s t x here p.1 q.1 | inr later ↦ apart-shapes tail ss other ts xs (rw later at d) p.0 q.0 ]
 
 -- the list has the shape of the row
-abbrev has : Row Action → List CsiParam → Bool
+abbrev pub has : Row Action → List CsiParam → Bool
 has r list = has_shape r.tail r.shape list
 
 apart-rows : (q r : Row Action) (list : List CsiParam) → are_apart q r ≡ true → has q list ≡ true → has r list ≡ true → ⊥
@@ -141,7 +140,7 @@ table-apart : (final : ℕ) → all_apart (rows_before table final) ≡ true
 table-apart final = elim (rows-apart table table final is-apart) [ inl none ↦ rw none refl | inr apart ↦ apart ]
 
 row-whole : (list : List CsiParam) (final : ℕ) (a : Action) → read_by table list final ≡ Some a → whole list final ≡ Some a
-row-whole list final a e = whole-table list final ∙ ap (λ o. option_or o (read_fields window_fields list final)) e
+row-whole list final a e = whole-table list final ∙ ap (λ o. option_or o (read_fields field_table list final)) e
 
 pub rows_lem : (list : List CsiParam) (final : ℕ) → RowsDecide list final
 rows_lem list final r a listed e =
@@ -151,7 +150,7 @@ rows_lem list final r a listed e =
 -- ---- what one subject's rows give is the action
 
 -- the row that gave something fits, so no row apart from it does
-apart-given : (p : Row Action) (front rows : List (Row Action)) (list : List CsiParam) (a : Action) → apart_from p (front ++ rows) ≡ true → has p list ≡ true → given rows list ≡ Some a → ⊥
+pub apart-given : (p : Row Action) (front rows : List (Row Action)) (list : List CsiParam) (a : Action) → apart_from p (front ++ rows) ≡ true → has p list ≡ true → given rows list ≡ Some a → ⊥
 apart-given p [] [] list a d f e = cc
 apart-given p [] (r ∷ rows) list a d f e =
     let both = and_parts (are_apart p r) (apart_from p rows) d in go (gives r list) refl both.0 (apart-given p [] rows list a both.1 f) e

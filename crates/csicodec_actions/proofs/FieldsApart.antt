@@ -4,17 +4,21 @@ use Rattle.std.specs.Prelude.{ℤ, ◌==◌, ◌&&◌, ◌||◌, Bool, true, fal
 use Rattle.std.specs.List.{AllByRecursion}
 use Rattle.std.specs.Option.{option_or}
 use Rattle.std.proofs.lemmas.Bool.{cases_Bool, and_parts, eq-eqb, eqb-true}
-use Rattle.std.proofs.lemmas.Option.{same_Some, slice_get_read}
+use Rattle.std.proofs.lemmas.Option.{same_Some, slice_get_read, option_and_then_some}
 use Rattle.csicodec_tokens.specs.declared.param.CsiParam.{CsiParam}
+use Rattle.csicodec_tokens.specs.declared.param.CsiParam.TheVariants.{Integer, P}
+use Rattle.csicodec_tokens.specs.Fields.{fields_of}
 use Rattle.csicodec_names.proofs.Coded.{is_number-pos}
 use Rattle.csicodec_actions.specs.Actions.{Action}
-use Rattle.csicodec_actions.specs.FieldRows.{Slot, This, Empty, End, Maybe, There, Must, Or, behind, fits, have_shape, FieldRow, gives, given, Over, read_over, read_fields}
-use Rattle.csicodec_actions.specs.Rows.{rows_before, read_by}
-use Rattle.csicodec_actions.specs.Rows.{given as given_tokens}
-use Rattle.csicodec_actions.specs.Table.Window.{window_fields, as_window}
-use Rattle.csicodec_actions.specs.Whole.{table, whole, FieldRowsDecide}
-use Rattle.csicodec_actions.proofs.AllFieldRows.{AllFieldRows, over-in}
+use Rattle.csicodec_actions.specs.FieldRows.{Slot, This, Empty, End, Maybe, There, Must, Or, Rest, behind, ahead_of_byte, behind_byte, fits, have_shape, FieldRow, gives, given, Over, over, no_byte, byte, fields_over, read_over, read_fields}
+use Rattle.csicodec_actions.specs.Rows.{Row, Byte, open_row, rows_before, read_by}
+use Rattle.csicodec_actions.specs.Table.Graphics.{graphics_fields, graphics_rows, as_graphics}
+use Rattle.csicodec_actions.specs.Table.Window.{areas, windows, window_fields, as_window}
+use Rattle.csicodec_actions.specs.Whole.{table, field_table, whole, FieldRowsDecide}
+use Rattle.csicodec_actions.proofs.AllFieldRows.{AllFieldRows, fields-append, over-in}
 use Rattle.csicodec_actions.proofs.AllRows.{whole-table}
+use Rattle.csicodec_actions.proofs.Disjoint.{apart-given, has}
+use Rattle.csicodec_actions.proofs.Disjoint.{apart_from as apart_from_rows}
 use Rattle.csicodec_actions.proofs.Found.{guarded}
 
 -- ---- the first of several that gives something
@@ -72,6 +76,7 @@ takes_none Maybe = false
 takes_none There = false
 takes_none (Must k) = false
 takes_none (Or k missing) = false
+takes_none Rest = false
 
 -- no number fits both slots
 abbrev no_number : Slot → Slot → Bool
@@ -82,6 +87,7 @@ no_number Maybe t = takes_none t
 no_number There t = takes_none t
 no_number (Must k) t = takes_none t
 no_number (Or k missing) t = takes_none t
+no_number Rest t = takes_none t
 
 -- nothing fits both: no missing field, no empty one and no number
 abbrev differ : Slot → Slot → Bool
@@ -101,6 +107,7 @@ fits-front Maybe f fs = refl
 fits-front There f fs = refl
 fits-front (Must k) f fs = refl
 fits-front (Or k missing) f fs = refl
+fits-front Rest f fs = refl
 
 not_both : (a b : Bool) → not (a && b) ≡ true → a ≡ true → b ≡ true → ⊥
 not_both true true d e f = cc
@@ -115,6 +122,7 @@ none-taken Maybe z d f = cc
 none-taken There z d f = cc
 none-taken (Must k) z d f = cc
 none-taken (Or k missing) z d f = cc
+none-taken Rest z d f = cc
 
 not-fits : (b : Bool) → not b ≡ true → b ≡ true → ⊥
 not-fits true d e = cc
@@ -128,6 +136,7 @@ number-slots Maybe t z d e f = none-taken t z d f
 number-slots There t z d e f = none-taken t z d f
 number-slots (Must k) t z d e f = none-taken t z d f
 number-slots (Or k missing) t z d e f = none-taken t z d f
+number-slots Rest t z d e f = none-taken t z d f
 
 differ-slots : (s t : Slot) (fs : List (Option ℤ)) → differ s t ≡ true → fits s fs ≡ true → fits t fs ≡ true → ⊥
 differ-slots s t [] d e f = not_both (fits s []) (fits t []) (and_parts (not (fits s [] && fits t [])) (not (fits s (None ∷ []) && fits t (None ∷ [])) && no_number s t) d).0 e f
@@ -179,13 +188,29 @@ fields-pick : (entries : List (Over Action)) (list : List CsiParam) (final : ℕ
 fields-pick [] list final = refl
 fields-pick (o ∷ others) list final = ap (option_or (given_over list final o)) (fields-pick others list final)
 
--- the rows of an entry are apart, and before its final stands no row of tokens
+-- the row of all lists that begin with the byte ahead, or of all
+abbrev begun : Option ℕ → Action → Row Action
+begun None a = open_row [] (λ rest. a)
+begun (Some b) a = open_row (Byte b ∷ []) (λ rest. a)
+
+-- no row of tokens before its final reads what begins with its byte
+record AreNotTokens (o : Over Action) : Type 0 where
+  each : (a : Action) → apart_from_rows (begun o.ahead a) (rows_before table o.final) ≡ true
+
+-- neither do its rows read one list
 record IsApart (o : Over Action) : Type 0 where
   rows : all_apart rows_apart o.rows ≡ true
-  no_tokens : rows_before table o.final ≡ []
+  tokens : AreNotTokens o
 
-are-apart : AllByRecursion IsApart window_fields
-are-apart = (record { rows = refl; no_tokens = refl }, (record { rows = refl; no_tokens = refl }, tt))
+no-tokens : (o : Over Action) → rows_before table o.final ≡ [] → AreNotTokens o
+no-tokens o none = record { each = λ a. rw none refl }
+
+are-apart : AllByRecursion IsApart field_table
+are-apart =
+    let window : IsApart (over no_byte no_byte "t" windows) = record { rows = refl; tokens = record { each = λ a. refl } } in
+    let area : IsApart (over no_byte (byte "*") "y" areas) = record { rows = refl; tokens = record { each = λ a. refl } } in
+    let graphics : IsApart (over (byte "?") no_byte "S" graphics_rows) = record { rows = refl; tokens = record { each = λ a. refl } } in
+    (window, (area, (graphics, tt)))
 
 all-at : {A : Type 0} (Q : A → Type 0) (xs : List A) (i : ℕ) (x : A) → AllByRecursion Q xs → slice_get xs i ≡ Some x → Q x
 all-at Q [] zero x all at = cc
@@ -193,28 +218,60 @@ all-at Q [] (suc i) x all at = cc
 all-at Q (y ∷ ys) zero x all at = subst Q (same_Some y x at) all.0
 all-at Q (y ∷ ys) (suc i) x all at = all-at Q ys i x all.1 at
 
+-- what is read over fields begins with the byte ahead
+byte-begins : (b : Option ℕ) (a : Action) (list rest : List CsiParam) → behind_byte b list ≡ Some rest → has (begun b a) list ≡ true
+byte-begins None a list rest e = refl
+byte-begins (Some b) a [] rest e = cc
+byte-begins (Some b) a (Integer z ∷ ts) rest e = cc
+byte-begins (Some b) a (P c ∷ ts) rest e = rw (guarded (c == b) _ rest e).0 refl
+
+over-begins : (o : Over Action) (a : Action) (list : List CsiParam) (fs : List (Option ℤ)) → fields_over o list ≡ Some fs → has (begun o.ahead a) list ≡ true
+over-begins o a list fs e =
+    option_and_then_some fields_of (option_and_then (ahead_of_byte o.end) (behind_byte o.ahead list)) fs e
+    (λ front cut are. option_and_then_some (ahead_of_byte o.end) (behind_byte o.ahead list) front cut (λ rest begins ended. byte-begins o.ahead a list rest begins))
+
 -- what is read by fields is the action
-fields-decide : (list : List CsiParam) (final : ℕ) (a : Action) → rows_before table final ≡ [] → read_fields window_fields list final ≡ Some a → whole list final ≡ Some a
-fields-decide list final a none e =
-    let tokens : read_by table list final ≡ None = ap (λ r. given_tokens r list) none in
-    whole-table list final ∙ ap (λ o. option_or o (read_fields window_fields list final)) tokens ∙ e
+fields-decide : (o : Over Action) (list : List CsiParam) (fs : List (Option ℤ)) (a : Action) → AreNotTokens o → fields_over o list ≡ Some fs → read_fields field_table list o.final ≡ Some a
+    → whole list o.final ≡ Some a
+fields-decide o list fs a apart are e = whole-table list o.final ∙ go (read_by table list o.final) refl
+  where
+    go : (r : Option Action) → read_by table list o.final ≡ r → option_or r (read_fields field_table list o.final) ≡ Some a
+    go None none = e
+    go (Some x) row = absurd (apart-given (begun o.ahead x) [] (rows_before table o.final) list x (apart.each x) (over-begins o x list fs are) row)
 
 pub field_rows_lem : (list : List CsiParam) (final : ℕ) → FieldRowsDecide list final
 field_rows_lem list final o r fs a listed ends row are e =
-    let at : slice_get window_fields listed.0 ≡ Some o = slice_get_read window_fields _ listed.0 o refl listed.1 (sym listed.2) in
-    let apart = all-at IsApart window_fields listed.0 o are-apart at in
+    let at : slice_get field_table listed.0 ≡ Some o = slice_get_read field_table _ listed.0 o refl listed.1 (sym listed.2) in
+    let apart = all-at IsApart field_table listed.0 o are-apart at in
     let here : given o.rows fs ≡ Some a =
     given-picks o.rows fs ∙ picked rows_apart _ _ (rows-are-apart fs) o.rows row.0 r a apart.rows (slice_get_read o.rows _ row.0 r refl row.1 (sym row.2)) e
     in
     let over : read_over o list ≡ Some a = ap (option_and_then (given o.rows)) are ∙ here in
-    let gave : given_over list final o ≡ Some a = rw (eq-eqb final o.final (sym ends)) over in
-    fields-decide list final a (rw (sym ends) apart.no_tokens)
-    (fields-pick window_fields list final ∙ picked finals_apart _ _ (finals-are-apart list final) window_fields listed.0 o a refl at gave)
+    let gave : given_over list o.final o ≡ Some a = rw (eq-eqb o.final o.final refl) over in
+    rw (← ends)
+    (fields-decide o list fs a apart.tokens are (fields-pick field_table list o.final ∙ picked finals_apart _ _ (finals-are-apart list o.final) field_table listed.0 o a refl at gave))
 
-no-tokens : AllFieldRows (λ o row. rows_before table o.final ≡ []) window_fields
-no-tokens = search rules depth 60
+-- what these entries read is the action, where it is what all read
+part-decides : (entries : List (Over Action)) (list : List CsiParam) (final : ℕ) (a : Action) → AllFieldRows (λ o row. AreNotTokens o) entries → read_fields entries list final ≡ Some a
+    → read_fields field_table list final ≡ Some a → whole list final ≡ Some a
+part-decides entries list final a apart e all =
+    let o = over-in (λ o row. AreNotTokens o) entries list final a apart e in
+    rw o.here (fields-decide o.entry list o.fields a o.found.holds o.are (rw (← o.here) all))
+
+window-tokens : AllFieldRows (λ o row. AreNotTokens o) window_fields
+window-tokens = search (rules, no-tokens) depth 60
+
+graphics-tokens : AllFieldRows (λ o row. AreNotTokens o) graphics_fields
+graphics-tokens = ((record { each = λ a. refl }, tt), tt)
 
 pub window-whole : (list : List CsiParam) (final : ℕ) (a : Action) → as_window list final ≡ Some a → whole list final ≡ Some a
 unfolding as_window
 window-whole list final a e =
-    let o = over-in (λ o row. rows_before table o.final ≡ []) window_fields list final a no-tokens e in fields-decide list final a (rw o.here (o.found.holds)) e
+    part-decides window_fields list final a window-tokens e
+    (fields-append window_fields graphics_fields list final ∙ ap (λ o. option_or o (read_fields graphics_fields list final)) e)
+
+pub graphics-whole : (list : List CsiParam) (a : Action) → as_graphics list 83 ≡ Some a → whole list 83 ≡ Some a
+unfolding as_graphics
+graphics-whole list a e =
+    part-decides graphics_fields list 83 a graphics-tokens e
+    (fields-append window_fields graphics_fields list 83 ∙ e)

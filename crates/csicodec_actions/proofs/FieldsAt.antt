@@ -1,5 +1,5 @@
 -- What the code finds in the fields of a list.
-use Rattle.std.proofs.Common.{◌≡◌, ℕ, zero, suc, List, [], ◌∷◌, ◌++◌, inl, inr, length, Option, None, Some, refl, sym, ap, ◌∙◌, arith, get_or, Bor, false}
+use Rattle.std.proofs.Common.{◌≡◌, ◌≤◌, ◌+◌, ℕ, zero, suc, List, append_assoc, [], ◌∷◌, ◌++◌, inl, inr, drop, length, Option, None, Some, refl, sym, ap, ◌∙◌, arith, get_or, Bor, false}
 use Rattle.std.proofs.lemmas.Bool.{cases_Bool, le-ltb, lt-ltb}
 use Rattle.std.specs.Prelude.{ℤ, ◌==◌, if◌then◌else◌, nat_lt, IsNone, IfSome, Result, Ok}
 use Rattle.std.specs.Bool.{then_some}
@@ -12,7 +12,7 @@ use Rattle.csicodec_tokens.specs.declared.refusal.ParseRefusal.TheVariants.{NotS
 use Rattle.csicodec_tokens.specs.Fields.{RefusesFields, fields_of}
 use Rattle.csicodec_tokens.specs.OneBased.{number_or}
 use Rattle.csicodec_tokens.proofs.FieldsOf.{computed-fields}
-use Rattle.csicodec_actions.specs.FieldRows.{ahead_of_byte, value_or}
+use Rattle.csicodec_actions.specs.FieldRows.{ahead_of_byte, numbers, value_or}
 use Rattle.csicodec_actions.specs.FieldSteps.{field, has_field}
 use Rattle.csicodec_actions.specs.Kinds.{Count, read}
 
@@ -52,6 +52,43 @@ no-fields list refused = go (fields_of list) refl
     go : (o : Option (List (Option ℤ))) → fields_of list ≡ o → None ≡ fields_of list
     go None e = sym e
     go (Some f) e = absurd (refused f (computed-fields list f e))
+
+-- ---- the numbers behind
+
+pub none-behind : (fs : List (Option ℤ)) (i : ℕ) → length fs ≤ i → numbers (drop i fs) ≡ []
+none-behind [] zero le = refl
+none-behind [] (suc i) le = refl
+none-behind (f ∷ fs) zero le = absurd (omega (arith, le))
+none-behind (f ∷ fs) (suc i) le = none-behind fs i (omega (arith, le))
+
+-- that of this field, if it has one, and those behind it
+abbrev pub and_number : Option ℤ → List ℤ → List ℤ
+and_number None zs = zs
+and_number (Some z) zs = z ∷ zs
+
+no-field : (i : ℕ) → field [] i ≡ None
+no-field zero = refl
+no-field (suc i) = no-field i
+
+pub numbers-from : (fs : List (Option ℤ)) (i : ℕ) → numbers (drop i fs) ≡ and_number (field fs i) (numbers (drop (suc i) fs))
+numbers-from [] zero = refl
+numbers-from [] (suc i) = rw (no-field i) refl
+numbers-from (None ∷ fs) zero = refl
+numbers-from (Some z ∷ fs) zero = refl
+numbers-from (f ∷ fs) (suc i) = numbers-from fs i
+
+number-next : (values : List ℤ) (fs : List (Option ℤ)) (at : ℕ) (o : Option ℤ) (all : List ℤ) → o ≡ field fs at → values ++ numbers (drop at fs) ≡ all
+    → values ++ and_number o (numbers (drop (at + 1) fs)) ≡ all
+number-next values fs at o all e h =
+    let next : at + 1 ≡ suc at = omega arith in
+    rw (next, e) (sym (ap (λ (l : List ℤ). values ++ l) (numbers-from fs at)) ∙ h)
+
+pub number_found : (values : List ℤ) (fs : List (Option ℤ)) (at : ℕ) (z : ℤ) (all : List ℤ) → Some z ≡ field fs at → values ++ numbers (drop at fs) ≡ all
+    → (values ++ z ∷ []) ++ numbers (drop (at + 1) fs) ≡ all
+number_found values fs at z all e h = append_assoc values (z ∷ []) (numbers (drop (at + 1) fs)) ∙ number-next values fs at (Some z) all e h
+
+pub number_missed : (values : List ℤ) (fs : List (Option ℤ)) (at : ℕ) (all : List ℤ) → None ≡ field fs at → values ++ numbers (drop at fs) ≡ all → values ++ numbers (drop (at + 1) fs) ≡ all
+number_missed values fs at all e h = number-next values fs at None all e h
 
 -- ---- the byte at the end
 

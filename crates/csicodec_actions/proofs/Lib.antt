@@ -9,6 +9,7 @@ pub mod AllFieldRows
 pub mod Boxed
 pub mod Disjoint
 pub mod FieldsApart
+pub mod GraphicsBehind
 pub mod Items
 pub mod LeftOut
 pub mod Back

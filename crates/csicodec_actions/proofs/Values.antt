@@ -1,11 +1,11 @@
 -- What numbers count as: by the code, and back from what is written.
-use Rattle.std.proofs.Common.{◌≡◌, ℕ, zero, suc, ◌<◌, ◌≤◌, ◌^◌, ◌%◌, List, Option, None, Some, refl, sym, ap, ◌∙◌, arith, rules, pos, subst}
-use Rattle.std.specs.Prelude.{ℤ, negsuc, ◌↔◌, nat_abs, Result, Ok, Err}
+use Rattle.std.proofs.Common.{◌≡◌, ℕ, zero, suc, ◌<◌, ◌≤◌, ◌^◌, ◌%◌, List, Option, None, Some, refl, sym, ap, ◌∙◌, inl, inr, arith, rules, pos, subst}
+use Rattle.std.specs.Prelude.{ℤ, negsuc, ◌↔◌, true, false, nat_abs, Result, Ok, Err}
 use Rattle.std.specs.Int.{FitsUnsignedBits}
 use Rattle.std.specs.Int.RustNames.{bit_and}
 use Rattle.std.specs.Option.{option_map}
 use Rattle.std.specs.Result.{OkIff, result_ok}
-use Rattle.std.proofs.lemmas.Bool.{le-ltb, lt-ltb, ltb-true}
+use Rattle.std.proofs.lemmas.Bool.{cases_Bool, eq-eqb, le-ltb, lt-ltb, ltb-true}
 use Rattle.std.proofs.lemmas.Int.{to_z-of_z, ints}
 use Rattle.std.proofs.lemmas.Option.{same_Some, cond_some}
 use mir.Syntax.{w64}
@@ -23,16 +23,19 @@ use Rattle.csicodec_actions.specs.declared.actions.mode.DecPrivateMode.TheVarian
 use Rattle.csicodec_actions.specs.declared.actions.mode.TerminalMode.{TerminalMode}
 use Rattle.csicodec_actions.specs.declared.actions.mode.TerminalMode.TheVariants as terminal
 use Rattle.csicodec_actions.specs.declared.actions.mode.XtermKeyModifierResource.TheVariants as resource
-use Rattle.csicodec_actions.specs.Kinds.{Kind, Count, Last, Any, Style, Control, Clear, InDisplay, InLine, Dec, Terminal, Resource, Flags, Way, Path, Pops, Word, Pressed, Released, Value, read, number, below, short, code_or}
-use Rattle.csicodec_names.specs.Numbered.{with_number}
+use Rattle.csicodec_actions.specs.Kinds.{Kind, Count, Last, Any, Style, Control, Clear, InDisplay, InLine, Dec, Terminal, Resource, Flags, Way, Path, Pops, Word, Pressed, Released, GraphicsItem, Value, read, number, below, short, code_or}
+use Rattle.csicodec_names.specs.Numbered.{is_number, with_number}
 use Rattle.csicodec_actions.specs.declared.actions.keyboard.CharacterPath.TheVariants as path
 use Rattle.csicodec_actions.specs.declared.actions.keyboard.KittyKeyboardMode.TheVariants as way
 use Rattle.csicodec_names.specs.declared.flags.KittyKeyboardFlags.{KittyKeyboardFlags}
 use Rattle.csicodec_names.specs.FlagBits.{kitty_bits}
+use Rattle.csicodec_actions.specs.declared.actions.graphics.XtSmGraphicsItem.{XtSmGraphicsItem}
+use Rattle.csicodec_actions.specs.declared.actions.graphics.XtSmGraphicsItem.TheVariants as item
+use Rattle.csicodec_actions.specs.Graphics.{item_number, item_of}
 use Rattle.csicodec_actions.specs.KeyNumbers.{kitty_mode_number, kitty_modes, path_number, paths}
-use Rattle.csicodec_names.proofs.Coded.{none-found, Coded, found-of, small, attributes, styles, controls, clears, lines, displays, decs, terminals}
+use Rattle.csicodec_names.proofs.Coded.{is_number-pos, none-found, Coded, found-of, small, attributes, styles, controls, clears, lines, displays, decs, terminals}
 use Rattle.csicodec_actions.proofs.Found.{map-some}
-use Rattle.csicodec_actions.specs.Good.{IsOneBased, IsSaid, IsOwn, GoodDec, GoodTerminal, Good}
+use Rattle.csicodec_actions.specs.Good.{IsOneBased, IsSaid, IsOwn, GoodDec, GoodItem, GoodTerminal, Good}
 use Rattle.csicodec_actions.proofs.MouseCodes.{report-good, report-read, report-small, pressed-found, released-found}
 use Rattle.csicodec_actions.specs.Mouse.{pressed, released, report_code}
 use Rattle.std.proofs.lemmas.Nat.{and_mask, and_le_r}
@@ -116,6 +119,16 @@ flags-good : (f : KittyKeyboardFlags) → kitty_bits f < 32 → read Flags (pos 
 unfolding read
 flags-good f h = rw (lt-ltb (kitty_bits f) 65536 (omega (arith, h)), and_mask (kitty_bits f) 5, small-mod (kitty_bits f) h) refl
 
+-- no item with a name has another number
+not-number : (k : ℕ) (z : ℤ) → (z ≡ pos k → ⊥) → is_number k z ≡ false
+not-number k z other = elim (cases_Bool (is_number k z)) [ inl here ↦ absurd (other (is_number-pos k z here)) | inr none ↦ none ]
+
+item-good : (i : XtSmGraphicsItem) → GoodItem i → item_of (item_number i) ≡ i
+item-good item.NumberOfColorRegisters h = refl
+item-good item.SixelGraphicsGeometry h = refl
+item-good item.RegisGraphicsGeometry h = refl
+item-good (item.Unspecified z) h = rw (not-number 1 z h.1.0, not-number 2 z h.1.1, not-number 3 z h.1.2) refl
+
 pub read-good : (k : Kind) (v : Value k) → Good k v → read k (number k v) ≡ Some v
 unfolding read
 read-good Count n h = number_or-good 1 n h
@@ -136,6 +149,7 @@ read-good Pops n h = rw (lt-ltb n (2 ^ 32) h) refl
 read-good Word n h = rw (lt-ltb n 65536 h) refl
 read-good Pressed v h = report-good pressed v h
 read-good Released v h = report-good released v h
+read-good GraphicsItem i h = ap Some (item-good i h)
 
 -- ---- what is read is written back
 
@@ -183,6 +197,24 @@ flags-read : (z : ℤ) (f : KittyKeyboardFlags) → read Flags z ≡ Some f → 
 unfolding read
 flags-read z f e = let m = map-some _ (short z) f e in let small = and_le_r m.0 31 in rw (← m.2) (omega (arith, small))
 
+is-number : (k : ℕ) → is_number k (pos k) ≡ true
+is-number k = eq-eqb k k refl
+
+item-read : (z : ℤ) → IsSaid z → GoodItem (item_of z)
+item-read z said = elim (cases_Bool (is_number 1 z)) [
+  | inl one ↦ rw one tt
+  | inr a ↦ elim (cases_Bool (is_number 2 z)) [
+    | inl two ↦ rw (a, two) tt
+    | inr b ↦ elim (cases_Bool (is_number 3 z)) [
+      | inl three ↦ rw (a, b, three) tt
+      | inr c ↦ rw (a, b, c) (said, (λ same. other 1 same a, λ same. other 2 same b, λ same. other 3 same c))
+    ]
+  ]
+]
+  where
+    other : (k : ℕ) → z ≡ pos k → is_number k z ≡ false → ⊥
+    other k same none = let here = is-number k in cc (same, none, here)
+
 pub good-read : (k : Kind) (z : ℤ) (v : Value k) → IsSpellable (Integer z) → read k z ≡ Some v → Good k v
 unfolding read
 good-read Count z n ok e = number_or-fits 1 z n one-fits e
@@ -203,6 +235,7 @@ good-read Pops z n ok e = (below-fits (2 ^ 32) z n e).1
 good-read Word z n ok e = (below-fits 65536 z n e).1
 good-read Pressed z v ok e = report-read pressed z v pressed-found e
 good-read Released z v ok e = report-read released z v released-found e
+good-read GraphicsItem z i ok e = rw (← same_Some _ _ e) (item-read z (record { above = ok.0; fits = ok.1 }))
 
 -- ---- a number that is written can be spelled
 
@@ -223,6 +256,12 @@ terminal-said (terminal.Unspecified n) h = said n (omega (arith, h.fits))
 pub attribute-said : (c : DeviceAttributeCodes) → IsSaid (pos (device_attribute_number c))
 attribute-said c = said (device_attribute_number c) (small device_attribute_number device_attribute_codes attributes largest (search (rules, arith) depth 60) c)
 
+item-said : (i : XtSmGraphicsItem) → GoodItem i → IsSaid (item_number i)
+item-said item.NumberOfColorRegisters h = said 1 (omega arith)
+item-said item.SixelGraphicsGeometry h = said 2 (omega arith)
+item-said item.RegisGraphicsGeometry h = said 3 (omega arith)
+item-said (item.Unspecified z) h = h.0
+
 pub number-said : (k : Kind) (v : Value k) → Good k v → IsSaid (number k v)
 number-said Count n h = said n (omega (arith, h.fits))
 number-said Last n h = said n (omega (arith, h.fits))
@@ -242,6 +281,7 @@ number-said Word n h = said n (omega (arith, h))
 number-said Pressed v h = let small = report-small v h.held in said (report_code v) (omega (arith, small))
 number-said Released v h = let small = report-small v h.held in said (report_code v) (omega (arith, small))
 number-said Resource r h = said (resource_number r) (small resource_number resources keys largest (search (rules, arith) depth 60) r)
+number-said GraphicsItem i h = item-said i h
 
 -- no mode has a number below 0
 pub dec-above : (n : ℕ) → read Dec (negsuc n) ≡ None

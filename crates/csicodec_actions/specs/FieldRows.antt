@@ -24,10 +24,16 @@ abbrev pub is_there : List (Option ℤ) → Bool
 is_there [] = false
 is_there (f ∷ fs) = true
 
+-- the numbers of fields, of which empty ones have none
+abbrev pub numbers : List (Option ℤ) → List ℤ
+numbers [] = []
+numbers (None ∷ fs) = numbers fs
+numbers (Some z ∷ fs) = z ∷ numbers fs
+
 -- ---- slots
 
 -- A slot for one field: this number; no number; not there, and so none behind it; a number or none; the same, but it has to stand there; a
--- number that counts as a value of this kind; such a number, or this value for none.
+-- number that counts as a value of this kind; such a number, or this value for none; the numbers of this field and of all behind it.
 pub data Slot : Type 0 where
   This : ℕ → Slot
   Empty : Slot
@@ -36,6 +42,7 @@ pub data Slot : Type 0 where
   There : Slot
   Must : Kind → Slot
   Or : (k : Kind) → Value k → Slot
+  Rest : Slot
 
 -- what is made of the numbers, one after the other
 abbrev pub Makes : Type 0 → List Slot → Type 0
@@ -47,6 +54,7 @@ Makes R (Maybe ∷ row) = Option ℤ → Makes R row
 Makes R (There ∷ row) = Option ℤ → Makes R row
 Makes R (Must k ∷ row) = Value k → Makes R row
 Makes R (Or k missing ∷ row) = Value k → Makes R row
+Makes R (Rest ∷ row) = List ℤ → Makes R row
 
 -- the field is this number
 abbrev pub is_this : ℕ → Option ℤ → Bool
@@ -62,6 +70,7 @@ fits Maybe fs = true
 fits There fs = is_there fs
 fits (Must k) fs = is_some (first fs)
 fits (Or k missing) fs = true
+fits Rest fs = true
 
 -- the fields have this shape: one for each slot
 abbrev pub have_shape : List Slot → List (Option ℤ) → Bool
@@ -83,6 +92,7 @@ made (Maybe ∷ row) make fs = made row (make (first fs)) (behind fs)
 made (There ∷ row) make fs = made row (make (first fs)) (behind fs)
 made (Must k ∷ row) make fs = option_and_then (λ v. made row (make v) (behind fs)) (option_and_then (read k) (first fs))
 made (Or k missing ∷ row) make fs = option_and_then (λ v. made row (make v) (behind fs)) (value_or k missing (first fs))
+made (Rest ∷ row) make fs = made row (make (numbers fs)) (behind fs)
 
 -- ---- rows
 

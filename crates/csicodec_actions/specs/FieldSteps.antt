@@ -13,6 +13,6 @@ abbrev pub has_field : List (Option ℤ) → ℕ → Bool
 has_field fs zero = is_there fs
 has_field fs (suc i) = has_field (behind fs) i
 
--- lists before this final are read by their fields, which take memory also where no row reads them
+-- lists before this final are read by their fields, before `S` those behind a `?`; they take memory also where no row reads them
 abbrev pub IsReadByFields : ℕ → Type 0
-IsReadByFields final = (final ≡ code "t") ⊎ (final ≡ code "y")
+IsReadByFields final = (final ≡ code "t") ⊎ ((final ≡ code "y") ⊎ (final ≡ code "S"))

@@ -13,12 +13,15 @@ use Rattle.csicodec_tokens.specs.declared.param.CsiParam.{CsiParam}
 use Rattle.csicodec_tokens.specs.declared.param.CsiParam.TheVariants.{Integer, P}
 use Rattle.csicodec_actions.specs.declared.actions.device.DeviceAttribute.{DeviceAttribute}
 use Rattle.csicodec_actions.specs.declared.actions.device.DeviceAttribute.TheVariants as attribute
+use Rattle.csicodec_actions.specs.declared.actions.graphics.XtSmGraphicsItem.{XtSmGraphicsItem}
+use Rattle.csicodec_actions.specs.declared.actions.graphics.XtSmGraphicsItem.TheVariants as item
 use Rattle.csicodec_actions.specs.declared.actions.mode.DecPrivateMode.{DecPrivateMode}
 use Rattle.csicodec_actions.specs.declared.actions.mode.DecPrivateMode.TheVariants as dec
 use Rattle.csicodec_actions.specs.declared.actions.mode.TerminalMode.{TerminalMode}
 use Rattle.csicodec_actions.specs.declared.actions.mode.TerminalMode.TheVariants as terminal
 use Rattle.csicodec_actions.specs.declared.actions.mouse.MouseButton.{MouseButton}
-use Rattle.csicodec_actions.specs.Kinds.{Kind, Count, Last, Any, Style, Control, Clear, InDisplay, InLine, Dec, Terminal, Resource, Flags, Way, Path, Pops, Word, Pressed, Released, Value}
+use Rattle.csicodec_actions.specs.Kinds.{Kind, Count, Last, Any, Style, Control, Clear, InDisplay, InLine, Dec, Terminal, Resource, Flags, Way, Path, Pops, Word, Pressed, Released, GraphicsItem, Value}
+use Rattle.csicodec_actions.specs.Graphics.{IsUnnamedItem}
 use Rattle.csicodec_actions.specs.Mouse.{button_code, pressed, released}
 use Rattle.csicodec_actions.specs.Written.{Item, Byte, The, Unless, Attribute}
 
@@ -54,6 +57,11 @@ pub record IsReport (buttons : List MouseButton) (v : MouseButton × Modifiers) 
   pub one : with_number button_code buttons (pos (button_code v.0)) ≡ Some v.0
   pub held : AreHeld v.1
 
+-- an item with a name, or a number of a sequence that none has
+abbrev pub GoodItem : XtSmGraphicsItem → Type 0
+GoodItem (item.Unspecified z) = IsSaid z × IsUnnamedItem z
+GoodItem i = Unit {0}
+
 -- the number of the value counts as this value
 abbrev pub Good : (k : Kind) → Value k → Type 0
 Good Count n = IsOneBased n
@@ -74,6 +82,7 @@ Good Pops n = n < 2 ^ 32
 Good Word n = n < 65536
 Good Pressed v = IsReport pressed v
 Good Released v = IsReport released v
+Good GraphicsItem i = GoodItem i
 
 -- the token is no number of an extension that has a name, and no `;`
 abbrev pub IsUnnamed : CsiParam → Type 0

@@ -1,5 +1,6 @@
 -- The numbers of XTSMGRAPHICS (xterm's ctlseqs).
-use Rattle.std.specs.Prelude.{ℕ, ℤ, pos}
+use Rattle.std.specs.Prelude.{ℕ, ℤ, ◌≡◌, pos, if◌then◌else◌}
+use Rattle.csicodec_names.specs.Numbered.{is_number}
 use Rattle.csicodec_actions.specs.declared.actions.graphics.XtSmGraphicsAction.{XtSmGraphicsAction}
 use Rattle.csicodec_actions.specs.declared.actions.graphics.XtSmGraphicsAction.TheVariants as action
 use Rattle.csicodec_actions.specs.declared.actions.graphics.XtSmGraphicsItem.{XtSmGraphicsItem}
@@ -12,6 +13,18 @@ item_number item.NumberOfColorRegisters = pos 1
 item_number item.SixelGraphicsGeometry = pos 2
 item_number item.RegisGraphicsGeometry = pos 3
 item_number (item.Unspecified n) = n
+
+-- the item of a number
+abbrev pub item_of : ℤ → XtSmGraphicsItem
+item_of z =
+    if is_number 1 z then item.NumberOfColorRegisters
+    else if is_number 2 z then item.SixelGraphicsGeometry
+    else if is_number 3 z then item.RegisGraphicsGeometry
+    else item.Unspecified z
+
+-- no item with a name has the number
+abbrev pub IsUnnamedItem : ℤ → Type 0
+IsUnnamedItem z = (z ≡ pos 1 → ⊥) × (z ≡ pos 2 → ⊥) × (z ≡ pos 3 → ⊥)
 
 abbrev pub action_number : XtSmGraphicsAction → ℕ
 action_number action.ReadAttribute = 1

@@ -20,6 +20,8 @@ use Rattle.csicodec_actions.specs.declared.actions.keyboard.CharacterPath.{Chara
 use Rattle.csicodec_actions.specs.declared.actions.keyboard.KittyKeyboardMode.{KittyKeyboardMode}
 use Rattle.csicodec_names.specs.declared.flags.KittyKeyboardFlags.{KittyKeyboardFlags}
 use Rattle.csicodec_names.specs.FlagBits.{kitty_bits}
+use Rattle.csicodec_actions.specs.declared.actions.graphics.XtSmGraphicsItem.{XtSmGraphicsItem}
+use Rattle.csicodec_actions.specs.Graphics.{item_number, item_of}
 use Rattle.csicodec_actions.specs.KeyNumbers.{kitty_mode_number, kitty_modes, path_number, paths}
 use Rattle.csicodec_actions.specs.Modes.{dec_number, terminal_number, resource_number}
 use Rattle.csicodec_actions.specs.Mouse.{pressed, released, reported, report_code}
@@ -30,7 +32,7 @@ use Rattle.csicodec_names.specs.EnumNumbers.{cursor_styles, tabulation_controls,
 use Rattle.csicodec_names.specs.ModeNumbers.{dec_codes, terminal_codes}
 use Rattle.csicodec_actions.specs.Modes.{resources}
 
--- a count, and a last line or column, from 1 to 4294967295; any number; numbers of enumerations, of modes and of the resources of keys
+-- a count, and a last line or column, from 1 to 4294967295; any number; numbers of enumerations, of modes, of the resources of keys and of what graphics are about
 pub data Kind : Type 0 where
   Count : Kind
   Last : Kind
@@ -50,6 +52,7 @@ pub data Kind : Type 0 where
   Word : Kind
   Pressed : Kind
   Released : Kind
+  GraphicsItem : Kind
 
 abbrev pub Value : Kind → Type 0
 Value Count = ℕ
@@ -70,6 +73,7 @@ Value Pops = ℕ
 Value Word = ℕ
 Value Pressed = MouseButton × Modifiers
 Value Released = MouseButton × Modifiers
+Value GraphicsItem = XtSmGraphicsItem
 
 -- ---- reading
 
@@ -107,6 +111,7 @@ read Pops z = below (2 ^ 32) z
 read Word z = short z
 read Pressed z = reported pressed z
 read Released z = reported released z
+read GraphicsItem z = Some (item_of z)
 
 -- ---- writing
 
@@ -129,3 +134,4 @@ number Pops n = pos n
 number Word n = pos n
 number Pressed v = pos (report_code v)
 number Released v = pos (report_code v)
+number GraphicsItem item = item_number item

@@ -5,7 +5,7 @@ use Rattle.csicodec_tokens.specs.OneBased.{most}
 use Rattle.csicodec_actions.specs.declared.actions.cursor.Cursor.TheVariants as cursor
 use Rattle.csicodec_actions.specs.declared.actions.mouse.MouseReport.TheVariants as mouse
 use Rattle.csicodec_actions.specs.Actions.{Action, Cursor, Device, Mouse}
-use Rattle.csicodec_actions.specs.Devices.{RequestTerminalParameters, XtSmGraphics}
+use Rattle.csicodec_actions.specs.Devices.{RequestTerminalParameters}
 
 -- left and right margins all around are written as `s`, which saves the cursor; a request for the terminal's parameters is written as the report
 abbrev pub IsSpecial : Action → Type 0
@@ -16,8 +16,7 @@ IsSpecial action = ⊥
 abbrev pub NoneSpecial : List Action → Type 0
 NoneSpecial actions = All (λ action. ¬ IsSpecial action) actions
 
--- a report in pixels is written as one in cells is, and no row reads graphics
+-- a report in pixels is written as one in cells is
 abbrev pub IsNeverRead : Action → Type 0
 IsNeverRead (Mouse (mouse.SGR1016 x_pixels y_pixels button modifiers)) = Unit {0}
-IsNeverRead (Device (XtSmGraphics item action_or_status value)) = Unit {0}
 IsNeverRead action = IsSpecial action

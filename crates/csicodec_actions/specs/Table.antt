@@ -2,6 +2,7 @@
 pub mod Cursor
 pub mod Device
 pub mod Edit
+pub mod Graphics
 pub mod Keyboard
 pub mod Mode
 pub mod Mouse

@@ -1,6 +1,6 @@
 -- What an action of a list is written as: bytes and values, and then the final character.
 use Prim.Native.Char.{Char, code}
-use Rattle.std.specs.Prelude.{ℕ, List, [], ◌∷◌, ◌++◌, if◌then◌else◌, pos}
+use Rattle.std.specs.Prelude.{ℕ, ℤ, List, [], ◌∷◌, ◌++◌, if◌then◌else◌, pos}
 use Rattle.std.specs.Fmt.{signed_decimal}
 use Rattle.csicodec_tokens.specs.declared.param.CsiParam.{CsiParam}
 use Rattle.csicodec_tokens.specs.declared.param.CsiParam.TheVariants.{Integer, P}
@@ -63,8 +63,11 @@ abbrev pub two : (second : Kind) → ℕ → Value second → List Item
 two second a b = The Count a ∷ put ";" ∷ The second b ∷ []
 
 -- a number by itself
+abbrev pub any_number : ℤ → Item
+any_number z = The Any z
+
 abbrev pub plain : ℕ → Item
-plain n = The Any (pos n)
+plain n = any_number (pos n)
 
 -- each of these, a `;` before it
 abbrev pub listed : {A : Type 0} → (A → Item) → List A → List Item

@@ -5,20 +5,21 @@ ghost use Rattle.csicodec_names.specs.declared.flags.Modifiers.{Modifiers};
 ghost use Rattle.csicodec_actions.specs.Actions as action;
 ghost use Rattle.csicodec_actions.specs.Devices.{attributes_of, device_of};
 ghost use Rattle.csicodec_actions.specs.Good.{AllGood, AreHeld, Good, GoodAttribute, IsUnnamed};
-ghost use Rattle.csicodec_actions.specs.Kinds.{Any, Count, Dec, Flags, Terminal};
+ghost use Rattle.csicodec_actions.specs.Kinds.{Any, Count, Dec, Flags, GraphicsItem, Terminal};
 ghost use Rattle.csicodec_actions.specs.Special.{IsNeverRead, IsSpecial};
 ghost use Rattle.csicodec_actions.specs.Table.Cursor.{written_cursor};
 ghost use Rattle.csicodec_actions.specs.Table.Device.{written_attributes, written_device};
 ghost use Rattle.csicodec_actions.specs.Table.Edit.{written_edit};
+ghost use Rattle.csicodec_actions.specs.Table.Graphics.{written_graphics};
 ghost use Rattle.csicodec_actions.specs.Table.Keyboard.{written_keyboard};
 ghost use Rattle.csicodec_actions.specs.Table.Mode.{written_mode};
 ghost use Rattle.csicodec_actions.specs.Table.Mouse.{written_mouse};
 ghost use Rattle.csicodec_actions.specs.Table.Window.{maybe, written_window};
-ghost use Rattle.csicodec_actions.specs.Written.{Attribute, listed};
+ghost use Rattle.csicodec_actions.specs.Written.{Attribute, any_number, listed};
 
 use crate::actions::{
     Cursor, DecPrivateMode, Device, DeviceAttribute, DeviceAttributes, Edit, Keyboard, Mode,
-    MouseReport, TerminalMode, Window,
+    MouseReport, TerminalMode, Window, XtSmGraphics, XtSmGraphicsItem,
 };
 use bitflags::Flags;
 use csicodec_base::{
@@ -264,13 +265,44 @@ fn is_canonical_answer(attributes: &DeviceAttributes) -> bool
     }
 }
 
-/// A request for the terminal's parameters is written as the report, and no row reads graphics.
+/// An item is read as itself by its name, or by a number from 0 on that none has.
+fn is_item(item: XtSmGraphicsItem) -> bool
+    ensures { IsTrue result ↔ Good GraphicsItem item }
+{
+    match item {
+        XtSmGraphicsItem::Unspecified(number) => is_said(number) && !matches!(number, 1..=3),
+        _ => true,
+    }
+}
+
+fn are_said(numbers: &[i64]) -> bool
+    ensures { IsTrue result ↔ AllGood (listed any_number numbers.now) }
+{
+    let mut rest = numbers;
+    while let [first, others @ ..] = rest {
+        if !is_said(*first) {
+            return false;
+        }
+        rest = others;
+    }
+    true
+}
+
+/// Whether each number of graphics is read as itself.
+fn is_canonical_graphics(graphics: &XtSmGraphics) -> bool
+    ensures { IsTrue result ↔ AllGood (written_graphics graphics.now.item graphics.now.action_or_status graphics.now.value.items).items }
+{
+    is_item(graphics.item) && is_said(graphics.action_or_status) && are_said(&graphics.value)
+}
+
+/// A request for the terminal's parameters is written as the report.
 pub fn is_canonical_device(device: &Device) -> bool
     ensures { IsTrue result ↔ (AllGood (written_device (device_of device.now)).items × ¬ IsNeverRead (action.Device (device_of device.now))) }
 {
     match device {
         Device::DeviceAttributes(attributes) => is_canonical_answer(attributes),
-        Device::RequestTerminalParameters(_) | Device::XtSmGraphics(_) => false,
+        Device::RequestTerminalParameters(_) => false,
+        Device::XtSmGraphics(graphics) => is_canonical_graphics(graphics),
         _ => true,
     }
 }

@@ -16,6 +16,6 @@ pub use actions::{
 };
 pub use print::write_path;
 pub use whole::{
-    cursor_action, device_action, edit_action, keyboard_action, mode_action, mouse_action,
-    path_action, window_action,
+    cursor_action, device_action, edit_action, graphics_action, keyboard_action, mode_action,
+    mouse_action, path_action, window_action,
 };

@@ -1,5 +1,5 @@
 -- What an action of the cursor is written as is read as it.
-use Rattle.std.proofs.Common.{ℕ, ◌≡◌, [], Bool, true, false, Some, refl, rules, inl, inr}
+use Rattle.std.proofs.Common.{ℕ, ◌≡◌, [], true, false, Some, refl, rules, inl, inr}
 use Rattle.std.specs.Prelude.{◌==◌, ◌&&◌, if◌then◌else◌}
 use Rattle.std.proofs.lemmas.Bool.{cases_Bool, and_parts, eqb-true}
 use Rattle.csicodec_names.specs.declared.enums.CursorTabulationControl.TheVariants as control

@@ -1,5 +1,5 @@
 -- What an edit is written as is read as it.
-use Rattle.std.proofs.Common.{◌≡◌, Bool, true, Some, refl}
+use Rattle.std.proofs.Common.{◌≡◌, true, Some, refl}
 use Rattle.csicodec_names.specs.declared.enums.EraseInDisplay.TheVariants as display
 use Rattle.csicodec_names.specs.declared.enums.EraseInLine.TheVariants as line
 use Rattle.csicodec_actions.specs.declared.actions.edit.Edit as edit_type

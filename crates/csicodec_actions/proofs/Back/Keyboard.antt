@@ -1,5 +1,5 @@
 -- What the keyboard says is written as is read as it.
-use Rattle.std.proofs.Common.{◌≡◌, Bool, true, Some, refl, rules}
+use Rattle.std.proofs.Common.{◌≡◌, true, Some, refl, rules}
 use Rattle.csicodec_actions.specs.declared.actions.keyboard.Keyboard as keyboard_type
 use Rattle.csicodec_actions.specs.declared.actions.keyboard.Keyboard.TheVariants as keyboard
 use Rattle.csicodec_actions.specs.Actions.{Keyboard}

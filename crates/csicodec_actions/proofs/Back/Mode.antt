@@ -1,9 +1,8 @@
 -- What a mode that is asked for, and a modified key, is written as is read as it. Modes that are set, reset, saved and restored are cut into
 -- pieces.
-use Rattle.std.proofs.Common.{◌≡◌, None, Some, refl, rules}
+use Rattle.std.proofs.Common.{None, Some, refl, rules}
 use Rattle.std.specs.Prelude.{Option, ℤ}
 use Rattle.csicodec_actions.specs.declared.actions.mode.DecPrivateMode.{DecPrivateMode}
-use Rattle.csicodec_actions.specs.declared.actions.mode.Mode as mode_type
 use Rattle.csicodec_actions.specs.declared.actions.mode.Mode.TheVariants as mode
 use Rattle.csicodec_actions.specs.declared.actions.mode.TerminalMode.{TerminalMode}
 use Rattle.csicodec_actions.specs.declared.actions.mode.XtermKeyModifierResource.{XtermKeyModifierResource}

@@ -1,15 +1,13 @@
--- What a terminal is, asked and answered (DA1 to DA3 and DECSTR of DEC's terminals, DECREQTPARM of the VT100, DSR of ECMA-48, XTVERSION and XTSMGRAPHICS of
--- xterm): lists before a final character, and what each action is written as.
+-- What a terminal is, asked and answered (DA1 to DA3 and DECSTR of DEC's terminals, DECREQTPARM of the VT100, DSR of ECMA-48, XTVERSION of xterm): lists
+-- before a final character, and what each action is written as; graphics are in a table of their own.
 use Rattle.std.specs.Prelude.{ℕ, ℤ, ◌+ℤ◌, List, [], ◌∷◌, ◌++◌, Option, pos}
 use Rattle.csicodec_tokens.specs.declared.param.CsiParam.{CsiParam}
 use Rattle.csicodec_actions.specs.declared.actions.device.DeviceAttribute.{DeviceAttribute}
-use Rattle.csicodec_actions.specs.declared.actions.graphics.XtSmGraphicsItem.{XtSmGraphicsItem}
 use Rattle.csicodec_actions.specs.Devices as devices
 use Rattle.csicodec_actions.specs.Actions.{Action, Device}
-use Rattle.csicodec_actions.specs.Graphics.{item_number}
-use Rattle.csicodec_actions.specs.Kinds.{Any}
 use Rattle.csicodec_actions.specs.Rows.{Row, row, open_row, Number, mark, Before, before, read_by}
-use Rattle.csicodec_actions.specs.Written.{Item, Attribute, The, Written, listed, plain, write, put}
+use Rattle.csicodec_actions.specs.Table.Graphics.{written_graphics}
+use Rattle.csicodec_actions.specs.Written.{Item, Attribute, Written, any_number, listed, plain, write, put}
 
 -- nothing or 0, also behind `>` and `=`
 abbrev pub requests : List (Row Action)
@@ -73,9 +71,6 @@ written_attributes (devices.Vt220 attributes) = written_class 62 attributes
 written_attributes (devices.Vt320 attributes) = written_class 63 attributes
 written_attributes (devices.Vt420 attributes) = written_class 64 attributes
 
-abbrev pub any_number : ℤ → Item
-any_number z = The Any z
-
 -- the parameters of a line: no parity, 8 bits, 128 for 38400 baud both ways, a clock multiplier of 1, and no switches
 abbrev pub line : List Item
 line = listed plain (1 ∷ 1 ∷ 128 ∷ 128 ∷ 1 ∷ 0 ∷ [])
@@ -83,9 +78,6 @@ line = listed plain (1 ∷ 1 ∷ 128 ∷ 128 ∷ 1 ∷ 0 ∷ [])
 -- a request is written as the report: its number and 2, and then the parameters
 abbrev pub written_parameters : ℤ → Written
 written_parameters z = write (any_number (z +ℤ pos 2) ∷ line) "x"
-
-abbrev pub written_graphics : XtSmGraphicsItem → ℤ → List ℤ → Written
-written_graphics item action_or_status value = write (put "?" ∷ any_number (item_number item) ∷ listed any_number (action_or_status ∷ value)) "S"
 
 -- a line for each variant
 abbrev pub written_device : devices.Device → Written

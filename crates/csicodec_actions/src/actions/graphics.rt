@@ -2,7 +2,7 @@
 ghost use Rattle.std.specs.Prelude.{◌≡◌, ◌↔◌, IfOk, Some, pos};
 ghost use Rattle.std.specs.Fmt.{signed_decimal};
 ghost use Rattle.csicodec_actions.specs.Devices.{graphics_of};
-ghost use Rattle.csicodec_actions.specs.Graphics.{action_number, item_number, status_number};
+ghost use Rattle.csicodec_actions.specs.Graphics.{action_number, item_number, item_of, status_number};
 ghost use Rattle.csicodec_actions.specs.declared.actions.graphics.XtSmGraphicsAction.{XtSmGraphicsAction};
 ghost use Rattle.csicodec_actions.specs.declared.actions.graphics.XtSmGraphicsStatus.{XtSmGraphicsStatus};
 
@@ -23,6 +23,18 @@ pub enum XtSmGraphicsItem {
 }
 
 impl XtSmGraphicsItem {
+    /// The item of a number.
+    pub(crate) fn of(number: i64) -> XtSmGraphicsItem
+        ensures { result ≡ item_of number }
+    {
+        match number {
+            1 => XtSmGraphicsItem::NumberOfColorRegisters,
+            2 => XtSmGraphicsItem::SixelGraphicsGeometry,
+            3 => XtSmGraphicsItem::RegisGraphicsGeometry,
+            _ => XtSmGraphicsItem::Unspecified(number),
+        }
+    }
+
     /// The number of this item.
     pub(crate) fn number(&self) -> i64
         ensures { result ≡ item_number self.now }

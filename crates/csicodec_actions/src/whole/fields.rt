@@ -1,8 +1,8 @@
 //! Lists that are read by their fields.
-ghost use Rattle.std.specs.Prelude.{◌≡◌, IfOk, Some};
+ghost use Rattle.std.specs.Prelude.{◌≡◌, ◌<◌, IfOk, OnErr, Some, drop, length};
 ghost use Rattle.std.specs.Option.{option_map};
 ghost use Rattle.csicodec_tokens.specs.Fields.{fields_of};
-ghost use Rattle.csicodec_actions.specs.FieldRows.{ahead_of_byte, value_or};
+ghost use Rattle.csicodec_actions.specs.FieldRows.{ahead_of_byte, numbers, value_or};
 ghost use Rattle.csicodec_actions.specs.FieldSteps.{field, has_field};
 ghost use Rattle.csicodec_actions.specs.Kinds.{Count};
 
@@ -50,4 +50,22 @@ pub(super) fn place(fields: &Cracked, idx: usize) -> Option<OneBased>
     ensures { result ≡ value_or Count 1 (field fields.now idx) }
 {
     OneBased::from_optional_esc_param(fields.get(idx)).ok()
+}
+
+/// The numbers of all fields from this one on.
+pub(super) fn numbers_behind(
+    alloc: Global,
+    fields: &Cracked,
+    idx: usize,
+) -> Result<Vec<i64>, AllocError>
+    ensures ok { IfOk result (λ values. values.items ≡ numbers (drop idx fields.now)) }
+    ensures err { OnErr result (0 < length fields.now) }
+{
+    let mut values = Vec::new(alloc);
+    for at in idx..fields.len() {
+        if let Some(value) = number(fields, at) {
+            values.push(value)?;
+        }
+    }
+    Ok(values)
 }

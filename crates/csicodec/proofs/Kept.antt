@@ -39,10 +39,13 @@ use Rattle.csicodec_actions.specs.declared.actions.graphics.XtSmGraphicsItem.{Xt
 use Rattle.csicodec_actions.specs.Kinds.{Any, Dec, GraphicsItem, Terminal, read}
 use Rattle.csicodec_actions.specs.Modes.{changed, switched}
 use Rattle.csicodec_actions.specs.Ranges.{InRange}
+use Rattle.csicodec_actions.specs.FieldRows.{FieldRow, Over}
+use Rattle.csicodec_actions.specs.Table.Graphics.{graphics_fields}
+use Rattle.csicodec_actions.specs.Table.Window.{window_fields}
 use Rattle.csicodec_actions.specs.Whole.{table, field_table, whole}
 use Rattle.csicodec_actions.specs.declared.actions.device.DeviceAttribute.{DeviceAttribute}
-use Rattle.csicodec_actions.proofs.AllFieldRows.{FieldRowsKeep, KeepsRest}
-use Rattle.csicodec_actions.proofs.AllRows.{KeepsTail, TableKeeps, table-append, spellable-tokens, whole-keeps}
+use Rattle.csicodec_actions.proofs.AllFieldRows.{FieldsKeep, FieldRowsKeep, KeepsRest}
+use Rattle.csicodec_actions.proofs.AllRows.{KeepsTail, TableKeeps, all-append, table-append, spellable-tokens, whole-keeps}
 use Rattle.csicodec.proofs.Twins.{IsParsedSpecial}
 use Rattle.csicodec_actions.proofs.Values.{dec-read, terminal-read, good-read, one-fits, most-fits, zero-said}
 
@@ -129,8 +132,16 @@ numbers-kept (z ∷ others) ok = (ok.0, numbers-kept others ok.1)
 graphics-kept : (flag : Bool) (item : XtSmGraphicsItem) (z : ℤ) → Good GraphicsItem item → Good Any z → KeepsRest Good (λ all. Kept flag (Device (XtSmGraphics item z all)))
 graphics-kept flag item z named said = record { each = λ all ok. record { range = tt; canonical = inr ((named, (said, numbers-kept all ok)), λ e. e) } }
 
+windows-kept : (flag : Bool) → FieldRowsKeep Good (Kept flag) window_fields
+windows-kept flag = search (rules, one-fits, zero-said) depth 60
+
+graphics-rows-kept : (flag : Bool) → FieldRowsKeep Good (Kept flag) graphics_fields
+graphics-rows-kept flag = ((λ item named z said. graphics-kept flag item z named said, tt), tt)
+
 fields-kept : (flag : Bool) → FieldRowsKeep Good (Kept flag) field_table
-fields-kept flag = search (rules, one-fits, zero-said, graphics-kept) depth 60
+fields-kept flag =
+    all-append (λ (o : Over Action). AllByRecursion (λ (r : FieldRow Action). FieldsKeep Good (Kept flag) r.slots r.make) o.rows) window_fields graphics_fields (windows-kept flag)
+    (graphics-rows-kept flag)
 
 pub whole-kept : (flag : Bool) (list : List CsiParam) (final : ℕ) (a : Action) → Spellable list → whole list final ≡ Some a → Kept flag a
 whole-kept flag list final a ok e =

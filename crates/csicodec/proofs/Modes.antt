@@ -1,5 +1,5 @@
 -- What a mode is written as is read as it: as a piece, or as a whole list.
-use Rattle.std.proofs.Common.{ℕ, ◌≡◌, List, [], ◌∷◌, Bool, true, None, Some, refl, ap, rules, pos}
+use Rattle.std.proofs.Common.{ℕ, ◌≡◌, List, [], ◌∷◌, Bool, true, refl, ap, pos}
 use Rattle.csicodec_tokens.specs.declared.param.CsiParam.TheVariants.{Integer, P}
 use Rattle.csicodec_actions.specs.declared.actions.mode.Change.{Change}
 use Rattle.csicodec_actions.specs.declared.actions.mode.Change.TheVariants as change

@@ -1,5 +1,5 @@
 -- What each error of a stream says.
-use Rattle.std.specs.Prelude.{ℕ, ◌+◌, ◌*◌, ◌^◌, List, Option, None, Some, codes, if◌then◌else◌, nat_lt, option_and_then}
+use Rattle.std.specs.Prelude.{ℕ, ◌+◌, ◌^◌, List, Option, None, Some, codes, if◌then◌else◌, nat_lt, option_and_then}
 use Rattle.csicodec_tokens.specs.Words.{place, read_error_text}
 use Rattle.csicodec.specs.declared.stream.DecodeError.{DecodeError}
 use Rattle.csicodec.specs.declared.stream.DecodeError.TheVariants as decode

@@ -118,10 +118,10 @@ fn is_canonical_unknown(
 impl CSI {
     /// Whether the text of this value, read with the flag, is this one value. It holds of all that is read, but for left
     /// and right margins from 1 to 4294967295 and requests for the terminal's parameters, and not of each value that is
-    /// built by hand: counts are 1 or more, other numbers 0 or more; a mode or an extension without a name has no number of
-    /// one that has a name; an alternative font is 1 to 9; flags and modifiers are those that have names; no report of the
-    /// mouse is in pixels; and what is unknown has this flag, tokens and a final character that a sequence can have, and
-    /// none of the rules reads it. An `Err` comes only for an `Unspecified`.
+    /// built by hand: counts are 1 or more, other numbers 0 or more; a mode, an extension or an item of graphics without a
+    /// name has no number of one that has a name; an alternative font is 1 to 9; flags and modifiers are those that have
+    /// names; no report of the mouse is in pixels; and what is unknown has this flag, tokens and a final character that a
+    /// sequence can have, and none of the rules reads it. An `Err` comes only for an `Unspecified`.
     pub fn is_canonical(
         &self,
         alloc: Global,

@@ -1,9 +1,8 @@
-//! The texts of devices, of reports of the mouse, and of paths.
-ghost use Rattle.std.specs.Prelude.{◌≡◌, ◌==◌, ◌&&◌, ◌+◌, ◌≤◌, ◌++◌, ◌<◌, [], ◌∷◌, Some, pos, IsAscii, if◌then◌else◌, length};
-ghost use Rattle.csicodec_actions.specs.Kinds.{Kind, Any};
+//! The texts of reports of the mouse and of paths; devices and windows have files of their own.
+ghost use Rattle.std.specs.Prelude.{◌≡◌, ◌≤◌, ◌++◌, [], ◌∷◌, Some, length};
 ghost use Rattle.csicodec_actions.specs.Table.Mouse.{written_mouse};
 ghost use Rattle.csicodec_actions.specs.Table.Path.{written_path};
-ghost use Rattle.csicodec_actions.specs.Written.{Byte, The, shown, written_text};
+ghost use Rattle.csicodec_actions.specs.Written.{written_text};
 ghost use Rattle.csicodec_actions.specs.MouseTexts.{mouse_code, mouse_place};
 ghost use Rattle.std.specs.Fmt.{decimal};
 

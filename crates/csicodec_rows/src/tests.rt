@@ -5,6 +5,7 @@ mod canonical;
 mod devices;
 mod escapes;
 mod filter;
+mod graphics;
 mod lists;
 mod memory;
 mod modes;

@@ -23,7 +23,7 @@ graphics_fields = over (byte "?") no_byte "S" graphics_rows ∷ []
 unfoldable pub as_graphics : List CsiParam → ℕ → Option Action
 as_graphics list final = read_fields graphics_fields list final
 
--- the same of a list by itself, whatever its first token is
+-- what the row gives behind the first token of a list, whatever that is
 abbrev pub graphics_behind : List CsiParam → Option Action
 graphics_behind list = option_and_then (given graphics_rows) (fields_of (drop 1 list))
 

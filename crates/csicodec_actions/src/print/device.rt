@@ -1,10 +1,6 @@
 //! The texts of devices.
-ghost use Rattle.std.specs.Prelude.{◌≡◌, ◌≤◌, ◌++◌, [], ◌∷◌, Some, length, pos, ◌<◌};
-ghost use Rattle.std.specs.Fmt.{WritesOnOk, signed_decimal};
-ghost use Rattle.std.specs.Fmt.{decimal};
-ghost use Rattle.std.specs.List.{flat_map};
-ghost use Rattle.std.specs.Prelude.{◌+ℤ◌};
-ghost use Rattle.csicodec_tokens.specs.Param.{token_text};
+ghost use Rattle.std.specs.Prelude.{◌≡◌, ◌≤◌, ◌++◌, [], ◌∷◌, ◌+ℤ◌, Some, length, pos};
+ghost use Rattle.std.specs.Fmt.{WritesOnOk, decimal, signed_decimal};
 ghost use Rattle.csicodec_tokens.specs.declared.param.CsiParam.{CsiParam};
 ghost use Rattle.csicodec_actions.specs.DeviceTexts.{device_behind, device_front, listed_text, terminal_front};
 ghost use Rattle.csicodec_actions.specs.Devices.{attribute_token, attributes_of, device_of};

@@ -7,10 +7,12 @@ use bitflags::Flags;
 use csicodec::CsiParam::{self, Integer, P};
 use csicodec::{
     Blink, CSI, CharacterPath, ColorSpec, Cursor, CursorStyle, CursorTabulationControl,
-    DecPrivateMode, DecPrivateModeCode, Edit, EraseInDisplay, EraseInLine, Font, Intensity,
+    DecPrivateMode, DecPrivateModeCode, Device, DeviceAttribute, DeviceAttributeCodes,
+    DeviceAttributeFlags, DeviceAttributes, Edit, EraseInDisplay, EraseInLine, Font, Intensity,
     Keyboard, KittyKeyboardFlags, KittyKeyboardMode, Mode, Modifiers, MouseButton, MouseReport,
     OneBased, Sgr, SrgbaTuple, TabulationClear, TerminalMode, TerminalModeCode, Underline,
-    Unspecified, VerticalAlign, XtermKeyModifierResource, decode_all, encode_all,
+    Unspecified, VerticalAlign, Window, XtSmGraphics, XtSmGraphicsItem, XtermKeyModifierResource,
+    decode_all, encode_all,
 };
 use std::alloc::Global;
 use std::process::Abort;
@@ -948,6 +950,441 @@ fn paths(rt: HostRuntime) -> Result<(), Fail> {
         )?;
     }
     Ok(())
+}
+
+/// Windows and areas.
+#[test]
+fn windows(rt: HostRuntime) -> Result<(), Fail> {
+    let rows: [(Window, &str, bool); 49] = [
+        (Window::DeIconify, "\x1b[1t", true),
+        (Window::Iconify, "\x1b[2t", true),
+        (Window::RaiseWindow, "\x1b[5t", true),
+        (Window::LowerWindow, "\x1b[6t", true),
+        (Window::RefreshWindow, "\x1b[7t", true),
+        (Window::RestoreMaximizedWindow, "\x1b[9;0t", true),
+        (Window::MaximizeWindow, "\x1b[9;1t", true),
+        (Window::MaximizeWindowVertically, "\x1b[9;2t", true),
+        (Window::MaximizeWindowHorizontally, "\x1b[9;3t", true),
+        (Window::UndoFullScreenMode, "\x1b[10;0t", true),
+        (Window::ChangeToFullScreenMode, "\x1b[10;1t", true),
+        (Window::ToggleFullScreen, "\x1b[10;2t", true),
+        (Window::ReportWindowState, "\x1b[11t", true),
+        (Window::ReportWindowPosition, "\x1b[13t", true),
+        (Window::ReportTextAreaPosition, "\x1b[13;2t", true),
+        (Window::ReportTextAreaSizePixels, "\x1b[14t", true),
+        (Window::ReportWindowSizePixels, "\x1b[14;2t", true),
+        (Window::ReportScreenSizePixels, "\x1b[15t", true),
+        (Window::ReportCellSizePixels, "\x1b[16t", true),
+        (Window::ReportTextAreaSizeCells, "\x1b[18t", true),
+        (Window::ReportScreenSizeCells, "\x1b[19t", true),
+        (Window::ReportIconLabel, "\x1b[20t", true),
+        (Window::ReportWindowTitle, "\x1b[21t", true),
+        (Window::PushIconAndWindowTitle, "\x1b[22;0t", true),
+        (Window::PushIconTitle, "\x1b[22;1t", true),
+        (Window::PushWindowTitle, "\x1b[22;2t", true),
+        (Window::PopIconAndWindowTitle, "\x1b[23;0t", true),
+        (Window::PopIconTitle, "\x1b[23;1t", true),
+        (Window::PopWindowTitle, "\x1b[23;2t", true),
+        (
+            Window::MoveWindow { x: 0, y: i64::MAX },
+            "\x1b[3;0;9223372036854775807t",
+            true,
+        ),
+        (Window::MoveWindow { x: -1, y: 0 }, "\x1b[3;-1;0t", false),
+        (
+            Window::MoveWindow { x: 0, y: i64::MIN },
+            "\x1b[3;0;-9223372036854775808t",
+            false,
+        ),
+        (
+            Window::ResizeWindowPixels {
+                width: Some(7),
+                height: None,
+            },
+            "\x1b[4;;7t",
+            true,
+        ),
+        (
+            Window::ResizeWindowPixels {
+                width: None,
+                height: Some(15),
+            },
+            "\x1b[4;15;t",
+            true,
+        ),
+        (
+            Window::ResizeWindowPixels {
+                width: None,
+                height: None,
+            },
+            "\x1b[4;;t",
+            true,
+        ),
+        (
+            Window::ResizeWindowPixels {
+                width: Some(-1),
+                height: Some(2),
+            },
+            "\x1b[4;2;-1t",
+            false,
+        ),
+        (
+            Window::ResizeWindowPixels {
+                width: Some(i64::MAX),
+                height: Some(i64::MIN),
+            },
+            "\x1b[4;-9223372036854775808;9223372036854775807t",
+            false,
+        ),
+        (
+            Window::ReportCellSizePixelsResponse {
+                width: Some(7),
+                height: None,
+            },
+            "\x1b[6;;7t",
+            true,
+        ),
+        (
+            Window::ReportCellSizePixelsResponse {
+                width: None,
+                height: Some(15),
+            },
+            "\x1b[6;15;t",
+            true,
+        ),
+        (
+            Window::ReportCellSizePixelsResponse {
+                width: None,
+                height: None,
+            },
+            "\x1b[6;;t",
+            true,
+        ),
+        (
+            Window::ReportCellSizePixelsResponse {
+                width: Some(-1),
+                height: Some(2),
+            },
+            "\x1b[6;2;-1t",
+            false,
+        ),
+        (
+            Window::ReportCellSizePixelsResponse {
+                width: Some(i64::MAX),
+                height: Some(i64::MIN),
+            },
+            "\x1b[6;-9223372036854775808;9223372036854775807t",
+            false,
+        ),
+        (
+            Window::ResizeWindowCells {
+                width: Some(7),
+                height: None,
+            },
+            "\x1b[8;;7t",
+            true,
+        ),
+        (
+            Window::ResizeWindowCells {
+                width: None,
+                height: Some(15),
+            },
+            "\x1b[8;15;t",
+            true,
+        ),
+        (
+            Window::ResizeWindowCells {
+                width: None,
+                height: None,
+            },
+            "\x1b[8;;t",
+            true,
+        ),
+        (
+            Window::ResizeWindowCells {
+                width: Some(-1),
+                height: Some(2),
+            },
+            "\x1b[8;2;-1t",
+            false,
+        ),
+        (
+            Window::ResizeWindowCells {
+                width: Some(i64::MAX),
+                height: Some(i64::MIN),
+            },
+            "\x1b[8;-9223372036854775808;9223372036854775807t",
+            false,
+        ),
+        (
+            Window::ChecksumRectangularArea {
+                request_id: 7,
+                page_number: 2,
+                top: place(1),
+                left: place(5),
+                bottom: place(1),
+                right: place(MOST),
+            },
+            "\x1b[7;2;1;5;1;4294967295*y",
+            true,
+        ),
+        (
+            Window::ChecksumRectangularArea {
+                request_id: i64::MIN,
+                page_number: i64::MAX,
+                top: place(MOST),
+                left: place(MOST),
+                bottom: place(MOST),
+                right: place(MOST),
+            },
+            "\x1b[-9223372036854775808;9223372036854775807;4294967295;4294967295;4294967295;4294967295*y",
+            false,
+        ),
+    ];
+    for (value, text, canonical) in rows {
+        check(
+            &rt,
+            rt.alloc(),
+            CSI::Window(Box::new(rt.alloc(), value)?),
+            false,
+            text,
+            canonical,
+        )?;
+    }
+    Ok(())
+}
+
+/// Devices without lists.
+#[test]
+fn devices(rt: HostRuntime) -> Result<(), Fail> {
+    let rows: [(Device, &str, bool); 13] = [
+        (
+            Device::DeviceAttributes(DeviceAttributes::Vt100WithAdvancedVideoOption),
+            "\x1b[?1;2c",
+            true,
+        ),
+        (
+            Device::DeviceAttributes(DeviceAttributes::Vt101WithNoOptions),
+            "\x1b[?1;0c",
+            true,
+        ),
+        (
+            Device::DeviceAttributes(DeviceAttributes::Vt102),
+            "\x1b[?6c",
+            true,
+        ),
+        (Device::SoftReset, "\x1b[!p", true),
+        (Device::RequestPrimaryDeviceAttributes, "\x1b[c", true),
+        (Device::RequestSecondaryDeviceAttributes, "\x1b[>c", true),
+        (Device::RequestTertiaryDeviceAttributes, "\x1b[=c", true),
+        (Device::RequestTerminalNameAndVersion, "\x1b[>q", true),
+        (Device::StatusReport, "\x1b[5n", true),
+        (
+            Device::RequestTerminalParameters(0),
+            "\x1b[2;1;1;128;128;1;0x",
+            false,
+        ),
+        (
+            Device::RequestTerminalParameters(1),
+            "\x1b[3;1;1;128;128;1;0x",
+            false,
+        ),
+        (
+            Device::RequestTerminalParameters(i64::MAX),
+            "\x1b[9223372036854775809;1;1;128;128;1;0x",
+            false,
+        ),
+        (
+            Device::RequestTerminalParameters(i64::MIN),
+            "\x1b[-9223372036854775806;1;1;128;128;1;0x",
+            false,
+        ),
+    ];
+    for (value, text, canonical) in rows {
+        check(
+            &rt,
+            rt.alloc(),
+            CSI::Device(Box::new(rt.alloc(), value)?),
+            false,
+            text,
+            canonical,
+        )?;
+    }
+    Ok(())
+}
+
+/// Graphics without values, with values that a sequence can have, and with one that it can't.
+#[test]
+fn graphics(rt: HostRuntime) -> Result<(), Fail> {
+    let rows: [(XtSmGraphicsItem, i64, &str, bool); 8] = [
+        (
+            XtSmGraphicsItem::NumberOfColorRegisters,
+            0,
+            "\x1b[?1;0",
+            true,
+        ),
+        (
+            XtSmGraphicsItem::SixelGraphicsGeometry,
+            4,
+            "\x1b[?2;4",
+            true,
+        ),
+        (
+            XtSmGraphicsItem::RegisGraphicsGeometry,
+            i64::MAX,
+            "\x1b[?3;9223372036854775807",
+            true,
+        ),
+        (XtSmGraphicsItem::Unspecified(0), 1, "\x1b[?0;1", true),
+        (XtSmGraphicsItem::Unspecified(9), 1, "\x1b[?9;1", true),
+        (XtSmGraphicsItem::Unspecified(2), 1, "\x1b[?2;1", false),
+        (XtSmGraphicsItem::Unspecified(-1), 1, "\x1b[?-1;1", false),
+        (
+            XtSmGraphicsItem::RegisGraphicsGeometry,
+            i64::MIN,
+            "\x1b[?3;-9223372036854775808",
+            false,
+        ),
+    ];
+    let values: [(&[i64], &str, bool); 3] = [
+        (&[], "S", true),
+        (&[0, i64::MAX], ";0;9223372036854775807S", true),
+        (&[5, -1], ";5;-1S", false),
+    ];
+    for (item, action_or_status, front, named) in rows {
+        for (value, end, said) in values {
+            let graphics = XtSmGraphics {
+                item,
+                action_or_status,
+                value: value.to_vec(rt.alloc())?,
+            };
+            let device = CSI::Device(Box::new(rt.alloc(), Device::XtSmGraphics(graphics))?);
+            let text = format!(in rt.alloc(); "{front}{end}")?;
+            check(&rt, rt.alloc(), device, false, text.as_str(), named && said)?;
+        }
+    }
+    Ok(())
+}
+
+/// A terminal with these extensions.
+fn terminal(alloc: Global, class: u8, attributes: &[DeviceAttribute]) -> Result<CSI, Fail> {
+    let flags = DeviceAttributeFlags::new(attributes.to_vec(alloc)?);
+    let attributes = match class {
+        62 => DeviceAttributes::Vt220(flags),
+        63 => DeviceAttributes::Vt320(flags),
+        _ => DeviceAttributes::Vt420(flags),
+    };
+    Ok(CSI::Device(Box::new(alloc, Device::DeviceAttributes(attributes))?))
+}
+
+/// Each extension alone, and behind another one, of each service class.
+#[test]
+fn extensions(rt: HostRuntime) -> Result<(), Fail> {
+    let rows: [(DeviceAttribute, &str, bool); 19] = [
+        (
+            DeviceAttribute::Code(DeviceAttributeCodes::Columns132),
+            "1",
+            true,
+        ),
+        (
+            DeviceAttribute::Code(DeviceAttributeCodes::Printer),
+            "2",
+            true,
+        ),
+        (
+            DeviceAttribute::Code(DeviceAttributeCodes::RegisGraphics),
+            "3",
+            true,
+        ),
+        (
+            DeviceAttribute::Code(DeviceAttributeCodes::SixelGraphics),
+            "4",
+            true,
+        ),
+        (
+            DeviceAttribute::Code(DeviceAttributeCodes::SelectiveErase),
+            "6",
+            true,
+        ),
+        (
+            DeviceAttribute::Code(DeviceAttributeCodes::UserDefinedKeys),
+            "8",
+            true,
+        ),
+        (
+            DeviceAttribute::Code(DeviceAttributeCodes::NationalReplacementCharsets),
+            "9",
+            true,
+        ),
+        (
+            DeviceAttribute::Code(DeviceAttributeCodes::TechnicalCharacters),
+            "15",
+            true,
+        ),
+        (
+            DeviceAttribute::Code(DeviceAttributeCodes::UserWindows),
+            "18",
+            true,
+        ),
+        (
+            DeviceAttribute::Code(DeviceAttributeCodes::HorizontalScrolling),
+            "21",
+            true,
+        ),
+        (
+            DeviceAttribute::Code(DeviceAttributeCodes::AnsiColor),
+            "22",
+            true,
+        ),
+        (
+            DeviceAttribute::Code(DeviceAttributeCodes::AnsiTextLocator),
+            "29",
+            true,
+        ),
+        (DeviceAttribute::Unspecified(P(b'$')), "$", true),
+        (DeviceAttribute::Unspecified(P(b';')), ";", false),
+        (DeviceAttribute::Unspecified(P(b'A')), "A", false),
+        (DeviceAttribute::Unspecified(Integer(1)), "1", false),
+        (DeviceAttribute::Unspecified(Integer(99)), "99", true),
+        (DeviceAttribute::Unspecified(Integer(-1)), "-1", false),
+        (DeviceAttribute::Unspecified(P(0xff)), "ÿ", false),
+    ];
+    let first = DeviceAttribute::Code(DeviceAttributeCodes::AnsiColor);
+    for (attribute, text, canonical) in rows {
+        for class in 62..65 {
+            let alone = terminal(rt.alloc(), class, &[attribute])?;
+            let said = format!(in rt.alloc(); "\x1b[?{class};{text}c")?;
+            check(&rt, rt.alloc(), alone, false, said.as_str(), canonical)?;
+            let second = terminal(rt.alloc(), class, &[first, attribute])?;
+            let said = format!(in rt.alloc(); "\x1b[?{class};22;{text}c")?;
+            check(&rt, rt.alloc(), second, false, said.as_str(), canonical)?;
+        }
+    }
+    for class in 62..65 {
+        let none = terminal(rt.alloc(), class, &[])?;
+        let said = format!(in rt.alloc(); "\x1b[?{class}c")?;
+        check(&rt, rt.alloc(), none, false, said.as_str(), true)?;
+    }
+    Ok(())
+}
+
+/// Reports of the mouse in pixels are never read.
+#[test]
+fn pixels(rt: HostRuntime) -> Result<(), Fail> {
+    let report = MouseReport::SGR1016 {
+        x_pixels: 640,
+        y_pixels: 480,
+        button: MouseButton::Button1Release,
+        modifiers: Modifiers::from_bits_retain(2),
+    };
+    check(
+        &rt,
+        rt.alloc(),
+        CSI::Mouse(report),
+        false,
+        "\x1b[<4;640;480m",
+        false,
+    )
 }
 
 /// Unknown ones, of the flag that they are read with, and of the other.

@@ -14,7 +14,7 @@ use std::mem::forget;
 use std::test::Fail;
 
 /// The room that a call gets in the end.
-const ROOM: usize = 8192;
+const ROOM: usize = 16384;
 
 /// The most blocks that are taken. It takes some ten thousand, and more only from an allocator that never runs dry, as
 /// that of `rt try`, under which this test fails.
@@ -26,9 +26,8 @@ const NO_PARAMETERS: &[u8] = b"\x1b[1m\x1b[z";
 /// The same, and then the beginning of a sequence.
 const CUT_SHORT: &[u8] = b"\x1b[1m\x1b[z\x1b[";
 
-/// An answer of a terminal that names so many extensions that a list of them grows several times.
-const ANSWER: &[u8] =
-    b"\x1b[?62;1;2;3;4;6;8;9;15;18;21;22;29;30;31;32;33;34;35;36;37;38;39;40;41;42c";
+/// An answer of a terminal that names so many extensions that a list of them grows three times.
+const ANSWER: &[u8] = b"\x1b[?62;1;2;6;8;9;15;22;98;99c";
 
 /// A window that is moved.
 const WINDOW: &[u8] = b"\x1b[3;1;2t";
@@ -321,7 +320,7 @@ fn take_all(alloc: Global, most: u32) -> u32 {
 /// first run ended that was not.
 fn grow(call: Call, ample: &Ample, alloc: Global) -> (u32, Outcome) {
     let mut refusals = 0u32;
-    for steps in 0usize..448 {
+    for steps in 0usize..960 {
         let Ok(_filler) = Vec::<u8>::with_capacity(alloc, ROOM - 16 * steps) else {
             continue;
         };

@@ -1,0 +1,168 @@
+//! Worked lists of graphics: what each stands for, and its text.
+
+use super::worked::{check_unknown, tokens_of};
+use csicodec::CsiParam::{Integer, P};
+use csicodec::{CSI, Device, ParseRefusal, XtSmGraphics, XtSmGraphicsItem, encode_all, parse_all};
+use std::test::Fail;
+
+static READ: [(&str, XtSmGraphicsItem, i64, &[i64], &str); 6] = [
+    (
+        "?9;4;1;2",
+        XtSmGraphicsItem::Unspecified(9),
+        4,
+        &[1, 2],
+        "\x1b[?9;4;1;2S",
+    ),
+    (
+        "?1;1;;5",
+        XtSmGraphicsItem::NumberOfColorRegisters,
+        1,
+        &[5],
+        "\x1b[?1;1;5S",
+    ),
+    (
+        "?1;2",
+        XtSmGraphicsItem::NumberOfColorRegisters,
+        2,
+        &[],
+        "\x1b[?1;2S",
+    ),
+    (
+        "?2;0;800;600;",
+        XtSmGraphicsItem::SixelGraphicsGeometry,
+        0,
+        &[800, 600],
+        "\x1b[?2;0;800;600S",
+    ),
+    (
+        "?03;04;;",
+        XtSmGraphicsItem::RegisGraphicsGeometry,
+        4,
+        &[],
+        "\x1b[?3;4S",
+    ),
+    (
+        "?0;9223372036854775807;0",
+        XtSmGraphicsItem::Unspecified(0),
+        i64::MAX,
+        &[0],
+        "\x1b[?0;9223372036854775807;0S",
+    ),
+];
+
+#[test]
+fn graphics(rt: HostRuntime) -> Result<(), Fail> {
+    for (list, item, action_or_status, value, text) in READ {
+        let params = tokens_of(rt.alloc(), list)?;
+        let graphics = XtSmGraphics {
+            item,
+            action_or_status,
+            value: value.to_vec(rt.alloc())?,
+        };
+        assert!(rt;
+            matches!(XtSmGraphics::parse(rt.alloc(), &params), Ok(read) if read == graphics),
+            "{list:?}"
+        );
+        let device = Device::XtSmGraphics(graphics);
+        let actions = vec![in rt.alloc(); CSI::Device(Box::new(rt.alloc(), device)?)]?;
+        assert!(rt;
+            parse_all(rt.alloc(), &params, false, 'S')?.as_slice() == actions.as_slice(),
+            "{list:?}"
+        );
+        assert!(rt;
+            encode_all(rt.alloc(), actions.as_slice())?.as_slice() == text.as_bytes(),
+            "{list:?}"
+        );
+    }
+    check_unknown(
+        &rt,
+        rt.alloc(),
+        &["?1;;", "?1", "?;1", "?", "?1;1:2", ">1;1", "1;1"],
+        'S',
+    )
+}
+
+/// A list by itself, whose first token may be any.
+#[test]
+fn graphics_by_themselves(rt: HostRuntime) -> Result<(), Fail> {
+    assert!(rt;
+        matches!(
+            XtSmGraphics::parse(rt.alloc(), &[]),
+            Err(ParseRefusal::NotSpelled)
+        )
+    );
+    assert!(rt;
+        matches!(
+            XtSmGraphics::parse(rt.alloc(), &[P(b'?')]),
+            Err(ParseRefusal::NotSpelled)
+        )
+    );
+    let graphics = XtSmGraphics {
+        item: XtSmGraphicsItem::NumberOfColorRegisters,
+        action_or_status: 2,
+        value: Vec::new(rt.alloc()),
+    };
+    let params = [Integer(7), Integer(1), P(b';'), Integer(2)];
+    assert!(rt; matches!(XtSmGraphics::parse(rt.alloc(), &params), Ok(read) if read == graphics));
+    Ok(())
+}
+
+/// Which values that are built by hand are read back.
+#[test]
+fn built_graphics(rt: HostRuntime) -> Result<(), Fail> {
+    let rows: [(XtSmGraphicsItem, i64, &[i64], bool, &str); 6] = [
+        (
+            XtSmGraphicsItem::Unspecified(i64::MIN),
+            1,
+            &[],
+            false,
+            "\x1b[?-9223372036854775808;1S",
+        ),
+        (
+            XtSmGraphicsItem::Unspecified(3),
+            1,
+            &[],
+            false,
+            "\x1b[?3;1S",
+        ),
+        (XtSmGraphicsItem::Unspecified(4), 0, &[], true, "\x1b[?4;0S"),
+        (
+            XtSmGraphicsItem::RegisGraphicsGeometry,
+            -1,
+            &[],
+            false,
+            "\x1b[?3;-1S",
+        ),
+        (
+            XtSmGraphicsItem::RegisGraphicsGeometry,
+            3,
+            &[1, i64::MIN],
+            false,
+            "\x1b[?3;3;1;-9223372036854775808S",
+        ),
+        (
+            XtSmGraphicsItem::RegisGraphicsGeometry,
+            3,
+            &[0, i64::MAX],
+            true,
+            "\x1b[?3;3;0;9223372036854775807S",
+        ),
+    ];
+    for (item, action_or_status, value, canonical, text) in rows {
+        let device = Device::XtSmGraphics(XtSmGraphics {
+            item,
+            action_or_status,
+            value: value.to_vec(rt.alloc())?,
+        });
+        let action = CSI::Device(Box::new(rt.alloc(), device)?);
+        assert!(rt;
+            format!(in rt.alloc(); "{action}")?.as_str() == text,
+            "{text:?}"
+        );
+        assert!(rt;
+            action.is_canonical(rt.alloc(), false)? == canonical,
+            "{text:?}"
+        );
+    }
+    Ok(())
+}

@@ -176,8 +176,7 @@ fn unknown(rt: HostRuntime) -> Result<(), Fail> {
         rt.alloc(),
         &["2", "?1", "0;", "2;1;1;128;128;1;0"],
         'x',
-    )?;
-    check_unknown(&rt, rt.alloc(), &["?1;1", "?1;1;;5"], 'S')
+    )
 }
 
 /// A request is written as the report, which is read as unknown.
@@ -245,9 +244,6 @@ fn graphics_texts(rt: HostRuntime) -> Result<(), Fail> {
     for (item, action_or_status, value, text) in GRAPHICS {
         let device = graphics(rt.alloc(), item, action_or_status, value)?;
         check_text(&rt, rt.alloc(), device, text)?;
-        let device = graphics(rt.alloc(), item, action_or_status, value)?;
-        let action = CSI::Device(Box::new(rt.alloc(), device)?);
-        assert_eq!(rt; action.is_canonical(rt.alloc(), false)?, false);
     }
     let item = XtSmGraphicsItem::Unspecified(-7);
     assert_eq!(rt; format!(in rt.alloc(); "{item}")?.as_str(), "-7");

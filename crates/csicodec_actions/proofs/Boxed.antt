@@ -30,7 +30,7 @@ field-rows-take = search rules depth 60
 pub boxed-takes : (list : List CsiParam) (final : ℕ) (a : Action) → boxed list final ≡ Some a → TakesMemory a
 unfolding boxed as_device as_window as_graphics
 boxed-takes list final a e = elim (one-of (read_by device_rows list final) (read_fields field_table list final) a
-  (ap (option_or (read_by device_rows list final)) (fields-append window_fields graphics_fields list final) ∙ e)) [
-  | inl row ↦ table-keeps (λ t. Unit {0}) (λ k v. Unit {0}) TakesMemory (λ k z v h f. tt) device_rows rows-take list final a (no-tokens list) row
-  | inr fields ↦ fields-keep (λ t. Unit {0}) (λ k v. Unit {0}) TakesMemory (λ k z v h f. tt) field_table field-rows-take list final a (no-tokens list) fields
-]
+    (ap (option_or (read_by device_rows list final)) (fields-append window_fields graphics_fields list final) ∙ e)) [
+      | inl row ↦ table-keeps (λ t. Unit {0}) (λ k v. Unit {0}) TakesMemory (λ k z v h f. tt) device_rows rows-take list final a (no-tokens list) row
+      | inr fields ↦ fields-keep (λ t. Unit {0}) (λ k v. Unit {0}) TakesMemory (λ k z v h f. tt) field_table field-rows-take list final a (no-tokens list) fields
+    ]

@@ -25,9 +25,7 @@ fn path(params: &[CsiParam]) -> Option<(CharacterPath, i64)>
     match params {
         [P(b' ')] => Some((CharacterPath::ImplementationDefault, 0)),
         [Integer(path), P(b' ')] => Some((path_at(*path)?, 0)),
-        [Integer(path), P(b';'), Integer(effect), P(b' ')] => {
-            Some((path_at(*path)?, *effect))
-        }
+        [Integer(path), P(b';'), Integer(effect), P(b' ')] => { Some((path_at(*path)?, *effect)) }
         _ => None,
     }
 }

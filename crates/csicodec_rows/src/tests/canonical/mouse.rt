@@ -1,0 +1,162 @@
+//! Reports of the mouse.
+
+use super::check;
+use bitflags::Flags;
+use csicodec::{CSI, Modifiers, MouseButton, MouseReport};
+use std::test::Fail;
+
+fn report(button: MouseButton, modifiers: u16) -> MouseReport {
+    MouseReport::SGR1006 {
+        x: 1,
+        y: 65535,
+        button,
+        modifiers: Modifiers::from_bits_retain(modifiers),
+    }
+}
+
+/// Reports of the mouse.
+#[test]
+fn mouse(rt: HostRuntime) -> Result<(), Fail> {
+    let rows: [(MouseReport, &str, bool); 25] = [
+        (
+            report(MouseButton::Button1Press, 0),
+            "\x1b[<0;1;65535M",
+            true,
+        ),
+        (
+            report(MouseButton::Button2Press, 0),
+            "\x1b[<1;1;65535M",
+            true,
+        ),
+        (
+            report(MouseButton::Button3Press, 0),
+            "\x1b[<2;1;65535M",
+            true,
+        ),
+        (
+            report(MouseButton::Button4Press, 0),
+            "\x1b[<64;1;65535M",
+            true,
+        ),
+        (
+            report(MouseButton::Button5Press, 0),
+            "\x1b[<65;1;65535M",
+            true,
+        ),
+        (
+            report(MouseButton::Button6Press, 0),
+            "\x1b[<66;1;65535M",
+            true,
+        ),
+        (
+            report(MouseButton::Button7Press, 0),
+            "\x1b[<67;1;65535M",
+            true,
+        ),
+        (
+            report(MouseButton::Button1Release, 0),
+            "\x1b[<0;1;65535m",
+            true,
+        ),
+        (
+            report(MouseButton::Button2Release, 0),
+            "\x1b[<1;1;65535m",
+            true,
+        ),
+        (
+            report(MouseButton::Button3Release, 0),
+            "\x1b[<2;1;65535m",
+            true,
+        ),
+        (
+            report(MouseButton::Button4Release, 0),
+            "\x1b[<64;1;65535m",
+            true,
+        ),
+        (
+            report(MouseButton::Button5Release, 0),
+            "\x1b[<65;1;65535m",
+            true,
+        ),
+        (
+            report(MouseButton::Button6Release, 0),
+            "\x1b[<66;1;65535m",
+            true,
+        ),
+        (
+            report(MouseButton::Button7Release, 0),
+            "\x1b[<67;1;65535m",
+            true,
+        ),
+        (
+            report(MouseButton::Button1Drag, 0),
+            "\x1b[<32;1;65535M",
+            true,
+        ),
+        (
+            report(MouseButton::Button2Drag, 0),
+            "\x1b[<33;1;65535M",
+            true,
+        ),
+        (
+            report(MouseButton::Button3Drag, 0),
+            "\x1b[<34;1;65535M",
+            true,
+        ),
+        (report(MouseButton::None, 0), "\x1b[<35;1;65535M", true),
+        (report(MouseButton::None, 14), "\x1b[<63;1;65535M", true),
+        (
+            report(MouseButton::Button1Press, 2),
+            "\x1b[<4;1;65535M",
+            true,
+        ),
+        (
+            report(MouseButton::Button1Press, 4),
+            "\x1b[<8;1;65535M",
+            true,
+        ),
+        (
+            report(MouseButton::Button1Press, 8),
+            "\x1b[<16;1;65535M",
+            true,
+        ),
+        (
+            report(MouseButton::Button1Press, 1),
+            "\x1b[<2;1;65535M",
+            false,
+        ),
+        (
+            report(MouseButton::Button1Press, 16),
+            "\x1b[<32;1;65535M",
+            false,
+        ),
+        (
+            report(MouseButton::Button7Release, 65535),
+            "\x1b[<131137;1;65535m",
+            false,
+        ),
+    ];
+    for (value, text, canonical) in rows {
+        check(&rt, rt.alloc(), CSI::Mouse(value), false, text, canonical)?;
+    }
+    Ok(())
+}
+
+/// Reports of the mouse in pixels are never read.
+#[test]
+fn pixels(rt: HostRuntime) -> Result<(), Fail> {
+    let report = MouseReport::SGR1016 {
+        x_pixels: 640,
+        y_pixels: 480,
+        button: MouseButton::Button1Release,
+        modifiers: Modifiers::from_bits_retain(2),
+    };
+    check(
+        &rt,
+        rt.alloc(),
+        CSI::Mouse(report),
+        false,
+        "\x1b[<4;640;480m",
+        false,
+    )
+}

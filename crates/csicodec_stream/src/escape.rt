@@ -1,0 +1,55 @@
+//! Bytes, shown in ASCII.
+ghost use Rattle.std.specs.Prelude.{◌≡◌, ◌++◌, ◌<◌, OnOk};
+ghost use Rattle.std.specs.List.{flat_map};
+ghost use Rattle.csicodec_stream.specs.Escaped.{escaped, hex_digit};
+
+use std::alloc::AllocError;
+
+/// A digit of base sixteen.
+fn hex_digit(value: u8) -> u8
+    requires { value < 16 }
+    ensures { result ≡ hex_digit value }
+{
+    if value < 10 { value + 48 } else { value + 87 }
+}
+
+/// Appends one byte as it is shown.
+fn append_byte(out: &mut Vec<u8>, byte: u8) -> Result<(), AllocError>
+    ensures { OnOk result (out.new.items ≡ out.old.items ++ escaped byte) }
+{
+    match byte {
+        0x1b => out.extend_from_slice(b"\\e"),
+        b'\t' => out.extend_from_slice(b"\\t"),
+        b'\n' => out.extend_from_slice(b"\\n"),
+        b'\r' => out.extend_from_slice(b"\\r"),
+        b'\\' => out.extend_from_slice(b"\\\\"),
+        b' '..=b'~' => out.extend_from_slice(&[byte]),
+        _ => out.extend_from_slice(&[b'\\', b'x', hex_digit(byte / 16), hex_digit(byte % 16)]),
+    }
+}
+
+/// Appends bytes as they are shown: ESC as `\e`, tab, line feed and carriage return as `\t`, `\n` and `\r`, the backslash
+/// twice, any other byte from `' '` to `'~'` as itself, and the rest by their number, as `\x07`.
+pub fn append_escaped(out: &mut Vec<u8>, bytes: &[u8]) -> Result<(), AllocError>
+    ensures { OnOk result (out.new.items ≡ out.old.items ++ flat_map escaped bytes.now) }
+{
+    for byte in bytes {
+        append_byte(out, *byte)?;
+    }
+    Ok(())
+}
+
+#[cfg(test)]
+mod tests {
+    use super::*;
+    use std::test::Fail;
+
+    #[test]
+    fn shows_bytes(rt: HostRuntime) -> Result<(), Fail> {
+        let mut out = Vec::new(rt.alloc());
+        append_escaped(&mut out, b"\x1b[1m a\\\t\r\n\x07\x7f\xc3")?;
+        let shown = "\\e[1m a\\\\\\t\\r\\n\\x07\\x7f\\xc3";
+        assert_eq!(rt; out.as_slice(), shown.as_bytes());
+        Ok(())
+    }
+}

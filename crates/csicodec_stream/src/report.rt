@@ -1,0 +1,54 @@
+//! What the program tells of a run that failed.
+ghost use Rattle.std.specs.Prelude.{◌≡◌, Some};
+ghost use Rattle.csicodec_stream.specs.Report.{line, status};
+ghost use Rattle.csicodec_stream.specs.declared.report.Failure.TheVariants.{Run as Ran};
+
+use csicodec::{DecodeError, RunError};
+use std::fmt;
+
+/// Why a run failed.
+#[derive(Clone, Copy, Debug, PartialEq, Eq)]
+pub enum Failure {
+    /// The words of the command line are no command, or aren't text.
+    Usage,
+    /// The file can't be opened.
+    Open,
+    /// The stream wasn't read or written to its end.
+    Run(RunError),
+}
+
+impl From<RunError> for Failure {
+    ghost from_gives = { λ error failure. failure ≡ Ran error };
+
+    fn from(error: RunError) -> Failure {
+        Failure::Run(error)
+    }
+}
+
+impl Failure {
+    /// The status that the program ends with: 1 for input that is refused, 2 for a file, a read or a write that failed, 3
+    /// where memory ran out, and 64 for words that are no command (EX_USAGE of BSD's sysexits.h).
+    pub fn status(&self) -> u8
+        ensures { result ≡ status self.now }
+    {
+        match self {
+            Failure::Usage => 64,
+            Failure::Open | Failure::Run(RunError::Read | RunError::Write) => 2,
+            Failure::Run(RunError::Decode(DecodeError::Read { .. })) => 1,
+            Failure::Run(RunError::Decode(DecodeError::Memory) | RunError::Memory) => 3,
+        }
+    }
+}
+
+/// One line, without its end.
+impl fmt::Display for Failure {
+    ghost output = { λ failure. Some (line failure) };
+
+    fn fmt<W: fmt::Write>(&self, f: &mut fmt::Formatter<W>) -> fmt::Result {
+        match self {
+            Failure::Usage => f.write_str("csicodec: not a command"),
+            Failure::Open => f.write_str("csicodec: the file can't be opened"),
+            Failure::Run(error) => write!(f, "csicodec: {error}"),
+        }
+    }
+}

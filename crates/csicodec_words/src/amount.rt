@@ -1,0 +1,17 @@
+//! Numbers of things.
+
+use std::fmt;
+
+/// Writes words, and a number with what it counts: `1 line`, `5 lines`.
+pub fn counted<W: fmt::Write>(
+    f: &mut fmt::Formatter<W>,
+    words: &'static str,
+    count: u32,
+    unit: &'static str,
+) -> fmt::Result {
+    if count == 1 {
+        write!(f, "{words} {count} {unit}")
+    } else {
+        write!(f, "{words} {count} {unit}s")
+    }
+}

@@ -1,0 +1,175 @@
+//! Moving the cursor, tab stops and margins, in words.
+
+use crate::amount::counted;
+use crate::describe::Describe;
+use csicodec::{Cursor, CursorStyle, CursorTabulationControl, OneBased, TabulationClear};
+use std::fmt;
+
+impl Describe for Cursor {
+    fn describe<W: fmt::Write>(&self, f: &mut fmt::Formatter<W>) -> fmt::Result {
+        match self {
+            Cursor::Up(n) => counted(f, "CUU  cursor up", *n, "line"),
+            Cursor::Down(n) => counted(f, "CUD  cursor down", *n, "line"),
+            Cursor::Right(n) => counted(f, "CUF  cursor right", *n, "column"),
+            Cursor::Left(n) => counted(f, "CUB  cursor left", *n, "column"),
+            Cursor::NextLine(n) => counted(f, "CNL  cursor to column 1, down", *n, "line"),
+            Cursor::PrecedingLine(n) => counted(f, "CPL  cursor to column 1, up", *n, "line"),
+            Cursor::CharacterAbsolute(col) => to_column(f, "CHA", col),
+            Cursor::CharacterPositionAbsolute(col) => to_column(f, "HPA", col),
+            Cursor::Position { line, col } => at(f, "CUP  cursor to", line, col),
+            Cursor::ActivePositionReport { line, col } => at(f, "CPR  cursor at", line, col),
+            Cursor::CharacterAndLinePosition { line, col } => at(f, "HVP  cursor to", line, col),
+            Cursor::ForwardTabulation(n) => counted(f, "CHT  cursor on", *n, "tab stop"),
+            Cursor::BackwardTabulation(n) => counted(f, "CBT  cursor back", *n, "tab stop"),
+            Cursor::LineTabulation(n) => counted(f, "CVT  cursor down", *n, "line tab stop"),
+            Cursor::CharacterPositionForward(n) => counted(f, "HPR  cursor right", *n, "column"),
+            Cursor::CharacterPositionBackward(n) => counted(f, "HPB  cursor left", *n, "column"),
+            Cursor::LinePositionAbsolute(line) => write!(f, "VPA  cursor to line {line}"),
+            Cursor::LinePositionForward(n) => counted(f, "VPR  cursor down", *n, "line"),
+            Cursor::LinePositionBackward(n) => counted(f, "VPB  cursor up", *n, "line"),
+            Cursor::TabulationControl(control) => f.write_str(tabulation(control)),
+            Cursor::TabulationClear(clear) => f.write_str(cleared(clear)),
+            Cursor::SetTopAndBottomMargins { top, bottom } => margins(f, "DECSTBM", top, bottom),
+            Cursor::SetLeftAndRightMargins { left, right } => margins(f, "DECSLRM", left, right),
+            Cursor::SaveCursor => f.write_str("SCOSC  save the cursor's position"),
+            Cursor::RestoreCursor => f.write_str("SCORC  restore the cursor's position"),
+            Cursor::RequestActivePositionReport => f.write_str("DSR 6  ask where the cursor is"),
+            Cursor::CursorStyle(look) => f.write_str(style(look)),
+        }
+    }
+}
+
+fn to_column<W: fmt::Write>(
+    f: &mut fmt::Formatter<W>,
+    name: &'static str,
+    col: &OneBased,
+) -> fmt::Result {
+    let col = col.as_one_based();
+    write!(f, "{name}  cursor to column {col}")
+}
+
+fn at<W: fmt::Write>(
+    f: &mut fmt::Formatter<W>,
+    name: &'static str,
+    line: &OneBased,
+    col: &OneBased,
+) -> fmt::Result {
+    let (line, col) = (line.as_one_based(), col.as_one_based());
+    write!(f, "{name} line {line}, column {col}")
+}
+
+/// Margins; one of 4294967295 is the page's last line or column.
+fn margins<W: fmt::Write>(
+    f: &mut fmt::Formatter<W>,
+    name: &'static str,
+    first: &OneBased,
+    last: &OneBased,
+) -> fmt::Result {
+    let (first, last) = (first.as_one_based(), last.as_one_based());
+    if last == u32::MAX {
+        write!(f, "{name}  margins at {first} and at the end")
+    } else {
+        write!(f, "{name}  margins at {first} and {last}")
+    }
+}
+
+fn tabulation(control: &CursorTabulationControl) -> &'static str {
+    match control {
+        CursorTabulationControl::SetCharacterTabStopAtActivePosition => {
+            "CTC  set a tab stop at the cursor"
+        }
+        CursorTabulationControl::SetLineTabStopAtActiveLine => {
+            "CTC  set a line tab stop at the cursor"
+        }
+        CursorTabulationControl::ClearCharacterTabStopAtActivePosition => {
+            "CTC  clear the tab stop at the cursor"
+        }
+        CursorTabulationControl::ClearLineTabstopAtActiveLine => {
+            "CTC  clear the line tab stop at the cursor"
+        }
+        CursorTabulationControl::ClearAllCharacterTabStopsAtActiveLine => {
+            "CTC  clear all tab stops of the line"
+        }
+        CursorTabulationControl::ClearAllCharacterTabStops => "CTC  clear all tab stops",
+        CursorTabulationControl::ClearAllLineTabStops => "CTC  clear all line tab stops",
+    }
+}
+
+fn cleared(clear: &TabulationClear) -> &'static str {
+    match clear {
+        TabulationClear::ClearCharacterTabStopAtActivePosition => {
+            "TBC  clear the tab stop at the cursor"
+        }
+        TabulationClear::ClearLineTabStopAtActiveLine => {
+            "TBC  clear the line tab stop at the cursor"
+        }
+        TabulationClear::ClearCharacterTabStopsAtActiveLine => {
+            "TBC  clear all tab stops of the line"
+        }
+        TabulationClear::ClearAllCharacterTabStops => "TBC  clear all tab stops",
+        TabulationClear::ClearAllLineTabStops => "TBC  clear all line tab stops",
+        TabulationClear::ClearAllTabStops => "TBC  clear all tab stops, of lines too",
+    }
+}
+
+fn style(look: &CursorStyle) -> &'static str {
+    match look {
+        CursorStyle::Default => "DECSCUSR  cursor as the user set it up",
+        CursorStyle::BlinkingBlock => "DECSCUSR  cursor a blinking block",
+        CursorStyle::SteadyBlock => "DECSCUSR  cursor a steady block",
+        CursorStyle::BlinkingUnderline => "DECSCUSR  cursor a blinking underline",
+        CursorStyle::SteadyUnderline => "DECSCUSR  cursor a steady underline",
+        CursorStyle::BlinkingBar => "DECSCUSR  cursor a blinking bar",
+        CursorStyle::SteadyBar => "DECSCUSR  cursor a steady bar",
+    }
+}
+
+#[cfg(test)]
+mod tests {
+    use super::*;
+    use crate::describe::Described;
+    use std::test::Fail;
+
+    #[test]
+    fn tells_moves(rt: HostRuntime) -> Result<(), Fail> {
+        let (line, col) = (OneBased::new(5), OneBased::new(7));
+        let last = OneBased::new(u32::MAX);
+        for (cursor, words) in [
+            (Cursor::Up(1), "CUU  cursor up 1 line"),
+            (Cursor::ForwardTabulation(2), "CHT  cursor on 2 tab stops"),
+            (Cursor::LinePositionAbsolute(9), "VPA  cursor to line 9"),
+            (Cursor::CharacterAbsolute(col), "CHA  cursor to column 7"),
+            (
+                Cursor::Position { line, col },
+                "CUP  cursor to line 5, column 7",
+            ),
+            (
+                Cursor::SetTopAndBottomMargins {
+                    top: line,
+                    bottom: last,
+                },
+                "DECSTBM  margins at 5 and at the end",
+            ),
+            (
+                Cursor::SetLeftAndRightMargins {
+                    left: line,
+                    right: col,
+                },
+                "DECSLRM  margins at 5 and 7",
+            ),
+            (Cursor::SaveCursor, "SCOSC  save the cursor's position"),
+            (
+                Cursor::CursorStyle(CursorStyle::SteadyBar),
+                "DECSCUSR  cursor a steady bar",
+            ),
+            (
+                Cursor::TabulationClear(TabulationClear::ClearAllCharacterTabStops),
+                "TBC  clear all tab stops",
+            ),
+        ] {
+            let told = Described(&cursor).to_string(rt.alloc())?;
+            assert_eq!(rt; told.as_str(), words);
+        }
+        Ok(())
+    }
+}

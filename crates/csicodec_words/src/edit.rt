@@ -1,0 +1,69 @@
+//! Inserting, deleting, erasing and scrolling, in words.
+
+use crate::amount::counted;
+use crate::describe::Describe;
+use csicodec::{Edit, EraseInDisplay, EraseInLine};
+use std::fmt;
+
+impl Describe for Edit {
+    fn describe<W: fmt::Write>(&self, f: &mut fmt::Formatter<W>) -> fmt::Result {
+        match self {
+            Edit::InsertCharacter(count) => counted(f, "ICH  insert", *count, "blank"),
+            Edit::InsertLine(count) => counted(f, "IL  insert", *count, "blank line"),
+            Edit::DeleteCharacter(count) => counted(f, "DCH  delete", *count, "character"),
+            Edit::DeleteLine(count) => counted(f, "DL  delete", *count, "line"),
+            Edit::EraseCharacter(count) => counted(f, "ECH  erase", *count, "character"),
+            Edit::ScrollUp(count) => counted(f, "SU  scroll up", *count, "line"),
+            Edit::ScrollDown(count) => counted(f, "SD  scroll down", *count, "line"),
+            Edit::Repeat(count) => {
+                counted(f, "REP  repeat the character before,", *count, "time")
+            }
+            Edit::EraseInDisplay(part) => f.write_str(in_display(part)),
+            Edit::EraseInLine(part) => f.write_str(in_line(part)),
+        }
+    }
+}
+
+fn in_display(part: &EraseInDisplay) -> &'static str {
+    match part {
+        EraseInDisplay::EraseToEndOfDisplay => "ED  erase to the end of the page",
+        EraseInDisplay::EraseToStartOfDisplay => "ED  erase to the start of the page",
+        EraseInDisplay::EraseDisplay => "ED  erase the page",
+        EraseInDisplay::EraseScrollback => "ED  erase the lines scrolled off",
+    }
+}
+
+fn in_line(part: &EraseInLine) -> &'static str {
+    match part {
+        EraseInLine::EraseToEndOfLine => "EL  erase to the end of the line",
+        EraseInLine::EraseToStartOfLine => "EL  erase to the start of the line",
+        EraseInLine::EraseLine => "EL  erase the line",
+    }
+}
+
+#[cfg(test)]
+mod tests {
+    use super::*;
+    use crate::describe::Described;
+    use std::test::Fail;
+
+    #[test]
+    fn tells_edits(rt: HostRuntime) -> Result<(), Fail> {
+        for (edit, words) in [
+            (Edit::InsertLine(1), "IL  insert 1 blank line"),
+            (Edit::ScrollUp(5), "SU  scroll up 5 lines"),
+            (
+                Edit::EraseInDisplay(EraseInDisplay::EraseDisplay),
+                "ED  erase the page",
+            ),
+            (
+                Edit::EraseInLine(EraseInLine::EraseToEndOfLine),
+                "EL  erase to the end of the line",
+            ),
+        ] {
+            let told = Described(&edit).to_string(rt.alloc())?;
+            assert_eq!(rt; told.as_str(), words);
+        }
+        Ok(())
+    }
+}

@@ -1,0 +1,108 @@
+//! What the keyboard reports, and paths of characters, in words.
+
+use crate::describe::Describe;
+use bitflags::Flags;
+use csicodec::{CharacterPath, Keyboard, KittyKeyboardFlags, KittyKeyboardMode};
+use std::fmt;
+
+impl Describe for Keyboard {
+    fn describe<W: fmt::Write>(&self, f: &mut fmt::Formatter<W>) -> fmt::Result {
+        match self {
+            Keyboard::SetKittyState { flags, mode } => {
+                let how = way(mode);
+                write!(f, "kitty keyboard  {how}")?;
+                wishes(f, flags)
+            }
+            Keyboard::PushKittyState { flags, mode } => {
+                let how = way(mode);
+                write!(f, "kitty keyboard  push, {how}")?;
+                wishes(f, flags)
+            }
+            Keyboard::PopKittyState(count) => write!(f, "kitty keyboard  pop {count}"),
+            Keyboard::QueryKittySupport => f.write_str("kitty keyboard  ask for the flags"),
+            Keyboard::ReportKittyState(flags) => {
+                f.write_str("kitty keyboard  answer:")?;
+                wishes(f, flags)
+            }
+        }
+    }
+}
+
+fn way(mode: &KittyKeyboardMode) -> &'static str {
+    match mode {
+        KittyKeyboardMode::AssignAll => "set to:",
+        KittyKeyboardMode::SetSpecified => "add:",
+        KittyKeyboardMode::ClearSpecified => "take away:",
+    }
+}
+
+/// Each flag that is set, and how many they are by their number.
+fn wishes<W: fmt::Write>(f: &mut fmt::Formatter<W>, flags: &KittyKeyboardFlags) -> fmt::Result {
+    let bits = flags.bits();
+    write!(f, " flags {bits}")?;
+    for (flag, name) in [
+        (
+            KittyKeyboardFlags::DISAMBIGUATE_ESCAPE_CODES,
+            ", unambiguous keys",
+        ),
+        (KittyKeyboardFlags::REPORT_EVENT_TYPES, ", event types"),
+        (
+            KittyKeyboardFlags::REPORT_ALTERNATE_KEYS,
+            ", alternate keys",
+        ),
+        (
+            KittyKeyboardFlags::REPORT_ALL_KEYS_AS_ESCAPE_CODES,
+            ", all keys",
+        ),
+        (
+            KittyKeyboardFlags::REPORT_ASSOCIATED_TEXT,
+            ", associated text",
+        ),
+    ] {
+        if flags.contains(flag) {
+            f.write_str(name)?;
+        }
+    }
+    Ok(())
+}
+
+/// Where characters go.
+pub(crate) fn path(to: &CharacterPath) -> &'static str {
+    match to {
+        CharacterPath::ImplementationDefault => "as the terminal has it",
+        CharacterPath::LeftToRightOrTopToBottom => "from left to right",
+        CharacterPath::RightToLeftOrBottomToTop => "from right to left",
+    }
+}
+
+#[cfg(test)]
+mod tests {
+    use super::*;
+    use crate::describe::Described;
+    use std::test::Fail;
+
+    #[test]
+    fn tells_keyboards(rt: HostRuntime) -> Result<(), Fail> {
+        let flags = KittyKeyboardFlags::DISAMBIGUATE_ESCAPE_CODES;
+        let mode = KittyKeyboardMode::AssignAll;
+        for (keyboard, words) in [
+            (
+                Keyboard::SetKittyState { flags, mode },
+                "kitty keyboard  set to: flags 1, unambiguous keys",
+            ),
+            (
+                Keyboard::PushKittyState { flags, mode },
+                "kitty keyboard  push, set to: flags 1, unambiguous keys",
+            ),
+            (Keyboard::PopKittyState(2), "kitty keyboard  pop 2"),
+            (
+                Keyboard::ReportKittyState(KittyKeyboardFlags::NONE),
+                "kitty keyboard  answer: flags 0",
+            ),
+        ] {
+            let told = Described(&keyboard).to_string(rt.alloc())?;
+            assert_eq!(rt; told.as_str(), words);
+        }
+        Ok(())
+    }
+}

@@ -1,0 +1,164 @@
+//! Attributes of text, in words.
+
+use crate::describe::Describe;
+use csicodec::{AnsiColor, Blink, ColorSpec, Font, Intensity, Sgr, Underline, VerticalAlign};
+use std::fmt;
+
+impl Describe for Sgr {
+    fn describe<W: fmt::Write>(&self, f: &mut fmt::Formatter<W>) -> fmt::Result {
+        let words = match self {
+            Sgr::Reset => "all attributes off",
+            Sgr::Intensity(strokes) => intensity(strokes),
+            Sgr::Underline(line) => underline(line),
+            Sgr::UnderlineColor(color) => return tell_color(f, "underline", color),
+            Sgr::Blink(pace) => blink(pace),
+            Sgr::Italic(on) => either(*on, "italic on", "italic off"),
+            Sgr::Inverse(on) => either(*on, "inverse on", "inverse off"),
+            Sgr::Invisible(on) => either(*on, "concealed on", "concealed off"),
+            Sgr::StrikeThrough(on) => either(*on, "crossed out on", "crossed out off"),
+            Sgr::Font(Font::Default) => "primary font",
+            Sgr::Font(Font::Alternate(number)) => {
+                let number = *number;
+                return write!(f, "SGR  alternative font {number}");
+            }
+            Sgr::Foreground(color) => return tell_color(f, "foreground", color),
+            Sgr::Background(color) => return tell_color(f, "background", color),
+            Sgr::Overline(on) => either(*on, "overline on", "overline off"),
+            Sgr::VerticalAlign(place) => vertical(place),
+        };
+        write!(f, "SGR  {words}")
+    }
+}
+
+fn either(test: bool, on: &'static str, off: &'static str) -> &'static str {
+    if test { on } else { off }
+}
+
+fn intensity(strokes: &Intensity) -> &'static str {
+    match strokes {
+        Intensity::Normal => "normal intensity",
+        Intensity::Bold => "bold",
+        Intensity::Half => "faint",
+    }
+}
+
+fn underline(line: &Underline) -> &'static str {
+    match line {
+        Underline::None => "underline off",
+        Underline::Single => "underline",
+        Underline::Double => "double underline",
+        Underline::Curly => "curly underline",
+        Underline::Dotted => "dotted underline",
+        Underline::Dashed => "dashed underline",
+    }
+}
+
+fn blink(pace: &Blink) -> &'static str {
+    match pace {
+        Blink::None => "blink off",
+        Blink::Slow => "slow blink",
+        Blink::Rapid => "rapid blink",
+    }
+}
+
+fn vertical(place: &VerticalAlign) -> &'static str {
+    match place {
+        VerticalAlign::BaseLine => "on the base line",
+        VerticalAlign::SuperScript => "superscript",
+        VerticalAlign::SubScript => "subscript",
+    }
+}
+
+/// What gets this colour, and the colour: one of the first 16 of the palette by its name, another by its place from 16 to
+/// 255, and a true colour by red, green and blue, each 0 to 255.
+fn tell_color<W: fmt::Write>(
+    f: &mut fmt::Formatter<W>,
+    what: &'static str,
+    color: &ColorSpec,
+) -> fmt::Result {
+    match color {
+        ColorSpec::Default => write!(f, "SGR  {what} default"),
+        ColorSpec::PaletteIndex(index) => match AnsiColor::from_u8(*index) {
+            Some(named) => {
+                let name = name_of(named);
+                write!(f, "SGR  {what} {name}")
+            }
+            None => {
+                let index = *index;
+                write!(f, "SGR  {what} palette {index}")
+            }
+        },
+        ColorSpec::TrueColor(parts) => {
+            let (red, green, blue, alpha) = parts.to_srgb_u8();
+            write!(f, "SGR  {what} rgb {red},{green},{blue}")?;
+            if alpha == 255 {
+                return Ok(());
+            }
+            write!(f, ", alpha {alpha}")
+        }
+    }
+}
+
+/// The names of ECMA-48 for the first 8, and `bright` ahead for the next.
+fn name_of(color: AnsiColor) -> &'static str {
+    match color {
+        AnsiColor::Black => "black",
+        AnsiColor::Maroon => "red",
+        AnsiColor::Green => "green",
+        AnsiColor::Olive => "yellow",
+        AnsiColor::Navy => "blue",
+        AnsiColor::Purple => "magenta",
+        AnsiColor::Teal => "cyan",
+        AnsiColor::Silver => "white",
+        AnsiColor::Grey => "bright black",
+        AnsiColor::Red => "bright red",
+        AnsiColor::Lime => "bright green",
+        AnsiColor::Yellow => "bright yellow",
+        AnsiColor::Blue => "bright blue",
+        AnsiColor::Fuchsia => "bright magenta",
+        AnsiColor::Aqua => "bright cyan",
+        AnsiColor::White => "bright white",
+    }
+}
+
+#[cfg(test)]
+mod tests {
+    use super::*;
+    use crate::describe::Described;
+    use csicodec::SrgbaTuple;
+    use std::test::Fail;
+
+    #[test]
+    fn tells_attributes(rt: HostRuntime) -> Result<(), Fail> {
+        for (sgr, words) in [
+            (Sgr::Intensity(Intensity::Bold), "SGR  bold"),
+            (Sgr::Underline(Underline::Curly), "SGR  curly underline"),
+            (Sgr::Italic(false), "SGR  italic off"),
+            (Sgr::Font(Font::Alternate(3)), "SGR  alternative font 3"),
+            (
+                Sgr::Foreground(ColorSpec::PaletteIndex(1)),
+                "SGR  foreground red",
+            ),
+            (
+                Sgr::Background(ColorSpec::PaletteIndex(16)),
+                "SGR  background palette 16",
+            ),
+            (
+                Sgr::UnderlineColor(ColorSpec::Default),
+                "SGR  underline default",
+            ),
+            (
+                Sgr::Foreground(ColorSpec::TrueColor(SrgbaTuple(1, 20, 255, 255))),
+                "SGR  foreground rgb 1,20,255",
+            ),
+            (
+                Sgr::Foreground(ColorSpec::TrueColor(SrgbaTuple(1, 20, 255, 7))),
+                "SGR  foreground rgb 1,20,255, alpha 7",
+            ),
+        ] {
+            let told = Described(&sgr).to_string(rt.alloc())?;
+            assert_eq!(rt; told.as_str(), words);
+        }
+        Ok(())
+    }
+}

@@ -3,6 +3,8 @@
 #![tactic(auto)]
 
 mod report;
+#[cfg(test)]
+mod tests;
 
 use csicodec::normalise;
 use report::Report;

@@ -90,5 +90,52 @@ fn looks_are_few(rt: HostRuntime) -> Result<(), Fail> {
         assert!(rt; actions == parse_all(rt.alloc(), &list, false, 'm')?);
         assert_eq!(rt; encode_all(rt.alloc(), &actions)?.len(), 4 * resets);
     }
+    let list = tokens_of(rt.alloc(), "1;1231231;3")?;
+    let (actions, looks) = counted(rt.alloc(), &list)?;
+    assert!(rt;
+        looks >= list.len() && looks <= 128 * (list.len() + 1),
+        "{looks}"
+    );
+    assert!(rt; actions == parse_all(rt.alloc(), &list, false, 'm')?);
+    Ok(())
+}
+
+/// Lists whose last action is unknown, of each group of lists and each subject.
+static UNKNOWN: [(&str, char); 15] = [
+    ("1;1231231;3", 'm'),
+    ("1;<", 'm'),
+    (">3;1", 'm'),
+    ("?1;99999", 's'),
+    ("?", 'h'),
+    ("4;65536", 'h'),
+    ("1;", 'A'),
+    ("?6;1", 'J'),
+    ("9;4", 't'),
+    ("7*", 'y'),
+    ("?1;;", 'S'),
+    ("?1;1", 'c'),
+    ("<32;1;1", 'm'),
+    ("=1;4", 'u'),
+    ("3 ", 'k'),
+];
+
+/// The flag comes into what is unknown, and changes nothing else.
+#[test]
+fn the_flag_is_kept(rt: HostRuntime) -> Result<(), Fail> {
+    for (text, control) in &UNKNOWN {
+        let list = tokens_of(rt.alloc(), text)?;
+        let mut cut = parse_all(rt.alloc(), &list, true, *control)?;
+        let mut whole = parse_all(rt.alloc(), &list, false, *control)?;
+        let last = match (cut.pop(), whole.pop()) {
+            (Some(CSI::Unspecified(cut)), Some(CSI::Unspecified(whole))) => {
+                cut.parameters_truncated
+                    && !whole.parameters_truncated
+                    && cut.params == whole.params
+                    && cut.control == *control
+            }
+            _ => false,
+        };
+        assert!(rt; last && cut == whole, "{text}");
+    }
     Ok(())
 }

@@ -1,17 +1,16 @@
-//! Readers and writers that fail, or do little at a time.
+//! A reader and a writer that fail, or do little at a time.
 
-use csicodec::{RunError, normalise};
 use std::io::{Error, ErrorKind, Read, Result, Write};
 
 /// What goes in.
-pub(super) const INPUT: &[u8] = b"\x1b[1;1231231;3m";
+pub(crate) const INPUT: &[u8] = b"\x1b[1;1231231;3m";
 
 /// What comes out.
-pub(super) const OUTPUT: &[u8] = b"\x1b[1m\x1b[1231231;3m";
+pub(crate) const OUTPUT: &[u8] = b"\x1b[1m\x1b[1231231;3m";
 
 /// A reader that gives at most `step` bytes a call, and whose call number `fails_at`, counted from 1, fails.
 #[derive(Drop)]
-pub(super) struct Reader {
+pub(crate) struct Reader {
     left: &'static [u8],
     step: usize,
     calls: u32,
@@ -21,11 +20,11 @@ pub(super) struct Reader {
 
 impl Reader {
     /// One that never fails.
-    pub(super) fn by(step: usize) -> Reader {
+    pub(crate) fn by(step: usize) -> Reader {
         Reader::failing(step, 0, ErrorKind::Other)
     }
 
-    fn failing(step: usize, fails_at: u32, kind: ErrorKind) -> Reader {
+    pub(crate) fn failing(step: usize, fails_at: u32, kind: ErrorKind) -> Reader {
         Reader {
             left: INPUT,
             step,
@@ -52,7 +51,7 @@ impl Read for Reader {
 
 /// How a writer behaves.
 #[derive(Clone, Copy, PartialEq, Eq, Debug)]
-pub(super) enum Taking {
+pub(crate) enum Taking {
     /// At most so many bytes a call.
     Steps(usize),
     /// Each write fails.
@@ -65,7 +64,7 @@ pub(super) enum Taking {
 
 /// A writer into a place of its own.
 #[derive(Drop)]
-pub(super) struct Writer {
+pub(crate) struct Writer {
     held: [u8; 64],
     used: usize,
     taking: Taking,
@@ -73,7 +72,7 @@ pub(super) struct Writer {
 }
 
 impl Writer {
-    pub(super) fn new(taking: Taking) -> Writer {
+    pub(crate) fn new(taking: Taking) -> Writer {
         Writer {
             held: [0; 64],
             used: 0,
@@ -83,12 +82,12 @@ impl Writer {
     }
 
     /// Whether just these bytes were written, and flushed.
-    pub(super) fn has(&self, bytes: &[u8]) -> bool {
+    pub(crate) fn has(&self, bytes: &[u8]) -> bool {
         self.flushed && self.held.get(..self.used) == Some(bytes)
     }
 
     /// Whether it was never called to any effect.
-    pub(super) fn is_untouched(&self) -> bool {
+    pub(crate) fn is_untouched(&self) -> bool {
         self.used == 0 && !self.flushed
     }
 }
@@ -114,46 +113,5 @@ impl Write for Writer {
             Taking::FlushFails(kind) => Err(Error::from(kind)),
             _ => Ok(()),
         }
-    }
-}
-
-#[test]
-fn reads_that_fail(rt: HostRuntime) {
-    for (fails_at, kind) in [
-        (1, ErrorKind::Other),
-        (1, ErrorKind::Interrupted),
-        (2, ErrorKind::Other),
-        (2, ErrorKind::Interrupted),
-    ] {
-        let mut reader = Reader::failing(7, fails_at, kind);
-        let mut writer = Writer::new(Taking::Steps(64));
-        let answer = normalise(rt.alloc(), &mut reader, &mut writer);
-        assert_eq!(rt; answer, Err(RunError::Read), "read {fails_at}");
-        assert!(rt; writer.is_untouched(), "read {fails_at}");
-    }
-}
-
-#[test]
-fn writes_that_fail(rt: HostRuntime) {
-    for taking in [
-        Taking::WriteFails(ErrorKind::Other),
-        Taking::WriteFails(ErrorKind::Interrupted),
-        Taking::Nothing,
-        Taking::FlushFails(ErrorKind::Other),
-        Taking::FlushFails(ErrorKind::Interrupted),
-    ] {
-        let mut writer = Writer::new(taking);
-        let answer = normalise(rt.alloc(), &mut Reader::by(64), &mut writer);
-        assert_eq!(rt; answer, Err(RunError::Write), "{taking:?}");
-    }
-}
-
-#[test]
-fn small_steps_change_nothing(rt: HostRuntime) {
-    for (step, taken) in [(64, 64), (1, 1), (7, 1)] {
-        let mut writer = Writer::new(Taking::Steps(taken));
-        let answer = normalise(rt.alloc(), &mut Reader::by(step), &mut writer);
-        assert_eq!(rt; answer, Ok(()), "{step} bytes a read");
-        assert!(rt; writer.has(OUTPUT), "{step} bytes a read");
     }
 }

@@ -3,7 +3,7 @@ ghost use Rattle.std.specs.Prelude.{◌≡◌, ◌<◌, List};
 ghost use Rattle.csicodec.specs.Actions.{Action};
 ghost use Rattle.csicodec.specs.Texts.{texts};
 
-use crate::tests::streams::{Taking, Writer};
+use crate::fakes::{Taking, Writer};
 use csicodec::{
     CSI, CsiParam, Filter, NormalForm, Rewrite, RunError, Sgr, encode_all, filter_all, parse_all,
 };

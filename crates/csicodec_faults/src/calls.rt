@@ -1,0 +1,104 @@
+//! The calls that take memory, and how each may end.
+
+use crate::ample::{ANSWER, Ample, GRAPHICS, WINDOW};
+use crate::{copies, reads, writes};
+use std::alloc::Global;
+
+#[derive(Clone, Copy, Debug, PartialEq, Eq)]
+pub(crate) enum Call {
+    Read,
+    ReadInto,
+    Crack,
+    Next,
+    NextWindow,
+    NextGraphics,
+    ParseAll,
+    ParseAnswer,
+    ParseGraphics,
+    DecodeAll,
+    DecodeCutShort,
+    EncodeAll,
+    EncodeWindow,
+    EncodeAnswer,
+    EncodeGraphics,
+    CloneUnspecified,
+    CloneAction,
+    CloneWindow,
+    CloneAnswer,
+    CloneGraphics,
+    IsCanonical,
+    Normalise,
+    FilterAll,
+}
+
+pub(crate) const CALLS: [Call; 23] = [
+    Call::Read,
+    Call::ReadInto,
+    Call::Crack,
+    Call::Next,
+    Call::NextWindow,
+    Call::NextGraphics,
+    Call::ParseAll,
+    Call::ParseAnswer,
+    Call::ParseGraphics,
+    Call::DecodeAll,
+    Call::DecodeCutShort,
+    Call::EncodeAll,
+    Call::EncodeWindow,
+    Call::EncodeAnswer,
+    Call::EncodeGraphics,
+    Call::CloneUnspecified,
+    Call::CloneAction,
+    Call::CloneWindow,
+    Call::CloneAnswer,
+    Call::CloneGraphics,
+    Call::IsCanonical,
+    Call::Normalise,
+    Call::FilterAll,
+];
+
+/// How a call ended.
+#[derive(Clone, Copy, Debug, PartialEq, Eq)]
+pub(crate) enum Outcome {
+    /// Out of memory, by its name.
+    Refused,
+    /// As with ample memory.
+    Right,
+    Wrong,
+}
+
+pub(crate) fn judge(refused: bool, right: bool) -> Outcome {
+    match (refused, right) {
+        (true, _) => Outcome::Refused,
+        (false, true) => Outcome::Right,
+        (false, false) => Outcome::Wrong,
+    }
+}
+
+pub(crate) fn run(call: Call, ample: &Ample, alloc: Global) -> Outcome {
+    match call {
+        Call::Read => reads::read(ample, alloc),
+        Call::ReadInto => reads::read_into(ample, alloc),
+        Call::Crack => reads::crack(ample, alloc),
+        Call::Next => reads::next(ample, alloc),
+        Call::NextWindow => reads::next_boxed(&ample.fields, 't', &ample.window, alloc),
+        Call::NextGraphics => reads::next_boxed(&ample.geometry, 'S', &ample.graphics, alloc),
+        Call::ParseAll => reads::all(&ample.params, 'm', &ample.actions, alloc),
+        Call::ParseAnswer => reads::all(&ample.answer, 'c', &ample.device, alloc),
+        Call::ParseGraphics => reads::graphics(ample, alloc),
+        Call::DecodeAll => reads::decode(ample, alloc),
+        Call::DecodeCutShort => reads::decode_cut_short(alloc),
+        Call::EncodeAll => writes::encode(&ample.actions, crate::fakes::OUTPUT, alloc),
+        Call::EncodeWindow => writes::encode(&ample.window, WINDOW, alloc),
+        Call::EncodeAnswer => writes::encode(&ample.device, ANSWER, alloc),
+        Call::EncodeGraphics => writes::encode(&ample.graphics, GRAPHICS, alloc),
+        Call::CloneUnspecified => copies::unknown(ample, alloc),
+        Call::CloneAction => copies::action(&ample.actions, alloc),
+        Call::CloneWindow => copies::action(&ample.window, alloc),
+        Call::CloneAnswer => copies::action(&ample.device, alloc),
+        Call::CloneGraphics => copies::action(&ample.graphics, alloc),
+        Call::IsCanonical => copies::is_canonical(ample, alloc),
+        Call::Normalise => writes::normalised(alloc),
+        Call::FilterAll => writes::filtered(alloc),
+    }
+}

@@ -1,0 +1,111 @@
+//! Sequences and lists that are read.
+
+use crate::ample::{Ample, CUT_SHORT, NO_PARAMETERS};
+use crate::calls::{Outcome, judge};
+use crate::fakes::INPUT;
+use csicodec::{
+    CSI, Cracked, CsiParam, DecodeError, Device, Intensity, ParseRefusal, ReadError, Sgr,
+    XtSmGraphics, decode_all, parse_all, read_csi, read_csi_into,
+};
+use std::alloc::{AllocError, Global};
+
+pub(crate) fn read(ample: &Ample, alloc: Global) -> Outcome {
+    match read_csi(alloc, INPUT) {
+        Ok(read) => judge(false, read.params == ample.params && read.control == 'm'),
+        Err(error) => judge(error == ReadError::Memory, false),
+    }
+}
+
+pub(crate) fn read_into(ample: &Ample, alloc: Global) -> Outcome {
+    let mut params = Vec::new(alloc);
+    match read_csi_into(&mut params, INPUT) {
+        Ok(tail) => judge(false, params == ample.params && tail.control == 'm'),
+        Err(error) => judge(error == ReadError::Memory, false),
+    }
+}
+
+/// The fields of a window.
+pub(crate) fn crack(ample: &Ample, alloc: Global) -> Outcome {
+    match Cracked::parse(alloc, &ample.fields) {
+        Ok(fields) => {
+            let numbers = (fields.opt_int(0), fields.opt_int(1), fields.opt_int(2));
+            judge(
+                false,
+                fields.len() == 3 && numbers == (Some(3), Some(1), Some(2)),
+            )
+        }
+        Err(error) => judge(error == ParseRefusal::Memory, false),
+    }
+}
+
+/// The second action takes memory. After a refusal nothing more comes, and nothing is left.
+pub(crate) fn next(ample: &Ample, alloc: Global) -> Outcome {
+    let mut run = CSI::parse(alloc, &ample.params, false, 'm');
+    let first = run.next();
+    let bold = matches!(first, Some(Ok(CSI::Sgr(Sgr::Intensity(Intensity::Bold)))));
+    let second = run.next();
+    let over = run.rest().is_none() && run.next().is_none() && run.next().is_none();
+    match second {
+        Some(Ok(action)) => judge(false, bold && over && ample.actions.last() == Some(&action)),
+        Some(Err(AllocError)) => judge(bold && over, false),
+        None => Outcome::Wrong,
+    }
+}
+
+/// The fields take memory, and so does the action. After a refusal nothing more comes, and nothing is left.
+pub(crate) fn next_boxed(
+    params: &[CsiParam],
+    control: char,
+    actions: &[CSI],
+    alloc: Global,
+) -> Outcome {
+    let mut run = CSI::parse(alloc, params, false, control);
+    let first = run.next();
+    let over = run.rest().is_none() && run.next().is_none() && run.next().is_none();
+    match first {
+        Some(Ok(action)) => judge(false, over && actions.first() == Some(&action)),
+        Some(Err(AllocError)) => judge(over, false),
+        None => Outcome::Wrong,
+    }
+}
+
+pub(crate) fn all(params: &[CsiParam], control: char, actions: &[CSI], alloc: Global) -> Outcome {
+    match parse_all(alloc, params, false, control) {
+        Ok(all) => judge(false, all.as_slice() == actions),
+        Err(AllocError) => Outcome::Refused,
+    }
+}
+
+pub(crate) fn graphics(ample: &Ample, alloc: Global) -> Outcome {
+    match XtSmGraphics::parse(alloc, &ample.geometry) {
+        Ok(read) => match ample.graphics.first() {
+            Some(CSI::Device(device)) => {
+                judge(
+                    false,
+                    matches!(&**device, Device::XtSmGraphics(known) if *known == read),
+                )
+            }
+            _ => Outcome::Wrong,
+        },
+        Err(error) => judge(error == ParseRefusal::Memory, false),
+    }
+}
+
+pub(crate) fn decode(ample: &Ample, alloc: Global) -> Outcome {
+    match decode_all(alloc, NO_PARAMETERS, false) {
+        Ok(all) => judge(false, all == ample.decoded),
+        Err(error) => judge(error == DecodeError::Memory, false),
+    }
+}
+
+/// Out of memory comes before the fault that stands behind it.
+pub(crate) fn decode_cut_short(alloc: Global) -> Outcome {
+    let fault = DecodeError::Read {
+        start: 7,
+        error: ReadError::Truncated { at: 2 },
+    };
+    match decode_all(alloc, CUT_SHORT, false) {
+        Ok(_) => Outcome::Wrong,
+        Err(error) => judge(error == DecodeError::Memory, error == fault),
+    }
+}

@@ -1,0 +1,7 @@
+//! One module a subject.
+
+mod filter;
+mod memory;
+mod reader;
+mod spans;
+mod streams;

@@ -6,6 +6,7 @@ mod escapes;
 mod graphics;
 mod lists;
 mod modes;
+mod pairs;
 mod pieces;
 mod readme;
 mod reports;

@@ -2,7 +2,7 @@
 
 use super::worked::{Built, Spelled, check_built, check_spelled, check_unknown};
 use csicodec::CsiParam::{Integer, P};
-use csicodec::{ColorSpec, CsiParam, Intensity, Sgr, SgrCode, SrgbaTuple, Underline};
+use csicodec::{Blink, ColorSpec, CsiParam, Intensity, Sgr, SgrCode, SrgbaTuple, Underline};
 use std::test::Fail;
 
 const BOLD: Sgr = Sgr::Intensity(Intensity::Bold);
@@ -144,8 +144,42 @@ static COLORS: [Spelled<Sgr>; 9] = [
     ),
 ];
 
+/// One code, or some.
+static PLAIN: [Spelled<Sgr>; 10] = [
+    ("0", b'm', &[Sgr::Reset], None, "\x1b[0m"),
+    ("1", b'm', &[BOLD], None, "\x1b[1m"),
+    ("5", b'm', &[Sgr::Blink(Blink::Slow)], None, "\x1b[5m"),
+    ("6", b'm', &[Sgr::Blink(Blink::Rapid)], None, "\x1b[6m"),
+    ("25", b'm', &[Sgr::Blink(Blink::None)], None, "\x1b[25m"),
+    ("21", b'm', &[DOUBLE], None, "\x1b[21m"),
+    ("4", b'm', &[SINGLE], None, "\x1b[4m"),
+    (
+        "1;3;1231231",
+        b'm',
+        &[BOLD, Sgr::Italic(true)],
+        Some("1231231"),
+        "\x1b[1m\x1b[3m\x1b[1231231m",
+    ),
+    (
+        "58;5;220;255;255",
+        b'm',
+        &[Sgr::UnderlineColor(ColorSpec::PaletteIndex(220))],
+        Some("255;255"),
+        "\x1b[58:5:220m\x1b[255;255m",
+    ),
+    (
+        "38;2;255;255;255",
+        b'm',
+        &[Sgr::Foreground(WHITE)],
+        None,
+        "\x1b[38:2::255:255:255m",
+    ),
+];
+
 /// Lists before `m` that no attribute begins.
-static UNKNOWN: [&str; 6] = [
+static UNKNOWN: [&str; 8] = [
+    "1231231;3",
+    "58;2",
     "38:2:1:2:3:;",
     "38:2::256:1:2",
     "38:5;1",
@@ -156,7 +190,45 @@ static UNKNOWN: [&str; 6] = [
 
 const BELOW_ZERO: [CsiParam; 5] = [Integer(38), P(b';'), Integer(5), P(b';'), Integer(-1)];
 
-static BUILT: [Built<Sgr>; 6] = [
+// Reports of the mouse in the first line.
+const TOO_LARGE: [CsiParam; 6] = [
+    P(b'<'),
+    Integer(i64::MAX),
+    P(b';'),
+    Integer(0),
+    P(b';'),
+    Integer(1),
+];
+
+const NO_BUTTON: [CsiParam; 6] = [
+    P(b'<'),
+    Integer(-128),
+    P(b';'),
+    Integer(1),
+    P(b';'),
+    Integer(1),
+];
+
+const NO_COLUMN: [CsiParam; 6] = [
+    P(b'<'),
+    Integer(0),
+    P(b';'),
+    Integer(-1),
+    P(b';'),
+    Integer(1),
+];
+
+static BUILT: [Built<Sgr>; 10] = [
+    (&[Integer(-1)], 'A', &[], Some(&[Integer(-1)]), b"\x1b[-1A"),
+    (
+        &TOO_LARGE,
+        'M',
+        &[],
+        Some(&TOO_LARGE),
+        b"\x1b[<9223372036854775807;0;1M",
+    ),
+    (&NO_BUTTON, 'M', &[], Some(&NO_BUTTON), b"\x1b[<-128;1;1M"),
+    (&NO_COLUMN, 'M', &[], Some(&NO_COLUMN), b"\x1b[<0;-1;1M"),
     (
         &[Integer(1), Integer(2)],
         'm',
@@ -179,7 +251,12 @@ static BUILT: [Built<Sgr>; 6] = [
 
 #[test]
 fn spelled(rt: HostRuntime) -> Result<(), Fail> {
-    for rows in [RESETS.as_slice(), CODES.as_slice(), COLORS.as_slice()] {
+    for rows in [
+        RESETS.as_slice(),
+        PLAIN.as_slice(),
+        CODES.as_slice(),
+        COLORS.as_slice(),
+    ] {
         check_spelled(&rt, rt.alloc(), rows)?;
     }
     Ok(())

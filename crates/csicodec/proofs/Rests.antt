@@ -8,7 +8,7 @@ use Rattle.csicodec_actions.proofs.Boxed.{boxed-takes}
 use Rattle.csicodec.specs.declared.group.Group.{Group}
 use Rattle.csicodec.specs.declared.group.Group.TheVariants.{Whole, Styles, Modes, DecModes}
 use Rattle.csicodec.specs.Groups.{marked}
-use Rattle.csicodec.specs.Steps.{rest_action}
+use Rattle.csicodec.specs.Private.Steps.{rest_action}
 
 pub rest_takes : (g : Group) (rest : List CsiParam) (flag : Bool) (final : ℕ) → TakesMemory (rest_action g rest flag final)
 rest_takes Whole rest flag final = go (boxed rest final) refl

@@ -11,7 +11,7 @@ use Rattle.csicodec.specs.Canonical.{IsUncut, IsUnknownIn}
 use Rattle.csicodec.specs.Cut.{body}
 use Rattle.csicodec.specs.Groups.{has_odd}
 use Rattle.csicodec.specs.Segments.{IsUnread}
-use Rattle.csicodec.specs.Steps.{found, front}
+use Rattle.csicodec.specs.Private.Steps.{found, front}
 use Rattle.csicodec_actions.specs.Whole.{plain, boxed}
 use Rattle.csicodec_actions.proofs.Boxed.{plain_whole, boxed_whole}
 use Rattle.csicodec.proofs.Fronts.{front_stuck, stuck_front}

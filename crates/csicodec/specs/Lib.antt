@@ -13,7 +13,6 @@ pub mod Progress
 pub mod RoundTrip
 pub mod Run
 pub mod Segments
-pub mod Steps
 pub mod Stream
 pub mod Streams
 pub mod Suffix
@@ -52,3 +51,4 @@ pub use Rattle.csicodec_actions.specs.Table
 pub use Rattle.csicodec_actions.specs.Texts
 pub use Rattle.csicodec_actions.specs.Whole
 pub use Rattle.csicodec_actions.specs.Written
+pub mod Private

@@ -8,7 +8,7 @@ use Rattle.csicodec_tokens.specs.declared.param.CsiParam.TheVariants.{Integer}
 use Rattle.csicodec_actions.specs.declared.actions.device.DeviceAttribute.{DeviceAttribute}
 use Rattle.csicodec_actions.specs.Devices as devices
 use Rattle.csicodec_actions.specs.Devices.{attribute_token}
-use Rattle.csicodec_actions.specs.DeviceTexts.{attributes_behind, device_behind, device_front, listed_text, terminal_front}
+use Rattle.csicodec_actions.specs.Private.DeviceTexts.{attributes_behind, device_behind, device_front, listed_text, terminal_front}
 use Rattle.csicodec_actions.specs.Table.Device.{line, written_attributes, written_device}
 use Rattle.csicodec_actions.specs.Written.{Item, Attribute, any_number, listed, shown, written_text}
 

@@ -13,7 +13,7 @@ use Rattle.csicodec_tokens.specs.Fields.{RefusesFields, fields_of}
 use Rattle.csicodec_tokens.specs.OneBased.{number_or}
 use Rattle.csicodec_tokens.proofs.FieldsOf.{computed-fields}
 use Rattle.csicodec_actions.specs.FieldRows.{ahead_of_byte, numbers, value_or}
-use Rattle.csicodec_actions.specs.FieldSteps.{field, has_field}
+use Rattle.csicodec_actions.specs.Private.FieldSteps.{field, has_field}
 use Rattle.csicodec_actions.specs.Kinds.{Count, read}
 
 pub field-at : (fs : List (Option ℤ)) (i : ℕ) → get_or fs i None ≡ field fs i

@@ -6,7 +6,7 @@ use Rattle.std.proofs.lemmas.Bool.{ne_eqb}
 use Rattle.csicodec_tokens.specs.declared.param.CsiParam.{CsiParam}
 use Rattle.csicodec_tokens.specs.declared.param.CsiParam.TheVariants.{Integer, P}
 use Rattle.csicodec_actions.specs.Kinds.{Kind, Count, Value, read}
-use Rattle.csicodec_actions.specs.Params.{one_or_zero}
+use Rattle.csicodec_actions.specs.Private.Params.{one_or_zero}
 use Rattle.csicodec_actions.specs.Rows.{given, counted, chosen, Before, rows_before, read_by}
 
 -- what is made of a parameter is the action of the parameter

@@ -1,6 +1,6 @@
 -- Rows over the fields of a list: a row is a field for each slot, and what is made of their numbers. Fields behind the row are ignored.
 use Prim.Native.Char.{Char, code}
-use Rattle.std.specs.Prelude.{ℕ, ℤ, ◌==◌, ◌&&◌, Bool, true, false, not, List, [], ◌∷◌, Option, Some, None, option_and_then, option_map, if◌then◌else◌}
+use Rattle.std.specs.Prelude.{◌≡◌, ◌⊎◌, ℕ, ℤ, ◌==◌, ◌&&◌, Bool, true, false, not, List, [], ◌∷◌, Option, Some, None, option_and_then, option_map, if◌then◌else◌}
 use Rattle.std.specs.Option.{option_or, is_some}
 use Rattle.csicodec_names.specs.Numbered.{is_number}
 use Rattle.csicodec_tokens.specs.declared.param.CsiParam.{CsiParam}
@@ -156,3 +156,7 @@ read_over o list = option_and_then (given o.rows) (fields_over o list)
 abbrev pub read_fields : {R : Type 0} → List (Over R) → List CsiParam → ℕ → Option R
 read_fields [] list final = None
 read_fields (o ∷ others) list final = option_or (if final == o.final then read_over o list else None) (read_fields others list final)
+
+-- lists before this final are read by their fields, before `S` those behind a `?`; they take memory also where no row reads them
+abbrev pub IsReadByFields : ℕ → Type 0
+IsReadByFields final = (final ≡ code "t") ⊎ ((final ≡ code "y") ⊎ (final ≡ code "S"))

@@ -5,7 +5,7 @@ ghost use Rattle.std.specs.Fmt.{decimal};
 ghost use Rattle.csicodec_tokens.specs.declared.param.CsiParam.{CsiParam};
 ghost use Rattle.csicodec_names.specs.EnumNumbers.{cursor_style_number, erase_in_display_number, erase_in_line_number, tabulation_clear_number, tabulation_control_number};
 ghost use Rattle.csicodec_actions.specs.Kinds.{Kind, Clear, Control, Count, InDisplay, InLine, read};
-ghost use Rattle.csicodec_actions.specs.Params.{one_or_zero};
+ghost use Rattle.csicodec_actions.specs.Private.Params.{one_or_zero};
 ghost use Rattle.csicodec_actions.specs.Rows.{counted, given, paired};
 ghost use Rattle.csicodec_actions.specs.Written.{Item, Unless, shown, two};
 

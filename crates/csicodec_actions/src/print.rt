@@ -3,7 +3,7 @@ ghost use Rattle.std.specs.Prelude.{◌≡◌, ◌≤◌, ◌++◌, [], ◌∷�
 ghost use Rattle.csicodec_actions.specs.Table.Mouse.{written_mouse};
 ghost use Rattle.csicodec_actions.specs.Table.Path.{written_path};
 ghost use Rattle.csicodec_actions.specs.Written.{written_text};
-ghost use Rattle.csicodec_actions.specs.MouseTexts.{mouse_code, mouse_place};
+ghost use Rattle.csicodec_actions.specs.Private.MouseTexts.{mouse_code, mouse_place};
 ghost use Rattle.std.specs.Fmt.{decimal};
 
 mod device;

@@ -9,7 +9,7 @@ use Rattle.csicodec_spans.specs.declared.table.Mode.TheVariants as mode
 use Rattle.csicodec_spans.specs.declared.table.Front.{Front}
 use Rattle.csicodec_spans.specs.declared.table.Front.TheVariants.{GoesOn, Ends, New, Esc, Csi, Unsure}
 use Rattle.csicodec_spans.specs.Table.{More, Sequence, ModeRow, mode_table, every_mode, holds_in, begin_with, fits_front, ahead, HasOneRow}
-use Rattle.csicodec_spans.specs.TableBy.{is_within, opens_string, is_string, is_dcs, stays, ends, intermediate, opened, escape, look, meant}
+use Rattle.csicodec_spans.specs.Private.TableBy.{is_within, opens_string, is_string, is_dcs, stays, ends, intermediate, opened, escape, look, meant}
 use Rattle.csicodec_spans.proofs.Apart.{one_row, said}
 use Rattle.csicodec_spans.proofs.Rows.{Sound, sound_row}
 

@@ -7,7 +7,7 @@ use Rattle.csicodec_spans.specs.declared.table.Mode.{Mode}
 use Rattle.csicodec_spans.specs.declared.table.Mode.TheVariants as mode
 use Rattle.csicodec_spans.specs.declared.table.Front.{Front}
 use Rattle.csicodec_spans.specs.declared.table.Front.TheVariants.{GoesOn, Ends, New, Esc, Csi, Unsure}
-use Rattle.csicodec_spans.specs.TableBy.{kind_in, stays, look, meant}
+use Rattle.csicodec_spans.specs.Private.TableBy.{kind_in, stays, look, meant}
 use Rattle.csicodec_spans.specs.Parts.{Cuts, IsMore, IsMaximal}
 use Rattle.csicodec_spans.proofs.OneSpan.{run_cut, taken_cut}
 use Rattle.csicodec_spans.proofs.Agrees.{Agrees, agrees, found}

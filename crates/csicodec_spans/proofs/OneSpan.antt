@@ -10,7 +10,7 @@ use Rattle.csicodec_spans.specs.declared.table.Mode.TheVariants as mode
 use Rattle.csicodec_spans.specs.declared.table.Front.{Front}
 use Rattle.csicodec_spans.specs.declared.table.Front.TheVariants.{GoesOn, Csi, Unsure}
 use Rattle.csicodec_spans.specs.Table.{Answer, More, Anew, ahead}
-use Rattle.csicodec_spans.specs.TableBy.{kind_in, stays, look, meant}
+use Rattle.csicodec_spans.specs.Private.TableBy.{kind_in, stays, look, meant}
 use Rattle.csicodec_spans.specs.Parts.{Part, part, Allows, AllowsCsi, IsFirstPart, AreFirstParts, IsUnsure, IsUnsureBy, bytes_of, AreAll, IsSpan, Cuts}
 use Rattle.csicodec_spans.proofs.Rows.{Sound}
 use Rattle.csicodec_spans.proofs.Agrees.{found, sound}

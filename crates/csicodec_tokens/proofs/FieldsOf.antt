@@ -8,7 +8,7 @@ use Rattle.csicodec_tokens.specs.declared.param.CsiParam.{CsiParam}
 use Rattle.csicodec_tokens.specs.declared.param.CsiParam.TheVariants.{Integer, P}
 use Rattle.csicodec_tokens.specs.declared.refusal.ParseRefusal.TheVariants.{Memory}
 use Rattle.csicodec_tokens.specs.Fields.{separator, BeginsEmpty, IsBlock, Fields, RefusesFields, fields_of, with_field}
-use Rattle.csicodec_tokens.specs.FieldsBy.{is_field_token}
+use Rattle.csicodec_tokens.specs.Private.FieldsBy.{is_field_token}
 
 -- ---- fields are computed
 

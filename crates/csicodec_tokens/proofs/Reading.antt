@@ -9,7 +9,7 @@ use Rattle.csicodec_tokens.specs.declared.reader.ReadError.TheVariants.{NotCsi, 
 use Rattle.csicodec_tokens.specs.Digits.{IsDigit, AreDigits, value, largest}
 use Rattle.csicodec_tokens.specs.Sequence.{IsFinal, SpellsToken, Spells, IsSpellable, Spellable, Reads}
 use Rattle.csicodec_tokens.specs.Fault.{IsBody, IsBad, FaultOf, Refuses}
-use Rattle.csicodec_tokens.specs.Reading.{IsRun, IsNumber, IsTooLarge, IsFirstToken, EndsWhole, HasRead}
+use Rattle.csicodec_tokens.specs.Private.Reading.{IsRun, IsNumber, IsTooLarge, IsFirstToken, EndsWhole, HasRead}
 use Rattle.csicodec_tokens.proofs.Faults.{bad_byte, large_number, cut_short}
 use Rattle.csicodec_tokens.proofs.Runs.{value_push, AreDigits-push}
 use Rattle.csicodec_tokens.proofs.Spelled.{IsBody-from_spelling}

@@ -5,7 +5,7 @@ use Rattle.csicodec_tokens.specs.declared.param.CsiParam.{CsiParam}
 use Rattle.csicodec_tokens.specs.declared.param.CsiParam.TheVariants.{Integer, P}
 use Rattle.csicodec_tokens.specs.Digits.{AreDigits}
 use Rattle.csicodec_tokens.specs.Sequence.{SpellsToken, Spells, IsSpellable, Apart, Spellable}
-use Rattle.csicodec_tokens.specs.Reading.{BeginsWithDigit, IsWhole, IsFirstToken, EndsWhole}
+use Rattle.csicodec_tokens.specs.Private.Reading.{BeginsWithDigit, IsWhole, IsFirstToken, EndsWhole}
 
 begins_with_run : (run rest : List ℕ) → 0 < length run → AreDigits run → BeginsWithDigit (run ++ rest)
 begins_with_run [] rest lt h = absurd (omega arith)

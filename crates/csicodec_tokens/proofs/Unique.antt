@@ -6,7 +6,7 @@ use Rattle.csicodec_tokens.specs.declared.param.CsiParam.{CsiParam}
 use Rattle.csicodec_tokens.specs.declared.param.CsiParam.TheVariants.{Integer, P}
 use Rattle.csicodec_tokens.specs.Digits.{IsDigit, AreDigits, value}
 use Rattle.csicodec_tokens.specs.Sequence.{IsBodyByte, IsFinal, Spells, Apart, Spellable, Seq}
-use Rattle.csicodec_tokens.specs.Reading.{BeginsWithDigit}
+use Rattle.csicodec_tokens.specs.Private.Reading.{BeginsWithDigit}
 use Rattle.csicodec_tokens.proofs.Spelled.{IsBody-from_spelling}
 use Rattle.csicodec_tokens.proofs.Tokens.{begins_with_number, nonempty}
 

@@ -3,7 +3,6 @@ pub mod OneBased
 pub mod Digits
 pub mod Sequence
 pub mod Fault
-pub mod Reading
 pub mod Fields
-pub mod FieldsBy
 pub mod Words
+pub mod Private

@@ -6,7 +6,7 @@ ghost use Rattle.std.specs.List.{list_all, AllByRecursion};
 ghost use Rattle.csicodec_tokens.specs.declared.param.CsiParam.TheVariants.{Integer};
 ghost use Rattle.csicodec_tokens.specs.declared.refusal.ParseRefusal.TheVariants.{Memory};
 ghost use Rattle.csicodec_tokens.specs.Fields.{Fields, RefusesFields, fields_of};
-ghost use Rattle.csicodec_tokens.specs.FieldsBy.{is_field_token, number_in, IsField, IsFirstField};
+ghost use Rattle.csicodec_tokens.specs.Private.FieldsBy.{is_field_token, number_in, IsField, IsFirstField};
 
 use crate::param::CsiParam;
 use crate::refusal::{NotSpelled, ParseRefusal};

@@ -8,7 +8,7 @@ ghost use Rattle.csicodec_tokens.specs.declared.reader.ReadError.TheVariants.{Me
 ghost use Rattle.csicodec_tokens.specs.Digits.{IsDigit, largest};
 ghost use Rattle.csicodec_tokens.specs.Sequence.{Reads};
 ghost use Rattle.csicodec_tokens.specs.Fault.{FaultOf, Refuses};
-ghost use Rattle.csicodec_tokens.specs.Reading.{IsNumber, IsTooLarge, IsFirstToken, IsPart, HasRead, HasCounted};
+ghost use Rattle.csicodec_tokens.specs.Private.Reading.{IsNumber, IsTooLarge, IsFirstToken, IsPart, HasRead, HasCounted};
 
 use crate::param::CsiParam;
 use std::alloc::{AllocError, Global};

@@ -2,7 +2,7 @@
 ghost use Rattle.std.specs.Prelude.{◌≡◌, ◌≤◌, ◌++◌, [], ◌∷◌, ◌+ℤ◌, Some, length, pos};
 ghost use Rattle.std.specs.Fmt.{WritesOnOk, decimal, signed_decimal};
 ghost use Rattle.csicodec_tokens.specs.declared.param.CsiParam.{CsiParam};
-ghost use Rattle.csicodec_actions.specs.DeviceTexts.{device_behind, device_front, listed_text, terminal_front};
+ghost use Rattle.csicodec_actions.specs.Private.DeviceTexts.{device_behind, device_front, listed_text, terminal_front};
 ghost use Rattle.csicodec_actions.specs.Devices.{attribute_token, attributes_of, device_of};
 ghost use Rattle.csicodec_actions.specs.Table.Device.{written_device};
 ghost use Rattle.csicodec_actions.specs.Written.{written_text};

@@ -3,7 +3,7 @@ ghost use Rattle.std.specs.Prelude.{◌≡◌, ◌<◌, IfOk, OnErr, Some, drop,
 ghost use Rattle.std.specs.Option.{option_map};
 ghost use Rattle.csicodec_tokens.specs.Fields.{fields_of};
 ghost use Rattle.csicodec_actions.specs.FieldRows.{ahead_of_byte, numbers, value_or};
-ghost use Rattle.csicodec_actions.specs.FieldSteps.{field, has_field};
+ghost use Rattle.csicodec_actions.specs.Private.FieldSteps.{field, has_field};
 ghost use Rattle.csicodec_actions.specs.Kinds.{Count};
 
 use csicodec_base::{Cracked, CsiParam, OneBased, ParseRefusal};

@@ -3,8 +3,7 @@ ghost use Rattle.std.specs.Prelude.{◌≡◌, ◌<◌, IfErr, IfOk, OnErr, Some
 ghost use Rattle.std.specs.Option.{option_map};
 ghost use Rattle.csicodec_actions.specs.Actions.{Device as Devices};
 ghost use Rattle.csicodec_actions.specs.Devices.{graphics_of};
-ghost use Rattle.csicodec_actions.specs.FieldRows.{given, numbers};
-ghost use Rattle.csicodec_actions.specs.FieldSteps.{IsReadByFields};
+ghost use Rattle.csicodec_actions.specs.FieldRows.{IsReadByFields, given, numbers};
 ghost use Rattle.csicodec_actions.specs.Table.Graphics.{RefusesGraphics, as_graphics, graphics_behind, graphics_rows};
 
 use super::fields::{fields_in, number, numbers_behind};

@@ -2,8 +2,7 @@
 ghost use Rattle.std.specs.Prelude.{◌≡◌, IfOk, OnErr};
 ghost use Rattle.std.specs.Option.{option_map};
 ghost use Rattle.csicodec_actions.specs.Actions.{Window as Windows};
-ghost use Rattle.csicodec_actions.specs.FieldRows.{given};
-ghost use Rattle.csicodec_actions.specs.FieldSteps.{IsReadByFields};
+ghost use Rattle.csicodec_actions.specs.FieldRows.{IsReadByFields, given};
 ghost use Rattle.csicodec_actions.specs.Table.Window.{alone_rows, areas, as_window, two_rows, which_rows, windows};
 
 use super::fields::{ahead_of, fields_in, is_there, number, place};

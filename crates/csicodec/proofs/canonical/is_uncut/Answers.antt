@@ -1,7 +1,7 @@
 use Rattle.std.proofs.Common.{◌≡◌, false, refl, sym, ap, ◌∙◌, drop}
 use Rattle.std.proofs.lemmas.List.{take_rest}
 use Rattle.csicodec.specs.Groups.{has_odd}
-use Rattle.csicodec.specs.Steps.{front}
+use Rattle.csicodec.specs.Private.Steps.{front}
 use Rattle.csicodec.proofs.Unread.{uncut-told}
 use Rattle.csicodec.proofs.canonical.is_uncut.Goals as goal
 

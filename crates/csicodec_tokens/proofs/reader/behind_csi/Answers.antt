@@ -1,6 +1,6 @@
 use Rattle.std.proofs.Common.{[], ◌∷◌, ◌++◌, length, ap, subst, arith}
 use Rattle.std.proofs.lemmas.Result.{err_from_is_err_and}
-use Rattle.csicodec_tokens.specs.Reading.{IsPart}
+use Rattle.csicodec_tokens.specs.Private.Reading.{IsPart}
 use Rattle.csicodec_tokens.proofs.Tokens.{others_shorter}
 use Rattle.csicodec_tokens.proofs.Reading.{read_none, read_more, read_all}
 use Rattle.csicodec_tokens.proofs.reader.behind_csi.Goals as goal

@@ -1,6 +1,6 @@
 use Rattle.std.proofs.Common.{◌≤◌, List, length}
 use Rattle.csicodec_tokens.specs.declared.param.CsiParam.{CsiParam}
-use Rattle.csicodec_tokens.specs.Reading.{HasRead}
+use Rattle.csicodec_tokens.specs.Private.Reading.{HasRead}
 use Rattle.csicodec_tokens.proofs.reader.behind_csi.Given as goal
 
 -- some tokens were passed

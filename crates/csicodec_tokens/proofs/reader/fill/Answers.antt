@@ -2,7 +2,7 @@ use Rattle.std.proofs.Common.{◌∷◌, [], length, ap, subst, arith}
 use Rattle.std.proofs.lemmas.List.{length-append}
 use Rattle.std.proofs.lemmas.Result.{err_from_is_err_and}
 use Rattle.csicodec_tokens.specs.declared.param.CsiParam.TheVariants.{P}
-use Rattle.csicodec_tokens.specs.Reading.{IsPart, HasRead}
+use Rattle.csicodec_tokens.specs.Private.Reading.{IsPart, HasRead}
 use Rattle.csicodec_tokens.proofs.Tokens.{others_shorter}
 use Rattle.csicodec_tokens.proofs.Reading.{read_none, read_more, read_all, fault_refuses}
 use Rattle.csicodec_tokens.proofs.reader.fill.Goals as goal

@@ -1,5 +1,5 @@
 use Rattle.std.proofs.Common.{◌≤◌, length, vec_capacity}
-use Rattle.csicodec_tokens.specs.Reading.{HasRead}
+use Rattle.csicodec_tokens.specs.Private.Reading.{HasRead}
 use Rattle.csicodec_tokens.proofs.reader.fill.Given as goal
 
 abbrev pub invariant-loop-token : goal.invariant-loop-token

@@ -1,5 +1,5 @@
 use Rattle.std.proofs.Common.{length}
-use Rattle.csicodec_tokens.specs.Reading.{IsRun}
+use Rattle.csicodec_tokens.specs.Private.Reading.{IsRun}
 use Rattle.csicodec_tokens.proofs.reader.number_front.Given as goal
 
 abbrev pub invariant-loop-rest : goal.invariant-loop-rest

@@ -1,0 +1,5 @@
+-- What private steps say of each other. No promise rests on these files.
+pub mod Params
+pub mod MouseTexts
+pub mod DeviceTexts
+pub mod FieldSteps

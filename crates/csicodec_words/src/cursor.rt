@@ -29,8 +29,18 @@ impl Describe for Cursor {
             Cursor::LinePositionBackward(n) => counted(f, "VPB  cursor up", *n, "line"),
             Cursor::TabulationControl(control) => f.write_str(tabulation(control)),
             Cursor::TabulationClear(clear) => f.write_str(cleared(clear)),
-            Cursor::SetTopAndBottomMargins { top, bottom } => margins(f, "DECSTBM", top, bottom),
-            Cursor::SetLeftAndRightMargins { left, right } => margins(f, "DECSLRM", left, right),
+            Cursor::SetTopAndBottomMargins { top, bottom } => margins(
+                f,
+                "DECSTBM  margins at lines",
+                top,
+                bottom,
+            ),
+            Cursor::SetLeftAndRightMargins { left, right } => margins(
+                f,
+                "DECSLRM  margins at columns",
+                left,
+                right,
+            ),
             Cursor::SaveCursor => f.write_str("SCOSC  save the cursor's position"),
             Cursor::RestoreCursor => f.write_str("SCORC  restore the cursor's position"),
             Cursor::RequestActivePositionReport => f.write_str("DSR 6  ask where the cursor is"),
@@ -58,7 +68,7 @@ fn at<W: fmt::Write>(
     write!(f, "{name} line {line}, column {col}")
 }
 
-/// Margins; one of 4294967295 is the page's last line or column.
+/// Margins, of which 4294967295 is the page's last line or column.
 fn margins<W: fmt::Write>(
     f: &mut fmt::Formatter<W>,
     name: &'static str,
@@ -67,9 +77,9 @@ fn margins<W: fmt::Write>(
 ) -> fmt::Result {
     let (first, last) = (first.as_one_based(), last.as_one_based());
     if last == u32::MAX {
-        write!(f, "{name}  margins at {first} and at the end")
+        write!(f, "{name} {first} to the last")
     } else {
-        write!(f, "{name}  margins at {first} and {last}")
+        write!(f, "{name} {first} to {last}")
     }
 }
 
@@ -148,14 +158,14 @@ mod tests {
                     top: line,
                     bottom: last,
                 },
-                "DECSTBM  margins at 5 and at the end",
+                "DECSTBM  margins at lines 5 to the last",
             ),
             (
                 Cursor::SetLeftAndRightMargins {
                     left: line,
                     right: col,
                 },
-                "DECSLRM  margins at 5 and 7",
+                "DECSLRM  margins at columns 5 to 7",
             ),
             (Cursor::SaveCursor, "SCOSC  save the cursor's position"),
             (

@@ -29,12 +29,12 @@ pub use csicodec_actions::{
 pub use csicodec_base::{
     AnsiColor, Blink, ColorSpec, Cracked, CsiParam, CsiTail, CursorStyle, CursorTabulationControl,
     DecPrivateModeCode, DeviceAttributeCodes, EraseInDisplay, EraseInLine, Esc, EscCode, Font,
-    Intensity, KittyKeyboardFlags, Modifiers, MouseButtons, NotSpelled, OneBased, ParseRefusal,
-    ReadCsi, ReadError, Sgr, SgrCode, SrgbaTuple, TabulationClear, TerminalModeCode, Text,
-    Underline, VerticalAlign, behind_csi, read_csi, read_csi_into, sgr_front,
+    Intensity, KittyKeyboardFlags, Modifiers, MouseButtons, NotOneBased, NotSpelled, OneBased,
+    ParseRefusal, ReadCsi, ReadError, Sgr, SgrCode, SrgbaTuple, TabulationClear, TerminalModeCode,
+    Text, Underline, VerticalAlign, behind_csi, read_csi, read_csi_into, sgr_front,
 };
 pub use filter::{Filter, NormalForm, Rewrite, filter_all};
 pub use look::Look;
 pub use parser::{CSIParser, Run};
-pub use stream::{DecodeError, RunError, decode_all, encode_all, normalise, parse_all};
+pub use stream::{DecodeError, RunError, decode_all, encode, encode_all, normalise, parse_all};
 pub use tokens::Tokens;

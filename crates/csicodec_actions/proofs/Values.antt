@@ -98,9 +98,13 @@ number_or-good : (default n : ℕ) → IsOneBased n → number_or default (Integ
 number_or-good default zero h = absurd (omega (arith, h.above))
 number_or-good default (suc n) h = rw (lt-ltb (suc n) (2 ^ 32) h.fits) refl
 
+-- a number of 16 bits that finds no code
+pub own-number : {C M : Type 0} (number : C → ℕ) (all : List C) (coded : C → M) (own : ℕ → M) (n : ℕ) → n < 65536 → with_number number all (pos n) ≡ None
+    → Some (own n) ≡ code_or coded own (with_number number all (pos n)) (short (pos n))
+own-number number all coded own n fits none = rw (none, lt-ltb n 65536 fits) refl
+
 own-good : {C M : Type 0} (number : C → ℕ) (all : List C) (coded : C → M) (own : ℕ → M) (n : ℕ) → IsOwn number n → code_or coded own (with_number number all (pos n)) (short (pos n)) ≡ Some (own n)
-own-good number all coded own n h =
-    rw (none-found number all (pos n) (λ x same. h.own x (ap nat_abs same)), lt-ltb n 65536 h.fits) refl
+own-good number all coded own n h = sym (own-number number all coded own n h.fits (none-found number all (pos n) (λ x same. h.own x (ap nat_abs same))))
 
 dec-good : (m : DecPrivateMode) → GoodDec m → read Dec (pos (dec_number m)) ≡ Some m
 unfolding read

@@ -13,8 +13,8 @@ pub use csicodec_names::{
     VerticalAlign,
 };
 pub use csicodec_tokens::{
-    Cracked, CsiParam, CsiTail, NotSpelled, OneBased, ParseRefusal, ReadCsi, ReadError, Text,
-    behind_csi, read_csi, read_csi_into,
+    Cracked, CsiParam, CsiTail, NotOneBased, NotSpelled, OneBased, ParseRefusal, ReadCsi,
+    ReadError, Text, behind_csi, read_csi, read_csi_into,
 };
 pub use pieces::sgr_front;
 pub use ready::append_code;

@@ -6,7 +6,7 @@ ghost use Rattle.csicodec_names.specs.declared.color.ColorSpec.TheVariants as sp
 
 /// The names of the first 16 places of a terminal's palette. The first 8 are the colours that codes 30 to 37 and 40 to
 /// 47 set (ECMA-48, 8.3.117), the others the bright ones behind them, 90 to 97 and 100 to 107 (aixterm, xterm).
-#[derive(Clone, Copy, PartialEq, Eq, Debug)]
+#[derive(Clone, Copy, PartialEq, Eq, Hash, Debug)]
 pub enum AnsiColor {
     Black = 0,
     /// The red of ECMA-48.
@@ -71,7 +71,7 @@ impl AnsiColor {
 }
 
 /// A colour by its parts: red, green, blue and alpha, each 0 to 255. An alpha of 255 is opaque, 0 is unseen.
-#[derive(Clone, Copy, PartialEq, Eq, Debug)]
+#[derive(Clone, Copy, PartialEq, Eq, Hash, Debug)]
 pub struct SrgbaTuple(pub u8, pub u8, pub u8, pub u8);
 
 impl SrgbaTuple {
@@ -102,7 +102,7 @@ impl From<(u8, u8, u8, u8)> for SrgbaTuple {
 }
 
 /// Which colour a sequence asks for.
-#[derive(Clone, Copy, PartialEq, Eq, Debug)]
+#[derive(Clone, Copy, PartialEq, Eq, Hash, Debug)]
 pub enum ColorSpec {
     /// The terminal's own: of the ground codes 39 and 49 (ECMA-48), of an underline 59 (kitty, VTE).
     Default,
@@ -141,7 +141,7 @@ impl From<SrgbaTuple> for ColorSpec {
 }
 
 /// How strong the strokes of a character are (ECMA-48, 8.3.117).
-#[derive(Clone, Copy, PartialEq, Eq, Debug)]
+#[derive(Clone, Copy, PartialEq, Eq, Hash, Debug)]
 pub enum Intensity {
     /// Neither bold nor faint, code 22.
     Normal,
@@ -152,7 +152,7 @@ pub enum Intensity {
 }
 
 /// The line below a character: 21 and 24 are from ECMA-48, 8.3.117, the kinds behind a colon from kitty and VTE.
-#[derive(Clone, Copy, PartialEq, Eq, Debug)]
+#[derive(Clone, Copy, PartialEq, Eq, Hash, Debug)]
 pub enum Underline {
     /// No line, code 24 or `4:0`.
     None,
@@ -169,7 +169,7 @@ pub enum Underline {
 }
 
 /// Whether a character blinks, and how fast (ECMA-48, 8.3.117).
-#[derive(Clone, Copy, PartialEq, Eq, Debug)]
+#[derive(Clone, Copy, PartialEq, Eq, Hash, Debug)]
 pub enum Blink {
     /// Steady, code 25.
     None,
@@ -180,7 +180,7 @@ pub enum Blink {
 }
 
 /// Where on its line a character stands (mintty).
-#[derive(Clone, Copy, PartialEq, Eq, Debug)]
+#[derive(Clone, Copy, PartialEq, Eq, Hash, Debug)]
 pub enum VerticalAlign {
     /// On the line, code 75.
     BaseLine,

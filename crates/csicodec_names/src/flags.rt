@@ -7,7 +7,7 @@ use bitflags::{Flag, Flags};
 
 /// The keys that are held down while another key or a button is pressed. The bits of shift, meta and control in a report
 /// of the mouse are 4, 8 and 16 (xterm): twice these.
-#[derive(Clone, Copy, PartialEq, Eq, Debug)]
+#[derive(Clone, Copy, PartialEq, Eq, Hash, Debug)]
 pub struct Modifiers {
     bits: u16,
 }
@@ -65,7 +65,7 @@ impl Flags for Modifiers {
 }
 
 /// The buttons of a mouse that are held down, and the turns of its wheels.
-#[derive(Clone, Copy, PartialEq, Eq, Debug)]
+#[derive(Clone, Copy, PartialEq, Eq, Hash, Debug)]
 pub struct MouseButtons {
     bits: u8,
 }
@@ -141,7 +141,7 @@ impl Flags for MouseButtons {
 }
 
 /// What a program asks of the reports of keys (kitty's keyboard protocol, progressive enhancement).
-#[derive(Clone, Copy, PartialEq, Eq, Debug)]
+#[derive(Clone, Copy, PartialEq, Eq, Hash, Debug)]
 pub struct KittyKeyboardFlags {
     bits: u16,
 }

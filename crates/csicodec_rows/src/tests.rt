@@ -7,6 +7,7 @@ mod graphics;
 mod lists;
 mod modes;
 mod pairs;
+mod parts;
 mod pieces;
 mod readme;
 mod reports;

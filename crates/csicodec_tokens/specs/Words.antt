@@ -32,6 +32,9 @@ read_error_text start error = placed start (place error) (reason error)
 abbrev pub not_spelled_text : List ℕ
 not_spelled_text = codes "not a spelling of any value"
 
+abbrev pub not_one_based_text : List ℕ
+not_one_based_text = codes "0 where counting begins at 1"
+
 abbrev pub parse_refusal_text : ParseRefusal → List ℕ
 parse_refusal_text refusal.NotSpelled = not_spelled_text
 parse_refusal_text refusal.Memory = codes "no memory"

@@ -12,5 +12,5 @@ mod words;
 pub use fields::Cracked;
 pub use param::{CsiParam, OneBased};
 pub use reader::{CsiTail, ReadCsi, ReadError, behind_csi, read_csi, read_csi_into};
-pub use refusal::{NotSpelled, ParseRefusal};
+pub use refusal::{NotOneBased, NotSpelled, ParseRefusal};
 pub use text::Text;

@@ -1,12 +1,12 @@
 //! The tokens of a parameter list, and how they print.
 
-ghost use Rattle.std.specs.Prelude.{◌≡◌, ◌+◌, ◌<◌, Some, Ok, IsNone, IfSome};
+ghost use Rattle.std.specs.Prelude.{◌≡◌, ◌+◌, ◌<◌, Some, Ok, IsNone, IfSome, OkIff};
 ghost use Rattle.std.specs.Fmt.{decimal};
 ghost use Rattle.std.specs.Option.{ok_or};
 ghost use Rattle.csicodec_tokens.specs.OneBased.{most, number_or};
 ghost use Rattle.csicodec_tokens.specs.Param.{number_of, token_text};
 
-use crate::refusal::NotSpelled;
+use crate::refusal::{NotOneBased, NotSpelled};
 use std::fmt;
 use std::marker::Model;
 
@@ -76,6 +76,15 @@ impl OneBased {
         OneBased { value }
     }
 
+    /// The number that counts from 1, of one that counts from 0: one more. 4294967295 has none, and whoever calls it shows
+    /// that it isn't that.
+    pub fn from_zero_based(value: u32) -> Self
+        requires { value < 4294967295 }
+        ensures { result ≡ value + 1 }
+    {
+        OneBased { value: value + 1 }
+    }
+
     /// The number of a parameter: 0 gives 1, and 1 to 4294967295 give themselves. `NotSpelled` for any other number,
     /// and for a byte.
     pub fn from_esc_param(param: &CsiParam) -> Result<Self, NotSpelled>
@@ -122,6 +131,20 @@ impl OneBased {
         ensures { result + 1 ≡ self.now }
     {
         self.value - 1
+    }
+}
+
+/// The number itself. 0 is refused.
+impl TryFrom<u32> for OneBased {
+    type Error = NotOneBased;
+
+    ghost try_from_gives = { λ value result. OkIff result (0 < value) value };
+
+    fn try_from(value: u32) -> Result<Self, NotOneBased> {
+        if value == 0 {
+            return Err(NotOneBased);
+        }
+        Ok(OneBased { value })
     }
 }
 

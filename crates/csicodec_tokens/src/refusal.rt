@@ -10,6 +10,10 @@ use std::alloc::AllocError;
 #[derive(Clone, Copy, Debug, PartialEq, Eq)]
 pub struct NotSpelled;
 
+/// The refusal of the number 0 where lines, columns and margins are counted from 1.
+#[derive(Clone, Copy, Debug, PartialEq, Eq)]
+pub struct NotOneBased;
+
 /// Why no value was made of a parameter list, where making one takes memory.
 #[derive(Clone, Copy, Debug, PartialEq, Eq)]
 pub enum ParseRefusal {

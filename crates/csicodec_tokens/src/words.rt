@@ -1,10 +1,10 @@
 //! What each refusal says.
 
 ghost use Rattle.std.specs.Prelude.{◌≡◌, Some};
-ghost use Rattle.csicodec_tokens.specs.Words.{not_spelled_text, parse_refusal_text, place, read_error_text, reason};
+ghost use Rattle.csicodec_tokens.specs.Words.{not_one_based_text, not_spelled_text, parse_refusal_text, place, read_error_text, reason};
 
 use crate::reader::ReadError;
-use crate::refusal::{NotSpelled, ParseRefusal};
+use crate::refusal::{NotOneBased, NotSpelled, ParseRefusal};
 use std::error::Error;
 use std::fmt;
 
@@ -60,6 +60,16 @@ impl fmt::Display for NotSpelled {
 }
 
 impl Error for NotSpelled {}
+
+impl fmt::Display for NotOneBased {
+    ghost output = { λ _. Some not_one_based_text };
+
+    fn fmt<W: fmt::Write>(&self, f: &mut fmt::Formatter<W>) -> fmt::Result {
+        f.write_str("0 where counting begins at 1")
+    }
+}
+
+impl Error for NotOneBased {}
 
 impl fmt::Display for ParseRefusal {
     ghost output = { λ refusal. Some (parse_refusal_text refusal) };

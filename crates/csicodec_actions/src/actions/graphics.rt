@@ -23,8 +23,8 @@ pub enum XtSmGraphicsItem {
 }
 
 impl XtSmGraphicsItem {
-    /// The item of a number.
-    pub(crate) fn of(number: i64) -> XtSmGraphicsItem
+    /// The item of a number: by its name where it has one.
+    pub fn of(number: i64) -> XtSmGraphicsItem
         ensures { result ≡ item_of number }
     {
         match number {
@@ -36,7 +36,7 @@ impl XtSmGraphicsItem {
     }
 
     /// The number of this item.
-    pub(crate) fn number(&self) -> i64
+    pub fn number(&self) -> i64
         ensures { result ≡ item_number self.now }
     {
         match self {

@@ -40,6 +40,28 @@ impl DecPrivateMode {
     }
 }
 
+/// The mode of a number: by its code where it has a name.
+impl From<u16> for DecPrivateMode {
+    ghost from_gives = { λ number mode. Some mode ≡ read Dec (pos number) };
+
+    fn from(number: u16) -> DecPrivateMode {
+        match DecPrivateModeCode::from_i64(i64::from(number)) {
+            Some(code) => DecPrivateMode::Code(code),
+            None => DecPrivateMode::Unspecified(number),
+        }
+    }
+}
+
+impl From<DecPrivateModeCode> for DecPrivateMode {
+    ghost use Rattle.csicodec_actions.specs.declared.actions.mode.DecPrivateMode.TheVariants as dec;
+
+    ghost from_gives = { λ code mode. mode ≡ dec.Code code };
+
+    fn from(code: DecPrivateModeCode) -> DecPrivateMode {
+        DecPrivateMode::Code(code)
+    }
+}
+
 /// A mode of the standard, or of a terminal that took a number beside it.
 #[derive(Clone, Copy, Debug, PartialEq, Eq)]
 pub enum TerminalMode {
@@ -68,6 +90,28 @@ impl TerminalMode {
             TerminalMode::Code(code) => code.to_i64() as u32,
             TerminalMode::Unspecified(number) => u32::from(*number),
         }
+    }
+}
+
+/// The mode of a number: by its code where it has a name.
+impl From<u16> for TerminalMode {
+    ghost from_gives = { λ number mode. Some mode ≡ read Terminal (pos number) };
+
+    fn from(number: u16) -> TerminalMode {
+        match TerminalModeCode::from_i64(i64::from(number)) {
+            Some(code) => TerminalMode::Code(code),
+            None => TerminalMode::Unspecified(number),
+        }
+    }
+}
+
+impl From<TerminalModeCode> for TerminalMode {
+    ghost use Rattle.csicodec_actions.specs.declared.actions.mode.TerminalMode.TheVariants as terminal;
+
+    ghost from_gives = { λ code mode. mode ≡ terminal.Code code };
+
+    fn from(code: TerminalModeCode) -> TerminalMode {
+        TerminalMode::Code(code)
     }
 }
 

@@ -15,7 +15,7 @@ use csicodec_base::Text;
 use std::fmt;
 
 impl MouseReport {
-    /// A `<` and the code: 12 bytes at most.
+    /// Appends what stands before the place, a `<`, the code and a `;`: 12 bytes at most. The text holds 5 at most before.
     pub fn write_code(&self, text: &mut Text)
         requires room { length text.old ≤ 5 }
         ensures { text.new ≡ text.old ++ (60 ∷ (decimal (mouse_code self.now) ++ 59 ∷ [])) }
@@ -35,7 +35,7 @@ impl MouseReport {
         text.push(b';');
     }
 
-    /// The place, and the final byte: 22 bytes at most.
+    /// Appends the place and the final byte: 12 bytes at most, as the numbers are of 16 bits. The text holds 5 at most before.
     pub fn write_place(&self, text: &mut Text)
         requires room { length text.old ≤ 5 }
         ensures { text.new ≡ text.old ++ mouse_place self.now }
@@ -68,7 +68,8 @@ impl fmt::Display for MouseReport {
     }
 }
 
-/// A path and its effect, as far as they aren't 0.
+/// Appends a path and its effect, as far as they aren't 0, and the final byte: 24 bytes at most. The text holds 5 at most
+/// before.
 pub fn write_path(text: &mut Text, path: &CharacterPath, effect: i64)
     requires room { length text.old ≤ 5 }
     ensures { text.new ≡ text.old ++ written_text (written_path path.now effect) }

@@ -13,12 +13,15 @@ use std::fmt;
 pub enum Font {
     /// The primary font, code 10.
     Default,
-    /// An alternative font by its number from 1 to 9, codes 11 to 19. Another number stands for no font.
+    /// An alternative font by its number from 1 to 9, codes 11 to 19. Another number stands for no font and has no text, not
+    /// even a final byte: `ESC [` alone is printed for it, which makes a terminal take what follows for the rest of the
+    /// sequence. `CSI::is_canonical` is false of it.
     Alternate(u8),
 }
 
 /// An attribute of text: what one parameter of `CSI .. m` sets (SGR, "select graphic rendition"; ECMA-48, 8.3.117).
-/// It holds for the characters that follow, until it is set anew.
+/// It holds for the characters that follow, until it is set anew. It prints its parameters and the `m`; `CSI` prints the
+/// `ESC [` too.
 #[derive(Clone, Copy, PartialEq, Eq, Debug)]
 pub enum Sgr {
     /// All attributes back to the default rendition.
@@ -52,7 +55,8 @@ pub enum Sgr {
 }
 
 impl Sgr {
-    /// Appends the bytes that set this attribute, those behind `ESC [` with the final `m`: 22 at most.
+    /// Appends the bytes that set this attribute, those behind `ESC [` with the final `m`: 22 at most. The text holds 10 at
+    /// most before.
     ///
     /// A true colour has colons between its parts and an empty colour space (ISO/IEC 8613-6), so that a terminal that
     /// doesn't know it drops it whole. An alternative font that is not 1 to 9 has no bytes at all, not even the `m`.

@@ -20,7 +20,8 @@ pub enum ParseRefusal {
     /// The list is none that a value of the type asked for is written as.
     NotSpelled,
 
-    /// Out of memory. The list is one that a value is written as.
+    /// Out of memory. `Cracked::parse` says it only of a list that has fields. `XtSmGraphics::parse` needs the fields before
+    /// it knows whether they are graphics, and so says it also of a list that it would refuse.
     Memory,
 }
 

@@ -10,7 +10,8 @@ use std::alloc::AllocError;
 use std::fmt;
 use std::marker::Model;
 
-/// At most 32 bytes of ASCII, for one control sequence.
+/// At most 32 bytes of ASCII, for one control sequence. Who writes into it shows that there is room; `encode` of `csicodec`
+/// appends an action of any length to a vector.
 ///
 /// It takes no memory but its own place. A sequence is built here number by number and then appended to a longer text
 /// by one copy, which costs a quarter of writing it there part by part. The longest sequence of two numbers below 2^32

@@ -10,8 +10,10 @@ use csicodec_base::{CursorStyle, CursorTabulationControl, OneBased, TabulationCl
 use std::fmt;
 
 /// What a sequence does with the cursor, with tab stops or with margins. The unit is the cell of one character. Counts
-/// are 1 or more where they were read, and a terminal takes 0 for 1; lines and columns are counted from 1, at the top
-/// and at the left.
+/// are 1 or more where they were read; a terminal takes 0 for 1, and so `Up(0)` is written `0A` and read back as `Up(1)`.
+/// Lines and columns are counted from 1, at the top and at the left.
+///
+/// It prints its parameters and the final character; `CSI` prints the `ESC [` too.
 #[derive(Clone, Copy, Debug, PartialEq, Eq)]
 pub enum Cursor {
     /// CUU (ECMA-48, 8.3.22): this many lines up.
@@ -97,7 +99,7 @@ pub enum Cursor {
 }
 
 impl Cursor {
-    /// Appends the parameters and the final byte: 22 bytes at most.
+    /// Appends the parameters and the final byte: 22 bytes at most. The text holds 10 at most before.
     pub fn write_to(&self, text: &mut Text)
         requires room { length text.old ≤ 10 }
         ensures { text.new ≡ text.old ++ written_text (written_cursor self.now) }

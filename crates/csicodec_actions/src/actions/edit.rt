@@ -8,7 +8,9 @@ use csicodec_base::{EraseInDisplay, EraseInLine, Text};
 use std::fmt;
 
 /// What a sequence does with the characters of the page. The unit is the cell of one character. Counts are 1 or more
-/// where they were read, and a terminal takes 0 for 1.
+/// where they were read; a terminal takes 0 for 1, and so `Repeat(0)` is written `0b` and read back as `Repeat(1)`.
+///
+/// It prints its parameter and the final character; `CSI` prints the `ESC [` too.
 #[derive(Clone, Copy, Debug, PartialEq, Eq)]
 pub enum Edit {
     /// ICH (ECMA-48, 8.3.64): this many blanks at the cursor, and what stood there moves to the right.
@@ -34,7 +36,7 @@ pub enum Edit {
 }
 
 impl Edit {
-    /// Appends the parameter and the final byte: 11 bytes at most.
+    /// Appends the parameter and the final byte: 11 bytes at most. The text holds 10 at most before.
     pub fn write_to(&self, text: &mut Text)
         requires room { length text.old ≤ 10 }
         ensures { text.new ≡ text.old ++ written_text (written_edit self.now) }

@@ -18,7 +18,8 @@ pub enum XtSmGraphicsItem {
     SixelGraphicsGeometry,
     /// 3: how large an image of ReGIS can be, in pixels.
     RegisGraphicsGeometry,
-    /// Any other number.
+    /// Any other number; `of` makes the one or the other of a number. 1 to 3 are read back as the items above, and a number
+    /// below 0 isn't read back.
     Unspecified(i64),
 }
 

@@ -23,6 +23,7 @@ pub enum KittyKeyboardMode {
 }
 
 impl KittyKeyboardMode {
+    /// The way of 1, 2 or 3, and none for another number.
     pub fn from_i64(number: i64) -> Option<Self>
         ensures { (mode : KittyKeyboardMode) → (result ≡ Some mode) ↔ (number ≡ pos (kitty_mode_number mode)) }
     {
@@ -34,6 +35,7 @@ impl KittyKeyboardMode {
         }
     }
 
+    /// The number of this way, 1 to 3.
     pub fn number(&self) -> u8
         ensures value { result ≡ kitty_mode_number self.now }
         ensures short { result < 10 }
@@ -46,7 +48,8 @@ impl KittyKeyboardMode {
     }
 }
 
-/// What the keyboard reports, set and asked for.
+/// What the keyboard reports, set and asked for: kitty's keyboard protocol. It prints its parameters and the final `u`;
+/// `CSI` prints the `ESC [` too.
 #[derive(Clone, Copy, Debug, PartialEq, Eq)]
 pub enum Keyboard {
     /// The flags change in this way.
@@ -83,6 +86,7 @@ pub enum CharacterPath {
 }
 
 impl CharacterPath {
+    /// The path of 0, 1 or 2, and none for another number.
     pub fn from_i64(number: i64) -> Option<Self>
         ensures { (path : CharacterPath) → (result ≡ Some path) ↔ (number ≡ pos (path_number path)) }
     {
@@ -94,6 +98,7 @@ impl CharacterPath {
         }
     }
 
+    /// The number of this path, 0 to 2.
     pub fn number(&self) -> u8
         ensures value { result ≡ path_number self.now }
         ensures short { result < 10 }
@@ -107,7 +112,7 @@ impl CharacterPath {
 }
 
 impl Keyboard {
-    /// Appends the parameters and the final byte: 16 bytes at most.
+    /// Appends the parameters and the final byte: 16 bytes at most. The text holds 10 at most before.
     pub fn write_to(&self, text: &mut Text)
         requires room { length text.old ≤ 10 }
         ensures { text.new ≡ text.old ++ written_text (written_keyboard self.now) }

@@ -14,7 +14,8 @@ use std::fmt;
 pub enum DecPrivateMode {
     /// One that has a name.
     Code(DecPrivateModeCode),
-    /// Any other number from 0 to 65535. The number of a mode that has a name is read back as its `Code`.
+    /// Any other number from 0 to 65535; `from` makes the one or the other of a number. The number of a mode that has a
+    /// name is read back as its `Code`.
     Unspecified(u16),
 }
 
@@ -67,7 +68,8 @@ impl From<DecPrivateModeCode> for DecPrivateMode {
 pub enum TerminalMode {
     /// One that has a name.
     Code(TerminalModeCode),
-    /// Any other number from 0 to 65535. The number of a mode that has a name is read back as its `Code`.
+    /// Any other number from 0 to 65535; `from` makes the one or the other of a number. The number of a mode that has a
+    /// name is read back as its `Code`.
     Unspecified(u16),
 }
 
@@ -156,7 +158,8 @@ impl XtermKeyModifierResource {
     }
 }
 
-/// What a sequence does with one mode of the terminal, and what xterm sends for a key with modifiers.
+/// What a sequence does with one mode of the terminal, and what xterm sends for a key with modifiers. It prints its
+/// parameters and the final character; `CSI` prints the `ESC [` too.
 #[derive(Clone, Copy, Debug, PartialEq, Eq)]
 pub enum Mode {
     /// DECSET (DEC VT510, xterm): the private mode is set.
@@ -179,7 +182,7 @@ pub enum Mode {
     XtermKeyMode {
         /// The keys.
         resource: XtermKeyModifierResource,
-        /// The new value, 0 or more where it was read from bytes; none sets the initial one.
+        /// The new value, 0 or more where it was read from bytes; none sets the initial one. One below 0 isn't read back.
         value: Option<i64>,
     },
 }
@@ -227,7 +230,7 @@ impl Change {
 }
 
 impl Mode {
-    /// Appends the parameters and the final byte: 24 bytes at most.
+    /// Appends the parameters and the final byte: 24 bytes at most. The text holds 7 at most before.
     pub fn write_to(&self, text: &mut Text)
         requires room { length text.old ≤ 7 }
         ensures { text.new ≡ text.old ++ written_text (written_mode self.now) }

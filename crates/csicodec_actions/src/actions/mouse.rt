@@ -29,7 +29,8 @@ pub enum MouseButton {
     None,
 }
 
-/// A report (xterm's ctlseqs, modes 1006 and 1016): the place, the button and what is held.
+/// A report (xterm's ctlseqs, modes 1006 and 1016): the place, the button and what is held. It prints its parameters and
+/// the final character; `CSI` prints the `ESC [` too.
 #[derive(Clone, Copy, PartialEq, Eq, Debug)]
 pub enum MouseReport {
     /// In cells.

@@ -6,7 +6,10 @@ use csicodec_base::OneBased;
 /// the operations 1 to 8 and their numbers come from dtterm), and DECRQCRA (DEC VT420).
 ///
 /// Sizes and places are of 64 bits and take any sign where a value is built by hand; what is read from a sequence is 0
-/// or more. An absent number is one that the sequence leaves out: the terminal then keeps that size as it is (xterm).
+/// or more, and one below 0 isn't read back. An absent number is one that the sequence leaves out: the terminal then keeps
+/// that size as it is (xterm).
+///
+/// It prints its parameters and the final character; `CSI` prints the `ESC [` too.
 #[derive(Clone, Copy, Debug, PartialEq, Eq)]
 pub enum Window {
     /// 1: the window is opened again, if it was an icon.

@@ -1,0 +1,89 @@
+//! The state of an emulator, which the actions of a stream change: a cursor on a page, and a pen. The program reads a
+//! stream, and tells both at its end.
+#![tactic(auto)]
+
+ghost use Rattle.std.specs.Prelude.{◌<◌};
+
+use csicodec::{CSI, ColorSpec, Cursor, DecodeError, Sgr, decode_all};
+use csicodec_spans::{Kind, Spans};
+use std::alloc::Global;
+use std::io::Read;
+
+/// Lines and columns are counted from 0.
+#[derive(Debug, Drop)]
+struct Screen {
+    lines: u32,
+    columns: u32,
+    line: u32,
+    column: u32,
+    pen: ColorSpec,
+    // Whatever comes, the cursor stays on the page.
+    ghost on_page: { (line < lines) × (column < columns) },
+}
+
+impl Screen {
+    fn go(&mut self, line: u32, column: u32) {
+        self.line = line.min(self.lines - 1);
+        self.column = column.min(self.columns - 1);
+    }
+
+    fn move_by(&mut self, cursor: &Cursor) {
+        let (line, column) = (self.line, self.column);
+        match cursor {
+            Cursor::Up(count) => self.go(line.saturating_sub(*count), column),
+            Cursor::Down(count) => self.go(line.saturating_add(*count), column),
+            Cursor::Right(count) => self.go(line, column.saturating_add(*count)),
+            Cursor::Left(count) => self.go(line, column.saturating_sub(*count)),
+            Cursor::Position { line, col } => self.go(line.as_zero_based(), col.as_zero_based()),
+            _ => {}
+        }
+    }
+
+    fn apply(&mut self, action: &CSI) {
+        match action {
+            CSI::Cursor(cursor) => self.move_by(cursor),
+            CSI::Sgr(Sgr::Reset) => self.pen = ColorSpec::Default,
+            CSI::Sgr(Sgr::Foreground(color)) => self.pen = *color,
+            _ => {}
+        }
+    }
+
+    fn show(&mut self, byte: u8) {
+        match byte {
+            b'\n' => self.go(self.line.saturating_add(1), self.column),
+            b'\r' => self.go(self.line, 0),
+            b' '..=b'~' => self.go(self.line, self.column.saturating_add(1)),
+            _ => {}
+        }
+    }
+
+    fn play(&mut self, alloc: Global, bytes: &[u8]) -> Result<(), DecodeError> {
+        for span in Spans::new(65536, bytes) {
+            match span.kind {
+                Kind::Text => span.bytes.iter().for_each(|byte| self.show(*byte)),
+                Kind::Csi => {
+                    for action in decode_all(alloc, span.bytes, false)? {
+                        self.apply(&action);
+                    }
+                }
+                _ => {}
+            }
+        }
+        Ok(())
+    }
+}
+
+fn main(rt: HostRuntime) -> anyhow::Result<()> {
+    let mut bytes = Vec::new(rt.alloc());
+    rt.stdin().read_to_end(&mut bytes)?;
+    let mut screen = Screen {
+        lines: 24,
+        columns: 80,
+        line: 0,
+        column: 0,
+        pen: ColorSpec::Default,
+    };
+    screen.play(rt.alloc(), &bytes)?;
+    println!(rt; "{screen:?}")?;
+    Ok(())
+}

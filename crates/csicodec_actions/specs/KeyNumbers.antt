@@ -10,6 +10,7 @@ kitty_mode_number way.AssignAll = 1
 kitty_mode_number way.SetSpecified = 2
 kitty_mode_number way.ClearSpecified = 3
 
+-- all ways: the list must be complete, a place for each variant
 abbrev pub kitty_modes : List KittyKeyboardMode
 kitty_modes = way.AssignAll ∷ way.SetSpecified ∷ way.ClearSpecified ∷ []
 
@@ -18,5 +19,6 @@ path_number path.ImplementationDefault = 0
 path_number path.LeftToRightOrTopToBottom = 1
 path_number path.RightToLeftOrBottomToTop = 2
 
+-- all paths: the list must be complete, a place for each variant
 abbrev pub paths : List CharacterPath
 paths = path.ImplementationDefault ∷ path.LeftToRightOrTopToBottom ∷ path.RightToLeftOrBottomToTop ∷ []

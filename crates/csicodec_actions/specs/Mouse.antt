@@ -27,7 +27,7 @@ button_code button.Button2Drag = 33
 button_code button.Button3Drag = 34
 button_code button.None = 35
 
--- before M and before m
+-- the buttons of reports before M, and of those before m: each variant stands in one of the two lists, or in both
 abbrev pub pressed : List MouseButton
 pressed =
     button.Button1Press

@@ -11,7 +11,7 @@ use Rattle.csicodec_names.specs.declared.color.VerticalAlign.TheVariants as alig
 use Rattle.csicodec_base.specs.declared.sgr.Font.TheVariants as font
 use Rattle.csicodec_names.specs.declared.color.ColorSpec.TheVariants as color
 
--- the attribute that each code sets alone; none for 4, 38, 48 and 58, which can have further tokens or need them
+-- the attribute that each code sets alone, a line for each variant; none for 4, 38, 48 and 58, which can have further tokens or need them
 abbrev pub action_of : SgrCode → Option Sgr
 action_of code.Reset = Some sgr.Reset
 action_of code.IntensityBold = Some (sgr.Intensity Bold)

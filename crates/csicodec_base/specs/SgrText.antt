@@ -32,7 +32,7 @@ true_color_text code c =
 abbrev pub font_text : ℕ → List ℕ
 font_text n = if nat_le 1 n && nat_le n 9 then decimal (n + 10) ++ codes "m" else []
 
--- the text of each attribute
+-- the text of each attribute, a line for each variant
 abbrev pub sgr_text : Sgr → List ℕ
 sgr_text sgr.Reset = codes "0m"
 sgr_text (sgr.Intensity Normal) = codes "22m"

@@ -3,7 +3,7 @@ use Rattle.std.specs.Prelude.{ℕ, ◌+◌, ◌*◌, List, codes, fold}
 use Rattle.csicodec_names.specs.declared.esc.EscCode.{EscCode}
 use Rattle.csicodec_names.specs.declared.esc.EscCode.TheVariants as code
 
--- the one or two characters that stand after ESC
+-- the one or two characters that stand after ESC, a line for each variant
 abbrev pub characters_of : EscCode → List ℕ
 characters_of code.FullReset = codes "c"
 characters_of code.Index = codes "D"

@@ -5,7 +5,7 @@ use Rattle.csicodec_names.specs.declared.modes.DecPrivateModeCode.TheVariants as
 use Rattle.csicodec_names.specs.declared.modes.TerminalModeCode.{TerminalModeCode}
 use Rattle.csicodec_names.specs.declared.modes.TerminalModeCode.TheVariants as terminal
 
--- private modes, of DEC and of other terminals
+-- private modes, of DEC and of other terminals, a line for each variant
 abbrev pub dec_mode_number : DecPrivateModeCode → ℕ
 dec_mode_number dec.ApplicationCursorKeys = 1
 dec_mode_number dec.DecAnsiMode = 2
@@ -81,7 +81,7 @@ dec_codes =
     ∷ dec.Win32InputMode
     ∷ []
 
--- modes of the standard (ECMA-48, 7.2), and two of terminals
+-- modes of the standard (ECMA-48, 7.2), and two of terminals, a line for each variant
 abbrev pub terminal_mode_number : TerminalModeCode → ℕ
 terminal_mode_number terminal.KeyboardAction = 2
 terminal_mode_number terminal.Insert = 4

@@ -3,7 +3,7 @@ use Rattle.std.specs.Prelude.{ℕ, List, [], ◌∷◌}
 use Rattle.csicodec_names.specs.declared.codes.SgrCode.{SgrCode}
 use Rattle.csicodec_names.specs.declared.codes.SgrCode.TheVariants as code
 
--- the number of each code
+-- the number of each code, a line for each variant
 abbrev pub number_of : SgrCode → ℕ
 number_of code.Reset = 0
 number_of code.IntensityBold = 1
@@ -77,7 +77,7 @@ number_of code.BackgroundBrightMagenta = 105
 number_of code.BackgroundBrightCyan = 106
 number_of code.BackgroundBrightWhite = 107
 
--- all of them
+-- all codes: the list must be complete, a line for each variant
 abbrev pub all_codes : List SgrCode
 all_codes =
     code.Reset ∷

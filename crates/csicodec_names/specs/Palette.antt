@@ -3,7 +3,7 @@ use Rattle.std.specs.Prelude.{ℕ}
 use Rattle.csicodec_names.specs.declared.color.AnsiColor.{AnsiColor}
 use Rattle.csicodec_names.specs.declared.color.AnsiColor.TheVariants as color
 
--- the place of each name: 0 to 7, then the bright ones
+-- the place of each name, a line for each variant: 0 to 7, then the bright ones
 abbrev pub place_of : AnsiColor → ℕ
 place_of color.Black = 0
 place_of color.Maroon = 1

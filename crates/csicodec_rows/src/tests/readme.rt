@@ -1,23 +1,30 @@
 //! The README's use as a library.
 
-use csicodec::{CSI, DecodeError, Sgr, decode_all, encode_all};
+use csicodec::{CSI, ReadError, Sgr, encode, read_csi_into};
 use std::alloc::Global;
 use std::test::Fail;
 
-/// The same stream without blinking.
-pub fn without_blink(alloc: Global, bytes: &[u8]) -> Result<Vec<u8>, DecodeError> {
-    let mut kept = Vec::new(alloc);
-    for action in decode_all(alloc, bytes, false)? {
-        if !matches!(&action, CSI::Sgr(Sgr::Blink(_))) {
-            kept.push(action)?;
+/// The same sequences without blinking.
+pub fn without_blink(alloc: Global, bytes: &[u8]) -> Result<Vec<u8>, ReadError> {
+    let mut out = Vec::new(alloc);
+    let mut params = Vec::new(alloc);
+    let mut rest = bytes;
+    'sequences: while !rest.is_empty() {
+        let tail = read_csi_into(&mut params, rest)?;
+        for action in CSI::parse(alloc, &params, false, tail.control) {
+            let action = action?;
+            if !matches!(&action, CSI::Sgr(Sgr::Blink(_))) {
+                encode(&action, &mut out)?;
+            }
         }
+        rest = tail.rest;
     }
-    Ok(encode_all(alloc, kept.as_slice())?)
+    Ok(out)
 }
 
 #[test]
 fn drops_blinking(rt: HostRuntime) -> Result<(), Fail> {
-    let kept = without_blink(rt.alloc(), b"\x1b[5;1m")?;
-    assert_eq!(rt; kept.as_slice(), b"\x1b[1m".as_slice());
+    let kept = without_blink(rt.alloc(), b"\x1b[5;1m\x1b[2J")?;
+    assert_eq!(rt; kept.as_slice(), b"\x1b[1m\x1b[2J".as_slice());
     Ok(())
 }

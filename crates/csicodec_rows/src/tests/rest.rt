@@ -90,13 +90,10 @@ fn looks_are_few(rt: HostRuntime) -> Result<(), Fail> {
         assert!(rt; actions == parse_all(rt.alloc(), &list, false, 'm')?);
         assert_eq!(rt; encode_all(rt.alloc(), &actions)?.len(), 4 * resets);
     }
-    let list = tokens_of(rt.alloc(), "1;1231231;3")?;
-    let (actions, looks) = counted(rt.alloc(), &list)?;
-    assert!(rt;
-        looks >= list.len() && looks <= 128 * (list.len() + 1),
-        "{looks}"
-    );
-    assert!(rt; actions == parse_all(rt.alloc(), &list, false, 'm')?);
+    let five = tokens_of(rt.alloc(), "1;1231231;3")?;
+    let (actions, looks) = counted(rt.alloc(), &five)?;
+    assert!(rt; (5..=128 * 6).contains(&looks), "{looks}");
+    assert!(rt; actions == parse_all(rt.alloc(), &five, false, 'm')?);
     Ok(())
 }
 

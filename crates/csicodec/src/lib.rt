@@ -33,8 +33,10 @@ pub use csicodec_base::{
     ParseRefusal, ReadCsi, ReadError, Sgr, SgrCode, SrgbaTuple, TabulationClear, TerminalModeCode,
     Text, Underline, VerticalAlign, behind_csi, read_csi, read_csi_into, sgr_front,
 };
-pub use filter::{Filter, NormalForm, Rewrite, filter_all};
+pub use filter::{Filter, NormalForm, Rewrite, append_spans, filter_all};
 pub use look::Look;
 pub use parser::{CSIParser, Run};
-pub use stream::{DecodeError, RunError, decode_all, encode, encode_all, normalise, parse_all};
+pub use stream::{
+    DecodeError, RunError, decode_all, encode, encode_all, normal_form, normalise, parse_all,
+};
 pub use tokens::Tokens;

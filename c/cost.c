@@ -1,0 +1,38 @@
+/* cost CALL [FILE]: makes a call 1,000 times on a short input, or once on a whole file, for callgrind to count. */
+#include "csicodec.h"
+
+#include <stdio.h>
+#include <string.h>
+
+static uint8_t in[1 << 22], out[1 << 23];
+static struct csicodec_action actions[1 << 10];
+static struct csicodec_param params[1 << 10];
+
+/* The sequences of the bytes in turn. */
+static size_t all_next(const uint8_t *bytes, size_t len, int encodes) {
+    size_t done = 0;
+    while (len) {
+        struct csicodec_front front = csicodec_next(bytes, len, actions, 1 << 10, params, 1 << 10);
+        if (front.status != CSICODEC_OK) return 0;
+        if (encodes) done += csicodec_encode(actions, front.actions, params, front.params, out, sizeof out).needed;
+        bytes += front.used, len -= front.used, done += front.actions;
+    }
+    return done;
+}
+
+static size_t run(const char *call, const uint8_t *bytes, size_t len) {
+    if (!strcmp(call, "next")) return all_next(bytes, len, 0);
+    if (!strcmp(call, "encode")) return all_next(bytes, len, 1);
+    if (!strcmp(call, "normalise")) return csicodec_normalise(bytes, len, out, sizeof out).needed;
+    return csicodec_next((const uint8_t *)"x", 1, actions, 1, params, 1).at;
+}
+
+int main(int count, char **words) {
+    if (count < 2) return 2;
+    FILE *file = count > 2 ? fopen(words[2], "rb") : NULL;
+    size_t len = file ? fread(in, 1, sizeof in, file) : 0, sum = 0;
+    if (file) fclose(file);
+    for (int i = 0; i < (len > 64 ? 1 : 1000); i++) sum += run(words[1], in, len);
+    printf("%zu bytes, %zu\n", len, sum);
+    return 0;
+}

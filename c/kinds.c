@@ -1,0 +1,75 @@
+/* Each kind of action with its text, and what the calls refuse. */
+#include "csicodec.h"
+
+#include <stdio.h>
+#include <string.h>
+
+#include "kinds.inc"
+
+enum { COUNT = sizeof kinds / sizeof kinds[0] };
+
+static uint8_t out[256];
+
+/* Whether the struct has the text, and is read from it. */
+static int is_kind(size_t i) {
+    const uint8_t *text = (const uint8_t *)kinds[i].text;
+    size_t len = strlen(kinds[i].text);
+    struct csicodec_encoded done = csicodec_encode(&kinds[i].action, 1, kinds[i].params, 2, out, sizeof out);
+    if (done.status != CSICODEC_OK || done.needed != len || memcmp(out, text, len)) return 0;
+    struct csicodec_judged judged = csicodec_is_canonical(&kinds[i].action, kinds[i].params, 2);
+    if (judged.status != CSICODEC_OK || judged.canonical != (uint32_t)kinds[i].read) return 0;
+    struct csicodec_action action;
+    struct csicodec_param params[16];
+    struct csicodec_front front = csicodec_next(text, len, &action, 1, params, 16);
+    if (front.status != CSICODEC_OK || front.actions != 1 || front.used != len) return 0;
+    if (!kinds[i].read) return 1;
+    if (memcmp(&action, &kinds[i].action, sizeof action) || front.params != action.len) return 0;
+    return memcmp(params, kinds[i].params, action.len * sizeof params[0]) == 0;
+}
+
+/* How a struct is refused that differs from one that is taken in one field. */
+static uint32_t status_of(struct csicodec_action action) {
+    struct csicodec_param params[1] = {{0, 1}};
+    struct csicodec_encoded answer = csicodec_encode(&action, 1, params, 1, out, sizeof out);
+    return answer.status;
+}
+
+static int refuses(void) {
+    struct csicodec_action up = {.kind = CSICODEC_CURSOR_UP, .first = 5};
+    struct csicodec_action wrong[] = {up, up, up, up, up, up, {.kind = 999}, {.kind = CSICODEC_SGR_FONT, .first = 10}};
+    wrong[0].first = -1, wrong[1].first = 4294967296, wrong[2].second = 1, wrong[3].len = 1, wrong[4].place = 2, wrong[5].absent = 1;
+    if (status_of(up) != CSICODEC_OK) return 0;
+    for (size_t i = 0; i < sizeof wrong / sizeof wrong[0]; i++)
+        if (status_of(wrong[i]) != CSICODEC_NO_ACTION) return 0;
+    struct csicodec_action tokens = {.kind = CSICODEC_UNSPECIFIED, .final_char = 'm', .place = SIZE_MAX, .len = 2};
+    if (status_of(tokens) != CSICODEC_NO_ACTION) return 0;
+    struct csicodec_action both[] = {up, {.kind = 999}};
+    struct csicodec_param none[1] = {{0, 0}};
+    struct csicodec_encoded answer = csicodec_encode(both, 2, none, 0, out, sizeof out);
+    return answer.status == CSICODEC_NO_ACTION && answer.at == 1;
+}
+
+static int places(void) {
+    const uint8_t *cut = (const uint8_t *)"\x1b[1m\x1b[3", *other = (const uint8_t *)"\x1b[1mx", *bad = (const uint8_t *)"\x1b[1\x07";
+    struct csicodec_normalised answer = csicodec_normalise(cut, 7, out, sizeof out);
+    if (answer.status != CSICODEC_TRUNCATED || answer.start != 4 || answer.at != 3) return 0;
+    answer = csicodec_normalise(other, 5, out, sizeof out);
+    if (answer.status != CSICODEC_NOT_CSI || answer.start != 4 || answer.at != 0) return 0;
+    answer = csicodec_normalise(cut, 0, out, sizeof out);
+    if (answer.status != CSICODEC_OK || answer.needed != 0) return 0;
+    struct csicodec_action action = {.kind = 7};
+    struct csicodec_param param;
+    struct csicodec_front front = csicodec_next(bad, 4, &action, 1, &param, 1);
+    return front.status == CSICODEC_BAD_BYTE && front.at == 3 && action.kind == 7;
+}
+
+int main(void) {
+    for (size_t i = 0; i < COUNT; i++) {
+        if (is_kind(i)) continue;
+        fprintf(stderr, "kinds: ESC %s isn't as promised\n", kinds[i].text + 1);
+        return 1;
+    }
+    if (!refuses() || !places()) return 2;
+    printf("%d kinds\n", (int)COUNT);
+    return 0;
+}

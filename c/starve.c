@@ -1,0 +1,88 @@
+/* Each allocation fails in turn: the call says so, and everything is given back. Link with
+ * -Wl,--wrap=malloc,--wrap=realloc,--wrap=free. */
+#include "csicodec.h"
+
+#include <stdio.h>
+#include <stdlib.h>
+#include <string.h>
+
+void *__real_malloc(size_t size);
+void *__real_realloc(void *block, size_t size);
+void __real_free(void *block);
+
+static long left = -1, held, refused;
+
+static int fails(void) {
+    int now = left >= 0 && left-- == 0;
+    refused += now;
+    return now;
+}
+
+void *__wrap_malloc(size_t size) {
+    void *block = fails() ? NULL : __real_malloc(size);
+    held += block != NULL;
+    return block;
+}
+
+void *__wrap_realloc(void *block, size_t size) {
+    if (!block) return __wrap_malloc(size);
+    return fails() ? NULL : __real_realloc(block, size);
+}
+
+void __wrap_free(void *block) {
+    held -= block != NULL;
+    __real_free(block);
+}
+
+/* An attribute, a colour and an unknown rest; extensions of a terminal; a window; graphics. */
+static const char *const texts[] = {"\x1b[1;38:2::1:2:3;0%m", "\x1b[?62;2;7;9;11;13c", "\x1b[4;40;30t", "\x1b[?2;1;9;8S"};
+static uint8_t out[256];
+static struct csicodec_action actions[16];
+static struct csicodec_param params[64];
+static struct csicodec_front front;
+
+static uint32_t normalise(const uint8_t *text, size_t len) {
+    return csicodec_normalise(text, len, out, sizeof out).status;
+}
+
+static uint32_t next(const uint8_t *text, size_t len) {
+    front = csicodec_next(text, len, actions, 16, params, 64);
+    return front.status;
+}
+
+static uint32_t encode(const uint8_t *text, size_t len) {
+    (void)text, (void)len;
+    return csicodec_encode(actions, front.actions, params, front.params, out, sizeof out).status;
+}
+
+static uint32_t judge(const uint8_t *text, size_t len) {
+    (void)text, (void)len;
+    return csicodec_is_canonical(&actions[front.actions - 1], params, front.params).status;
+}
+
+/* Whether the call answers for want of memory exactly where it was refused, with nothing put, until none is refused. */
+static int starves(uint32_t (*call)(const uint8_t *, size_t), const uint8_t *text, size_t len) {
+    for (long nth = 0; nth < 1000; nth++) {
+        memset(out, 0xaa, sizeof out);
+        left = nth, held = 0, refused = 0;
+        uint32_t status = call(text, len);
+        left = -1;
+        if (held) return 0;
+        if (!refused) return status == CSICODEC_OK;
+        if (status != CSICODEC_MEMORY || out[0] != 0xaa) return 0;
+    }
+    return 0;
+}
+
+int main(void) {
+    for (size_t i = 0; i < sizeof texts / sizeof texts[0]; i++) {
+        const uint8_t *text = (const uint8_t *)texts[i];
+        size_t len = strlen(texts[i]);
+        if (!starves(normalise, text, len) || !starves(next, text, len) || !starves(encode, text, len) || !starves(judge, text, len)) {
+            fprintf(stderr, "starve: ESC %s isn't as promised\n", texts[i] + 1);
+            return 1;
+        }
+    }
+    printf("each allocation was refused in turn\n");
+    return 0;
+}

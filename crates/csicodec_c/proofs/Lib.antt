@@ -1,0 +1,4 @@
+mod Laid
+mod Running
+mod Same
+mod Stand

@@ -1,0 +1,45 @@
+-- What the calls that take actions answer a C program.
+use Rattle.std.specs.Prelude.{ℕ, ◌≡◌, ◌⊎◌, ◌↔◌, ◌<◌, false, List, [], ◌∷◌, drop, take, length}
+use Rattle.csicodec_actions.specs.Actions.{Action}
+use Rattle.csicodec_actions.specs.Texts.{texts}
+use Rattle.csicodec.specs.Canonical.{Canonical}
+use Rattle.csicodec_c.specs.declared.canonical.Judged.{Judged}
+use Rattle.csicodec_c.specs.declared.encode.Encoded.{Encoded}
+use Rattle.csicodec_c.specs.declared.plain.Param.{Param}
+use Rattle.csicodec_c.specs.declared.plain.Plain.{Plain}
+use Rattle.csicodec_c.specs.Room.{Fills}
+use Rattle.csicodec_c.specs.Rows.{params_of, plain_of}
+
+abbrev pub refused : ℕ → ℕ → Encoded
+refused status at = record { status = status; at = at; needed = 0 }
+
+-- the struct is that of the action, whose tokens stand at its place
+abbrev pub Stands : Plain → List Param → Action → Type 0
+Stands plain params a = (plain_of plain.place a ≡ plain) × (params_of a ≡ take plain.len (drop plain.place params))
+
+-- so in turn
+abbrev pub AllStand : List Plain → List Param → List Action → Type 0
+AllStand [] params [] = Unit {0}
+AllStand [] params (a ∷ actions) = ⊥
+AllStand (plain ∷ plains) params [] = ⊥
+AllStand (plain ∷ plains) params (a ∷ actions) = Stands plain params a × AllStand plains params actions
+
+-- the length of the texts of these actions, which are put where they fit
+pub record IsDone (plains : List Plain) (params : List Param) (old new : List ℕ) (answer : Encoded) : Type 0 where
+  pub actions : List Action
+  pub stand : AllStand plains params actions
+  pub ok : answer.status ≡ 0
+  pub needed : answer.needed ≡ length (texts actions)
+  pub fills : Fills old new (texts actions)
+
+-- or a refusal, of memory or of one of the structs, and then nothing is put
+pub record IsRefused (plains : List Plain) (old new : List ℕ) (answer : Encoded) : Type 0 where
+  pub status : (answer.status ≡ 5) ⊎ ((answer.status ≡ 6) × (answer.at < length plains))
+  pub stays : new ≡ old
+
+abbrev pub judgement : ℕ → ℕ → Judged
+judgement status canonical = record { status = status; canonical = canonical }
+
+-- whether the action that the struct stands for is read back from its text
+abbrev pub IsJudged : Plain → List Param → Judged → Type 0
+IsJudged plain params answer = (a : Action) × Stands plain params a × (answer.status ≡ 0) × (answer.canonical ≡ 1 ↔ Canonical a false) × (answer.canonical < 2)

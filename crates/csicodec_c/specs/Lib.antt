@@ -1,0 +1,6 @@
+pub mod Answer
+pub mod Room
+pub mod Plain
+pub mod Rows
+pub mod Next
+pub mod Encode

@@ -1,0 +1,207 @@
+//! Plain structs as actions, and their texts.
+ghost use Rattle.std.specs.Prelude.{◌≡◌, ◌⊎◌, ◌<◌, List, [], drop, take, map, length, true, IfOk, IfErr, IfSome};
+ghost use Rattle.csicodec_actions.specs.Actions.{Action};
+ghost use Rattle.csicodec_actions.specs.Texts.{texts};
+ghost use Rattle.csicodec.specs.ActionOf.{action_of};
+ghost use Rattle.csicodec_c.specs.Encode.{AllStand, IsDone, IsRefused, Stands, refused};
+ghost use Rattle.csicodec_c.specs.Rows.{params_of};
+
+use crate::candidates::candidate;
+use crate::numbers::item;
+use crate::plain::{Param, Plain};
+use crate::room::fill;
+use crate::rows::plain_of;
+use crate::token::tokens;
+use csicodec::{
+    CSI, Device, DeviceAttributeFlags, DeviceAttributes, Unspecified, XtSmGraphics, encode_all,
+};
+use std::alloc::{AllocError, Global};
+
+/// How a writing of actions ended.
+#[repr(C)]
+#[derive(Clone, Copy, Debug, PartialEq, Eq)]
+pub struct Encoded {
+    /// 0 where it is done, 5 for want of memory, 6 for a struct that stands for no action.
+    pub status: u32,
+    /// Of 6, which of the structs.
+    pub at: usize,
+    /// Of 0, the length of the texts.
+    pub needed: usize,
+}
+
+fn refused(status: u32, at: usize) -> Encoded
+    ensures { result ≡ refused status at }
+{
+    Encoded {
+        status,
+        at,
+        needed: 0,
+    }
+}
+
+/// Whether two structs are the same.
+#[tactic(auto, using(crate::proofs::Same::same))]
+fn is_same(one: &Plain, other: &Plain) -> bool
+    ensures { result ≡ true → one.now ≡ other.now }
+{
+    one.kind == other.kind
+        && one.final_char == other.final_char
+        && one.first == other.first
+        && one.second == other.second
+        && one.top == other.top
+        && one.left == other.left
+        && one.bottom == other.bottom
+        && one.right == other.right
+        && one.place == other.place
+        && one.len == other.len
+        && one.red == other.red
+        && one.green == other.green
+        && one.blue == other.blue
+        && one.alpha == other.alpha
+        && one.modifiers == other.modifiers
+        && one.button == other.button
+        && one.absent == other.absent
+}
+
+/// The tokens of an action.
+fn part<T>(items: &[T], place: usize, len: usize) -> Option<&[T]>
+    ensures { IfSome result (λ part. part.now ≡ take len (drop place items.now)) }
+{
+    if place <= items.len() && len <= items.len() - place {
+        let behind = &items[place..];
+        Some(&behind[..len])
+    } else {
+        None
+    }
+}
+
+/// An unknown action of these tokens.
+fn unknown(alloc: Global, plain: &Plain, params: &[Param]) -> Result<Option<CSI>, AllocError>
+    ensures { IfOk result (λ r. IfSome r (λ csi. params_of (action_of csi) ≡ params.now)) }
+{
+    let Some(control) = char::from_u32(plain.final_char) else {
+        return Ok(None);
+    };
+    let Some(params) = tokens(alloc, params)? else {
+        return Ok(None);
+    };
+    let unspecified = Unspecified {
+        params,
+        parameters_truncated: false,
+        control,
+    };
+    Ok(Some(CSI::Unspecified(Box::new(alloc, unspecified)?)))
+}
+
+/// The primary device attributes with these extensions.
+fn extended(alloc: Global, plain: &Plain, params: &[Param]) -> Result<Option<CSI>, AllocError>
+    ensures { IfOk result (λ r. IfSome r (λ csi. params_of (action_of csi) ≡ params.now)) }
+{
+    let Some(attributes) = tokens(alloc, params)? else {
+        return Ok(None);
+    };
+    let flags = DeviceAttributeFlags { attributes };
+    let attributes = match plain.kind {
+        404 => DeviceAttributes::Vt220(flags),
+        405 => DeviceAttributes::Vt320(flags),
+        _ => DeviceAttributes::Vt420(flags),
+    };
+    let device = Device::DeviceAttributes(attributes);
+    Ok(Some(CSI::Device(Box::new(alloc, device)?)))
+}
+
+/// Graphics of these values.
+fn graphics(alloc: Global, plain: &Plain, params: &[Param]) -> Result<Option<CSI>, AllocError>
+    ensures { IfOk result (λ r. IfSome r (λ csi. params_of (action_of csi) ≡ params.now)) }
+{
+    let Some(value) = tokens(alloc, params)? else {
+        return Ok(None);
+    };
+    let graphics = XtSmGraphics {
+        item: item(plain.first),
+        action_or_status: plain.second,
+        value,
+    };
+    let device = Device::XtSmGraphics(graphics);
+    Ok(Some(CSI::Device(Box::new(alloc, device)?)))
+}
+
+/// An action of the struct's kind that has these tokens.
+fn made(alloc: Global, plain: &Plain, params: &[Param]) -> Result<Option<CSI>, AllocError>
+    ensures { IfOk result (λ r. IfSome r (λ csi. params_of (action_of csi) ≡ params.now)) }
+{
+    match plain.kind {
+        0 => unknown(alloc, plain, params),
+        404..=406 => extended(alloc, plain, params),
+        414 => graphics(alloc, plain, params),
+        _ if params.is_empty() => candidate(alloc, plain),
+        _ => Ok(None),
+    }
+}
+
+/// The action that a struct stands for.
+pub(crate) fn action(
+    alloc: Global,
+    params: &[Param],
+    plain: &Plain,
+) -> Result<Option<CSI>, AllocError>
+    ensures { IfOk result (λ r. IfSome r (λ csi. Stands plain.now params.now (action_of csi))) }
+{
+    let Some(items) = part(params, plain.place, plain.len) else {
+        return Ok(None);
+    };
+    let Some(csi) = made(alloc, plain, items)? else {
+        return Ok(None);
+    };
+    if is_same(&plain_of(plain.place, &csi), plain) {
+        Ok(Some(csi))
+    } else {
+        Ok(None)
+    }
+}
+
+/// The joined texts of the actions that the structs stand for, or which of these stands for none.
+#[tactic(auto, using(crate::proofs::Stand::stand_more_mapped))]
+fn texts_of(
+    alloc: Global,
+    plains: &[Plain],
+    params: &[Param],
+) -> Result<Result<Vec<u8>, usize>, AllocError>
+    ensures texts { IfOk result (λ r. IfOk r (λ all. (actions : List Action) × AllStand plains.now params.now actions × (all.items ≡ texts actions))) }
+    ensures within { IfOk result (λ r. IfErr r (λ at. at < length plains.now)) }
+{
+    let mut actions = Vec::new(alloc);
+    let mut at = 0;
+    for plain in plains {
+        let Some(csi) = action(alloc, params, plain)? else {
+            return Ok(Err(at));
+        };
+        actions.push(csi)?;
+        at += 1;
+    }
+    Ok(Ok(encode_all(alloc, actions.as_slice())?))
+}
+
+/// Puts the texts of the actions that the structs stand for, where they fit.
+#[unsafe(no_mangle)]
+pub extern "C" fn csicodec_encode(
+    alloc: Global,
+    actions: &[Plain],
+    params: &[Param],
+    out: &mut [u8],
+) -> Encoded
+    ensures { IsDone actions.now params.now out.old out.new result ⊎ IsRefused actions.now out.old out.new result }
+{
+    match texts_of(alloc, actions, params) {
+        Ok(Ok(all)) => {
+            fill(out, all.as_slice());
+            Encoded {
+                status: 0,
+                at: 0,
+                needed: all.len(),
+            }
+        }
+        Ok(Err(at)) => refused(6, at),
+        Err(_) => refused(5, 0),
+    }
+}

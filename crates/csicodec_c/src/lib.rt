@@ -1,0 +1,19 @@
+//! The codec for C, and for every language that calls C.
+#![tactic(auto)]
+
+mod answer;
+mod candidates;
+mod canonical;
+mod encode;
+mod next;
+mod numbers;
+mod plain;
+mod room;
+mod rows;
+mod token;
+
+pub use answer::{Normalised, csicodec_normalise};
+pub use canonical::{Judged, csicodec_is_canonical};
+pub use encode::{Encoded, csicodec_encode};
+pub use next::{Front, csicodec_next};
+pub use plain::{Param, Plain};

@@ -1,0 +1,111 @@
+//! Tokens of a list, extensions of a terminal and values of graphics: what crosses as a `Param`, both ways.
+ghost use Rattle.std.specs.Prelude.{◌≡◌, ◌++◌, List, length, map, take, drop, IfOk, IfSome};
+ghost use Rattle.csicodec_c.specs.Plain.{attribute_param, param_of, value_param};
+ghost use Rattle.csicodec_c.specs.Room.{laid};
+ghost use Rattle.csicodec_c.specs.declared.plain.Param.{Param};
+
+use crate::numbers::attribute_token;
+use crate::plain::Param;
+use crate::room::put;
+use csicodec::{CsiParam, DeviceAttribute, DeviceAttributeCodes};
+use std::alloc::{AllocError, Global};
+
+/// What crosses as a `Param`.
+pub(crate) trait Token: Copy {
+    /// Its struct.
+    ghost crosses: { Self → Param };
+
+    fn to_param(self) -> Param
+        ensures { result ≡ crosses self };
+
+    /// What the struct stands for.
+    fn of_param(param: Param) -> Option<Self>
+        ensures { IfSome result (λ token. crosses token ≡ param) };
+}
+
+impl Token for i64 {
+    ghost crosses = { value_param };
+
+    fn to_param(self) -> Param {
+        Param {
+            kind: 0,
+            value: self,
+        }
+    }
+
+    fn of_param(param: Param) -> Option<i64> {
+        match param.kind {
+            0 => Some(param.value),
+            _ => None,
+        }
+    }
+}
+
+impl Token for CsiParam {
+    ghost crosses = { param_of };
+
+    fn to_param(self) -> Param {
+        match self {
+            CsiParam::Integer(value) => Param { kind: 0, value },
+            CsiParam::P(byte) => Param {
+                kind: 1,
+                value: i64::from(byte),
+            },
+        }
+    }
+
+    fn of_param(param: Param) -> Option<CsiParam> {
+        match param.kind {
+            0 => Some(CsiParam::Integer(param.value)),
+            1 => Some(CsiParam::P(u8::try_from(param.value).ok()?)),
+            _ => None,
+        }
+    }
+}
+
+impl Token for DeviceAttribute {
+    ghost crosses = { attribute_param };
+
+    fn to_param(self) -> Param {
+        attribute_token(self).to_param()
+    }
+
+    fn of_param(param: Param) -> Option<DeviceAttribute> {
+        if param.kind == 0 {
+            if let Some(code) = DeviceAttributeCodes::from_i64(param.value) {
+                return Some(DeviceAttribute::Code(code));
+            }
+        }
+        Some(DeviceAttribute::Unspecified(CsiParam::of_param(param)?))
+    }
+}
+
+/// Puts tokens behind those that are there, as many as there is room for. It answers the place behind them, unless
+/// there is none.
+pub(crate) fn put_all<T: Token>(room: &mut [Param], place: usize, tokens: &[T]) -> Option<usize>
+    ensures { IfSome result (λ end. (old before : List Param) → room.old ≡ laid old before → place ≡ length before →
+        (room.new ≡ laid old (before ++ map T.crosses tokens.now)) × (end ≡ length (before ++ map T.crosses tokens.now))) }
+{
+    let end = place.checked_add(tokens.len())?;
+    for (i, token) in tokens.iter().enumerate() {
+        put(room, place + i, token.to_param());
+    }
+    Some(end)
+}
+
+/// The tokens that structs stand for.
+pub(crate) fn tokens<T: Token + Drop>(
+    alloc: Global,
+    params: &[Param],
+) -> Result<Option<Vec<T>>, AllocError>
+    ensures { IfOk result (λ r. IfSome r (λ all. map T.crosses all.items ≡ params.now)) }
+{
+    let mut all = Vec::new(alloc);
+    for param in params {
+        let Some(token) = T::of_param(*param) else {
+            return Ok(None);
+        };
+        all.push(token)?;
+    }
+    Ok(Some(all))
+}

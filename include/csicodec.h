@@ -1,0 +1,191 @@
+/* csicodec: a typed codec for the control sequences (CSI) of terminals, for C99 and C++.
+ *
+ * A control sequence is ESC [, then parameters, then one final byte (ECMA-48, 5.4, in its 7-bit form). It stands for one or
+ * more actions; each action has a text, which is a control sequence of its own, its normal form.
+ *
+ * Every call keeps nothing: what it reads is read during the call, and what it answers is put into room that the caller
+ * lends, so there is nothing to free. Room may have a length of 0. No pointer may be null, not even with a length of 0, and
+ * what a call writes to may not overlap what it reads. Calls share nothing, so any threads may make them; no call may be
+ * made from a signal handler. Memory is taken with malloc and given back before the call returns.
+ *
+ * Link with libcsicodec_c.a and liblibc_c.a: cc -I include main.c libcsicodec_c.a liblibc_c.a */
+#ifndef CSICODEC_H
+#define CSICODEC_H
+
+#include <stddef.h>
+#include <stdint.h>
+
+#include "csicodec_kinds.h"
+
+#ifdef __cplusplus
+extern "C" {
+#endif
+
+/* How a call ended. */
+enum csicodec_status {
+    /* It is done. */
+    CSICODEC_OK = 0,
+    /* The bytes don't begin with ESC [. */
+    CSICODEC_NOT_CSI = 1,
+    /* A byte stands there that can't stand in a control sequence. */
+    CSICODEC_BAD_BYTE = 2,
+    /* A number is above 2^63 - 1. */
+    CSICODEC_NUMBER_TOO_LARGE = 3,
+    /* The bytes end before the final byte, and more bytes could make them a sequence. */
+    CSICODEC_TRUNCATED = 4,
+    /* malloc or realloc gave no memory. */
+    CSICODEC_MEMORY = 5,
+    /* A struct stands for no action: its kind is none, a number of it is out of its range, or a field without use isn't 0. */
+    CSICODEC_NO_ACTION = 6,
+    /* The mode of a filter is none of enum csicodec_filter_mode, or its limit is 0. */
+    CSICODEC_BAD_STATE = 7
+};
+
+/* Of a colour, what `first` is. */
+enum csicodec_color {
+    /* The terminal's own colour. */
+    CSICODEC_COLOR_DEFAULT = 0,
+    /* second: a place in the palette, 0 to 255. */
+    CSICODEC_COLOR_PALETTE = 1,
+    /* red, green, blue and alpha, each 0 to 255; 255 is opaque. */
+    CSICODEC_COLOR_TRUE = 2
+};
+
+/* What `absent` is: the sum of what is true. A number that is absent is 0. */
+enum csicodec_absent {
+    /* The sequence leaves `first` out. */
+    CSICODEC_ABSENT_FIRST = 1,
+    /* The sequence leaves `second` out. */
+    CSICODEC_ABSENT_SECOND = 2
+};
+
+/* The keys that are held while the mouse reports: the sum of these. */
+enum csicodec_modifiers {
+    CSICODEC_MODIFIERS_SHIFT = 2,
+    CSICODEC_MODIFIERS_ALT = 4,
+    CSICODEC_MODIFIERS_CTRL = 8
+};
+
+/* What a program asks of the reports of keys (kitty's keyboard protocol): the sum of these. */
+enum csicodec_kitty_keyboard_flags {
+    CSICODEC_KITTY_KEYBOARD_FLAGS_DISAMBIGUATE_ESCAPE_CODES = 1,
+    CSICODEC_KITTY_KEYBOARD_FLAGS_REPORT_EVENT_TYPES = 2,
+    CSICODEC_KITTY_KEYBOARD_FLAGS_REPORT_ALTERNATE_KEYS = 4,
+    CSICODEC_KITTY_KEYBOARD_FLAGS_REPORT_ALL_KEYS_AS_ESCAPE_CODES = 8,
+    CSICODEC_KITTY_KEYBOARD_FLAGS_REPORT_ASSOCIATED_TEXT = 16
+};
+
+/* What graphics are about: `first` of CSICODEC_DEVICE_XT_SM_GRAPHICS. It may be any other number. */
+enum csicodec_xt_sm_graphics_item {
+    CSICODEC_XT_SM_GRAPHICS_ITEM_NUMBER_OF_COLOR_REGISTERS = 1,
+    CSICODEC_XT_SM_GRAPHICS_ITEM_SIXEL_GRAPHICS_GEOMETRY = 2,
+    CSICODEC_XT_SM_GRAPHICS_ITEM_REGIS_GRAPHICS_GEOMETRY = 3
+};
+
+/* An action, in 64 bytes without gaps. */
+struct csicodec_action {
+    /* enum csicodec_kind: which action. The comment at the kind says what the other fields hold; what it doesn't name is 0. */
+    uint32_t kind;
+    /* Of CSICODEC_UNSPECIFIED, the final character, such as 'm'. */
+    uint32_t final_char;
+    /* A count, a line, a column, a mode, the number of an enumeration: what the kind says. */
+    int64_t first;
+    int64_t second;
+    /* Of an area, its first and last lines and columns, from 1. */
+    uint32_t top, left, bottom, right;
+    /* The tokens of the action are params[place] to params[place + len - 1]. */
+    size_t place;
+    size_t len;
+    /* Of a true colour. */
+    uint8_t red, green, blue, alpha;
+    /* Of a report of the mouse, enum csicodec_modifiers and enum csicodec_mouse_button. */
+    uint16_t modifiers;
+    uint8_t button;
+    /* enum csicodec_absent. */
+    uint8_t absent;
+};
+
+/* A token of a list, in 16 bytes without gaps. Extensions of a terminal are tokens, too, and so are the values of graphics,
+ * which are numbers. */
+struct csicodec_param {
+    /* 0 for a number, 1 for a byte such as ';'. */
+    uint64_t kind;
+    int64_t value;
+};
+
+struct csicodec_normalised {
+    /* CSICODEC_OK to CSICODEC_MEMORY. */
+    uint32_t status;
+    /* Of a refused sequence, where it begins. */
+    size_t start;
+    /* Of a refused sequence, the place of the fault, counted from start. */
+    size_t at;
+    /* Of CSICODEC_OK, the length of the normal form. */
+    size_t needed;
+};
+
+/* The normal form of len bytes, which are control sequences one after the other: each action a sequence of its own. It is
+ * put at out where needed <= room; else nothing is put, and a second call with that much room gives it. A refusal puts
+ * nothing. */
+struct csicodec_normalised csicodec_normalise(const uint8_t *bytes, size_t len, uint8_t *out, size_t room);
+
+struct csicodec_front {
+    /* CSICODEC_OK to CSICODEC_MEMORY. */
+    uint32_t status;
+    /* Of a refused sequence, the place of the fault. */
+    size_t at;
+    /* Of CSICODEC_OK, how many bytes the sequence has. */
+    size_t used;
+    /* Of CSICODEC_OK, how many actions it stands for: 1 or more. */
+    size_t actions;
+    /* Of CSICODEC_OK, how many tokens belong to them. */
+    size_t params;
+};
+
+/* The actions of the one control sequence at the front of len bytes. As many of them are put as there is room for, and as
+ * many of their tokens; where answer.actions > actions_room or answer.params > params_room, a second call with more room
+ * gives all. A sequence has no more actions, and no more tokens, than bytes. Go on at bytes + answer.used. A refusal puts
+ * nothing, but after CSICODEC_MEMORY the room may hold the first actions. */
+struct csicodec_front csicodec_next(const uint8_t *bytes, size_t len, struct csicodec_action *actions, size_t actions_room,
+                                    struct csicodec_param *params, size_t params_room);
+
+struct csicodec_encoded {
+    /* CSICODEC_OK, CSICODEC_MEMORY or CSICODEC_NO_ACTION. */
+    uint32_t status;
+    /* Of CSICODEC_NO_ACTION, the first of the structs that stands for no action. */
+    size_t at;
+    /* Of CSICODEC_OK, the length of the texts. */
+    size_t needed;
+};
+
+/* The joined texts of count actions, whose tokens are among params_count params. They are put at out where needed <= room;
+ * else, and after a refusal, nothing is put. */
+struct csicodec_encoded csicodec_encode(const struct csicodec_action *actions, size_t count,
+                                        const struct csicodec_param *params, size_t params_count, uint8_t *out, size_t room);
+
+struct csicodec_judged {
+    /* CSICODEC_OK, CSICODEC_MEMORY or CSICODEC_NO_ACTION. */
+    uint32_t status;
+    /* Of CSICODEC_OK, 1 where the action is read back, and 0 where it isn't. */
+    uint32_t canonical;
+};
+
+/* Whether the text of an action is read as this action and as nothing else. It is so of each action that csicodec_next
+ * gives, but for left and right margins from 1 to 4294967295 and requests for the terminal's parameters. */
+struct csicodec_judged csicodec_is_canonical(const struct csicodec_action *action, const struct csicodec_param *params,
+                                             size_t params_count);
+
+/* The sizes are those of the library. */
+#if defined(__cplusplus) && __cplusplus >= 201103L
+static_assert(sizeof(struct csicodec_action) == 64, "csicodec_action has 64 bytes");
+static_assert(sizeof(struct csicodec_param) == 16, "csicodec_param has 16 bytes");
+#else
+typedef char csicodec_action_has_64_bytes[sizeof(struct csicodec_action) == 64 ? 1 : -1];
+typedef char csicodec_param_has_16_bytes[sizeof(struct csicodec_param) == 16 ? 1 : -1];
+#endif
+
+#ifdef __cplusplus
+}
+#endif
+
+#endif

@@ -1,0 +1,226 @@
+//! A typed codec for the control sequences (CSI) of terminals, over a proved static library.
+//!
+//! ```
+//! use csicodec::{CSI, Intensity, Sgr, actions, encode};
+//!
+//! let all: Vec<CSI> = actions(b"\x1b[1;3m").collect::<Result<_, _>>()?;
+//! assert_eq!(all[0], CSI::Sgr(Sgr::Intensity(Intensity::Bold)));
+//! assert_eq!(encode(&all)?, b"\x1b[1m\x1b[3m");
+//! assert_eq!(all[1].to_string(), "\x1b[3m");
+//! # Ok::<(), csicodec::Error>(())
+//! ```
+#![deny(missing_docs)]
+
+mod actions;
+mod numbers;
+mod raw;
+mod rows;
+mod types;
+mod values;
+
+pub use actions::*;
+pub use types::*;
+pub use values::*;
+
+use std::fmt;
+
+/// Why bytes are no sequences one after the other, or actions have no texts. `start` is where the refused sequence begins,
+/// and `at` the place of the fault, counted from there.
+#[derive(Clone, Copy, Debug, PartialEq, Eq)]
+pub enum Error {
+    /// It doesn't begin with `ESC [`.
+    NotCsi {
+        /// Where the sequence begins.
+        start: usize,
+        /// The place of the fault, counted from there.
+        at: usize,
+    },
+    /// A byte stands there that can't stand in a control sequence.
+    BadByte {
+        /// Where the sequence begins.
+        start: usize,
+        /// The place of the fault, counted from there.
+        at: usize,
+    },
+    /// A number is above 2^63 - 1.
+    NumberTooLarge {
+        /// Where the sequence begins.
+        start: usize,
+        /// The place of the fault, counted from there.
+        at: usize,
+    },
+    /// The bytes end before the final byte.
+    Truncated {
+        /// Where the sequence begins.
+        start: usize,
+        /// The place of the fault, counted from there.
+        at: usize,
+    },
+    /// The C library gave no memory.
+    Memory,
+    /// The action at this place has no text: an alternative font that isn't 1 to 9.
+    NoAction {
+        /// Its place.
+        at: usize,
+    },
+}
+
+impl fmt::Display for Error {
+    fn fmt(&self, f: &mut fmt::Formatter<'_>) -> fmt::Result {
+        let (start, at, text) = match *self {
+            Error::NotCsi { start, at } => (start, at, "not a sequence"),
+            Error::BadByte { start, at } => (start, at, "bad byte"),
+            Error::NumberTooLarge { start, at } => (start, at, "number too large"),
+            Error::Truncated { start, at } => (start, at, "truncated"),
+            Error::Memory => return f.write_str("no memory"),
+            Error::NoAction { at } => return write!(f, "action {at} has no text"),
+        };
+        write!(f, "byte {}: {text}", start as u128 + at as u128)
+    }
+}
+
+impl std::error::Error for Error {}
+
+fn refusal(status: u32, start: usize, at: usize) -> Error {
+    match status {
+        1 => Error::NotCsi { start, at },
+        2 => Error::BadByte { start, at },
+        3 => Error::NumberTooLarge { start, at },
+        4 => Error::Truncated { start, at },
+        _ => Error::Memory,
+    }
+}
+
+/// The normal form of the bytes, which are control sequences one after the other: each action a sequence of its own.
+pub fn normalise(bytes: &[u8]) -> Result<Vec<u8>, Error> {
+    let mut out = vec![0; bytes.len() * 2 + 16];
+    loop {
+        let answer = raw::normalise(bytes, &mut out);
+        if answer.status != 0 {
+            return Err(refusal(answer.status, answer.start, answer.at));
+        }
+        let fits = answer.needed <= out.len();
+        out.resize(answer.needed, 0);
+        if fits {
+            return Ok(out);
+        }
+    }
+}
+
+/// An iterator of the actions of some bytes, in order. After an `Err` there are no more.
+pub struct Actions<'a> {
+    rest: &'a [u8],
+    start: usize,
+    actions: Vec<raw::Plain>,
+    params: Vec<raw::Param>,
+    given: usize,
+    count: usize,
+}
+
+/// The actions of the bytes, which are control sequences one after the other.
+pub fn actions(bytes: &[u8]) -> Actions<'_> {
+    Actions {
+        rest: bytes,
+        start: 0,
+        actions: vec![raw::Plain::default(); 16],
+        params: vec![raw::Param::default(); 16],
+        given: 0,
+        count: 0,
+    }
+}
+
+impl Actions<'_> {
+    /// The actions of the sequence at the front, into the two lists, which grow where they have no room.
+    fn read(&mut self) -> Result<(), Error> {
+        loop {
+            let answer = raw::next(self.rest, &mut self.actions, &mut self.params);
+            if answer.status != 0 {
+                self.rest = &[];
+                return Err(refusal(answer.status, self.start, answer.at));
+            }
+            if answer.actions <= self.actions.len() && answer.params <= self.params.len() {
+                self.rest = &self.rest[answer.used..];
+                self.start += answer.used;
+                self.given = 0;
+                self.count = answer.actions;
+                return Ok(());
+            }
+            let actions = answer.actions.max(self.actions.len());
+            self.actions.resize(actions, raw::Plain::default());
+            let params = answer.params.max(self.params.len());
+            self.params.resize(params, raw::Param::default());
+        }
+    }
+}
+
+impl Iterator for Actions<'_> {
+    type Item = Result<CSI, Error>;
+
+    fn next(&mut self) -> Option<Self::Item> {
+        while self.given == self.count {
+            if self.rest.is_empty() {
+                return None;
+            }
+            if let Err(error) = self.read() {
+                return Some(Err(error));
+            }
+        }
+        let plain = &self.actions[self.given];
+        self.given += 1;
+        let params = &self.params[plain.place..plain.place + plain.len];
+        let action = rows::action_of(plain, params).expect("the library makes no other struct");
+        Some(Ok(action))
+    }
+}
+
+fn encode_into(actions: &[CSI], out: &mut Vec<u8>) -> Result<(), Error> {
+    let mut params = Vec::new();
+    let plains: Vec<_> = actions
+        .iter()
+        .map(|action| rows::plain_of(action, &mut params))
+        .collect();
+    loop {
+        let answer = raw::encode(&plains, &params, out);
+        match answer.status {
+            0 => {}
+            6 => return Err(Error::NoAction { at: answer.at }),
+            _ => return Err(Error::Memory),
+        }
+        let fits = answer.needed <= out.len();
+        out.resize(answer.needed, 0);
+        if fits {
+            return Ok(());
+        }
+    }
+}
+
+/// The joined texts of the actions.
+pub fn encode(actions: &[CSI]) -> Result<Vec<u8>, Error> {
+    let mut out = vec![0; actions.len() * 12 + 16];
+    encode_into(actions, &mut out)?;
+    Ok(out)
+}
+
+impl CSI {
+    /// Whether the text of this value is read as this one value. It holds of all that is read, but for left and right margins
+    /// from 1 to 4294967295 and requests for the terminal's parameters. A mode, an extension or an item of graphics that is
+    /// given by a number counts as the one that has the number's name.
+    pub fn is_canonical(&self) -> Result<bool, Error> {
+        let mut params = Vec::new();
+        let plain = rows::plain_of(self, &mut params);
+        let answer = raw::is_canonical(&plain, &params);
+        match answer.status {
+            0 => Ok(answer.canonical == 1),
+            6 => Err(Error::NoAction { at: 0 }),
+            _ => Err(Error::Memory),
+        }
+    }
+}
+
+/// Writes the text: `ESC [`, the parameters and the final character.
+impl fmt::Display for CSI {
+    fn fmt(&self, f: &mut fmt::Formatter<'_>) -> fmt::Result {
+        let text = encode(std::slice::from_ref(self)).map_err(|_| fmt::Error)?;
+        f.write_str(std::str::from_utf8(&text).map_err(|_| fmt::Error)?)
+    }
+}

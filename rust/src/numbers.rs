@@ -1,0 +1,190 @@
+//! What stands as numbers and tokens in a struct, both ways.
+
+use crate::raw::{Param, Plain};
+use crate::{
+    ColorSpec, CsiParam, DeviceAttribute, DeviceAttributeCodes, DeviceAttributeFlags, Font,
+    KittyKeyboardFlags, Modifiers, MouseButton, OneBased, SrgbaTuple, Unspecified, XtSmGraphics,
+    XtSmGraphicsItem,
+};
+
+pub(crate) fn row(kind: u32, first: i64, second: i64) -> Plain {
+    Plain {
+        kind,
+        first,
+        second,
+        ..Plain::default()
+    }
+}
+
+pub(crate) fn sized_row(kind: u32, first: Option<i64>, second: Option<i64>) -> Plain {
+    Plain {
+        absent: u8::from(first.is_none()) + 2 * u8::from(second.is_none()),
+        ..row(kind, first.unwrap_or(0), second.unwrap_or(0))
+    }
+}
+
+pub(crate) fn first(plain: &Plain) -> Option<i64> {
+    (plain.absent & 1 == 0).then_some(plain.first)
+}
+
+pub(crate) fn second(plain: &Plain) -> Option<i64> {
+    (plain.absent & 2 == 0).then_some(plain.second)
+}
+
+pub(crate) fn report_row(
+    kind: u32,
+    x: u16,
+    y: u16,
+    button: MouseButton,
+    modifiers: Modifiers,
+) -> Plain {
+    Plain {
+        modifiers: modifiers.bits(),
+        button: button.to_i64() as u8,
+        ..row(kind, i64::from(x), i64::from(y))
+    }
+}
+
+pub(crate) fn color_row(kind: u32, color: &ColorSpec) -> Plain {
+    match *color {
+        ColorSpec::Default => row(kind, 0, 0),
+        ColorSpec::PaletteIndex(index) => row(kind, 1, i64::from(index)),
+        ColorSpec::TrueColor(SrgbaTuple(red, green, blue, alpha)) => Plain {
+            red,
+            green,
+            blue,
+            alpha,
+            ..row(kind, 2, 0)
+        },
+    }
+}
+
+pub(crate) fn color(plain: &Plain) -> Option<ColorSpec> {
+    Some(match plain.first {
+        0 => ColorSpec::Default,
+        1 => ColorSpec::PaletteIndex(plain.second.try_into().ok()?),
+        2 => ColorSpec::TrueColor(SrgbaTuple(plain.red, plain.green, plain.blue, plain.alpha)),
+        _ => return None,
+    })
+}
+
+/// An alternative font that isn't 1 to 9 has no text, and stands as a number that is refused.
+pub(crate) fn font_number(font: &Font) -> i64 {
+    match *font {
+        Font::Default => 0,
+        Font::Alternate(number @ 1..=9) => i64::from(number),
+        Font::Alternate(_) => -1,
+    }
+}
+
+pub(crate) fn font(number: i64) -> Option<Font> {
+    Some(match number {
+        0 => Font::Default,
+        _ => Font::Alternate(number.try_into().ok()?),
+    })
+}
+
+pub(crate) fn place(number: i64) -> Option<OneBased> {
+    OneBased::new(number.try_into().ok()?)
+}
+
+pub(crate) fn flags(number: i64) -> Option<KittyKeyboardFlags> {
+    Some(KittyKeyboardFlags::from_bits_retain(
+        number.try_into().ok()?,
+    ))
+}
+
+fn param_of(token: &CsiParam) -> Param {
+    match *token {
+        CsiParam::Integer(value) => Param { kind: 0, value },
+        CsiParam::P(byte) => Param {
+            kind: 1,
+            value: i64::from(byte),
+        },
+    }
+}
+
+fn token_of(param: &Param) -> CsiParam {
+    match param.kind {
+        0 => CsiParam::Integer(param.value),
+        _ => CsiParam::P(param.value as u8),
+    }
+}
+
+/// A row whose tokens go behind those that are there.
+fn with_tokens(row: Plain, tokens: impl Iterator<Item = Param>, params: &mut Vec<Param>) -> Plain {
+    let place = params.len();
+    params.extend(tokens);
+    let len = params.len() - place;
+    Plain { place, len, ..row }
+}
+
+pub(crate) fn unknown_row(unknown: &Unspecified, params: &mut Vec<Param>) -> Plain {
+    let row = Plain {
+        final_char: u32::from(unknown.control),
+        ..Plain::default()
+    };
+    with_tokens(row, unknown.params.iter().map(param_of), params)
+}
+
+impl Unspecified {
+    pub(crate) fn of(plain: &Plain, params: &[Param]) -> Option<Unspecified> {
+        Some(Unspecified {
+            params: params.iter().map(token_of).collect(),
+            control: char::from_u32(plain.final_char)?,
+        })
+    }
+}
+
+pub(crate) fn extended_row(
+    kind: u32,
+    flags: &DeviceAttributeFlags,
+    params: &mut Vec<Param>,
+) -> Plain {
+    let tokens = flags.attributes.iter().map(|attribute| match attribute {
+        DeviceAttribute::Code(code) => param_of(&CsiParam::Integer(code.to_i64())),
+        DeviceAttribute::Unspecified(token) => param_of(token),
+    });
+    with_tokens(row(kind, 0, 0), tokens, params)
+}
+
+pub(crate) fn extensions(params: &[Param]) -> DeviceAttributeFlags {
+    let attributes = params.iter().map(|param| {
+        let token = token_of(param);
+        match token {
+            CsiParam::Integer(number) => DeviceAttributeCodes::from_i64(number)
+                .map_or(DeviceAttribute::Unspecified(token), DeviceAttribute::Code),
+            CsiParam::P(_) => DeviceAttribute::Unspecified(token),
+        }
+    });
+    DeviceAttributeFlags {
+        attributes: attributes.collect(),
+    }
+}
+
+pub(crate) fn graphics_row(kind: u32, graphics: &XtSmGraphics, params: &mut Vec<Param>) -> Plain {
+    let item = match graphics.item {
+        XtSmGraphicsItem::NumberOfColorRegisters => 1,
+        XtSmGraphicsItem::SixelGraphicsGeometry => 2,
+        XtSmGraphicsItem::RegisGraphicsGeometry => 3,
+        XtSmGraphicsItem::Unspecified(number) => number,
+    };
+    let values = graphics.value.iter().map(|value| Param {
+        kind: 0,
+        value: *value,
+    });
+    with_tokens(row(kind, item, graphics.action_or_status), values, params)
+}
+
+pub(crate) fn graphics(plain: &Plain, params: &[Param]) -> Option<XtSmGraphics> {
+    Some(XtSmGraphics {
+        item: match plain.first {
+            1 => XtSmGraphicsItem::NumberOfColorRegisters,
+            2 => XtSmGraphicsItem::SixelGraphicsGeometry,
+            3 => XtSmGraphicsItem::RegisGraphicsGeometry,
+            number => XtSmGraphicsItem::Unspecified(number),
+        },
+        action_or_status: plain.second,
+        value: params.iter().map(|param| param.value).collect(),
+    })
+}

@@ -1,0 +1,184 @@
+//! The values that actions hold.
+
+use crate::{
+    CsiParam, DecPrivateMode, DecPrivateModeCode, DeviceAttribute, TerminalMode, TerminalModeCode,
+    XtSmGraphicsAction, XtSmGraphicsItem, XtSmGraphicsStatus,
+};
+use std::num::NonZeroU32;
+
+/// A number from 1 to 4294967295: a line, a column or a margin of the page, in cells, of which the first is 1.
+#[derive(Clone, Copy, Debug, PartialEq, Eq, Hash)]
+pub struct OneBased(NonZeroU32);
+
+impl OneBased {
+    /// This number; none for 0.
+    pub fn new(value: u32) -> Option<Self> {
+        NonZeroU32::new(value).map(OneBased)
+    }
+
+    /// The number, 1 to 4294967295.
+    pub fn as_one_based(&self) -> u32 {
+        self.0.get()
+    }
+
+    /// One less, for counting from 0: 0 to 4294967294.
+    pub fn as_zero_based(&self) -> u32 {
+        self.0.get() - 1
+    }
+}
+
+/// A colour as red, green, blue and alpha, each 0 to 255; an alpha of 255 is opaque.
+#[derive(Clone, Copy, Debug, PartialEq, Eq, Hash)]
+pub struct SrgbaTuple(
+    /// Red.
+    pub u8,
+    /// Green.
+    pub u8,
+    /// Blue.
+    pub u8,
+    /// Alpha.
+    pub u8,
+);
+
+macro_rules! flags {
+    ($(#[$doc:meta])* $name:ident: $($(#[$each:meta])* $flag:ident = $bits:literal),*) => {
+        $(#[$doc])*
+        #[derive(Clone, Copy, Debug, Default, PartialEq, Eq, Hash)]
+        pub struct $name {
+            bits: u16,
+        }
+
+        impl $name {
+            $($(#[$each])* pub const $flag: $name = $name { bits: $bits };)*
+
+            /// The bits.
+            pub fn bits(&self) -> u16 {
+                self.bits
+            }
+
+            /// The set with these bits, also those that have no name.
+            pub fn from_bits_retain(bits: u16) -> Self {
+                $name { bits }
+            }
+
+            /// Whether all of these are in the set.
+            pub fn contains(&self, other: Self) -> bool {
+                self.bits & other.bits == other.bits
+            }
+        }
+
+        impl std::ops::BitOr for $name {
+            type Output = Self;
+
+            fn bitor(self, other: Self) -> Self {
+                $name { bits: self.bits | other.bits }
+            }
+        }
+    };
+}
+
+flags! {
+    /// The keys that are held down while another key or a button is pressed.
+    Modifiers:
+    /// No key.
+    NONE = 0,
+    /// A shift key.
+    SHIFT = 2,
+    /// An alt key, or meta.
+    ALT = 4,
+    /// A control key.
+    CTRL = 8
+}
+
+flags! {
+    /// What a program asks of the reports of keys (kitty's keyboard protocol, progressive enhancement).
+    KittyKeyboardFlags:
+    /// Nothing: keys are sent as ever.
+    NONE = 0,
+    /// Keys whose bytes can be taken for those of another key, as Esc, are sent as control sequences.
+    DISAMBIGUATE_ESCAPE_CODES = 1,
+    /// It is told whether a key was pressed, repeated or released.
+    REPORT_EVENT_TYPES = 2,
+    /// The key is also told as it is with shift, and as it is on the base layout.
+    REPORT_ALTERNATE_KEYS = 4,
+    /// Keys that write text are sent as control sequences too.
+    REPORT_ALL_KEYS_AS_ESCAPE_CODES = 8,
+    /// The text that a key writes stands in its control sequence.
+    REPORT_ASSOCIATED_TEXT = 16
+}
+
+/// The extensions that a terminal says it has, in the order of its answer.
+#[derive(Clone, Debug, PartialEq, Eq, Hash)]
+pub struct DeviceAttributeFlags {
+    /// Each of them; one can stand there twice.
+    pub attributes: Vec<DeviceAttribute>,
+}
+
+/// XTSMGRAPHICS (xterm's ctlseqs): a request for what the terminal can draw, or its answer.
+#[derive(Clone, Debug, PartialEq, Eq, Hash)]
+pub struct XtSmGraphics {
+    /// What it is about.
+    pub item: XtSmGraphicsItem,
+    /// The number of the action, where it is a request, and of the status, where it is an answer. Nothing in the sequence
+    /// tells which of the two it is.
+    pub action_or_status: i64,
+    /// A number of colour registers, or a width and a height in pixels, where they are set or answered.
+    pub value: Vec<i64>,
+}
+
+impl XtSmGraphics {
+    /// What is done, where it is a request: `None` for a number that no action has.
+    pub fn action(&self) -> Option<XtSmGraphicsAction> {
+        XtSmGraphicsAction::from_i64(self.action_or_status)
+    }
+
+    /// What became of it, where it is an answer: `None` for a number that no status has.
+    pub fn status(&self) -> Option<XtSmGraphicsStatus> {
+        XtSmGraphicsStatus::from_i64(self.action_or_status)
+    }
+}
+
+/// A parameter list, or what is left of one, that none of the rules reads: nothing of it is lost.
+#[derive(Clone, Debug, PartialEq, Eq, Hash)]
+pub struct Unspecified {
+    /// The tokens, as they came. What is left behind private modes has a `?` ahead of it, so that its text means the same.
+    pub params: Vec<CsiParam>,
+    /// The final character.
+    pub control: char,
+}
+
+impl DecPrivateMode {
+    /// The mode of a number from 0 to 65535, and none for another one.
+    pub fn at(number: i64) -> Option<Self> {
+        Some(match DecPrivateModeCode::from_i64(number) {
+            Some(code) => DecPrivateMode::Code(code),
+            None => DecPrivateMode::Unspecified(number.try_into().ok()?),
+        })
+    }
+
+    /// The number of this mode.
+    pub fn number(&self) -> u32 {
+        match self {
+            DecPrivateMode::Code(code) => code.to_i64() as u32,
+            DecPrivateMode::Unspecified(number) => u32::from(*number),
+        }
+    }
+}
+
+impl TerminalMode {
+    /// The mode of a number from 0 to 65535, and none for another one.
+    pub fn at(number: i64) -> Option<Self> {
+        Some(match TerminalModeCode::from_i64(number) {
+            Some(code) => TerminalMode::Code(code),
+            None => TerminalMode::Unspecified(number.try_into().ok()?),
+        })
+    }
+
+    /// The number of this mode.
+    pub fn number(&self) -> u32 {
+        match self {
+            TerminalMode::Code(code) => code.to_i64() as u32,
+            TerminalMode::Unspecified(number) => u32::from(*number),
+        }
+    }
+}

@@ -63,13 +63,26 @@ static int places(void) {
     return front.status == CSICODEC_BAD_BYTE && front.at == 3 && action.kind == 7;
 }
 
+/* A stream in two steps, whose state is kept here. */
+static int filters(void) {
+    const uint8_t *stream = (const uint8_t *)"a\x1b[1;3mb\x1b[00";
+    struct csicodec_filtered answer = csicodec_filter(CSICODEC_FILTER_TEXT, 65536, stream, 12, out, sizeof out);
+    if (answer.status != CSICODEC_OK || answer.used != 8 || answer.mode != CSICODEC_FILTER_TEXT) return 0;
+    if (answer.needed != 10 || memcmp(out, "a\x1b[1m\x1b[3mb", 10)) return 0;
+    answer = csicodec_filter(answer.mode, 65536, (const uint8_t *)"\x1b[001A", 6, out, sizeof out);
+    if (answer.status != CSICODEC_OK || answer.used != 6 || answer.needed != 3 || memcmp(out, "\x1b[A", 3)) return 0;
+    answer = csicodec_filter(6, 65536, stream, 12, out, sizeof out);
+    if (answer.status != CSICODEC_BAD_STATE) return 0;
+    return csicodec_filter(0, 0, stream, 12, out, sizeof out).status == CSICODEC_BAD_STATE;
+}
+
 int main(void) {
     for (size_t i = 0; i < COUNT; i++) {
         if (is_kind(i)) continue;
         fprintf(stderr, "kinds: ESC %s isn't as promised\n", kinds[i].text + 1);
         return 1;
     }
-    if (!refuses() || !places()) return 2;
+    if (!refuses() || !places() || !filters()) return 2;
     printf("%d kinds\n", (int)COUNT);
     return 0;
 }

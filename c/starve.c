@@ -60,6 +60,10 @@ static uint32_t judge(const uint8_t *text, size_t len) {
     return csicodec_is_canonical(&actions[front.actions - 1], params, front.params).status;
 }
 
+static uint32_t filter(const uint8_t *text, size_t len) {
+    return csicodec_filter(CSICODEC_FILTER_TEXT, 64, text, len, out, sizeof out).status;
+}
+
 /* Whether the call answers for want of memory exactly where it was refused, with nothing put, until none is refused. */
 static int starves(uint32_t (*call)(const uint8_t *, size_t), const uint8_t *text, size_t len) {
     for (long nth = 0; nth < 1000; nth++) {
@@ -78,8 +82,10 @@ int main(void) {
     for (size_t i = 0; i < sizeof texts / sizeof texts[0]; i++) {
         const uint8_t *text = (const uint8_t *)texts[i];
         size_t len = strlen(texts[i]);
-        if (!starves(normalise, text, len) || !starves(next, text, len) || !starves(encode, text, len) || !starves(judge, text, len)) {
-            fprintf(stderr, "starve: ESC %s isn't as promised\n", texts[i] + 1);
+        uint32_t (*const calls[])(const uint8_t *, size_t) = {normalise, next, encode, judge, filter};
+        for (size_t call = 0; call < sizeof calls / sizeof calls[0]; call++) {
+            if (starves(calls[call], text, len)) continue;
+            fprintf(stderr, "starve: call %zu of ESC %s isn't as promised\n", call, texts[i] + 1);
             return 1;
         }
     }

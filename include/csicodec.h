@@ -175,6 +175,43 @@ struct csicodec_judged {
 struct csicodec_judged csicodec_is_canonical(const struct csicodec_action *action, const struct csicodec_param *params,
                                              size_t params_count);
 
+/* What the bytes before a place of a stream leave open there. */
+enum csicodec_filter_mode {
+    /* Nothing: characters are shown. A stream begins so. */
+    CSICODEC_FILTER_TEXT = 0,
+    /* An operating system command, OSC (ECMA-48, 8.3.89). */
+    CSICODEC_FILTER_OSC = 1,
+    /* A device control string, DCS (ECMA-48, 8.3.27). */
+    CSICODEC_FILTER_DCS = 2,
+    /* SOS, PM or APC (ECMA-48, 5.6). */
+    CSICODEC_FILTER_STR = 3,
+    /* A control sequence that went wrong, up to its final byte. */
+    CSICODEC_FILTER_BAD_CSI = 4,
+    /* An escape sequence that went wrong, up to its final byte. */
+    CSICODEC_FILTER_BAD_ESC = 5
+};
+
+struct csicodec_filtered {
+    /* CSICODEC_OK, CSICODEC_MEMORY or CSICODEC_BAD_STATE. */
+    uint32_t status;
+    /* Of CSICODEC_OK, enum csicodec_filter_mode: the mode of the next step. */
+    uint32_t mode;
+    /* Of CSICODEC_OK, how many of the bytes were used. */
+    size_t used;
+    /* Of CSICODEC_OK, the length of the text. */
+    size_t needed;
+};
+
+/* A step of a filter over any stream of a terminal: each control sequence of at most limit bytes comes in its normal form, and
+ * every other byte as it was. The state of the filter is the caller's: the mode, and the bytes that no step has used.
+ *
+ * The text of all spans of len bytes that are sure is put at out where needed <= room; else nothing is put, and the same
+ * step with that much room gives it. Bytes from answer.used on depend on what follows: they are fewer than limit, or than 3,
+ * and are passed again, ahead of those that come, in answer.mode. Where nothing comes any more they pass as they are.
+ * A limit of 65536 is what the program `csicodec filter` takes. How a stream is cut into steps doesn't matter. */
+struct csicodec_filtered csicodec_filter(uint32_t mode, size_t limit, const uint8_t *bytes, size_t len, uint8_t *out,
+                                         size_t room);
+
 /* The sizes are those of the library. */
 #if defined(__cplusplus) && __cplusplus >= 201103L
 static_assert(sizeof(struct csicodec_action) == 64, "csicodec_action has 64 bytes");

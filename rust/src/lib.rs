@@ -12,6 +12,7 @@
 #![deny(missing_docs)]
 
 mod actions;
+mod filter;
 mod numbers;
 mod raw;
 mod rows;
@@ -19,6 +20,7 @@ mod types;
 mod values;
 
 pub use actions::*;
+pub use filter::Filter;
 pub use types::*;
 pub use values::*;
 

@@ -59,6 +59,14 @@ pub(crate) struct Judged {
     pub(crate) canonical: u32,
 }
 
+#[repr(C)]
+pub(crate) struct Filtered {
+    pub(crate) status: u32,
+    pub(crate) mode: u32,
+    pub(crate) used: usize,
+    pub(crate) needed: usize,
+}
+
 const _: () = assert!(size_of::<Plain>() == 64 && size_of::<Param>() == 16);
 
 unsafe extern "C" {
@@ -84,6 +92,14 @@ unsafe extern "C" {
         params: *const Param,
         params_count: usize,
     ) -> Judged;
+    fn csicodec_filter(
+        mode: u32,
+        limit: usize,
+        bytes: *const u8,
+        len: usize,
+        out: *mut u8,
+        room: usize,
+    ) -> Filtered;
 }
 
 // The exports require nothing, so what is left to owe is what the slices' types say: each pointer and length is that of
@@ -125,4 +141,18 @@ pub(crate) fn encode(actions: &[Plain], params: &[Param], out: &mut [u8]) -> Enc
 pub(crate) fn is_canonical(action: &Plain, params: &[Param]) -> Judged {
     // SAFETY: as above.
     unsafe { csicodec_is_canonical(action, params.as_ptr(), params.len()) }
+}
+
+pub(crate) fn filter(mode: u32, limit: usize, bytes: &[u8], out: &mut [u8]) -> Filtered {
+    // SAFETY: as above.
+    unsafe {
+        csicodec_filter(
+            mode,
+            limit,
+            bytes.as_ptr(),
+            bytes.len(),
+            out.as_mut_ptr(),
+            out.len(),
+        )
+    }
 }

@@ -1,5 +1,5 @@
 -- Structs that stand for actions, and one more.
-use Rattle.std.proofs.Common.{◌≡◌, ℕ, ◌+◌, ◌<◌, List, [], ◌∷◌, ◌++◌, length, map, take, slice_index_or, subst, sym}
+use Rattle.std.proofs.Common.{ℕ, ◌+◌, ◌<◌, List, [], ◌∷◌, ◌++◌, length, map, take, slice_index_or, subst, sym}
 use Rattle.std.proofs.lemmas.List.{map-append, take_more}
 use Rattle.csicodec.specs.declared.actions.CSI.{CSI}
 use Rattle.csicodec.specs.ActionOf.{action_of}

@@ -4,3 +4,4 @@ pub mod Plain
 pub mod Rows
 pub mod Next
 pub mod Encode
+pub mod Filter

@@ -1,4 +1,4 @@
-use Rattle.std.proofs.Common.{◌≡◌, ◌++◌, ap, sym, ◌∙◌, length, map, take, append-nil, arith, length-append}
+use Rattle.std.proofs.Common.{◌++◌, ap, sym, ◌∙◌, map, take, append-nil, arith, length-append}
 use Rattle.std.proofs.lemmas.List.{length-map, length-take-le, take_all}
 use Rattle.csicodec_c.specs.Room.{laid}
 use Rattle.csicodec_c.proofs.Laid.{put_mapped}

@@ -1,0 +1,40 @@
+-- What a step of a filter answers a C program.
+use Rattle.std.specs.Prelude.{ℕ, ◌≡◌, ◌⊎◌, ◌≤◌, List, drop, length}
+use Rattle.csicodec_spans.specs.declared.table.Mode.{Mode}
+use Rattle.csicodec_spans.specs.declared.table.Mode.TheVariants as modes
+use Rattle.csicodec.specs.Filter.{NormalisesTo, Passes}
+use Rattle.csicodec_c.specs.declared.filter.Filtered.{Filtered}
+use Rattle.csicodec_c.specs.Room.{Fills}
+
+abbrev pub mode_number : Mode → ℕ
+mode_number modes.Text = 0
+mode_number modes.Osc = 1
+mode_number modes.Dcs = 2
+mode_number modes.Str = 3
+mode_number modes.BadCsi = 4
+mode_number modes.BadEsc = 5
+
+abbrev pub refused : ℕ → Filtered
+refused status = record { status = status; mode = 0; used = 0; needed = 0 }
+
+-- the text of the parts that are sure, which is put where it fits; the bytes behind them are held, in this mode
+pub record IsDone (number limit : ℕ) (bytes old new : List ℕ) (answer : Filtered) : Type 0 where
+  pub before : Mode
+  pub after : Mode
+  pub text : List ℕ
+  pub began : number ≡ mode_number before
+  pub ok : answer.status ≡ 0
+  pub mode : answer.mode ≡ mode_number after
+  pub within : answer.used ≤ length bytes
+  pub passes : Passes NormalisesTo limit before bytes text (drop answer.used bytes) after
+  pub needed : answer.needed ≡ length text
+  pub fills : Fills old new text
+
+-- why a state is none
+abbrev pub IsBadState : ℕ → ℕ → Type 0
+IsBadState number limit = (limit ≡ 0) ⊎ ((mode : Mode) → number ≡ mode_number mode → ⊥)
+
+-- or a refusal, and then nothing is put
+pub record IsRefused (number limit : ℕ) (old new : List ℕ) (answer : Filtered) : Type 0 where
+  pub why : (answer ≡ refused 5) ⊎ ((answer ≡ refused 7) × IsBadState number limit)
+  pub stays : new ≡ old

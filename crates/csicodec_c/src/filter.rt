@@ -1,0 +1,116 @@
+//! A step of a filter whose state the caller keeps.
+ghost use Rattle.std.specs.Prelude.{◌≡◌, ◌≤◌, ◌<◌, ◌⊎◌, ◌↔◌, List, ℕ, length, drop, Some, IfOk};
+ghost use Rattle.csicodec_spans.specs.declared.table.Mode.{Mode};
+ghost use Rattle.csicodec.specs.Filter.{NormalisesTo, Passes};
+ghost use Rattle.csicodec_c.specs.Filter.{IsDone, IsRefused, mode_number, refused};
+
+use crate::room::fill;
+use csicodec::{NormalForm, append_spans};
+use csicodec_spans::Mode;
+use std::alloc::{AllocError, Global};
+
+/// How a step of a filter ended.
+#[repr(C)]
+#[derive(Clone, Copy, Debug, PartialEq, Eq)]
+pub struct Filtered {
+    /// 0 where it is done, 5 for want of memory, 7 where the mode is none, or the limit is 0.
+    pub status: u32,
+    /// Of 0, the mode behind the bytes that were used.
+    pub mode: u32,
+    /// Of 0, how many bytes were used; those behind them are to come again ahead of the next ones.
+    pub used: usize,
+    /// Of 0, the length of the text.
+    pub needed: usize,
+}
+
+/// The text of the spans that are sure, how many bytes they are, and the mode behind them.
+#[derive(Drop)]
+struct Passed {
+    text: Vec<u8>,
+    used: usize,
+    mode: Mode,
+}
+
+fn refused(status: u32) -> Filtered
+    ensures { result ≡ refused status }
+{
+    Filtered {
+        status,
+        mode: 0,
+        used: 0,
+        needed: 0,
+    }
+}
+
+/// The mode of a number.
+fn mode_at(number: u32) -> Option<Mode>
+    ensures { (mode : Mode) → (result ≡ Some mode) ↔ (number ≡ mode_number mode) }
+{
+    match number {
+        0 => Some(Mode::Text),
+        1 => Some(Mode::Osc),
+        2 => Some(Mode::Dcs),
+        3 => Some(Mode::Str),
+        4 => Some(Mode::BadCsi),
+        5 => Some(Mode::BadEsc),
+        _ => None,
+    }
+}
+
+fn number_of(mode: Mode) -> u32
+    ensures { result ≡ mode_number mode }
+{
+    match mode {
+        Mode::Text => 0,
+        Mode::Osc => 1,
+        Mode::Dcs => 2,
+        Mode::Str => 3,
+        Mode::BadCsi => 4,
+        Mode::BadEsc => 5,
+    }
+}
+
+/// What the spans of the bytes that are sure become.
+fn pass(alloc: Global, mode: Mode, limit: usize, bytes: &[u8]) -> Result<Passed, AllocError>
+    requires { 0 < limit }
+    ensures within { IfOk result (λ p. p.used ≤ length bytes.now) }
+    ensures passes { IfOk result (λ p. (text : List ℕ) × Passes NormalisesTo limit mode bytes.now text (drop p.used bytes.now) p.mode × (p.text.items ≡ text)) }
+{
+    let mut rewrite = NormalForm::new(alloc);
+    let mut params = Vec::new(alloc);
+    let mut text = Vec::new(alloc);
+    let (used, mode) = append_spans(&mut rewrite, &mut params, limit, mode, bytes, &mut text)?;
+    Ok(Passed { text, used, mode })
+}
+
+/// Puts what the spans of the bytes that are sure become, where it fits: each control sequence in its normal form, and every
+/// other byte as it is.
+#[unsafe(no_mangle)]
+pub extern "C" fn csicodec_filter(
+    alloc: Global,
+    mode: u32,
+    limit: usize,
+    bytes: &[u8],
+    out: &mut [u8],
+) -> Filtered
+    ensures { IsDone mode limit bytes.now out.old out.new result ⊎ IsRefused mode limit out.old out.new result }
+{
+    let Some(mode) = mode_at(mode) else {
+        return refused(7);
+    };
+    if limit == 0 {
+        return refused(7);
+    }
+    match pass(alloc, mode, limit, bytes) {
+        Ok(passed) => {
+            fill(out, passed.text.as_slice());
+            Filtered {
+                status: 0,
+                mode: number_of(passed.mode),
+                used: passed.used,
+                needed: passed.text.len(),
+            }
+        }
+        Err(_) => refused(5),
+    }
+}

@@ -1,0 +1,51 @@
+//! Filtering a whole stream, as it comes.
+
+use crate::{Error, raw};
+use std::num::NonZeroUsize;
+
+/// A stream of a terminal that is rewritten as it comes: each control sequence comes in its normal form, and every other byte
+/// as it was. It doesn't matter how the stream is cut into the slices that are pushed.
+pub struct Filter {
+    limit: usize,
+    mode: u32,
+    pending: Vec<u8>,
+}
+
+impl Filter {
+    /// A stream of which nothing has come. A control sequence of more bytes than `limit` passes as it is.
+    pub fn new(limit: NonZeroUsize) -> Self {
+        Filter {
+            limit: limit.get(),
+            mode: 0,
+            pending: Vec::new(),
+        }
+    }
+
+    /// Takes the next bytes, and appends the texts of all that is sure now. What isn't is held: fewer bytes than the limit, or
+    /// than 3 where that is less. After an `Err`, which is `Error::Memory`, nothing is appended, and the bytes are held.
+    pub fn push(&mut self, bytes: &[u8], out: &mut Vec<u8>) -> Result<(), Error> {
+        self.pending.extend_from_slice(bytes);
+        let start = out.len();
+        let mut room = self.pending.len() * 2 + 16;
+        loop {
+            out.resize(start + room, 0);
+            let answer = raw::filter(self.mode, self.limit, &self.pending, &mut out[start..]);
+            if answer.status != 0 {
+                out.truncate(start);
+                return Err(Error::Memory);
+            }
+            if answer.needed <= room {
+                out.truncate(start + answer.needed);
+                self.mode = answer.mode;
+                self.pending.drain(..answer.used);
+                return Ok(());
+            }
+            room = answer.needed;
+        }
+    }
+
+    /// Appends what is held: nothing comes any more.
+    pub fn finish(self, out: &mut Vec<u8>) {
+        out.extend_from_slice(&self.pending);
+    }
+}

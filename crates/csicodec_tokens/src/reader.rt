@@ -72,6 +72,9 @@ impl From<AllocError> for ReadError {
 
 const LARGEST: u64 = i64::MAX as u64;
 
+// Numbers below this one take a further digit without a test, and it is itself part of one instruction.
+const FEW: u64 = 100_000_000;
+
 // The number with one more digit of that value, if it isn't too large.
 #[cold]
 fn with_last_digit(number: u64, value: u64) -> Option<u64>
@@ -92,7 +95,7 @@ fn with_digit(number: u64, digit: u8) -> Option<u64>
     ensures { MatchOption result (largest < 10 * number + (digit - 48)) (λ n. (n ≡ 10 * number + (digit - 48)) × (n ≤ largest)) }
 {
     let value = u64::from(digit - b'0');
-    if number < LARGEST / 10 {
+    if number < FEW {
         Some(10 * number + value)
     } else {
         with_last_digit(number, value)
@@ -133,17 +136,19 @@ fn part_front<'a>(bytes: &[u8], rest: &'a [u8]) -> Result<Part<'a>, ReadError>
     ensures fault { IfErr result (λ e. (list : List CsiParam) → HasRead bytes.now list rest.now → FaultOf bytes.now e) }
 {
     let at = bytes.len() - rest.len();
-    match rest {
-        [] => Err(ReadError::Truncated { at }),
-        [0x00..=0x1f, ..] => Err(ReadError::BadByte { at }),
-        [digit @ b'0'..=b'9', others @ ..] => match number_front(*digit, others) {
+    if let [digit @ b'0'..=b'9', others @ ..] = rest {
+        return match number_front(*digit, others) {
             Ok((number, behind)) => Ok(Part::Token(CsiParam::Integer(number as i64), behind)),
             Err(left) => Err(ReadError::NumberTooLarge {
                 at: bytes.len() - left.len(),
             }),
-        },
-        [byte @ b' '..=b'?', others @ ..] => Ok(Part::Token(CsiParam::P(*byte), others)),
+        };
+    }
+    match rest {
         [byte @ b'@'..=b'~', others @ ..] => Ok(Part::Final(*byte, others)),
+        [byte @ b' '..=b'?', others @ ..] => Ok(Part::Token(CsiParam::P(*byte), others)),
+        [] => Err(ReadError::Truncated { at }),
+        [0x00..=0x1f, ..] => Err(ReadError::BadByte { at }),
         [0x7f..=0xff, ..] => Err(ReadError::BadByte { at }),
     }
 }

@@ -13,4 +13,4 @@ pub use fields::Cracked;
 pub use param::{CsiParam, OneBased};
 pub use reader::{CsiTail, ReadCsi, ReadError, behind_csi, read_csi, read_csi_into};
 pub use refusal::{NotOneBased, NotSpelled, ParseRefusal};
-pub use text::Text;
+pub use text::{Text, TextBuffer};

@@ -6,7 +6,7 @@ ghost use Rattle.std.specs.Cmp.Lexicographic.{nat_list_eq_equiv, pointwise};
 ghost use Rattle.std.specs.Fmt.{decimal, signed_decimal};
 ghost use Rattle.std.specs.Vec.{VecUnchanged};
 
-use std::alloc::AllocError;
+use std::alloc::{AllocError, Global};
 use std::fmt;
 use std::marker::Model;
 
@@ -182,6 +182,147 @@ impl Text {
         out.truncate(end);
         Ok(())
     }
+}
+
+/// Bytes that short texts are appended to. Behind them it keeps memory ready, so that appending one is a test and a copy of
+/// a fixed length.
+#[derive(Drop)]
+pub struct TextBuffer {
+    bytes: Vec<u8>,
+    len: usize,
+}
+
+impl Model for TextBuffer {
+    ghost use Rattle.std.specs.Prelude.{ℕ, List, take, ◌≤◌, vec_len};
+
+    ghost Value = { List ℕ };
+
+    ghost view = { λ buffer. take buffer.len buffer.bytes.items };
+
+    ghost invariant = { λ buffer. buffer.len ≤ vec_len buffer.bytes };
+}
+
+impl TextBuffer {
+    /// With no bytes, and no memory.
+    pub fn new(alloc: Global) -> TextBuffer
+        ensures { result ≡ [] }
+    {
+        TextBuffer {
+            bytes: Vec::new(alloc),
+            len: 0,
+        }
+    }
+
+    /// With these bytes.
+    pub fn of(bytes: Vec<u8>) -> TextBuffer
+        ensures { result ≡ bytes.items }
+    {
+        let len = bytes.len();
+        TextBuffer { bytes, len }
+    }
+
+    /// The bytes.
+    pub fn as_slice(&self) -> &[u8]
+        ensures { result.now ≡ self.now }
+    {
+        &self.bytes[..self.len]
+    }
+
+    /// The bytes, without the memory behind them.
+    pub fn into_vec(self) -> Vec<u8>
+        ensures { result.items ≡ self }
+    {
+        let mut bytes = self.bytes;
+        bytes.truncate(self.len);
+        bytes
+    }
+
+    /// Drops the bytes, and keeps their memory.
+    pub fn clear(&mut self)
+        ensures { self.new ≡ [] }
+    {
+        self.len = 0;
+    }
+
+    /// Appends a text. On `Err`, out of memory, the bytes stay.
+    #[inline(always)]
+    pub fn push_text(&mut self, text: &Text) -> Result<(), AllocError>
+        ensures ok { OnOk result (self.new ≡ self.old ++ text.now) }
+        ensures err { OnErr result (self.new ≡ self.old) }
+    {
+        let len = self.len;
+        put(&mut self.bytes, len, &text.bytes, text.len)?;
+        self.len = len + text.len;
+        Ok(())
+    }
+
+    /// Appends the first `count` bytes of a text, by one copy of all. On `Err`, out of memory, the bytes stay.
+    #[inline(always)]
+    pub fn push_front(&mut self, text: &[u8; 8], count: usize) -> Result<(), AllocError>
+        requires { count ≤ 8 }
+        ensures ok { OnOk result (self.new ≡ self.old ++ take count text.now) }
+        ensures err { OnErr result (self.new ≡ self.old) }
+    {
+        let len = self.len;
+        put(&mut self.bytes, len, text, count)?;
+        self.len = len + count;
+        Ok(())
+    }
+
+    /// Appends any bytes. On `Err`, out of memory, the bytes stay.
+    pub fn push_slice(&mut self, more: &[u8]) -> Result<(), AllocError>
+        ensures ok { OnOk result (self.new ≡ self.old ++ more.now) }
+        ensures err { OnErr result (self.new ≡ self.old) }
+    {
+        let len = self.len;
+        if more.len() <= ROOM {
+            put(&mut self.bytes, len, more, more.len())?;
+        } else {
+            self.bytes.truncate(len);
+            self.bytes.extend_from_slice(more)?;
+        }
+        self.len = len + more.len();
+        Ok(())
+    }
+}
+
+/// The room that each append wants.
+const ROOM: usize = 32;
+
+/// The most that is made ready at once. A processor fills so much by plain writes, which cost less than the instruction for long fills.
+const MOST: usize = 1024;
+
+/// Writes a part behind the first bytes, of which its first `count` bytes are wanted.
+#[inline(always)]
+fn put(bytes: &mut Vec<u8>, len: usize, part: &[u8], count: usize) -> Result<(), AllocError>
+    requires within { len ≤ vec_len bytes.old }
+    requires short { length part.now ≤ 32 }
+    requires count { count ≤ length part.now }
+    ensures ok { OnOk result (take (len + count) bytes.new.items ≡ take len bytes.old.items ++ take count part.now) }
+    ensures room { OnOk result (len + count ≤ vec_len bytes.new) }
+    ensures err { OnErr result (take len bytes.new.items ≡ take len bytes.old.items) }
+    ensures stays { OnErr result (len ≤ vec_len bytes.new) }
+{
+    if bytes.len() - len < ROOM {
+        widen(bytes, len)?;
+    }
+    bytes[len..len + part.len()].copy_from_slice(part);
+    Ok(())
+}
+
+/// Makes some room ready behind the first bytes: at least 32 bytes, and more where there are many.
+#[cold]
+#[inline(never)]
+fn widen(bytes: &mut Vec<u8>, len: usize) -> Result<(), AllocError>
+    requires { len ≤ vec_len bytes.old }
+    ensures same { take len bytes.new.items ≡ take len bytes.old.items }
+    ensures within { len ≤ vec_len bytes.new }
+    ensures room { OnOk result (len + 32 ≤ vec_len bytes.new) }
+{
+    let Some(room) = len.checked_add(len.clamp(2 * ROOM, MOST)) else {
+        return Err(AllocError);
+    };
+    bytes.resize(room, 0)
 }
 
 impl Default for Text {

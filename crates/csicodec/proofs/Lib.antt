@@ -9,6 +9,7 @@ pub mod Taken
 pub mod Odd
 pub mod Suffixes
 pub mod Splits
+pub mod Streamed
 mod Escapes
 pub mod OneReading
 pub mod Spelling

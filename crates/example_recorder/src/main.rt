@@ -3,7 +3,7 @@
 //! The program reads control sequences, writes them in their normal form, and then a line with the counts.
 #![tactic(auto)]
 
-ghost use Rattle.std.specs.Prelude.{◌≡◌, ◌+◌, length};
+ghost use Rattle.std.specs.Prelude.{◌≡◌, length};
 ghost use Rattle.example_recorder.specs.Counts.{total};
 
 use csicodec::{CSI, decode_all, encode_all};

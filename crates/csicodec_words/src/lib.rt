@@ -13,6 +13,8 @@ mod keyboard;
 mod mode;
 mod mouse;
 mod sgr;
+#[cfg(test)]
+mod tests;
 mod window;
 
 pub use describe::{Describe, Described};

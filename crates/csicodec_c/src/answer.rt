@@ -11,7 +11,7 @@ use std::alloc::Global;
 #[derive(Clone, Copy, Debug, PartialEq, Eq)]
 pub struct Normalised {
     /// 0 where it is done; 1 where a byte is none of a sequence's first two, 2 for a byte that stands in no sequence,
-    /// 3 for a number that is too large, 4 for a sequence that is cut off, 5 for want of memory.
+    /// 3 for a number that is too large, 4 for a sequence that is cut off, 5 where memory ran out.
     pub status: u32,
     /// Of 1 to 4, where the sequence begins that is refused.
     pub start: usize,

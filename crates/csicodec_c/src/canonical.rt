@@ -10,7 +10,7 @@ use std::alloc::Global;
 #[repr(C)]
 #[derive(Clone, Copy, Debug, PartialEq, Eq)]
 pub struct Judged {
-    /// 0 where it is known, 5 for want of memory, 6 for a struct that stands for no action.
+    /// 0 where it is known, 5 where memory ran out, 6 for a struct that stands for no action.
     pub status: u32,
     /// Of 0, 1 where it is, and 0 where it isn't.
     pub canonical: u32,

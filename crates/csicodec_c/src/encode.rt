@@ -21,7 +21,7 @@ use std::alloc::{AllocError, Global};
 #[repr(C)]
 #[derive(Clone, Copy, Debug, PartialEq, Eq)]
 pub struct Encoded {
-    /// 0 where it is done, 5 for want of memory, 6 for a struct that stands for no action.
+    /// 0 where it is done, 5 where memory ran out, 6 for a struct that stands for no action.
     pub status: u32,
     /// Of 6, which of the structs.
     pub at: usize,

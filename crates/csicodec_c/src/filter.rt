@@ -13,7 +13,7 @@ use std::alloc::{AllocError, Global};
 #[repr(C)]
 #[derive(Clone, Copy, Debug, PartialEq, Eq)]
 pub struct Filtered {
-    /// 0 where it is done, 5 for want of memory, 7 where the mode is none, or the limit is 0.
+    /// 0 where it is done, 5 where memory ran out, 7 where the mode is none, or the limit is 0.
     pub status: u32,
     /// Of 0, the mode behind the bytes that were used.
     pub mode: u32,

@@ -188,3 +188,21 @@ VALUES = {
 }
 # What isn't read back as itself.
 NOT_READ = {("Device", "RequestTerminalParameters"), ("Mouse", "SGR1016")}
+
+# What the library's documentation says of itself alone, and what stands in its place in the package.
+OWN = [
+    (r" ?(It prints its|They print their) [^;]*; `CSI` prints the `ESC \[` too\.", ""),
+    (r"; `of` makes the one or the other of a (number|token)", ""),
+    (r" and has no text, not even a final byte: .*? of the sequence\. `CSI::is_canonical` is false of it\.", "."),
+]
+
+# What each button of the mouse is.
+BUTTONS = {
+    1: "the left one",
+    2: "the middle one",
+    3: "the right one",
+    4: "the wheel, up",
+    5: "the wheel, down",
+    6: "the wheel, to the left",
+    7: "the wheel, to the right",
+}

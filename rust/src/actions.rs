@@ -7,8 +7,8 @@ use crate::{
 };
 
 /// What a sequence does with the cursor, with tab stops or with margins. The unit is the cell of one character. Counts
-/// are 1 or more where they were read, and a terminal takes 0 for 1; lines and columns are counted from 1, at the top
-/// and at the left.
+/// are 1 or more where they were read; a terminal takes 0 for 1, and so `Up(0)` is written `0A` and read back as
+/// `Up(1)`. Lines and columns are counted from 1, at the top and at the left.
 #[derive(Clone, Copy, Debug, PartialEq, Eq, Hash)]
 pub enum Cursor {
     /// CUU (ECMA-48, 8.3.22): this many lines up.
@@ -94,7 +94,7 @@ pub enum Cursor {
 }
 
 /// What a sequence does with the characters of the page. The unit is the cell of one character. Counts are 1 or more
-/// where they were read, and a terminal takes 0 for 1.
+/// where they were read; a terminal takes 0 for 1, and so `Repeat(0)` is written `0b` and read back as `Repeat(1)`.
 #[derive(Clone, Copy, Debug, PartialEq, Eq, Hash)]
 pub enum Edit {
     /// ICH (ECMA-48, 8.3.64): this many blanks at the cursor, and what stood there moves to the right.
@@ -124,7 +124,8 @@ pub enum Edit {
 pub enum DecPrivateMode {
     /// One that has a name.
     Code(DecPrivateModeCode),
-    /// Any other number from 0 to 65535. The number of a mode that has a name is read back as its `Code`.
+    /// Any other number from 0 to 65535; `from` makes the one or the other of a number. The number of a mode that has a
+    /// name is read back as its `Code`.
     Unspecified(u16),
 }
 
@@ -133,7 +134,8 @@ pub enum DecPrivateMode {
 pub enum TerminalMode {
     /// One that has a name.
     Code(TerminalModeCode),
-    /// Any other number from 0 to 65535. The number of a mode that has a name is read back as its `Code`.
+    /// Any other number from 0 to 65535; `from` makes the one or the other of a number. The number of a mode that has a
+    /// name is read back as its `Code`.
     Unspecified(u16),
 }
 
@@ -196,7 +198,7 @@ pub enum Mode {
     XtermKeyMode {
         /// The keys.
         resource: XtermKeyModifierResource,
-        /// The new value, 0 or more where it was read from bytes; none sets the initial one.
+        /// The new value, 0 or more where it was read from bytes; none sets the initial one. One below 0 isn't read back.
         value: Option<i64>,
     },
 }
@@ -261,7 +263,7 @@ pub enum XtSmGraphicsItem {
     SixelGraphicsGeometry,
     /// 3: how large an image of ReGIS can be, in pixels.
     RegisGraphicsGeometry,
-    /// Any other number.
+    /// Any other number. 1 to 3 are read back as the items above, and a number below 0 isn't read back.
     Unspecified(i64),
 }
 
@@ -457,11 +459,12 @@ pub enum MouseReport {
     },
 }
 
-/// What is done to the window of a terminal, asked of it and answered: XTWINOPS (xterm's ctlseqs, "Window manipulation";
-/// the operations 1 to 8 and their numbers come from dtterm), and DECRQCRA (DEC VT420).
+/// What is done to the window of a terminal, asked of it and answered: XTWINOPS (xterm's ctlseqs, "Window
+/// manipulation"; the operations 1 to 8 and their numbers come from dtterm), and DECRQCRA (DEC VT420).
 ///
-/// Sizes and places are of 64 bits and take any sign where a value is built by hand; what is read from a sequence is 0
-/// or more. An absent number is one that the sequence leaves out: the terminal then keeps that size as it is (xterm).
+///  Sizes and places are of 64 bits and take any sign where a value is built by hand; what is read from a sequence is 0
+/// or more, and one below 0 isn't read back. An absent number is one that the sequence leaves out: the terminal then
+/// keeps that size as it is (xterm).
 #[derive(Clone, Copy, Debug, PartialEq, Eq, Hash)]
 pub enum Window {
     /// 1: the window is opened again, if it was an icon.
@@ -601,7 +604,7 @@ impl KittyKeyboardMode {
     }
 }
 
-/// What the keyboard reports, set and asked for.
+/// What the keyboard reports, set and asked for: kitty's keyboard protocol.
 #[derive(Clone, Copy, Debug, PartialEq, Eq, Hash)]
 pub enum Keyboard {
     /// The flags change in this way.
@@ -673,7 +676,12 @@ pub enum CsiParam {
 }
 
 /// One action of a control sequence (ECMA-48, 5.4). A sequence before `m`, `h` or `l` can
-/// stand for several, and so can one that saves or restores private modes.
+/// stand for several, and so can one that saves or restores private modes. It prints a sequence of its own, from `ESC [` on.
+///
+/// ```text
+/// CSI::from(Cursor::Up(2))                                      // "\x1b[2A"
+/// CSI::from(Mode::SetDecPrivateMode(DecPrivateMode::from(2004)))   // "\x1b[?2004h"
+/// ```
 #[derive(Clone, Debug, PartialEq, Eq, Hash)]
 pub enum CSI {
     /// SGR, select graphic rendition: an attribute of the text that follows.

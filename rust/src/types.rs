@@ -11,8 +11,8 @@ pub enum Font {
     Alternate(u8),
 }
 
-/// An attribute of text: what one parameter of `CSI .. m` sets (SGR, "select graphic rendition"; ECMA-48, 8.3.117).
-/// It holds for the characters that follow, until it is set anew.
+/// An attribute of text: what one parameter of `CSI .. m` sets (SGR, "select graphic rendition"; ECMA-48, 8.3.117). It
+/// holds for the characters that follow, until it is set anew.
 #[derive(Clone, Copy, Debug, PartialEq, Eq, Hash)]
 pub enum Sgr {
     /// All attributes back to the default rendition.

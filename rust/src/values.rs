@@ -1,8 +1,9 @@
 //! The values that actions hold.
 
 use crate::{
-    CsiParam, DecPrivateMode, DecPrivateModeCode, DeviceAttribute, TerminalMode, TerminalModeCode,
-    XtSmGraphicsAction, XtSmGraphicsItem, XtSmGraphicsStatus,
+    CSI, CsiParam, Cursor, DecPrivateMode, DecPrivateModeCode, Device, DeviceAttribute, Edit,
+    Keyboard, Mode, MouseReport, Sgr, TerminalMode, TerminalModeCode, Window, XtSmGraphicsAction,
+    XtSmGraphicsItem, XtSmGraphicsStatus,
 };
 use std::num::NonZeroU32;
 
@@ -182,3 +183,42 @@ impl TerminalMode {
         }
     }
 }
+
+/// The mode of a number: by its code where it has a name.
+impl From<u16> for DecPrivateMode {
+    fn from(number: u16) -> Self {
+        match DecPrivateModeCode::from_i64(i64::from(number)) {
+            Some(code) => DecPrivateMode::Code(code),
+            None => DecPrivateMode::Unspecified(number),
+        }
+    }
+}
+
+/// The mode of a number: by its code where it has a name.
+impl From<u16> for TerminalMode {
+    fn from(number: u16) -> Self {
+        match TerminalModeCode::from_i64(i64::from(number)) {
+            Some(code) => TerminalMode::Code(code),
+            None => TerminalMode::Unspecified(number),
+        }
+    }
+}
+
+/// Each part is an action.
+macro_rules! from_parts {
+    ($($part:ident as $variant:ident),*; boxed $($boxed:ident),*) => {
+        $(impl From<$part> for CSI {
+            fn from(part: $part) -> Self {
+                CSI::$variant(part)
+            }
+        })*
+        $(impl From<$boxed> for CSI {
+            fn from(part: $boxed) -> Self {
+                CSI::$boxed(Box::new(part))
+            }
+        })*
+    };
+}
+
+from_parts!(Sgr as Sgr, Cursor as Cursor, Edit as Edit, Mode as Mode, Keyboard as Keyboard, MouseReport as Mouse;
+    boxed Device, Window, Unspecified);

@@ -1,8 +1,9 @@
 //! Calls through the boundary.
 
 use csicodec::{
-    Blink, CSI, ColorSpec, CsiParam, Cursor, Error, Font, Intensity, OneBased, Sgr, SrgbaTuple,
-    Underline, Unspecified, VerticalAlign, Window, actions, encode, normalise,
+    Blink, CSI, ColorSpec, CsiParam, Cursor, DecPrivateMode, Error, Font, Intensity, Mode,
+    OneBased, Sgr, SrgbaTuple, Underline, Unspecified, VerticalAlign, Window, actions, encode,
+    normalise,
 };
 
 fn all(bytes: &[u8]) -> Vec<CSI> {
@@ -112,4 +113,12 @@ fn refusals() {
             Err(Error::NoAction { at: 1 })
         );
     }
+}
+
+#[test]
+fn parts_are_actions() {
+    assert_eq!(CSI::from(Cursor::Up(2)).to_string(), "\x1b[2A");
+    let mode = Mode::SetDecPrivateMode(DecPrivateMode::from(2004));
+    assert_eq!(CSI::from(mode).to_string(), "\x1b[?2004h");
+    assert_eq!(CSI::from(Window::RaiseWindow).to_string(), "\x1b[5t");
 }

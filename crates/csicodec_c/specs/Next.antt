@@ -25,7 +25,7 @@ refusal (reading.NumberTooLarge at) = refused 3 at
 refusal (reading.Truncated at) = refused 4 at
 refusal reading.Memory = refused 5 0
 
--- why bytes may be refused so: their own fault; want of memory only for a sequence
+-- why bytes may be refused so: their own fault; out of memory only for a sequence
 abbrev pub IsWhy : List ℕ → ReadError → Type 0
 IsWhy bytes reading.Memory = (list : List CsiParam) × (final : ℕ) × (rest : List ℕ) × Reads bytes list final rest
 IsWhy bytes error = FaultOf bytes error

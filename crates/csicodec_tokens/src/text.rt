@@ -319,7 +319,11 @@ fn widen(bytes: &mut Vec<u8>, len: usize) -> Result<(), AllocError>
     ensures within { len ≤ vec_len bytes.new }
     ensures room { OnOk result (len + 32 ≤ vec_len bytes.new) }
 {
-    let Some(room) = len.checked_add(len.clamp(2 * ROOM, MOST)) else {
+    if len < 2 * ROOM {
+        bytes.truncate(len);
+        return bytes.extend_from_slice(&[0; 2 * ROOM]);
+    }
+    let Some(room) = len.checked_add(len.min(MOST)) else {
         return Err(AllocError);
     };
     bytes.resize(room, 0)

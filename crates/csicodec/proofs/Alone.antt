@@ -4,15 +4,15 @@ use Rattle.std.proofs.lemmas.Bool.{cases_Bool}
 use Rattle.std.proofs.lemmas.Str.{encode_ascii}
 use Rattle.csicodec_tokens.specs.declared.param.CsiParam.{CsiParam}
 use Rattle.csicodec_tokens.specs.Sequence.{IsFinal, Spellable}
-use Rattle.csicodec.specs.declared.group.Group.{Group}
-use Rattle.csicodec.specs.declared.group.Group.TheVariants as groups
+use Rattle.csicodec_parser.specs.declared.group.Group.{Group}
+use Rattle.csicodec_parser.specs.declared.group.Group.TheVariants as groups
 use Rattle.csicodec_actions.specs.Actions.{Action, Sgr, Unspecified}
-use Rattle.csicodec.specs.Groups.{group, marked, has_odd}
-use Rattle.csicodec.specs.Cut.{body, IsStuck}
-use Rattle.csicodec.specs.Segments.{BodyActions, CutActions, ActionsIn, Actions}
-use Rattle.csicodec.specs.Canonical.{IsUncut, IsUnknownIn, Canonical}
+use Rattle.csicodec_parser.specs.Groups.{group, marked, has_odd}
+use Rattle.csicodec_parser.specs.Cut.{body, IsStuck}
+use Rattle.csicodec_parser.specs.Segments.{BodyActions, CutActions, ActionsIn, Actions}
+use Rattle.csicodec_parser.specs.Canonical.{IsUncut, IsUnknownIn, Canonical}
 use Rattle.csicodec_actions.specs.Ranges.{InRange}
-use Rattle.csicodec.proofs.GroupOf.{marked-body}
+use Rattle.csicodec_parser.proofs.GroupOf.{marked-body}
 use Rattle.csicodec.proofs.OneReading.{Alone}
 use Rattle.csicodec.proofs.Spelling.{spelling-alone}
 use Rattle.csicodec.proofs.SgrSpelling.{sgr-spelling}

@@ -3,14 +3,14 @@ use Rattle.std.proofs.Common.{ℕ, ◌≡◌, ◌<◌, ◌⊎◌, List, [], ◌�
 use Rattle.csicodec_tokens.specs.declared.param.CsiParam.{CsiParam}
 use Rattle.csicodec_tokens.specs.Sequence.{Seq}
 use Rattle.csicodec_actions.specs.Actions.{Action}
-use Rattle.csicodec.specs.Canonical.{Canonical}
+use Rattle.csicodec_parser.specs.Canonical.{Canonical}
 use Rattle.csicodec.specs.Decoding.{Joins, AreActions, Decodes}
 use Rattle.csicodec.specs.Exact.{Exact}
 use Rattle.csicodec_actions.specs.Ranges.{InRange}
-use Rattle.csicodec.specs.Segments.{Actions}
+use Rattle.csicodec_parser.specs.Segments.{Actions}
 use Rattle.csicodec_actions.specs.Texts.{text}
 use Rattle.csicodec.proofs.Alone.{canonical-alone}
-use Rattle.csicodec.proofs.Cuts.{actions_count}
+use Rattle.csicodec_parser.proofs.Cuts.{actions_count}
 use Rattle.csicodec.proofs.OneReading.{Alone, one_decoding}
 use Rattle.csicodec.proofs.Parsed.{parsed-kept}
 use Rattle.csicodec.proofs.RoundTrip.{alone-only}

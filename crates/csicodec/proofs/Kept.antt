@@ -34,7 +34,7 @@ use Rattle.csicodec_names.specs.declared.flags.Modifiers.{Modifiers}
 use Rattle.csicodec_actions.specs.Mouse.{pressed, released, is_release}
 use Rattle.csicodec_actions.specs.Good.{AllGood, IsReport, Good, GoodAttribute, IsOneBased}
 use Rattle.csicodec_actions.proofs.MouseCodes.{release-pressed, none-released}
-use Rattle.csicodec.specs.Canonical.{Canonical}
+use Rattle.csicodec_parser.specs.Canonical.{Canonical}
 use Rattle.csicodec_actions.specs.declared.actions.graphics.XtSmGraphicsItem.{XtSmGraphicsItem}
 use Rattle.csicodec_actions.specs.Kinds.{Any, Dec, GraphicsItem, Terminal, read}
 use Rattle.csicodec_actions.specs.Modes.{changed, switched}

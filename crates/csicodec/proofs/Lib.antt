@@ -1,12 +1,4 @@
 pub mod RowGroups
-pub mod Rests
-pub mod GroupOf
-pub mod Fronts
-pub mod Blocks
-pub mod Cuts
-pub mod NextLemmas
-pub mod Taken
-pub mod Odd
 pub mod Suffixes
 pub mod Splits
 pub mod Streamed
@@ -22,7 +14,6 @@ pub mod SgrKept
 pub mod Parsed
 pub mod Twins
 pub mod RoundTrip
-pub mod Unread
 pub mod Exactly
 pub mod Twice
 pub mod JoinedCuts

@@ -9,12 +9,12 @@ use Rattle.csicodec_actions.specs.declared.actions.mode.Mode.TheVariants as mode
 use Rattle.csicodec_actions.specs.declared.actions.mode.Switch.{Switch}
 use Rattle.csicodec_actions.specs.declared.actions.mode.Switch.TheVariants as switch
 use Rattle.csicodec_actions.specs.declared.actions.mode.TerminalMode.{TerminalMode}
-use Rattle.csicodec.specs.declared.group.Group.TheVariants as groups
+use Rattle.csicodec_parser.specs.declared.group.Group.TheVariants as groups
 use Rattle.csicodec_actions.specs.Actions.{Mode}
-use Rattle.csicodec.specs.Groups.{group, Piece}
+use Rattle.csicodec_parser.specs.Groups.{group, Piece}
 use Rattle.csicodec_actions.specs.Kinds.{Dec, Terminal}
 use Rattle.csicodec_actions.specs.Modes.{changed, switched, dec_number, terminal_number}
-use Rattle.csicodec.specs.Segments.{Actions}
+use Rattle.csicodec_parser.specs.Segments.{Actions}
 use Rattle.csicodec_actions.specs.Table.Mode.{written_mode}
 use Rattle.csicodec_actions.specs.Written.{tokens}
 use Rattle.csicodec_actions.proofs.Back.Mode.{dec-query-read, query-read, keys-read}

@@ -11,8 +11,8 @@ use Rattle.csicodec_actions.specs.Whole.{table, field_table, whole}
 use Rattle.csicodec_actions.proofs.AllFieldRows.{over-in}
 use Rattle.csicodec_actions.proofs.AllRows.{AllRows, row-in, whole-table}
 use Rattle.csicodec_actions.proofs.Found.{guarded, one-of}
-use Rattle.csicodec.specs.declared.group.Group.TheVariants as groups
-use Rattle.csicodec.specs.Groups.{group_by, group, is_byte, dec_group, plain_group}
+use Rattle.csicodec_parser.specs.declared.group.Group.TheVariants as groups
+use Rattle.csicodec_parser.specs.Groups.{group_by, group, is_byte, dec_group, plain_group}
 
 -- lists of this shape, before this final, are read whole; a row with a tail has a slot
 abbrev ReadWhole : ℕ → Bool → List Slot → Type 0

@@ -9,16 +9,16 @@ use Rattle.csicodec_tokens.specs.Digits.{largest}
 use Rattle.csicodec_tokens.specs.Param.{spells}
 use Rattle.csicodec_tokens.specs.Sequence.{IsFinal, IsSpellable, Spellable}
 use Rattle.csicodec_tokens.proofs.Printed.{printed}
-use Rattle.csicodec.specs.declared.group.Group.{Group}
-use Rattle.csicodec.specs.declared.group.Group.TheVariants as groups
+use Rattle.csicodec_parser.specs.declared.group.Group.{Group}
+use Rattle.csicodec_parser.specs.declared.group.Group.TheVariants as groups
 use Rattle.csicodec_actions.specs.Actions.{Action}
-use Rattle.csicodec.specs.Groups.{group, Piece}
-use Rattle.csicodec.specs.Cut.{Cut, IsStuck}
-use Rattle.csicodec.specs.Segments.{Actions}
+use Rattle.csicodec_parser.specs.Groups.{group, Piece}
+use Rattle.csicodec_parser.specs.Cut.{Cut, IsStuck}
+use Rattle.csicodec_parser.specs.Segments.{Actions}
 use Rattle.csicodec_actions.specs.Texts.{text}
 use Rattle.csicodec_actions.specs.Whole.{whole}
 use Rattle.csicodec_actions.specs.Written.{Written, tokens, written_text}
-use Rattle.csicodec.proofs.Fronts.{front_stuck, front_empty}
+use Rattle.csicodec_parser.proofs.Fronts.{front_stuck, front_empty}
 use Rattle.csicodec_actions.specs.Good.{AllGood}
 use Rattle.csicodec_actions.proofs.Items.{sound, IsRead}
 use Rattle.csicodec.proofs.RowGroups.{whole-group}

@@ -9,18 +9,18 @@ use Rattle.csicodec_actions.specs.declared.actions.mode.DecPrivateMode.{DecPriva
 use Rattle.csicodec_actions.specs.declared.actions.mode.Switch.{Switch}
 use Rattle.csicodec_actions.specs.declared.actions.mode.Switch.TheVariants as switches
 use Rattle.csicodec_actions.specs.declared.actions.mode.TerminalMode.{TerminalMode}
-use Rattle.csicodec.specs.declared.group.Group.{Group}
-use Rattle.csicodec.specs.declared.group.Group.TheVariants as groups
+use Rattle.csicodec_parser.specs.declared.group.Group.{Group}
+use Rattle.csicodec_parser.specs.declared.group.Group.TheVariants as groups
 use Rattle.csicodec_actions.specs.Actions.{Action, Mode, Unspecified}
-use Rattle.csicodec.specs.Groups.{group, start, marked, has_odd, Piece}
-use Rattle.csicodec.specs.Cut.{body, Cut}
+use Rattle.csicodec_parser.specs.Groups.{group, start, marked, has_odd, Piece}
+use Rattle.csicodec_parser.specs.Cut.{body, Cut}
 use Rattle.csicodec_actions.specs.Modes.{changed, switched}
-use Rattle.csicodec.specs.Segments.{remainder, empty_action, BodyActions, CutActions, ActionsIn}
+use Rattle.csicodec_parser.specs.Segments.{remainder, empty_action, BodyActions, CutActions, ActionsIn}
 use Rattle.csicodec.specs.Suffix.{IsSuffix, changes_private, EndsUnknown, SuffixLaw}
 use Rattle.csicodec_actions.specs.Whole.{table, field_table, Whole}
 use Rattle.csicodec_actions.proofs.AllFieldRows.{FieldRowsKeep}
 use Rattle.csicodec_actions.proofs.AllRows.{TableKeeps, no-tokens, whole-keeps}
-use Rattle.csicodec.proofs.GroupOf.{marked-body}
+use Rattle.csicodec_parser.proofs.GroupOf.{marked-body}
 
 -- whether a `?` is put ahead of what is unknown behind a piece
 abbrev puts_mark : Group → Bool

@@ -4,7 +4,7 @@ use Rattle.std.specs.List.{AllByRecursion}
 use Rattle.std.proofs.lemmas.Grind.{flat_map-append}
 use Rattle.csicodec_tokens.specs.declared.param.CsiParam.{CsiParam}
 use Rattle.csicodec_actions.specs.Actions.{Action}
-use Rattle.csicodec.specs.Canonical.{Canonical}
+use Rattle.csicodec_parser.specs.Canonical.{Canonical}
 use Rattle.csicodec.specs.Decoding.{Joins, AreActions, Decodes}
 use Rattle.csicodec.specs.Streams.{IsNormal, NormaliseTwice, Join}
 use Rattle.csicodec_actions.specs.Texts.{text, texts}

@@ -7,7 +7,7 @@ use Rattle.csicodec_tokens.specs.OneBased.{most}
 use Rattle.csicodec_base.specs.declared.sgr.Sgr as sgr_type
 use Rattle.csicodec_actions.specs.declared.actions.cursor.Cursor.TheVariants as cursor
 use Rattle.csicodec_actions.specs.Actions.{Action, Sgr, Cursor, Device, Unspecified}
-use Rattle.csicodec.specs.Canonical.{Canonical}
+use Rattle.csicodec_parser.specs.Canonical.{Canonical}
 use Rattle.csicodec_actions.specs.Devices.{RequestTerminalParameters}
 use Rattle.csicodec_actions.specs.Good.{AllGood}
 use Rattle.csicodec_actions.specs.Ranges.{InRange}

@@ -17,7 +17,7 @@ use Rattle.csicodec_actions.proofs.Back.Keyboard.{keyboard-read}
 use Rattle.csicodec_actions.proofs.Back.Mouse.{mouse-read}
 use Rattle.csicodec_actions.proofs.Back.Path.{path-read}
 use Rattle.csicodec_actions.proofs.Back.Window.{window-read}
-use Rattle.csicodec.specs.Canonical.{IsCanonicalWritten}
+use Rattle.csicodec_parser.specs.Canonical.{IsCanonicalWritten}
 use Rattle.csicodec.proofs.Modes.{mode-spelling}
 use Rattle.csicodec.proofs.Spelling.{Spelling, written-spelling}
 

@@ -1,7 +1,7 @@
 -- A value is read back from its own text exactly where it is canonical.
 use Rattle.std.specs.Prelude.{◌≡◌, ◌↔◌, List, [], ◌∷◌, Bool}
 use Rattle.csicodec_actions.specs.Actions.{Action}
-use Rattle.csicodec.specs.Canonical.{Canonical}
+use Rattle.csicodec_parser.specs.Canonical.{Canonical}
 use Rattle.csicodec.specs.Decoding.{Decodes}
 use Rattle.csicodec_actions.specs.Texts.{text}
 

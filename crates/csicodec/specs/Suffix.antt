@@ -4,7 +4,7 @@ use Rattle.csicodec_tokens.specs.declared.param.CsiParam.{CsiParam}
 use Rattle.csicodec_tokens.specs.declared.param.CsiParam.TheVariants.{P}
 use Rattle.csicodec_actions.specs.declared.actions.mode.Mode.TheVariants as mode
 use Rattle.csicodec_actions.specs.Actions.{Action, Mode, Unspecified}
-use Rattle.csicodec.specs.Segments.{Actions}
+use Rattle.csicodec_parser.specs.Segments.{Actions}
 
 -- the list ends in it
 abbrev pub IsSuffix : List CsiParam → List CsiParam → Type 0

@@ -2,24 +2,11 @@
 //! written.
 #![tactic(auto)]
 
-mod actions;
-mod canonical;
-mod count;
 mod filter;
-mod group;
 pub mod laws;
-mod list;
-mod look;
-mod parser;
-mod print;
-mod sink;
 mod stream;
-mod tokens;
-mod whole;
 mod words;
 
-pub use actions::{CSI, Unspecified};
-pub use count::Count;
 pub use csicodec_actions::{
     CharacterPath, Cursor, DecPrivateMode, Device, DeviceAttribute, DeviceAttributeFlags,
     DeviceAttributes, Edit, Keyboard, KittyKeyboardMode, Mode, MouseButton, MouseReport,
@@ -34,9 +21,7 @@ pub use csicodec_base::{
     Text, Underline, VerticalAlign, behind_csi, read_csi, read_csi_into, sgr_front,
 };
 pub use filter::{Filter, NormalForm, Rewrite, append_spans, filter_all};
-pub use look::Look;
-pub use parser::{CSIParser, Run};
+pub use csicodec_parser::{CSI, CSIParser, Count, Look, Run, Tokens, Unspecified};
 pub use stream::{
     DecodeError, RunError, decode_all, encode, encode_all, normal_form, normalise, parse_all,
 };
-pub use tokens::Tokens;

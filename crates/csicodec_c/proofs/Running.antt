@@ -5,11 +5,11 @@ use Rattle.std.proofs.lemmas.Bool.{false≢true}
 use Rattle.std.proofs.lemmas.List.{take_all}
 use Rattle.csicodec_tokens.specs.declared.param.CsiParam.{CsiParam}
 use Rattle.csicodec_actions.specs.Actions.{Action}
-use Rattle.csicodec.specs.declared.actions.CSI.{CSI}
-use Rattle.csicodec.specs.ActionOf.{action_of}
-use Rattle.csicodec.specs.Progress.{ActionsOf, HasEnded, Progress}
-use Rattle.csicodec.specs.Run.{Answers, Nexts}
-use Rattle.csicodec.specs.Segments.{Actions}
+use Rattle.csicodec_parser.specs.declared.actions.CSI.{CSI}
+use Rattle.csicodec_parser.specs.ActionOf.{action_of}
+use Rattle.csicodec_parser.specs.Progress.{ActionsOf, HasEnded, Progress}
+use Rattle.csicodec_parser.specs.Run.{Answers, Nexts}
+use Rattle.csicodec_parser.specs.Segments.{Actions}
 use Rattle.csicodec_c.proofs.Laid.{take_got}
 
 same_list : (old new : Progress) (all : List Action) → new.list ≡ old.list → new.flag ≡ old.flag → new.final ≡ old.final → ActionsOf new all → ActionsOf old all

@@ -1,8 +1,8 @@
 -- Structs that stand for actions, and one more.
 use Rattle.std.proofs.Common.{ℕ, ◌+◌, ◌<◌, List, [], ◌∷◌, ◌++◌, length, map, take, slice_index_or, subst, sym}
 use Rattle.std.proofs.lemmas.List.{map-append, take_more}
-use Rattle.csicodec.specs.declared.actions.CSI.{CSI}
-use Rattle.csicodec.specs.ActionOf.{action_of}
+use Rattle.csicodec_parser.specs.declared.actions.CSI.{CSI}
+use Rattle.csicodec_parser.specs.ActionOf.{action_of}
 use Rattle.csicodec_actions.specs.Actions.{Action}
 use Rattle.csicodec_c.specs.declared.plain.Param.{Param}
 use Rattle.csicodec_c.specs.declared.plain.Plain.{Plain}

@@ -2,7 +2,7 @@
 use Rattle.std.specs.Prelude.{ℕ, ◌≡◌, ◌⊎◌, ◌↔◌, ◌<◌, false, List, [], ◌∷◌, drop, take, length}
 use Rattle.csicodec_actions.specs.Actions.{Action}
 use Rattle.csicodec_actions.specs.Texts.{texts}
-use Rattle.csicodec.specs.Canonical.{Canonical}
+use Rattle.csicodec_parser.specs.Canonical.{Canonical}
 use Rattle.csicodec_c.specs.declared.canonical.Judged.{Judged}
 use Rattle.csicodec_c.specs.declared.encode.Encoded.{Encoded}
 use Rattle.csicodec_c.specs.declared.plain.Param.{Param}

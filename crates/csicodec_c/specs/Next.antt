@@ -6,7 +6,7 @@ use Rattle.csicodec_tokens.specs.declared.reader.ReadError.TheVariants as readin
 use Rattle.csicodec_tokens.specs.Fault.{FaultOf}
 use Rattle.csicodec_tokens.specs.Sequence.{Reads}
 use Rattle.csicodec_actions.specs.Actions.{Action}
-use Rattle.csicodec.specs.Segments.{Actions}
+use Rattle.csicodec_parser.specs.Segments.{Actions}
 use Rattle.csicodec_c.specs.declared.next.Counts.{Counts}
 use Rattle.csicodec_c.specs.declared.next.Front.{Front}
 use Rattle.csicodec_c.specs.declared.plain.Param.{Param}

@@ -2,7 +2,7 @@
 //! whether it does. Written by .ci/kinds.
 ghost use Rattle.std.specs.Prelude.{◌≡◌, [], IfOk, IfSome};
 ghost use Rattle.csicodec_actions.specs.Devices.{device_of};
-ghost use Rattle.csicodec.specs.ActionOf.{action_of};
+ghost use Rattle.csicodec_parser.specs.ActionOf.{action_of};
 ghost use Rattle.csicodec_c.specs.Rows.{device_params, params_of};
 
 use crate::numbers::{

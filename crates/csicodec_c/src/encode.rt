@@ -2,7 +2,7 @@
 ghost use Rattle.std.specs.Prelude.{◌≡◌, ◌⊎◌, ◌<◌, List, [], drop, take, map, length, true, IfOk, IfErr, IfSome};
 ghost use Rattle.csicodec_actions.specs.Actions.{Action};
 ghost use Rattle.csicodec_actions.specs.Texts.{texts};
-ghost use Rattle.csicodec.specs.ActionOf.{action_of};
+ghost use Rattle.csicodec_parser.specs.ActionOf.{action_of};
 ghost use Rattle.csicodec_c.specs.Encode.{AllStand, IsDone, IsRefused, Stands, refused};
 ghost use Rattle.csicodec_c.specs.Rows.{params_of};
 

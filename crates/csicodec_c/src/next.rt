@@ -1,8 +1,8 @@
 //! The sequence at the front of some bytes.
 ghost use Rattle.std.specs.Prelude.{◌≡◌, ◌⊎◌, false, List, ◌++◌, [], ◌∷◌, length, IfOk, IfSome};
 ghost use Rattle.csicodec_actions.specs.Actions.{Action};
-ghost use Rattle.csicodec.specs.ActionOf.{action_of};
-ghost use Rattle.csicodec.specs.Segments.{Actions};
+ghost use Rattle.csicodec_parser.specs.ActionOf.{action_of};
+ghost use Rattle.csicodec_parser.specs.Segments.{Actions};
 ghost use Rattle.csicodec_c.specs.Next.{IsDone, IsRefused, Lays, refusal, refused};
 ghost use Rattle.csicodec_c.specs.declared.plain.Param.{Param};
 ghost use Rattle.csicodec_c.specs.declared.plain.Plain.{Plain};

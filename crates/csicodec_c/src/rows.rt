@@ -1,7 +1,7 @@
 //! The struct of each action, subject by subject. Written by .ci/kinds.
 ghost use Rattle.std.specs.Prelude.{◌≡◌};
 ghost use Rattle.csicodec_actions.specs.Devices.{device_of};
-ghost use Rattle.csicodec.specs.ActionOf.{action_of};
+ghost use Rattle.csicodec_parser.specs.ActionOf.{action_of};
 ghost use Rattle.csicodec_c.specs.Rows.{cursor_plain, device_plain, edit_plain, keyboard_plain, mode_plain, mouse_plain, plain_of, sgr_plain, window_plain};
 
 use crate::numbers::{

@@ -3,8 +3,8 @@
 
 ghost use Rattle.std.specs.Prelude.{false, map, IfOk};
 ghost use Rattle.std.specs.List.{All};
-ghost use Rattle.csicodec.specs.ActionOf.{action_of};
-ghost use Rattle.csicodec.specs.Canonical.{Canonical};
+ghost use Rattle.csicodec_parser.specs.ActionOf.{action_of};
+ghost use Rattle.csicodec_parser.specs.Canonical.{Canonical};
 
 use csicodec::{
     AnsiColor, CSI, ColorSpec, Cursor, DecPrivateMode, DecPrivateModeCode, Edit, EraseInLine,

@@ -1,4 +1,4 @@
-use Rattle.csicodec.specs.ActionOf.{unspecified_of}
+use Rattle.csicodec_parser.specs.ActionOf.{unspecified_of}
 use Rattle.csicodec.proofs.Exactly.{exact_lem}
 use Rattle.csicodec.proofs.laws.exact_unspecified.Goals as goal
 

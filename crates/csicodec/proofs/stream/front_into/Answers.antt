@@ -1,9 +1,9 @@
 use Rattle.std.proofs.Common.{[], ◌++◌, append_assoc}
-use Rattle.csicodec.specs.Private.Steps.{actions}
-use Rattle.csicodec.proofs.Cuts.{actions_are}
+use Rattle.csicodec_parser.specs.Private.Steps.{actions}
+use Rattle.csicodec_parser.proofs.Cuts.{actions_are}
 use Rattle.csicodec.proofs.Splits.{split_none, split_more, begins}
 use Rattle.csicodec.proofs.Streamed.{errs}
-use Rattle.csicodec.proofs.Taken.{none_taken}
+use Rattle.csicodec_parser.proofs.Taken.{none_taken}
 use Rattle.csicodec.proofs.stream.front_into.Goals as goal
 
 pub loop-alloc-init : goal.loop-alloc-init

@@ -1,5 +1,5 @@
 use Rattle.std.proofs.Common.{◌≡◌, map, take}
-use Rattle.csicodec.specs.ActionOf.{action_of}
+use Rattle.csicodec_parser.specs.ActionOf.{action_of}
 use Rattle.csicodec_c.specs.Encode.{AllStand}
 use Rattle.csicodec_c.proofs.encode.texts_of.Given as goal
 

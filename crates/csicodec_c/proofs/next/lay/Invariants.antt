@@ -1,6 +1,6 @@
 use Rattle.std.proofs.Common.{◌≡◌, false, List, take}
 use Rattle.csicodec_actions.specs.Actions.{Action}
-use Rattle.csicodec.specs.Progress.{ActionsOf}
+use Rattle.csicodec_parser.specs.Progress.{ActionsOf}
 use Rattle.csicodec_c.specs.Next.{Lays}
 use Rattle.csicodec_c.proofs.next.lay.Given as goal
 

@@ -1,4 +1,4 @@
-use Rattle.csicodec.specs.ActionOf.{action_of}
+use Rattle.csicodec_parser.specs.ActionOf.{action_of}
 use Rattle.csicodec_c.proofs.Laid.{lays_more}
 use Rattle.csicodec_c.proofs.next.lay_one.Goals as goal
 

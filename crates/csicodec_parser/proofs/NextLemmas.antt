@@ -1,0 +1,223 @@
+-- One call of `next`, over plain variables.
+use Rattle.std.specs.Prelude.{Ok, Err, slice_get}
+use Rattle.std.proofs.Common.{◌≡◌, ℕ, zero, suc, ◌+◌, ◌*◌, ◌<◌, ◌≤◌, ◌==◌, Bool, true, false, List, [], ◌∷◌, length, drop, Some, None, refl, sym, ap, ◌∙◌, arith, inl, inr, length-drop, add-one, ◌++◌, append_assoc, append-nil, subst}
+use Rattle.std.proofs.lemmas.Bool.{ne_eqb}
+use Rattle.std.proofs.lemmas.List.{drop-drop, drop_more, drop_all}
+use Rattle.std.proofs.lemmas.Option.{slice_get_within, get_or_from_slice_get}
+use Rattle.std.specs.declared.alloc.AllocError.{AllocError}
+use Rattle.csicodec_tokens.specs.declared.param.CsiParam.{CsiParam}
+use Rattle.csicodec_parser.specs.declared.actions.CSI.{CSI}
+use Rattle.csicodec_parser.specs.declared.parser.Stage.{Stage}
+use Rattle.csicodec_parser.specs.declared.parser.Stage.TheVariants.{Fresh, Going, Failed}
+use Rattle.csicodec_parser.specs.declared.group.Group.{Group}
+use Rattle.csicodec_actions.specs.Actions.{Action}
+use Rattle.csicodec_parser.specs.ActionOf.{action_of}
+use Rattle.csicodec_parser.specs.Groups.{group}
+use Rattle.csicodec_parser.specs.Cut.{IsRestAfter}
+use Rattle.csicodec_parser.specs.Segments.{Actions}
+use Rattle.csicodec_parser.specs.Progress.{Progress, ActionsOf, HasEnded, most_left}
+use Rattle.csicodec_parser.specs.Run.{Answers, Nexts}
+use Rattle.csicodec_parser.specs.Private.Steps.{rest_action, actions, actions_after, left_at, fresh_cost, from_at, GoesBy, CanGo, CutsOn, all_of, has_failed, Stands, Sound}
+use Rattle.csicodec_parser.proofs.Blocks.{after_some}
+use Rattle.csicodec_parser.proofs.Cuts.{actions_are, actions_only, actions_count, first_rest, more_rest}
+use Rattle.csicodec_parser.proofs.Rests.{rest_takes}
+
+-- the first of what is left stands at its place
+at_drop : {A : Type 0} (xs : List A) (i : ℕ) (a : A) (bs : List A) → drop i xs ≡ a ∷ bs → slice_get xs i ≡ Some a
+at_drop [] zero a bs e = cc
+at_drop [] (suc i) a bs e = cc
+at_drop (x ∷ xs) zero a bs e = cc
+at_drop (x ∷ xs) (suc i) a bs e = at_drop xs i a bs e
+
+drop_one : {A : Type 0} (xs : List A) (i : ℕ) (a : A) (bs : List A) → drop i xs ≡ a ∷ bs → drop (i + 1) xs ≡ bs
+drop_one xs i a bs e = sym (drop-drop 1 i xs) ∙ ap (drop 1) e
+
+end_of : {A : Type 0} (xs : List A) (i : ℕ) → drop i xs ≡ [] → length xs ≤ i
+end_of xs i e = let h : length (drop i xs) ≡ 0 = ap length e in omega (arith, length-drop i xs)
+
+-- what the run was made of stays
+pub record Same (p q : Progress) : Type 0 where
+  pub list : q.list ≡ p.list
+  pub flag : q.flag ≡ p.flag
+  pub final : q.final ≡ p.final
+
+left_now : (s : Stage) (p : Progress) → p.failed ≡ has_failed s → Sound s p → p.failed ≡ false → drop p.given (all_of p) ≡ left_at s p.flag p.final p.list p.passed
+left_now Fresh p f h n = ap (λ k. drop k (all_of p)) h.stands.0
+left_now (Going g) p f h n = h.stands.1
+left_now Failed p f h n = cc
+
+budget : (s : Stage) (p : Progress) (q l : ℕ) → Sound s p → q ≤ length p.list → l + 115 * p.passed ≤ p.looks + (1 + length p.list) * fresh_cost s + 115 * q → p.failed ≡ false → p.failed ≡ has_failed s → l ≤ 1 + length p.list + 115 * q
+budget Fresh p q l h w c n f = let a = h.stands in omega arith
+budget (Going g) p q l h w c n f = let a = h.stands.2 in omega arith
+budget Failed p q l h w c n f = cc
+
+not_failed : (s : Stage) (p : Progress) (a : Action) (more : List Action) → p.failed ≡ has_failed s → left_at s p.flag p.final p.list p.passed ≡ a ∷ more → p.failed ≡ false
+not_failed Fresh p a more f e = f
+not_failed (Going g) p a more f e = f
+not_failed Failed p a more f e = cc
+
+group_now : (s : Stage) (p : Progress) (g : Group) → Sound s p → GoesBy s p.list p.final g → g ≡ group p.list p.final
+group_now Fresh p g h b = b
+group_now (Going k) p g h b = b ∙ h.stands.0
+group_now Failed p g h b = absurd b
+
+rest_next : (s : Stage) (p : Progress) (g : Group) (q : ℕ) → Sound s p → GoesBy s p.list p.final g → CutsOn g p.list (from_at s g p.passed) q → q ≤ length p.list → IsRestAfter p.list p.final (p.given + 1) (drop q p.list)
+rest_next Fresh p g q h b on w =
+    rw (add-one p.given) (first_rest g p.list p.final q p.given b on h.stands.0)
+rest_next (Going k) p g q h b on w =
+    let low : p.passed < q = on.2 in
+    rw (add-one p.given) (more_rest g p.list p.final p.passed q p.given (b ∙ h.stands.0) h.stands.4 (h.stands.3 (omega arith)) on)
+rest_next Failed p g q h b on w = absurd b
+
+pub sound_ok : (s : Stage) (p q : Progress) (g : Group) (x : CSI) → p.failed ≡ has_failed s → Sound s p → Same p q → GoesBy s p.list p.final g
+    → left_at s p.flag p.final p.list p.passed ≡ action_of x ∷ left_at (Going g) p.flag p.final p.list q.passed
+    → q.passed ≤ length q.list → q.looks + 115 * p.passed ≤ p.looks + (1 + length p.list) * fresh_cost s + 115 * q.passed
+    → q.given ≡ p.given + 1 → (q.passed < length q.list → CutsOn g p.list (from_at s g p.passed) q.passed) → Sound (Going g) q
+sound_ok s p q g x f h m b e w c i o =
+    let n : p.failed ≡ false = not_failed s p _ _ f e in
+    let w' : q.passed ≤ length p.list = rw (sym m.list) w in
+    let d : drop (p.given + 1) (all_of p) ≡ left_at (Going g) p.flag p.final p.list q.passed = drop_one (all_of p) p.given _ _ (left_now s p f h n ∙ e) in
+    let k : q.looks ≤ 1 + length p.list + 115 * q.passed = budget s p q.passed q.looks h w' c n f in
+    let after : q.passed < length q.list → IsRestAfter p.list p.final (p.given + 1) (drop q.passed p.list) = λ l. rest_next s p g q.passed h b (o l) w' in
+    let some : 0 < p.given + 1 = omega arith in
+    record { within = w; stands = rw (i, m.list, m.flag, m.final) (group_now s p g h b, d, k, rw m.list at after, some) }
+
+-- what holds of the computed actions holds of the actions
+by_actions : (p : Progress) (Q : List Action → Type 0) → Q (all_of p) → (xs : List Action) → ActionsOf p xs → Q xs
+by_actions p Q h xs is = subst Q (sym (actions_only p.list p.flag p.final xs is)) h
+
+pub next_ok : (s : Stage) (p q : Progress) (g : Group) (x : CSI) → p.failed ≡ has_failed s → Sound s p → Same p q
+    → left_at s p.flag p.final p.list p.passed ≡ action_of x ∷ left_at (Going g) p.flag p.final p.list q.passed
+    → q.passed ≤ length q.list → q.looks + 115 * p.passed ≤ p.looks + (1 + length p.list) * fresh_cost s + 115 * q.passed
+    → q.given ≡ p.given + 1 → q.failed ≡ false → p.looks ≤ q.looks → Nexts p (Some (Ok x)) q
+next_ok s p q g x f h m e w c i nf l =
+    let n : p.failed ≡ false = not_failed s p _ _ f e in
+    let w' : q.passed ≤ length p.list = rw (sym m.list) w in
+    let b : q.looks ≤ 1 + length p.list + 115 * q.passed = budget s p q.passed q.looks h w' c n f in
+    record {
+      list = m.list;
+      flag = m.flag;
+      final = m.final;
+      answers = by_actions p (λ xs. Answers xs p (Some (Ok x)) q) (n, at_drop (all_of p) p.given _ _ (left_now s p f h n ∙ e), i, nf);
+      counted = l;
+      cheap = rw m.list (omega arith);
+    }
+
+pub next_err : (s : Stage) (p q : Progress) (x : AllocError) (g : Group) (rest : List CsiParam) → p.failed ≡ has_failed s → Sound s p → Same p q
+    → left_at s p.flag p.final p.list p.passed ≡ rest_action g rest p.flag p.final ∷ []
+    → q.looks + 115 * p.passed ≤ p.looks + (1 + length p.list) * fresh_cost s + 115 * length p.list
+    → q.given ≡ p.given → q.failed ≡ true → p.looks ≤ q.looks → Nexts p (Some (Err x)) q
+next_err s p q x g rest f h m e c i nf l =
+    let n : p.failed ≡ false = not_failed s p _ _ f e in
+    let b : q.looks ≤ 1 + length p.list + 115 * length p.list = budget s p (length p.list) q.looks h (omega arith) c n f in
+    record {
+      list = m.list;
+      flag = m.flag;
+      final = m.final;
+      answers = by_actions p (λ xs. Answers xs p (Some (Err x)) q) (n, (rest_action g rest p.flag p.final, at_drop (all_of p) p.given _ _ (left_now s p f h n ∙ e), rest_takes g rest p.flag p.final), i, nf);
+      counted = l;
+      cheap = rw m.list (omega arith);
+    }
+
+ended : (s : Stage) (p : Progress) → p.failed ≡ has_failed s → Sound s p → left_at s p.flag p.final p.list p.passed ≡ [] → HasEnded p
+ended Failed p f h e = inl f
+ended Fresh p f h e = inr (all_of p, actions_are p.list p.flag p.final, end_of (all_of p) p.given (left_now Fresh p f h f ∙ e))
+ended (Going g) p f h e = inr (all_of p, actions_are p.list p.flag p.final, end_of (all_of p) p.given (left_now (Going g) p f h f ∙ e))
+
+within_budget : (s : Stage) (p : Progress) → Sound s p → p.looks ≤ 128 * (length p.list + 1)
+within_budget Fresh p h = let a = h.stands in omega arith
+within_budget (Going g) p h = let a = h.stands.2 in let w = h.within in omega arith
+within_budget Failed p h = let a = h.stands in omega arith
+
+pub next_none : (s : Stage) (p : Progress) → p.failed ≡ has_failed s → Sound s p → left_at s p.flag p.final p.list p.passed ≡ [] → Nexts p None p
+next_none s p f h e =
+    record { list = refl; flag = refl; final = refl; answers = λ xs is. (ended s p f h e, refl); counted = omega arith; cheap = within_budget s p h }
+
+-- ---- one call leaves less
+
+left_some : (s : Stage) (p : Progress) → p.failed ≡ has_failed s → Sound s p → CanGo s p.passed (length p.list) → 0 < most_left p
+left_some Fresh p f h can = rw (f, h.stands.0) (omega arith)
+left_some (Going g) p f h can = rw f (omega arith)
+left_some Failed p f h can = absurd can
+
+given_more : (p q : Progress) → q.given ≡ p.given + 1 → (q.given == 0) ≡ false
+given_more p q e = ne_eqb q.given 0 (λ none. omega (arith, none, e))
+
+pub goes_ok : (s : Stage) (p q : Progress) → p.failed ≡ has_failed s → Sound s p → Same p q → CanGo s p.passed (length p.list) → q.failed ≡ false → q.given ≡ p.given + 1
+    → (p.passed < length p.list → p.passed < q.passed) → q.passed ≤ length q.list → most_left q < most_left p
+goes_ok Fresh p q f h m can nf i on w =
+    let low : p.passed ≡ 0 = h.stands.1 in
+    rw (f, nf, given_more p q i, m.list, h.stands.0) (omega arith)
+goes_ok (Going g) p q f h m can nf i on w =
+    let far : p.passed < q.passed = on can in
+    rw (f, nf, given_more p q i, m.list) (omega arith)
+goes_ok Failed p q f h m can nf i on w = absurd can
+
+pub goes_err : (s : Stage) (p q : Progress) → p.failed ≡ has_failed s → Sound s p → CanGo s p.passed (length p.list) → q.failed ≡ true → most_left q < most_left p
+goes_err s p q f h can e = let some = left_some s p f h can in rw e (omega arith)
+
+-- ---- all actions of a run
+
+get_drop : {A : Type 0} (xs : List A) (i : ℕ) (a : A) → slice_get xs i ≡ Some a → drop i xs ≡ a ∷ drop (i + 1) xs
+get_drop xs i a e =
+    let w : i < length xs = slice_get_within xs i a e in
+    drop_more xs i a w ∙ ap (λ x. x ∷ drop (i + 1) xs) (get_or_from_slice_get xs i a a e)
+
+-- one more action is told
+pub told_more : (all told : List Action) (i j : ℕ) (a : Action) → told ++ drop i all ≡ all → slice_get all i ≡ Some a → j ≡ i + 1 → (told ++ a ∷ []) ++ drop j all ≡ all
+told_more all told i j a e s k = rw (k, append_assoc) (ap (λ (l : List Action). told ++ l) (sym (get_drop all i a s)) ∙ e)
+
+-- where the run has ended, all are told
+pub told_all : (p : Progress) (list : List CsiParam) (flag : Bool) (final : ℕ) (told : List Action) → p.list ≡ list → p.flag ≡ flag → p.final ≡ final → p.failed ≡ false
+    → told ++ drop p.given (actions list flag final) ≡ actions list flag final → HasEnded p → Actions list flag final told
+told_all p list flag final told l f n still e (inl h) = cc
+told_all p list flag final told l f n still e (inr h) =
+    let same : h.0 ≡ actions list flag final = actions_only list flag final h.0 (rw (l, f, n) at h.1) in
+    let none : drop p.given (actions list flag final) ≡ [] = drop_all p.given (actions list flag final) (rw same at h.2) in
+    let all : told ≡ actions list flag final = sym (append-nil told) ∙ ap (λ (xs : List Action). told ++ xs) (sym none) ∙ e in
+    subst (λ (xs : List Action). Actions list flag final xs) (sym all) (actions_are list flag final)
+
+-- ---- what is unread
+
+abbrev StandsAt : Progress → Stage → Type 0
+StandsAt p s = Stands s p
+
+-- a run that goes on has ended where all is passed
+pub ended_at_end : (s : Stage) (p : Progress) (g : Group) → s ≡ Going g → Sound s p → length p.list ≤ p.passed → HasEnded p
+ended_at_end s p g same h e =
+    let at : Stands (Going g) p = subst (StandsAt p) same h.stands in
+    let d : drop p.passed p.list ≡ [] = drop_all p.passed p.list e in
+    inr (all_of p, actions_are p.list p.flag p.final, end_of (all_of p) p.given (at.1 ∙ ap (actions_after g p.flag p.final) d))
+
+pub fresh_rest : (s : Stage) (p : Progress) (r : List CsiParam) → s ≡ Fresh → Sound s p → r ≡ drop p.passed p.list → IsRestAfter p.list p.final p.given r
+fresh_rest s p r e h d =
+    let at : Stands Fresh p = subst (StandsAt p) e h.stands in
+    rw at.0 (d ∙ ap (λ k. drop k p.list) at.1)
+
+pub going_rest : (s : Stage) (p : Progress) (g : Group) (r : List CsiParam) → s ≡ Going g → Sound s p → p.passed < length p.list → r ≡ drop p.passed p.list → IsRestAfter p.list p.final p.given r
+going_rest s p g r e h w d =
+    let at : Stands (Going g) p = subst (StandsAt p) e h.stands in
+    subst (λ (l : List CsiParam). IsRestAfter p.list p.final p.given l) (sym d) (at.3 w)
+
+-- ---- while something is left, the run has not ended
+
+fresh_open : (p : Progress) → p.failed ≡ false → Stands Fresh p → HasEnded p → ⊥
+fresh_open p f at (inl e) = cc
+fresh_open p f at (inr h) =
+    let some = (actions_count p.list p.flag p.final h.0 h.1).0 in
+    let none : p.given ≡ 0 = at.0 in
+    omega (arith, h.2)
+
+pub fresh_goes : (s : Stage) (p : Progress) → s ≡ Fresh → p.failed ≡ has_failed s → Sound s p → HasEnded p → ⊥
+fresh_goes s p e f h = fresh_open p (f ∙ ap has_failed e) (subst (StandsAt p) e h.stands)
+
+going_open : (p : Progress) (g : Group) → p.failed ≡ false → Stands (Going g) p → p.passed < length p.list → HasEnded p → ⊥
+going_open p g f at w (inl e) = cc
+going_open p g f at w (inr h) =
+    let same : h.0 ≡ all_of p = actions_only p.list p.flag p.final h.0 h.1 in
+    let some = after_some g p.flag p.final (drop p.passed p.list) (omega (arith, length-drop p.passed p.list)) in
+    let left : length (drop p.given (all_of p)) ≡ length (actions_after g p.flag p.final (drop p.passed p.list)) = ap length at.1 in
+    omega (arith, h.2, ap length same, some, left, length-drop p.given (all_of p))
+
+pub going_goes : (s : Stage) (p : Progress) (g : Group) → s ≡ Going g → p.failed ≡ has_failed s → Sound s p → p.passed < length p.list → HasEnded p → ⊥
+going_goes s p g e f h w = going_open p g (f ∙ ap has_failed e) (subst (StandsAt p) e h.stands) w

@@ -1,0 +1,81 @@
+-- Actions that go into a sink, over plain variables.
+use Rattle.std.specs.Prelude.{Result, Ok, Err, OnOk, IfOk, ℤ, slice_get}
+use Rattle.std.proofs.Common.{◌≡◌, ℕ, ◌<◌, ◌≤◌, Bool, true, false, List, [], ◌∷◌, ◌++◌, length, drop, None, Some, refl, sym, ap, ◌∙◌, arith, append_assoc, append-nil, subst, get_or}
+use Rattle.csicodec_tokens.specs.declared.param.CsiParam.{CsiParam}
+use Rattle.csicodec_tokens.specs.declared.param.CsiParam.TheVariants.{Integer}
+use Rattle.csicodec_base.specs.declared.sgr.Sgr as sgr_type
+use Rattle.csicodec_base.specs.Pieces.{IsFront}
+use Rattle.csicodec_parser.specs.declared.group.Group.{Group}
+use Rattle.csicodec_parser.specs.declared.group.Group.TheVariants.{Whole, Styles}
+use Rattle.csicodec_actions.specs.Actions.{Action, Sgr, Unspecified}
+use Rattle.csicodec_parser.specs.Groups.{group, marked, has_odd}
+use Rattle.csicodec_parser.specs.Cut.{body}
+use Rattle.csicodec_parser.specs.Private.Steps.{front, styled, block_of, with_semicolon, rest_action, actions, actions_in, actions_after, body_actions}
+use Rattle.csicodec_actions.specs.Texts.{text, texts}
+use Rattle.csicodec_actions.specs.Whole.{plain}
+use Rattle.csicodec_parser.proofs.Fronts.{piece_of_front}
+use Rattle.csicodec_parser.proofs.Blocks.{semicolon_from, segments_block, after_unknown, first_cut, odd_unknown, body_some}
+use Rattle.csicodec_actions.proofs.Boxed.{plain_whole, boxed_whole}
+use Rattle.csicodec_parser.proofs.Rests.{rest_unknown}
+
+pub on_ok : {T E P Q : Type 0} (r : Result T E) → (P → Q) → OnOk r P → OnOk r Q
+on_ok (Ok x) f p = f p
+on_ok (Err e) f p = tt
+
+pub if_ok : {T E : Type 0} {P Q : T → Type 0} (r : Result T E) → ((x : T) → P x → Q x) → IfOk r P → IfOk r Q
+if_ok (Ok x) f p = f x p
+if_ok (Err e) f p = tt
+
+-- what has gone in, and then the others, are all
+pub taken_all : (before told xs all : List Action) → told ++ xs ≡ all → (before ++ told) ++ xs ≡ before ++ all
+taken_all before told xs all e = append_assoc before told xs ∙ ap (λ (l : List Action). before ++ l) e
+
+pub none_taken : {S : Type 0} (holds : S → List Action → Type 0) (s : S) (before : List Action) → holds s before → holds s (before ++ [])
+none_taken holds s before h = subst (holds s) (sym (append-nil before)) h
+
+-- ---- the actions of a list that is cut
+
+pub actions_odd : (g : Group) (list : List CsiParam) (flag : Bool) (final : ℕ) → g ≡ group list final → (g ≡ Whole → ⊥) → has_odd g list ≡ true → Unspecified (marked g list) flag final ∷ [] ≡ actions list flag final
+actions_odd g list flag final same cut odd = sym (ap (λ (k : Group). actions_in k list flag final) (sym same) ∙ odd_unknown g list flag final cut odd)
+
+actions_body : (g : Group) (list rest : List CsiParam) (flag : Bool) (final : ℕ) → g ≡ group list final → (g ≡ Whole → ⊥) → has_odd g list ≡ false → rest ≡ body g list
+    → actions list flag final ≡ body_actions g (marked g rest) flag final rest
+actions_body g list rest flag final same cut plain is =
+    ap (λ (k : Group). actions_in k list flag final) (sym same) ∙ first_cut g list flag final cut (sym same) plain ∙ ap (λ (l : List CsiParam). body_actions g (marked g l) flag final l) (sym is)
+
+pub actions_begin : (g : Group) (list rest : List CsiParam) (flag : Bool) (final : ℕ) → g ≡ group list final → (g ≡ Whole → ⊥) → has_odd g list ≡ false → rest ≡ body g list → 0 < length rest
+    → actions_after g flag final rest ≡ actions list flag final
+actions_begin g list rest flag final same cut plain is w =
+    sym (actions_body g list rest flag final same cut plain is ∙ body_some g (marked g rest) flag final rest w)
+
+pub actions_front : (g : Group) (flag : Bool) (final : ℕ) (rest behind : List CsiParam) (told all : List Action) (a : Action) (len : ℕ) → front g rest ≡ Some (a, len) → 0 < len
+    → behind ≡ drop (with_semicolon len (slice_get rest len)) rest → told ++ actions_after g flag final rest ≡ all → (told ++ a ∷ []) ++ actions_after g flag final behind ≡ all
+actions_front g flag final rest behind told all a len e w is parts =
+    let passed = semicolon_from len (slice_get rest len) in
+    let next = segments_block g (λ l. rest_action g l flag final) rest a (with_semicolon len (slice_get rest len)) (ap (block_of rest) e) (omega (arith, passed, w)) in
+    append_assoc told (a ∷ []) (actions_after g flag final behind) ∙ ap (λ (l : List CsiParam). told ++ a ∷ actions_after g flag final l) is ∙ ap (λ (l : List Action). told ++ l) (sym next) ∙ parts
+
+pub actions_stuck : (g : Group) (flag : Bool) (final : ℕ) (rest : List CsiParam) (told all : List Action) → (g ≡ Whole → ⊥) → front g rest ≡ None → 0 < length rest
+    → told ++ actions_after g flag final rest ≡ all → told ++ Unspecified (marked g rest) flag final ∷ [] ≡ all
+actions_stuck g flag final rest told all cut e w parts =
+    ap (λ (a : Action). told ++ a ∷ []) (sym (rest_unknown g rest flag final cut)) ∙ ap (λ (l : List Action). told ++ l) (sym (after_unknown g flag final rest 0 (ap (block_of rest) e) w)) ∙ parts
+
+-- the attribute that a number in front sets alone
+pub number_front : (rest : List CsiParam) (d : CsiParam) (z : ℤ) (s : sgr_type.Sgr) → 1 ≤ length rest → get_or rest 0 d ≡ Integer z
+    → ((after : List CsiParam) → IsFront (Integer z ∷ after) (Some (s, 1))) → front Styles rest ≡ Some (Sgr s, 1)
+number_front [] d z s w first fronts = absurd (omega arith)
+number_front (t ∷ ts) d z s w first fronts = rw first (ap styled (piece_of_front (Integer z ∷ ts) (Some (s, 1)) (fronts ts)))
+
+-- ---- a list that is read whole
+
+pub plain_actions : (list : List CsiParam) (flag : Bool) (final : ℕ) (a : Action) → group list final ≡ Whole → plain list final ≡ Some a → actions list flag final ≡ a ∷ []
+plain_actions list flag final a is found = rw (is, plain_whole list final a found) refl
+
+pub rest_actions : (list : List CsiParam) (flag : Bool) (final : ℕ) → group list final ≡ Whole → plain list final ≡ None → actions list flag final ≡ rest_action Whole list flag final ∷ []
+rest_actions list flag final is none = rw (is, boxed_whole list final none) refl
+
+-- ---- texts
+
+pub texts_last : (xs : List Action) (a : Action) → texts (xs ++ a ∷ []) ≡ texts xs ++ text a
+texts_last [] a = append-nil (text a)
+texts_last (x ∷ xs) a = ap (λ (l : List ℕ). text x ++ l) (texts_last xs a) ∙ sym (append_assoc (text x) (texts xs) (text a))

@@ -1,0 +1,7 @@
+use Rattle.std.proofs.Common.{sym, ap}
+use Rattle.csicodec_parser.specs.Private.Steps.{styled}
+use Rattle.csicodec_parser.proofs.Fronts.{piece_of_front}
+use Rattle.csicodec_parser.proofs.group.style_front.Goals as goal
+
+pub returns-clause-answer : goal.returns-clause-answer
+returns-clause-answer c = λ list same. sym (ap styled (piece_of_front list c.sgr_front.result (c.sgr_front.ensures.near list same)))

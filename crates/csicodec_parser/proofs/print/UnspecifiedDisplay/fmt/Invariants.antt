@@ -1,0 +1,8 @@
+use Rattle.std.proofs.Common.{take}
+use Rattle.std.specs.Fmt.{HasWritten, IsPlainFormatter}
+use Rattle.csicodec_tokens.specs.Param.{spells}
+use Rattle.csicodec_parser.proofs.print.UnspecifiedDisplay.fmt.Given as goal
+
+abbrev pub invariant-loop-param : goal.invariant-loop-param
+invariant-loop-param g l =
+    IsPlainFormatter l.initial.f → HasWritten g.W.Write.write_str_gives l.initial.f (spells (take l.param-index l.param-items)) l.f

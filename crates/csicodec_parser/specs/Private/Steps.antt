@@ -1,0 +1,206 @@
+-- What the private steps of a run say to each other: the actions by a function that computes them. Nothing public rests on this
+-- file: that it gives the actions of the segmentation is proved.
+use Rattle.std.specs.Prelude.{ℕ, ℤ, zero, suc, pred, ◌≡◌, ◌≤◌, ◌<◌, ◌+◌, ◌-◌, ◌*◌, ◌==◌, Bool, true, false, List, [], ◌∷◌, length, drop, slice_get, Option, Some, None, option_and_then, unwrap_or, if◌then◌else◌}
+use Rattle.csicodec_tokens.specs.declared.param.CsiParam.{CsiParam}
+use Rattle.csicodec_tokens.specs.declared.param.CsiParam.TheVariants.{Integer, P}
+use Rattle.csicodec_base.specs.declared.sgr.Sgr as sgr_type
+use Rattle.csicodec_base.specs.FrontBy.{piece}
+use Rattle.csicodec_parser.specs.declared.group.Group.{Group}
+use Rattle.csicodec_parser.specs.declared.group.Group.TheVariants.{Whole, Styles, Modes, DecModes}
+use Rattle.csicodec_parser.specs.declared.parser.Stage.{Stage}
+use Rattle.csicodec_parser.specs.declared.parser.Stage.TheVariants.{Fresh, Going, Failed}
+use Rattle.csicodec_parser.specs.declared.actions.CSI.{CSI}
+use Rattle.csicodec_actions.specs.Actions.{Action, Sgr, Mode, Unspecified}
+use Rattle.csicodec_parser.specs.ActionOf.{action_of}
+use Rattle.csicodec_parser.specs.Groups.{group, start, marked, is_odd, has_odd}
+use Rattle.csicodec_parser.specs.Cut.{body, IsRestAfter}
+use Rattle.csicodec_actions.specs.Modes.{changed, switched}
+use Rattle.csicodec_actions.specs.Kinds.{read, Dec, Terminal}
+use Rattle.csicodec_parser.specs.Progress.{Progress}
+use Rattle.csicodec_parser.specs.Segments.{empty_action}
+use Rattle.csicodec_actions.specs.Whole.{boxed, whole}
+
+abbrev pub styled : Option (sgr_type.Sgr × ℕ) → Option (Action × ℕ)
+styled None = None
+styled (Some p) = Some (Sgr p.0, p.1)
+
+-- the number at the front
+abbrev pub number_at : List CsiParam → Option ℤ
+number_at [] = None
+number_at (Integer z ∷ ts) = Some z
+number_at (P b ∷ ts) = None
+
+-- one token, of this action
+abbrev pub one_token : {M : Type 0} → (M → Action) → Option M → Option (Action × ℕ)
+one_token make None = None
+one_token make (Some m) = Some (make m, 1)
+
+-- the piece at the front, and its number of tokens
+abbrev pub front : Group → List CsiParam → Option (Action × ℕ)
+front Whole rest = None
+front Styles rest = styled (piece rest)
+front (Modes s) rest = one_token (λ m. Mode (switched s m)) (option_and_then (read Terminal) (number_at rest))
+front (DecModes c) rest = one_token (λ m. Mode (changed c m)) (option_and_then (read Dec) (number_at rest))
+
+-- what was found, as an action
+abbrev pub found : Option (CSI × ℕ) → Option (Action × ℕ)
+found None = None
+found (Some p) = Some (action_of p.0, p.1)
+
+abbrev pub is_semicolon : CsiParam → Bool
+is_semicolon (Integer n) = false
+is_semicolon (P b) = b == 59
+
+-- k tokens, and the `;` directly after them
+abbrev pub with_semicolon : ℕ → Option CsiParam → ℕ
+with_semicolon k None = k
+with_semicolon k (Some t) = if is_semicolon t then k + 1 else k
+
+-- the block at the front: its action, and how many tokens it takes
+abbrev pub block_of : List CsiParam → Option (Action × ℕ) → Option (Action × ℕ)
+block_of rest None = None
+block_of rest (Some p) = Some (p.0, with_semicolon p.1 (slice_get rest p.1))
+
+abbrev pub block : Group → List CsiParam → Option (Action × ℕ)
+block g rest = block_of rest (front g rest)
+
+-- The actions of what follows `skip` more tokens of a block: one for each block, and `unknown` of a rest at whose front no piece stands.
+abbrev pub segments_at : (List CsiParam → Action) → List CsiParam → (ℕ → List Action) → Option (Action × ℕ) → List Action
+segments_at unknown rest after None = unknown rest ∷ []
+segments_at unknown rest after (Some b) = b.0 ∷ after (pred b.1)
+
+abbrev pub segments : Group → (List CsiParam → Action) → List CsiParam → ℕ → List Action
+segments g unknown [] skip = []
+segments g unknown (t ∷ ts) (suc skip) = segments g unknown ts skip
+segments g unknown (t ∷ ts) zero = segments_at unknown (t ∷ ts) (segments g unknown ts) (block g (t ∷ ts))
+
+-- the action of a rest that takes memory: that of a row, or else an unknown one, with what stands before the pieces ahead of it
+abbrev pub rest_action : Group → List CsiParam → Bool → ℕ → Action
+rest_action Whole rest flag final = unwrap_or (boxed rest final) (Unspecified (marked Whole rest) flag final)
+rest_action Styles rest flag final = Unspecified (marked Styles rest) flag final
+rest_action (Modes s) rest flag final = Unspecified (marked (Modes s) rest) flag final
+rest_action (DecModes c) rest flag final = Unspecified (marked (DecModes c) rest) flag final
+
+-- the actions of what is left of a list that is cut
+abbrev pub actions_after : Group → Bool → ℕ → List CsiParam → List Action
+actions_after g flag final rest = segments g (λ l. rest_action g l flag final) rest 0
+
+abbrev pub body_actions : Group → List CsiParam → Bool → ℕ → List CsiParam → List Action
+body_actions g list flag final [] = empty_action g list flag final ∷ []
+body_actions g list flag final (t ∷ ts) = actions_after g flag final (t ∷ ts)
+
+abbrev pub cut_actions : Group → List CsiParam → Bool → ℕ → List Action
+cut_actions g list flag final = if has_odd g list then Unspecified list flag final ∷ [] else body_actions g list flag final (body g list)
+
+abbrev pub actions_in : Group → List CsiParam → Bool → ℕ → List Action
+actions_in Whole list flag final = unwrap_or (whole list final) (Unspecified list flag final) ∷ []
+actions_in Styles list flag final = cut_actions Styles list flag final
+actions_in (Modes s) list flag final = cut_actions (Modes s) list flag final
+actions_in (DecModes c) list flag final = cut_actions (DecModes c) list flag final
+
+-- all actions of a list before a final character
+abbrev pub actions : List CsiParam → Bool → ℕ → List Action
+actions list flag final = actions_in (group list final) list flag final
+
+-- whether a token is there, and is an odd byte
+abbrev pub is_odd_at : Group → Option CsiParam → Bool
+is_odd_at g None = false
+is_odd_at g (Some t) = is_odd g t
+
+-- ---- what a stage of a run says
+
+-- the actions still to come, after this many tokens of the list
+abbrev pub left_at : Stage → Bool → ℕ → List CsiParam → ℕ → List Action
+left_at Fresh flag final list passed = actions list flag final
+left_at (Going g) flag final list passed = actions_after g flag final (drop passed list)
+left_at Failed flag final list passed = []
+
+-- the first call looks at the first token for the group, and may look at each token once for odd bytes
+abbrev pub fresh_cost : Stage → ℕ
+fresh_cost Fresh = 1
+fresh_cost (Going g) = 0
+fresh_cost Failed = 0
+
+-- the group that a run goes by
+abbrev pub GoesBy : Stage → List CsiParam → ℕ → Group → Type 0
+GoesBy Fresh list final g = g ≡ group list final
+GoesBy (Going h) list final g = g ≡ h
+GoesBy Failed list final g = ⊥
+
+-- where the next block begins
+abbrev pub from_at : Stage → Group → ℕ → ℕ
+from_at Fresh g passed = start g
+from_at (Going h) g passed = passed
+from_at Failed g passed = passed
+
+-- nothing was read, or there are tokens left
+abbrev pub CanGo : Stage → ℕ → ℕ → Type 0
+CanGo Fresh passed len = Unit {0}
+CanGo (Going g) passed len = passed < len
+CanGo Failed passed len = ⊥
+
+abbrev pub has_failed : Stage → Bool
+has_failed Fresh = false
+has_failed (Going g) = false
+has_failed Failed = true
+
+-- the next block stands from here to there
+abbrev pub CutsOn : Group → List CsiParam → ℕ → ℕ → Type 0
+CutsOn g list from to = (x : Action) × (block g (drop from list) ≡ Some (x, to - from)) × (from < to)
+
+-- ---- what a step of a run says: of the list, how many tokens are passed before it and after it, and the looks before and after
+
+-- the actions of the list are this one, and those of what is unread
+abbrev pub BeginsAs : Group → List CsiParam → ℕ → ℕ → Action → Type 0
+BeginsAs g list final passed x = (flag : Bool) → actions_in g list flag final ≡ x ∷ actions_after g flag final (drop passed list)
+
+-- they are one, that of what is unread
+abbrev pub IsRestAlone : Group → List CsiParam → ℕ → ℕ → Type 0
+IsRestAlone g list final passed = (flag : Bool) → actions_in g list flag final ≡ rest_action g (drop passed list) flag final ∷ []
+
+-- the same of what is cut of the list
+abbrev pub BodyBeginsAs : Group → List CsiParam → ℕ → Action → Type 0
+BodyBeginsAs g list passed x =
+    (flag : Bool) (final : ℕ) → body_actions g (marked g (drop (start g) list)) flag final (drop (start g) list) ≡ x ∷ actions_after g flag final (drop passed list)
+
+abbrev pub BodyIsRestAlone : Group → List CsiParam → ℕ → Type 0
+BodyIsRestAlone g list passed =
+    (flag : Bool) (final : ℕ) → body_actions g (marked g (drop (start g) list)) flag final (drop (start g) list) ≡ rest_action g (drop passed list) flag final ∷ []
+
+-- the same of what is left at a stage
+abbrev pub LeftBeginsAs : Stage → Group → List CsiParam → ℕ → ℕ → ℕ → Action → Type 0
+LeftBeginsAs stage g list final from to x = (flag : Bool) → left_at stage flag final list from ≡ x ∷ left_at (Going g) flag final list to
+
+abbrev pub LeftIsRestAlone : Stage → Group → List CsiParam → ℕ → ℕ → ℕ → Type 0
+LeftIsRestAlone stage g list final from to = (flag : Bool) → left_at stage flag final list from ≡ rest_action g (drop to list) flag final ∷ []
+
+-- the looks of a first call, where what is unread is one action, for which 10 a token are kept
+abbrev pub PaysRest : (share len passed before after : ℕ) → Type 0
+PaysRest share len passed before after = after + 10 * len ≤ before + share * len + 10 * passed
+
+-- the looks of any call that passes a block
+abbrev pub PaysBlock : (fresh len from to before after : ℕ) → Type 0
+PaysBlock fresh len from to before after = after + 115 * from + fresh ≤ before + (1 + len) * fresh + 115 * to
+
+-- and of one where what is unread is one action
+abbrev pub PaysAll : (fresh len from to before after : ℕ) → Type 0
+PaysAll fresh len from to before after = after + 115 * from + 10 * len + fresh ≤ before + (1 + len) * fresh + 115 * len + 10 * to
+
+-- all actions of the run's list
+abbrev pub all_of : Progress → List Action
+all_of p = actions p.list p.flag p.final
+
+-- the answers given are a front of all, the looks are paid for by the tokens that are passed, and what is unread is the rest of a cut
+abbrev pub Stands : Stage → Progress → Type 0
+Stands Fresh p = (p.given ≡ 0) × (p.passed ≡ 0) × (p.looks ≡ 0)
+Stands (Going g) p =
+    (g ≡ group p.list p.final)
+    × (drop p.given (all_of p) ≡ left_at (Going g) p.flag p.final p.list p.passed)
+    × (p.looks ≤ 1 + length p.list + 115 * p.passed)
+    × (p.passed < length p.list → IsRestAfter p.list p.final p.given (drop p.passed p.list))
+    × (0 < p.given)
+Stands Failed p = p.looks ≤ 1 + 116 * length p.list
+
+pub record Sound (stage : Stage) (p : Progress) : Type 0 where
+  pub within : p.passed ≤ length p.list
+  pub stands : Stands stage p

@@ -1,0 +1,146 @@
+//! Which values are read back from their own texts.
+ghost use Rattle.std.specs.Prelude.{◌≡◌, ◌⊎◌, ◌↔◌, IfOk, IsOk, IsTrue};
+ghost use Rattle.csicodec_tokens.specs.Sequence.{Apart, IsFinal, IsSpellable, Spellable};
+ghost use Rattle.csicodec_parser.specs.ActionOf.{action_of};
+ghost use Rattle.csicodec_parser.specs.Canonical.{Canonical, IsCanonicalSgr, IsCanonicalUnknown, IsUncut, IsUnknownIn, IsUnspecified};
+ghost use Rattle.csicodec_parser.specs.Groups.{group as group_of_list};
+ghost use Rattle.csicodec_parser.specs.Segments.{IsUnread};
+
+use crate::actions::{CSI, Unspecified};
+use crate::group::{Group, front};
+use crate::list::{group_of, is_odd};
+use crate::whole::{boxed_action, plain_action};
+use csicodec_actions::canonical::{
+    is_canonical_cursor, is_canonical_device, is_canonical_edit, is_canonical_keyboard,
+    is_canonical_mode, is_canonical_mouse, is_canonical_window, is_said, is_special,
+    is_spellable_token,
+};
+use csicodec_base::{CsiParam, Font, Sgr};
+use std::alloc::{AllocError, Global};
+
+/// Of the alternative fonts nine have a code.
+fn is_canonical_sgr(sgr: &Sgr) -> bool
+    ensures { IsTrue result ↔ IsCanonicalSgr sgr.now }
+{
+    match sgr {
+        Sgr::Font(Font::Alternate(number)) => matches!(number, 1..=9),
+        _ => true,
+    }
+}
+
+/// Two numbers don't stand side by side.
+fn is_apart(token: &CsiParam, others: &[CsiParam]) -> bool
+    ensures { IsTrue result ↔ Apart token.now others.now }
+{
+    match token {
+        CsiParam::Integer(_) => !matches!(others, [CsiParam::Integer(_), ..]),
+        CsiParam::P(_) => true,
+    }
+}
+
+/// A list that a sequence can have.
+fn is_spellable(params: &[CsiParam]) -> bool
+    ensures { IsTrue result ↔ Spellable params.now }
+{
+    let mut rest = params;
+    while let [first, others @ ..] = rest {
+        if !is_spellable_token(first) || !is_apart(first, others) {
+            return false;
+        }
+        rest = others;
+    }
+    true
+}
+
+/// A final byte.
+fn is_final(control: char) -> bool
+    ensures { IsTrue result ↔ IsFinal control }
+{
+    matches!(control, '@'..='~')
+}
+
+/// No row reads the list.
+fn is_unread(alloc: Global, params: &[CsiParam], control: char) -> Result<bool, AllocError>
+    ensures { IfOk result (λ yes. IsTrue yes ↔ IsUnread params.now control) }
+{
+    if plain_action(params, control).is_some() {
+        return Ok(false);
+    }
+    let boxed = boxed_action(alloc, params, control)?;
+    Ok(boxed.is_none())
+}
+
+/// An odd byte is in the list, or no piece stands where the first should.
+fn is_uncut(group: Group, params: &[CsiParam], control: char) -> bool
+    requires { group ≡ group_of_list params.now control }
+    ensures { IsTrue result ↔ IsUncut group params.now }
+{
+    if is_odd(group, params) {
+        return true;
+    }
+    let body = &params[group.start()..];
+    front(group, body).is_none()
+}
+
+/// None of the rules of its group reads even the front of the list.
+fn is_unknown(alloc: Global, params: &[CsiParam], control: char) -> Result<bool, AllocError>
+    ensures { IfOk result (λ yes. IsTrue yes ↔ IsUnknownIn (group_of_list params.now control) params.now control) }
+{
+    match group_of(params, control) {
+        Group::Whole => is_unread(alloc, params, control),
+        Group::Styles => Ok(!params.is_empty() && is_uncut(Group::Styles, params, control)),
+        group => Ok(is_uncut(group, params, control)),
+    }
+}
+
+/// A sequence can have the list and the final character, and they are read with the same flag.
+fn is_written(unknown: &Unspecified, parameters_truncated: bool) -> bool
+    ensures { IsTrue result ↔ ((unknown.now.parameters_truncated ≡ parameters_truncated) × Spellable unknown.now.params.items × IsFinal unknown.now.control) }
+{
+    unknown.parameters_truncated == parameters_truncated
+        && is_final(unknown.control)
+        && is_spellable(&unknown.params)
+}
+
+fn is_canonical_unknown(
+    alloc: Global,
+    unknown: &Unspecified,
+    parameters_truncated: bool,
+) -> Result<bool, AllocError>
+    ensures { IfOk result (λ yes. IsTrue yes ↔ IsCanonicalUnknown unknown.now.params.items unknown.now.parameters_truncated parameters_truncated unknown.now.control) }
+{
+    if !is_written(unknown, parameters_truncated) {
+        return Ok(false);
+    }
+    is_unknown(alloc, &unknown.params, unknown.control)
+}
+
+impl CSI {
+    /// Whether the text of this value, read with the flag, is this one value. It holds of all that is read, but for left
+    /// and right margins from 1 to 4294967295 and requests for the terminal's parameters, and not of each value that is
+    /// built by hand: counts are 1 or more, other numbers 0 or more; a mode, an extension or an item of graphics without a
+    /// name has no number of one that has a name; an alternative font is 1 to 9; flags and modifiers are those that have
+    /// names; no report of the mouse is in pixels; and what is unknown has this flag, tokens and a final character that a
+    /// sequence can have, and none of the rules reads it. An `Err` comes only for an `Unspecified`.
+    pub fn is_canonical(
+        &self,
+        alloc: Global,
+        parameters_truncated: bool,
+    ) -> Result<bool, AllocError>
+        ensures exact { IfOk result (λ yes. IsTrue yes ↔ Canonical (action_of self.now) parameters_truncated) }
+        ensures plain { IsUnspecified (action_of self.now) ⊎ IsOk result }
+    {
+        match self {
+            CSI::Sgr(sgr) => Ok(is_canonical_sgr(sgr)),
+            CSI::Cursor(cursor) => Ok(is_canonical_cursor(cursor) && !is_special(cursor)),
+            CSI::Edit(edit) => Ok(is_canonical_edit(edit)),
+            CSI::Mode(mode) => Ok(is_canonical_mode(mode)),
+            CSI::Device(device) => Ok(is_canonical_device(device)),
+            CSI::Window(window) => Ok(is_canonical_window(window)),
+            CSI::Keyboard(keyboard) => Ok(is_canonical_keyboard(keyboard)),
+            CSI::SelectCharacterPath(_, effect) => Ok(is_said(*effect)),
+            CSI::Mouse(report) => Ok(is_canonical_mouse(report)),
+            CSI::Unspecified(unknown) => is_canonical_unknown(alloc, unknown, parameters_truncated),
+        }
+    }
+}

@@ -1,0 +1,116 @@
+//! Which rules a list falls under, and the pieces at its front.
+ghost use Rattle.std.specs.Prelude.{◌≡◌, ◌<◌, ◌≤◌, List, length, take, option_and_then, IfSome};
+ghost use Rattle.csicodec_tokens.specs.declared.param.CsiParam.{CsiParam};
+ghost use Rattle.csicodec_parser.specs.Groups.{group_by, start};
+ghost use Rattle.csicodec_actions.specs.Kinds.{read, Dec, Terminal};
+ghost use Rattle.csicodec_parser.specs.Private.Steps.{found, front, is_odd_at, number_at, styled};
+ghost use Rattle.csicodec_parser.specs.declared.group.Group.TheVariants.{Styles};
+
+use crate::actions::CSI;
+use csicodec_actions::{Change, DecPrivateMode, Switch, TerminalMode};
+use csicodec_base::{CsiParam, Sgr, sgr_front};
+
+/// How a list is read.
+#[derive(Clone, Copy, Debug, PartialEq, Eq)]
+pub enum Group {
+    /// Whole: one action for the list.
+    Whole,
+    /// In pieces, each an attribute of text.
+    Styles,
+    /// In pieces, each the number of a mode.
+    Modes(Switch),
+    /// After a `?` in pieces, each the number of a private mode.
+    DecModes(Change),
+}
+
+impl Group {
+    /// The group of a list with this first token, before this final character.
+    pub(crate) fn of(first: Option<CsiParam>, control: char) -> Group
+        ensures { result ≡ group_by first control }
+    {
+        let private = matches!(first, Some(CsiParam::P(b'?')));
+        match control {
+            'm' if matches!(first, Some(CsiParam::P(b'>' | b'<'))) => Group::Whole,
+            'm' => Group::Styles,
+            'h' if private => Group::DecModes(Change::Set),
+            'l' if private => Group::DecModes(Change::Reset),
+            's' if private => Group::DecModes(Change::Save),
+            'r' if private => Group::DecModes(Change::Restore),
+            'h' => Group::Modes(Switch::Set),
+            'l' => Group::Modes(Switch::Reset),
+            _ => Group::Whole,
+        }
+    }
+
+    /// How many tokens stand before the pieces.
+    pub(crate) fn start(self) -> usize
+        ensures { result ≡ start self }
+    {
+        match self {
+            Group::DecModes(_) => 1,
+            Group::Whole | Group::Styles | Group::Modes(_) => 0,
+        }
+    }
+
+    /// Whether a token is there, and is a byte that makes the whole list unknown.
+    pub(crate) fn is_odd(self, token: Option<CsiParam>) -> bool
+        ensures { result ≡ is_odd_at self token }
+    {
+        match token {
+            Some(CsiParam::P(byte)) => match self {
+                Group::Styles => !matches!(byte, b';' | b':' | b'?'),
+                Group::Modes(_) => byte == b'?',
+                Group::Whole | Group::DecModes(_) => false,
+            },
+            Some(CsiParam::Integer(_)) | None => false,
+        }
+    }
+}
+
+/// The attribute at the front, and its number of tokens.
+#[inline(always)]
+pub(crate) fn style_front(rest: &[CsiParam]) -> Option<(Sgr, usize)>
+    ensures answer { (list : List CsiParam) → take 13 list ≡ take 13 rest.now → styled result ≡ front Styles list }
+    ensures within { IfSome result (λ f. (0 < f.1) × (f.1 ≤ length rest.now)) }
+{
+    sgr_front(rest)
+}
+
+/// The known piece at the front, and its number of tokens.
+#[inline(always)]
+pub(crate) fn front(group: Group, rest: &[CsiParam]) -> Option<(CSI, usize)>
+    ensures answer { (list : List CsiParam) → take 13 list ≡ take 13 rest.now → found result ≡ front group list }
+    ensures within { IfSome result (λ f. (0 < f.1) × (f.1 ≤ length rest.now)) }
+{
+    match group {
+        Group::Whole => None,
+        Group::Styles => {
+            let (sgr, len) = style_front(rest)?;
+            Some((CSI::Sgr(sgr), len))
+        }
+        Group::Modes(switch) => Some((CSI::Mode(switch.of(terminal_mode_at(rest)?)), 1)),
+        Group::DecModes(change) => Some((CSI::Mode(change.of(dec_mode_at(rest)?)), 1)),
+    }
+}
+
+/// The mode whose number stands at the front.
+fn terminal_mode_at(rest: &[CsiParam]) -> Option<TerminalMode>
+    ensures is { result ≡ option_and_then (read Terminal) (number_at rest.now) }
+    ensures some { IfSome result (λ m. 0 < length rest.now) }
+{
+    match rest {
+        [CsiParam::Integer(number), ..] => TerminalMode::at(*number),
+        _ => None,
+    }
+}
+
+/// The private mode whose number stands at the front.
+fn dec_mode_at(rest: &[CsiParam]) -> Option<DecPrivateMode>
+    ensures is { result ≡ option_and_then (read Dec) (number_at rest.now) }
+    ensures some { IfSome result (λ m. 0 < length rest.now) }
+{
+    match rest {
+        [CsiParam::Integer(number), ..] => DecPrivateMode::at(*number),
+        _ => None,
+    }
+}

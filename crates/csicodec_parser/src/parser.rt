@@ -1,0 +1,427 @@
+//! The parser: an iterator over the actions of one parameter list, for any `Look`.
+ghost use Rattle.std.specs.Prelude.{◌≡◌, ◌↔◌, ℕ, ◌+◌, ◌-◌, ◌*◌, ◌<◌, ◌≤◌, Bool, List, [], ◌∷◌, Some, None, length, drop, map, IfOk, OnErr, OnOk, IfSome, IfNone, IsNone};
+ghost use Rattle.csicodec_tokens.specs.declared.param.CsiParam.{CsiParam};
+ghost use Rattle.csicodec_actions.specs.Actions.{Unspecified as Unknown};
+ghost use Rattle.csicodec_parser.specs.ActionOf.{action_of};
+ghost use Rattle.csicodec_parser.specs.Groups.{group as group_of_list, has_odd, marked, start};
+ghost use Rattle.csicodec_parser.specs.Segments.{Actions};
+ghost use Rattle.csicodec_actions.specs.Whole.{plain, whole};
+ghost use Rattle.csicodec_parser.specs.Private.Steps.{with_semicolon, block, rest_action, left_at, fresh_cost, from_at, GoesBy, CanGo, CutsOn};
+ghost use Rattle.csicodec_parser.specs.Private.Steps.{BeginsAs, IsRestAlone, BodyBeginsAs, BodyIsRestAlone, LeftBeginsAs, LeftIsRestAlone, PaysRest, PaysBlock, PaysAll};
+
+use crate::actions::{CSI, Unspecified};
+use crate::count::Count;
+use crate::group::{Group, front};
+use crate::look::Look;
+use crate::tokens::Tokens;
+use crate::whole::{boxed_action, plain_action};
+use csicodec_base::{CsiParam, Sgr};
+use std::alloc::{AllocError, Global};
+use std::marker::Model;
+
+/// No piece is longer.
+const LONGEST: usize = 13;
+
+#[derive(Clone, Copy, Debug, PartialEq, Eq)]
+enum Stage {
+    /// Nothing was read.
+    Fresh,
+    /// The unread tokens are cut from their front, as those of the group are.
+    Going(Group),
+    /// Memory was refused.
+    Failed,
+}
+
+/// A run over the tokens of one parameter list: an iterator of its actions.
+///
+/// After `None`, and after an `Err`, every further `next` is `None`. An `Err` comes only where the next action is a
+/// `Device`, a `Window` or an `Unspecified` and memory was refused for it; the actions given before stand.
+#[derive(Drop)]
+pub struct Run<L: Look> {
+    alloc: Global,
+    look: L,
+    truncated: bool,
+    control: char,
+    given: Count,
+    stage: Stage,
+}
+
+impl<L: Look> Model for Run<L> {
+    ghost use Rattle.csicodec_parser.specs.Progress.{Progress, progress};
+
+    ghost Value = { Progress };
+
+    ghost use Rattle.csicodec_parser.specs.Private.Steps.{has_failed, Sound};
+
+    ghost view = { λ r.
+        progress (L.tokens r.look) r.truncated r.control r.given.total (has_failed r.stage) (L.passed r.look) (L.looks r.look) };
+
+    ghost invariant = { λ r.
+        Sound r.stage (progress (L.tokens r.look) r.truncated r.control r.given.total (has_failed r.stage) (L.passed r.look) (L.looks r.look)) };
+}
+
+/// The parser of a slice of parameters.
+pub type CSIParser<'a> = Run<Tokens<'a>>;
+
+/// The group of the list, by one look at its first token.
+fn group_of<L: Look>(look: &mut L, control: char) -> Group
+    requires { L.passed look.old ≡ 0 }
+    ensures group { result ≡ group_of_list (L.tokens look.old) control }
+    ensures list { L.tokens look.new ≡ L.tokens look.old }
+    ensures passes { L.passed look.new ≡ 0 }
+    ensures costs { L.looks look.new ≡ L.looks look.old + 1 }
+{
+    let first = look.get(0);
+    Group::of(first, control)
+}
+
+/// Whether a byte among the tokens makes the whole list unknown. Each token is looked at once at most.
+fn has_odd<L: Look>(group: Group, look: &mut L) -> bool
+    requires { L.passed look.old ≡ 0 }
+    ensures odd { result ≡ has_odd group (L.tokens look.old) }
+    ensures list { L.tokens look.new ≡ L.tokens look.old }
+    ensures passes { L.passed look.new ≡ 0 }
+    ensures counted { L.looks look.old ≤ L.looks look.new }
+    ensures costs { L.looks look.new ≤ L.looks look.old + length (L.tokens look.old) }
+{
+    if let Group::DecModes(_) = group {
+        return false;
+    }
+    for i in 0..look.len() {
+        if group.is_odd(look.get(i)) {
+            return true;
+        }
+    }
+    false
+}
+
+/// `len` tokens, and the `;` directly after them.
+#[inline(always)]
+pub(crate) fn with_semicolon(len: usize, next: Option<CsiParam>) -> usize
+    requires { len < usize.MAX }
+    ensures { result ≡ with_semicolon len next }
+{
+    match next {
+        Some(CsiParam::P(b';')) => len + 1,
+        _ => len,
+    }
+}
+
+/// Passes over the block at the front, and answers its action. Without one nothing is passed.
+#[inline(always)]
+fn cut_block<L: Look>(group: Group, look: &mut L) -> Option<CSI>
+    ensures some { IfSome result (λ action.
+        block group (drop (L.passed look.old) (L.tokens look.old)) ≡ Some (action_of action, L.passed look.new - L.passed look.old)) }
+    ensures forward { IfSome result (λ _. L.passed look.old < L.passed look.new) }
+    ensures none { IfNone result (block group (drop (L.passed look.old) (L.tokens look.old)) ≡ None) }
+    ensures stays { IfNone result (L.passed look.new ≡ L.passed look.old) }
+    ensures list { L.tokens look.new ≡ L.tokens look.old }
+    ensures within { L.passed look.new ≤ length (L.tokens look.new) }
+    ensures counted { L.looks look.old ≤ L.looks look.new }
+    ensures costs { L.looks look.new + L.passed look.old ≤ L.looks look.old + 105 + L.passed look.new }
+{
+    let width = look.len().min(LONGEST);
+    let Some((action, len)) = front(group, look.lend(0, width)) else {
+        return None;
+    };
+    let next = look.get(len);
+    look.pass(with_semicolon(len, next));
+    Some(action)
+}
+
+/// All unread tokens as one unknown action, with what stands before the pieces of the group ahead of them. They are
+/// passed, unless memory is refused.
+fn unspecified<L: Look>(
+    group: Group,
+    look: &mut L,
+    alloc: Global,
+    truncated: bool,
+    control: char,
+) -> Result<CSI, AllocError>
+    requires { L.passed look.old ≤ length (L.tokens look.old) }
+    ensures ok { IfOk result (λ action.
+        action_of action ≡ Unknown (marked group (drop (L.passed look.old) (L.tokens look.old))) truncated control) }
+    ensures all { OnOk result (L.passed look.new ≡ length (L.tokens look.new)) }
+    ensures list { L.tokens look.new ≡ L.tokens look.old }
+    ensures within { L.passed look.new ≤ length (L.tokens look.new) }
+    ensures counted { L.looks look.old ≤ L.looks look.new }
+    ensures costs { L.looks look.new + 2 * L.passed look.old ≤ L.looks look.old + 2 * length (L.tokens look.old) }
+{
+    let mut params = Vec::new(alloc);
+    if let Group::DecModes(_) = group {
+        params.push(CsiParam::P(b'?'))?;
+    }
+    look.copy_to(&mut params)?;
+    let unspecified = Unspecified {
+        params,
+        parameters_truncated: truncated,
+        control,
+    };
+    let boxed = Box::new(alloc, unspecified)?;
+    look.pass(look.len());
+    Ok(CSI::Unspecified(boxed))
+}
+
+/// The action of all unread tokens, where it takes memory: that of a row of lists that are read whole, or an unknown one.
+/// They are passed, unless memory is refused.
+#[cold]
+#[inline(never)]
+fn rest_action<L: Look>(
+    group: Group,
+    look: &mut L,
+    alloc: Global,
+    truncated: bool,
+    control: char,
+) -> Result<CSI, AllocError>
+    requires { L.passed look.old ≤ length (L.tokens look.old) }
+    ensures ok { IfOk result (λ action.
+        action_of action ≡ rest_action group (drop (L.passed look.old) (L.tokens look.old)) truncated control) }
+    ensures all { OnOk result (L.passed look.new ≡ length (L.tokens look.new)) }
+    ensures list { L.tokens look.new ≡ L.tokens look.old }
+    ensures within { L.passed look.new ≤ length (L.tokens look.new) }
+    ensures counted { L.looks look.old ≤ L.looks look.new }
+    ensures costs { L.looks look.new + 10 * L.passed look.old ≤ L.looks look.old + 10 * length (L.tokens look.old) }
+{
+    if let Group::Whole = group {
+        let len = look.len();
+        return match boxed_action(alloc, look.lend(0, len), control)? {
+            Some(action) => {
+                look.pass(len);
+                Ok(action)
+            }
+            None => unspecified(group, look, alloc, truncated, control),
+        };
+    }
+    unspecified(group, look, alloc, truncated, control)
+}
+
+/// The one action of a list that is read whole, where a row reads it and it takes no memory. Then all tokens are passed.
+#[inline(always)]
+fn whole_list<L: Look>(look: &mut L, control: char) -> Option<CSI>
+    requires { L.passed look.old ≡ 0 }
+    ensures some { IfSome result (λ action. whole (L.tokens look.old) control ≡ Some (action_of action)) }
+    ensures all { IfSome result (λ _. L.passed look.new ≡ length (L.tokens look.new)) }
+    ensures none { IfNone result (plain (L.tokens look.old) control ≡ None) }
+    ensures stays { IfNone result (L.passed look.new ≡ 0) }
+    ensures list { L.tokens look.new ≡ L.tokens look.old }
+    ensures counted { L.looks look.old ≤ L.looks look.new }
+    ensures costs { L.looks look.new ≤ L.looks look.old + 8 * length (L.tokens look.old) + L.passed look.new }
+{
+    let len = look.len();
+    let Some(action) = plain_action(look.lend(0, len), control) else {
+        return None;
+    };
+    look.pass(len);
+    Some(action)
+}
+
+/// The first action of a list, where a rule reads it. Where none does, what is unread is unknown, with what stands
+/// before the pieces ahead of it.
+#[inline(always)]
+fn first_action<L: Look>(group: Group, look: &mut L, control: char) -> Option<CSI>
+    requires passed { L.passed look.old ≡ 0 }
+    requires group { group ≡ group_of_list (L.tokens look.old) control }
+    ensures some { IfSome result (λ action. BeginsAs group (L.tokens look.old) control (L.passed look.new) (action_of action)) }
+    ensures none { IfNone result (IsRestAlone group (L.tokens look.old) control (L.passed look.new)) }
+    ensures list { L.tokens look.new ≡ L.tokens look.old }
+    ensures cut { IfSome result (λ _. L.passed look.new < length (L.tokens look.new) →
+        CutsOn group (L.tokens look.old) (start group) (L.passed look.new)) }
+    ensures within { L.passed look.new ≤ length (L.tokens look.new) }
+    ensures counted { L.looks look.old ≤ L.looks look.new }
+    ensures going { IfSome result (λ _. L.looks look.new ≤ L.looks look.old + length (L.tokens look.old) + 115 * L.passed look.new) }
+    ensures left { IfNone result (PaysRest 116 (length (L.tokens look.old)) (L.passed look.new) (L.looks look.old) (L.looks look.new)) }
+{
+    match group {
+        Group::Whole => whole_list(look, control),
+        _ if has_odd(group, look) => None,
+        _ => body_action(group, look),
+    }
+}
+
+/// The first action of what is cut of a list without an odd byte.
+#[inline(always)]
+fn body_action<L: Look>(group: Group, look: &mut L) -> Option<CSI>
+    requires passed { L.passed look.old ≡ 0 }
+    requires start { start group ≤ length (L.tokens look.old) }
+    requires cut { group ≡ Group.Whole → ⊥ }
+    ensures some { IfSome result (λ action. BodyBeginsAs group (L.tokens look.old) (L.passed look.new) (action_of action)) }
+    ensures none { IfNone result (BodyIsRestAlone group (L.tokens look.old) (L.passed look.new)) }
+    ensures list { L.tokens look.new ≡ L.tokens look.old }
+    ensures cut { IfSome result (λ _. L.passed look.new < length (L.tokens look.new) →
+        CutsOn group (L.tokens look.old) (start group) (L.passed look.new)) }
+    ensures within { L.passed look.new ≤ length (L.tokens look.new) }
+    ensures counted { L.looks look.old ≤ L.looks look.new }
+    ensures going { IfSome result (λ _. L.looks look.new ≤ L.looks look.old + 115 * L.passed look.new) }
+    ensures left { IfNone result (PaysRest 115 (length (L.tokens look.old)) (L.passed look.new) (L.looks look.old) (L.looks look.new)) }
+{
+    look.pass(group.start());
+    if look.len() > 0 {
+        return cut_block(group, look);
+    }
+    match group {
+        Group::Styles => Some(CSI::Sgr(Sgr::Reset)),
+        _ => None,
+    }
+}
+
+/// The group that the next action is read by, if one is left.
+#[inline(always)]
+fn group_at<L: Look>(stage: Stage, look: &mut L, control: char) -> Option<Group>
+    requires fresh { stage ≡ Stage.Fresh → L.passed look.old ≡ 0 }
+    ensures none { IfNone result (
+        ((flag : Bool) → left_at stage flag control (L.tokens look.old) (L.passed look.old) ≡ []) × (look.new ≡ look.old)) }
+    ensures some { IfSome result (λ _. CanGo stage (L.passed look.old) (length (L.tokens look.old))) }
+    ensures group { IfSome result (λ g. GoesBy stage (L.tokens look.old) control g) }
+    ensures list { L.tokens look.new ≡ L.tokens look.old }
+    ensures passes { L.passed look.new ≡ L.passed look.old }
+    ensures costs { L.looks look.new ≡ L.looks look.old + fresh_cost stage }
+{
+    match stage {
+        Stage::Fresh => Some(group_of(look, control)),
+        Stage::Going(group) if look.len() > 0 => Some(group),
+        Stage::Going(_) | Stage::Failed => None,
+    }
+}
+
+/// The next action, where a rule reads it. Where none does, what is unread is unknown, with what stands before the
+/// pieces ahead of it.
+#[inline(always)]
+fn action_at<L: Look>(stage: Stage, group: Group, look: &mut L, control: char) -> Option<CSI>
+    requires fresh { stage ≡ Stage.Fresh → L.passed look.old ≡ 0 }
+    requires can { CanGo stage (L.passed look.old) (length (L.tokens look.old)) }
+    requires group { GoesBy stage (L.tokens look.old) control group }
+    ensures some { IfSome result (λ action.
+        LeftBeginsAs stage group (L.tokens look.old) control (L.passed look.old) (L.passed look.new) (action_of action)) }
+    ensures none { IfNone result (LeftIsRestAlone stage group (L.tokens look.old) control (L.passed look.old) (L.passed look.new)) }
+    ensures list { L.tokens look.new ≡ L.tokens look.old }
+    ensures cut { IfSome result (λ _. L.passed look.new < length (L.tokens look.new) →
+        CutsOn group (L.tokens look.old) (from_at stage group (L.passed look.old)) (L.passed look.new)) }
+    ensures forward { IfSome result (λ _. L.passed look.old < length (L.tokens look.old) → L.passed look.old < L.passed look.new) }
+    ensures within { L.passed look.new ≤ length (L.tokens look.new) }
+    ensures counted { L.looks look.old ≤ L.looks look.new }
+    ensures going { IfSome result (λ _.
+        PaysBlock (fresh_cost stage) (length (L.tokens look.old)) (L.passed look.old) (L.passed look.new) (L.looks look.old) (L.looks look.new)) }
+    ensures left { IfNone result (
+        PaysAll (fresh_cost stage) (length (L.tokens look.old)) (L.passed look.old) (L.passed look.new) (L.looks look.old) (L.looks look.new)) }
+{
+    match stage {
+        Stage::Fresh => first_action(group, look, control),
+        _ => cut_block(group, look),
+    }
+}
+
+impl<L: Look> Run<L> {
+    ghost use Rattle.csicodec_parser.specs.Progress.{begun};
+
+    /// A run over tokens of which none is passed and none was looked at. Nothing is read yet, and no memory taken.
+    /// The flag and the final character go into every `Unspecified`.
+    pub fn over(alloc: Global, tokens: L, parameters_truncated: bool, control: char) -> Run<L>
+        requires passed { L.passed tokens ≡ 0 }
+        requires looks { L.looks tokens ≡ 0 }
+        ensures { result ≡ begun (L.tokens tokens) parameters_truncated control }
+    {
+        Run {
+            alloc,
+            look: tokens,
+            truncated: parameters_truncated,
+            control,
+            given: Count::new(),
+            stage: Stage::Fresh,
+        }
+    }
+
+    /// The tokens that the run holds.
+    pub fn look(&self) -> &L
+        ensures list { L.tokens result.now ≡ self.now.list }
+        ensures passed { L.passed result.now ≡ self.now.passed }
+        ensures looks { L.looks result.now ≡ self.now.looks }
+    {
+        &self.look
+    }
+}
+
+impl<L: Look> Iterator for Run<L> {
+    ghost use Rattle.std.specs.Iterator.{at_most};
+    ghost use Rattle.csicodec_parser.specs.Progress.{most_left};
+    ghost use Rattle.csicodec_parser.specs.Run.{Nexts};
+
+    type Item = Result<CSI, AllocError>;
+
+    ghost next_gives = { Nexts };
+
+    ghost remaining = { λ run. at_most (most_left run) };
+
+    #[inline(always)]
+    fn next(&mut self) -> Option<Result<CSI, AllocError>> {
+        let Some(group) = group_at(self.stage, &mut self.look, self.control) else {
+            return None;
+        };
+        match action_at(self.stage, group, &mut self.look, self.control) {
+            Some(action) => {
+                self.stage = Stage::Going(group);
+                self.given.charge(1, 1);
+                Some(Ok(action))
+            }
+            None => match rest_action(
+                group,
+                &mut self.look,
+                self.alloc,
+                self.truncated,
+                self.control,
+            ) {
+                Ok(action) => {
+                    self.stage = Stage::Going(group);
+                    self.given.charge(1, 1);
+                    Some(Ok(action))
+                }
+                Err(error) => {
+                    self.stage = Stage::Failed;
+                    Some(Err(error))
+                }
+            },
+        }
+    }
+}
+
+impl CSI {
+    ghost use Rattle.csicodec_parser.specs.Progress.{begun};
+
+    /// The actions of one parameter list before its final character, as an iterator. It takes no memory itself, and
+    /// copies nothing.
+    ///
+    /// Any tokens and any character are taken: what none of the rules reads comes as an `Unspecified`, with the flag
+    /// `parameters_truncated` that the caller hands in.
+    pub fn parse<'a>(
+        alloc: Global,
+        params: &'a [CsiParam],
+        parameters_truncated: bool,
+        control: char,
+    ) -> CSIParser<'a>
+        ensures { result ≡ begun params.now parameters_truncated control }
+    {
+        Run::over(alloc, Tokens::new(params), parameters_truncated, control)
+    }
+}
+
+impl<'a> Run<Tokens<'a>> {
+    ghost use Rattle.csicodec_parser.specs.Progress.{HasEnded};
+    ghost use Rattle.csicodec_parser.specs.Cut.{IsRestAfter};
+
+    /// The unread suffix of the caller's list, for the list's whole life: the whole list before the first `next`, and
+    /// never `Some` of nothing after one. `None` after the last action, and after an `Err`.
+    ///
+    /// After an action of a private mode the `?` that began the list is not in it: of `?1;99999` before `h` it is then
+    /// `99999`, where the `Unspecified` that `next` answers holds `?99999`.
+    pub fn rest(&self) -> Option<&'a [CsiParam]>
+        ensures cut { IfSome result (λ rest. IsRestAfter self.now.list self.now.final self.now.given rest.now) }
+        ensures suffix { IfSome result (λ rest. rest.now ≡ drop self.now.passed self.now.list) }
+        ensures ended { IsNone result ↔ HasEnded self.now }
+    {
+        match self.stage {
+            Stage::Fresh => Some(self.look.rest()),
+            Stage::Going(_) if self.look.len() > 0 => Some(self.look.rest()),
+            Stage::Going(_) => None,
+            Stage::Failed => None,
+        }
+    }
+}

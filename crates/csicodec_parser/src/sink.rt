@@ -1,0 +1,285 @@
+//! Where actions go, one after the other: into a list of them, or into their joined texts.
+ghost use Rattle.std.specs.Prelude.{◌≡◌, ◌<◌, ◌≤◌, ◌⊎◌, Bool, List, [], ◌∷◌, ◌++◌, None, Some, true, false, length, map, IfOk, IfSome, OnErr, OnOk, encode_utf8};
+ghost use Rattle.std.specs.Io.{StartsWith};
+ghost use Rattle.csicodec_tokens.specs.Param.{spells, token_text};
+ghost use Rattle.csicodec_actions.specs.Actions.{Action, Sgr as Styled, TakesMemory, Unspecified as Unknown};
+ghost use Rattle.csicodec_parser.specs.ActionOf.{action_of};
+ghost use Rattle.csicodec_parser.specs.Groups.{marked};
+ghost use Rattle.csicodec_parser.specs.Private.Steps.{front};
+ghost use Rattle.csicodec_parser.specs.declared.group.Group.TheVariants.{Styles};
+ghost use Rattle.csicodec_actions.specs.Texts.{text, texts};
+ghost use Rattle.csicodec_parser.specs.ActionOf.{unspecified_text};
+
+use crate::actions::{CSI, Unspecified};
+use crate::group::{self, Group, style_front};
+use csicodec_actions::write_path;
+use csicodec_base::{CsiParam, Sgr, Text, TextBuffer, append_code};
+use std::alloc::{AllocError, Global};
+use std::io::Write;
+
+/// Takes actions in turn.
+pub trait Sink {
+    /// These actions have gone in, and no others.
+    ghost holds: { Self → List Action → Type 0 };
+
+    /// Takes one more. After an `Err` nothing is said of what it holds.
+    fn take(&mut self, action: CSI) -> Result<(), AllocError>
+        ensures { OnOk result ((before : List Action) → holds self.old before → holds self.new (before ++ action_of action ∷ [])) };
+
+    /// Takes the known piece at the front, and answers its number of tokens. After an `Err` nothing is said of what it
+    /// holds.
+    fn take_piece(&mut self, group: Group, rest: &[CsiParam]) -> Result<Option<usize>, AllocError>
+        ensures none { IfOk result (λ len. len ≡ None → (front group rest.now ≡ None) × (self.new ≡ self.old)) }
+        ensures some { IfOk result (λ o. IfSome o (λ len. (action : Action) × (front group rest.now ≡ Some (action, len))
+            × ((before : List Action) → holds self.old before → holds self.new (before ++ action ∷ [])))) }
+        ensures within { IfOk result (λ o. IfSome o (λ len. (0 < len) × (len ≤ length rest.now))) };
+
+    /// Takes an unknown action of these tokens, with what stands before the pieces of the group ahead of them. After an
+    /// `Err` nothing is said of what it holds.
+    fn take_unknown(
+        &mut self,
+        alloc: Global,
+        group: Group,
+        rest: &[CsiParam],
+        truncated: bool,
+        control: char,
+    ) -> Result<(), AllocError>
+        ensures { OnOk result ((before : List Action) → holds self.old before → holds self.new (before ++ Unknown (marked group rest.now) truncated control ∷ [])) };
+}
+
+impl Sink for Vec<CSI> {
+    ghost holds = { λ v actions. map action_of v.items ≡ actions };
+
+    fn take(&mut self, action: CSI) -> Result<(), AllocError> {
+        self.push(action)?;
+        Ok(())
+    }
+
+    #[inline(always)]
+    fn take_piece(&mut self, group: Group, rest: &[CsiParam]) -> Result<Option<usize>, AllocError> {
+        let Some((action, len)) = group::front(group, rest) else {
+            return Ok(None);
+        };
+        self.take(action)?;
+        Ok(Some(len))
+    }
+
+    #[cold]
+    #[inline(never)]
+    fn take_unknown(
+        &mut self,
+        alloc: Global,
+        group: Group,
+        rest: &[CsiParam],
+        truncated: bool,
+        control: char,
+    ) -> Result<(), AllocError> {
+        let mut params = Vec::new(alloc);
+        if let Group::DecModes(_) = group {
+            params.push(CsiParam::P(b'?'))?;
+        }
+        params.extend_from_slice(rest)?;
+        let unspecified = Unspecified {
+            params,
+            parameters_truncated: truncated,
+            control,
+        };
+        let boxed = Box::new(alloc, unspecified)?;
+        self.push(CSI::Unspecified(boxed))?;
+        Ok(())
+    }
+}
+
+/// The joined texts of the actions that went in.
+#[derive(Drop)]
+pub struct Texts {
+    alloc: Global,
+    pub bytes: TextBuffer,
+}
+
+impl Texts {
+    pub fn new(alloc: Global) -> Texts
+        ensures { result.bytes ≡ [] }
+    {
+        Texts {
+            alloc,
+            bytes: TextBuffer::new(alloc),
+        }
+    }
+
+    /// Takes the attribute of a number at the front that sets it alone. `false` where none stands there.
+    #[inline(always)]
+    fn take_code(&mut self, rest: &[CsiParam]) -> Result<bool, AllocError>
+        ensures known { IfOk result (λ known. known ≡ true → (action : Action) × (front Styles rest.now ≡ Some (action, 1))
+            × ((before : List Action) → self.old.bytes ≡ texts before → self.new.bytes ≡ texts (before ++ action ∷ []))) }
+        ensures some { IfOk result (λ known. known ≡ true → 1 ≤ length rest.now) }
+        ensures other { IfOk result (λ known. known ≡ false → self.new ≡ self.old) }
+    {
+        match rest {
+            [CsiParam::Integer(number), ..] => append_code(*number, &mut self.bytes),
+            _ => Ok(false),
+        }
+    }
+
+    /// Takes an attribute.
+    #[inline(always)]
+    fn take_style(&mut self, sgr: &Sgr) -> Result<(), AllocError>
+        ensures { OnOk result ((before : List Action) → self.old.bytes ≡ texts before → self.new.bytes ≡ texts (before ++ Styled sgr.now ∷ [])) }
+    {
+        append_style(&mut self.bytes, sgr)
+    }
+}
+
+impl Sink for Texts {
+    ghost holds = { λ t actions. t.bytes ≡ texts actions };
+
+    #[inline(always)]
+    fn take(&mut self, action: CSI) -> Result<(), AllocError> {
+        append_text(self.alloc, &mut self.bytes, &action)
+    }
+
+    #[inline(always)]
+    fn take_piece(&mut self, group: Group, rest: &[CsiParam]) -> Result<Option<usize>, AllocError> {
+        if let Group::Styles = group {
+            if self.take_code(rest)? {
+                return Ok(Some(1));
+            }
+            let Some((sgr, len)) = style_front(rest) else {
+                return Ok(None);
+            };
+            self.take_style(&sgr)?;
+            return Ok(Some(len));
+        }
+        let Some((action, len)) = group::front(group, rest) else {
+            return Ok(None);
+        };
+        self.take(action)?;
+        Ok(Some(len))
+    }
+
+    #[cold]
+    #[inline(never)]
+    fn take_unknown(
+        &mut self,
+        _alloc: Global,
+        group: Group,
+        rest: &[CsiParam],
+        _truncated: bool,
+        control: char,
+    ) -> Result<(), AllocError> {
+        append_unknown(&mut self.bytes, group, rest, control)
+    }
+}
+
+/// Appends the text of an action. On `Err`, out of memory, what stood there stands in front, unless the action takes
+/// memory.
+#[inline(always)]
+pub fn append_text(
+    alloc: Global,
+    out: &mut TextBuffer,
+    action: &CSI,
+) -> Result<(), AllocError>
+    ensures ok { OnOk result (out.new ≡ out.old ++ text (action_of action.now)) }
+    ensures err { OnErr result (TakesMemory (action_of action.now) ⊎ StartsWith out.new out.old) }
+{
+    let mut text = Text::new();
+    text.push_str("\x1b[");
+    match action {
+        CSI::Sgr(sgr) => sgr.write_to(&mut text),
+        CSI::Cursor(cursor) => cursor.write_to(&mut text),
+        CSI::Edit(edit) => edit.write_to(&mut text),
+        CSI::Mode(mode) => mode.write_to(&mut text),
+        CSI::Device(_) | CSI::Window(_) => return append_displayed(alloc, out, action),
+        CSI::Mouse(mouse) => {
+            mouse.write_code(&mut text);
+            out.push_text(&text)?;
+            let mut place = Text::new();
+            mouse.write_place(&mut place);
+            return out.push_text(&place);
+        }
+        CSI::Keyboard(keyboard) => keyboard.write_to(&mut text),
+        CSI::SelectCharacterPath(path, effect) => write_path(&mut text, path, *effect),
+        CSI::Unspecified(unspecified) => {
+            out.push_slice(b"\x1b[")?;
+            return append_unspecified(out, unspecified);
+        }
+    }
+    out.push_text(&text)
+}
+
+/// Appends the text of an action, however long it is.
+#[cold]
+#[inline(never)]
+fn append_displayed(alloc: Global, out: &mut TextBuffer, action: &CSI) -> Result<(), AllocError>
+    ensures { OnOk result (out.new ≡ out.old ++ text (action_of action.now)) }
+{
+    let mut bytes = std::mem::replace(out, TextBuffer::new(alloc)).into_vec();
+    let written = write!(bytes, "{action}");
+    *out = TextBuffer::of(bytes);
+    written.map_err(|_| AllocError)
+}
+
+/// Appends the text of an attribute.
+#[inline(always)]
+fn append_style(out: &mut TextBuffer, sgr: &Sgr) -> Result<(), AllocError>
+    ensures { OnOk result (out.new ≡ out.old ++ text (Styled sgr.now)) }
+{
+    let mut text = Text::new();
+    text.push_str("\x1b[");
+    sgr.write_to(&mut text);
+    out.push_text(&text)
+}
+
+/// Appends the tokens' texts, and then the final character.
+#[cold]
+fn append_unspecified(out: &mut TextBuffer, unspecified: &Unspecified) -> Result<(), AllocError>
+    ensures { OnOk result (out.new ≡ out.old ++ unspecified_text unspecified.now) }
+{
+    append_list(out, unspecified.params.as_slice(), unspecified.control)
+}
+
+/// Appends the text of an unknown action, of the tokens with what stands before the pieces of the group ahead of them.
+fn append_unknown(
+    out: &mut TextBuffer,
+    group: Group,
+    rest: &[CsiParam],
+    control: char,
+) -> Result<(), AllocError>
+    ensures { OnOk result ((flag : Bool) → out.new ≡ out.old ++ text (Unknown (marked group rest.now) flag control)) }
+{
+    out.push_slice(b"\x1b[")?;
+    if let Group::DecModes(_) = group {
+        out.push_slice(b"?")?;
+    }
+    append_list(out, rest, control)
+}
+
+fn append_list(out: &mut TextBuffer, params: &[CsiParam], control: char) -> Result<(), AllocError>
+    ensures { OnOk result (out.new ≡ out.old ++ (spells params.now ++ encode_utf8 control)) }
+{
+    for param in params {
+        append_token(out, *param)?;
+    }
+    append_char(out, control)
+}
+
+fn append_token(out: &mut TextBuffer, token: CsiParam) -> Result<(), AllocError>
+    ensures { OnOk result (out.new ≡ out.old ++ token_text token) }
+{
+    match token {
+        CsiParam::Integer(number) => {
+            let mut text = Text::new();
+            text.push_i64(number);
+            out.push_text(&text)
+        }
+        CsiParam::P(byte) => append_char(out, char::from(byte)),
+    }
+}
+
+fn append_char(out: &mut TextBuffer, character: char) -> Result<(), AllocError>
+    ensures { OnOk result (out.new ≡ out.old ++ encode_utf8 character) }
+{
+    let mut bytes = [0u8; 4];
+    let encoded = character.encode_utf8(&mut bytes);
+    out.push_slice(encoded.as_bytes())
+}

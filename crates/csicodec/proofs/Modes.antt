@@ -17,9 +17,9 @@ use Rattle.csicodec_actions.specs.Modes.{changed, switched, dec_number, terminal
 use Rattle.csicodec_parser.specs.Segments.{Actions}
 use Rattle.csicodec_actions.specs.Table.Mode.{written_mode}
 use Rattle.csicodec_actions.specs.Written.{tokens}
-use Rattle.csicodec_actions.proofs.Back.Mode.{dec-query-read, query-read, keys-read}
+use Rattle.csicodec_lists.proofs.Back.Mode.{dec-query-read, query-read, keys-read}
 use Rattle.csicodec_actions.specs.Good.{AllGood, Good}
-use Rattle.csicodec_actions.proofs.Items.{is_sound, sound, IsRead}
+use Rattle.csicodec_lists.proofs.Items.{is_sound, sound, IsRead}
 use Rattle.csicodec.proofs.Spelling.{Spelling, written-spelling, cut-one, stuck-empty}
 use Rattle.csicodec_actions.proofs.Values.{read-good}
 

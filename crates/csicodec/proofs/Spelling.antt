@@ -20,7 +20,7 @@ use Rattle.csicodec_actions.specs.Whole.{whole}
 use Rattle.csicodec_actions.specs.Written.{Written, tokens, written_text}
 use Rattle.csicodec_parser.proofs.Fronts.{front_stuck, front_empty}
 use Rattle.csicodec_actions.specs.Good.{AllGood}
-use Rattle.csicodec_actions.proofs.Items.{sound, IsRead}
+use Rattle.csicodec_lists.proofs.Items.{sound, IsRead}
 use Rattle.csicodec.proofs.RowGroups.{whole-group}
 use Rattle.csicodec.proofs.OneReading.{decodes-one, Alone}
 

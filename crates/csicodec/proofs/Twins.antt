@@ -16,8 +16,8 @@ use Rattle.csicodec_actions.specs.Table.Device.{written_parameters}
 use Rattle.csicodec_actions.specs.Texts.{text}
 use Rattle.csicodec_actions.specs.Whole.{whole}
 use Rattle.csicodec_actions.specs.Written.{tokens}
-use Rattle.csicodec_actions.proofs.AllRows.{whole-table}
-use Rattle.csicodec_actions.proofs.Items.{is_sound, sound}
+use Rattle.csicodec_lists.proofs.AllRows.{whole-table}
+use Rattle.csicodec_lists.proofs.Items.{is_sound, sound}
 
 -- the special actions that parsing makes
 abbrev pub IsParsedSpecial : Action → Type 0

@@ -10,13 +10,13 @@ use Rattle.csicodec_actions.specs.Table.Mouse.{written_mouse}
 use Rattle.csicodec_actions.specs.Table.Path.{written_path}
 use Rattle.csicodec_actions.specs.Table.Window.{written_window}
 use Rattle.csicodec_actions.specs.Texts.{written}
-use Rattle.csicodec_actions.proofs.Back.Cursor.{cursor-read}
-use Rattle.csicodec_actions.proofs.Back.Device.{device-read}
-use Rattle.csicodec_actions.proofs.Back.Edit.{edit-read}
-use Rattle.csicodec_actions.proofs.Back.Keyboard.{keyboard-read}
-use Rattle.csicodec_actions.proofs.Back.Mouse.{mouse-read}
-use Rattle.csicodec_actions.proofs.Back.Path.{path-read}
-use Rattle.csicodec_actions.proofs.Back.Window.{window-read}
+use Rattle.csicodec_lists.proofs.Back.Cursor.{cursor-read}
+use Rattle.csicodec_lists.proofs.Back.Device.{device-read}
+use Rattle.csicodec_lists.proofs.Back.Edit.{edit-read}
+use Rattle.csicodec_lists.proofs.Back.Keyboard.{keyboard-read}
+use Rattle.csicodec_lists.proofs.Back.Mouse.{mouse-read}
+use Rattle.csicodec_lists.proofs.Back.Path.{path-read}
+use Rattle.csicodec_lists.proofs.Back.Window.{window-read}
 use Rattle.csicodec_parser.specs.Canonical.{IsCanonicalWritten}
 use Rattle.csicodec.proofs.Modes.{mode-spelling}
 use Rattle.csicodec.proofs.Spelling.{Spelling, written-spelling}

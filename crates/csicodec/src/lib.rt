@@ -20,8 +20,8 @@ pub use csicodec_base::{
     ParseRefusal, ReadCsi, ReadError, Sgr, SgrCode, SrgbaTuple, TabulationClear, TerminalModeCode,
     Text, Underline, VerticalAlign, behind_csi, read_csi, read_csi_into, sgr_front,
 };
-pub use filter::{Filter, NormalForm, Rewrite, append_spans, filter_all};
 pub use csicodec_parser::{CSI, CSIParser, Count, Look, Run, Tokens, Unspecified};
+pub use filter::{Filter, NormalForm, Rewrite, append_spans, filter_all};
 pub use stream::{
     DecodeError, RunError, decode_all, encode, encode_all, normal_form, normalise, parse_all,
 };

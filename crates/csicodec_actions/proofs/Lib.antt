@@ -2,15 +2,6 @@ pub mod Found
 pub mod MouseCodes
 pub mod Values
 pub mod DeviceTexts
-pub mod Made
-pub mod AllRows
 pub mod FieldsAt
 pub mod AllFieldRows
-pub mod Boxed
-pub mod Disjoint
-pub mod FieldsApart
 pub mod GraphicsBehind
-pub mod Items
-pub mod LeftOut
-pub mod Back
-pub mod OwnNumbers

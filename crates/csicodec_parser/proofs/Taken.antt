@@ -15,7 +15,7 @@ use Rattle.csicodec_actions.specs.Texts.{text, texts}
 use Rattle.csicodec_actions.specs.Whole.{plain}
 use Rattle.csicodec_parser.proofs.Fronts.{piece_of_front}
 use Rattle.csicodec_parser.proofs.Blocks.{semicolon_from, segments_block, after_unknown, first_cut, odd_unknown, body_some}
-use Rattle.csicodec_actions.proofs.Boxed.{plain_whole, boxed_whole}
+use Rattle.csicodec_lists.proofs.Boxed.{plain_whole, boxed_whole}
 use Rattle.csicodec_parser.proofs.Rests.{rest_unknown}
 
 pub on_ok : {T E P Q : Type 0} (r : Result T E) → (P → Q) → OnOk r P → OnOk r Q

@@ -10,12 +10,12 @@ use crate::actions::{CSI, Unspecified};
 use crate::group::{Group, front};
 use crate::list::{group_of, is_odd};
 use crate::whole::{boxed_action, plain_action};
-use csicodec_actions::canonical::{
+use csicodec_base::{CsiParam, Font, Sgr};
+use csicodec_lists::canonical::{
     is_canonical_cursor, is_canonical_device, is_canonical_edit, is_canonical_keyboard,
     is_canonical_mode, is_canonical_mouse, is_canonical_window, is_said, is_special,
     is_spellable_token,
 };
-use csicodec_base::{CsiParam, Font, Sgr};
 use std::alloc::{AllocError, Global};
 
 /// Of the alternative fonts nine have a code.

@@ -174,11 +174,7 @@ impl Sink for Texts {
 /// Appends the text of an action. On `Err`, out of memory, what stood there stands in front, unless the action takes
 /// memory.
 #[inline(always)]
-pub fn append_text(
-    alloc: Global,
-    out: &mut TextBuffer,
-    action: &CSI,
-) -> Result<(), AllocError>
+pub fn append_text(alloc: Global, out: &mut TextBuffer, action: &CSI) -> Result<(), AllocError>
     ensures ok { OnOk result (out.new ≡ out.old ++ text (action_of action.now)) }
     ensures err { OnErr result (TakesMemory (action_of action.now) ⊎ StartsWith out.new out.old) }
 {

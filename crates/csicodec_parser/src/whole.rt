@@ -6,11 +6,12 @@ ghost use Rattle.csicodec_actions.specs.Whole.{boxed, plain};
 ghost use Rattle.csicodec_actions.specs.FieldRows.{IsReadByFields};
 
 use crate::actions::CSI;
-use csicodec_actions::{
-    Device, cursor_action, device_action, edit_action, graphics_action, keyboard_action,
-    mode_action, mouse_action, path_action, window_action,
-};
+use csicodec_actions::Device;
 use csicodec_base::CsiParam;
+use csicodec_lists::{
+    cursor_action, device_action, edit_action, graphics_action, keyboard_action, mode_action,
+    mouse_action, path_action, window_action,
+};
 use std::alloc::{AllocError, Global};
 
 /// The action of a list that is read whole, if a row reads it, and its value holds no memory.

@@ -5,7 +5,7 @@ ghost use Rattle.csicodec_actions.specs.Kinds.{Count};
 ghost use Rattle.csicodec_actions.specs.Table.Cursor.{written_cursor};
 ghost use Rattle.csicodec_actions.specs.Written.{shown, two, written_text};
 
-use crate::params::{EncodeCSIParam, write_pair};
+use crate::encode::{EncodeCSIParam, write_pair};
 use csicodec_base::{CursorStyle, CursorTabulationControl, OneBased, TabulationClear, Text};
 use std::fmt;
 

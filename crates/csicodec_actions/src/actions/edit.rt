@@ -3,7 +3,7 @@ ghost use Rattle.std.specs.Prelude.{◌≡◌, ◌≤◌, ◌++◌, Some, length
 ghost use Rattle.csicodec_actions.specs.Table.Edit.{written_edit};
 ghost use Rattle.csicodec_actions.specs.Written.{written_text};
 
-use crate::params::EncodeCSIParam;
+use crate::encode::EncodeCSIParam;
 use csicodec_base::{EraseInDisplay, EraseInLine, Text};
 use std::fmt;
 

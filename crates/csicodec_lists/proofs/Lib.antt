@@ -1,0 +1,9 @@
+pub mod Made
+pub mod AllRows
+pub mod Boxed
+pub mod Disjoint
+pub mod FieldsApart
+pub mod Items
+pub mod LeftOut
+pub mod Back
+pub mod OwnNumbers

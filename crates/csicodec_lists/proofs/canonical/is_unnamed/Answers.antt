@@ -1,0 +1,11 @@
+use Rattle.std.proofs.Common.{rules}
+use mir.Syntax.{w64}
+use mir.Val.{SFits}
+use Rattle.csicodec_names.specs.DeviceNumbers.{device_attribute_number}
+use Rattle.csicodec_lists.proofs.OwnNumbers.{unnamed-told}
+use Rattle.csicodec_lists.proofs.canonical.is_unnamed.Goals as goal
+
+pub returns-in-Integer : goal.returns-in-Integer
+returns-in-Integer c =
+    let fits : SFits w64 c.in-Integer.number = search rules in
+    rw c.in-Integer.is (unnamed-told device_attribute_number c.in-Integer.number fits c.from_i64.result c.from_i64.ensures c.is_none.result c.is_none.ensures)

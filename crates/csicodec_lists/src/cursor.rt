@@ -1,0 +1,138 @@
+//! The rows of the cursor.
+ghost use Rattle.std.specs.Prelude.{◌≡◌};
+ghost use Rattle.std.specs.Option.{option_map};
+ghost use Rattle.csicodec_actions.specs.Actions.{Cursor as Moves};
+ghost use Rattle.csicodec_actions.specs.Kinds.{Style, read};
+ghost use Rattle.csicodec_actions.specs.Table.Cursor.{as_cursor};
+
+use crate::params::{ParseParams, made};
+use csicodec_actions::Cursor;
+use csicodec_base::{CsiParam, CursorStyle, OneBased};
+
+/// The action of the cursor before this final character, if a row reads the list.
+pub fn cursor_action(params: &[CsiParam], control: char) -> Option<Cursor>
+    ensures { option_map (λ c. Moves c) result ≡ as_cursor params.now control }
+{
+    match control {
+        'A' => made(params, Cursor::Up),
+        'B' => made(params, Cursor::Down),
+        'C' => made(params, Cursor::Right),
+        'D' => made(params, Cursor::Left),
+        'E' => made(params, Cursor::NextLine),
+        'F' => made(params, Cursor::PrecedingLine),
+        'G' => made(params, Cursor::CharacterAbsolute),
+        '`' => made(params, Cursor::CharacterPositionAbsolute),
+        'H' => {
+            let (line, col) = ParseParams::parse_params(params)?;
+            Some(Cursor::Position { line, col })
+        }
+        'R' => {
+            let (line, col) = ParseParams::parse_params(params)?;
+            Some(Cursor::ActivePositionReport { line, col })
+        }
+        'f' => {
+            let (line, col) = ParseParams::parse_params(params)?;
+            Some(Cursor::CharacterAndLinePosition { line, col })
+        }
+        'I' => made(params, Cursor::ForwardTabulation),
+        'Z' => made(params, Cursor::BackwardTabulation),
+        'Y' => made(params, Cursor::LineTabulation),
+        'a' => made(params, Cursor::CharacterPositionForward),
+        'j' => made(params, Cursor::CharacterPositionBackward),
+        'd' => made(params, Cursor::LinePositionAbsolute),
+        'e' => made(params, Cursor::LinePositionForward),
+        'k' => made(params, Cursor::LinePositionBackward),
+        'W' => made(params, Cursor::TabulationControl),
+        'g' => made(params, Cursor::TabulationClear),
+        'r' => top_and_bottom(params),
+        's' => left_and_right(params),
+        'u' => restore(params),
+        'n' => request(params),
+        'q' => style(params),
+        _ => None,
+    }
+}
+
+/// A top and a bottom margin. A bottom of 0, or that is left out, is 4294967295.
+#[tactic(auto, unfolding(csicodec_actions::specs::Kinds::read, csicodec_actions::specs::Table::Cursor::as_cursor))]
+fn top_and_bottom(params: &[CsiParam]) -> Option<Cursor>
+    ensures { option_map (λ c. Moves c) result ≡ as_cursor params.now 114 }
+{
+    let (top, bottom) = match params {
+        [] => (OneBased::new(1), OneBased::new(u32::MAX)),
+        [top] => (OneBased::from_esc_param(top).ok()?, OneBased::new(u32::MAX)),
+        [top, CsiParam::P(b';'), bottom] => (
+            OneBased::from_esc_param(top).ok()?,
+            OneBased::from_esc_param_with_big_default(bottom).ok()?,
+        ),
+        [CsiParam::P(b';'), bottom] => (
+            OneBased::new(1),
+            OneBased::from_esc_param_with_big_default(bottom).ok()?,
+        ),
+        _ => return None,
+    };
+    Some(Cursor::SetTopAndBottomMargins { top, bottom })
+}
+
+/// Without a parameter the cursor is saved; else a left and a right margin. A right that is left out is 4294967295, and
+/// one of 0 is 1.
+#[tactic(auto, unfolding(csicodec_actions::specs::Kinds::read, csicodec_actions::specs::Table::Cursor::as_cursor))]
+fn left_and_right(params: &[CsiParam]) -> Option<Cursor>
+    ensures { option_map (λ c. Moves c) result ≡ as_cursor params.now 115 }
+{
+    let (left, right) = match params {
+        [] => return Some(Cursor::SaveCursor),
+        [left] => (
+            OneBased::from_esc_param(left).ok()?,
+            OneBased::new(u32::MAX),
+        ),
+        [left, CsiParam::P(b';'), right] => (
+            OneBased::from_esc_param(left).ok()?,
+            OneBased::from_esc_param(right).ok()?,
+        ),
+        [CsiParam::P(b';'), right] => (OneBased::new(1), OneBased::from_esc_param(right).ok()?),
+        _ => return None,
+    };
+    Some(Cursor::SetLeftAndRightMargins { left, right })
+}
+
+/// No parameter restores the cursor.
+#[tactic(auto, unfolding(csicodec_actions::specs::Table::Cursor::as_cursor))]
+fn restore(params: &[CsiParam]) -> Option<Cursor>
+    ensures { option_map (λ c. Moves c) result ≡ as_cursor params.now 117 }
+{
+    match params {
+        [] => Some(Cursor::RestoreCursor),
+        _ => None,
+    }
+}
+
+/// The number 6 asks for the place of the cursor.
+#[tactic(auto, unfolding(csicodec_actions::specs::Table::Cursor::as_cursor))]
+fn request(params: &[CsiParam]) -> Option<Cursor>
+    ensures { option_map (λ c. Moves c) result ≡ as_cursor params.now 110 }
+{
+    match params {
+        [CsiParam::Integer(6)] => Some(Cursor::RequestActivePositionReport),
+        _ => None,
+    }
+}
+
+/// The number of a style, and a space.
+#[tactic(auto, unfolding(csicodec_actions::specs::Table::Cursor::as_cursor))]
+fn style(params: &[CsiParam]) -> Option<Cursor>
+    ensures { option_map (λ c. Moves c) result ≡ as_cursor params.now 113 }
+{
+    match params {
+        [CsiParam::Integer(number), CsiParam::P(b' ')] => {
+            Some(Cursor::CursorStyle(style_at(*number)?))
+        }
+        _ => None,
+    }
+}
+
+fn style_at(number: i64) -> Option<CursorStyle>
+    ensures { result ≡ read Style number }
+{
+    CursorStyle::from_i64(number)
+}

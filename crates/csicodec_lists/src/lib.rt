@@ -1,0 +1,25 @@
+//! Lists that are read whole: which list is which action before which final character, and which actions are read back from
+//! their own texts. `csicodec` exports what is for users.
+#![tactic(auto)]
+
+pub mod canonical;
+mod cursor;
+mod device;
+mod edit;
+mod keyboard;
+pub mod laws;
+mod mode;
+mod mouse;
+mod params;
+mod path;
+mod window;
+
+pub use csicodec_actions::graphics_action;
+pub use cursor::cursor_action;
+pub use device::device_action;
+pub use edit::edit_action;
+pub use keyboard::keyboard_action;
+pub use mode::mode_action;
+pub use mouse::mouse_action;
+pub use path::path_action;
+pub use window::window_action;

@@ -11,7 +11,7 @@ ghost use Rattle.csicodec_tokens.specs.Fault.{FaultOf, Refuses};
 ghost use Rattle.csicodec_tokens.specs.Private.Reading.{IsNumber, IsTooLarge, IsFirstToken, IsPart, HasRead, HasCounted};
 
 use crate::param::CsiParam;
-use std::alloc::{AllocError, Global};
+use std::alloc::{AllocError, AllocFailed, Global};
 
 /// A control sequence that was read, and the bytes behind it.
 #[derive(Debug, Drop)]
@@ -41,6 +41,12 @@ pub struct CsiTail<'a> {
 ///
 /// Each `at` is a place in the bytes that were passed, counted from 0. But for `Truncated` it is the
 /// first byte with which they are the beginning of no control sequence.
+///
+/// ```text
+/// read_csi(alloc, b"a")                // Err(NotCsi { at: 0 }), printed as "byte 0: not a sequence"
+/// read_csi(alloc, b"\x1b[1\x07m")      // Err(BadByte { at: 3 }), "byte 3: bad byte"
+/// read_csi(alloc, b"\x1b[1")           // Err(Truncated { at: 3 }), "byte 3: truncated"
+/// ```
 #[derive(Clone, Copy, Debug, PartialEq, Eq)]
 pub enum ReadError {
     /// The bytes don't begin with `ESC [`: `at` is 0 where the first byte isn't ESC, and 1 where
@@ -66,6 +72,14 @@ impl From<AllocError> for ReadError {
     ghost from_gives = { λ _ e. e ≡ Memory };
 
     fn from(_e: AllocError) -> ReadError {
+        ReadError::Memory
+    }
+}
+
+impl<T: Drop> From<AllocFailed<T>> for ReadError {
+    ghost from_gives = { λ _ e. e ≡ Memory };
+
+    fn from(_e: AllocFailed<T>) -> ReadError {
         ReadError::Memory
     }
 }

@@ -67,7 +67,7 @@ fn read_events<'a>(
         match read_csi_into(&mut params, rest) {
             Ok(tail) => {
                 let found = read_event(alloc, &params, tail.control)?;
-                out.push(found).map_err(|_| ReadError::Memory)?;
+                out.push(found)?;
                 rest = tail.rest;
             }
             Err(ReadError::Truncated { .. }) => return Ok(rest),

@@ -9,6 +9,13 @@ use crate::{
 /// What a sequence does with the cursor, with tab stops or with margins. The unit is the cell of one character. Counts
 /// are 1 or more where they were read; a terminal takes 0 for 1, and so `Up(0)` is written `0A` and read back as
 /// `Up(1)`. Lines and columns are counted from 1, at the top and at the left.
+///
+/// ```text
+/// "\x1b[2A"          Up(2)
+/// "\x1b[5;7H"        Position { line: 5, col: 7 }
+/// "\x1b[r"           SetTopAndBottomMargins { top: 1, bottom: 4294967295 }
+/// "\x1b[6n"          RequestActivePositionReport
+/// ```
 #[derive(Clone, Copy, Debug, PartialEq, Eq, Hash)]
 pub enum Cursor {
     /// CUU (ECMA-48, 8.3.22): this many lines up.
@@ -95,6 +102,12 @@ pub enum Cursor {
 
 /// What a sequence does with the characters of the page. The unit is the cell of one character. Counts are 1 or more
 /// where they were read; a terminal takes 0 for 1, and so `Repeat(0)` is written `0b` and read back as `Repeat(1)`.
+///
+/// ```text
+/// "\x1b[K"           EraseInLine(EraseToEndOfLine)
+/// "\x1b[2J"          EraseInDisplay(EraseDisplay)
+/// "\x1b[3L"          InsertLine(3)
+/// ```
 #[derive(Clone, Copy, Debug, PartialEq, Eq, Hash)]
 pub enum Edit {
     /// ICH (ECMA-48, 8.3.64): this many blanks at the cursor, and what stood there moves to the right.
@@ -120,6 +133,11 @@ pub enum Edit {
 }
 
 /// A private mode.
+///
+/// ```text
+/// DecPrivateMode::from(2004)         // Code(BracketedPaste)
+/// DecPrivateMode::from(7777)         // Unspecified(7777)
+/// ```
 #[derive(Clone, Copy, Debug, PartialEq, Eq, Hash)]
 pub enum DecPrivateMode {
     /// One that has a name.
@@ -130,6 +148,11 @@ pub enum DecPrivateMode {
 }
 
 /// A mode of the standard, or of a terminal that took a number beside it.
+///
+/// ```text
+/// TerminalMode::from(4)              // Code(Insert)
+/// TerminalMode::from(99)             // Unspecified(99)
+/// ```
 #[derive(Clone, Copy, Debug, PartialEq, Eq, Hash)]
 pub enum TerminalMode {
     /// One that has a name.
@@ -176,6 +199,13 @@ impl XtermKeyModifierResource {
 }
 
 /// What a sequence does with one mode of the terminal, and what xterm sends for a key with modifiers.
+///
+/// ```text
+/// "\x1b[?25l"        ResetDecPrivateMode(Code(ShowCursor))
+/// "\x1b[4h"          SetMode(Code(Insert))
+/// "\x1b[?2004$p"     QueryDecPrivateMode(Code(BracketedPaste))
+/// "\x1b[>4;2m"       XtermKeyMode { resource: OtherKeys, value: Some(2) }
+/// ```
 #[derive(Clone, Copy, Debug, PartialEq, Eq, Hash)]
 pub enum Mode {
     /// DECSET (DEC VT510, xterm): the private mode is set.
@@ -230,6 +260,12 @@ pub enum DeviceAttributes {
 }
 
 /// Requests to a terminal, and its answers.
+///
+/// ```text
+/// "\x1b[c"           RequestPrimaryDeviceAttributes
+/// "\x1b[?62;1;4c"    DeviceAttributes(Vt220(..)) of Code(Columns132) and Code(SixelGraphics)
+/// "\x1b[!p"          SoftReset
+/// ```
 #[derive(Clone, Debug, PartialEq, Eq, Hash)]
 pub enum Device {
     /// DA1 (ECMA-48, 8.3.24; DEC VT220 and up): the answer to the primary device attributes.
@@ -432,6 +468,11 @@ impl MouseButton {
 }
 
 /// A report (xterm's ctlseqs, modes 1006 and 1016): the place, the button and what is held.
+///
+/// ```text
+/// "\x1b[<0;5;6M"     SGR1006 { x: 5, y: 6, button: Button1Press, modifiers: NONE }
+/// "\x1b[<4;5;6m"     SGR1006 { x: 5, y: 6, button: Button1Release, modifiers: SHIFT }
+/// ```
 #[derive(Clone, Copy, Debug, PartialEq, Eq, Hash)]
 pub enum MouseReport {
     /// In cells.
@@ -462,9 +503,15 @@ pub enum MouseReport {
 /// What is done to the window of a terminal, asked of it and answered: XTWINOPS (xterm's ctlseqs, "Window
 /// manipulation"; the operations 1 to 8 and their numbers come from dtterm), and DECRQCRA (DEC VT420).
 ///
-///  Sizes and places are of 64 bits and take any sign where a value is built by hand; what is read from a sequence is 0
+/// Sizes and places are of 64 bits and take any sign where a value is built by hand; what is read from a sequence is 0
 /// or more, and one below 0 isn't read back. An absent number is one that the sequence leaves out: the terminal then
 /// keeps that size as it is (xterm).
+///
+/// ```text
+/// "\x1b[8;24;80t"            ResizeWindowCells { width: Some(80), height: Some(24) }
+/// "\x1b[21t"                 ReportWindowTitle
+/// "\x1b[1;1;1;1;9;9*y"       ChecksumRectangularArea of request 1 and page 1, from line 1 and column 1 to 9 and 9
+/// ```
 #[derive(Clone, Copy, Debug, PartialEq, Eq, Hash)]
 pub enum Window {
     /// 1: the window is opened again, if it was an icon.
@@ -605,6 +652,12 @@ impl KittyKeyboardMode {
 }
 
 /// What the keyboard reports, set and asked for: kitty's keyboard protocol.
+///
+/// ```text
+/// "\x1b[=1;1u"       SetKittyState { flags: DISAMBIGUATE_ESCAPE_CODES, mode: AssignAll }
+/// "\x1b[<2u"         PopKittyState(2)
+/// "\x1b[?u"          QueryKittySupport
+/// ```
 #[derive(Clone, Copy, Debug, PartialEq, Eq, Hash)]
 pub enum Keyboard {
     /// The flags change in this way.

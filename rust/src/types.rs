@@ -13,6 +13,13 @@ pub enum Font {
 
 /// An attribute of text: what one parameter of `CSI .. m` sets (SGR, "select graphic rendition"; ECMA-48, 8.3.117). It
 /// holds for the characters that follow, until it is set anew.
+///
+/// ```text
+/// "\x1b[1m"                 Intensity(Bold)
+/// "\x1b[4:3m"               Underline(Curly)
+/// "\x1b[31m"                Foreground(PaletteIndex(1))
+/// "\x1b[48:2::1:2:3m"       Background(TrueColor(SrgbaTuple(1, 2, 3, 255)))
+/// ```
 #[derive(Clone, Copy, Debug, PartialEq, Eq, Hash)]
 pub enum Sgr {
     /// All attributes back to the default rendition.
@@ -46,6 +53,12 @@ pub enum Sgr {
 }
 
 /// Which colour a sequence asks for.
+///
+/// ```text
+/// "\x1b[39m"                Default, of the character
+/// "\x1b[38:5:200m"          PaletteIndex(200)
+/// "\x1b[38:2::1:2:3m"       TrueColor(SrgbaTuple(1, 2, 3, 255))
+/// ```
 #[derive(Clone, Copy, Debug, PartialEq, Eq, Hash)]
 pub enum ColorSpec {
     /// The terminal's own: of the ground codes 39 and 49 (ECMA-48), of an underline 59 (kitty, VTE).

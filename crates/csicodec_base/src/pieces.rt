@@ -17,10 +17,16 @@ use csicodec_tokens::CsiParam::{self, Integer, P};
 /// without the `;` after it.
 ///
 /// It is none for an empty list, and where the front is unknown: no attribute begins with it, or a part of the colour
-/// that its longest shape spells is not a number from 0 to 255. No more than the first 13 tokens are looked at.
+/// that its longest shape spells is not a number from 0 to 255. No more than the first 13 tokens decide it.
 ///
 /// The table is that of ECMA-48, 8.3.117, with the colours behind 38 and 48 as ISO/IEC 8613-6 has them or with
 /// semicolons (xterm), and with what terminals have added since; see `SgrCode`.
+///
+/// ```text
+/// sgr_front(&[Integer(1), P(b';'), Integer(3)])                       // Some((Intensity(Bold), 1))
+/// sgr_front(&[Integer(38), P(b';'), Integer(5), P(b';'), Integer(9)])  // Some((Foreground(PaletteIndex(9)), 5))
+/// sgr_front(&[Integer(38)])                                           // None
+/// ```
 pub fn sgr_front(rest: &[CsiParam]) -> Option<(Sgr, usize)>
     ensures piece { IsFront rest.now result }
     // It is the answer for every list with the same first 13 tokens.

@@ -22,6 +22,13 @@ pub enum Font {
 /// An attribute of text: what one parameter of `CSI .. m` sets (SGR, "select graphic rendition"; ECMA-48, 8.3.117).
 /// It holds for the characters that follow, until it is set anew. It prints its parameters and the `m`; `CSI` prints the
 /// `ESC [` too.
+///
+/// ```text
+/// "\x1b[1m"                 Intensity(Bold)
+/// "\x1b[4:3m"               Underline(Curly)
+/// "\x1b[31m"                Foreground(PaletteIndex(1))
+/// "\x1b[48:2::1:2:3m"       Background(TrueColor(SrgbaTuple(1, 2, 3, 255)))
+/// ```
 #[derive(Clone, Copy, PartialEq, Eq, Debug)]
 pub enum Sgr {
     /// All attributes back to the default rendition.
@@ -59,7 +66,7 @@ impl Sgr {
     /// most before.
     ///
     /// A true colour has colons between its parts and an empty colour space (ISO/IEC 8613-6), so that a terminal that
-    /// doesn't know it drops it whole. An alternative font that is not 1 to 9 has no bytes at all, not even the `m`.
+    /// doesn't know it drops all of it. An alternative font that is not 1 to 9 has no bytes at all, not even the `m`.
     pub fn write_to(&self, text: &mut Text)
         requires room { length text.old ≤ 10 }
         ensures { text.new ≡ text.old ++ sgr_text self.now }

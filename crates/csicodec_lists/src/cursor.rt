@@ -10,6 +10,11 @@ use csicodec_actions::Cursor;
 use csicodec_base::{CsiParam, CursorStyle, OneBased};
 
 /// The action of the cursor before this final character, if a row reads the list.
+///
+/// ```text
+/// cursor_action(&[CsiParam::Integer(2)], 'A')        // Some(Cursor::Up(2))
+/// cursor_action(&[CsiParam::Integer(2)], 'm')        // None
+/// ```
 pub fn cursor_action(params: &[CsiParam], control: char) -> Option<Cursor>
     ensures { option_map (λ c. Moves c) result ≡ as_cursor params.now control }
 {

@@ -117,7 +117,7 @@ pub enum SgrCode {
 
 const PLACES: usize = 108;
 
-/// The code of each number from 0 to 107, so that finding it is one look.
+/// The code of each number from 0 to 107, a place for each, so that finding it is one look.
 static CODES: [Option<SgrCode>; PLACES] = [
     Some(SgrCode::Reset),
     Some(SgrCode::IntensityBold),
@@ -238,6 +238,11 @@ impl SgrCode {
     }
 
     /// The code that has this number, and none where no code has it, as below 0, above 107, and for 20, 26 and 50.
+    ///
+    /// ```text
+    /// SgrCode::from_i64(31)        // Some(ForegroundRed)
+    /// SgrCode::from_i64(108)       // None
+    /// ```
     pub fn from_i64(number: i64) -> Option<Self>
         ensures { (code : SgrCode) → (result ≡ Some code) ↔ (number ≡ pos (number_of code)) }
     {

@@ -6,6 +6,11 @@ ghost use Rattle.csicodec_names.specs.declared.color.ColorSpec.TheVariants as sp
 
 /// The names of the first 16 places of a terminal's palette. The first 8 are the colours that codes 30 to 37 and 40 to
 /// 47 set (ECMA-48, 8.3.117), the others the bright ones behind them, 90 to 97 and 100 to 107 (aixterm, xterm).
+///
+/// ```text
+/// ColorSpec::from(AnsiColor::Maroon)      // PaletteIndex(1), the colour of "\x1b[31m"
+/// AnsiColor::from_u8(9)                   // Some(Red), the colour of "\x1b[91m"
+/// ```
 #[derive(Clone, Copy, PartialEq, Eq, Hash, Debug)]
 pub enum AnsiColor {
     Black = 0,
@@ -71,6 +76,10 @@ impl AnsiColor {
 }
 
 /// A colour by its parts: red, green, blue and alpha, each 0 to 255. An alpha of 255 is opaque, 0 is unseen.
+///
+/// ```text
+/// SrgbaTuple::from((255, 128, 0))         // SrgbaTuple(255, 128, 0, 255)
+/// ```
 #[derive(Clone, Copy, PartialEq, Eq, Hash, Debug)]
 pub struct SrgbaTuple(pub u8, pub u8, pub u8, pub u8);
 
@@ -102,6 +111,12 @@ impl From<(u8, u8, u8, u8)> for SrgbaTuple {
 }
 
 /// Which colour a sequence asks for.
+///
+/// ```text
+/// "\x1b[39m"                Default, of the character
+/// "\x1b[38:5:200m"          PaletteIndex(200)
+/// "\x1b[38:2::1:2:3m"       TrueColor(SrgbaTuple(1, 2, 3, 255))
+/// ```
 #[derive(Clone, Copy, PartialEq, Eq, Hash, Debug)]
 pub enum ColorSpec {
     /// The terminal's own: of the ground codes 39 and 49 (ECMA-48), of an underline 59 (kitty, VTE).

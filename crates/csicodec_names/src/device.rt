@@ -42,6 +42,10 @@ impl DeviceAttributeCodes {
     }
 
     /// The extension that has this number, and none where no extension has it.
+    ///
+    /// ```text
+    /// DeviceAttributeCodes::from_i64(4)        // Some(SixelGraphics)
+    /// ```
     pub fn from_i64(number: i64) -> Option<Self>
         ensures { (code : DeviceAttributeCodes) → (result ≡ Some code) ↔ (number ≡ pos (device_attribute_number code)) }
     {

@@ -28,6 +28,12 @@ impl Esc {
     /// counts as 0; or the two arguments as they are where no code has that number.
     ///
     /// So `Some(0)` says the same as `None` before a control that is a code by itself.
+    ///
+    /// ```text
+    /// Esc::parse(None, b'7')              // Code(DecSaveCursorPosition), printed as "\x1b7"
+    /// Esc::parse(Some(b'('), b'0')        // Code(DecLineDrawingG0), "\x1b(0"
+    /// Esc::parse(Some(b'!'), b'a')        // Unspecified { intermediate: Some(b'!'), control: b'a' }, "\x1b!a"
+    /// ```
     pub fn parse(intermediate: Option<u8>, control: u8) -> Esc
         ensures { EscOf intermediate control result }
     {
@@ -178,6 +184,10 @@ impl EscCode {
     }
 
     /// The code of that number, or none where no code has it.
+    ///
+    /// ```text
+    /// EscCode::from_u16(0x4f53)           // Some(F4Press), "\x1bOS"
+    /// ```
     pub fn from_u16(number: u16) -> Option<Self>
         ensures { (code : EscCode) → (result ≡ Some code) ↔ (number ≡ esc_number code) }
     {

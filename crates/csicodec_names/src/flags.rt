@@ -7,6 +7,14 @@ use bitflags::{Flag, Flags};
 
 /// The keys that are held down while another key or a button is pressed. The bits of shift, meta and control in a report
 /// of the mouse are 4, 8 and 16 (xterm): twice these.
+///
+/// Its operations are those of the trait `bitflags::Flags`.
+///
+/// ```text
+/// let held = Modifiers::SHIFT.union(Modifiers::CTRL);
+/// held.contains(Modifiers::CTRL)                      // true
+/// held.bits()                                         // 10
+/// ```
 #[derive(Clone, Copy, PartialEq, Eq, Hash, Debug)]
 pub struct Modifiers {
     bits: u16,
@@ -65,6 +73,12 @@ impl Flags for Modifiers {
 }
 
 /// The buttons of a mouse that are held down, and the turns of its wheels.
+///
+/// Its operations are those of the trait `bitflags::Flags`.
+///
+/// ```text
+/// MouseButtons::LEFT.union(MouseButtons::RIGHT).bits()                 // 3
+/// ```
 #[derive(Clone, Copy, PartialEq, Eq, Hash, Debug)]
 pub struct MouseButtons {
     bits: u8,
@@ -141,6 +155,12 @@ impl Flags for MouseButtons {
 }
 
 /// What a program asks of the reports of keys (kitty's keyboard protocol, progressive enhancement).
+///
+/// Its operations are those of the trait `bitflags::Flags`.
+///
+/// ```text
+/// KittyKeyboardFlags::from_bits_truncate(33)      // DISAMBIGUATE_ESCAPE_CODES, which is 1; 32 has no name
+/// ```
 #[derive(Clone, Copy, PartialEq, Eq, Hash, Debug)]
 pub struct KittyKeyboardFlags {
     bits: u16,

@@ -11,6 +11,10 @@ use std::alloc::{AllocError, Global};
 
 /// A parameter list, or what is left of one, that none of the rules reads: nothing of it is lost. It prints its tokens and the
 /// final character; `CSI` prints the `ESC [` too.
+///
+/// ```text
+/// "\x1b[1;A"         Unspecified { params: 1 and ';', parameters_truncated: false, control: 'A' }
+/// ```
 #[derive(Debug, Drop, PartialEq, Eq)]
 pub struct Unspecified {
     /// The tokens, as they came. What is left behind private modes has a `?` ahead of it, so that its text means the same.

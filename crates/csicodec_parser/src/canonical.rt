@@ -122,6 +122,11 @@ impl CSI {
     /// name has no number of one that has a name; an alternative font is 1 to 9; flags and modifiers are those that have
     /// names; no report of the mouse is in pixels; and what is unknown has this flag, tokens and a final character that a
     /// sequence can have, and none of the rules reads it. An `Err` comes only for an `Unspecified`.
+    ///
+    /// ```text
+    /// CSI::from(Cursor::Up(2)).is_canonical(alloc, false)?      // true
+    /// CSI::from(Cursor::Up(0)).is_canonical(alloc, false)?      // false: its text "\x1b[0A" is read as Up(1)
+    /// ```
     pub fn is_canonical(
         &self,
         alloc: Global,

@@ -315,6 +315,10 @@ impl<L: Look> Run<L> {
 
     /// A run over tokens of which none is passed and none was looked at. Nothing is read yet, and no memory taken.
     /// The flag and the final character go into every `Unspecified`.
+    ///
+    /// ```text
+    /// Run::over(alloc, Tokens::new(&params), false, 'm')      // what CSI::parse(alloc, &params, false, 'm') answers
+    /// ```
     pub fn over(alloc: Global, tokens: L, parameters_truncated: bool, control: char) -> Run<L>
         requires passed { L.passed tokens ≡ 0 }
         requires looks { L.looks tokens ≡ 0 }
@@ -391,6 +395,13 @@ impl CSI {
     ///
     /// Any tokens and any character are taken: what none of the rules reads comes as an `Unspecified`, with the flag
     /// `parameters_truncated` that the caller hands in.
+    ///
+    /// ```text
+    /// let read = read_csi(alloc, b"\x1b[1;31m")?;
+    /// for action in CSI::parse(alloc, &read.params, false, read.control) {
+    ///     apply(&action?);      // Intensity(Bold), and then Foreground(PaletteIndex(1))
+    /// }
+    /// ```
     pub fn parse<'a>(
         alloc: Global,
         params: &'a [CsiParam],
@@ -407,11 +418,19 @@ impl<'a> Run<Tokens<'a>> {
     ghost use Rattle.csicodec_parser.specs.Progress.{HasEnded};
     ghost use Rattle.csicodec_parser.specs.Cut.{IsRestAfter};
 
-    /// The unread suffix of the caller's list, for the list's whole life: the whole list before the first `next`, and
-    /// never `Some` of nothing after one. `None` after the last action, and after an `Err`.
+    /// The unread end of the caller's list: all of it before the first `next`, and never `Some` of nothing after one. It may be
+    /// kept for as long as the list. `None` after the last action, and after an `Err`.
     ///
     /// After an action of a private mode the `?` that began the list is not in it: of `?1;99999` before `h` it is then
     /// `99999`, where the `Unspecified` that `next` answers holds `?99999`.
+    ///
+    /// ```text
+    /// let mut run = CSI::parse(alloc, &params, false, 'm');     // where params are 1, ';', 999, ';', 3
+    /// run.next()        // Intensity(Bold)
+    /// run.rest()        // Some, of 999, ';', 3
+    /// run.next()        // Unspecified, of the same three
+    /// run.rest()        // None
+    /// ```
     pub fn rest(&self) -> Option<&'a [CsiParam]>
         ensures cut { IfSome result (λ rest. IsRestAfter self.now.list self.now.final self.now.given rest.now) }
         ensures suffix { IfSome result (λ rest. rest.now ≡ drop self.now.passed self.now.list) }

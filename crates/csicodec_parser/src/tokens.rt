@@ -38,7 +38,7 @@ impl<'a> Tokens<'a> {
         }
     }
 
-    /// What is unread, for the list's whole life.
+    /// What is unread. It may be kept for as long as the list.
     pub fn rest(&self) -> &'a [CsiParam]
         ensures { result.now ≡ drop self.now.passed self.now.list }
     {

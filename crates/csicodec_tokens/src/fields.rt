@@ -18,6 +18,14 @@ use std::marker::Model;
 /// A number is a field, with the `;` directly behind it if there is one; any other `;` is an empty field. So `1;;2` has
 /// the fields 1, none and 2; `6;` has 6 alone; and `6;;` has 6 and none. The window operations of dtterm and xterm
 /// (`CSI .. t`) are read field by field.
+///
+/// ```text
+/// let read = read_csi(alloc, b"\x1b[4;;7t")?;
+/// let fields = Cracked::parse(alloc, &read.params)?;      // fields.len() is 3
+/// fields.opt_int(1)                                       // None
+/// fields.int(2)                                           // Ok(7)
+/// fields.int(3)                                           // Err(NotSpelled)
+/// ```
 #[derive(Drop)]
 pub struct Cracked {
     fields: Vec<Option<CsiParam>>,

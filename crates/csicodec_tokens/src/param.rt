@@ -50,6 +50,12 @@ impl fmt::Display for CsiParam {
 }
 
 /// A number from 1 to 4294967295: a line, a column or a margin of the page, in cells, of which the first is 1.
+///
+/// ```text
+/// OneBased::new(5).as_zero_based()      // 4
+/// OneBased::from_zero_based(0)          // 1, the first line or column
+/// OneBased::try_from(0)                 // Err(NotOneBased)
+/// ```
 #[derive(Clone, Copy, PartialEq, Eq, Debug)]
 pub struct OneBased {
     value: u32,
@@ -87,6 +93,11 @@ impl OneBased {
 
     /// The number of a parameter: 0 gives 1, and 1 to 4294967295 give themselves. `NotSpelled` for any other number,
     /// and for a byte.
+    ///
+    /// ```text
+    /// OneBased::from_esc_param(&CsiParam::Integer(0))      // Ok, 1
+    /// OneBased::from_esc_param(&CsiParam::P(b';'))         // Err(NotSpelled)
+    /// ```
     pub fn from_esc_param(param: &CsiParam) -> Result<Self, NotSpelled>
         ensures { result ≡ ok_or (number_or 1 param.now) (record {}) }
     {

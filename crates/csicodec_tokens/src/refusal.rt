@@ -15,6 +15,11 @@ pub struct NotSpelled;
 pub struct NotOneBased;
 
 /// Why no value was made of a parameter list, where making one takes memory.
+///
+/// ```text
+/// let read = read_csi(alloc, b"\x1b[1:2t")?;             // 1, ':', 2 then 't'
+/// Cracked::parse(alloc, &read.params)                    // Err(ParseRefusal::NotSpelled)
+/// ```
 #[derive(Clone, Copy, Debug, PartialEq, Eq)]
 pub enum ParseRefusal {
     /// The list is none that a value of the type asked for is written as.

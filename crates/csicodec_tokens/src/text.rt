@@ -16,6 +16,14 @@ use std::marker::Model;
 /// It takes no memory but its own place. A sequence is built here number by number and then appended to a longer text
 /// by one copy, which costs a quarter of writing it there part by part. The longest sequence of two numbers below 2^32
 /// has 24 bytes.
+///
+/// ```text
+/// let mut text = Text::new();
+/// text.push_str("\x1b[");
+/// text.push_u32(12);
+/// text.push(b'A');
+/// text.append_to(&mut out)?;           // appends "\x1b[12A"
+/// ```
 #[derive(Drop)]
 pub struct Text {
     bytes: [u8; 32],
@@ -186,6 +194,13 @@ impl Text {
 
 /// Bytes that short texts are appended to. Behind them it keeps memory ready, so that appending one is a test and a copy of
 /// a fixed length.
+///
+/// ```text
+/// let mut all = TextBuffer::new(alloc);
+/// all.push_text(&text)?;
+/// all.push_slice(b"abc")?;
+/// all.into_vec()                       // the text, and "abc"
+/// ```
 #[derive(Drop)]
 pub struct TextBuffer {
     bytes: Vec<u8>,

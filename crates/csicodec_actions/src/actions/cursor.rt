@@ -14,6 +14,13 @@ use std::fmt;
 /// Lines and columns are counted from 1, at the top and at the left.
 ///
 /// It prints its parameters and the final character; `CSI` prints the `ESC [` too.
+///
+/// ```text
+/// "\x1b[2A"          Up(2)
+/// "\x1b[5;7H"        Position { line: 5, col: 7 }
+/// "\x1b[r"           SetTopAndBottomMargins { top: 1, bottom: 4294967295 }
+/// "\x1b[6n"          RequestActivePositionReport
+/// ```
 #[derive(Clone, Copy, Debug, PartialEq, Eq)]
 pub enum Cursor {
     /// CUU (ECMA-48, 8.3.22): this many lines up.

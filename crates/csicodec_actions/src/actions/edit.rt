@@ -11,6 +11,12 @@ use std::fmt;
 /// where they were read; a terminal takes 0 for 1, and so `Repeat(0)` is written `0b` and read back as `Repeat(1)`.
 ///
 /// It prints its parameter and the final character; `CSI` prints the `ESC [` too.
+///
+/// ```text
+/// "\x1b[K"           EraseInLine(EraseToEndOfLine)
+/// "\x1b[2J"          EraseInDisplay(EraseDisplay)
+/// "\x1b[3L"          InsertLine(3)
+/// ```
 #[derive(Clone, Copy, Debug, PartialEq, Eq)]
 pub enum Edit {
     /// ICH (ECMA-48, 8.3.64): this many blanks at the cursor, and what stood there moves to the right.

@@ -114,6 +114,10 @@ impl XtSmGraphicsStatus {
 }
 
 /// XTSMGRAPHICS (xterm's ctlseqs): a request for what the terminal can draw, or its answer.
+///
+/// ```text
+/// "\x1b[?1;3;256S"   item: NumberOfColorRegisters, action_or_status: 3, value: 256; action() is Some(SetToValue)
+/// ```
 #[derive(Debug, Drop, PartialEq, Eq)]
 pub struct XtSmGraphics {
     /// What it is about.

@@ -50,6 +50,12 @@ impl KittyKeyboardMode {
 
 /// What the keyboard reports, set and asked for: kitty's keyboard protocol. It prints its parameters and the final `u`;
 /// `CSI` prints the `ESC [` too.
+///
+/// ```text
+/// "\x1b[=1;1u"       SetKittyState { flags: DISAMBIGUATE_ESCAPE_CODES, mode: AssignAll }
+/// "\x1b[<2u"         PopKittyState(2)
+/// "\x1b[?u"          QueryKittySupport
+/// ```
 #[derive(Clone, Copy, Debug, PartialEq, Eq)]
 pub enum Keyboard {
     /// The flags change in this way.

@@ -10,6 +10,11 @@ use csicodec_base::{DecPrivateModeCode, TerminalModeCode, Text};
 use std::fmt;
 
 /// A private mode.
+///
+/// ```text
+/// DecPrivateMode::from(2004)         // Code(BracketedPaste)
+/// DecPrivateMode::from(7777)         // Unspecified(7777)
+/// ```
 #[derive(Clone, Copy, Debug, PartialEq, Eq)]
 pub enum DecPrivateMode {
     /// One that has a name.
@@ -64,6 +69,11 @@ impl From<DecPrivateModeCode> for DecPrivateMode {
 }
 
 /// A mode of the standard, or of a terminal that took a number beside it.
+///
+/// ```text
+/// TerminalMode::from(4)              // Code(Insert)
+/// TerminalMode::from(99)             // Unspecified(99)
+/// ```
 #[derive(Clone, Copy, Debug, PartialEq, Eq)]
 pub enum TerminalMode {
     /// One that has a name.
@@ -160,6 +170,13 @@ impl XtermKeyModifierResource {
 
 /// What a sequence does with one mode of the terminal, and what xterm sends for a key with modifiers. It prints its
 /// parameters and the final character; `CSI` prints the `ESC [` too.
+///
+/// ```text
+/// "\x1b[?25l"        ResetDecPrivateMode(Code(ShowCursor))
+/// "\x1b[4h"          SetMode(Code(Insert))
+/// "\x1b[?2004$p"     QueryDecPrivateMode(Code(BracketedPaste))
+/// "\x1b[>4;2m"       XtermKeyMode { resource: OtherKeys, value: Some(2) }
+/// ```
 #[derive(Clone, Copy, Debug, PartialEq, Eq)]
 pub enum Mode {
     /// DECSET (DEC VT510, xterm): the private mode is set.

@@ -31,6 +31,11 @@ pub enum MouseButton {
 
 /// A report (xterm's ctlseqs, modes 1006 and 1016): the place, the button and what is held. It prints its parameters and
 /// the final character; `CSI` prints the `ESC [` too.
+///
+/// ```text
+/// "\x1b[<0;5;6M"     SGR1006 { x: 5, y: 6, button: Button1Press, modifiers: NONE }
+/// "\x1b[<4;5;6m"     SGR1006 { x: 5, y: 6, button: Button1Release, modifiers: SHIFT }
+/// ```
 #[derive(Clone, Copy, PartialEq, Eq, Debug)]
 pub enum MouseReport {
     /// In cells.

@@ -10,6 +10,12 @@ use csicodec_base::OneBased;
 /// that size as it is (xterm).
 ///
 /// It prints its parameters and the final character; `CSI` prints the `ESC [` too.
+///
+/// ```text
+/// "\x1b[8;24;80t"            ResizeWindowCells { width: Some(80), height: Some(24) }
+/// "\x1b[21t"                 ReportWindowTitle
+/// "\x1b[1;1;1;1;9;9*y"       ChecksumRectangularArea of request 1 and page 1, from line 1 and column 1 to 9 and 9
+/// ```
 #[derive(Clone, Copy, Debug, PartialEq, Eq)]
 pub enum Window {
     /// 1: the window is opened again, if it was an icon.

@@ -16,6 +16,7 @@
 #   state               first: the flags; second: the way
 #   bits                first: the flags
 #   path                first: the path; second: the effect
+# A line for each variant: the list must be complete. A variant has its number in C by its place, so a new one comes last.
 GROUPS = [
     ("Sgr", 1, [
         ("Reset", "unit"),
@@ -167,7 +168,7 @@ NUMBERS = {
     "TerminalMode": ("terminal_number", "i64::from(value.number())", "TerminalMode::at(plain.first)?"),
 }
 
-# ---- the examples: each kind with its text
+# ---- the examples: a text for each variant of GROUPS, in the same order
 
 TEXTS = {
     "Sgr": "0m 1m 4:3m 58:5:16m 5m 3m 7m 8m 9m 13m 38:5:16m 48:5:16m 53m 73m",

@@ -13,6 +13,7 @@ ColorInRange Default = Unit {0}
 ColorInRange (PaletteIndex i) = i < 256
 ColorInRange (TrueColor c) = (c.0 < 256) × (c.1 < 256) × (c.2 < 256) × (c.3 < 256)
 
+-- the numbers of each attribute, a line for each variant
 abbrev pub SgrInRange : sgr_type.Sgr → Type 0
 SgrInRange sgr.Reset = Unit {0}
 SgrInRange (sgr.Intensity x) = Unit {0}

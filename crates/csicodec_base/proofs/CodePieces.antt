@@ -68,6 +68,7 @@ abbrev OneToken : SgrCode → List CsiParam → Option Sgr → Type 0
 OneToken c after None = Unit {0}
 OneToken c after (Some s) = piece (Integer (pos (number_of c)) ∷ after) ≡ Some (s, 1)
 
+-- a line for each code
 one_token_by : (c : SgrCode) (after : List CsiParam) → OneToken c after (action_of c)
 unfolding piece
 one_token_by code.Reset after = refl

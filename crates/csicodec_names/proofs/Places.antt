@@ -6,7 +6,7 @@ use Rattle.csicodec_names.specs.declared.codes.SgrCode.TheVariants as code
 use Rattle.csicodec_names.specs.declared.codes.TheConstants.{CODES}
 use Rattle.csicodec_names.specs.Numbers.{number_of}
 
--- each code lies at its number
+-- each code lies at its number, a line for each code
 pub lies_at : (code : SgrCode) → get_or CODES (number_of code) None ≡ Some code
 lies_at code.Reset = refl
 lies_at code.IntensityBold = refl

@@ -10,6 +10,7 @@ use Rattle.csicodec_parser.specs.declared.actions.CSI.TheVariants as csi
 abbrev pub unspecified_of : unspecified_type.Unspecified → Action
 unspecified_of u = Unspecified u.params.items u.parameters_truncated u.control
 
+-- a line for each kind of action
 abbrev pub action_of : CSI → Action
 action_of (csi.Sgr s) = Sgr s
 action_of (csi.Cursor c) = Cursor c

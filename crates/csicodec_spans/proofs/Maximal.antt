@@ -15,7 +15,7 @@ use Rattle.csicodec_spans.proofs.Missed.{front_is, malformed_some}
 use Rattle.csicodec_spans.proofs.Rows.{Sound}
 use Rattle.csicodec_spans.proofs.Agrees.{found, sound, text_goes_on}
 
--- a front begins as the whole does
+-- a front begins as all of it does
 begins_longer : (k : Kind) (text more : List ℕ) → BeginsAs k text → BeginsAs k (text ++ more)
 begins_longer kind.Text text more (b, t, e, other) = (b, t ++ more, ap (λ (x : List ℕ). x ++ more) e, other)
 begins_longer kind.Csi text more (t, e) = (t ++ more, ap (λ (x : List ℕ). x ++ more) e)

@@ -47,6 +47,7 @@ parameters =
     ∷ row (Number 1 ∷ []) (Device (devices.RequestTerminalParameters (pos 1)))
     ∷ []
 
+-- a line for each final character
 abbrev pub device_rows : List (Before Action)
 device_rows =
     before "c" (requests ++ (terminals ++ classes))
@@ -63,6 +64,7 @@ as_device list final = read_by device_rows list final
 abbrev pub written_class : ℕ → List DeviceAttribute → Written
 written_class class attributes = write (put "?" ∷ plain class ∷ listed Attribute attributes) "c"
 
+-- a line for each variant
 abbrev pub written_attributes : devices.Attributes → Written
 written_attributes devices.Vt100WithAdvancedVideoOption = write (put "?" ∷ plain 1 ∷ put ";" ∷ plain 2 ∷ []) "c"
 written_attributes devices.Vt101WithNoOptions = write (put "?" ∷ plain 1 ∷ put ";" ∷ plain 0 ∷ []) "c"

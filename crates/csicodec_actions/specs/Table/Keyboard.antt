@@ -27,6 +27,7 @@ keyboards =
     ∷ row (mark "<" ∷ []) (Keyboard (keyboard.PopKittyState 1))
     ∷ []
 
+-- a line for each final character
 abbrev pub keyboard_rows : List (Before Action)
 keyboard_rows =
     before "u" keyboards

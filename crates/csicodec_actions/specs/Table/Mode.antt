@@ -24,6 +24,7 @@ key_modes =
     ∷ row (mark ">" ∷ One Resource ∷ mark ";" ∷ One Any ∷ []) (λ keys value. Mode (mode.XtermKeyMode keys (Some value)))
     ∷ []
 
+-- a line for each final character
 abbrev pub mode_rows : List (Before Action)
 mode_rows =
     before "p" queries

@@ -15,6 +15,7 @@ use Rattle.csicodec_actions.specs.Written.{Item, Written, The, write, put}
 abbrev pub mouse_report : (k : Kind) → (Value k → ℕ → ℕ → Action) → Row Action
 mouse_report k make = row (mark "<" ∷ One k ∷ mark ";" ∷ One Word ∷ mark ";" ∷ One Word ∷ []) make
 
+-- a line for each final character
 abbrev pub mouse_rows : List (Before Action)
 mouse_rows =
     before "M" (mouse_report Pressed (λ c x y. Mouse (mouse.SGR1006 x y c.0 c.1)) ∷ [])
@@ -32,7 +33,7 @@ report k v x y = put "<" ∷ The k v ∷ put ";" ∷ The Word x ∷ put ";" ∷ 
 abbrev pub written_report : MouseButton → Modifiers → ℕ → ℕ → Written
 written_report b m x y = if is_release b then write (report Released (b, m) x y) "m" else write (report Pressed (b, m) x y) "M"
 
--- a place in pixels is written as one in cells is
+-- a line for each variant; a place in pixels is written as one in cells is
 abbrev pub written_mouse : mouse_type.MouseReport → Written
 written_mouse (mouse.SGR1006 x y b m) = written_report b m x y
 written_mouse (mouse.SGR1016 x y b m) = written_report b m x y

@@ -17,6 +17,7 @@ paths =
     ∷ row (One Path ∷ mark ";" ∷ One Any ∷ mark " " ∷ []) SelectCharacterPath
     ∷ []
 
+-- a line for each final character
 abbrev pub path_rows : List (Before Action)
 path_rows =
     before "k" paths

@@ -41,7 +41,7 @@ columns-back a b good ok = elim (cases_Bool (a == 1 && b == most)) [
   | inr less ↦ (let both : AllGood (two Count a b) = rw less at good in rw less (search (rules, read-good)))
 ]
 
--- ---- a line for each action
+-- ---- a line for each variant
 
 cursor-back : (c : cursor_type.Cursor) → AllGood (written_cursor c).items → ¬ IsSpecial (Cursor c) → Returns c
 unfolding as_cursor

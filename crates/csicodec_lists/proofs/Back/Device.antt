@@ -78,6 +78,7 @@ graphics-read item z all good =
 
 -- ---- the terminal
 
+-- a line for each variant
 answer-read : (a : devices.Attributes) → AllGood (written_attributes a).items → IsRead (written_attributes a) (answer a)
 unfolding as_device
 answer-read devices.Vt100WithAdvancedVideoOption good = record { sound = refl; read = device-whole _ _ _ refl }
@@ -87,7 +88,7 @@ answer-read (devices.Vt220 all) good = class-read 62 devices.Vt220 all refl good
 answer-read (devices.Vt320 all) good = class-read 63 devices.Vt320 all refl good (10, omega arith, refl)
 answer-read (devices.Vt420 all) good = class-read 64 devices.Vt420 all refl good (11, omega arith, refl)
 
--- ---- all devices
+-- ---- a line for each device
 
 pub device-read : (d : devices.Device) → AllGood (written_device d).items → ¬ IsNeverRead (Device d) → IsRead (written_device d) (Device d)
 unfolding as_device

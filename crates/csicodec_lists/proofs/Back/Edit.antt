@@ -13,6 +13,7 @@ use Rattle.csicodec_actions.specs.Good.{AllGood}
 use Rattle.csicodec_lists.proofs.Items.{is_sound, IsRead}
 use Rattle.csicodec_lists.proofs.LeftOut.{left-out, counted, no-display, no-line}
 
+-- a line for each variant
 edit-back : (e : edit_type.Edit) → AllGood (written_edit e).items → as_edit (tokens (written_edit e).items) (written_edit e).final ≡ Some (Edit e)
 unfolding as_edit
 edit-back (edit.InsertCharacter n) good = counted (λ l. as_edit l 64) (λ n. Edit (edit.InsertCharacter n)) n refl (λ z u e. rw e refl) good.0

@@ -10,6 +10,7 @@ use Rattle.csicodec_actions.specs.Good.{AllGood}
 use Rattle.csicodec_lists.proofs.Items.{is_sound, IsRead}
 use Rattle.csicodec_actions.proofs.Values.{read-good}
 
+-- a line for each variant
 keyboard-back : (k : keyboard_type.Keyboard) → AllGood (written_keyboard k).items → as_keyboard (tokens (written_keyboard k).items) (written_keyboard k).final ≡ Some (Keyboard k)
 unfolding as_keyboard
 keyboard-back (keyboard.SetKittyState f m) good = search (rules, read-good)

@@ -13,6 +13,7 @@ use Rattle.csicodec_actions.specs.Good.{AllGood}
 use Rattle.csicodec_lists.proofs.Items.{IsRead}
 use Rattle.csicodec_actions.proofs.Values.{read-good}
 
+-- a line for each variant
 pub mouse-read : (m : mouse_type.MouseReport) → AllGood (written_mouse m).items → ¬ IsNeverRead (Mouse m) → IsRead (written_mouse m) (Mouse m)
 unfolding as_mouse
 mouse-read (mouse.SGR1016 x y b m) good ok = absurd (ok tt)

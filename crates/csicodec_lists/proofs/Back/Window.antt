@@ -11,6 +11,7 @@ use Rattle.csicodec_lists.proofs.FieldsApart.{window-whole}
 use Rattle.csicodec_lists.proofs.Items.{is_sound, IsRead}
 use Rattle.csicodec_actions.proofs.Values.{read-good, read_any}
 
+-- a line for each variant that has numbers
 window-back : (w : window_type.Window) → AllGood (written_window w).items → as_window (tokens (written_window w).items) (written_window w).final ≡ Some (Window w)
 unfolding as_window
 window-back (window.MoveWindow x y) good = rw (read_any x, read_any y) refl

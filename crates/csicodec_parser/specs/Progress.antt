@@ -4,7 +4,7 @@ use Rattle.csicodec_tokens.specs.declared.param.CsiParam.{CsiParam}
 use Rattle.csicodec_actions.specs.Actions.{Action}
 use Rattle.csicodec_parser.specs.Segments.{Actions}
 
--- what a run was made of, how many actions were given, whether memory was refused, how many tokens are passed, and the looks so far
+-- what a run was made of, how many actions were given, whether memory was refused, how many tokens are passed, and how many looks were taken
 pub record Progress : Type 0 where
   pub list : List CsiParam
   pub flag : Bool

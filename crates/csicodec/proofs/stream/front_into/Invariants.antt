@@ -3,7 +3,7 @@ use Rattle.csicodec_actions.specs.Actions.{Action}
 use Rattle.csicodec.proofs.Splits.{IsSplit}
 use Rattle.csicodec.proofs.stream.front_into.Given as goal
 
--- the bytes so far are sequences, and their actions have gone into the sink
+-- the bytes up to here are sequences, and their actions have gone into the sink
 abbrev pub invariant-loop-alloc : goal.invariant-loop-alloc
 invariant-loop-alloc g l = (actions : List Action) × IsSplit l.bytes l.parameters_truncated l.rest actions
     × ((before : List Action) → g.S.Sink.holds l.initial.sink before → g.S.Sink.holds l.sink (before ++ actions))

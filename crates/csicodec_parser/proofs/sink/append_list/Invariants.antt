@@ -2,6 +2,6 @@ use Rattle.std.proofs.Common.{◌≡◌, ◌++◌, take}
 use Rattle.csicodec_tokens.specs.Param.{spells}
 use Rattle.csicodec_parser.proofs.sink.append_list.Given as goal
 
--- the texts of the tokens so far are appended
+-- the texts of the tokens up to here are appended
 abbrev pub invariant-loop-param : goal.invariant-loop-param
 invariant-loop-param l = l.out ≡ l.initial.out ++ spells (take l.param-index l.params)

@@ -64,7 +64,7 @@ static uint32_t filter(const uint8_t *text, size_t len) {
     return csicodec_filter(CSICODEC_FILTER_TEXT, 64, text, len, out, sizeof out).status;
 }
 
-/* Whether the call answers for want of memory exactly where it was refused, with nothing put, until none is refused. */
+/* Whether the call answers that memory ran out exactly where it was refused, with nothing put, until none is refused. */
 static int starves(uint32_t (*call)(const uint8_t *, size_t), const uint8_t *text, size_t len) {
     for (long nth = 0; nth < 1000; nth++) {
         memset(out, 0xaa, sizeof out);

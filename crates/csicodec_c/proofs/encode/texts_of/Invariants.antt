@@ -3,6 +3,6 @@ use Rattle.csicodec_parser.specs.ActionOf.{action_of}
 use Rattle.csicodec_c.specs.Encode.{AllStand}
 use Rattle.csicodec_c.proofs.encode.texts_of.Given as goal
 
--- the actions so far
+-- the actions up to here
 abbrev pub invariant-loop-plain : goal.invariant-loop-plain
 invariant-loop-plain l = AllStand (take l.plain-index l.plains) l.params (map action_of l.actions.items) × (l.at ≡ l.plain-index)

@@ -1,6 +1,6 @@
 use Rattle.std.proofs.Common.{◌≡◌, map, take}
 use Rattle.csicodec_c.proofs.token.tokens.Given as goal
 
--- the tokens so far
+-- the tokens up to here
 abbrev pub invariant-loop-param : goal.invariant-loop-param
 invariant-loop-param g l = map g.T.Token.crosses l.all.items ≡ take l.param-index l.params

@@ -16,7 +16,7 @@ unfolding as_keyboard
 keyboard-back (keyboard.SetKittyState f m) good = search (rules, read-good)
 keyboard-back (keyboard.PushKittyState f m) good = search (rules, read-good)
 keyboard-back (keyboard.PopKittyState n) good = search (rules, read-good)
-keyboard-back keyboard.QueryKittySupport good = search (rules, read-good)
+keyboard-back keyboard.QueryKittySupport good = refl
 keyboard-back (keyboard.ReportKittyState f) good = search (rules, read-good)
 
 keyboard-sound : (k : keyboard_type.Keyboard) → is_sound (written_keyboard k) ≡ true

@@ -21,6 +21,8 @@ pub(crate) enum Call {
     EncodeWindow,
     EncodeAnswer,
     EncodeGraphics,
+    Encode,
+    NormalForm,
     CloneUnspecified,
     CloneAction,
     CloneWindow,
@@ -31,7 +33,7 @@ pub(crate) enum Call {
     FilterAll,
 }
 
-pub(crate) const CALLS: [Call; 23] = [
+pub(crate) const CALLS: [Call; 25] = [
     Call::Read,
     Call::ReadInto,
     Call::Crack,
@@ -47,6 +49,8 @@ pub(crate) const CALLS: [Call; 23] = [
     Call::EncodeWindow,
     Call::EncodeAnswer,
     Call::EncodeGraphics,
+    Call::Encode,
+    Call::NormalForm,
     Call::CloneUnspecified,
     Call::CloneAction,
     Call::CloneWindow,
@@ -88,10 +92,12 @@ pub(crate) fn run(call: Call, ample: &Ample, alloc: Global) -> Outcome {
         Call::ParseGraphics => reads::graphics(ample, alloc),
         Call::DecodeAll => reads::decode(ample, alloc),
         Call::DecodeCutShort => reads::decode_cut_short(alloc),
-        Call::EncodeAll => writes::encode(&ample.actions, crate::fakes::OUTPUT, alloc),
-        Call::EncodeWindow => writes::encode(&ample.window, WINDOW, alloc),
-        Call::EncodeAnswer => writes::encode(&ample.device, ANSWER, alloc),
-        Call::EncodeGraphics => writes::encode(&ample.graphics, GRAPHICS, alloc),
+        Call::EncodeAll => writes::encoded(&ample.actions, crate::fakes::OUTPUT, alloc),
+        Call::EncodeWindow => writes::encoded(&ample.window, WINDOW, alloc),
+        Call::EncodeAnswer => writes::encoded(&ample.device, ANSWER, alloc),
+        Call::EncodeGraphics => writes::encoded(&ample.graphics, GRAPHICS, alloc),
+        Call::Encode => writes::encoded_in_turn(&ample.actions, crate::fakes::OUTPUT, alloc),
+        Call::NormalForm => writes::in_normal_form(alloc),
         Call::CloneUnspecified => copies::unknown(ample, alloc),
         Call::CloneAction => copies::action(&ample.actions, alloc),
         Call::CloneWindow => copies::action(&ample.window, alloc),

@@ -158,14 +158,14 @@ NUMBERS = {
     "Underline": ("underline_number", "underline_number(*value)", "underline(plain.first)?"),
     "Blink": ("blink_number", "blink_number(*value)", "blink(plain.first)?"),
     "VerticalAlign": ("align_number", "align_number(*value)", "align(plain.first)?"),
-    "Font": ("font_number", "font_number(*value)", "font(plain.first)?"),
+    "Font": ("font_number", "font_number(*value)", "font(plain)?"),
     "CursorTabulationControl": ("tabulation_control_number", "value.to_i64()", "CursorTabulationControl::from_i64(plain.first)?"),
     "TabulationClear": ("tabulation_clear_number", "value.to_i64()", "TabulationClear::from_i64(plain.first)?"),
     "CursorStyle": ("cursor_style_number", "value.to_i64()", "CursorStyle::from_i64(plain.first)?"),
     "EraseInDisplay": ("erase_in_display_number", "value.to_i64()", "EraseInDisplay::from_i64(plain.first)?"),
     "EraseInLine": ("erase_in_line_number", "value.to_i64()", "EraseInLine::from_i64(plain.first)?"),
-    "DecPrivateMode": ("dec_number", "i64::from(value.number())", "DecPrivateMode::at(plain.first)?"),
-    "TerminalMode": ("terminal_number", "i64::from(value.number())", "TerminalMode::at(plain.first)?"),
+    "DecPrivateMode": ("dec_number", "i64::from(value.number())", "private_mode(plain)?"),
+    "TerminalMode": ("terminal_number", "i64::from(value.number())", "terminal_mode(plain)?"),
 }
 
 # ---- the examples: a text for each variant of GROUPS, in the same order

@@ -1,4 +1,6 @@
 mod Laid
+mod ModeNumbers
 mod Running
 mod Same
 mod Stand
+mod Tokens

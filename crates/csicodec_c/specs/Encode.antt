@@ -1,5 +1,6 @@
 -- What the calls that take actions answer a C program.
-use Rattle.std.specs.Prelude.{ℕ, ◌≡◌, ◌⊎◌, ◌↔◌, ◌<◌, false, List, [], ◌∷◌, drop, take, length}
+use Rattle.std.specs.Prelude.{ℕ, ◌≡◌, ◌⊎◌, ◌↔◌, ◌<◌, false, List, [], ◌∷◌, Some, drop, take, length}
+use Rattle.std.specs.List.{slice_get}
 use Rattle.csicodec_actions.specs.Actions.{Action}
 use Rattle.csicodec_actions.specs.Texts.{texts}
 use Rattle.csicodec_parser.specs.Canonical.{Canonical}
@@ -7,6 +8,7 @@ use Rattle.csicodec_c.specs.declared.canonical.Judged.{Judged}
 use Rattle.csicodec_c.specs.declared.encode.Encoded.{Encoded}
 use Rattle.csicodec_c.specs.declared.plain.Param.{Param}
 use Rattle.csicodec_c.specs.declared.plain.Plain.{Plain}
+use Rattle.csicodec_c.specs.Ranges.{InRange}
 use Rattle.csicodec_c.specs.Room.{Fills}
 use Rattle.csicodec_c.specs.Rows.{params_of, plain_of}
 
@@ -15,7 +17,11 @@ refused status at = record { status = status; at = at; needed = 0 }
 
 -- the struct is that of the action, whose tokens stand at its place
 abbrev pub Stands : Plain → List Param → Action → Type 0
-Stands plain params a = (plain_of plain.place a ≡ plain) × (params_of a ≡ take plain.len (drop plain.place params))
+Stands plain params a = InRange a × (plain_of plain.place a ≡ plain) × (params_of a ≡ take plain.len (drop plain.place params))
+
+-- no action has this struct and these tokens
+abbrev pub StandsForNone : Plain → List Param → Type 0
+StandsForNone plain params = (a : Action) → Stands plain params a → ⊥
 
 -- so in turn
 abbrev pub AllStand : List Plain → List Param → List Action → Type 0
@@ -32,9 +38,17 @@ pub record IsDone (plains : List Plain) (params : List Param) (old new : List �
   pub needed : answer.needed ≡ length (texts actions)
   pub fills : Fills old new (texts actions)
 
--- or a refusal, of memory or of one of the structs, and then nothing is put
-pub record IsRefused (plains : List Plain) (old new : List ℕ) (answer : Encoded) : Type 0 where
-  pub status : (answer.status ≡ 5) ⊎ ((answer.status ≡ 6) × (answer.at < length plains))
+-- the struct at this place is the first that stands for no action
+pub record HasNone (plains : List Plain) (params : List Param) (at : ℕ) : Type 0 where
+  pub before : List Action
+  pub stand : AllStand (take at plains) params before
+  pub plain : Plain
+  pub next : slice_get plains at ≡ Some plain
+  pub none : StandsForNone plain params
+
+-- or a refusal, of memory or of a struct that stands for no action, and then nothing is put
+pub record IsRefused (plains : List Plain) (params : List Param) (old new : List ℕ) (answer : Encoded) : Type 0 where
+  pub status : (answer.status ≡ 5) ⊎ ((answer.status ≡ 6) × HasNone plains params answer.at)
   pub stays : new ≡ old
 
 abbrev pub judgement : ℕ → ℕ → Judged

@@ -5,3 +5,5 @@ pub mod Rows
 pub mod Next
 pub mod Encode
 pub mod Filter
+pub mod Ranges
+pub mod Private

@@ -1,6 +1,6 @@
 //! Whether a plain struct is read back from its text.
 ghost use Rattle.std.specs.Prelude.{◌≡◌, ◌⊎◌};
-ghost use Rattle.csicodec_c.specs.Encode.{IsJudged, judgement};
+ghost use Rattle.csicodec_c.specs.Encode.{IsJudged, StandsForNone, judgement};
 
 use crate::encode::action;
 use crate::plain::{Param, Plain};
@@ -25,7 +25,7 @@ fn judgement(status: u32, canonical: u32) -> Judged
 /// Whether the text of the action that the struct stands for is read as this one action.
 #[unsafe(no_mangle)]
 pub extern "C" fn csicodec_is_canonical(alloc: Global, plain: &Plain, params: &[Param]) -> Judged
-    ensures { IsJudged plain.now params.now result ⊎ ((result ≡ judgement 5 0) ⊎ (result ≡ judgement 6 0)) }
+    ensures { IsJudged plain.now params.now result ⊎ ((result ≡ judgement 5 0) ⊎ ((result ≡ judgement 6 0) × StandsForNone plain.now params.now)) }
 {
     let csi = match action(alloc, params, plain) {
         Ok(Some(csi)) => csi,

@@ -1,12 +1,15 @@
 //! Plain structs as actions, and their texts.
-ghost use Rattle.std.specs.Prelude.{◌≡◌, ◌⊎◌, ◌<◌, List, [], drop, take, map, length, true, IfOk, IfErr, IfSome};
+ghost use Rattle.std.specs.Prelude.{◌≡◌, ◌⊎◌, ◌↔◌, ◌<◌, List, [], drop, take, map, length, true, IfOk, IfErr, IfSome, MatchOption};
 ghost use Rattle.csicodec_actions.specs.Actions.{Action};
 ghost use Rattle.csicodec_actions.specs.Texts.{texts};
-ghost use Rattle.csicodec_parser.specs.ActionOf.{action_of};
-ghost use Rattle.csicodec_c.specs.Encode.{AllStand, IsDone, IsRefused, Stands, refused};
+ghost use Rattle.csicodec.specs.ActionOf.{action_of};
+ghost use Rattle.csicodec_c.specs.Encode.{AllStand, HasNone, IsDone, IsRefused, Stands, StandsForNone, refused};
+ghost use Rattle.std.specs.Option.{option_map};
+ghost use Rattle.csicodec_c.specs.Private.Candidates.{IsExtended, IsGraphics, IsUnknown, Makes};
+ghost use Rattle.csicodec_c.specs.Ranges.{InRange};
 ghost use Rattle.csicodec_c.specs.Rows.{params_of};
 
-use crate::candidates::candidate;
+use crate::candidates::{UNSPECIFIED, VT220, VT320, VT420, XT_SM_GRAPHICS, candidate};
 use crate::numbers::item;
 use crate::plain::{Param, Plain};
 use crate::room::fill;
@@ -42,7 +45,7 @@ fn refused(status: u32, at: usize) -> Encoded
 /// Whether two structs are the same.
 #[tactic(auto, using(crate::proofs::Same::same))]
 fn is_same(one: &Plain, other: &Plain) -> bool
-    ensures { result ≡ true → one.now ≡ other.now }
+    ensures { result ≡ true ↔ one.now ≡ other.now }
 {
     one.kind == other.kind
         && one.final_char == other.final_char
@@ -63,12 +66,23 @@ fn is_same(one: &Plain, other: &Plain) -> bool
         && one.absent == other.absent
 }
 
-/// The tokens of an action.
-fn part<T>(items: &[T], place: usize, len: usize) -> Option<&[T]>
-    ensures { IfSome result (λ part. part.now ≡ take len (drop place items.now)) }
+/// The items from this place on.
+fn from<T>(items: &[T], place: usize) -> &[T]
+    ensures { result.now ≡ drop place items.now }
 {
-    if place <= items.len() && len <= items.len() - place {
-        let behind = &items[place..];
+    if place <= items.len() {
+        &items[place..]
+    } else {
+        &items[items.len()..]
+    }
+}
+
+/// The tokens of an action, unless they are fewer.
+fn part<T>(items: &[T], place: usize, len: usize) -> Option<&[T]>
+    ensures { MatchOption result (length (take len (drop place items.now)) < len) (λ part. part.now ≡ take len (drop place items.now)) }
+{
+    let behind = from(items, place);
+    if len <= behind.len() {
         Some(&behind[..len])
     } else {
         None
@@ -77,7 +91,9 @@ fn part<T>(items: &[T], place: usize, len: usize) -> Option<&[T]>
 
 /// An unknown action of these tokens.
 fn unknown(alloc: Global, plain: &Plain, params: &[Param]) -> Result<Option<CSI>, AllocError>
-    ensures { IfOk result (λ r. IfSome r (λ csi. params_of (action_of csi) ≡ params.now)) }
+    ensures in_range { IfOk result (λ r. IfSome r (λ csi. InRange (action_of csi))) }
+    ensures tokens { IfOk result (λ r. IfSome r (λ csi. params_of (action_of csi) ≡ params.now)) }
+    ensures finds { IfOk result (λ r. Makes IsUnknown plain.now params.now (option_map action_of r)) }
 {
     let Some(control) = char::from_u32(plain.final_char) else {
         return Ok(None);
@@ -95,15 +111,17 @@ fn unknown(alloc: Global, plain: &Plain, params: &[Param]) -> Result<Option<CSI>
 
 /// The primary device attributes with these extensions.
 fn extended(alloc: Global, plain: &Plain, params: &[Param]) -> Result<Option<CSI>, AllocError>
-    ensures { IfOk result (λ r. IfSome r (λ csi. params_of (action_of csi) ≡ params.now)) }
+    ensures in_range { IfOk result (λ r. IfSome r (λ csi. InRange (action_of csi))) }
+    ensures tokens { IfOk result (λ r. IfSome r (λ csi. params_of (action_of csi) ≡ params.now)) }
+    ensures finds { IfOk result (λ r. Makes IsExtended plain.now params.now (option_map action_of r)) }
 {
     let Some(attributes) = tokens(alloc, params)? else {
         return Ok(None);
     };
     let flags = DeviceAttributeFlags { attributes };
     let attributes = match plain.kind {
-        404 => DeviceAttributes::Vt220(flags),
-        405 => DeviceAttributes::Vt320(flags),
+        VT220 => DeviceAttributes::Vt220(flags),
+        VT320 => DeviceAttributes::Vt320(flags),
         _ => DeviceAttributes::Vt420(flags),
     };
     let device = Device::DeviceAttributes(attributes);
@@ -112,13 +130,15 @@ fn extended(alloc: Global, plain: &Plain, params: &[Param]) -> Result<Option<CSI
 
 /// Graphics of these values.
 fn graphics(alloc: Global, plain: &Plain, params: &[Param]) -> Result<Option<CSI>, AllocError>
-    ensures { IfOk result (λ r. IfSome r (λ csi. params_of (action_of csi) ≡ params.now)) }
+    ensures in_range { IfOk result (λ r. IfSome r (λ csi. InRange (action_of csi))) }
+    ensures tokens { IfOk result (λ r. IfSome r (λ csi. params_of (action_of csi) ≡ params.now)) }
+    ensures finds { IfOk result (λ r. Makes IsGraphics plain.now params.now (option_map action_of r)) }
 {
     let Some(value) = tokens(alloc, params)? else {
         return Ok(None);
     };
     let graphics = XtSmGraphics {
-        item: item(plain.first),
+        item: item(plain),
         action_or_status: plain.second,
         value,
     };
@@ -128,12 +148,14 @@ fn graphics(alloc: Global, plain: &Plain, params: &[Param]) -> Result<Option<CSI
 
 /// An action of the struct's kind that has these tokens.
 fn made(alloc: Global, plain: &Plain, params: &[Param]) -> Result<Option<CSI>, AllocError>
-    ensures { IfOk result (λ r. IfSome r (λ csi. params_of (action_of csi) ≡ params.now)) }
+    ensures in_range { IfOk result (λ r. IfSome r (λ csi. InRange (action_of csi))) }
+    ensures tokens { IfOk result (λ r. IfSome r (λ csi. params_of (action_of csi) ≡ params.now)) }
+    ensures finds { IfOk result (λ r. Makes InRange plain.now params.now (option_map action_of r)) }
 {
     match plain.kind {
-        0 => unknown(alloc, plain, params),
-        404..=406 => extended(alloc, plain, params),
-        414 => graphics(alloc, plain, params),
+        UNSPECIFIED => unknown(alloc, plain, params),
+        VT220 | VT320 | VT420 => extended(alloc, plain, params),
+        XT_SM_GRAPHICS => graphics(alloc, plain, params),
         _ if params.is_empty() => candidate(alloc, plain),
         _ => Ok(None),
     }
@@ -145,7 +167,7 @@ pub(crate) fn action(
     params: &[Param],
     plain: &Plain,
 ) -> Result<Option<CSI>, AllocError>
-    ensures { IfOk result (λ r. IfSome r (λ csi. Stands plain.now params.now (action_of csi))) }
+    ensures { IfOk result (λ r. MatchOption r (StandsForNone plain.now params.now) (λ csi. Stands plain.now params.now (action_of csi))) }
 {
     let Some(items) = part(params, plain.place, plain.len) else {
         return Ok(None);
@@ -168,7 +190,7 @@ fn texts_of(
     params: &[Param],
 ) -> Result<Result<Vec<u8>, usize>, AllocError>
     ensures texts { IfOk result (λ r. IfOk r (λ all. (actions : List Action) × AllStand plains.now params.now actions × (all.items ≡ texts actions))) }
-    ensures within { IfOk result (λ r. IfErr r (λ at. at < length plains.now)) }
+    ensures none { IfOk result (λ r. IfErr r (λ at. HasNone plains.now params.now at)) }
 {
     let mut actions = Vec::new(alloc);
     let mut at = 0;
@@ -190,7 +212,7 @@ pub extern "C" fn csicodec_encode(
     params: &[Param],
     out: &mut [u8],
 ) -> Encoded
-    ensures { IsDone actions.now params.now out.old out.new result ⊎ IsRefused actions.now out.old out.new result }
+    ensures { IsDone actions.now params.now out.old out.new result ⊎ IsRefused actions.now params.now out.old out.new result }
 {
     match texts_of(alloc, actions, params) {
         Ok(Ok(all)) => {

@@ -1,14 +1,27 @@
 //! What stands as a number in a plain struct, both ways.
-ghost use Rattle.std.specs.Prelude.{◌≡◌, pos};
+ghost use Rattle.std.specs.Prelude.{◌≡◌, ◌↔◌, ◌==◌, ◌||◌, IfSome, MatchOption, pos};
+ghost use Rattle.std.specs.Int.{FitsUnsignedBits};
+ghost use Rattle.csicodec_names.specs.FlagBits.{kitty_bits};
 ghost use Rattle.csicodec_actions.specs.Devices.{attribute_token};
+ghost use Rattle.csicodec_actions.specs.Good.{IsOneBased};
 ghost use Rattle.csicodec_actions.specs.Graphics.{item_number};
+ghost use Rattle.csicodec_actions.specs.Modes.{dec_number, terminal_number};
+ghost use Rattle.csicodec_actions.specs.declared.actions.mouse.MouseButton.{MouseButton};
+ghost use Rattle.csicodec_names.specs.declared.color.Blink.{Blink};
+ghost use Rattle.csicodec_names.specs.declared.color.Intensity.{Intensity};
+ghost use Rattle.csicodec_names.specs.declared.color.Underline.{Underline};
+ghost use Rattle.csicodec_names.specs.declared.color.VerticalAlign.{VerticalAlign};
+ghost use Rattle.csicodec_actions.specs.Ranges.{ColorInRange};
+ghost use Rattle.csicodec_c.specs.Ranges.{HasText};
+ghost use Rattle.csicodec_c.specs.Private.Candidates.{IsPlace, IsTen, Reads, color_of, itself, unless};
 ghost use Rattle.csicodec_c.specs.Plain.{align_number, blink_number, button_number, flag_number, font_number, intensity_number, underline_number};
 
 use crate::plain::Plain;
 use bitflags::Flags;
 use csicodec::{
-    Blink, ColorSpec, CsiParam, DeviceAttribute, Font, Intensity, KittyKeyboardFlags, MouseButton,
-    OneBased, SrgbaTuple, Underline, VerticalAlign, XtSmGraphicsItem,
+    Blink, ColorSpec, CsiParam, DecPrivateMode, DeviceAttribute, Font, Intensity,
+    KittyKeyboardFlags, MouseButton, OneBased, SrgbaTuple, TerminalMode, Underline, VerticalAlign,
+    XtSmGraphicsItem,
 };
 
 pub(crate) fn flag_number(on: bool) -> i64
@@ -115,32 +128,86 @@ pub(crate) fn attribute_token(attribute: DeviceAttribute) -> CsiParam
     }
 }
 
-pub(crate) fn count(number: i64) -> Option<u32> {
-    u32::try_from(number).ok()
+/// The first number, as a count.
+pub(crate) fn count(plain: &Plain) -> Option<u32>
+    ensures { Reads itself (FitsUnsignedBits 32) plain.now.first result }
+{
+    u32::try_from(plain.first).ok()
 }
 
-pub(crate) fn word(number: i64) -> Option<u16> {
-    u16::try_from(number).ok()
+/// The first number, of 16 bits.
+pub(crate) fn first_word(plain: &Plain) -> Option<u16>
+    ensures { Reads itself (FitsUnsignedBits 16) plain.now.first result }
+{
+    u16::try_from(plain.first).ok()
 }
 
-fn byte(number: i64) -> Option<u8> {
-    u8::try_from(number).ok()
+/// The second number, of 16 bits.
+pub(crate) fn second_word(plain: &Plain) -> Option<u16>
+    ensures { Reads itself (FitsUnsignedBits 16) plain.now.second result }
+{
+    u16::try_from(plain.second).ok()
 }
 
-pub(crate) fn place(number: i64) -> Option<OneBased> {
-    OneBased::from_esc_param(&CsiParam::Integer(number)).ok()
+/// A side of an area.
+pub(crate) fn side(number: u32) -> Option<OneBased>
+    ensures { MatchOption result (number ≡ 0) (λ place. (number ≡ place) × IsOneBased place) }
+{
+    OneBased::try_from(number).ok()
 }
 
-pub(crate) fn flag(number: i64) -> bool {
-    number != 0
+/// The first number, as a line or a column.
+pub(crate) fn first_place(plain: &Plain) -> Option<OneBased>
+    ensures { Reads itself IsPlace plain.now.first result }
+{
+    side(u32::try_from(plain.first).ok()?)
 }
 
-pub(crate) fn flags(number: i64) -> Option<KittyKeyboardFlags> {
-    Some(KittyKeyboardFlags::from_bits_retain(word(number)?))
+/// The second number, as a line or a column.
+pub(crate) fn second_place(plain: &Plain) -> Option<OneBased>
+    ensures { Reads itself IsPlace plain.now.second result }
+{
+    side(u32::try_from(plain.second).ok()?)
+}
+
+/// The first number, as 1 for on and 0 for off.
+pub(crate) fn flag(plain: &Plain) -> Option<bool>
+    ensures { Reads flag_number (FitsUnsignedBits 1) plain.now.first result }
+{
+    match plain.first {
+        0 => Some(false),
+        1 => Some(true),
+        _ => None,
+    }
+}
+
+/// The first number, as flags of the keyboard.
+pub(crate) fn flags(plain: &Plain) -> Option<KittyKeyboardFlags>
+    ensures { Reads kitty_bits (FitsUnsignedBits 16) plain.now.first result }
+{
+    Some(KittyKeyboardFlags::from_bits_retain(first_word(plain)?))
+}
+
+/// The first number, as that of a private mode.
+#[tactic(auto, using(crate::proofs::ModeNumbers::dec_reads))]
+pub(crate) fn private_mode(plain: &Plain) -> Option<DecPrivateMode>
+    ensures { Reads dec_number (FitsUnsignedBits 16) plain.now.first result }
+{
+    DecPrivateMode::at(plain.first)
+}
+
+/// The first number, as that of a mode.
+#[tactic(auto, using(crate::proofs::ModeNumbers::terminal_reads))]
+pub(crate) fn terminal_mode(plain: &Plain) -> Option<TerminalMode>
+    ensures { Reads terminal_number (FitsUnsignedBits 16) plain.now.first result }
+{
+    TerminalMode::at(plain.first)
 }
 
 /// The first number, unless it is absent.
-pub(crate) fn first(plain: &Plain) -> Option<i64> {
+pub(crate) fn first(plain: &Plain) -> Option<i64>
+    ensures { result ≡ unless (plain.now.absent == 1 || plain.now.absent == 3) plain.now.first }
+{
     match plain.absent {
         1 | 3 => None,
         _ => Some(plain.first),
@@ -148,36 +215,49 @@ pub(crate) fn first(plain: &Plain) -> Option<i64> {
 }
 
 /// The second number, unless it is absent.
-pub(crate) fn second(plain: &Plain) -> Option<i64> {
+pub(crate) fn second(plain: &Plain) -> Option<i64>
+    ensures { result ≡ unless (plain.now.absent == 2 || plain.now.absent == 3) plain.now.second }
+{
     match plain.absent {
         2 | 3 => None,
         _ => Some(plain.second),
     }
 }
 
-pub(crate) fn color(plain: &Plain) -> Option<ColorSpec> {
+/// Its colour.
+pub(crate) fn color(plain: &Plain) -> Option<ColorSpec>
+    ensures value { result ≡ color_of plain.now }
+    ensures in_range { IfSome result ColorInRange }
+{
     match plain.first {
         0 => Some(ColorSpec::Default),
-        1 => Some(ColorSpec::PaletteIndex(byte(plain.second)?)),
-        2 => Some(ColorSpec::TrueColor(SrgbaTuple(
-            plain.red,
-            plain.green,
-            plain.blue,
-            plain.alpha,
-        ))),
+        1 => Some(ColorSpec::PaletteIndex(u8::try_from(plain.second).ok()?)),
+        2 => {
+            let red = plain.red;
+            let green = plain.green;
+            let blue = plain.blue;
+            let alpha = plain.alpha;
+            Some(ColorSpec::TrueColor(SrgbaTuple(red, green, blue, alpha)))
+        }
         _ => None,
     }
 }
 
-pub(crate) fn font(number: i64) -> Option<Font> {
-    match number {
+/// The first number, as that of a font that has a text.
+pub(crate) fn font(plain: &Plain) -> Option<Font>
+    ensures value { Reads font_number IsTen plain.now.first result }
+    ensures text { IfSome result HasText }
+{
+    match plain.first {
         0 => Some(Font::Default),
-        1..=9 => Some(Font::Alternate(byte(number)?)),
+        1..=9 => Some(Font::Alternate(u8::try_from(plain.first).ok()?)),
         _ => None,
     }
 }
 
-pub(crate) fn intensity(number: i64) -> Option<Intensity> {
+pub(crate) fn intensity(number: i64) -> Option<Intensity>
+    ensures { (value : Intensity) → (result ≡ Some value) ↔ (number ≡ pos (intensity_number value)) }
+{
     match number {
         0 => Some(Intensity::Normal),
         1 => Some(Intensity::Bold),
@@ -186,7 +266,9 @@ pub(crate) fn intensity(number: i64) -> Option<Intensity> {
     }
 }
 
-pub(crate) fn underline(number: i64) -> Option<Underline> {
+pub(crate) fn underline(number: i64) -> Option<Underline>
+    ensures { (value : Underline) → (result ≡ Some value) ↔ (number ≡ pos (underline_number value)) }
+{
     match number {
         0 => Some(Underline::None),
         1 => Some(Underline::Single),
@@ -198,7 +280,9 @@ pub(crate) fn underline(number: i64) -> Option<Underline> {
     }
 }
 
-pub(crate) fn blink(number: i64) -> Option<Blink> {
+pub(crate) fn blink(number: i64) -> Option<Blink>
+    ensures { (value : Blink) → (result ≡ Some value) ↔ (number ≡ pos (blink_number value)) }
+{
     match number {
         0 => Some(Blink::None),
         1 => Some(Blink::Slow),
@@ -207,7 +291,9 @@ pub(crate) fn blink(number: i64) -> Option<Blink> {
     }
 }
 
-pub(crate) fn align(number: i64) -> Option<VerticalAlign> {
+pub(crate) fn align(number: i64) -> Option<VerticalAlign>
+    ensures { (value : VerticalAlign) → (result ≡ Some value) ↔ (number ≡ pos (align_number value)) }
+{
     match number {
         0 => Some(VerticalAlign::BaseLine),
         1 => Some(VerticalAlign::SuperScript),
@@ -216,7 +302,9 @@ pub(crate) fn align(number: i64) -> Option<VerticalAlign> {
     }
 }
 
-pub(crate) fn button(number: u8) -> Option<MouseButton> {
+pub(crate) fn button(number: u8) -> Option<MouseButton>
+    ensures { (value : MouseButton) → (result ≡ Some value) ↔ (number ≡ button_number value) }
+{
     match number {
         0 => Some(MouseButton::None),
         1 => Some(MouseButton::Button1Press),
@@ -240,11 +328,14 @@ pub(crate) fn button(number: u8) -> Option<MouseButton> {
     }
 }
 
-pub(crate) fn item(number: i64) -> XtSmGraphicsItem {
-    match number {
+/// The first number, as that of an item of graphics.
+pub(crate) fn item(plain: &Plain) -> XtSmGraphicsItem
+    ensures { item_number result ≡ plain.now.first }
+{
+    match plain.first {
         1 => XtSmGraphicsItem::NumberOfColorRegisters,
         2 => XtSmGraphicsItem::SixelGraphicsGeometry,
         3 => XtSmGraphicsItem::RegisGraphicsGeometry,
-        _ => XtSmGraphicsItem::Unspecified(number),
+        number => XtSmGraphicsItem::Unspecified(number),
     }
 }

@@ -1,5 +1,8 @@
 //! Tokens of a list, extensions of a terminal and values of graphics: what crosses as a `Param`, both ways.
-ghost use Rattle.std.specs.Prelude.{◌≡◌, ◌++◌, List, length, map, take, drop, IfOk, IfSome};
+ghost use Rattle.std.specs.Prelude.{◌≡◌, ◌++◌, List, length, map, take, drop, ⊤, IfOk, IfSome};
+ghost use Rattle.std.specs.Option.{option_map};
+ghost use Rattle.csicodec_c.specs.Private.Candidates.{FindsToken, FindsTokens};
+ghost use Rattle.csicodec_c.specs.Ranges.{AttributeInRange, TokenInRange};
 ghost use Rattle.csicodec_c.specs.Plain.{attribute_param, param_of, value_param};
 ghost use Rattle.csicodec_c.specs.Room.{laid};
 ghost use Rattle.csicodec_c.specs.declared.plain.Param.{Param};
@@ -15,16 +18,21 @@ pub(crate) trait Token: Copy {
     /// Its struct.
     ghost crosses: { Self → Param };
 
+    /// Whether its number is one that its type lets stand.
+    ghost in_range: { Self → Type 0 };
+
     fn to_param(self) -> Param
         ensures { result ≡ crosses self };
 
-    /// What the struct stands for.
+    /// What the struct stands for, of what is in range.
     fn of_param(param: Param) -> Option<Self>
-        ensures { IfSome result (λ token. crosses token ≡ param) };
+        ensures { FindsToken crosses in_range param result };
 }
 
 impl Token for i64 {
     ghost crosses = { value_param };
+
+    ghost in_range = { λ value. ⊤ };
 
     fn to_param(self) -> Param {
         Param {
@@ -43,6 +51,8 @@ impl Token for i64 {
 
 impl Token for CsiParam {
     ghost crosses = { param_of };
+
+    ghost in_range = { TokenInRange };
 
     fn to_param(self) -> Param {
         match self {
@@ -65,6 +75,8 @@ impl Token for CsiParam {
 
 impl Token for DeviceAttribute {
     ghost crosses = { attribute_param };
+
+    ghost in_range = { AttributeInRange };
 
     fn to_param(self) -> Param {
         attribute_token(self).to_param()
@@ -93,12 +105,12 @@ pub(crate) fn put_all<T: Token>(room: &mut [Param], place: usize, tokens: &[T]) 
     Some(end)
 }
 
-/// The tokens that structs stand for.
+/// The tokens that structs stand for, of those that are in range.
 pub(crate) fn tokens<T: Token + Drop>(
     alloc: Global,
     params: &[Param],
 ) -> Result<Option<Vec<T>>, AllocError>
-    ensures { IfOk result (λ r. IfSome r (λ all. map T.crosses all.items ≡ params.now)) }
+    ensures { IfOk result (λ r. FindsTokens T.crosses T.in_range params.now (option_map (λ all. all.items) r)) }
 {
     let mut all = Vec::new(alloc);
     for param in params {

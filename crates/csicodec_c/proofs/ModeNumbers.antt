@@ -1,0 +1,53 @@
+-- What a mode's number is read as has this number.
+use Rattle.std.proofs.Common.{◌≡◌, ℕ, ◌<◌, List, Option, None, Some, refl, sym, ap, ◌∙◌, inl, inr, arith, pos, subst, nat_lt}
+use Rattle.std.specs.Prelude.{ℤ, negsuc, true, false, MatchOption}
+use Rattle.std.specs.Int.{FitsUnsignedBits}
+use Rattle.std.proofs.lemmas.Bool.{cases_Bool, false≢true, lt-ltb, ltb-true}
+use Rattle.std.proofs.lemmas.Int.{to_z-of_z}
+use mir.Syntax.{w64}
+use mir.Val.{SFits, of_z, to_z}
+use Rattle.csicodec_names.proofs.Coded.{decs, listed-number, small, terminals}
+use Rattle.csicodec_names.specs.ModeNumbers.{dec_mode_number, dec_codes, terminal_mode_number, terminal_codes}
+use Rattle.csicodec_names.specs.Numbered.{with_number}
+use Rattle.csicodec_names.specs.declared.modes.DecPrivateModeCode.{DecPrivateModeCode}
+use Rattle.csicodec_names.specs.declared.modes.TerminalModeCode.{TerminalModeCode}
+use Rattle.csicodec_actions.specs.declared.actions.mode.DecPrivateMode.{DecPrivateMode}
+use Rattle.csicodec_actions.specs.declared.actions.mode.DecPrivateMode.TheVariants as dec
+use Rattle.csicodec_actions.specs.declared.actions.mode.TerminalMode.{TerminalMode}
+use Rattle.csicodec_actions.specs.declared.actions.mode.TerminalMode.TheVariants as terminal
+use Rattle.csicodec_actions.specs.Kinds.{Dec, Terminal, below, code_or, read, short}
+use Rattle.csicodec_actions.specs.Modes.{dec_number, terminal_number}
+use Rattle.csicodec_c.specs.Private.Candidates.{Reads}
+
+-- a number of 16 bits is itself
+short-reads : (z : ℤ) → Reads (λ n. n) (FitsUnsignedBits 16) z (short z)
+short-reads (pos n) = elim (cases_Bool (nat_lt n 65536)) [
+  | inl low ↦ rw low (refl, ltb-true n 65536 low)
+  | inr high ↦ rw high (λ fits. false≢true (sym high ∙ lt-ltb n 65536 fits))
+]
+short-reads (negsuc n) = λ fits. fits
+
+-- by its code, and by itself
+code-reads : {C M : Type 0} (code_number : C → ℕ) (all : List C) (coded : C → M) (own : ℕ → M) (number : M → ℕ) (z : ℤ)
+    → ((c : C) → number (coded c) ≡ code_number c) → ((n : ℕ) → number (own n) ≡ n) → ((c : C) → code_number c < 65536)
+    → Reads number (FitsUnsignedBits 16) z (code_or coded own (with_number code_number all z) (short z))
+code-reads code_number all coded own number z by_code by_self fits = go (with_number code_number all z) (short z) (λ c e. listed-number code_number all z c e) (short-reads z)
+  where
+    go : (found : Option _) (n : Option ℕ) → ((c : _) → found ≡ Some c → z ≡ pos (code_number c)) → Reads (λ n. n) (FitsUnsignedBits 16) z n → Reads number (FitsUnsignedBits 16) z (code_or coded own found n)
+    go (Some c) n has short = rw (by_code c) (has c refl, fits c)
+    go None (Some n) has short = rw (by_self n) short
+    go None None has short = short
+
+dec-fits : (c : DecPrivateModeCode) → dec_mode_number c < 65536
+dec-fits c = omega (arith, small dec_mode_number dec_codes decs 65535 (search arith) c)
+
+terminal-fits : (c : TerminalModeCode) → terminal_mode_number c < 65536
+terminal-fits c = omega (arith, small terminal_mode_number terminal_codes terminals 65535 (search arith) c)
+
+pub dec_reads : (z : ℤ) (o : Option DecPrivateMode) → SFits w64 z → o ≡ read Dec (to_z w64 (of_z w64 z)) → Reads dec_number (FitsUnsignedBits 16) z o
+unfolding read
+dec_reads z o fits is = rw (is, to_z-of_z w64 z fits) (code-reads dec_mode_number dec_codes (λ c. dec.Code c) (λ n. dec.Unspecified n) dec_number z (λ c. refl) (λ n. refl) dec-fits)
+
+pub terminal_reads : (z : ℤ) (o : Option TerminalMode) → SFits w64 z → o ≡ read Terminal (to_z w64 (of_z w64 z)) → Reads terminal_number (FitsUnsignedBits 16) z o
+unfolding read
+terminal_reads z o fits is = rw (is, to_z-of_z w64 z fits) (code-reads terminal_mode_number terminal_codes (λ c. terminal.Code c) (λ n. terminal.Unspecified n) terminal_number z (λ c. refl) (λ n. refl) terminal-fits)

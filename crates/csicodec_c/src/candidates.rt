@@ -3,7 +3,7 @@
 ghost use Rattle.std.specs.Prelude.{◌≡◌, [], IfOk, IfSome};
 ghost use Rattle.std.specs.Option.{option_map};
 ghost use Rattle.csicodec_actions.specs.Devices.{device_of};
-ghost use Rattle.csicodec.specs.ActionOf.{action_of};
+ghost use Rattle.csicodec_parser.specs.ActionOf.{action_of};
 ghost use Rattle.csicodec_c.specs.Private.Candidates.{Finds, HasNoList, IsBare, IsSmall};
 ghost use Rattle.csicodec_c.specs.Ranges.{CursorInRange, DeviceInRange, EditInRange, InRange, KeyboardInRange, ModeInRange, MouseInRange, SgrInRange, WindowInRange};
 ghost use Rattle.csicodec_c.specs.Rows.{cursor_plain, device_params, device_plain, edit_plain, keyboard_plain, mode_plain, mouse_plain, params_of, plain_of, sgr_plain, window_plain};

@@ -17,8 +17,9 @@ pub use csicodec_base::{
     AnsiColor, Blink, ColorSpec, Cracked, CsiParam, CsiTail, CursorStyle, CursorTabulationControl,
     DecPrivateModeCode, DeviceAttributeCodes, EraseInDisplay, EraseInLine, Esc, EscCode, Font,
     Intensity, KittyKeyboardFlags, Modifiers, MouseButtons, NotOneBased, NotSpelled, OneBased,
-    ParseRefusal, ReadCsi, ReadError, Sgr, SgrCode, SrgbaTuple, TabulationClear, TerminalModeCode,
-    Text, Underline, VerticalAlign, behind_csi, read_csi, read_csi_into, sgr_front,
+    ParseRefusal, ReadCsi, ReadError, Sgr, SgrCode, ShortCsi, SrgbaTuple, TabulationClear,
+    TerminalModeCode, Text, Underline, VerticalAlign, behind_csi, read_csi, read_csi_into,
+    read_csi_within, sgr_front,
 };
 pub use csicodec_parser::{CSI, CSIParser, Count, Look, Run, Tokens, Unspecified};
 pub use filter::{Filter, NormalForm, Rewrite, append_spans, filter_all};

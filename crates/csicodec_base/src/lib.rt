@@ -14,7 +14,7 @@ pub use csicodec_names::{
 };
 pub use csicodec_tokens::{
     Cracked, CsiParam, CsiTail, NotOneBased, NotSpelled, OneBased, ParseRefusal, ReadCsi,
-    ReadError, Text, TextBuffer, behind_csi, read_csi, read_csi_into,
+    ReadError, ShortCsi, Text, TextBuffer, behind_csi, read_csi, read_csi_into, read_csi_within,
 };
 pub use pieces::sgr_front;
 pub use ready::append_code;

@@ -3,6 +3,7 @@ ghost use Rattle.std.specs.Prelude.{◌≡◌, ◌⊎◌, false, List, ◌++◌,
 ghost use Rattle.csicodec_actions.specs.Actions.{Action};
 ghost use Rattle.csicodec_parser.specs.ActionOf.{action_of};
 ghost use Rattle.csicodec_parser.specs.Segments.{Actions};
+ghost use Rattle.csicodec_c.specs.Private.Fronts.{IsAnswer};
 ghost use Rattle.csicodec_c.specs.Next.{IsDone, IsRefused, Lays, refusal, refused};
 ghost use Rattle.csicodec_c.specs.declared.plain.Param.{Param};
 ghost use Rattle.csicodec_c.specs.declared.plain.Plain.{Plain};
@@ -15,7 +16,9 @@ use crate::room::put;
 use crate::rows::plain_of;
 use crate::token::put_all;
 use csicodec::laws::segmentation;
-use csicodec::{CSI, CsiParam, Device, DeviceAttributes, ReadError, read_csi_into};
+use csicodec::{
+    CSI, CsiParam, Device, DeviceAttributes, ReadError, read_csi_into, read_csi_within,
+};
 use std::alloc::{AllocError, Global};
 
 /// What stands at the front of some bytes: 0, or why no sequence does.
@@ -149,6 +152,45 @@ fn lay(
     Ok(count)
 }
 
+/// Puts the actions of this list and their tokens, as many as there is room for: of a sequence of so many bytes.
+#[inline(always)]
+fn answer(
+    alloc: Global,
+    list: &[CsiParam],
+    control: char,
+    used: usize,
+    actions: &mut [Plain],
+    params: &mut [Param],
+) -> Front
+    ensures { IsAnswer list.now control used actions.old actions.new params.old params.new result }
+{
+    match lay(alloc, list, control, actions, params) {
+        Ok(count) => Front {
+            status: 0,
+            at: 0,
+            used,
+            actions: count.actions,
+            params: count.params,
+        },
+        Err(_) => refused(5, 0),
+    }
+}
+
+/// The same of the sequence at the front, whose tokens take memory.
+#[cold]
+#[inline(never)]
+fn next_long(alloc: Global, bytes: &[u8], actions: &mut [Plain], params: &mut [Param]) -> Front
+    ensures { IsDone bytes.now actions.old actions.new params.old params.new result ⊎ IsRefused bytes.now actions.old actions.new params.old params.new result }
+{
+    let mut list = Vec::new(alloc);
+    let tail = match read_csi_into(&mut list, bytes) {
+        Ok(tail) => tail,
+        Err(error) => return refusal(error),
+    };
+    let used = bytes.len() - tail.rest.len();
+    answer(alloc, &list, tail.control, used, actions, params)
+}
+
 /// Puts the actions of the sequence at the front, and their tokens, as many as there is room for.
 #[unsafe(no_mangle)]
 pub extern "C" fn csicodec_next(
@@ -159,19 +201,19 @@ pub extern "C" fn csicodec_next(
 ) -> Front
     ensures { IsDone bytes.now actions.old actions.new params.old params.new result ⊎ IsRefused bytes.now actions.old actions.new params.old params.new result }
 {
-    let mut list = Vec::new(alloc);
-    let tail = match read_csi_into(&mut list, bytes) {
-        Ok(tail) => tail,
+    let mut room = [CsiParam::P(0); 16];
+    let read = match read_csi_within(&mut room, bytes) {
+        Ok(read) => read,
+        Err(ReadError::Memory) => return next_long(alloc, bytes, actions, params),
         Err(error) => return refusal(error),
     };
-    match lay(alloc, &list, tail.control, actions, params) {
-        Ok(count) => Front {
-            status: 0,
-            at: 0,
-            used: bytes.len() - tail.rest.len(),
-            actions: count.actions,
-            params: count.params,
-        },
-        Err(_) => refused(5, 0),
-    }
+    let used = bytes.len() - read.rest.len();
+    answer(
+        alloc,
+        &room[..read.count],
+        read.control,
+        used,
+        actions,
+        params,
+    )
 }

@@ -11,6 +11,8 @@ mod words;
 
 pub use fields::Cracked;
 pub use param::{CsiParam, OneBased};
-pub use reader::{CsiTail, ReadCsi, ReadError, behind_csi, read_csi, read_csi_into};
+pub use reader::{
+    CsiTail, ReadCsi, ReadError, ShortCsi, behind_csi, read_csi, read_csi_into, read_csi_within,
+};
 pub use refusal::{NotOneBased, NotSpelled, ParseRefusal};
 pub use text::{Text, TextBuffer};

@@ -1,6 +1,6 @@
 //! Reading one control sequence (ECMA-48, 5.4) at the front of some bytes.
 
-ghost use Rattle.std.specs.Prelude.{◌≡◌, ℕ, ◌+◌, ◌-◌, ◌*◌, ◌^◌, ◌<◌, ◌≤◌, List, [], ◌∷◌, ◌++◌, length, pos, IfOk, IfErr, IfSome, MatchOption, MatchResult, vec_capacity};
+ghost use Rattle.std.specs.Prelude.{◌≡◌, ℕ, ◌+◌, ◌-◌, ◌*◌, ◌^◌, ◌<◌, ◌≤◌, List, [], ◌∷◌, ◌++◌, length, take, pos, IfOk, IfErr, IfSome, MatchOption, MatchResult, vec_capacity};
 ghost use Rattle.csicodec_tokens.specs.declared.param.CsiParam.{CsiParam};
 ghost use Rattle.csicodec_tokens.specs.declared.param.CsiParam.TheVariants.{P};
 ghost use Rattle.csicodec_tokens.specs.declared.reader.ReadError.{ReadError};
@@ -34,6 +34,19 @@ pub struct CsiTail<'a> {
     pub control: char,
 
     /// The bytes behind the final byte: the end of the slice that was passed, not a copy.
+    pub rest: &'a [u8],
+}
+
+/// A control sequence that was read into a slice.
+#[derive(Clone, Copy, Debug, PartialEq, Eq)]
+pub struct ShortCsi<'a> {
+    /// How many tokens it has: they stand at the front of the slice.
+    pub count: usize,
+
+    /// The final byte as a character, from `'@'` to `'~'`.
+    pub control: char,
+
+    /// The bytes behind the final byte: the end of the bytes that were passed, not a copy.
     pub rest: &'a [u8],
 }
 
@@ -302,6 +315,46 @@ pub fn read_csi_into<'a>(
     ensures kept { vec_capacity params.old ≤ vec_capacity params.new }
 {
     fill(params, bytes)
+}
+
+/// Reads the control sequence at the front of the bytes, its tokens into a slice: it takes no memory.
+///
+/// `Memory` comes only for more tokens than the slice has room for. After an `Err` the slice holds anything.
+///
+/// ```text
+/// let read = read_csi_within(&mut room, b"\x1b[0001;?m!")?;   // 3 tokens: 1, ';', '?' then 'm' and b"!"
+/// ```
+pub fn read_csi_within<'a>(
+    room: &mut [CsiParam],
+    bytes: &'a [u8],
+) -> Result<ShortCsi<'a>, ReadError>
+    // What is read is a sequence, and the bytes behind it are left.
+    ensures found { IfOk result (λ read. Reads bytes.now (take read.count room.new) read.control read.rest.now) }
+    ensures fits { IfOk result (λ read. read.count ≤ length room.new) }
+    // Memory is refused only to a sequence with more tokens, and any other error is the fault of bytes with none in front.
+    ensures refused { IfErr result (λ e. Refuses bytes.now (length room.new) e) }
+{
+    let mut count = 0;
+    let mut rest = behind_introducer(bytes)?;
+    loop {
+        match part_front(bytes, rest)? {
+            Part::Token(token, others) => {
+                if count == room.len() {
+                    return Err(refusal(bytes, others));
+                }
+                room[count] = token;
+                count += 1;
+                rest = others;
+            }
+            Part::Final(byte, behind) => {
+                return Ok(ShortCsi {
+                    count,
+                    control: char::from(byte),
+                    rest: behind,
+                });
+            }
+        }
+    }
 }
 
 // The same with a list of its own.

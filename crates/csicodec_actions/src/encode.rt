@@ -1,5 +1,4 @@
 //! How one parameter is written, and two.
-
 ghost use Rattle.std.specs.Prelude.{◌≡◌, ◌==◌, ◌<◌, ◌≤◌, ◌++◌, [], ◌∷◌, ℕ, if◌then◌else◌, length};
 ghost use Rattle.std.specs.Fmt.{decimal};
 ghost use Rattle.csicodec_names.specs.EnumNumbers.{erase_in_display_number, erase_in_line_number, tabulation_clear_number, tabulation_control_number};

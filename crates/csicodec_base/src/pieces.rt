@@ -1,5 +1,4 @@
 //! The longest spelling of an attribute at the front of a list before `m`.
-
 ghost use Rattle.std.specs.Prelude.{◌≡◌, ◌∷◌, ◌<◌, ◌≤◌, List, IfSome, Some, pos, take, length};
 ghost use Rattle.csicodec_names.specs.Numbers.{number_of};
 ghost use Rattle.csicodec_base.specs.Attributes.{action_of};

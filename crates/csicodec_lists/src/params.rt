@@ -1,5 +1,4 @@
 //! Lists that are one parameter, or two: what they stand for.
-
 ghost use Rattle.std.specs.Prelude.{◌≡◌, ℤ, List, Option, None, IfNone, IfSome};
 ghost use Rattle.csicodec_tokens.specs.declared.param.CsiParam.{CsiParam};
 ghost use Rattle.csicodec_actions.specs.Kinds.{Clear, Control, InDisplay, InLine, read};

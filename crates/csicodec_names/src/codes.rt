@@ -1,5 +1,4 @@
 //! The numbers by which attributes of text are set (SGR).
-
 ghost use Rattle.std.specs.Prelude.{◌≡◌, ◌↔◌, pos, Some};
 ghost use Rattle.csicodec_names.specs.Numbers.{number_of};
 

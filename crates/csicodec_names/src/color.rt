@@ -1,5 +1,4 @@
 //! Colours, and the other values that an attribute of text can have.
-
 ghost use Rattle.std.specs.Prelude.{◌≡◌, ◌↔◌, Some};
 ghost use Rattle.csicodec_names.specs.Palette.{place_of};
 ghost use Rattle.csicodec_names.specs.declared.color.ColorSpec.TheVariants as spec;

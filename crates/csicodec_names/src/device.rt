@@ -1,5 +1,4 @@
 //! The numbers by which a terminal says what it can do.
-
 ghost use Rattle.std.specs.Prelude.{◌≡◌, ◌↔◌, Some, pos};
 ghost use Rattle.csicodec_names.specs.DeviceNumbers.{device_attribute_number};
 

@@ -1,5 +1,4 @@
 //! Enumerations that stand as a parameter, numbered from 0.
-
 ghost use Rattle.std.specs.Prelude.{◌≡◌, ◌↔◌, Some, pos};
 ghost use Rattle.csicodec_names.specs.EnumNumbers.{cursor_style_number, erase_in_display_number, erase_in_line_number, tabulation_clear_number, tabulation_control_number};
 ghost use Rattle.csicodec_names.specs.declared.enums.CursorStyle.TheVariants as style;

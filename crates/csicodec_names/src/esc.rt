@@ -1,5 +1,4 @@
 //! Escape sequences (ESC): one or two characters after the character ESC.
-
 ghost use Rattle.std.specs.Prelude.{◌≡◌, ◌↔◌, ◌<◌, ◌≤◌, Some};
 ghost use Rattle.csicodec_names.specs.Esc.{EscOf, esc_text, in_turn};
 ghost use Rattle.csicodec_names.specs.EscCodes.{characters_of, esc_number};
@@ -198,7 +197,7 @@ impl EscCode {
         }
     }
 
-    // The halves of its number, where a high half of 0 is none.
+    /// The halves of its number, where a high half of 0 is none.
     fn halves(&self) -> (Option<u8>, u8)
         ensures { in_turn result.0 result.1 ≡ characters_of self.now }
     {

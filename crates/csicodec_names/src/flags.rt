@@ -1,5 +1,4 @@
 //! Sets of keys, buttons and wishes, each a bit of a number.
-
 ghost use Rattle.std.specs.Prelude.{◌∷◌, [], ⊤, codes};
 ghost use Rattle.csicodec_names.specs.FlagBits.{button_bits, kitty_bits, modifier_bits};
 

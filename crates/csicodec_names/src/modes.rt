@@ -1,5 +1,4 @@
 //! The numbers of modes that have a name.
-
 ghost use Rattle.std.specs.Prelude.{◌≡◌, ◌↔◌, Some, pos};
 ghost use Rattle.csicodec_names.specs.ModeNumbers.{dec_mode_number, terminal_mode_number};
 

@@ -1,5 +1,4 @@
 //! The fields of a parameter list.
-
 ghost use Rattle.std.specs.Prelude.{◌≡◌, ◌<◌, ℤ, List, [], true, length, map, Option, None, Some, option_map, option_copied, slice_index_or, IfOk, IfErr, OnErr, MatchOption, MatchResult};
 ghost use Rattle.std.specs.Option.{ok_or};
 ghost use Rattle.std.specs.List.{list_all, AllByRecursion};
@@ -87,7 +86,7 @@ impl Cracked {
     }
 }
 
-// No byte but `;` stands in a list with fields.
+/// No byte but `;` stands in a list with fields.
 fn are_field_tokens(params: &[CsiParam]) -> bool
     ensures { result ≡ list_all is_field_token params.now }
 {
@@ -97,7 +96,7 @@ fn are_field_tokens(params: &[CsiParam]) -> bool
     })
 }
 
-// The field at the front, and what stands behind its block.
+/// The field at the front, and what stands behind its block.
 fn first_field(params: &[CsiParam]) -> Option<(Option<CsiParam>, &[CsiParam])>
     requires { list_all is_field_token params.now ≡ true }
     ensures { MatchOption result (params.now ≡ []) (λ x. IsFirstField params.now x.0 x.1.now) }
@@ -110,7 +109,7 @@ fn first_field(params: &[CsiParam]) -> Option<(Option<CsiParam>, &[CsiParam])>
     }
 }
 
-// Each field in turn.
+/// Each field in turn.
 fn all_fields(alloc: Global, params: &[CsiParam]) -> Result<Vec<Option<CsiParam>>, AllocError>
     requires { list_all is_field_token params.now ≡ true }
     ensures ok { IfOk result (λ v. AllByRecursion IsField v.items × (fields_of params.now ≡ Some (map number_in v.items))) }

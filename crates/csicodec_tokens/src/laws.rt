@@ -1,5 +1,4 @@
 //! Laws of the definitions. Each is the contract of a function that does nothing.
-
 ghost use Rattle.std.specs.Prelude.{◌≡◌, ◌↔◌, ℕ, ℤ, List, ◌∷◌, ◌++◌, Option, Some};
 ghost use Rattle.csicodec_tokens.specs.declared.param.CsiParam.{CsiParam};
 ghost use Rattle.csicodec_tokens.specs.declared.reader.ReadError.{ReadError};

@@ -1,5 +1,4 @@
 //! The tokens of a parameter list, and how they print.
-
 ghost use Rattle.std.specs.Prelude.{◌≡◌, ◌+◌, ◌<◌, Some, Ok, IsNone, IfSome, OkIff};
 ghost use Rattle.std.specs.Fmt.{decimal};
 ghost use Rattle.std.specs.Option.{ok_or};
@@ -18,7 +17,6 @@ pub enum CsiParam {
     /// The number of a longest run of digits. What is read is from 0 to `i64::MAX`, and doesn't tell
     /// how many zeros led it; a number below 0 can be made and printed, and is never read.
     Integer(i64),
-
     /// Any other byte by itself. What is read is one of `:` `;` `<` `=` `>` `?` or an intermediate
     /// byte from `' '` to `'/'`; any byte can be made and printed.
     P(u8),

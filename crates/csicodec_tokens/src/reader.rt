@@ -1,5 +1,4 @@
 //! Reading one control sequence (ECMA-48, 5.4) at the front of some bytes.
-
 ghost use Rattle.std.specs.Prelude.{◌≡◌, ℕ, ◌+◌, ◌-◌, ◌*◌, ◌^◌, ◌<◌, ◌≤◌, List, [], ◌∷◌, ◌++◌, length, take, pos, IfOk, IfErr, IfSome, MatchOption, MatchResult, vec_capacity};
 ghost use Rattle.csicodec_tokens.specs.declared.param.CsiParam.{CsiParam};
 ghost use Rattle.csicodec_tokens.specs.declared.param.CsiParam.TheVariants.{P};
@@ -19,10 +18,8 @@ pub struct ReadCsi<'a> {
     /// The tokens between `ESC [` and the final byte, in their order. No two numbers stand side by
     /// side.
     pub params: Vec<CsiParam>,
-
     /// The final byte as a character, from `'@'` to `'~'`.
     pub control: char,
-
     /// The bytes behind the final byte: the end of the slice that was passed, not a copy.
     pub rest: &'a [u8],
 }
@@ -32,7 +29,6 @@ pub struct ReadCsi<'a> {
 pub struct CsiTail<'a> {
     /// The final byte as a character, from `'@'` to `'~'`.
     pub control: char,
-
     /// The bytes behind the final byte: the end of the slice that was passed, not a copy.
     pub rest: &'a [u8],
 }
@@ -65,18 +61,14 @@ pub enum ReadError {
     /// The bytes don't begin with `ESC [`: `at` is 0 where the first byte isn't ESC, and 1 where
     /// another byte than `[` follows it. CSI as the one byte 9b is refused so, at 0.
     NotCsi { at: usize },
-
     /// Before any final byte stands one that is no part of a sequence: a control character, DEL, or
     /// a byte above it.
     BadByte { at: usize },
-
     /// The digit at `at` makes its number larger than `i64::MAX`, whatever follows.
     NumberTooLarge { at: usize },
-
     /// The bytes end before the final byte, and more bytes could make them a sequence; `at` is how
     /// many they are.
     Truncated { at: usize },
-
     /// A sequence stands in front, and there was no memory for its tokens.
     Memory,
 }
@@ -99,10 +91,10 @@ impl<T: Drop> From<AllocFailed<T>> for ReadError {
 
 const LARGEST: u64 = i64::MAX as u64;
 
-// Numbers below this one take a further digit without a test, and it is itself part of one instruction.
+/// Numbers below this one take a further digit without a test, and it is itself part of one instruction.
 const FEW: u64 = 100_000_000;
 
-// The number with one more digit of that value, if it isn't too large.
+/// The number with one more digit of that value, if it isn't too large.
 #[cold]
 fn with_last_digit(number: u64, value: u64) -> Option<u64>
     ensures { MatchOption result (largest < 10 * number + value) (λ n. (n ≡ 10 * number + value) × (n ≤ largest)) }
@@ -115,7 +107,7 @@ fn with_last_digit(number: u64, value: u64) -> Option<u64>
     }
 }
 
-// The same of a digit. All but the last digits of a very long number cost one test.
+/// The same of a digit. All but the last digits of a very long number cost one test.
 #[inline(always)]
 fn with_digit(number: u64, digit: u8) -> Option<u64>
     requires { IsDigit digit }
@@ -129,8 +121,8 @@ fn with_digit(number: u64, digit: u8) -> Option<u64>
     }
 }
 
-// The number that a digit and the digits behind it write, and what is behind them; or the bytes
-// from the digit on that makes it too large.
+/// The number that a digit and the digits behind it write, and what is behind them; or the bytes
+/// from the digit on that makes it too large.
 #[inline(always)]
 fn number_front(first: u8, text: &[u8]) -> Result<(u64, &[u8]), &[u8]>
     requires { IsDigit first }
@@ -148,14 +140,14 @@ fn number_front(first: u8, text: &[u8]) -> Result<(u64, &[u8]), &[u8]>
     Ok((number, rest))
 }
 
-// What stands in front of the bytes behind ESC and '['.
+/// What stands in front of the bytes behind ESC and '['.
 #[derive(Clone, Copy)]
 enum Part<'a> {
     Token(CsiParam, &'a [u8]),
     Final(u8, &'a [u8]),
 }
 
-// The part in front of the rest of the bytes.
+/// The part in front of the rest of the bytes.
 #[inline(always)]
 fn part_front<'a>(bytes: &[u8], rest: &'a [u8]) -> Result<Part<'a>, ReadError>
     requires { length rest.now ≤ length bytes.now }
@@ -180,7 +172,7 @@ fn part_front<'a>(bytes: &[u8], rest: &'a [u8]) -> Result<Part<'a>, ReadError>
     }
 }
 
-// The bytes behind ESC and '['.
+/// The bytes behind ESC and '['.
 fn behind_introducer(bytes: &[u8]) -> Result<&[u8], ReadError>
     ensures { MatchResult result (λ body. bytes.now ≡ 27 ∷ 91 ∷ body.now) (λ e. FaultOf bytes.now e) }
 {
@@ -192,7 +184,7 @@ fn behind_introducer(bytes: &[u8]) -> Result<&[u8], ReadError>
     }
 }
 
-// The bytes behind a `;` in front: it is what mostly follows a number.
+/// The bytes behind a `;` in front: it is what mostly follows a number.
 #[inline(always)]
 fn behind_semicolon(rest: &[u8]) -> Option<&[u8]>
     ensures { IfSome result (λ behind. IsFirstToken rest.now (P 59) behind.now) }
@@ -203,7 +195,7 @@ fn behind_semicolon(rest: &[u8]) -> Option<&[u8]>
     }
 }
 
-// How many tokens stand from a place on, before the final byte.
+/// How many tokens stand from a place on, before the final byte.
 fn tokens_from(bytes: &[u8], start: &[u8]) -> Result<usize, ReadError>
     requires { length start.now ≤ length bytes.now }
     ensures { (list : List CsiParam) → HasRead bytes.now list start.now →
@@ -244,7 +236,7 @@ pub fn behind_csi(bytes: &[u8]) -> Result<&[u8], ReadError>
     }
 }
 
-// Why no sequence is read, where there is no memory for a token before the rest.
+/// Why no sequence is read, where there is no memory for a token before the rest.
 #[cold]
 #[inline(never)]
 fn refusal(bytes: &[u8], rest: &[u8]) -> ReadError
@@ -257,7 +249,7 @@ fn refusal(bytes: &[u8], rest: &[u8]) -> ReadError
     }
 }
 
-// The sequence in front, or why there is none, from which the clauses of the public calls follow.
+/// The sequence in front, or why there is none, from which the clauses of the public calls follow.
 fn fill<'a>(params: &mut Vec<CsiParam>, bytes: &'a [u8]) -> Result<CsiTail<'a>, ReadError>
     ensures kept { vec_capacity params.old ≤ vec_capacity params.new }
     ensures read { MatchResult result
@@ -357,7 +349,7 @@ pub fn read_csi_within<'a>(
     }
 }
 
-// The same with a list of its own.
+/// The same with a list of its own.
 fn read(alloc: Global, bytes: &[u8]) -> Result<ReadCsi<'_>, ReadError>
     ensures { MatchResult result (λ read. Reads bytes.now read.params.items read.control read.rest.now) (λ e. Refuses bytes.now 0 e) }
 {

@@ -1,5 +1,4 @@
 //! Why a parameter, or a list of them, was refused.
-
 ghost use Rattle.std.specs.Prelude.{◌≡◌};
 ghost use Rattle.csicodec_tokens.specs.declared.refusal.ParseRefusal.TheVariants.{Memory};
 
@@ -24,7 +23,6 @@ pub struct NotOneBased;
 pub enum ParseRefusal {
     /// The list is none that a value of the type asked for is written as.
     NotSpelled,
-
     /// Out of memory. `Cracked::parse` says it only of a list that has fields. `XtSmGraphics::parse` needs the fields before
     /// it knows whether they are graphics, and so says it also of a list that it would refuse.
     Memory,

@@ -1,5 +1,4 @@
 //! What each refusal says.
-
 ghost use Rattle.std.specs.Prelude.{◌≡◌, Some};
 ghost use Rattle.csicodec_tokens.specs.Words.{not_one_based_text, not_spelled_text, parse_refusal_text, place, read_error_text, reason};
 

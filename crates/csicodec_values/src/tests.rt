@@ -1,6 +1,5 @@
 //! Values of each type that are built by hand: their texts, by `Display` and by `encode_all`, and whether these are read
 //! back. A line for each variant; a file a subject.
-
 ghost use Rattle.std.specs.Prelude.{◌<◌};
 
 mod attributes;

@@ -1,5 +1,4 @@
 //! Streams cut into spans.
-
 ghost use Rattle.std.specs.Prelude.{◌<◌};
 
 use csicodec_spans::{Kind, Mode, Spans, next_span};

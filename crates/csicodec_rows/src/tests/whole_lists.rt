@@ -1,5 +1,4 @@
 //! Worked lists that are read whole: the action that each stands for, and its text.
-
 ghost use Rattle.std.specs.Prelude.{◌<◌};
 
 use csicodec::CsiParam::{Integer, P};

@@ -1,5 +1,4 @@
 //! Windows and areas: the lists that are read by their fields, and the texts.
-
 ghost use Rattle.std.specs.Prelude.{◌<◌};
 
 use super::worked::{check, check_unknown, tokens_of};

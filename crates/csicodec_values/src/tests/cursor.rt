@@ -1,5 +1,4 @@
 //! The cursor, and editing.
-
 ghost use Rattle.std.specs.Prelude.{◌<◌};
 
 use super::{MOST, check, place};

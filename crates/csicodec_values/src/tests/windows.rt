@@ -1,5 +1,4 @@
 //! Windows and areas.
-
 ghost use Rattle.std.specs.Prelude.{◌<◌};
 
 use super::{MOST, check, place};

@@ -139,7 +139,7 @@ pub(super) fn check_built<T: Plain>(
     Ok(())
 }
 
-/// Asserts that each of these lists before this final is unknown whole, and is written as it came.
+/// Asserts that each of these lists before this final is one unknown action, and is written as it came.
 pub(super) fn check_unknown(
     rt: &impl Abort,
     alloc: Global,

@@ -61,6 +61,10 @@ impl<L: Look> Model for Run<L> {
 }
 
 /// The parser of a slice of parameters.
+///
+/// ```text
+/// let parser: CSIParser<'_> = CSI::parse(alloc, &params, false, 'm');
+/// ```
 pub type CSIParser<'a> = Run<Tokens<'a>>;
 
 /// The group of the list, by one look at its first token.

@@ -1,8 +1,8 @@
 //! Bytes that are read whole: their actions, and where they are refused.
 
 use csicodec::{
-    CSI, ColorSpec, DecodeError, Intensity, ReadError, RunError, Sgr, SrgbaTuple, decode_all,
-    encode_all, normalise,
+    CSI, ColorSpec, CsiParam, DecodeError, Intensity, ReadError, RunError, Sgr, SrgbaTuple,
+    decode_all, encode_all, normalise, read_csi_within,
 };
 use std::test::Fail;
 
@@ -33,6 +33,20 @@ fn nothing_is_nothing(rt: HostRuntime) -> Result<(), Fail> {
         Ok(())
     );
     assert!(rt; written.is_empty());
+    Ok(())
+}
+
+#[test]
+fn reads_into_a_slice(rt: HostRuntime) -> Result<(), Fail> {
+    let mut room = [CsiParam::P(0); 3];
+    let read = read_csi_within(&mut room, b"\x1b[0001;?m!")?;
+    assert_eq!(rt; read.count, 3);
+    assert!(rt; read.control == 'm' && read.rest == b"!".as_slice());
+    assert!(rt; room == [CsiParam::Integer(1), CsiParam::P(b';'), CsiParam::P(b'?')]);
+    let longer = read_csi_within(&mut room, b"\x1b[1;2;m");
+    assert!(rt; longer == Err(ReadError::Memory));
+    let refused = read_csi_within(&mut room, b"\x1b[1;2;");
+    assert!(rt; refused == Err(ReadError::Truncated { at: 6 }));
     Ok(())
 }
 

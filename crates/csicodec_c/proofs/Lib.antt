@@ -1,3 +1,5 @@
+mod Fronts
+mod Kept
 mod Laid
 mod ModeNumbers
 mod Running

@@ -38,10 +38,10 @@ code-reads code_number all coded own number z by_code by_self fits = go (with_nu
     go None (Some n) has short = rw (by_self n) short
     go None None has short = short
 
-dec-fits : (c : DecPrivateModeCode) → dec_mode_number c < 65536
+pub dec-fits : (c : DecPrivateModeCode) → dec_mode_number c < 65536
 dec-fits c = omega (arith, small dec_mode_number dec_codes decs 65535 (search arith) c)
 
-terminal-fits : (c : TerminalModeCode) → terminal_mode_number c < 65536
+pub terminal-fits : (c : TerminalModeCode) → terminal_mode_number c < 65536
 terminal-fits c = omega (arith, small terminal_mode_number terminal_codes terminals 65535 (search arith) c)
 
 pub dec_reads : (z : ℤ) (o : Option DecPrivateMode) → SFits w64 z → o ≡ read Dec (to_z w64 (of_z w64 z)) → Reads dec_number (FitsUnsignedBits 16) z o

@@ -1,5 +1,6 @@
 -- What the call for the sequence at the front answers a C program.
 use Rattle.std.specs.Prelude.{ℕ, ◌≡◌, ◌≢◌, ◌+◌, false, List, length}
+use Rattle.std.specs.List.{All}
 use Rattle.csicodec_tokens.specs.declared.param.CsiParam.{CsiParam}
 use Rattle.csicodec_tokens.specs.declared.reader.ReadError.{ReadError}
 use Rattle.csicodec_tokens.specs.declared.reader.ReadError.TheVariants as reading
@@ -11,6 +12,7 @@ use Rattle.csicodec_c.specs.declared.next.Counts.{Counts}
 use Rattle.csicodec_c.specs.declared.next.Front.{Front}
 use Rattle.csicodec_c.specs.declared.plain.Param.{Param}
 use Rattle.csicodec_c.specs.declared.plain.Plain.{Plain}
+use Rattle.csicodec_c.specs.Ranges.{InRange}
 use Rattle.csicodec_c.specs.Room.{laid}
 use Rattle.csicodec_c.specs.Rows.{plains, all_params}
 
@@ -49,6 +51,7 @@ pub record IsDone (bytes : List ℕ) (actions_old actions_new : List Plain) (par
   pub actions : List Action
   pub rest : List ℕ
   pub front : IsFront bytes actions rest
+  pub in_range : All InRange actions
   pub ok : answer.status ≡ 0
   pub used : answer.used + length rest ≡ length bytes
   pub count : answer.actions ≡ length actions

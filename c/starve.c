@@ -34,8 +34,10 @@ void __wrap_free(void *block) {
     __real_free(block);
 }
 
-/* An attribute, a colour and an unknown rest; extensions of a terminal; a window; graphics. */
-static const char *const texts[] = {"\x1b[1;38:2::1:2:3;0%m", "\x1b[?62;2;7;9;11;13c", "\x1b[4;40;30t", "\x1b[?2;1;9;8S"};
+/* An attribute, a colour and an unknown rest; extensions of a terminal; a window; graphics; more tokens than csicodec_next
+ * reads without memory. */
+static const char *const texts[] = {"\x1b[1;38:2::1:2:3;0%m", "\x1b[?62;2;7;9;11;13c", "\x1b[4;40;30t", "\x1b[?2;1;9;8S",
+                                    "\x1b[1;3;4;5;7;8;9;53;21;22;0m"};
 static uint8_t out[256];
 static struct csicodec_action actions[16];
 static struct csicodec_param params[64];

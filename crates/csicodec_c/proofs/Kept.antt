@@ -50,8 +50,8 @@ use Rattle.csicodec_actions.specs.Table.Mode.{written_mode}
 use Rattle.csicodec_actions.specs.Table.Mouse.{written_mouse, written_report}
 use Rattle.csicodec_actions.specs.Table.Window.{written_window}
 use Rattle.csicodec_actions.specs.Written.{Attribute, listed}
-use Rattle.csicodec.specs.Canonical.{Canonical, IsCanonicalSgr}
-use Rattle.csicodec.specs.Segments.{Actions}
+use Rattle.csicodec_parser.specs.Canonical.{Canonical, IsCanonicalSgr}
+use Rattle.csicodec_parser.specs.Segments.{Actions}
 use Rattle.csicodec.proofs.Kept.{Kept}
 use Rattle.csicodec.proofs.Parsed.{parsed-kept}
 use Rattle.csicodec.proofs.Twins.{IsParsedSpecial}

@@ -253,3 +253,7 @@ some_cuts_at s None g list p q n m later can b h = tt
 some_cuts_at Fresh (Some x) g list p q n m later can b h = absurd (later refl)
 some_cuts_at (Going k) (Some x) g list p q n m later can b h = λ w. (action_of x, b, h)
 some_cuts_at Failed (Some x) g list p q n m later can b h = absurd can
+
+-- passing on is dropping more
+pub dropped_on : (tokens : List CsiParam) (p q k : ℕ) → q ≡ p + k → drop q tokens ≡ drop k (drop p tokens)
+dropped_on tokens p q k e = ap (λ n. drop n tokens) e ∙ sym (drop-drop k p tokens)

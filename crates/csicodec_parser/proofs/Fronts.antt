@@ -8,7 +8,7 @@ use Rattle.csicodec_tokens.specs.declared.param.CsiParam.TheVariants.{Integer, P
 use Rattle.csicodec_base.specs.declared.sgr.Sgr as sgr_type
 use Rattle.csicodec_base.specs.Pieces.{IsFront}
 use Rattle.csicodec_base.specs.FrontBy.{piece}
-use Rattle.csicodec_base.proofs.Table.{piece_is, is_piece, piece_within}
+use Rattle.csicodec_base.proofs.Table.{piece_is, piece_take, is_piece, piece_within}
 use Rattle.csicodec_parser.specs.declared.group.Group.{Group}
 use Rattle.csicodec_parser.specs.declared.group.Group.TheVariants.{Whole, Styles, Modes, DecModes}
 use Rattle.csicodec_actions.specs.Actions.{Action, Sgr, Mode}
@@ -131,3 +131,10 @@ lent_front tokens lent p len width h w l =
     let same : lent ≡ take 13 xs =
     l ∙ ap (λ n. take n (drop (p + 0) tokens)) e ∙ ap (λ q. take (min 13 (length xs)) (drop q tokens)) (add-zero p) ∙ take_min 13 xs in
     sym (ap (take 13) same ∙ take-take 13 xs)
+
+-- the piece at the front is one of the first tokens
+pub front_same : (g : Group) (xs ys : List CsiParam) → take 13 xs ≡ take 13 ys → front g xs ≡ front g ys
+front_same Whole xs ys e = refl
+front_same Styles xs ys e = ap styled (sym (piece_take xs) ∙ ap piece e ∙ piece_take ys)
+front_same (Modes s) xs ys e = ap (λ n. one_token (λ m. Mode (switched s m)) (option_and_then (read Terminal) n)) (number_same xs ys e)
+front_same (DecModes c) xs ys e = ap (λ n. one_token (λ m. Mode (changed c m)) (option_and_then (read Dec) n)) (number_same xs ys e)

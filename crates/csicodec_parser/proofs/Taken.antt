@@ -15,7 +15,7 @@ use Rattle.csicodec_actions.specs.Texts.{text, texts}
 use Rattle.csicodec_actions.specs.Whole.{plain}
 use Rattle.csicodec_parser.proofs.Fronts.{piece_of_front}
 use Rattle.csicodec_parser.proofs.Blocks.{semicolon_from, segments_block, after_unknown, first_cut, odd_unknown, body_some}
-use Rattle.csicodec_lists.proofs.Boxed.{plain_whole, boxed_whole}
+use Rattle.csicodec_lists.proofs.Boxed.{boxed_whole}
 use Rattle.csicodec_parser.proofs.Rests.{rest_unknown}
 
 pub on_ok : {T E P Q : Type 0} (r : Result T E) → (P → Q) → OnOk r P → OnOk r Q
@@ -67,9 +67,6 @@ number_front [] d z s w first fronts = absurd (omega arith)
 number_front (t ∷ ts) d z s w first fronts = rw first (ap styled (piece_of_front (Integer z ∷ ts) (Some (s, 1)) (fronts ts)))
 
 -- ---- a list that is read whole
-
-pub plain_actions : (list : List CsiParam) (flag : Bool) (final : ℕ) (a : Action) → group list final ≡ Whole → plain list final ≡ Some a → actions list flag final ≡ a ∷ []
-plain_actions list flag final a is found = rw (is, plain_whole list final a found) refl
 
 pub rest_actions : (list : List CsiParam) (flag : Bool) (final : ℕ) → group list final ≡ Whole → plain list final ≡ None → actions list flag final ≡ rest_action Whole list flag final ∷ []
 rest_actions list flag final is none = rw (is, boxed_whole list final none) refl

@@ -1,37 +1,147 @@
 //! All actions of one parameter list, into a sink. They are those of the parser, without an iterator between.
-ghost use Rattle.std.specs.Prelude.{◌≡◌, ◌≤◌, ◌∷◌, [], ◌++◌, List, length, drop, slice_get, OnOk};
-ghost use Rattle.csicodec_actions.specs.Actions.{Action};
-ghost use Rattle.csicodec_parser.specs.Groups.{group as group_of_list, has_odd};
+ghost use Rattle.std.specs.Prelude.{◌≡◌, ◌<◌, ◌≤◌, ◌+◌, ◌*◌, ◌∷◌, [], ◌++◌, ℕ, List, length, drop, slice_get, None, Some, true, false, IfOk, OnOk};
+ghost use Rattle.csicodec_actions.specs.Actions.{Action, Unspecified as Unknown};
+ghost use Rattle.csicodec_parser.specs.Groups.{group as group_of_list, has_odd, marked};
 ghost use Rattle.csicodec_parser.specs.declared.group.Group.TheVariants.{Whole};
-ghost use Rattle.csicodec_parser.specs.Private.Steps.{actions, rest_action, with_semicolon};
+ghost use Rattle.csicodec_parser.specs.Private.Steps.{actions, front, rest_action, with_semicolon};
 
 use crate::actions::CSI;
 use crate::group::Group;
-use crate::parser::with_semicolon;
+use crate::look::Look;
+use crate::parser::{LONGEST, group_of as first_group, has_odd, whole_list, with_semicolon};
 use crate::sink::Sink;
-use crate::whole::{boxed_action, plain_action};
+use crate::whole::boxed_action;
 use csicodec_base::{CsiParam, Sgr};
 use std::alloc::{AllocError, Global};
 
-/// The actions of the list, in turn.
+/// The actions of the list, in turn. Its looks are as few as those of a run: at most 128 × (length + 1).
 #[inline(always)]
-pub fn list_into<S: Sink>(
+pub fn list_into<L: Look, S: Sink>(
     alloc: Global,
-    params: &[CsiParam],
+    look: &mut L,
     truncated: bool,
     control: char,
     sink: &mut S,
 ) -> Result<(), AllocError>
-    ensures { OnOk result ((before : List Action) → S.holds sink.old before → S.holds sink.new (before ++ actions params.now truncated control)) }
+    requires { L.passed look.old ≡ 0 }
+    ensures taken { OnOk result ((before : List Action) → S.holds sink.old before → S.holds sink.new (before ++ actions (L.tokens look.old) truncated control)) }
+    ensures list { L.tokens look.new ≡ L.tokens look.old }
+    ensures counted { L.looks look.old ≤ L.looks look.new }
+    ensures cheap { L.looks look.new ≤ L.looks look.old + 128 * (length (L.tokens look.old) + 1) }
 {
-    match group_of(params, control) {
-        Group::Whole => match plain_action(params, control) {
+    match first_group(look, control) {
+        Group::Whole => match whole_list(look, control) {
             Some(action) => sink.take(action),
-            None => rest_into(alloc, params, truncated, control, sink),
+            None => rest_into(alloc, look, truncated, control, sink),
         },
-        Group::Styles => pieces_into(alloc, Group::Styles, params, truncated, control, sink),
-        group => pieces_into(alloc, group, params, truncated, control, sink),
+        Group::Styles => pieces_into(alloc, Group::Styles, look, truncated, control, sink),
+        group => pieces_into(alloc, group, look, truncated, control, sink),
     }
+}
+
+/// The action of a list that is read whole, where it takes memory: that of a row, or an unknown one.
+#[cold]
+#[inline(never)]
+fn rest_into<L: Look, S: Sink>(
+    alloc: Global,
+    look: &mut L,
+    truncated: bool,
+    control: char,
+    sink: &mut S,
+) -> Result<(), AllocError>
+    requires { L.passed look.old ≡ 0 }
+    ensures taken { OnOk result ((before : List Action) → S.holds sink.old before → S.holds sink.new (before ++ rest_action Whole (L.tokens look.old) truncated control ∷ [])) }
+    ensures list { L.tokens look.new ≡ L.tokens look.old }
+    ensures counted { L.looks look.old ≤ L.looks look.new }
+    ensures costs { L.looks look.new ≤ L.looks look.old + 8 * length (L.tokens look.old) }
+{
+    let len = look.len();
+    let params = look.lend(0, len);
+    match boxed_action(alloc, params, control)? {
+        Some(action) => sink.take(action),
+        None => sink.take_unknown(alloc, Group::Whole, params, truncated, control),
+    }
+}
+
+/// The unknown action of what is unread of a list that is cut.
+fn unread_into<L: Look, S: Sink>(
+    alloc: Global,
+    group: Group,
+    look: &mut L,
+    truncated: bool,
+    control: char,
+    sink: &mut S,
+) -> Result<(), AllocError>
+    ensures taken { OnOk result ((before : List Action) → S.holds sink.old before →
+        S.holds sink.new (before ++ Unknown (marked group (drop (L.passed look.old) (L.tokens look.old))) truncated control ∷ [])) }
+    ensures list { L.tokens look.new ≡ L.tokens look.old }
+    ensures counted { L.looks look.old ≤ L.looks look.new }
+    ensures costs { L.looks look.new + 8 * L.passed look.old ≤ L.looks look.old + 8 * length (L.tokens look.old) }
+{
+    let len = look.len();
+    sink.take_unknown(alloc, group, look.lend(0, len), truncated, control)
+}
+
+/// The actions of a list that is cut into pieces.
+#[inline(always)]
+fn pieces_into<L: Look, S: Sink>(
+    alloc: Global,
+    group: Group,
+    look: &mut L,
+    truncated: bool,
+    control: char,
+    sink: &mut S,
+) -> Result<(), AllocError>
+    requires passed { L.passed look.old ≡ 0 }
+    requires group { group ≡ group_of_list (L.tokens look.old) control }
+    requires cut { group ≡ Whole → ⊥ }
+    ensures taken { OnOk result ((before : List Action) → S.holds sink.old before → S.holds sink.new (before ++ actions (L.tokens look.old) truncated control)) }
+    ensures list { L.tokens look.new ≡ L.tokens look.old }
+    ensures counted { L.looks look.old ≤ L.looks look.new }
+    ensures costs { L.looks look.new ≤ L.looks look.old + 124 * length (L.tokens look.old) }
+{
+    if has_odd(group, look) {
+        return unread_into(alloc, group, look, truncated, control, sink);
+    }
+    look.pass(group.start());
+    if look.len() == 0 {
+        return match group {
+            Group::Styles => sink.take(CSI::Sgr(Sgr::Reset)),
+            _ => unread_into(alloc, group, look, truncated, control, sink),
+        };
+    }
+    'cut: while look.len() > 0 {
+        if !block_into(group, look, sink)? {
+            return unread_into(alloc, group, look, truncated, control, sink);
+        }
+    }
+    Ok(())
+}
+
+/// Passes over the block at the front, and takes its action. `false` where there is none, and then nothing is passed.
+#[inline(always)]
+fn block_into<L: Look, S: Sink>(
+    group: Group,
+    look: &mut L,
+    sink: &mut S,
+) -> Result<bool, AllocError>
+    ensures some { IfOk result (λ known. known ≡ true → (action : Action) × (len : ℕ) × (front group (drop (L.passed look.old) (L.tokens look.old)) ≡ Some (action, len)) × (0 < len)
+        × (drop (L.passed look.new) (L.tokens look.old) ≡ drop (with_semicolon len (slice_get (drop (L.passed look.old) (L.tokens look.old)) len)) (drop (L.passed look.old) (L.tokens look.old)))
+        × ((before : List Action) → S.holds sink.old before → S.holds sink.new (before ++ action ∷ []))) }
+    ensures forward { IfOk result (λ known. known ≡ true → L.passed look.old < L.passed look.new) }
+    ensures none { IfOk result (λ known. known ≡ false → (front group (drop (L.passed look.old) (L.tokens look.old)) ≡ None) × (sink.new ≡ sink.old) × (L.passed look.new ≡ L.passed look.old)) }
+    ensures list { L.tokens look.new ≡ L.tokens look.old }
+    ensures within { L.passed look.new ≤ length (L.tokens look.new) }
+    ensures counted { L.looks look.old ≤ L.looks look.new }
+    ensures costs { L.looks look.new + L.passed look.old ≤ L.looks look.old + 105 + L.passed look.new }
+{
+    let width = look.len().min(LONGEST);
+    let Some(len) = sink.take_piece(group, look.lend(0, width))? else {
+        return Ok(false);
+    };
+    let next = look.get(len);
+    look.pass(with_semicolon(len, next));
+    Ok(true)
 }
 
 /// The group of the list.
@@ -40,58 +150,6 @@ pub(crate) fn group_of(params: &[CsiParam], control: char) -> Group
     ensures { result ≡ group_of_list params.now control }
 {
     Group::of(params.first().copied(), control)
-}
-
-/// The action of a list that is read whole, where it takes memory: that of a row, or an unknown one.
-#[cold]
-#[inline(never)]
-fn rest_into<S: Sink>(
-    alloc: Global,
-    params: &[CsiParam],
-    truncated: bool,
-    control: char,
-    sink: &mut S,
-) -> Result<(), AllocError>
-    ensures { OnOk result ((before : List Action) → S.holds sink.old before → S.holds sink.new (before ++ rest_action Whole params.now truncated control ∷ [])) }
-{
-    match boxed_action(alloc, params, control)? {
-        Some(action) => sink.take(action),
-        None => sink.take_unknown(alloc, Group::Whole, params, truncated, control),
-    }
-}
-
-/// The actions of a list that is cut into pieces.
-#[inline(always)]
-fn pieces_into<S: Sink>(
-    alloc: Global,
-    group: Group,
-    params: &[CsiParam],
-    truncated: bool,
-    control: char,
-    sink: &mut S,
-) -> Result<(), AllocError>
-    requires group { group ≡ group_of_list params.now control }
-    requires cut { group ≡ Whole → ⊥ }
-    ensures { OnOk result ((before : List Action) → S.holds sink.old before → S.holds sink.new (before ++ actions params.now truncated control)) }
-{
-    if is_odd(group, params) {
-        return sink.take_unknown(alloc, group, params, truncated, control);
-    }
-    let body = &params[group.start()..];
-    if body.is_empty() {
-        return match group {
-            Group::Styles => sink.take(CSI::Sgr(Sgr::Reset)),
-            _ => sink.take_unknown(alloc, group, body, truncated, control),
-        };
-    }
-    let mut rest = body;
-    while !rest.is_empty() {
-        let Some(len) = sink.take_piece(group, rest)? else {
-            return sink.take_unknown(alloc, group, rest, truncated, control);
-        };
-        rest = behind(rest, len);
-    }
-    Ok(())
 }
 
 /// Whether a byte among the tokens makes the whole list unknown.
@@ -107,14 +165,4 @@ pub(crate) fn is_odd(group: Group, params: &[CsiParam]) -> bool
         rest = others;
     }
     false
-}
-
-/// What stands behind so many tokens and the `;` directly after them.
-#[inline(always)]
-fn behind(rest: &[CsiParam], len: usize) -> &[CsiParam]
-    requires { len ≤ length rest.now }
-    ensures { result.now ≡ drop (with_semicolon len (slice_get rest.now len)) rest.now }
-{
-    let passed = with_semicolon(len, rest.get(len).copied());
-    &rest[passed..]
 }

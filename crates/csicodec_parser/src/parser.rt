@@ -20,7 +20,7 @@ use std::alloc::{AllocError, Global};
 use std::marker::Model;
 
 /// No piece is longer.
-const LONGEST: usize = 13;
+pub(crate) const LONGEST: usize = 13;
 
 #[derive(Clone, Copy, Debug, PartialEq, Eq)]
 enum Stage {
@@ -68,7 +68,7 @@ impl<L: Look> Model for Run<L> {
 pub type CSIParser<'a> = Run<Tokens<'a>>;
 
 /// The group of the list, by one look at its first token.
-fn group_of<L: Look>(look: &mut L, control: char) -> Group
+pub(crate) fn group_of<L: Look>(look: &mut L, control: char) -> Group
     requires { L.passed look.old ≡ 0 }
     ensures group { result ≡ group_of_list (L.tokens look.old) control }
     ensures list { L.tokens look.new ≡ L.tokens look.old }
@@ -80,7 +80,7 @@ fn group_of<L: Look>(look: &mut L, control: char) -> Group
 }
 
 /// Whether a byte among the tokens makes the whole list unknown. Each token is looked at once at most.
-fn has_odd<L: Look>(group: Group, look: &mut L) -> bool
+pub(crate) fn has_odd<L: Look>(group: Group, look: &mut L) -> bool
     requires { L.passed look.old ≡ 0 }
     ensures odd { result ≡ has_odd group (L.tokens look.old) }
     ensures list { L.tokens look.new ≡ L.tokens look.old }
@@ -201,7 +201,7 @@ fn rest_action<L: Look>(
 
 /// The one action of a list that is read whole, where a row reads it and it takes no memory. Then all tokens are passed.
 #[inline(always)]
-fn whole_list<L: Look>(look: &mut L, control: char) -> Option<CSI>
+pub(crate) fn whole_list<L: Look>(look: &mut L, control: char) -> Option<CSI>
     requires { L.passed look.old ≡ 0 }
     ensures some { IfSome result (λ action. whole (L.tokens look.old) control ≡ Some (action_of action)) }
     ensures all { IfSome result (λ _. L.passed look.new ≡ length (L.tokens look.new)) }

@@ -17,7 +17,7 @@ loop-alloc-preserved g c =
       told ++ ys,
       split_more c.args.bytes.now c.loop-alloc.rest.now tail.rest.now c.args.parameters_truncated told ys _ tail.control split c.in-Ok.ensures.found
           (rw c.deref.ensures.value (actions_are c.read_csi_into.new.params.items c.args.parameters_truncated tail.control)),
-      λ before h. rw (← append_assoc) (c.in_ok-list_into-in-Ok.ensures (before ++ told) (held before h)),
+      λ before h. rw (← append_assoc) ((rw c.new-tokens.ensures at c.in_ok-list_into-in-Ok.ensures.taken) (before ++ told) (held before h)),
     )
 
 pub returns-in_err-list_into-in-Ok-clause-err : goal.returns-in_err-list_into-in-Ok-clause-err

@@ -1,13 +1,20 @@
-use Rattle.std.proofs.Common.{◌≡◌, List, ◌++◌, length}
+use Rattle.std.proofs.Common.{◌≡◌, ◌+◌, ◌*◌, ◌≤◌, ◌-◌, List, ◌++◌, length, drop}
 use Rattle.csicodec_actions.specs.Actions.{Action}
 use Rattle.csicodec_parser.specs.Private.Steps.{actions, actions_after}
 use Rattle.csicodec_parser.proofs.list.pieces_into.Given as goal
 
--- the actions up to here have gone into the sink, and those of the rest are the others
-abbrev pub invariant-loop-rest : goal.invariant-loop-rest
-invariant-loop-rest g l =
-    (told : List Action) × (told ++ actions_after l.group l.truncated l.fn.control l.rest ≡ actions l.params l.truncated l.fn.control)
-    × ((before : List Action) → g.S.Sink.holds l.initial.sink before → g.S.Sink.holds l.sink (before ++ told))
+-- the actions up to here have gone into the sink, and those of what is unread are the others; each token that is passed paid for its looks
+abbrev pub invariant-cut : goal.invariant-cut
+invariant-cut g l =
+    let tokens = g.L.Look.tokens l.fn.look in
+    record {
+      list : g.L.Look.tokens l.look ≡ tokens;
+      within : g.L.Look.passed l.look ≤ length tokens;
+      counted : g.L.Look.looks l.fn.look ≤ g.L.Look.looks l.look;
+      costs : g.L.Look.looks l.look ≤ g.L.Look.looks l.fn.look + length tokens + 106 * g.L.Look.passed l.look;
+      taken : (told : List Action) × (told ++ actions_after l.group l.truncated l.fn.control (drop (g.L.Look.passed l.look) tokens) ≡ actions tokens l.truncated l.fn.control)
+          × ((before : List Action) → g.S.Sink.holds l.initial.sink before → g.S.Sink.holds l.sink (before ++ told));
+    }
 
-abbrev pub decreases-loop-rest : goal.decreases-loop-rest
-decreases-loop-rest g l = length l.rest
+abbrev pub decreases-cut : goal.decreases-cut
+decreases-cut g l = length (g.L.Look.tokens l.fn.look) - g.L.Look.passed l.look

@@ -19,7 +19,7 @@ use Rattle.csicodec_parser.specs.Cut.{body}
 use Rattle.csicodec_parser.specs.Segments.{empty_action}
 use Rattle.csicodec_actions.specs.Whole.{plain, whole}
 use Rattle.csicodec_parser.specs.Private.Steps.{front, block, block_of, is_semicolon, with_semicolon, segments, segments_at, rest_action, actions_after, body_actions, actions_in, left_at, from_at, GoesBy, CanGo, CutsOn}
-use Rattle.csicodec_parser.proofs.Fronts.{front_empty}
+use Rattle.csicodec_parser.proofs.Fronts.{front_empty, front_fits}
 use Rattle.csicodec_parser.proofs.GroupOf.{marked-body}
 use Rattle.csicodec_lists.proofs.Boxed.{plain_whole, boxed_whole}
 use Rattle.csicodec_parser.proofs.Rests.{rest_unknown}
@@ -67,6 +67,16 @@ segments_unknown g u (t ∷ ts) e h = ap (segments_at u (t ∷ ts) (segments g u
 -- one place in two lists that are one
 pub at_same : (ts us : List CsiParam) (p q i : ℕ) → us ≡ ts → q ≡ p → slice_get (drop q us) i ≡ slice_get (drop p ts) i
 at_same ts us p q i e h = ap (λ n. slice_get (drop n us) i) h ∙ ap (λ l. slice_get (drop p l) i) e
+
+-- the tokens of a block, by the look behind its piece
+pub block_taken : (tokens us : List CsiParam) (p q len k : ℕ) (next : Option CsiParam) → us ≡ tokens → q ≡ p → next ≡ slice_get (drop q us) len → k ≡ with_semicolon len next
+    → k ≡ with_semicolon len (slice_get (drop p tokens) len)
+block_taken tokens us p q len k next e h look taken = taken ∙ ap (with_semicolon len) (look ∙ at_same tokens us p q len e h)
+
+pub block_within : (g : Group) (tokens : List CsiParam) (p len k : ℕ) (a : Action) → front g (drop p tokens) ≡ Some (a, len) → k ≡ with_semicolon len (slice_get (drop p tokens) len) → p + k ≤ length tokens
+block_within g tokens p len k a at taken =
+    let fits = front_fits g (drop p tokens) a len at in
+    omega (arith, taken, fits.some, semicolon_within (drop p tokens) len fits.within, length-drop p tokens)
 
 -- the actions after p tokens, where a block stands there
 pub after_block : (g : Group) (flag : Bool) (final : ℕ) (tokens : List CsiParam) (p q : ℕ) (x : Action) → block g (drop p tokens) ≡ Some (x, q - p) → p < q → actions_after g flag final (drop p tokens) ≡ x ∷ actions_after g flag final (drop q tokens)

@@ -138,3 +138,8 @@ front_same Whole xs ys e = refl
 front_same Styles xs ys e = ap styled (sym (piece_take xs) ∙ ap piece e ∙ piece_take ys)
 front_same (Modes s) xs ys e = ap (λ n. one_token (λ m. Mode (switched s m)) (option_and_then (read Terminal) n)) (number_same xs ys e)
 front_same (DecModes c) xs ys e = ap (λ n. one_token (λ m. Mode (changed c m)) (option_and_then (read Dec) n)) (number_same xs ys e)
+
+-- what is lent begins with the piece of the unread tokens
+pub lent_piece : (g : Group) (tokens us lent : List CsiParam) (p q len width : ℕ) → us ≡ tokens → q ≡ p → q + len ≡ length us → width ≡ min len 13 → lent ≡ take width (drop (q + 0) us)
+    → front g (drop p tokens) ≡ front g lent
+lent_piece g tokens us lent p q len width list passes h w l = rw (← list, ← passes) (front_same g (drop q us) lent (lent_front us lent q len width h w l))

@@ -1,19 +1,16 @@
 -- Actions that go into a sink, over plain variables.
-use Rattle.std.specs.Prelude.{Result, Ok, Err, OnOk, IfOk, ℤ, slice_get}
-use Rattle.std.proofs.Common.{◌≡◌, ℕ, ◌<◌, ◌≤◌, Bool, true, false, List, [], ◌∷◌, ◌++◌, length, drop, None, Some, refl, sym, ap, ◌∙◌, arith, append_assoc, append-nil, subst, get_or}
+use Rattle.std.specs.Prelude.{Result, Ok, Err, OnOk, IfOk, slice_get}
+use Rattle.std.proofs.Common.{◌≡◌, ℕ, ◌<◌, Bool, true, false, List, [], ◌∷◌, ◌++◌, length, drop, None, Some, refl, sym, ap, ◌∙◌, arith, append_assoc, append-nil, subst}
+use Rattle.std.proofs.lemmas.Option.{same_Some}
 use Rattle.csicodec_tokens.specs.declared.param.CsiParam.{CsiParam}
-use Rattle.csicodec_tokens.specs.declared.param.CsiParam.TheVariants.{Integer}
-use Rattle.csicodec_base.specs.declared.sgr.Sgr as sgr_type
-use Rattle.csicodec_base.specs.Pieces.{IsFront}
 use Rattle.csicodec_parser.specs.declared.group.Group.{Group}
-use Rattle.csicodec_parser.specs.declared.group.Group.TheVariants.{Whole, Styles}
-use Rattle.csicodec_actions.specs.Actions.{Action, Sgr, Unspecified}
+use Rattle.csicodec_parser.specs.declared.group.Group.TheVariants.{Whole}
+use Rattle.csicodec_actions.specs.Actions.{Action, Unspecified}
 use Rattle.csicodec_parser.specs.Groups.{group, marked, has_odd}
 use Rattle.csicodec_parser.specs.Cut.{body}
-use Rattle.csicodec_parser.specs.Private.Steps.{front, styled, block_of, with_semicolon, rest_action, actions, actions_in, actions_after, body_actions}
+use Rattle.csicodec_parser.specs.Private.Steps.{front, block_of, with_semicolon, rest_action, actions, actions_in, actions_after, body_actions}
 use Rattle.csicodec_actions.specs.Texts.{text, texts}
 use Rattle.csicodec_actions.specs.Whole.{plain}
-use Rattle.csicodec_parser.proofs.Fronts.{piece_of_front}
 use Rattle.csicodec_parser.proofs.Blocks.{semicolon_from, segments_block, after_unknown, first_cut, odd_unknown, body_some}
 use Rattle.csicodec_lists.proofs.Boxed.{boxed_whole}
 use Rattle.csicodec_parser.proofs.Rests.{rest_unknown}
@@ -60,11 +57,11 @@ pub actions_stuck : (g : Group) (flag : Bool) (final : ℕ) (rest : List CsiPara
 actions_stuck g flag final rest told all cut e w parts =
     ap (λ (a : Action). told ++ a ∷ []) (sym (rest_unknown g rest flag final cut)) ∙ ap (λ (l : List Action). told ++ l) (sym (after_unknown g flag final rest 0 (ap (block_of rest) e) w)) ∙ parts
 
--- the attribute that a number in front sets alone
-pub number_front : (rest : List CsiParam) (d : CsiParam) (z : ℤ) (s : sgr_type.Sgr) → 1 ≤ length rest → get_or rest 0 d ≡ Integer z
-    → ((after : List CsiParam) → IsFront (Integer z ∷ after) (Some (s, 1))) → front Styles rest ≡ Some (Sgr s, 1)
-number_front [] d z s w first fronts = absurd (omega arith)
-number_front (t ∷ ts) d z s w first fronts = rw first (ap styled (piece_of_front (Integer z ∷ ts) (Some (s, 1)) (fronts ts)))
+-- a piece that the first token is by itself
+pub front_first : (g : Group) (rest : List CsiParam) (t : CsiParam) (a : Action) → slice_get rest 0 ≡ Some t → ((others : List CsiParam) → front g (t ∷ others) ≡ Some (a, 1))
+    → front g rest ≡ Some (a, 1)
+front_first g [] t a e all = cc
+front_first g (x ∷ rest) t a e all = rw (same_Some _ _ e) (all rest)
 
 -- ---- a list that is read whole
 

@@ -1,5 +1,5 @@
 //! All actions of one parameter list, into a sink. They are those of the parser, without an iterator between.
-ghost use Rattle.std.specs.Prelude.{◌≡◌, ◌<◌, ◌≤◌, ◌+◌, ◌*◌, ◌∷◌, [], ◌++◌, ℕ, List, length, drop, slice_get, None, Some, true, false, IfOk, OnOk};
+ghost use Rattle.std.specs.Prelude.{◌≡◌, ◌<◌, ◌≤◌, ◌+◌, ◌*◌, ◌∷◌, [], ◌++◌, ℕ, List, length, drop, slice_get, None, Some, true, false, IfOk, IfSome, OnOk};
 ghost use Rattle.csicodec_actions.specs.Actions.{Action, Unspecified as Unknown};
 ghost use Rattle.csicodec_parser.specs.Groups.{group as group_of_list, has_odd, marked};
 ghost use Rattle.csicodec_parser.specs.declared.group.Group.TheVariants.{Whole};
@@ -125,6 +125,7 @@ fn block_into<L: Look, S: Sink>(
     look: &mut L,
     sink: &mut S,
 ) -> Result<bool, AllocError>
+    requires { L.passed look.old ≤ length (L.tokens look.old) }
     ensures some { IfOk result (λ known. known ≡ true → (action : Action) × (len : ℕ) × (front group (drop (L.passed look.old) (L.tokens look.old)) ≡ Some (action, len)) × (0 < len)
         × (drop (L.passed look.new) (L.tokens look.old) ≡ drop (with_semicolon len (slice_get (drop (L.passed look.old) (L.tokens look.old)) len)) (drop (L.passed look.old) (L.tokens look.old)))
         × ((before : List Action) → S.holds sink.old before → S.holds sink.new (before ++ action ∷ []))) }
@@ -133,15 +134,58 @@ fn block_into<L: Look, S: Sink>(
     ensures list { L.tokens look.new ≡ L.tokens look.old }
     ensures within { L.passed look.new ≤ length (L.tokens look.new) }
     ensures counted { L.looks look.old ≤ L.looks look.new }
-    ensures costs { L.looks look.new + L.passed look.old ≤ L.looks look.old + 105 + L.passed look.new }
+    ensures costs { L.looks look.new + L.passed look.old ≤ L.looks look.old + 106 + L.passed look.new }
 {
-    let width = look.len().min(LONGEST);
-    let Some(len) = sink.take_piece(group, look.lend(0, width))? else {
+    let Some(len) = piece_into(group, look, sink)? else {
         return Ok(false);
     };
     let next = look.get(len);
     look.pass(with_semicolon(len, next));
     Ok(true)
+}
+
+/// Takes the action of the piece at the front, and answers its number of tokens.
+#[inline(always)]
+fn piece_into<L: Look, S: Sink>(
+    group: Group,
+    look: &mut L,
+    sink: &mut S,
+) -> Result<Option<usize>, AllocError>
+    ensures none { IfOk result (λ len. len ≡ None → (front group (drop (L.passed look.old) (L.tokens look.old)) ≡ None) × (sink.new ≡ sink.old)) }
+    ensures some { IfOk result (λ o. IfSome o (λ len. (action : Action) × (front group (drop (L.passed look.old) (L.tokens look.old)) ≡ Some (action, len))
+        × ((before : List Action) → S.holds sink.old before → S.holds sink.new (before ++ action ∷ [])))) }
+    ensures short { IfOk result (λ o. IfSome o (λ len. (0 < len) × (len ≤ 13))) }
+    ensures list { L.tokens look.new ≡ L.tokens look.old }
+    ensures passes { L.passed look.new ≡ L.passed look.old }
+    ensures counted { L.looks look.old ≤ L.looks look.new }
+    ensures costs { L.looks look.new ≤ L.looks look.old + 105 }
+{
+    if first_into(group, look, sink)? {
+        return Ok(Some(1));
+    }
+    let width = look.len().min(LONGEST);
+    sink.take_piece(group, look.lend(0, width))
+}
+
+/// Takes the action of the token at the front, where it is a piece by itself. `false` says nothing of longer pieces.
+#[inline(always)]
+fn first_into<L: Look, S: Sink>(
+    group: Group,
+    look: &mut L,
+    sink: &mut S,
+) -> Result<bool, AllocError>
+    ensures some { IfOk result (λ known. known ≡ true → (action : Action) × (front group (drop (L.passed look.old) (L.tokens look.old)) ≡ Some (action, 1))
+        × ((before : List Action) → S.holds sink.old before → S.holds sink.new (before ++ action ∷ []))) }
+    ensures there { IfOk result (λ known. known ≡ true → L.passed look.old < length (L.tokens look.old)) }
+    ensures none { IfOk result (λ known. known ≡ false → sink.new ≡ sink.old) }
+    ensures list { L.tokens look.new ≡ L.tokens look.old }
+    ensures passes { L.passed look.new ≡ L.passed look.old }
+    ensures costs { L.looks look.new ≡ L.looks look.old + 1 }
+{
+    match look.get(0) {
+        Some(first) => sink.take_first(group, first),
+        None => Ok(false),
+    }
 }
 
 /// The group of the list.

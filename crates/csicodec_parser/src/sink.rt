@@ -26,6 +26,13 @@ pub trait Sink {
     fn take(&mut self, action: CSI) -> Result<(), AllocError>
         ensures { OnOk result ((before : List Action) → holds self.old before → holds self.new (before ++ action_of action ∷ [])) };
 
+    /// Takes the first token of a list, where it is a piece by itself, whatever follows it. After `false` nothing was taken,
+    /// and a piece may stand there all the same. After an `Err` nothing is said of what it holds.
+    fn take_first(&mut self, group: Group, first: CsiParam) -> Result<bool, AllocError>
+        ensures some { IfOk result (λ known. known ≡ true → (action : Action) × ((others : List CsiParam) → front group (first ∷ others) ≡ Some (action, 1))
+            × ((before : List Action) → holds self.old before → holds self.new (before ++ action ∷ []))) }
+        ensures none { IfOk result (λ known. known ≡ false → self.new ≡ self.old) };
+
     /// Takes the known piece at the front, and answers its number of tokens. After an `Err` nothing is said of what it
     /// holds.
     fn take_piece(&mut self, group: Group, rest: &[CsiParam]) -> Result<Option<usize>, AllocError>
@@ -53,6 +60,11 @@ impl Sink for Vec<CSI> {
     fn take(&mut self, action: CSI) -> Result<(), AllocError> {
         self.push(action)?;
         Ok(())
+    }
+
+    #[inline(always)]
+    fn take_first(&mut self, _group: Group, _first: CsiParam) -> Result<bool, AllocError> {
+        Ok(false)
     }
 
     #[inline(always)]
@@ -107,20 +119,6 @@ impl Texts {
         }
     }
 
-    /// Takes the attribute of a number at the front that sets it alone. `false` where none stands there.
-    #[inline(always)]
-    fn take_code(&mut self, rest: &[CsiParam]) -> Result<bool, AllocError>
-        ensures known { IfOk result (λ known. known ≡ true → (action : Action) × (front Styles rest.now ≡ Some (action, 1))
-            × ((before : List Action) → self.old.bytes ≡ texts before → self.new.bytes ≡ texts (before ++ action ∷ []))) }
-        ensures some { IfOk result (λ known. known ≡ true → 1 ≤ length rest.now) }
-        ensures other { IfOk result (λ known. known ≡ false → self.new ≡ self.old) }
-    {
-        match rest {
-            [CsiParam::Integer(number), ..] => append_code(*number, &mut self.bytes),
-            _ => Ok(false),
-        }
-    }
-
     /// Takes an attribute.
     #[inline(always)]
     fn take_style(&mut self, sgr: &Sgr) -> Result<(), AllocError>
@@ -139,11 +137,16 @@ impl Sink for Texts {
     }
 
     #[inline(always)]
+    fn take_first(&mut self, group: Group, first: CsiParam) -> Result<bool, AllocError> {
+        match (group, first) {
+            (Group::Styles, CsiParam::Integer(number)) => append_code(number, &mut self.bytes),
+            _ => Ok(false),
+        }
+    }
+
+    #[inline(always)]
     fn take_piece(&mut self, group: Group, rest: &[CsiParam]) -> Result<Option<usize>, AllocError> {
         if let Group::Styles = group {
-            if self.take_code(rest)? {
-                return Ok(Some(1));
-            }
             let Some((sgr, len)) = style_front(rest) else {
                 return Ok(None);
             };

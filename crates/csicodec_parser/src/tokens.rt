@@ -11,19 +11,19 @@ use std::marker::Model;
 #[derive(Drop)]
 pub struct Tokens<'a> {
     list: &'a [CsiParam],
-    passed: usize,
+    rest: &'a [CsiParam],
     count: Count,
 }
 
 impl<'a> Model for Tokens<'a> {
-    ghost use Rattle.std.specs.Prelude.{◌≤◌, length};
+    ghost use Rattle.std.specs.Prelude.{◌≡◌, ◌-◌, drop, length};
     ghost use Rattle.csicodec_parser.specs.Place.{Place};
 
     ghost Value = { Place };
 
-    ghost view = { λ t. record { list = t.list.now; passed = t.passed; looks = t.count.total } };
+    ghost view = { λ t. record { list = t.list.now; passed = length t.list.now - length t.rest.now; looks = t.count.total } };
 
-    ghost invariant = { λ t. t.passed ≤ length t.list.now };
+    ghost invariant = { λ t. t.rest.now ≡ drop (length t.list.now - length t.rest.now) t.list.now };
 }
 
 impl<'a> Tokens<'a> {
@@ -33,7 +33,7 @@ impl<'a> Tokens<'a> {
     {
         Tokens {
             list,
-            passed: 0,
+            rest: list,
             count: Count::new(),
         }
     }
@@ -42,7 +42,7 @@ impl<'a> Tokens<'a> {
     pub fn rest(&self) -> &'a [CsiParam]
         ensures { result.now ≡ drop self.now.passed self.now.list }
     {
-        &self.list[self.passed..]
+        self.rest
     }
 }
 
@@ -54,28 +54,26 @@ impl Look for Tokens<'_> {
     ghost looks = { λ t. t.looks };
 
     fn len(&self) -> usize {
-        self.list.len() - self.passed
+        self.rest.len()
     }
 
     fn get(&mut self, i: usize) -> Option<CsiParam> {
         self.count.charge(1, 1);
-        self.list[self.passed..].get(i).copied()
+        self.rest.get(i).copied()
     }
 
     fn pass(&mut self, k: usize) {
         self.count.charge(1, k);
-        self.passed += k;
+        self.rest = &self.rest[k..];
     }
 
     fn lend(&mut self, from: usize, k: usize) -> &[CsiParam] {
         self.count.charge(8, k);
-        let start = self.passed + from;
-        &self.list[start..start + k]
+        &self.rest[from..from + k]
     }
 
     fn copy_to(&mut self, out: &mut Vec<CsiParam>) -> Result<(), AllocError> {
-        let unread = &self.list[self.passed..];
-        self.count.charge(1, unread.len());
-        out.extend_from_slice(unread)
+        self.count.charge(1, self.rest.len());
+        out.extend_from_slice(self.rest)
     }
 }

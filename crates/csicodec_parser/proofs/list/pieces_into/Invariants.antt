@@ -11,7 +11,7 @@ invariant-cut g l =
       list : g.L.Look.tokens l.look ≡ tokens;
       within : g.L.Look.passed l.look ≤ length tokens;
       counted : g.L.Look.looks l.fn.look ≤ g.L.Look.looks l.look;
-      costs : g.L.Look.looks l.look ≤ g.L.Look.looks l.fn.look + length tokens + 106 * g.L.Look.passed l.look;
+      costs : g.L.Look.looks l.look ≤ g.L.Look.looks l.fn.look + length tokens + 107 * g.L.Look.passed l.look;
       taken : (told : List Action) × (told ++ actions_after l.group l.truncated l.fn.control (drop (g.L.Look.passed l.look) tokens) ≡ actions tokens l.truncated l.fn.control)
           × ((before : List Action) → g.S.Sink.holds l.initial.sink before → g.S.Sink.holds l.sink (before ++ told));
     }

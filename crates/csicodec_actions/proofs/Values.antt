@@ -33,7 +33,7 @@ use Rattle.csicodec_actions.specs.declared.actions.graphics.XtSmGraphicsItem.{Xt
 use Rattle.csicodec_actions.specs.declared.actions.graphics.XtSmGraphicsItem.TheVariants as item
 use Rattle.csicodec_actions.specs.Graphics.{item_number, item_of}
 use Rattle.csicodec_actions.specs.KeyNumbers.{kitty_mode_number, kitty_modes, path_number, paths}
-use Rattle.csicodec_names.proofs.Coded.{is_number-pos, none-found, Coded, found-of, small, attributes, styles, controls, clears, lines, displays, decs, terminals}
+use Rattle.csicodec_names.proofs.Coded.{is_number-pos, listed-number, none-found, Coded, found-of, small, attributes, styles, controls, clears, lines, displays, decs, terminals}
 use Rattle.csicodec_actions.proofs.Found.{map-some}
 use Rattle.csicodec_actions.specs.Good.{IsOneBased, IsSaid, IsOwn, GoodDec, GoodItem, GoodTerminal, Good}
 use Rattle.csicodec_actions.proofs.MouseCodes.{report-good, report-read, report-small, pressed-found, released-found}
@@ -102,6 +102,23 @@ number_or-good default (suc n) h = rw (lt-ltb (suc n) (2 ^ 32) h.fits) refl
 pub own-number : {C M : Type 0} (number : C → ℕ) (all : List C) (coded : C → M) (own : ℕ → M) (n : ℕ) → n < 65536 → with_number number all (pos n) ≡ None
     → Some (own n) ≡ code_or coded own (with_number number all (pos n)) (short (pos n))
 own-number number all coded own n fits none = rw (none, lt-ltb n 65536 fits) refl
+
+-- the mode of any number of 16 bits, by a code or by itself, is written as this number
+numbered : {C M : Type 0} (number : C → ℕ) (all : List C) (coded : C → M) (own : ℕ → M) (written : M → ℕ) → ((c : C) → written (coded c) ≡ number c) → ((k : ℕ) → written (own k) ≡ k) → (n : ℕ) → n < 65536
+    → (m : M) × (code_or coded own (with_number number all (pos n)) (short (pos n)) ≡ Some m) × (written m ≡ n)
+numbered number all coded own written by_code by_number n fits = go (with_number number all (pos n)) refl
+  where
+    go : (o : Option _) → with_number number all (pos n) ≡ o → (m : _) × (code_or coded own (with_number number all (pos n)) (short (pos n)) ≡ Some m) × (written m ≡ n)
+    go (Some c) found = (coded c, rw found refl, by_code c ∙ sym (ap nat_abs (listed-number number all (pos n) c found)))
+    go None none = (own n, sym (own-number number all coded own n fits none), by_number n)
+
+pub dec-numbered : (n : ℕ) → n < 65536 → (m : DecPrivateMode) × (read Dec (pos n) ≡ Some m) × (dec_number m ≡ n)
+unfolding read
+dec-numbered n fits = numbered dec_mode_number dec_codes (λ c. dec.Code c) (λ k. dec.Unspecified k) dec_number (λ c. refl) (λ k. refl) n fits
+
+pub terminal-numbered : (n : ℕ) → n < 65536 → (m : TerminalMode) × (read Terminal (pos n) ≡ Some m) × (terminal_number m ≡ n)
+unfolding read
+terminal-numbered n fits = numbered terminal_mode_number terminal_codes (λ c. terminal.Code c) (λ k. terminal.Unspecified k) terminal_number (λ c. refl) (λ k. refl) n fits
 
 own-good : {C M : Type 0} (number : C → ℕ) (all : List C) (coded : C → M) (own : ℕ → M) (n : ℕ) → IsOwn number n → code_or coded own (with_number number all (pos n)) (short (pos n)) ≡ Some (own n)
 own-good number all coded own n h = sym (own-number number all coded own n h.fits (none-found number all (pos n) (λ x same. h.own x (ap nat_abs same))))

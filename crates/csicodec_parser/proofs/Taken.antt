@@ -3,12 +3,24 @@ use Rattle.std.specs.Prelude.{Result, Ok, Err, OnOk, IfOk, slice_get}
 use Rattle.std.proofs.Common.{◌≡◌, ℕ, ◌<◌, Bool, true, false, List, [], ◌∷◌, ◌++◌, length, drop, None, Some, refl, sym, ap, ◌∙◌, arith, append_assoc, append-nil, subst}
 use Rattle.std.proofs.lemmas.Option.{same_Some}
 use Rattle.csicodec_tokens.specs.declared.param.CsiParam.{CsiParam}
+use Rattle.csicodec_tokens.specs.declared.param.CsiParam.TheVariants.{Integer}
+use Rattle.std.specs.Prelude.{pos}
+use Rattle.std.specs.Fmt.{decimal}
+use Rattle.csicodec_actions.specs.declared.actions.mode.Change.{Change}
+use Rattle.csicodec_actions.specs.declared.actions.mode.Change.TheVariants as change
+use Rattle.csicodec_actions.specs.declared.actions.mode.DecPrivateMode.{DecPrivateMode}
+use Rattle.csicodec_actions.specs.declared.actions.mode.Switch.{Switch}
+use Rattle.csicodec_actions.specs.declared.actions.mode.Switch.TheVariants as switch
+use Rattle.csicodec_actions.specs.declared.actions.mode.TerminalMode.{TerminalMode}
+use Rattle.csicodec_actions.specs.Modes.{changed, dec_number, switched, terminal_number}
+use Rattle.csicodec_actions.specs.Table.Mode.{written_mode}
+use Rattle.csicodec_actions.proofs.Values.{dec-numbered, terminal-numbered}
 use Rattle.csicodec_parser.specs.declared.group.Group.{Group}
-use Rattle.csicodec_parser.specs.declared.group.Group.TheVariants.{Whole}
-use Rattle.csicodec_actions.specs.Actions.{Action, Unspecified}
+use Rattle.csicodec_parser.specs.declared.group.Group.TheVariants.{Whole, Modes, DecModes}
+use Rattle.csicodec_actions.specs.Actions.{Action, Mode, Unspecified}
 use Rattle.csicodec_parser.specs.Groups.{group, marked, has_odd}
 use Rattle.csicodec_parser.specs.Cut.{body}
-use Rattle.csicodec_parser.specs.Private.Steps.{front, block_of, with_semicolon, rest_action, actions, actions_in, actions_after, body_actions}
+use Rattle.csicodec_parser.specs.Private.Steps.{one_token, front, block_of, with_semicolon, rest_action, actions, actions_in, actions_after, body_actions}
 use Rattle.csicodec_actions.specs.Texts.{text, texts}
 use Rattle.csicodec_actions.specs.Whole.{plain}
 use Rattle.csicodec_parser.proofs.Blocks.{semicolon_from, segments_block, after_unknown, first_cut, odd_unknown, body_some}
@@ -63,13 +75,42 @@ pub front_first : (g : Group) (rest : List CsiParam) (t : CsiParam) (a : Action)
 front_first g [] t a e all = cc
 front_first g (x ∷ rest) t a e all = rw (same_Some _ _ e) (all rest)
 
+pub texts_last : (xs : List Action) (a : Action) → texts (xs ++ a ∷ []) ≡ texts xs ++ text a
+texts_last [] a = append-nil (text a)
+texts_last (x ∷ xs) a = ap (λ (l : List ℕ). text x ++ l) (texts_last xs a) ∙ sym (append_assoc (text x) (texts xs) (text a))
+
+-- an action that a token is by itself, and its text
+pub record First (g : Group) (t : CsiParam) (said : List ℕ) : Type 0 where
+  pub action : Action
+  pub fronts : (others : List CsiParam) → front g (t ∷ others) ≡ Some (action, 1)
+  pub says : text action ≡ 27 ∷ 91 ∷ said
+
+dec_text : (c : Change) (m : DecPrivateMode) (end : ℕ) → (written_mode (changed c m)).final ≡ end → text (Mode (changed c m)) ≡ 27 ∷ 91 ∷ 63 ∷ (decimal (dec_number m) ++ end ∷ [])
+dec_text change.Set m end e = rw (← e) refl
+dec_text change.Reset m end e = rw (← e) refl
+dec_text change.Save m end e = rw (← e) refl
+dec_text change.Restore m end e = rw (← e) refl
+
+terminal_text : (s : Switch) (m : TerminalMode) (end : ℕ) → (written_mode (switched s m)).final ≡ end → text (Mode (switched s m)) ≡ 27 ∷ 91 ∷ (decimal (terminal_number m) ++ end ∷ [])
+terminal_text switch.Set m end e = rw (← e) refl
+terminal_text switch.Reset m end e = rw (← e) refl
+
+-- the mode of a number is written as the number
+pub dec_first : (c : Change) (n end : ℕ) → n < 65536 → ((m : DecPrivateMode) → (written_mode (changed c m)).final ≡ end) → First (DecModes c) (Integer (pos n)) (63 ∷ (decimal n ++ end ∷ []))
+dec_first c n end fits ends =
+    let (m, found, is) = dec-numbered n fits in
+    record { action = Mode (changed c m); fronts = λ others. ap (one_token (λ x. Mode (changed c x))) found; says = dec_text c m end (ends m) ∙ ap (λ k. 27 ∷ 91 ∷ 63 ∷ (decimal k ++ end ∷ [])) is }
+
+pub terminal_first : (s : Switch) (n end : ℕ) → n < 65536 → ((m : TerminalMode) → (written_mode (switched s m)).final ≡ end) → First (Modes s) (Integer (pos n)) (decimal n ++ end ∷ [])
+terminal_first s n end fits ends =
+    let (m, found, is) = terminal-numbered n fits in
+    record { action = Mode (switched s m); fronts = λ others. ap (one_token (λ x. Mode (switched s x))) found; says = terminal_text s m end (ends m) ∙ ap (λ k. 27 ∷ 91 ∷ (decimal k ++ end ∷ [])) is }
+
+-- such a token has gone in where its text is appended
+pub first_taken : (g : Group) (t : CsiParam) (said old new : List ℕ) (f : First g t said) → new ≡ old ++ 27 ∷ 91 ∷ said → (before : List Action) → old ≡ texts before → new ≡ texts (before ++ f.action ∷ [])
+first_taken g t said old new f appended before held = appended ∙ ap (λ (l : List ℕ). l ++ 27 ∷ 91 ∷ said) held ∙ ap (λ (l : List ℕ). texts before ++ l) (sym f.says) ∙ sym (texts_last before f.action)
+
 -- ---- a list that is read whole
 
 pub rest_actions : (list : List CsiParam) (flag : Bool) (final : ℕ) → group list final ≡ Whole → plain list final ≡ None → actions list flag final ≡ rest_action Whole list flag final ∷ []
 rest_actions list flag final is none = rw (is, boxed_whole list final none) refl
-
--- ---- texts
-
-pub texts_last : (xs : List Action) (a : Action) → texts (xs ++ a ∷ []) ≡ texts xs ++ text a
-texts_last [] a = append-nil (text a)
-texts_last (x ∷ xs) a = ap (λ (l : List ℕ). text x ++ l) (texts_last xs a) ∙ sym (append_assoc (text x) (texts xs) (text a))

@@ -1,5 +1,6 @@
 //! Where actions go, one after the other: into a list of them, or into their joined texts.
-ghost use Rattle.std.specs.Prelude.{◌≡◌, ◌<◌, ◌≤◌, ◌⊎◌, Bool, List, [], ◌∷◌, ◌++◌, None, Some, true, false, length, map, IfOk, IfSome, OnErr, OnOk, encode_utf8};
+ghost use Rattle.std.specs.Prelude.{◌≡◌, ◌<◌, ◌≤◌, ◌⊎◌, Bool, List, [], ◌∷◌, ◌++◌, None, Some, true, false, length, map, pos, ℕ, IsAscii, IfOk, IfSome, OnErr, OnOk, encode_utf8};
+ghost use Rattle.std.specs.Fmt.{decimal};
 ghost use Rattle.std.specs.Io.{StartsWith};
 ghost use Rattle.csicodec_tokens.specs.Param.{spells, token_text};
 ghost use Rattle.csicodec_actions.specs.Actions.{Action, Sgr as Styled, TakesMemory, Unspecified as Unknown};
@@ -140,6 +141,12 @@ impl Sink for Texts {
     fn take_first(&mut self, group: Group, first: CsiParam) -> Result<bool, AllocError> {
         match (group, first) {
             (Group::Styles, CsiParam::Integer(number)) => append_code(number, &mut self.bytes),
+            (Group::Modes(switch), CsiParam::Integer(number)) => {
+                append_mode("", number, switch.end(), &mut self.bytes)
+            }
+            (Group::DecModes(change), CsiParam::Integer(number)) => {
+                append_mode("?", number, change.end(), &mut self.bytes)
+            }
             _ => Ok(false),
         }
     }
@@ -216,6 +223,28 @@ fn append_displayed(alloc: Global, out: &mut TextBuffer, action: &CSI) -> Result
     let written = write!(bytes, "{action}");
     *out = TextBuffer::of(bytes);
     written.map_err(|_| AllocError)
+}
+
+/// Appends the text of a mode: a mark, its number as it was read, and the final byte. `false` where no mode has the number,
+/// and then nothing is appended.
+#[inline(always)]
+fn append_mode(mark: &str, number: i64, end: u8, out: &mut TextBuffer) -> Result<bool, AllocError>
+    requires short { length mark.now ≤ 1 }
+    requires ascii { IsAscii mark.now }
+    requires end { end < 128 }
+    ensures known { IfOk result (λ known. known ≡ true → (n : ℕ) × (number ≡ pos n) × (n < 65536) × (out.new ≡ out.old ++ 27 ∷ 91 ∷ (mark.now ++ (decimal n ++ end ∷ [])))) }
+    ensures other { IfOk result (λ known. known ≡ false → out.new ≡ out.old) }
+{
+    let Ok(number) = u16::try_from(number) else {
+        return Ok(false);
+    };
+    let mut text = Text::new();
+    text.push_str("\x1b[");
+    text.push_str(mark);
+    text.push_u16(number);
+    text.push(end);
+    out.push_text(&text)?;
+    Ok(true)
 }
 
 /// Appends the text of an attribute.

@@ -221,6 +221,18 @@ impl Switch {
             Switch::Reset => Mode::ResetMode(mode),
         }
     }
+
+    /// The final byte of what does it.
+    #[inline(always)]
+    pub fn end(self) -> u8
+        ensures is { (mode : TerminalMode) → (written_mode (switched self mode)).final ≡ result }
+        ensures ascii { result < 128 }
+    {
+        match self {
+            Switch::Set => b'h',
+            Switch::Reset => b'l',
+        }
+    }
 }
 
 /// What `h`, `l`, `s` and `r` do to a private mode.
@@ -242,6 +254,20 @@ impl Change {
             Change::Reset => Mode::ResetDecPrivateMode(mode),
             Change::Save => Mode::SaveDecPrivateMode(mode),
             Change::Restore => Mode::RestoreDecPrivateMode(mode),
+        }
+    }
+
+    /// The final byte of what does it.
+    #[inline(always)]
+    pub fn end(self) -> u8
+        ensures is { (mode : DecPrivateMode) → (written_mode (changed self mode)).final ≡ result }
+        ensures ascii { result < 128 }
+    {
+        match self {
+            Change::Set => b'h',
+            Change::Reset => b'l',
+            Change::Save => b's',
+            Change::Restore => b'r',
         }
     }
 }

@@ -1,4 +1,4 @@
-use Rattle.std.proofs.Common.{◌∷◌, ◌++◌, ◌∙◌, Some, ap, sym, rules}
+use Rattle.std.proofs.Common.{◌≡◌, ◌∷◌, ◌++◌, ◌∙◌, Some, ap, sym, pos, rules}
 use Rattle.std.proofs.lemmas.Int.{to_z-of_z}
 use mir.Val.{SFits}
 use mir.Syntax.{w64}
@@ -7,7 +7,7 @@ use Rattle.csicodec_actions.specs.Actions.{Sgr}
 use Rattle.csicodec_actions.specs.Texts.{text}
 use Rattle.csicodec_parser.proofs.Fronts.{piece_of_front}
 use Rattle.csicodec_parser.specs.Private.Steps.{styled}
-use Rattle.csicodec_parser.proofs.Taken.{if_ok, texts_last}
+use Rattle.csicodec_parser.proofs.Taken.{if_ok, texts_last, terminal_first, dec_first, first_taken}
 use Rattle.csicodec_parser.proofs.sink.TextsSink.take_first.Goals as goal
 
 pub returns-in-Styles-Integer-clause-some : goal.returns-in-Styles-Integer-clause-some
@@ -21,3 +21,25 @@ returns-in-Styles-Integer-clause-some c =
       λ before held. appended ∙ ap (λ l. l ++ text (Sgr s)) held ∙ sym (texts_last before (Sgr s)),
     ))
     c.append_code.ensures.known
+
+pub returns-in-Modes-Integer-clause-some : goal.returns-in-Modes-Integer-clause-some
+returns-in-Modes-Integer-clause-some c =
+    let fits : SFits w64 c.in-Modes-Integer.number = search rules in
+    if_ok c.append_mode.result
+    (λ known h yes.
+    let (n, is, small, appended) = h yes in
+    let first = terminal_first c.in-Modes-Integer.switch n c.end.result small c.end.ensures.is in
+    let at : c.args.first ≡ Integer (pos n) = c.in-Modes-Integer.is-1 ∙ ap (λ z. Integer z) (sym (to_z-of_z w64 c.in-Modes-Integer.number fits) ∙ is) in
+    (first.action, λ others. rw (c.in-Modes-Integer.is-0, at) (first.fronts others), first_taken _ _ _ _ _ first appended))
+    c.append_mode.ensures.known
+
+pub returns-in-DecModes-Integer-clause-some : goal.returns-in-DecModes-Integer-clause-some
+returns-in-DecModes-Integer-clause-some c =
+    let fits : SFits w64 c.in-DecModes-Integer.number = search rules in
+    if_ok c.append_mode-in-DecModes-Integer.result
+    (λ known h yes.
+    let (n, is, small, appended) = h yes in
+    let first = dec_first c.in-DecModes-Integer.change n c.end-in-DecModes-Integer.result small c.end-in-DecModes-Integer.ensures.is in
+    let at : c.args.first ≡ Integer (pos n) = c.in-DecModes-Integer.is-1 ∙ ap (λ z. Integer z) (sym (to_z-of_z w64 c.in-DecModes-Integer.number fits) ∙ is) in
+    (first.action, λ others. rw (c.in-DecModes-Integer.is-0, at) (first.fronts others), first_taken _ _ _ _ _ first appended))
+    c.append_mode-in-DecModes-Integer.ensures.known

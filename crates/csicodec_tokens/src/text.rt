@@ -333,6 +333,11 @@ fn widen(bytes: &mut Vec<u8>, len: usize) -> Result<(), AllocError>
     ensures within { len ≤ vec_len bytes.new }
     ensures room { OnOk result (len + 32 ≤ vec_len bytes.new) }
 {
+    if bytes.capacity() == 0 {
+        let alloc = *bytes.allocator();
+        *bytes = [0u8; 2 * ROOM].as_slice().to_vec(alloc)?;
+        return Ok(());
+    }
     if len < 2 * ROOM {
         bytes.truncate(len);
         return bytes.extend_from_slice(&[0; 2 * ROOM]);

@@ -14,6 +14,14 @@ use crate::whole::boxed_action;
 use csicodec_base::{CsiParam, Sgr};
 use std::alloc::{AllocError, Global};
 
+/// What ends a list: its final character, and the flag that came with it. An action that takes memory takes it here.
+#[derive(Clone, Copy)]
+struct End {
+    alloc: Global,
+    truncated: bool,
+    control: char,
+}
+
 /// The actions of the list, in turn. Its looks are as few as those of a run: at most 128 × (length + 1).
 #[inline(always)]
 pub fn list_into<L: Look, S: Sink>(
@@ -29,13 +37,18 @@ pub fn list_into<L: Look, S: Sink>(
     ensures counted { L.looks look.old ≤ L.looks look.new }
     ensures cheap { L.looks look.new ≤ L.looks look.old + 128 * (length (L.tokens look.old) + 1) }
 {
+    let end = End {
+        alloc,
+        truncated,
+        control,
+    };
     match first_group(look, control) {
         Group::Whole => match whole_list(look, control) {
             Some(action) => sink.take(action),
-            None => rest_into(alloc, look, truncated, control, sink),
+            None => rest_into(look, end, sink),
         },
-        Group::Styles => pieces_into(alloc, Group::Styles, look, truncated, control, sink),
-        group => pieces_into(alloc, group, look, truncated, control, sink),
+        Group::Styles => pieces_into(Group::Styles, look, end, sink),
+        group => pieces_into(group, look, end, sink),
     }
 }
 
@@ -43,76 +56,71 @@ pub fn list_into<L: Look, S: Sink>(
 #[cold]
 #[inline(never)]
 fn rest_into<L: Look, S: Sink>(
-    alloc: Global,
     look: &mut L,
-    truncated: bool,
-    control: char,
+    end: End,
     sink: &mut S,
 ) -> Result<(), AllocError>
     requires { L.passed look.old ≡ 0 }
-    ensures taken { OnOk result ((before : List Action) → S.holds sink.old before → S.holds sink.new (before ++ rest_action Whole (L.tokens look.old) truncated control ∷ [])) }
+    ensures taken { OnOk result ((before : List Action) → S.holds sink.old before → S.holds sink.new (before ++ rest_action Whole (L.tokens look.old) end.truncated end.control ∷ [])) }
     ensures list { L.tokens look.new ≡ L.tokens look.old }
     ensures counted { L.looks look.old ≤ L.looks look.new }
     ensures costs { L.looks look.new ≤ L.looks look.old + 8 * length (L.tokens look.old) }
 {
     let len = look.len();
     let params = look.lend(0, len);
-    match boxed_action(alloc, params, control)? {
+    match boxed_action(end.alloc, params, end.control)? {
         Some(action) => sink.take(action),
-        None => sink.take_unknown(alloc, Group::Whole, params, truncated, control),
+        None => sink.take_unknown(end.alloc, Group::Whole, params, end.truncated, end.control),
     }
 }
 
 /// The unknown action of what is unread of a list that is cut.
 fn unread_into<L: Look, S: Sink>(
-    alloc: Global,
     group: Group,
     look: &mut L,
-    truncated: bool,
-    control: char,
+    end: End,
     sink: &mut S,
 ) -> Result<(), AllocError>
     ensures taken { OnOk result ((before : List Action) → S.holds sink.old before →
-        S.holds sink.new (before ++ Unknown (marked group (drop (L.passed look.old) (L.tokens look.old))) truncated control ∷ [])) }
+        S.holds sink.new (before ++ Unknown (marked group (drop (L.passed look.old) (L.tokens look.old))) end.truncated end.control ∷ [])) }
     ensures list { L.tokens look.new ≡ L.tokens look.old }
     ensures counted { L.looks look.old ≤ L.looks look.new }
     ensures costs { L.looks look.new + 8 * L.passed look.old ≤ L.looks look.old + 8 * length (L.tokens look.old) }
 {
     let len = look.len();
-    sink.take_unknown(alloc, group, look.lend(0, len), truncated, control)
+    let rest = look.lend(0, len);
+    sink.take_unknown(end.alloc, group, rest, end.truncated, end.control)
 }
 
 /// The actions of a list that is cut into pieces.
 #[inline(always)]
 fn pieces_into<L: Look, S: Sink>(
-    alloc: Global,
     group: Group,
     look: &mut L,
-    truncated: bool,
-    control: char,
+    end: End,
     sink: &mut S,
 ) -> Result<(), AllocError>
     requires passed { L.passed look.old ≡ 0 }
-    requires group { group ≡ group_of_list (L.tokens look.old) control }
+    requires group { group ≡ group_of_list (L.tokens look.old) end.control }
     requires cut { group ≡ Whole → ⊥ }
-    ensures taken { OnOk result ((before : List Action) → S.holds sink.old before → S.holds sink.new (before ++ actions (L.tokens look.old) truncated control)) }
+    ensures taken { OnOk result ((before : List Action) → S.holds sink.old before → S.holds sink.new (before ++ actions (L.tokens look.old) end.truncated end.control)) }
     ensures list { L.tokens look.new ≡ L.tokens look.old }
     ensures counted { L.looks look.old ≤ L.looks look.new }
     ensures costs { L.looks look.new ≤ L.looks look.old + 124 * length (L.tokens look.old) }
 {
     if has_odd(group, look) {
-        return unread_into(alloc, group, look, truncated, control, sink);
+        return unread_into(group, look, end, sink);
     }
     look.pass(group.start());
     if look.len() == 0 {
         return match group {
             Group::Styles => sink.take(CSI::Sgr(Sgr::Reset)),
-            _ => unread_into(alloc, group, look, truncated, control, sink),
+            _ => unread_into(group, look, end, sink),
         };
     }
     'cut: while look.len() > 0 {
         if !block_into(group, look, sink)? {
-            return unread_into(alloc, group, look, truncated, control, sink);
+            return unread_into(group, look, end, sink);
         }
     }
     Ok(())

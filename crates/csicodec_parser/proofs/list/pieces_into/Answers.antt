@@ -8,7 +8,7 @@ pub returns-then-has_odd-clause-taken : goal.returns-then-has_odd-clause-taken
 returns-then-has_odd-clause-taken g c =
     let tokens = g.L.Look.tokens c.args.look.now in
     let odd : has_odd c.args.group tokens ≡ true = sym c.has_odd.ensures.odd ∙ c.if-has_odd.true in
-    rw (← actions_odd c.args.group tokens c.args.truncated c.args.control c.requires.group c.requires.cut odd)
+    rw (← actions_odd c.args.group tokens c.args.end.truncated c.args.end.control c.requires.group c.requires.cut odd)
     (rw (c.has_odd.ensures.passes, c.has_odd.ensures.list) at c.unread_into.ensures.taken)
 
 pub cut-init : goal.cut-init
@@ -27,7 +27,7 @@ cut-init g c =
       costs = omega arith;
       taken = (
         [],
-        actions_begin c.args.group tokens (drop (g.L.Look.passed c.pass.new.self) tokens) c.args.truncated c.args.control c.requires.group c.requires.cut plain (ap (λ n. drop n tokens) at) some,
+        actions_begin c.args.group tokens (drop (g.L.Look.passed c.pass.new.self) tokens) c.args.end.truncated c.args.end.control c.requires.group c.requires.cut plain (ap (λ n. drop n tokens) at) some,
         none_taken g.S.Sink.holds c.args.sink.now,
       );
     }
@@ -42,7 +42,7 @@ returns-then-not-branch-clause-taken g c =
     let none = c.in_ok-block_into.ensures.none no in
     let unread : 0 < c.len-in-cut.result = grind (arith, nat_tests) in
     let some : 0 < length (drop passed tokens) = omega (arith, unread, ap length i.list, c.len-in-cut.ensures, length-drop passed tokens) in
-    let all = actions_stuck c.args.group c.args.truncated c.args.control (drop passed tokens) told _ c.requires.cut (rw i.list at none.0) some parts in
+    let all = actions_stuck c.args.group c.args.end.truncated c.args.end.control (drop passed tokens) told _ c.requires.cut (rw i.list at none.0) some parts in
     on_ok c.unread_into-then-not-branch.result
     (λ put before h. subst (g.S.Sink.holds c.unread_into-then-not-branch.new.sink) (taken_all before told _ _ all) (put (before ++ told) (rw none.1 (held before h))))
     (rw (none.2, c.block_into.ensures.list, i.list) at c.unread_into-then-not-branch.ensures.taken)
@@ -64,7 +64,7 @@ cut-preserved g c =
       costs = omega (arith, forward);
       taken = (
         told ++ action ∷ [],
-        actions_front c.args.group c.args.truncated c.args.control (drop passed tokens) (drop (g.L.Look.passed c.block_into.new.look) tokens) told _ action len at some on parts,
+        actions_front c.args.group c.args.end.truncated c.args.end.control (drop passed tokens) (drop (g.L.Look.passed c.block_into.new.look) tokens) told _ action len at some on parts,
         λ before h. rw (← append_assoc) (put (before ++ told) (held before h)),
       );
     }

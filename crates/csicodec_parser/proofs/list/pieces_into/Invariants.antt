@@ -12,7 +12,7 @@ invariant-cut g l =
       within : g.L.Look.passed l.look ≤ length tokens;
       counted : g.L.Look.looks l.fn.look ≤ g.L.Look.looks l.look;
       costs : g.L.Look.looks l.look ≤ g.L.Look.looks l.fn.look + length tokens + 107 * g.L.Look.passed l.look;
-      taken : (told : List Action) × (told ++ actions_after l.group l.truncated l.fn.control (drop (g.L.Look.passed l.look) tokens) ≡ actions tokens l.truncated l.fn.control)
+      taken : (told : List Action) × (told ++ actions_after l.group l.end.truncated l.end.control (drop (g.L.Look.passed l.look) tokens) ≡ actions tokens l.end.truncated l.end.control)
           × ((before : List Action) → g.S.Sink.holds l.initial.sink before → g.S.Sink.holds l.sink (before ++ told));
     }
 

@@ -55,11 +55,7 @@ pub fn list_into<L: Look, S: Sink>(
 /// The action of a list that is read whole, where it takes memory: that of a row, or an unknown one.
 #[cold]
 #[inline(never)]
-fn rest_into<L: Look, S: Sink>(
-    look: &mut L,
-    end: End,
-    sink: &mut S,
-) -> Result<(), AllocError>
+fn rest_into<L: Look, S: Sink>(look: &mut L, end: End, sink: &mut S) -> Result<(), AllocError>
     requires { L.passed look.old ≡ 0 }
     ensures taken { OnOk result ((before : List Action) → S.holds sink.old before → S.holds sink.new (before ++ rest_action Whole (L.tokens look.old) end.truncated end.control ∷ [])) }
     ensures list { L.tokens look.new ≡ L.tokens look.old }

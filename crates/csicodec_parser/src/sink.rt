@@ -234,6 +234,7 @@ fn append_mode(mark: &str, number: i64, end: u8, out: &mut TextBuffer) -> Result
     requires end { end < 128 }
     ensures known { IfOk result (λ known. known ≡ true → (n : ℕ) × (number ≡ pos n) × (n < 65536) × (out.new ≡ out.old ++ 27 ∷ 91 ∷ (mark.now ++ (decimal n ++ end ∷ [])))) }
     ensures other { IfOk result (λ known. known ≡ false → out.new ≡ out.old) }
+    ensures none { IfOk result (λ known. known ≡ false → (n : ℕ) → number ≡ pos n → 65536 ≤ n) }
 {
     let Ok(number) = u16::try_from(number) else {
         return Ok(false);

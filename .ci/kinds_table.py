@@ -16,6 +16,7 @@
 #   state               first: the flags; second: the way
 #   bits                first: the flags
 #   path                first: the path; second: the effect
+# Each group by its variant of CSI, with its first number, of a hundred that are its own; in the order that a `match` has them in.
 # A line for each variant: the list must be complete. A variant has its number in C by its place, so a new one comes last.
 GROUPS = [
     ("Sgr", 1, [
@@ -86,6 +87,10 @@ GROUPS = [
         ("QueryMode", "enum TerminalMode"),
         ("XtermKeyMode", "keys"),
     ]),
+    ("Mouse", 501, [
+        ("SGR1006", "report x y"),
+        ("SGR1016", "report x_pixels y_pixels"),
+    ]),
     ("Device", 401, [
         ("DeviceAttributes Vt100WithAdvancedVideoOption", "unit"),
         ("DeviceAttributes Vt101WithNoOptions", "unit"),
@@ -101,10 +106,6 @@ GROUPS = [
         ("RequestTerminalParameters", "int"),
         ("StatusReport", "unit"),
         ("XtSmGraphics", "graphics"),
-    ]),
-    ("Mouse", 501, [
-        ("SGR1006", "report x y"),
-        ("SGR1016", "report x_pixels y_pixels"),
     ]),
     ("Window", 601, [
         ("DeIconify", "unit"),
@@ -151,8 +152,13 @@ GROUPS = [
     ]),
 ]
 PATH = 801
+# The files that its types are in, where they are more than the one that declares its own.
+FILES_OF = {"Device": ["device", "graphics"]}
+# Enumerations of these files and of those of the names that don't cross.
+APART = {"AnsiColor", "Change", "Switch"}
 
-# What stands as a number: how the specs and the source give it, and how the source reads it again.
+# What stands as a number, but not as its own `to_i64` and `from_i64` say: how the specs and the source give it, and how the
+# source reads it again.
 NUMBERS = {
     "Intensity": ("intensity_number", "intensity_number(*value)", "intensity(plain.first)?"),
     "Underline": ("underline_number", "underline_number(*value)", "underline(plain.first)?"),
@@ -160,13 +166,25 @@ NUMBERS = {
     "VerticalAlign": ("align_number", "align_number(*value)", "align(plain.first)?"),
     "Font": ("font_number", "font_number(*value)", "font(plain)?"),
     "CursorTabulationControl": ("tabulation_control_number", "value.to_i64()", "CursorTabulationControl::from_i64(plain.first)?"),
-    "TabulationClear": ("tabulation_clear_number", "value.to_i64()", "TabulationClear::from_i64(plain.first)?"),
-    "CursorStyle": ("cursor_style_number", "value.to_i64()", "CursorStyle::from_i64(plain.first)?"),
-    "EraseInDisplay": ("erase_in_display_number", "value.to_i64()", "EraseInDisplay::from_i64(plain.first)?"),
-    "EraseInLine": ("erase_in_line_number", "value.to_i64()", "EraseInLine::from_i64(plain.first)?"),
     "DecPrivateMode": ("dec_number", "i64::from(value.number())", "private_mode(plain)?"),
     "TerminalMode": ("terminal_number", "i64::from(value.number())", "terminal_mode(plain)?"),
 }
+
+# What the numbers are of enumerations that are declared without them.
+NUMBERED = {
+    "Intensity": range(3),
+    "Underline": range(6),
+    "Blink": range(3),
+    "VerticalAlign": range(3),
+    "XtermKeyModifierResource": [0, 1, 2, 4],
+    "KittyKeyboardMode": [1, 2, 3],
+    "CharacterPath": range(3),
+    "XtSmGraphicsAction": [1, 2, 3, 4],
+    "XtSmGraphicsStatus": range(4),
+    "MouseButton": [1, 2, 3, 4, 5, 6, 7, 11, 12, 13, 14, 15, 16, 17, 21, 22, 23, 0],
+}
+# How the numbers of an enumeration begin in C, where it isn't by its name.
+PREFIXES = {"DecPrivateModeCode": "DEC_PRIVATE_MODE", "TerminalModeCode": "TERMINAL_MODE", "DeviceAttributeCodes": "DEVICE_ATTRIBUTE", "MouseButton": "MOUSE"}
 
 # ---- the examples: a text for each variant of GROUPS, in the same order
 

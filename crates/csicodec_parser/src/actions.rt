@@ -1,13 +1,33 @@
-//! The actions that a control sequence stands for.
-ghost use Rattle.std.specs.Prelude.{◌≡◌, ◌⊎◌, IfOk, IsOk};
+//! The actions that a control sequence stands for, and what each of them does: how it is copied and printed, whether it is
+//! read back, and which list that is read whole it is. What has an arm for each of them stands here.
+ghost use Rattle.std.specs.Prelude.{◌≡◌, ◌⊎◌, ◌↔◌, ◌++◌, IfOk, IsOk, IsSome, IsTrue, OnErr, OnOk, Some};
+ghost use Rattle.std.specs.Io.{StartsWith};
+ghost use Rattle.std.specs.Option.{option_map};
 ghost use Rattle.csicodec_actions.specs.Actions as action;
 ghost use Rattle.csicodec_actions.specs.Actions.{TakesMemory};
 ghost use Rattle.csicodec_actions.specs.Devices.{device_of};
-ghost use Rattle.csicodec_parser.specs.ActionOf.{action_of, unspecified_of};
+ghost use Rattle.csicodec_actions.specs.FieldRows.{IsReadByFields};
+ghost use Rattle.csicodec_actions.specs.Texts.{text};
+ghost use Rattle.csicodec_actions.specs.Whole.{boxed, plain};
+ghost use Rattle.csicodec_parser.specs.ActionOf.{action_of, unspecified_of, unspecified_text};
+ghost use Rattle.csicodec_parser.specs.Canonical.{Canonical, IsUnspecified};
 
-use csicodec_actions::{CharacterPath, Cursor, Device, Edit, Keyboard, Mode, MouseReport, Window};
-use csicodec_base::{CsiParam, Sgr};
+use crate::canonical::{is_canonical_sgr, is_canonical_unknown};
+use crate::sink::{append_displayed, append_unspecified};
+use csicodec_actions::{
+    CharacterPath, Cursor, Device, Edit, Keyboard, Mode, MouseReport, Window, write_path,
+};
+use csicodec_base::{CsiParam, Sgr, Text, TextBuffer};
+use csicodec_lists::canonical::{
+    is_canonical_cursor, is_canonical_device, is_canonical_edit, is_canonical_keyboard,
+    is_canonical_mode, is_canonical_mouse, is_canonical_window, is_said, is_special,
+};
+use csicodec_lists::{
+    cursor_action, device_action, edit_action, graphics_action, keyboard_action, mode_action,
+    mouse_action, path_action, window_action,
+};
 use std::alloc::{AllocError, Global};
+use std::fmt;
 
 /// A parameter list, or what is left of one, that none of the rules reads: nothing of it is lost. It prints its tokens and the
 /// final character; `CSI` prints the `ESC [` too.
@@ -35,6 +55,18 @@ impl Unspecified {
             parameters_truncated: self.parameters_truncated,
             control: self.control,
         })
+    }
+}
+
+impl fmt::Display for Unspecified {
+    ghost output = { λ u. Some (unspecified_text u) };
+
+    fn fmt<W: fmt::Write>(&self, f: &mut fmt::Formatter<W>) -> fmt::Result {
+        for param in &self.params {
+            write!(f, "{param}")?;
+        }
+        let control = self.control;
+        write!(f, "{control}")
     }
 }
 
@@ -115,6 +147,39 @@ impl CSI {
             }
         })
     }
+
+    /// Whether the text of this value, read with the flag, is this one value. It holds of all that is read, but for left
+    /// and right margins from 1 to 4294967295 and requests for the terminal's parameters, and not of each value that is
+    /// built by hand: counts are 1 or more, other numbers 0 or more; a mode, an extension or an item of graphics without a
+    /// name has no number of one that has a name; an alternative font is 1 to 9; flags and modifiers are those that have
+    /// names; no report of the mouse is in pixels; and what is unknown has this flag, tokens and a final character that a
+    /// sequence can have, and none of the rules reads it. An `Err` comes only for an `Unspecified`.
+    ///
+    /// ```text
+    /// CSI::from(Cursor::Up(2)).is_canonical(alloc, false)?      // true
+    /// CSI::from(Cursor::Up(0)).is_canonical(alloc, false)?      // false: its text "\x1b[0A" is read as Up(1)
+    /// ```
+    pub fn is_canonical(
+        &self,
+        alloc: Global,
+        parameters_truncated: bool,
+    ) -> Result<bool, AllocError>
+        ensures exact { IfOk result (λ yes. IsTrue yes ↔ Canonical (action_of self.now) parameters_truncated) }
+        ensures plain { IsUnspecified (action_of self.now) ⊎ IsOk result }
+    {
+        match self {
+            CSI::Sgr(sgr) => Ok(is_canonical_sgr(sgr)),
+            CSI::Cursor(cursor) => Ok(is_canonical_cursor(cursor) && !is_special(cursor)),
+            CSI::Edit(edit) => Ok(is_canonical_edit(edit)),
+            CSI::Mode(mode) => Ok(is_canonical_mode(mode)),
+            CSI::Device(device) => Ok(is_canonical_device(device)),
+            CSI::Window(window) => Ok(is_canonical_window(window)),
+            CSI::Keyboard(keyboard) => Ok(is_canonical_keyboard(keyboard)),
+            CSI::SelectCharacterPath(_, effect) => Ok(is_said(*effect)),
+            CSI::Mouse(report) => Ok(is_canonical_mouse(report)),
+            CSI::Unspecified(unknown) => is_canonical_unknown(alloc, unknown, parameters_truncated),
+        }
+    }
 }
 
 impl From<Sgr> for CSI {
@@ -162,5 +227,111 @@ impl From<MouseReport> for CSI {
 
     fn from(report: MouseReport) -> CSI {
         CSI::Mouse(report)
+    }
+}
+
+impl fmt::Display for CSI {
+    ghost output = { λ value. Some (text (action_of value)) };
+
+    fn fmt<W: fmt::Write>(&self, f: &mut fmt::Formatter<W>) -> fmt::Result {
+        match self {
+            CSI::Sgr(sgr) => write!(f, "\x1b[{sgr}"),
+            CSI::Cursor(cursor) => write!(f, "\x1b[{cursor}"),
+            CSI::Edit(edit) => write!(f, "\x1b[{edit}"),
+            CSI::Mode(mode) => write!(f, "\x1b[{mode}"),
+            CSI::Mouse(mouse) => write!(f, "\x1b[{mouse}"),
+            CSI::Device(device) => write!(f, "\x1b[{device}"),
+            CSI::Window(window) => write!(f, "\x1b[{window}"),
+            CSI::Keyboard(keyboard) => write!(f, "\x1b[{keyboard}"),
+            CSI::SelectCharacterPath(path, effect) => {
+                let mut text = Text::new();
+                write_path(&mut text, path, *effect);
+                let text = text.as_str();
+                write!(f, "\x1b[{text}")
+            }
+            CSI::Unspecified(unspecified) => write!(f, "\x1b[{unspecified}"),
+        }
+    }
+}
+
+/// Appends the text of an action. On `Err`, out of memory, what stood there stands in front, unless the action takes
+/// memory.
+#[inline(always)]
+pub fn append_text(alloc: Global, out: &mut TextBuffer, action: &CSI) -> Result<(), AllocError>
+    ensures ok { OnOk result (out.new ≡ out.old ++ text (action_of action.now)) }
+    ensures err { OnErr result (TakesMemory (action_of action.now) ⊎ StartsWith out.new out.old) }
+{
+    let mut text = Text::new();
+    text.push_str("\x1b[");
+    match action {
+        CSI::Sgr(sgr) => sgr.write_to(&mut text),
+        CSI::Cursor(cursor) => cursor.write_to(&mut text),
+        CSI::Edit(edit) => edit.write_to(&mut text),
+        CSI::Mode(mode) => mode.write_to(&mut text),
+        CSI::Device(_) | CSI::Window(_) => return append_displayed(alloc, out, action),
+        CSI::Mouse(mouse) => {
+            mouse.write_code(&mut text);
+            out.push_text(&text)?;
+            let mut place = Text::new();
+            mouse.write_place(&mut place);
+            return out.push_text(&place);
+        }
+        CSI::Keyboard(keyboard) => keyboard.write_to(&mut text),
+        CSI::SelectCharacterPath(path, effect) => write_path(&mut text, path, *effect),
+        CSI::Unspecified(unspecified) => {
+            out.push_slice(b"\x1b[")?;
+            return append_unspecified(out, unspecified);
+        }
+    }
+    out.push_text(&text)
+}
+
+/// The action of a list that is read whole, if a row reads it, and its value holds no memory.
+#[inline(always)]
+#[tactic(auto, unfolding(csicodec_actions::specs::Whole::plain))]
+pub(crate) fn plain_action(params: &[CsiParam], control: char) -> Option<CSI>
+    ensures { option_map action_of result ≡ plain params.now control }
+{
+    if let Some(cursor) = cursor_action(params, control) {
+        return Some(CSI::Cursor(cursor));
+    }
+    if let Some(edit) = edit_action(params, control) {
+        return Some(CSI::Edit(edit));
+    }
+    if let Some(mode) = mode_action(params, control) {
+        return Some(CSI::Mode(mode));
+    }
+    if let Some(mouse) = mouse_action(params, control) {
+        return Some(CSI::Mouse(mouse));
+    }
+    if let Some(keyboard) = keyboard_action(params, control) {
+        return Some(CSI::Keyboard(keyboard));
+    }
+    let (path, effect) = path_action(params, control)?;
+    Some(CSI::SelectCharacterPath(path, effect))
+}
+
+/// The action of a list that is read whole, if a row reads it, and its value holds memory. An `Err` comes only where
+/// there is one, or where the fields of the list take memory.
+#[cold]
+#[inline(never)]
+#[tactic(auto, unfolding(csicodec_actions::specs::Whole::boxed))]
+pub(crate) fn boxed_action(
+    alloc: Global,
+    params: &[CsiParam],
+    control: char,
+) -> Result<Option<CSI>, AllocError>
+    ensures ok { IfOk result (λ action. option_map action_of action ≡ boxed params.now control) }
+    ensures err { OnErr result (IsSome (boxed params.now control) ⊎ IsReadByFields control) }
+{
+    if let Some(device) = device_action(alloc, params, control)? {
+        return Ok(Some(CSI::Device(Box::new(alloc, device)?)));
+    }
+    if let Some(window) = window_action(alloc, params, control)? {
+        return Ok(Some(CSI::Window(Box::new(alloc, window)?)));
+    }
+    match graphics_action(alloc, params, control)? {
+        Some(graphics) => Ok(Some(CSI::Device(Box::new(alloc, Device::XtSmGraphics(graphics))?))),
+        None => Ok(None),
     }
 }

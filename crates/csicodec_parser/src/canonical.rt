@@ -1,25 +1,19 @@
-//! Which values are read back from their own texts.
-ghost use Rattle.std.specs.Prelude.{◌≡◌, ◌⊎◌, ◌↔◌, IfOk, IsOk, IsTrue};
+//! Which attributes, and which unknown actions, are read back from their own texts.
+ghost use Rattle.std.specs.Prelude.{◌≡◌, ◌↔◌, IfOk, IsTrue};
 ghost use Rattle.csicodec_tokens.specs.Sequence.{Apart, IsFinal, IsSpellable, Spellable};
-ghost use Rattle.csicodec_parser.specs.ActionOf.{action_of};
-ghost use Rattle.csicodec_parser.specs.Canonical.{Canonical, IsCanonicalSgr, IsCanonicalUnknown, IsUncut, IsUnknownIn, IsUnspecified};
+ghost use Rattle.csicodec_parser.specs.Canonical.{IsCanonicalSgr, IsCanonicalUnknown, IsUncut, IsUnknownIn};
 ghost use Rattle.csicodec_parser.specs.Groups.{group as group_of_list};
 ghost use Rattle.csicodec_parser.specs.Segments.{IsUnread};
 
-use crate::actions::{CSI, Unspecified};
+use crate::actions::{Unspecified, boxed_action, plain_action};
 use crate::group::{Group, front};
 use crate::list::{group_of, is_odd};
-use crate::whole::{boxed_action, plain_action};
 use csicodec_base::{CsiParam, Font, Sgr};
-use csicodec_lists::canonical::{
-    is_canonical_cursor, is_canonical_device, is_canonical_edit, is_canonical_keyboard,
-    is_canonical_mode, is_canonical_mouse, is_canonical_window, is_said, is_special,
-    is_spellable_token,
-};
+use csicodec_lists::canonical::is_spellable_token;
 use std::alloc::{AllocError, Global};
 
 /// Of the alternative fonts nine have a code.
-fn is_canonical_sgr(sgr: &Sgr) -> bool
+pub(crate) fn is_canonical_sgr(sgr: &Sgr) -> bool
     ensures { IsTrue result ↔ IsCanonicalSgr sgr.now }
 {
     match sgr {
@@ -102,7 +96,7 @@ fn is_written(unknown: &Unspecified, parameters_truncated: bool) -> bool
         && is_spellable(&unknown.params)
 }
 
-fn is_canonical_unknown(
+pub(crate) fn is_canonical_unknown(
     alloc: Global,
     unknown: &Unspecified,
     parameters_truncated: bool,
@@ -113,39 +107,4 @@ fn is_canonical_unknown(
         return Ok(false);
     }
     is_unknown(alloc, &unknown.params, unknown.control)
-}
-
-impl CSI {
-    /// Whether the text of this value, read with the flag, is this one value. It holds of all that is read, but for left
-    /// and right margins from 1 to 4294967295 and requests for the terminal's parameters, and not of each value that is
-    /// built by hand: counts are 1 or more, other numbers 0 or more; a mode, an extension or an item of graphics without a
-    /// name has no number of one that has a name; an alternative font is 1 to 9; flags and modifiers are those that have
-    /// names; no report of the mouse is in pixels; and what is unknown has this flag, tokens and a final character that a
-    /// sequence can have, and none of the rules reads it. An `Err` comes only for an `Unspecified`.
-    ///
-    /// ```text
-    /// CSI::from(Cursor::Up(2)).is_canonical(alloc, false)?      // true
-    /// CSI::from(Cursor::Up(0)).is_canonical(alloc, false)?      // false: its text "\x1b[0A" is read as Up(1)
-    /// ```
-    pub fn is_canonical(
-        &self,
-        alloc: Global,
-        parameters_truncated: bool,
-    ) -> Result<bool, AllocError>
-        ensures exact { IfOk result (λ yes. IsTrue yes ↔ Canonical (action_of self.now) parameters_truncated) }
-        ensures plain { IsUnspecified (action_of self.now) ⊎ IsOk result }
-    {
-        match self {
-            CSI::Sgr(sgr) => Ok(is_canonical_sgr(sgr)),
-            CSI::Cursor(cursor) => Ok(is_canonical_cursor(cursor) && !is_special(cursor)),
-            CSI::Edit(edit) => Ok(is_canonical_edit(edit)),
-            CSI::Mode(mode) => Ok(is_canonical_mode(mode)),
-            CSI::Device(device) => Ok(is_canonical_device(device)),
-            CSI::Window(window) => Ok(is_canonical_window(window)),
-            CSI::Keyboard(keyboard) => Ok(is_canonical_keyboard(keyboard)),
-            CSI::SelectCharacterPath(_, effect) => Ok(is_said(*effect)),
-            CSI::Mouse(report) => Ok(is_canonical_mouse(report)),
-            CSI::Unspecified(unknown) => is_canonical_unknown(alloc, unknown, parameters_truncated),
-        }
-    }
 }

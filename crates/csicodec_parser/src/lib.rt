@@ -9,15 +9,13 @@ mod group;
 mod list;
 mod look;
 mod parser;
-mod print;
 mod sink;
 mod tokens;
-mod whole;
 
-pub use actions::{CSI, Unspecified};
+pub use actions::{CSI, Unspecified, append_text};
 pub use count::Count;
 pub use list::list_into;
 pub use look::Look;
 pub use parser::{CSIParser, Run};
-pub use sink::{Sink, Texts, append_text};
+pub use sink::{Sink, Texts};
 pub use tokens::Tokens;

@@ -5,12 +5,11 @@ ghost use Rattle.csicodec_parser.specs.Groups.{group as group_of_list, has_odd, 
 ghost use Rattle.csicodec_parser.specs.declared.group.Group.TheVariants.{Whole};
 ghost use Rattle.csicodec_parser.specs.Private.Steps.{actions, front, rest_action, with_semicolon};
 
-use crate::actions::CSI;
+use crate::actions::{CSI, boxed_action};
 use crate::group::Group;
 use crate::look::Look;
 use crate::parser::{LONGEST, group_of as first_group, has_odd, whole_list, with_semicolon};
 use crate::sink::Sink;
-use crate::whole::boxed_action;
 use csicodec_base::{CsiParam, Sgr};
 use std::alloc::{AllocError, Global};
 

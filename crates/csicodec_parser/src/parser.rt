@@ -9,12 +9,11 @@ ghost use Rattle.csicodec_actions.specs.Whole.{plain, whole};
 ghost use Rattle.csicodec_parser.specs.Private.Steps.{with_semicolon, block, rest_action, left_at, fresh_cost, from_at, GoesBy, CanGo, CutsOn};
 ghost use Rattle.csicodec_parser.specs.Private.Steps.{BeginsAs, IsRestAlone, BodyBeginsAs, BodyIsRestAlone, LeftBeginsAs, LeftIsRestAlone, PaysRest, PaysBlock, PaysAll};
 
-use crate::actions::{CSI, Unspecified};
+use crate::actions::{CSI, Unspecified, boxed_action, plain_action};
 use crate::count::Count;
 use crate::group::{Group, front};
 use crate::look::Look;
 use crate::tokens::Tokens;
-use crate::whole::{boxed_action, plain_action};
 use csicodec_base::{CsiParam, Sgr};
 use std::alloc::{AllocError, Global};
 use std::marker::Model;

@@ -1,9 +1,8 @@
 //! Where actions go, one after the other: into a list of them, or into their joined texts.
-ghost use Rattle.std.specs.Prelude.{◌≡◌, ◌<◌, ◌≤◌, ◌⊎◌, Bool, List, [], ◌∷◌, ◌++◌, None, Some, true, false, length, map, pos, ℕ, IsAscii, IfOk, IfSome, OnErr, OnOk, encode_utf8};
+ghost use Rattle.std.specs.Prelude.{◌≡◌, ◌<◌, ◌≤◌, Bool, List, [], ◌∷◌, ◌++◌, None, Some, true, false, length, map, pos, ℕ, IsAscii, IfOk, IfSome, OnOk, encode_utf8};
 ghost use Rattle.std.specs.Fmt.{decimal};
-ghost use Rattle.std.specs.Io.{StartsWith};
 ghost use Rattle.csicodec_tokens.specs.Param.{spells, token_text};
-ghost use Rattle.csicodec_actions.specs.Actions.{Action, Sgr as Styled, TakesMemory, Unspecified as Unknown};
+ghost use Rattle.csicodec_actions.specs.Actions.{Action, Sgr as Styled, Unspecified as Unknown};
 ghost use Rattle.csicodec_parser.specs.ActionOf.{action_of};
 ghost use Rattle.csicodec_parser.specs.Groups.{marked};
 ghost use Rattle.csicodec_parser.specs.Private.Steps.{front};
@@ -11,9 +10,8 @@ ghost use Rattle.csicodec_parser.specs.declared.group.Group.TheVariants.{Styles}
 ghost use Rattle.csicodec_actions.specs.Texts.{text, texts};
 ghost use Rattle.csicodec_parser.specs.ActionOf.{unspecified_text};
 
-use crate::actions::{CSI, Unspecified};
+use crate::actions::{CSI, Unspecified, append_text};
 use crate::group::{self, Group, style_front};
-use csicodec_actions::write_path;
 use csicodec_base::{CsiParam, Sgr, Text, TextBuffer, append_code};
 use std::alloc::{AllocError, Global};
 use std::io::Write;
@@ -181,42 +179,14 @@ impl Sink for Texts {
     }
 }
 
-/// Appends the text of an action. On `Err`, out of memory, what stood there stands in front, unless the action takes
-/// memory.
-#[inline(always)]
-pub fn append_text(alloc: Global, out: &mut TextBuffer, action: &CSI) -> Result<(), AllocError>
-    ensures ok { OnOk result (out.new ≡ out.old ++ text (action_of action.now)) }
-    ensures err { OnErr result (TakesMemory (action_of action.now) ⊎ StartsWith out.new out.old) }
-{
-    let mut text = Text::new();
-    text.push_str("\x1b[");
-    match action {
-        CSI::Sgr(sgr) => sgr.write_to(&mut text),
-        CSI::Cursor(cursor) => cursor.write_to(&mut text),
-        CSI::Edit(edit) => edit.write_to(&mut text),
-        CSI::Mode(mode) => mode.write_to(&mut text),
-        CSI::Device(_) | CSI::Window(_) => return append_displayed(alloc, out, action),
-        CSI::Mouse(mouse) => {
-            mouse.write_code(&mut text);
-            out.push_text(&text)?;
-            let mut place = Text::new();
-            mouse.write_place(&mut place);
-            return out.push_text(&place);
-        }
-        CSI::Keyboard(keyboard) => keyboard.write_to(&mut text),
-        CSI::SelectCharacterPath(path, effect) => write_path(&mut text, path, *effect),
-        CSI::Unspecified(unspecified) => {
-            out.push_slice(b"\x1b[")?;
-            return append_unspecified(out, unspecified);
-        }
-    }
-    out.push_text(&text)
-}
-
 /// Appends the text of an action, however long it is.
 #[cold]
 #[inline(never)]
-fn append_displayed(alloc: Global, out: &mut TextBuffer, action: &CSI) -> Result<(), AllocError>
+pub(crate) fn append_displayed(
+    alloc: Global,
+    out: &mut TextBuffer,
+    action: &CSI,
+) -> Result<(), AllocError>
     ensures { OnOk result (out.new ≡ out.old ++ text (action_of action.now)) }
 {
     let mut bytes = std::mem::replace(out, TextBuffer::new(alloc)).into_vec();
@@ -261,7 +231,10 @@ fn append_style(out: &mut TextBuffer, sgr: &Sgr) -> Result<(), AllocError>
 
 /// Appends the tokens' texts, and then the final character.
 #[cold]
-fn append_unspecified(out: &mut TextBuffer, unspecified: &Unspecified) -> Result<(), AllocError>
+pub(crate) fn append_unspecified(
+    out: &mut TextBuffer,
+    unspecified: &Unspecified,
+) -> Result<(), AllocError>
     ensures { OnOk result (out.new ≡ out.old ++ unspecified_text unspecified.now) }
 {
     append_list(out, unspecified.params.as_slice(), unspecified.control)

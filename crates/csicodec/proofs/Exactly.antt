@@ -67,4 +67,5 @@ read-canonical a flag d =
     told (inr ok) = ok
 
 pub exact_lem : (a : Action) (flag : Bool) → InRange a → Exact a flag
+unfolding Exact
 exact_lem a flag range = (λ r. read-canonical a flag r.back, λ ok. alone-only flag a (canonical-alone a flag range ok))

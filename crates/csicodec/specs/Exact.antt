@@ -10,5 +10,5 @@ pub record ReadsAlone (a : Action) (flag : Bool) : Type 0 where
   pub back : Decodes (text a) flag (a ∷ [])
   pub only : (others : List Action) → Decodes (text a) flag others → others ≡ a ∷ []
 
-abbrev pub Exact : Action → Bool → Type 0
+unfoldable pub Exact : Action → Bool → Type 0
 Exact a flag = ReadsAlone a flag ↔ Canonical a flag

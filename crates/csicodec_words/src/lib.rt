@@ -3,7 +3,6 @@
 #![tactic(auto)]
 
 mod amount;
-mod csi;
 mod cursor;
 mod describe;
 mod device;
@@ -17,4 +16,35 @@ mod sgr;
 mod tests;
 mod window;
 
+use crate::keyboard::path;
+use csicodec::{CSI, Unspecified};
 pub use describe::{Describe, Described};
+use std::fmt;
+
+/// In the words of its subject.
+impl Describe for CSI {
+    fn describe<W: fmt::Write>(&self, f: &mut fmt::Formatter<W>) -> fmt::Result {
+        match self {
+            CSI::Sgr(sgr) => sgr.describe(f),
+            CSI::Cursor(cursor) => cursor.describe(f),
+            CSI::Edit(edit) => edit.describe(f),
+            CSI::Mode(mode) => mode.describe(f),
+            CSI::Device(device) => (**device).describe(f),
+            CSI::Keyboard(keyboard) => keyboard.describe(f),
+            CSI::SelectCharacterPath(to, effect) => {
+                let (to, effect) = (path(to), *effect);
+                write!(f, "SCP  character path {to}, effect {effect}")
+            }
+            CSI::Mouse(mouse) => mouse.describe(f),
+            CSI::Window(window) => (**window).describe(f),
+            CSI::Unspecified(unspecified) => (**unspecified).describe(f),
+        }
+    }
+}
+
+/// What no table has a name for is told by its bytes behind `ESC [`.
+impl Describe for Unspecified {
+    fn describe<W: fmt::Write>(&self, f: &mut fmt::Formatter<W>) -> fmt::Result {
+        write!(f, "unknown  {self}")
+    }
+}

@@ -1,7 +1,7 @@
 //! The words of each action, a line for each variant, by the text that the action has.
 
 use crate::describe::Described;
-use csicodec::decode_all;
+use csicodec::{CSI, CharacterPath, CsiParam, Cursor, Edit, Sgr, decode_all, parse_all};
 use std::alloc::Global;
 use std::process::Abort;
 use std::test::Fail;
@@ -516,6 +516,36 @@ fn tells_each(rt: HostRuntime) -> Result<(), Fail> {
         QUESTIONS.as_slice(),
     ] {
         check(&rt, rt.alloc(), rows)?;
+    }
+    Ok(())
+}
+
+#[test]
+fn tells_actions(rt: HostRuntime) -> Result<(), Fail> {
+    for (action, words) in [
+        (CSI::Sgr(Sgr::Reset), "SGR  all attributes off"),
+        (CSI::Cursor(Cursor::Up(1)), "CUU  cursor up 1 line"),
+        (
+            CSI::Edit(Edit::Repeat(2)),
+            "REP  repeat the character before, 2 times",
+        ),
+        (
+            CSI::SelectCharacterPath(CharacterPath::RightToLeftOrBottomToTop, 1),
+            "SCP  character path from right to left, effect 1",
+        ),
+    ] {
+        let told = Described(&action).to_string(rt.alloc())?;
+        assert_eq!(rt; told.as_str(), words);
+    }
+    Ok(())
+}
+
+#[test]
+fn tells_what_is_unknown(rt: HostRuntime) -> Result<(), Fail> {
+    let params = [CsiParam::P(b'?'), CsiParam::Integer(5)];
+    for action in parse_all(rt.alloc(), &params, false, 'S')? {
+        let told = Described(&action).to_string(rt.alloc())?;
+        assert_eq!(rt; told.as_str(), "unknown  ?5S");
     }
     Ok(())
 }

@@ -61,10 +61,7 @@ use Rattle.csicodec_c.specs.Ranges.{AttributeInRange, CursorInRange, DeviceInRan
 sgr-range : (s : Sgr) → actions_ranges.SgrInRange s → IsCanonicalSgr s → SgrInRange s
 sgr-range (sgr.Font font.Default) range h = tt
 sgr-range (sgr.Font (font.Alternate n)) range h = h
-sgr-range (sgr.UnderlineColor c) range h = range
-sgr-range (sgr.Foreground c) range h = range
-sgr-range (sgr.Background c) range h = range
-sgr-range other range h = tt
+sgr-range other range h = range
 
 most-fits : IsOneBased most
 most-fits = record { above = omega arith; fits = omega arith }
@@ -159,8 +156,8 @@ canonical-range (action.Mouse m) range h = mouse-range m h.0
 canonical-range (action.Device d) range h = device-range d h.0
 canonical-range (action.Window w) range h = window-range w h.0
 canonical-range (action.Keyboard k) range h = keyboard-range k h.0
-canonical-range (action.SelectCharacterPath path effect) range h = tt
 canonical-range (action.Unspecified params flag final) range h = (All-from_recursion TokenInRange params (tokens-range params h.spellable), low_scalar final (omega (arith, h.ends.1)))
+canonical-range other range h = tt
 
 special-range : (a : Action) → IsParsedSpecial a → InRange a
 special-range a (inl e) = rw e (record { above = omega arith; fits = omega arith }, most-fits)

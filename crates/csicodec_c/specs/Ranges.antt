@@ -12,8 +12,6 @@ use Rattle.csicodec_base.specs.declared.sgr.Sgr.{Sgr}
 use Rattle.csicodec_base.specs.declared.sgr.Sgr.TheVariants as sgr
 use Rattle.csicodec_actions.specs.declared.actions.cursor.Cursor.{Cursor}
 use Rattle.csicodec_actions.specs.declared.actions.cursor.Cursor.TheVariants as cursor
-use Rattle.csicodec_actions.specs.declared.actions.device.DeviceAttribute.{DeviceAttribute}
-use Rattle.csicodec_actions.specs.declared.actions.device.DeviceAttribute.TheVariants as attribute
 use Rattle.csicodec_actions.specs.declared.actions.edit.Edit.{Edit}
 use Rattle.csicodec_actions.specs.declared.actions.edit.Edit.TheVariants as edit
 use Rattle.csicodec_actions.specs.declared.actions.mode.Mode.{Mode}
@@ -24,13 +22,15 @@ use Rattle.csicodec_actions.specs.declared.actions.window.Window.{Window}
 use Rattle.csicodec_actions.specs.declared.actions.window.Window.TheVariants as window
 use Rattle.csicodec_actions.specs.declared.actions.keyboard.Keyboard.{Keyboard}
 use Rattle.csicodec_actions.specs.declared.actions.keyboard.Keyboard.TheVariants as keyboard
+use Rattle.csicodec_actions.specs.declared.actions.device.DeviceAttribute.{DeviceAttribute}
+use Rattle.csicodec_actions.specs.declared.actions.device.DeviceAttribute.TheVariants as attribute
 use Rattle.csicodec_actions.specs.Devices.{Device}
 use Rattle.csicodec_actions.specs.Devices as device
 use Rattle.csicodec_actions.specs.Actions.{Action}
 use Rattle.csicodec_actions.specs.Actions as action
 use Rattle.csicodec_actions.specs.Good.{IsOneBased}
 use Rattle.csicodec_actions.specs.Modes.{dec_number, terminal_number}
-use Rattle.csicodec_actions.specs.Ranges.{ColorInRange}
+use Rattle.csicodec_actions.specs.Ranges as typed
 
 -- the primary font, or one of nine others
 abbrev pub HasText : Font → Type 0
@@ -45,12 +45,10 @@ abbrev pub AttributeInRange : DeviceAttribute → Type 0
 AttributeInRange (attribute.Code c) = Unit {0}
 AttributeInRange (attribute.Unspecified t) = TokenInRange t
 
+-- a font has a text; of the others what the types let stand
 abbrev pub SgrInRange : Sgr → Type 0
-SgrInRange (sgr.UnderlineColor c) = ColorInRange c
 SgrInRange (sgr.Font v) = HasText v
-SgrInRange (sgr.Foreground c) = ColorInRange c
-SgrInRange (sgr.Background c) = ColorInRange c
-SgrInRange other = Unit {0}
+SgrInRange other = typed.SgrInRange other
 
 abbrev pub CursorInRange : Cursor → Type 0
 CursorInRange (cursor.Up n) = n < 2 ^ 32

@@ -13,7 +13,8 @@ use Rattle.csicodec_spans.proofs.Longer.{fault_more}
 use Rattle.csicodec_actions.specs.Actions.{Action}
 use Rattle.csicodec.specs.Decoding.{Decodes}
 use Rattle.csicodec.specs.declared.stream.DecodeError.{DecodeError}
-use Rattle.csicodec.specs.Stream.{DecodesFront, RefusesDecode, RefusesRun, refusal_of, run_refusal, stays}
+use Rattle.csicodec.specs.Private.Steps.{DecodesFront, stays}
+use Rattle.csicodec.specs.Stream.{RefusesDecode, RefusesRun, refusal_of, run_refusal}
 use Rattle.csicodec.proofs.OneReading.{decodes-append}
 use Rattle.csicodec.proofs.Splits.{IsSplit, begins, refuses_at, run_refused}
 

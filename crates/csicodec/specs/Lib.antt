@@ -8,6 +8,7 @@ pub mod Stream
 pub mod Streams
 pub mod Suffix
 pub mod Words
+pub mod Private
 pub use Rattle.csicodec_tokens.specs.Digits
 pub use Rattle.csicodec_names.specs.EnumNumbers
 pub use Rattle.csicodec_names.specs.Esc

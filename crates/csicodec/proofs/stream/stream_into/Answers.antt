@@ -1,6 +1,6 @@
 use Rattle.std.proofs.Common.{◌≡◌, ◌-◌, ◌++◌, [], false, length, arith, ap, sym, ◌∙◌, append-nil, refl}
 use Rattle.std.proofs.KnownBytes.{Consumes-nil, Consumes-trans}
-use Rattle.csicodec.specs.Stream.{DecodesFront}
+use Rattle.csicodec.specs.Private.Steps.{DecodesFront}
 use Rattle.csicodec.proofs.Splits.{refuses_at}
 use Rattle.csicodec.proofs.Streamed.{front_all, front_on, front_read, kept_behind, length_read, refused_end, split_of, stays_refused, whole_given}
 use Rattle.csicodec.proofs.stream.stream_into.Goals as goal

@@ -2,7 +2,7 @@ use Rattle.std.proofs.Common.{◌≡◌, false, ℕ, List, ◌++◌, ◌+◌, le
 use Rattle.std.specs.Io.KnownBytes.{Consumes}
 use Rattle.csicodec_actions.specs.Actions.{Action}
 use Rattle.csicodec_actions.specs.Texts.{texts}
-use Rattle.csicodec.specs.Stream.{DecodesFront}
+use Rattle.csicodec.specs.Private.Steps.{DecodesFront}
 use Rattle.csicodec.proofs.stream.stream_into.Given as goal
 
 -- what was read decodes up to what is held, and the texts of its actions are out

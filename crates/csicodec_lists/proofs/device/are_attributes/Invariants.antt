@@ -1,12 +1,12 @@
 use Rattle.std.specs.Prelude.{◌↔◌}
 use Rattle.std.proofs.Common.{length}
 use Rattle.csicodec_actions.specs.Good.{AllGood}
-use Rattle.csicodec_actions.specs.Written.{any_number, listed}
-use Rattle.csicodec_lists.proofs.canonical.are_said.Given as goal
+use Rattle.csicodec_actions.specs.Written.{Attribute, listed}
+use Rattle.csicodec_lists.proofs.device.are_attributes.Given as goal
 
 -- what decides is left
 abbrev pub invariant-loop-rest : goal.invariant-loop-rest
-invariant-loop-rest l = AllGood (listed any_number l.rest) ↔ AllGood (listed any_number l.numbers)
+invariant-loop-rest l = AllGood (listed Attribute l.rest) ↔ AllGood (listed Attribute l.attributes)
 
 abbrev pub decreases-loop-rest : goal.decreases-loop-rest
 decreases-loop-rest l = length l.rest

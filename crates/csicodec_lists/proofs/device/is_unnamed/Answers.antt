@@ -3,7 +3,7 @@ use mir.Syntax.{w64}
 use mir.Val.{SFits}
 use Rattle.csicodec_names.specs.DeviceNumbers.{device_attribute_number}
 use Rattle.csicodec_lists.proofs.OwnNumbers.{unnamed-told}
-use Rattle.csicodec_lists.proofs.canonical.is_unnamed.Goals as goal
+use Rattle.csicodec_lists.proofs.device.is_unnamed.Goals as goal
 
 pub returns-in-Integer : goal.returns-in-Integer
 returns-in-Integer c =

@@ -3,7 +3,7 @@ use mir.Syntax.{w64}
 use mir.Val.{SFits}
 use Rattle.csicodec_names.specs.ModeNumbers.{terminal_mode_number}
 use Rattle.csicodec_lists.proofs.OwnNumbers.{own-told}
-use Rattle.csicodec_lists.proofs.canonical.is_terminal_mode.Goals as goal
+use Rattle.csicodec_lists.proofs.mode.is_terminal_mode.Goals as goal
 
 pub returns-in-Unspecified : goal.returns-in-Unspecified
 returns-in-Unspecified c =

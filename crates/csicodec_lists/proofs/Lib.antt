@@ -1,4 +1,3 @@
-pub mod Made
 pub mod AllRows
 pub mod Boxed
 pub mod Disjoint

@@ -3,14 +3,13 @@ ghost use Rattle.std.specs.Prelude.{◌≡◌, ◌↔◌, IsTrue};
 ghost use Rattle.std.specs.Option.{option_map};
 ghost use Rattle.csicodec_actions.specs.Actions.{Cursor as Moves};
 ghost use Rattle.csicodec_actions.specs.Good.{AllGood};
-ghost use Rattle.csicodec_actions.specs.Kinds.{Style, read};
 ghost use Rattle.csicodec_actions.specs.Special.{IsSpecial};
 ghost use Rattle.csicodec_actions.specs.Table.Cursor.{as_cursor, written_cursor};
 
 use crate::canonical::{is_count, is_one_based};
-use crate::params::{ParseParams, made};
+use crate::params::{choice, count, place, places};
 use csicodec_actions::Cursor;
-use csicodec_base::{CsiParam, CursorStyle, OneBased};
+use csicodec_base::{CsiParam, CursorStyle, CursorTabulationControl, OneBased, TabulationClear};
 
 /// The action of the cursor before this final character, if a row reads the list.
 ///
@@ -18,40 +17,41 @@ use csicodec_base::{CsiParam, CursorStyle, OneBased};
 /// cursor_action(&[CsiParam::Integer(2)], 'A')        // Some(Cursor::Up(2))
 /// cursor_action(&[CsiParam::Integer(2)], 'm')        // None
 /// ```
+#[tactic(auto, unfolding(csicodec_actions::specs::Kinds::read, csicodec_actions::specs::Table::Cursor::as_cursor))]
 pub fn cursor_action(params: &[CsiParam], control: char) -> Option<Cursor>
     ensures { option_map (λ c. Moves c) result ≡ as_cursor params.now control }
 {
     match control {
-        'A' => made(params, Cursor::Up),
-        'B' => made(params, Cursor::Down),
-        'C' => made(params, Cursor::Right),
-        'D' => made(params, Cursor::Left),
-        'E' => made(params, Cursor::NextLine),
-        'F' => made(params, Cursor::PrecedingLine),
-        'G' => made(params, Cursor::CharacterAbsolute),
-        '`' => made(params, Cursor::CharacterPositionAbsolute),
+        'A' => Some(Cursor::Up(count(params)?)),
+        'B' => Some(Cursor::Down(count(params)?)),
+        'C' => Some(Cursor::Right(count(params)?)),
+        'D' => Some(Cursor::Left(count(params)?)),
+        'E' => Some(Cursor::NextLine(count(params)?)),
+        'F' => Some(Cursor::PrecedingLine(count(params)?)),
+        'G' => Some(Cursor::CharacterAbsolute(place(params)?)),
+        '`' => Some(Cursor::CharacterPositionAbsolute(place(params)?)),
         'H' => {
-            let (line, col) = ParseParams::parse_params(params)?;
+            let (line, col) = places(params)?;
             Some(Cursor::Position { line, col })
         }
         'R' => {
-            let (line, col) = ParseParams::parse_params(params)?;
+            let (line, col) = places(params)?;
             Some(Cursor::ActivePositionReport { line, col })
         }
         'f' => {
-            let (line, col) = ParseParams::parse_params(params)?;
+            let (line, col) = places(params)?;
             Some(Cursor::CharacterAndLinePosition { line, col })
         }
-        'I' => made(params, Cursor::ForwardTabulation),
-        'Z' => made(params, Cursor::BackwardTabulation),
-        'Y' => made(params, Cursor::LineTabulation),
-        'a' => made(params, Cursor::CharacterPositionForward),
-        'j' => made(params, Cursor::CharacterPositionBackward),
-        'd' => made(params, Cursor::LinePositionAbsolute),
-        'e' => made(params, Cursor::LinePositionForward),
-        'k' => made(params, Cursor::LinePositionBackward),
-        'W' => made(params, Cursor::TabulationControl),
-        'g' => made(params, Cursor::TabulationClear),
+        'I' => Some(Cursor::ForwardTabulation(count(params)?)),
+        'Z' => Some(Cursor::BackwardTabulation(count(params)?)),
+        'Y' => Some(Cursor::LineTabulation(count(params)?)),
+        'a' => Some(Cursor::CharacterPositionForward(count(params)?)),
+        'j' => Some(Cursor::CharacterPositionBackward(count(params)?)),
+        'd' => Some(Cursor::LinePositionAbsolute(count(params)?)),
+        'e' => Some(Cursor::LinePositionForward(count(params)?)),
+        'k' => Some(Cursor::LinePositionBackward(count(params)?)),
+        'W' => Some(Cursor::TabulationControl(CursorTabulationControl::from_i64(choice(params)?)?)),
+        'g' => Some(Cursor::TabulationClear(TabulationClear::from_i64(choice(params)?)?)),
         'r' => top_and_bottom(params),
         's' => left_and_right(params),
         'u' => restore(params),
@@ -127,22 +127,16 @@ fn request(params: &[CsiParam]) -> Option<Cursor>
 }
 
 /// The number of a style, and a space.
-#[tactic(auto, unfolding(csicodec_actions::specs::Table::Cursor::as_cursor))]
+#[tactic(auto, unfolding(csicodec_actions::specs::Kinds::read, csicodec_actions::specs::Table::Cursor::as_cursor))]
 fn style(params: &[CsiParam]) -> Option<Cursor>
     ensures { option_map (λ c. Moves c) result ≡ as_cursor params.now 113 }
 {
     match params {
         [CsiParam::Integer(number), CsiParam::P(b' ')] => {
-            Some(Cursor::CursorStyle(style_at(*number)?))
+            Some(Cursor::CursorStyle(CursorStyle::from_i64(*number)?))
         }
         _ => None,
     }
-}
-
-fn style_at(number: i64) -> Option<CursorStyle>
-    ensures { result ≡ read Style number }
-{
-    CursorStyle::from_i64(number)
 }
 
 /// Whether each number of an action of the cursor is read as itself.

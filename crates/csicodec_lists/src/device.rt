@@ -21,6 +21,7 @@ use std::alloc::{AllocError, Global};
 
 /// What is asked or said of a device before this final character, if a row reads the list. An `Err` comes only where one
 /// does.
+#[tactic(auto, unfolding(csicodec_actions::specs::Table::Device::as_device))]
 pub fn device_action(
     alloc: Global,
     params: &[CsiParam],

@@ -6,25 +6,26 @@ ghost use Rattle.csicodec_actions.specs.Good.{AllGood};
 ghost use Rattle.csicodec_actions.specs.Table.Edit.{as_edit, written_edit};
 
 use crate::canonical::is_count;
-use crate::params::made;
+use crate::params::{choice, count};
 use csicodec_actions::Edit;
-use csicodec_base::CsiParam;
+use csicodec_base::{CsiParam, EraseInDisplay, EraseInLine};
 
 /// The edit before this final character, if a row reads the list.
+#[tactic(auto, unfolding(csicodec_actions::specs::Kinds::read, csicodec_actions::specs::Table::Edit::as_edit))]
 pub fn edit_action(params: &[CsiParam], control: char) -> Option<Edit>
     ensures { option_map (λ e. Edits e) result ≡ as_edit params.now control }
 {
     match control {
-        '@' => made(params, Edit::InsertCharacter),
-        'L' => made(params, Edit::InsertLine),
-        'P' => made(params, Edit::DeleteCharacter),
-        'M' => made(params, Edit::DeleteLine),
-        'X' => made(params, Edit::EraseCharacter),
-        'S' => made(params, Edit::ScrollUp),
-        'T' => made(params, Edit::ScrollDown),
-        'b' => made(params, Edit::Repeat),
-        'J' => made(params, Edit::EraseInDisplay),
-        'K' => made(params, Edit::EraseInLine),
+        '@' => Some(Edit::InsertCharacter(count(params)?)),
+        'L' => Some(Edit::InsertLine(count(params)?)),
+        'P' => Some(Edit::DeleteCharacter(count(params)?)),
+        'M' => Some(Edit::DeleteLine(count(params)?)),
+        'X' => Some(Edit::EraseCharacter(count(params)?)),
+        'S' => Some(Edit::ScrollUp(count(params)?)),
+        'T' => Some(Edit::ScrollDown(count(params)?)),
+        'b' => Some(Edit::Repeat(count(params)?)),
+        'J' => Some(Edit::EraseInDisplay(EraseInDisplay::from_i64(choice(params)?)?)),
+        'K' => Some(Edit::EraseInLine(EraseInLine::from_i64(choice(params)?)?)),
         _ => None,
     }
 }

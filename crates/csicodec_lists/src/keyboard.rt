@@ -4,7 +4,7 @@ ghost use Rattle.std.specs.Int.RustNames.{bit_and};
 ghost use Rattle.std.specs.Option.{option_map};
 ghost use Rattle.csicodec_actions.specs.Actions.{Keyboard as Keys};
 ghost use Rattle.csicodec_actions.specs.Good.{AllGood, Good};
-ghost use Rattle.csicodec_actions.specs.Kinds.{Flags as FlagsKind, Pops, Way, read};
+ghost use Rattle.csicodec_actions.specs.Kinds.{Flags as FlagsKind, Pops, read};
 ghost use Rattle.csicodec_actions.specs.Table.Keyboard.{as_keyboard, written_keyboard};
 
 use bitflags::Flags;
@@ -13,6 +13,7 @@ use csicodec_base::CsiParam::{self, Integer, P};
 use csicodec_base::KittyKeyboardFlags;
 
 /// What is said of the keyboard before this final character, if a row reads the list.
+#[tactic(auto, unfolding(csicodec_actions::specs::Table::Keyboard::as_keyboard))]
 pub fn keyboard_action(params: &[CsiParam], control: char) -> Option<Keyboard>
     ensures { option_map (λ k. Keys k) result ≡ as_keyboard params.now control }
 {
@@ -33,7 +34,7 @@ fn keyboard(params: &[CsiParam]) -> Option<Keyboard>
         }),
         [P(b'='), Integer(bits), P(b';'), Integer(mode)] => Some(Keyboard::SetKittyState {
             flags: flags_at(*bits)?,
-            mode: mode_at(*mode)?,
+            mode: KittyKeyboardMode::from_i64(*mode)?,
         }),
         [P(b'>')] => Some(Keyboard::PushKittyState {
             flags: known(0),
@@ -45,7 +46,7 @@ fn keyboard(params: &[CsiParam]) -> Option<Keyboard>
         }),
         [P(b'>'), Integer(bits), P(b';'), Integer(mode)] => Some(Keyboard::PushKittyState {
             flags: flags_at(*bits)?,
-            mode: mode_at(*mode)?,
+            mode: KittyKeyboardMode::from_i64(*mode)?,
         }),
         [P(b'?')] => Some(Keyboard::QueryKittySupport),
         [P(b'?'), Integer(bits)] => Some(Keyboard::ReportKittyState(flags_at(*bits)?)),
@@ -60,12 +61,6 @@ fn flags_at(number: i64) -> Option<KittyKeyboardFlags>
 {
     let bits = u16::try_from(number).ok()?;
     Some(known(bits))
-}
-
-fn mode_at(number: i64) -> Option<KittyKeyboardMode>
-    ensures { result ≡ read Way number }
-{
-    KittyKeyboardMode::from_i64(number)
 }
 
 #[tactic(auto, unfolding(csicodec_actions::specs::Kinds::read))]

@@ -3,7 +3,7 @@ ghost use Rattle.std.specs.Prelude.{◌≡◌, ◌↔◌, IsTrue};
 ghost use Rattle.std.specs.Option.{option_map};
 ghost use Rattle.csicodec_actions.specs.Actions.{Mode as Modes};
 ghost use Rattle.csicodec_actions.specs.Good.{AllGood, Good};
-ghost use Rattle.csicodec_actions.specs.Kinds.{Dec, Resource, Terminal, read};
+ghost use Rattle.csicodec_actions.specs.Kinds.{Dec, Terminal};
 ghost use Rattle.csicodec_actions.specs.Table.Mode.{as_mode, written_mode};
 
 use crate::canonical::is_said;
@@ -12,6 +12,7 @@ use csicodec_base::CsiParam::{self, Integer, P};
 use csicodec_base::{DecPrivateModeCode, TerminalModeCode};
 
 /// What is asked or said of a mode before this final character, if a row reads the list.
+#[tactic(auto, unfolding(csicodec_actions::specs::Table::Mode::as_mode))]
 pub fn mode_action(params: &[CsiParam], control: char) -> Option<Mode>
     ensures { option_map (λ m. Modes m) result ≡ as_mode params.now control }
 {
@@ -37,37 +38,31 @@ fn query(params: &[CsiParam]) -> Option<Mode>
 }
 
 /// A `>`, the number of a resource, and perhaps a `;` and a value.
-#[tactic(auto, unfolding(csicodec_actions::specs::Table::Mode::as_mode))]
+#[tactic(auto, unfolding(csicodec_actions::specs::Kinds::read, csicodec_actions::specs::Table::Mode::as_mode))]
 fn key_mode(params: &[CsiParam]) -> Option<Mode>
     ensures { option_map (λ m. Modes m) result ≡ as_mode params.now 109 }
 {
     match params {
         [P(b'>'), Integer(number)] => {
-            let resource = resource_at(*number)?;
+            let resource = XtermKeyModifierResource::parse(*number)?;
             Some(Mode::XtermKeyMode {
                 resource,
                 value: None,
             })
         }
         [P(b'>'), Integer(number), P(b';')] => {
-            let resource = resource_at(*number)?;
+            let resource = XtermKeyModifierResource::parse(*number)?;
             Some(Mode::XtermKeyMode {
                 resource,
                 value: None,
             })
         }
         [P(b'>'), Integer(number), P(b';'), Integer(value)] => {
-            let (resource, value) = (resource_at(*number)?, Some(*value));
+            let (resource, value) = (XtermKeyModifierResource::parse(*number)?, Some(*value));
             Some(Mode::XtermKeyMode { resource, value })
         }
         _ => None,
     }
-}
-
-fn resource_at(number: i64) -> Option<XtermKeyModifierResource>
-    ensures { result ≡ read Resource number }
-{
-    XtermKeyModifierResource::parse(number)
 }
 
 /// A private mode is read as itself by its code, or by a number that has none.

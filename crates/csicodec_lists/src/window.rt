@@ -14,6 +14,7 @@ use std::alloc::{AllocError, Global};
 
 /// What is done to a window before this final character, if a row reads the list. An `Err` comes only before `t` and
 /// `y`: the fields of a list take memory, also where no row reads them.
+#[tactic(auto, unfolding(csicodec_actions::specs::Table::Window::as_window))]
 pub fn window_action(
     alloc: Global,
     params: &[CsiParam],

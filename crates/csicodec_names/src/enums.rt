@@ -1,6 +1,7 @@
 //! Enumerations that stand as a parameter, numbered from 0.
 ghost use Rattle.std.specs.Prelude.{◌≡◌, ◌↔◌, Some, pos};
-ghost use Rattle.csicodec_names.specs.EnumNumbers.{cursor_style_number, erase_in_display_number, erase_in_line_number, tabulation_clear_number, tabulation_control_number};
+ghost use Rattle.csicodec_names.specs.EnumNumbers.{cursor_style_number, cursor_styles, erase_in_display_number, erases_in_display, erase_in_line_number, erases_in_line, tabulation_clear_number, tabulation_clears, tabulation_control_number, tabulation_controls};
+ghost use Rattle.csicodec_names.specs.Numbered.{with_number};
 ghost use Rattle.csicodec_names.specs.declared.enums.CursorStyle.TheVariants as style;
 
 /// How the cursor looks (DECSCUSR; DEC VT520, the bars xterm).
@@ -32,7 +33,8 @@ impl CursorStyle {
 
     /// The style that has this number, 0 to 6, and none for another one.
     pub fn from_i64(number: i64) -> Option<Self>
-        ensures { (style : CursorStyle) → (result ≡ Some style) ↔ (number ≡ pos (cursor_style_number style)) }
+        ensures each { (style : CursorStyle) → (result ≡ Some style) ↔ (number ≡ pos (cursor_style_number style)) }
+        ensures listed { result ≡ with_number cursor_style_number cursor_styles number }
     {
         match number {
             0 => Some(CursorStyle::Default),
@@ -86,7 +88,8 @@ impl CursorTabulationControl {
 
     /// The control that has this number, 0 to 6, and none for another one.
     pub fn from_i64(number: i64) -> Option<Self>
-        ensures { (control : CursorTabulationControl) → (result ≡ Some control) ↔ (number ≡ pos (tabulation_control_number control)) }
+        ensures each { (control : CursorTabulationControl) → (result ≡ Some control) ↔ (number ≡ pos (tabulation_control_number control)) }
+        ensures listed { result ≡ with_number tabulation_control_number tabulation_controls number }
     {
         match number {
             0 => Some(CursorTabulationControl::SetCharacterTabStopAtActivePosition),
@@ -128,7 +131,8 @@ impl TabulationClear {
 
     /// The choice that has this number, 0 to 5, and none for another one.
     pub fn from_i64(number: i64) -> Option<Self>
-        ensures { (clear : TabulationClear) → (result ≡ Some clear) ↔ (number ≡ pos (tabulation_clear_number clear)) }
+        ensures each { (clear : TabulationClear) → (result ≡ Some clear) ↔ (number ≡ pos (tabulation_clear_number clear)) }
+        ensures listed { result ≡ with_number tabulation_clear_number tabulation_clears number }
     {
         match number {
             0 => Some(TabulationClear::ClearCharacterTabStopAtActivePosition),
@@ -163,7 +167,8 @@ impl EraseInLine {
 
     /// The part that has this number, 0 to 2, and none for another one.
     pub fn from_i64(number: i64) -> Option<Self>
-        ensures { (part : EraseInLine) → (result ≡ Some part) ↔ (number ≡ pos (erase_in_line_number part)) }
+        ensures each { (part : EraseInLine) → (result ≡ Some part) ↔ (number ≡ pos (erase_in_line_number part)) }
+        ensures listed { result ≡ with_number erase_in_line_number erases_in_line number }
     {
         match number {
             0 => Some(EraseInLine::EraseToEndOfLine),
@@ -197,7 +202,8 @@ impl EraseInDisplay {
 
     /// The part that has this number, 0 to 3, and none for another one.
     pub fn from_i64(number: i64) -> Option<Self>
-        ensures { (part : EraseInDisplay) → (result ≡ Some part) ↔ (number ≡ pos (erase_in_display_number part)) }
+        ensures each { (part : EraseInDisplay) → (result ≡ Some part) ↔ (number ≡ pos (erase_in_display_number part)) }
+        ensures listed { result ≡ with_number erase_in_display_number erases_in_display number }
     {
         match number {
             0 => Some(EraseInDisplay::EraseToEndOfDisplay),

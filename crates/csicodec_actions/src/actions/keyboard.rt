@@ -1,6 +1,6 @@
 //! The keyboard, and paths of characters.
 ghost use Rattle.std.specs.Prelude.{◌≤◌, ◌++◌, [], ◌∷◌, length, ◌≡◌, ◌↔◌, ◌<◌, Some, pos};
-ghost use Rattle.csicodec_actions.specs.Kinds.{Flags as FlagsKind, Way};
+ghost use Rattle.csicodec_actions.specs.Kinds.{Flags as FlagsKind, Path, Way, read};
 ghost use Rattle.csicodec_actions.specs.Table.Keyboard.{written_keyboard};
 ghost use Rattle.csicodec_actions.specs.Written.{Byte, The, shown, written_text};
 ghost use Rattle.csicodec_actions.specs.KeyNumbers.{kitty_mode_number, path_number};
@@ -24,8 +24,10 @@ pub enum KittyKeyboardMode {
 
 impl KittyKeyboardMode {
     /// The way of 1, 2 or 3, and none for another number.
+    #[tactic(auto, unfolding(crate::specs::Kinds::read))]
     pub fn from_i64(number: i64) -> Option<Self>
-        ensures { (mode : KittyKeyboardMode) → (result ≡ Some mode) ↔ (number ≡ pos (kitty_mode_number mode)) }
+        ensures each { (mode : KittyKeyboardMode) → (result ≡ Some mode) ↔ (number ≡ pos (kitty_mode_number mode)) }
+        ensures read { result ≡ read Way number }
     {
         match number {
             1 => Some(KittyKeyboardMode::AssignAll),
@@ -93,8 +95,10 @@ pub enum CharacterPath {
 
 impl CharacterPath {
     /// The path of 0, 1 or 2, and none for another number.
+    #[tactic(auto, unfolding(crate::specs::Kinds::read))]
     pub fn from_i64(number: i64) -> Option<Self>
-        ensures { (path : CharacterPath) → (result ≡ Some path) ↔ (number ≡ pos (path_number path)) }
+        ensures each { (path : CharacterPath) → (result ≡ Some path) ↔ (number ≡ pos (path_number path)) }
+        ensures read { result ≡ read Path number }
     {
         match number {
             0 => Some(CharacterPath::ImplementationDefault),

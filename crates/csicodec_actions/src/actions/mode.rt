@@ -3,7 +3,7 @@ ghost use Rattle.std.specs.Prelude.{◌≤◌, ◌++◌, [], ◌∷◌, IsAscii,
 ghost use Rattle.csicodec_actions.specs.Table.Mode.{written_mode};
 ghost use Rattle.csicodec_actions.specs.Written.{Byte, The, shown, written_text};
 ghost use Rattle.csicodec_actions.specs.Modes.{changed, dec_number, resource_number, switched, terminal_number};
-ghost use Rattle.csicodec_actions.specs.Kinds.{read, Dec, Terminal};
+ghost use Rattle.csicodec_actions.specs.Kinds.{Dec, Resource, Terminal, read};
 ghost use Rattle.csicodec_actions.specs.declared.actions.mode.XtermKeyModifierResource.{XtermKeyModifierResource};
 
 use csicodec_base::{DecPrivateModeCode, TerminalModeCode, Text};
@@ -142,8 +142,10 @@ pub enum XtermKeyModifierResource {
 
 impl XtermKeyModifierResource {
     /// The resource that has this number: 0, 1, 2 or 4. None has another one.
+    #[tactic(auto, unfolding(crate::specs::Kinds::read))]
     pub fn parse(value: i64) -> Option<Self>
-        ensures { (resource : XtermKeyModifierResource) → (result ≡ Some resource) ↔ (value ≡ pos (resource_number resource)) }
+        ensures each { (resource : XtermKeyModifierResource) → (result ≡ Some resource) ↔ (value ≡ pos (resource_number resource)) }
+        ensures read { result ≡ read Resource value }
     {
         match value {
             0 => Some(XtermKeyModifierResource::Keyboard),

@@ -1,5 +1,5 @@
 -- What reading makes is canonical or special.
-use Rattle.std.proofs.Common.{ℕ, ◌≡◌, ◌⊎◌, ◌<◌, List, [], ◌∷◌, ◌++◌, Bool, Some, pos, refl, rules, inl, inr}
+use Rattle.std.proofs.Common.{ℕ, ◌≡◌, ◌⊎◌, ◌<◌, List, [], ◌∷◌, Bool, Some, pos, drop, take, refl, rules, inl, inr}
 use Rattle.std.specs.List.{AllByRecursion}
 use Rattle.std.specs.Prelude.{ℤ, ◌==◌, ◌&&◌, true, Option, None}
 use Rattle.std.proofs.lemmas.Bool.{cases_Bool, and_parts, eq-eqb, eqb-true}
@@ -9,13 +9,7 @@ use Rattle.csicodec_names.specs.DeviceNumbers.{device_attribute_codes, device_at
 use Rattle.csicodec_names.specs.Numbered.{with_number}
 use Rattle.csicodec_tokens.specs.declared.param.CsiParam.TheVariants.{Integer, P}
 use Rattle.csicodec_actions.specs.Devices.{Attributes, Vt220, Vt320, Vt420, XtSmGraphics, code_or_token, listed_attributes}
-use Rattle.csicodec_actions.specs.Table.Cursor.{cursor_rows}
-use Rattle.csicodec_actions.specs.Table.Edit.{edit_rows}
-use Rattle.csicodec_actions.specs.Table.Keyboard.{keyboard_rows}
-use Rattle.csicodec_actions.specs.Table.Mode.{mode_rows}
-use Rattle.csicodec_actions.specs.Table.Mouse.{mouse_rows}
-use Rattle.csicodec_actions.specs.Table.Path.{path_rows}
-use Rattle.csicodec_actions.specs.Table.Device.{device_rows, answer, written_attributes}
+use Rattle.csicodec_actions.specs.Table.Device.{answer, written_attributes}
 use Rattle.csicodec_actions.specs.Written.{Attribute, any_number, listed}
 use Rattle.csicodec_tokens.specs.declared.param.CsiParam.{CsiParam}
 use Rattle.csicodec_tokens.specs.OneBased.{most}
@@ -113,16 +107,15 @@ vt320-kept flag = class-kept flag Vt320 (λ all good. search rules)
 vt420-kept : (flag : Bool) → KeepsTail IsSpellable (Kept flag) (λ rest. answer (Vt420 (listed_attributes rest)))
 vt420-kept flag = class-kept flag Vt420 (λ all good. search rules)
 
--- by subject, since a search over all rows is long
-devices-kept : (flag : Bool) → TableKeeps IsSpellable Good (Kept flag) device_rows
-devices-kept flag = search (rules, vt220-kept, vt320-kept, vt420-kept) depth 60
+-- in two parts, wherever the table is cut, since a search over all rows is long
+first-kept : (flag : Bool) → TableKeeps IsSpellable Good (Kept flag) (take 30 table)
+first-kept flag = search (rules, rows-kept, columns-kept, one-fits, most-fits) depth 60
 
-others-kept : (flag : Bool) → TableKeeps IsSpellable Good (Kept flag) (cursor_rows ++ (edit_rows ++ (mode_rows ++ (mouse_rows ++ (keyboard_rows ++ path_rows)))))
-others-kept flag = search (rules, rows-kept, columns-kept, press-kept, release-kept, one-fits, most-fits) depth 60
+others-kept : (flag : Bool) → TableKeeps IsSpellable Good (Kept flag) (drop 30 table)
+others-kept flag = search (rules, press-kept, release-kept, one-fits, vt220-kept, vt320-kept, vt420-kept) depth 60
 
 table-kept : (flag : Bool) → TableKeeps IsSpellable Good (Kept flag) table
-table-kept flag =
-    table-append IsSpellable Good (Kept flag) (cursor_rows ++ (edit_rows ++ (mode_rows ++ (mouse_rows ++ (keyboard_rows ++ path_rows))))) device_rows (others-kept flag) (devices-kept flag)
+table-kept flag = table-append IsSpellable Good (Kept flag) (take 30 table) (drop 30 table) (first-kept flag) (others-kept flag)
 
 -- graphics have numbers that are said
 numbers-kept : (all : List ℤ) → AllByRecursion (Good Any) all → AllGood (listed any_number all)

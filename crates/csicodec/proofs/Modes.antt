@@ -17,9 +17,9 @@ use Rattle.csicodec_actions.specs.Modes.{changed, switched, dec_number, terminal
 use Rattle.csicodec_parser.specs.Segments.{Actions}
 use Rattle.csicodec_actions.specs.Table.Mode.{written_mode}
 use Rattle.csicodec_actions.specs.Written.{tokens}
-use Rattle.csicodec_lists.proofs.Back.Mode.{dec-query-read, query-read, keys-read}
+use Rattle.csicodec_lists.proofs.Back.{IsPiece, read-back}
 use Rattle.csicodec_actions.specs.Good.{AllGood, Good}
-use Rattle.csicodec_lists.proofs.Items.{is_sound, sound, IsRead}
+use Rattle.csicodec_lists.proofs.Items.{is_sound, sound}
 use Rattle.csicodec.proofs.Spelling.{Spelling, written-spelling, cut-one, stuck-empty}
 use Rattle.csicodec_actions.proofs.Values.{read-good}
 
@@ -50,16 +50,16 @@ piece-spelling flag m test good read =
       read = read;
     }
 
-row-spelling : (flag : Bool) (m : mode_type.Mode) → AllGood (written_mode m).items → IsRead (written_mode m) (Mode m) → Spelling flag (Mode m)
-row-spelling flag m good read = written-spelling flag (Mode m) (written_mode m) refl good read
+row-spelling : (flag : Bool) (m : mode_type.Mode) → AllGood (written_mode m).items → ¬ IsPiece (Mode m) → Spelling flag (Mode m)
+row-spelling flag m good row = written-spelling flag (Mode m) (written_mode m) refl good (read-back (Mode m) good (λ never. never) row)
 
 pub mode-spelling : (flag : Bool) (m : mode_type.Mode) → AllGood (written_mode m).items → Spelling flag (Mode m)
 mode-spelling flag (mode.SetDecPrivateMode m) good = piece-spelling flag (mode.SetDecPrivateMode m) refl good (dec-read flag change.Set 104 m refl good.0)
 mode-spelling flag (mode.ResetDecPrivateMode m) good = piece-spelling flag (mode.ResetDecPrivateMode m) refl good (dec-read flag change.Reset 108 m refl good.0)
 mode-spelling flag (mode.SaveDecPrivateMode m) good = piece-spelling flag (mode.SaveDecPrivateMode m) refl good (dec-read flag change.Save 115 m refl good.0)
 mode-spelling flag (mode.RestoreDecPrivateMode m) good = piece-spelling flag (mode.RestoreDecPrivateMode m) refl good (dec-read flag change.Restore 114 m refl good.0)
-mode-spelling flag (mode.QueryDecPrivateMode m) good = row-spelling flag (mode.QueryDecPrivateMode m) good (dec-query-read m good)
+mode-spelling flag (mode.QueryDecPrivateMode m) good = row-spelling flag (mode.QueryDecPrivateMode m) good (λ piece. piece)
 mode-spelling flag (mode.SetMode m) good = piece-spelling flag (mode.SetMode m) refl good (terminal-read flag switch.Set 104 m refl good.0)
 mode-spelling flag (mode.ResetMode m) good = piece-spelling flag (mode.ResetMode m) refl good (terminal-read flag switch.Reset 108 m refl good.0)
-mode-spelling flag (mode.QueryMode m) good = row-spelling flag (mode.QueryMode m) good (query-read m good)
-mode-spelling flag (mode.XtermKeyMode keys value) good = row-spelling flag (mode.XtermKeyMode keys value) good (keys-read keys value good)
+mode-spelling flag (mode.QueryMode m) good = row-spelling flag (mode.QueryMode m) good (λ piece. piece)
+mode-spelling flag (mode.XtermKeyMode keys value) good = row-spelling flag (mode.XtermKeyMode keys value) good (λ piece. piece)

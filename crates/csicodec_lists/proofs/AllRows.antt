@@ -32,7 +32,7 @@ given-append [] ys list = refl
 given-append (r ∷ rows) ys list =
     ap (option_or (gives r list)) (given-append rows ys list) ∙ sym (option_or-assoc (gives r list) (given rows list) (given ys list))
 
-pub before-append : {R : Type 0} (xs ys : List (Before R)) (final : ℕ) → rows_before (xs ++ ys) final ≡ rows_before xs final ++ rows_before ys final
+before-append : {R : Type 0} (xs ys : List (Before R)) (final : ℕ) → rows_before (xs ++ ys) final ≡ rows_before xs final ++ rows_before ys final
 before-append [] ys final = refl
 before-append (b ∷ others) ys final =
     ap (λ rows. (if final == b.final then b.rows else []) ++ rows) (before-append others ys final) ∙ sym (append_assoc (if final == b.final then b.rows else []) (rows_before others final) (rows_before ys final))

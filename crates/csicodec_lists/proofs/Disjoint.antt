@@ -1,5 +1,5 @@
 -- No two rows of a final read one list: a test that is computed over all pairs.
-use Rattle.std.proofs.Common.{◌≡◌, ℕ, zero, suc, ◌⊎◌, List, [], ◌∷◌, ◌++◌, Option, None, Some, refl, sym, ap, ◌∙◌, inl, inr, arith, pos, subst}
+use Rattle.std.proofs.Common.{◌≡◌, ℕ, zero, suc, ◌⊎◌, List, [], ◌∷◌, Option, None, Some, refl, sym, ap, ◌∙◌, inl, inr, arith, pos, subst}
 use Rattle.std.specs.Prelude.{ℤ, ◌==◌, ◌&&◌, ◌||◌, Bool, true, false, not, slice_get}
 use Rattle.std.specs.Option.{option_or}
 use Rattle.std.proofs.lemmas.Bool.{cases_Bool, and_parts, eqb-true}
@@ -8,15 +8,8 @@ use Rattle.csicodec_tokens.specs.declared.param.CsiParam.TheVariants.{Integer, P
 use Rattle.csicodec_actions.specs.Actions.{Action}
 use Rattle.csicodec_actions.specs.FieldRows.{read_fields}
 use Rattle.csicodec_actions.specs.Rows.{Slot, Byte, Number, One, Row, fits, has_shape, gives, given, Before, rows_before, read_by}
-use Rattle.csicodec_actions.specs.Table.Cursor.{cursor_rows, as_cursor}
-use Rattle.csicodec_actions.specs.Table.Device.{device_rows, as_device}
-use Rattle.csicodec_actions.specs.Table.Edit.{edit_rows, as_edit}
-use Rattle.csicodec_actions.specs.Table.Keyboard.{keyboard_rows, as_keyboard}
-use Rattle.csicodec_actions.specs.Table.Mode.{mode_rows, as_mode}
-use Rattle.csicodec_actions.specs.Table.Mouse.{mouse_rows, as_mouse}
-use Rattle.csicodec_actions.specs.Table.Path.{path_rows, as_path}
 use Rattle.csicodec_actions.specs.Whole.{table, field_table, whole, RowsDecide}
-use Rattle.csicodec_lists.proofs.AllRows.{before-append, given-append, whole-table}
+use Rattle.csicodec_lists.proofs.AllRows.{whole-table}
 use Rattle.std.proofs.lemmas.Option.{same_Some, slice_get_read}
 use Rattle.csicodec_actions.proofs.Found.{guarded}
 use Rattle.csicodec_names.proofs.Coded.{is_number-pos}
@@ -139,7 +132,7 @@ rows-apart all (b ∷ others) final d =
 table-apart : (final : ℕ) → all_apart (rows_before table final) ≡ true
 table-apart final = elim (rows-apart table table final is-apart) [ inl none ↦ rw none refl | inr apart ↦ apart ]
 
-row-whole : (list : List CsiParam) (final : ℕ) (a : Action) → read_by table list final ≡ Some a → whole list final ≡ Some a
+pub row-whole : (list : List CsiParam) (final : ℕ) (a : Action) → read_by table list final ≡ Some a → whole list final ≡ Some a
 row-whole list final a e = whole-table list final ∙ ap (λ o. option_or o (read_fields field_table list final)) e
 
 pub rows_lem : (list : List CsiParam) (final : ℕ) → RowsDecide list final
@@ -147,65 +140,12 @@ rows_lem list final r a listed e =
     row-whole list final a
     (decides (rows_before table final) list listed.0 r a (table-apart final) (slice_get_read (rows_before table final) _ listed.0 r refl listed.1 (sym listed.2)) e)
 
--- ---- what one subject's rows give is the action
-
 -- the row that gave something fits, so no row apart from it does
-pub apart-given : (p : Row Action) (front rows : List (Row Action)) (list : List CsiParam) (a : Action) → apart_from p (front ++ rows) ≡ true → has p list ≡ true → given rows list ≡ Some a → ⊥
-apart-given p [] [] list a d f e = cc
-apart-given p [] (r ∷ rows) list a d f e =
-    let both = and_parts (are_apart p r) (apart_from p rows) d in go (gives r list) refl both.0 (apart-given p [] rows list a both.1 f) e
+pub apart-given : (p : Row Action) (rows : List (Row Action)) (list : List CsiParam) (a : Action) → apart_from p rows ≡ true → has p list ≡ true → given rows list ≡ Some a → ⊥
+apart-given p [] list a d f e = cc
+apart-given p (r ∷ rows) list a d f e =
+    let both = and_parts (are_apart p r) (apart_from p rows) d in go (gives r list) refl both.0 (apart-given p rows list a both.1 f) e
   where
     go : (o : Option Action) → gives r list ≡ o → are_apart p r ≡ true → (given rows list ≡ Some a → ⊥) → option_or o (given rows list) ≡ Some a → ⊥
     go None gave here later e = later e
     go (Some x) gave here later e = apart-rows p r list here f (guarded (has r list) _ x gave).0
-apart-given p (q ∷ front) rows list a d f e =
-    let both = and_parts (are_apart p q) (apart_from p (front ++ rows)) d in apart-given p front rows list a both.1 f e
-
-given-behind : (front rows : List (Row Action)) (list : List CsiParam) (a : Action) → all_apart (front ++ rows) ≡ true → given rows list ≡ Some a → given (front ++ rows) list ≡ Some a
-given-behind [] rows list a d e = e
-given-behind (q ∷ front) rows list a d e =
-    let p = and_parts (apart_from q (front ++ rows)) (all_apart (front ++ rows)) d in
-    elim (cases_Bool (has q list)) [
-      | inl fits ↦ absurd (apart-given q front rows list a p.0 fits e)
-      | inr other ↦ rw other (given-behind front rows list a p.1 e)
-    ]
-
--- these rows stand in the table
-part-whole : (front part back : List (Before Action)) (list : List CsiParam) (final : ℕ) (a : Action) → table ≡ front ++ (part ++ back) → read_by part list final ≡ Some a → whole list final ≡ Some a
-part-whole front part back list final a is e =
-    let rows : rows_before table final ≡ rows_before front final ++ (rows_before part final ++ rows_before back final) =
-    ap (λ t. rows_before t final) is ∙ before-append front (part ++ back) final ∙ ap (λ r. rows_before front final ++ r) (before-append part back final)
-    in
-    let here : given (rows_before part final ++ rows_before back final) list ≡ Some a =
-    given-append (rows_before part final) (rows_before back final) list ∙ ap (λ o. option_or o (given (rows_before back final) list)) e
-    in
-    let apart : all_apart (rows_before front final ++ (rows_before part final ++ rows_before back final)) ≡ true = rw rows at (table-apart final) in
-    row-whole list final a (ap (λ r. given r list) rows ∙ given-behind (rows_before front final) _ list a apart here)
-
-pub cursor-whole : (list : List CsiParam) (final : ℕ) (a : Action) → as_cursor list final ≡ Some a → whole list final ≡ Some a
-unfolding as_cursor
-cursor-whole list final a e = part-whole [] cursor_rows (edit_rows ++ (mode_rows ++ (mouse_rows ++ (keyboard_rows ++ (path_rows ++ device_rows))))) list final a refl e
-
-pub edit-whole : (list : List CsiParam) (final : ℕ) (a : Action) → as_edit list final ≡ Some a → whole list final ≡ Some a
-unfolding as_edit
-edit-whole list final a e = part-whole cursor_rows edit_rows (mode_rows ++ (mouse_rows ++ (keyboard_rows ++ (path_rows ++ device_rows)))) list final a refl e
-
-pub mode-whole : (list : List CsiParam) (final : ℕ) (a : Action) → as_mode list final ≡ Some a → whole list final ≡ Some a
-unfolding as_mode
-mode-whole list final a e = part-whole (cursor_rows ++ edit_rows) mode_rows (mouse_rows ++ (keyboard_rows ++ (path_rows ++ device_rows))) list final a refl e
-
-pub mouse-whole : (list : List CsiParam) (final : ℕ) (a : Action) → as_mouse list final ≡ Some a → whole list final ≡ Some a
-unfolding as_mouse
-mouse-whole list final a e = part-whole (cursor_rows ++ (edit_rows ++ mode_rows)) mouse_rows (keyboard_rows ++ (path_rows ++ device_rows)) list final a refl e
-
-pub keyboard-whole : (list : List CsiParam) (final : ℕ) (a : Action) → as_keyboard list final ≡ Some a → whole list final ≡ Some a
-unfolding as_keyboard
-keyboard-whole list final a e = part-whole (cursor_rows ++ (edit_rows ++ (mode_rows ++ mouse_rows))) keyboard_rows (path_rows ++ device_rows) list final a refl e
-
-pub path-whole : (list : List CsiParam) (final : ℕ) (a : Action) → as_path list final ≡ Some a → whole list final ≡ Some a
-unfolding as_path
-path-whole list final a e = part-whole (cursor_rows ++ (edit_rows ++ (mode_rows ++ (mouse_rows ++ keyboard_rows)))) path_rows device_rows list final a refl e
-
-pub device-whole : (list : List CsiParam) (final : ℕ) (a : Action) → as_device list final ≡ Some a → whole list final ≡ Some a
-unfolding as_device
-device-whole list final a e = part-whole (cursor_rows ++ (edit_rows ++ (mode_rows ++ (mouse_rows ++ (keyboard_rows ++ path_rows))))) device_rows [] list final a refl e

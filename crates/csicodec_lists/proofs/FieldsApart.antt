@@ -1,5 +1,5 @@
 -- No two rows over fields read one list, and none reads what a row of tokens does: tests that are computed over all pairs.
-use Rattle.std.proofs.Common.{◌≡◌, ℕ, zero, suc, List, [], ◌∷◌, Option, None, Some, refl, sym, ap, ◌∙◌, inl, inr, pos, rules, subst}
+use Rattle.std.proofs.Common.{◌≡◌, ℕ, zero, suc, List, [], ◌∷◌, Option, None, Some, refl, sym, ap, ◌∙◌, inl, inr, pos, subst}
 use Rattle.std.specs.Prelude.{ℤ, ◌==◌, ◌&&◌, ◌||◌, Bool, true, false, not, slice_get, if◌then◌else◌, option_and_then}
 use Rattle.std.specs.List.{AllByRecursion}
 use Rattle.std.specs.Option.{option_or}
@@ -12,10 +12,10 @@ use Rattle.csicodec_names.proofs.Coded.{is_number-pos}
 use Rattle.csicodec_actions.specs.Actions.{Action}
 use Rattle.csicodec_actions.specs.FieldRows.{Slot, This, Empty, End, Maybe, There, Must, Or, Rest, behind, ahead_of_byte, behind_byte, fits, have_shape, FieldRow, gives, given, Over, over, no_byte, byte, fields_over, read_over, read_fields}
 use Rattle.csicodec_actions.specs.Rows.{Row, Byte, open_row, rows_before, read_by}
-use Rattle.csicodec_actions.specs.Table.Graphics.{graphics_fields, graphics_rows, as_graphics}
-use Rattle.csicodec_actions.specs.Table.Window.{areas, windows, window_fields, as_window}
+use Rattle.csicodec_actions.specs.Table.Graphics.{graphics_rows}
+use Rattle.csicodec_actions.specs.Table.Window.{areas, windows}
 use Rattle.csicodec_actions.specs.Whole.{table, field_table, whole, FieldRowsDecide}
-use Rattle.csicodec_actions.proofs.AllFieldRows.{AllFieldRows, fields-append, over-in}
+use Rattle.csicodec_actions.proofs.AllFieldRows.{AllFieldRows, over-in}
 use Rattle.csicodec_lists.proofs.AllRows.{whole-table}
 use Rattle.csicodec_lists.proofs.Disjoint.{apart-given, has}
 use Rattle.csicodec_lists.proofs.Disjoint.{apart_from as apart_from_rows}
@@ -202,9 +202,6 @@ record IsApart (o : Over Action) : Type 0 where
   rows : all_apart rows_apart o.rows ≡ true
   tokens : AreNotTokens o
 
-no-tokens : (o : Over Action) → rows_before table o.final ≡ [] → AreNotTokens o
-no-tokens o none = record { each = λ a. rw none refl }
-
 are-apart : AllByRecursion IsApart field_table
 are-apart =
     let window : IsApart (over no_byte no_byte "t" windows) = record { rows = refl; tokens = record { each = λ a. refl } } in
@@ -237,7 +234,7 @@ fields-decide o list fs a apart are e = whole-table list o.final ∙ go (read_by
   where
     go : (r : Option Action) → read_by table list o.final ≡ r → option_or r (read_fields field_table list o.final) ≡ Some a
     go None none = e
-    go (Some x) row = absurd (apart-given (begun o.ahead x) [] (rows_before table o.final) list x (apart.each x) (over-begins o x list fs are) row)
+    go (Some x) row = absurd (apart-given (begun o.ahead x) (rows_before table o.final) list x (apart.each x) (over-begins o x list fs are) row)
 
 pub field_rows_lem : (list : List CsiParam) (final : ℕ) → FieldRowsDecide list final
 field_rows_lem list final o r fs a listed ends row are e =
@@ -251,27 +248,17 @@ field_rows_lem list final o r fs a listed ends row are e =
     rw (← ends)
     (fields-decide o list fs a apart.tokens are (fields-pick field_table list o.final ∙ picked finals_apart _ _ (finals-are-apart list o.final) field_table listed.0 o a refl at gave))
 
--- what these entries read is the action, where it is what all read
-part-decides : (entries : List (Over Action)) (list : List CsiParam) (final : ℕ) (a : Action) → AllFieldRows (λ o row. AreNotTokens o) entries → read_fields entries list final ≡ Some a
-    → read_fields field_table list final ≡ Some a → whole list final ≡ Some a
-part-decides entries list final a apart e all =
-    let o = over-in (λ o row. AreNotTokens o) entries list final a apart e in
-    rw o.here (fields-decide o.entry list o.fields a o.found.holds o.are (rw (← o.here) all))
+-- of each row of these entries
+rows-tokens : (o : Over Action) (rows : List (FieldRow Action)) → AreNotTokens o → AllByRecursion (λ (r : FieldRow Action). AreNotTokens o) rows
+rows-tokens o [] apart = tt
+rows-tokens o (r ∷ rows) apart = (apart, rows-tokens o rows apart)
 
-window-tokens : AllFieldRows (λ o row. AreNotTokens o) window_fields
-window-tokens = search (rules, no-tokens) depth 60
+entries-tokens : (entries : List (Over Action)) → AllByRecursion IsApart entries → AllFieldRows (λ o row. AreNotTokens o) entries
+entries-tokens [] apart = tt
+entries-tokens (o ∷ others) apart = (rows-tokens o o.rows apart.0.tokens, entries-tokens others apart.1)
 
-graphics-tokens : AllFieldRows (λ o row. AreNotTokens o) graphics_fields
-graphics-tokens = ((record { each = λ a. refl }, tt), tt)
-
-pub window-whole : (list : List CsiParam) (final : ℕ) (a : Action) → as_window list final ≡ Some a → whole list final ≡ Some a
-unfolding as_window
-window-whole list final a e =
-    part-decides window_fields list final a window-tokens e
-    (fields-append window_fields graphics_fields list final ∙ ap (λ o. option_or o (read_fields graphics_fields list final)) e)
-
-pub graphics-whole : (list : List CsiParam) (a : Action) → as_graphics list 83 ≡ Some a → whole list 83 ≡ Some a
-unfolding as_graphics
-graphics-whole list a e =
-    part-decides graphics_fields list 83 a graphics-tokens e
-    (fields-append window_fields graphics_fields list 83 ∙ e)
+-- what the entries read is the action
+pub field-whole : (list : List CsiParam) (final : ℕ) (a : Action) → read_fields field_table list final ≡ Some a → whole list final ≡ Some a
+field-whole list final a e =
+    let o = over-in (λ o row. AreNotTokens o) field_table list final a (entries-tokens field_table are-apart) e in
+    rw o.here (fields-decide o.entry list o.fields a o.found.holds o.are (rw (← o.here) e))

@@ -3,6 +3,5 @@ pub mod Boxed
 pub mod Disjoint
 pub mod FieldsApart
 pub mod Items
-pub mod LeftOut
 pub mod Back
 pub mod OwnNumbers

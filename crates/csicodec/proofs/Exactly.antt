@@ -8,7 +8,7 @@ use Rattle.csicodec.specs.Decoding.{Joins, AreActions, Decodes}
 use Rattle.csicodec.specs.Exact.{Exact}
 use Rattle.csicodec_actions.specs.Ranges.{InRange}
 use Rattle.csicodec_parser.specs.Segments.{Actions}
-use Rattle.csicodec_actions.specs.Texts.{text}
+use Rattle.csicodec_actions.specs.Table.{text}
 use Rattle.csicodec.proofs.Alone.{canonical-alone}
 use Rattle.csicodec_parser.proofs.Cuts.{actions_count}
 use Rattle.csicodec.proofs.OneReading.{Alone, one_decoding}

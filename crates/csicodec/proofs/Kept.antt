@@ -10,7 +10,7 @@ use Rattle.csicodec_names.specs.Numbered.{with_number}
 use Rattle.csicodec_tokens.specs.declared.param.CsiParam.TheVariants.{Integer, P}
 use Rattle.csicodec_actions.specs.Devices.{Attributes, Vt220, Vt320, Vt420, XtSmGraphics, code_or_token, listed_attributes}
 use Rattle.csicodec_actions.specs.Table.Device.{answer, written_attributes}
-use Rattle.csicodec_actions.specs.Written.{Attribute, any_number, listed}
+use Rattle.csicodec_actions.specs.Written.{Attribute, any_number, listed, AllGood, GoodAttribute}
 use Rattle.csicodec_tokens.specs.declared.param.CsiParam.{CsiParam}
 use Rattle.csicodec_tokens.specs.OneBased.{most}
 use Rattle.csicodec_tokens.specs.Sequence.{IsSpellable, Spellable}
@@ -26,17 +26,16 @@ use Rattle.csicodec_actions.specs.declared.actions.mouse.MouseButton.{MouseButto
 use Rattle.csicodec_actions.specs.declared.actions.mouse.MouseReport.TheVariants as mouse
 use Rattle.csicodec_names.specs.declared.flags.Modifiers.{Modifiers}
 use Rattle.csicodec_actions.specs.Mouse.{pressed, released, is_release}
-use Rattle.csicodec_actions.specs.Good.{AllGood, IsReport, Good, GoodAttribute, IsOneBased}
+use Rattle.csicodec_actions.specs.Kinds.{IsReport, Good, IsOneBased, Any, Dec, GraphicsItem, Terminal, read}
 use Rattle.csicodec_actions.proofs.MouseCodes.{release-pressed, none-released}
 use Rattle.csicodec_parser.specs.Canonical.{Canonical}
 use Rattle.csicodec_actions.specs.declared.actions.graphics.XtSmGraphicsItem.{XtSmGraphicsItem}
-use Rattle.csicodec_actions.specs.Kinds.{Any, Dec, GraphicsItem, Terminal, read}
 use Rattle.csicodec_actions.specs.Modes.{changed, switched}
 use Rattle.csicodec_actions.specs.Ranges.{InRange}
 use Rattle.csicodec_actions.specs.FieldRows.{FieldRow, Over}
 use Rattle.csicodec_actions.specs.Table.Graphics.{graphics_fields}
 use Rattle.csicodec_actions.specs.Table.Window.{window_fields}
-use Rattle.csicodec_actions.specs.Whole.{table, field_table, whole}
+use Rattle.csicodec_actions.specs.Table.{table, field_table, whole}
 use Rattle.csicodec_actions.specs.declared.actions.device.DeviceAttribute.{DeviceAttribute}
 use Rattle.csicodec_actions.proofs.AllFieldRows.{FieldsKeep, FieldRowsKeep, KeepsRest}
 use Rattle.csicodec_lists.proofs.AllRows.{KeepsTail, TableKeeps, all-append, table-append, spellable-tokens, whole-keeps}

@@ -12,13 +12,12 @@ use Rattle.csicodec_actions.specs.declared.actions.mode.TerminalMode.{TerminalMo
 use Rattle.csicodec_parser.specs.declared.group.Group.TheVariants as groups
 use Rattle.csicodec_actions.specs.Actions.{Mode}
 use Rattle.csicodec_parser.specs.Groups.{group, Piece}
-use Rattle.csicodec_actions.specs.Kinds.{Dec, Terminal}
+use Rattle.csicodec_actions.specs.Kinds.{Dec, Terminal, Good}
 use Rattle.csicodec_actions.specs.Modes.{changed, switched, dec_number, terminal_number}
 use Rattle.csicodec_parser.specs.Segments.{Actions}
 use Rattle.csicodec_actions.specs.Table.Mode.{written_mode}
-use Rattle.csicodec_actions.specs.Written.{tokens}
+use Rattle.csicodec_actions.specs.Written.{tokens, AllGood}
 use Rattle.csicodec_lists.proofs.Back.{IsPiece, read-back}
-use Rattle.csicodec_actions.specs.Good.{AllGood, Good}
 use Rattle.csicodec_lists.proofs.Items.{is_sound, sound}
 use Rattle.csicodec.proofs.Spelling.{Spelling, written-spelling, cut-one, stuck-empty}
 use Rattle.csicodec_actions.proofs.Values.{read-good}

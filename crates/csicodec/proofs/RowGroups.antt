@@ -7,7 +7,7 @@ use Rattle.csicodec_tokens.specs.declared.param.CsiParam.TheVariants.{Integer, P
 use Rattle.csicodec_actions.specs.Actions.{Action}
 use Rattle.csicodec_actions.specs.Rows.{Slot, Byte, Number, One, fits, has_shape, read_by}
 use Rattle.csicodec_actions.specs.FieldRows.{read_fields}
-use Rattle.csicodec_actions.specs.Whole.{table, field_table, whole}
+use Rattle.csicodec_actions.specs.Table.{table, field_table, whole}
 use Rattle.csicodec_actions.proofs.AllFieldRows.{over-in}
 use Rattle.csicodec_lists.proofs.AllRows.{AllRows, row-in, whole-table}
 use Rattle.csicodec_actions.proofs.Found.{guarded, one-of}

@@ -15,11 +15,9 @@ use Rattle.csicodec_actions.specs.Actions.{Action}
 use Rattle.csicodec_parser.specs.Groups.{group, Piece}
 use Rattle.csicodec_parser.specs.Cut.{Cut, IsStuck}
 use Rattle.csicodec_parser.specs.Segments.{Actions}
-use Rattle.csicodec_actions.specs.Texts.{text}
-use Rattle.csicodec_actions.specs.Whole.{whole}
-use Rattle.csicodec_actions.specs.Written.{Written, tokens, written_text}
+use Rattle.csicodec_actions.specs.Table.{text, whole}
+use Rattle.csicodec_actions.specs.Written.{Written, tokens, written_text, AllGood}
 use Rattle.csicodec_parser.proofs.Fronts.{front_stuck, front_empty}
-use Rattle.csicodec_actions.specs.Good.{AllGood}
 use Rattle.csicodec_lists.proofs.Items.{sound, IsRead}
 use Rattle.csicodec.proofs.RowGroups.{whole-group}
 use Rattle.csicodec.proofs.OneReading.{decodes-one, Alone}

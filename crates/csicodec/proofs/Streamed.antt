@@ -5,7 +5,7 @@ use Rattle.std.specs.Io.KnownBytes.{Consumes, IsAtEnd}
 use Rattle.std.proofs.KnownBytes.{Consumes-all}
 use Rattle.std.proofs.Math.Seq.{drop-append_seam}
 use Rattle.std.proofs.lemmas.List.{length-append}
-use Rattle.csicodec_actions.specs.Texts.{texts}
+use Rattle.csicodec_actions.specs.Table.{texts}
 use Rattle.csicodec_tokens.specs.declared.reader.ReadError.{ReadError}
 use Rattle.csicodec_tokens.specs.declared.reader.ReadError.TheVariants as errors
 use Rattle.csicodec_tokens.specs.Fault.{Refuses}

@@ -17,7 +17,7 @@ use Rattle.csicodec_parser.specs.Cut.{body, Cut}
 use Rattle.csicodec_actions.specs.Modes.{changed, switched}
 use Rattle.csicodec_parser.specs.Segments.{remainder, empty_action, BodyActions, CutActions, ActionsIn}
 use Rattle.csicodec.specs.Suffix.{IsSuffix, changes_private, EndsUnknown, SuffixLaw}
-use Rattle.csicodec_actions.specs.Whole.{table, field_table, Whole}
+use Rattle.csicodec_actions.specs.Table.{table, field_table, Whole}
 use Rattle.csicodec_actions.proofs.AllFieldRows.{FieldRowsKeep}
 use Rattle.csicodec_lists.proofs.AllRows.{TableKeeps, no-tokens, whole-keeps}
 use Rattle.csicodec_parser.proofs.GroupOf.{marked-body}

@@ -7,7 +7,7 @@ use Rattle.csicodec_actions.specs.Actions.{Action}
 use Rattle.csicodec_parser.specs.Canonical.{Canonical}
 use Rattle.csicodec.specs.Decoding.{Joins, AreActions, Decodes}
 use Rattle.csicodec.specs.Streams.{IsNormal, NormaliseTwice, Join}
-use Rattle.csicodec_actions.specs.Texts.{text, texts}
+use Rattle.csicodec_actions.specs.Table.{text, texts}
 use Rattle.csicodec_lists.proofs.AllRows.{all-append}
 use Rattle.csicodec.proofs.Alone.{canonical-alone}
 use Rattle.csicodec.proofs.Kept.{Kept}

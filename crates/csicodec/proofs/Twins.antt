@@ -9,13 +9,11 @@ use Rattle.csicodec_actions.specs.declared.actions.cursor.Cursor.TheVariants as 
 use Rattle.csicodec_actions.specs.Actions.{Action, Sgr, Cursor, Device, Unspecified}
 use Rattle.csicodec_parser.specs.Canonical.{Canonical}
 use Rattle.csicodec_actions.specs.Devices.{RequestTerminalParameters}
-use Rattle.csicodec_actions.specs.Good.{AllGood}
+use Rattle.csicodec_actions.specs.Written.{AllGood, tokens}
 use Rattle.csicodec_actions.specs.Ranges.{InRange}
 use Rattle.csicodec_actions.specs.Special.{IsSpecial}
 use Rattle.csicodec_actions.specs.Table.Device.{written_parameters}
-use Rattle.csicodec_actions.specs.Texts.{text}
-use Rattle.csicodec_actions.specs.Whole.{whole}
-use Rattle.csicodec_actions.specs.Written.{tokens}
+use Rattle.csicodec_actions.specs.Table.{text, whole}
 use Rattle.csicodec_lists.proofs.AllRows.{whole-table}
 use Rattle.csicodec_lists.proofs.Items.{is_sound, sound}
 

@@ -1,7 +1,7 @@
 -- Each canonical action of a row or a mode is written as a list that is read as it alone.
 use Rattle.std.proofs.Common.{Bool, refl}
 use Rattle.csicodec_actions.specs.Actions.{Action, Sgr, Mode, Unspecified}
-use Rattle.csicodec_actions.specs.Texts.{written}
+use Rattle.csicodec_actions.specs.Table.{written}
 use Rattle.csicodec_lists.proofs.Back.{read-back}
 use Rattle.csicodec_parser.specs.Canonical.{IsCanonicalWritten}
 use Rattle.csicodec.proofs.Modes.{mode-spelling}

@@ -28,8 +28,6 @@ pub use Rattle.csicodec_base.specs.SgrText
 pub use Rattle.csicodec_base.specs.Shapes
 pub use Rattle.csicodec_tokens.specs.declared.reader.ReadError
 pub use Rattle.csicodec_actions.specs.Actions
-pub use Rattle.csicodec_actions.specs.Good
-pub use Rattle.csicodec_actions.specs.KeyNumbers
 pub use Rattle.csicodec_actions.specs.Kinds
 pub use Rattle.csicodec_actions.specs.Modes
 pub use Rattle.csicodec_actions.specs.Mouse
@@ -40,8 +38,6 @@ pub use Rattle.csicodec_actions.specs.Graphics
 pub use Rattle.csicodec_actions.specs.Rows
 pub use Rattle.csicodec_actions.specs.Special
 pub use Rattle.csicodec_actions.specs.Table
-pub use Rattle.csicodec_actions.specs.Texts
-pub use Rattle.csicodec_actions.specs.Whole
 pub use Rattle.csicodec_actions.specs.Written
 pub use Rattle.csicodec_parser.specs.ActionOf
 pub use Rattle.csicodec_parser.specs.Canonical

@@ -2,7 +2,7 @@
 use Rattle.std.specs.Prelude.{ℕ, ◌≡◌, List, ◌++◌, Bool, false}
 use Rattle.csicodec_actions.specs.Actions.{Action}
 use Rattle.csicodec.specs.Decoding.{Decodes}
-use Rattle.csicodec_actions.specs.Texts.{texts}
+use Rattle.csicodec_actions.specs.Table.{texts}
 
 -- the bytes are read, and what they are read as is written as these bytes
 pub record IsNormal (bytes : List ℕ) (flag : Bool) : Type 0 where

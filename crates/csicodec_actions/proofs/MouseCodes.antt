@@ -8,7 +8,7 @@ use Rattle.std.proofs.lemmas.Option.{same_Some}
 use Rattle.csicodec_names.specs.declared.flags.Modifiers.{Modifiers}
 use Rattle.csicodec_actions.specs.declared.actions.mouse.MouseButton.{MouseButton}
 use Rattle.csicodec_actions.specs.declared.actions.mouse.MouseButton.TheVariants as button
-use Rattle.csicodec_actions.specs.Good.{AreHeld, IsReport}
+use Rattle.csicodec_actions.specs.Kinds.{AreHeld, IsReport}
 use Rattle.csicodec_actions.specs.Mouse.{button_code, button_bits, pressed, released, reported, report_code, is_release}
 use Rattle.csicodec_names.specs.Numbered.{is_number, with_number}
 use Rattle.csicodec_actions.proofs.Found.{map-some}

@@ -23,7 +23,7 @@ use Rattle.csicodec_actions.specs.declared.actions.mode.DecPrivateMode.TheVarian
 use Rattle.csicodec_actions.specs.declared.actions.mode.TerminalMode.{TerminalMode}
 use Rattle.csicodec_actions.specs.declared.actions.mode.TerminalMode.TheVariants as terminal
 use Rattle.csicodec_actions.specs.declared.actions.mode.XtermKeyModifierResource.TheVariants as resource
-use Rattle.csicodec_actions.specs.Kinds.{Kind, Count, Last, Any, Style, Control, Clear, InDisplay, InLine, Dec, Terminal, Resource, Flags, Way, Path, Pops, Word, Pressed, Released, GraphicsItem, Value, read, number, below, short, code_or}
+use Rattle.csicodec_actions.specs.Kinds.{Kind, Count, Last, Any, Style, Control, Clear, InDisplay, InLine, Dec, Terminal, Resource, Flags, Way, Path, Pops, Word, Pressed, Released, GraphicsItem, Value, read, number, below, short, code_or, IsOneBased, IsSaid, IsOwn, GoodDec, GoodItem, GoodTerminal, Good, kitty_mode_number, kitty_modes, path_number, paths}
 use Rattle.csicodec_names.specs.Numbered.{is_number, with_number}
 use Rattle.csicodec_actions.specs.declared.actions.keyboard.CharacterPath.TheVariants as path
 use Rattle.csicodec_actions.specs.declared.actions.keyboard.KittyKeyboardMode.TheVariants as way
@@ -32,10 +32,8 @@ use Rattle.csicodec_names.specs.FlagBits.{kitty_bits}
 use Rattle.csicodec_actions.specs.declared.actions.graphics.XtSmGraphicsItem.{XtSmGraphicsItem}
 use Rattle.csicodec_actions.specs.declared.actions.graphics.XtSmGraphicsItem.TheVariants as item
 use Rattle.csicodec_actions.specs.Graphics.{item_number, item_of}
-use Rattle.csicodec_actions.specs.KeyNumbers.{kitty_mode_number, kitty_modes, path_number, paths}
 use Rattle.csicodec_names.proofs.Coded.{is_number-pos, listed-number, none-found, Coded, found-of, small, attributes, styles, controls, clears, lines, displays, decs, terminals}
 use Rattle.csicodec_actions.proofs.Found.{map-some}
-use Rattle.csicodec_actions.specs.Good.{IsOneBased, IsSaid, IsOwn, GoodDec, GoodItem, GoodTerminal, Good}
 use Rattle.csicodec_actions.proofs.MouseCodes.{report-good, report-read, report-small, pressed-found, released-found}
 use Rattle.csicodec_actions.specs.Mouse.{pressed, released, report_code}
 use Rattle.std.proofs.lemmas.Nat.{and_mask, and_le_r}

@@ -1,5 +1,5 @@
--- What a number in a list counts as: kinds of values, each with the numbers that it is read from, and the one that it is written as.
-use Rattle.std.specs.Prelude.{ℕ, ℤ, Option, Some, None, if◌then◌else◌, nat_lt, pos, negsuc, ◌^◌}
+-- What a number in a list counts as: kinds of values, each with the numbers that it is read from, the one that it is written as, and the values that are read back.
+use Rattle.std.specs.Prelude.{ℕ, ℤ, Option, Some, None, if◌then◌else◌, nat_lt, pos, negsuc, ◌^◌, ◌≡◌, ◌<◌, ◌≤ℤ◌, List, [], ◌∷◌}
 use Rattle.std.specs.Int.RustNames.{bit_and}
 use Rattle.std.specs.Option.{option_map}
 use Rattle.csicodec_names.specs.declared.enums.CursorStyle.{CursorStyle}
@@ -7,30 +7,58 @@ use Rattle.csicodec_names.specs.declared.enums.CursorTabulationControl.{CursorTa
 use Rattle.csicodec_names.specs.declared.enums.EraseInDisplay.{EraseInDisplay}
 use Rattle.csicodec_names.specs.declared.enums.EraseInLine.{EraseInLine}
 use Rattle.csicodec_names.specs.declared.enums.TabulationClear.{TabulationClear}
-use Rattle.csicodec_names.specs.EnumNumbers.{cursor_style_number, erase_in_display_number, erase_in_line_number, tabulation_clear_number, tabulation_control_number}
-use Rattle.csicodec_names.specs.ModeNumbers.{dec_mode_number, terminal_mode_number}
-use Rattle.csicodec_tokens.specs.declared.param.CsiParam.TheVariants.{Integer}
+use Rattle.csicodec_names.specs.EnumNumbers.{cursor_style_number, erase_in_display_number, erase_in_line_number, tabulation_clear_number, tabulation_control_number, cursor_styles, tabulation_controls, tabulation_clears, erases_in_display, erases_in_line}
+use Rattle.csicodec_names.specs.ModeNumbers.{dec_mode_number, terminal_mode_number, dec_codes, terminal_codes}
+use Rattle.csicodec_tokens.specs.declared.param.CsiParam.TheVariants.{Integer, P}
 use Rattle.csicodec_tokens.specs.OneBased.{most, number_or}
 use Rattle.csicodec_actions.specs.declared.actions.mode.DecPrivateMode.{DecPrivateMode}
 use Rattle.csicodec_actions.specs.declared.actions.mode.DecPrivateMode.TheVariants as dec
 use Rattle.csicodec_actions.specs.declared.actions.mode.TerminalMode.{TerminalMode}
 use Rattle.csicodec_actions.specs.declared.actions.mode.TerminalMode.TheVariants as terminal
 use Rattle.csicodec_actions.specs.declared.actions.mode.XtermKeyModifierResource.{XtermKeyModifierResource}
+use Rattle.csicodec_actions.specs.declared.actions.keyboard.CharacterPath.TheVariants as path
+use Rattle.csicodec_actions.specs.declared.actions.keyboard.KittyKeyboardMode.TheVariants as way
 use Rattle.csicodec_actions.specs.declared.actions.keyboard.CharacterPath.{CharacterPath}
 use Rattle.csicodec_actions.specs.declared.actions.keyboard.KittyKeyboardMode.{KittyKeyboardMode}
 use Rattle.csicodec_names.specs.declared.flags.KittyKeyboardFlags.{KittyKeyboardFlags}
-use Rattle.csicodec_names.specs.FlagBits.{kitty_bits}
+use Rattle.csicodec_names.specs.FlagBits.{kitty_bits, modifier_bits}
 use Rattle.csicodec_actions.specs.declared.actions.graphics.XtSmGraphicsItem.{XtSmGraphicsItem}
-use Rattle.csicodec_actions.specs.Graphics.{item_number, item_of}
-use Rattle.csicodec_actions.specs.KeyNumbers.{kitty_mode_number, kitty_modes, path_number, paths}
-use Rattle.csicodec_actions.specs.Modes.{dec_number, terminal_number, resource_number}
-use Rattle.csicodec_actions.specs.Mouse.{pressed, released, reported, report_code}
+use Rattle.csicodec_actions.specs.Graphics.{item_number, item_of, IsUnnamedItem}
+use Rattle.csicodec_actions.specs.Modes.{dec_number, terminal_number, resource_number, resources}
+use Rattle.csicodec_actions.specs.Mouse.{pressed, released, reported, report_code, button_code}
 use Rattle.csicodec_actions.specs.declared.actions.mouse.MouseButton.{MouseButton}
 use Rattle.csicodec_names.specs.declared.flags.Modifiers.{Modifiers}
 use Rattle.csicodec_names.specs.Numbered.{with_number}
-use Rattle.csicodec_names.specs.EnumNumbers.{cursor_styles, tabulation_controls, tabulation_clears, erases_in_display, erases_in_line}
-use Rattle.csicodec_names.specs.ModeNumbers.{dec_codes, terminal_codes}
-use Rattle.csicodec_actions.specs.Modes.{resources}
+use Rattle.csicodec_names.specs.DeviceNumbers.{device_attribute_number}
+use Rattle.csicodec_names.specs.declared.device.DeviceAttributeCodes.{DeviceAttributeCodes}
+use Rattle.csicodec_tokens.specs.Digits.{largest}
+use Rattle.csicodec_tokens.specs.Sequence.{IsSpellable}
+use Rattle.csicodec_tokens.specs.declared.param.CsiParam.{CsiParam}
+use Rattle.csicodec_actions.specs.declared.actions.device.DeviceAttribute.{DeviceAttribute}
+use Rattle.csicodec_actions.specs.declared.actions.device.DeviceAttribute.TheVariants as attribute
+use Rattle.csicodec_actions.specs.declared.actions.graphics.XtSmGraphicsItem.TheVariants as item
+
+-- ---- the numbers of the keyboard's ways, and of paths of characters
+
+abbrev pub kitty_mode_number : KittyKeyboardMode → ℕ
+kitty_mode_number way.AssignAll = 1
+kitty_mode_number way.SetSpecified = 2
+kitty_mode_number way.ClearSpecified = 3
+
+-- all ways: the list must be complete, a place for each variant
+abbrev pub kitty_modes : List KittyKeyboardMode
+kitty_modes = way.AssignAll ∷ way.SetSpecified ∷ way.ClearSpecified ∷ []
+
+abbrev pub path_number : CharacterPath → ℕ
+path_number path.ImplementationDefault = 0
+path_number path.LeftToRightOrTopToBottom = 1
+path_number path.RightToLeftOrBottomToTop = 2
+
+-- all paths: the list must be complete, a place for each variant
+abbrev pub paths : List CharacterPath
+paths = path.ImplementationDefault ∷ path.LeftToRightOrTopToBottom ∷ path.RightToLeftOrBottomToTop ∷ []
+
+-- ---- the kinds
 
 -- a count, and a last line or column, from 1 to 4294967295; any number; numbers of enumerations, of modes, of the resources of keys and of what graphics are about
 pub data Kind : Type 0 where
@@ -135,3 +163,64 @@ number Word n = pos n
 number Pressed v = pos (report_code v)
 number Released v = pos (report_code v)
 number GraphicsItem item = item_number item
+
+-- ---- values that are read back from their numbers
+
+-- a number from 1 on, of 32 bits
+pub record IsOneBased (n : ℕ) : Type 0 where
+  pub above : 0 < n
+  pub fits : n < 2 ^ 32
+
+-- a number that a sequence can have
+pub record IsSaid (z : ℤ) : Type 0 where
+  pub above : pos 0 ≤ℤ z
+  pub fits : z ≤ℤ pos largest
+
+-- a number of 16 bits that no mode with a name has
+pub record IsOwn {C : Type 0} (number : C → ℕ) (n : ℕ) : Type 0 where
+  pub fits : n < 65536
+  pub own : (c : C) → n ≡ number c → ⊥
+
+abbrev pub GoodDec : DecPrivateMode → Type 0
+GoodDec (dec.Code c) = Unit {0}
+GoodDec (dec.Unspecified n) = IsOwn dec_mode_number n
+
+abbrev pub GoodTerminal : TerminalMode → Type 0
+GoodTerminal (terminal.Code c) = Unit {0}
+GoodTerminal (terminal.Unspecified n) = IsOwn terminal_mode_number n
+
+-- the modifiers are SHIFT, ALT and CTRL
+abbrev pub AreHeld : Modifiers → Type 0
+AreHeld m = bit_and (modifier_bits m) 14 ≡ modifier_bits m
+
+-- a report of one of these buttons
+pub record IsReport (buttons : List MouseButton) (v : MouseButton × Modifiers) : Type 0 where
+  pub one : with_number button_code buttons (pos (button_code v.0)) ≡ Some v.0
+  pub held : AreHeld v.1
+
+-- an item with a name, or a number of a sequence that none has
+abbrev pub GoodItem : XtSmGraphicsItem → Type 0
+GoodItem (item.Unspecified z) = IsSaid z × IsUnnamedItem z
+GoodItem i = Unit {0}
+
+-- the number of the value counts as this value
+abbrev pub Good : (k : Kind) → Value k → Type 0
+Good Count n = IsOneBased n
+Good Last n = IsOneBased n
+Good Any z = IsSaid z
+Good Style c = Unit {0}
+Good Control c = Unit {0}
+Good Clear c = Unit {0}
+Good InDisplay c = Unit {0}
+Good InLine c = Unit {0}
+Good Dec m = GoodDec m
+Good Terminal m = GoodTerminal m
+Good Resource r = Unit {0}
+Good Flags f = kitty_bits f < 32
+Good Way m = Unit {0}
+Good Path p = Unit {0}
+Good Pops n = n < 2 ^ 32
+Good Word n = n < 65536
+Good Pressed v = IsReport pressed v
+Good Released v = IsReport released v
+Good GraphicsItem i = GoodItem i

@@ -1,6 +1,4 @@
 pub mod Actions
-pub mod Good
-pub mod KeyNumbers
 pub mod Kinds
 pub mod Modes
 pub mod Mouse
@@ -9,8 +7,6 @@ pub mod Rows
 pub mod FieldRows
 pub mod Special
 pub mod Table
-pub mod Texts
-pub mod Whole
 pub mod Written
 pub mod Devices
 pub mod Graphics

@@ -1,14 +1,32 @@
 -- What an action of a list is written as: bytes and values, and then the final character.
 use Prim.Native.Char.{Char, code}
-use Rattle.std.specs.Prelude.{ℕ, ℤ, List, [], ◌∷◌, ◌++◌, if◌then◌else◌, pos}
+use Rattle.std.specs.Prelude.{ℕ, ℤ, List, [], ◌∷◌, ◌++◌, if◌then◌else◌, pos, ◌≡◌, ◌<◌, ◌≤ℤ◌, ◌^◌, Some}
 use Rattle.std.specs.Fmt.{signed_decimal}
 use Rattle.csicodec_tokens.specs.declared.param.CsiParam.{CsiParam}
 use Rattle.csicodec_tokens.specs.declared.param.CsiParam.TheVariants.{Integer, P}
 use Rattle.csicodec_tokens.specs.Param.{token_text}
 use Rattle.csicodec_actions.specs.declared.actions.device.DeviceAttribute.{DeviceAttribute}
 use Rattle.csicodec_actions.specs.Devices.{attribute_token}
-use Rattle.csicodec_actions.specs.Kinds.{Kind, Count, Any, Value, number}
-use Rattle.csicodec_names.specs.Numbered.{is_number}
+use Rattle.csicodec_actions.specs.Kinds.{Kind, Count, Any, Value, number, Last, Style, Control, Clear, InDisplay, InLine, Dec, Terminal, Resource, Flags, Way, Path, Pops, Word, Pressed, Released, GraphicsItem, Good}
+use Rattle.csicodec_names.specs.Numbered.{is_number, with_number}
+use Rattle.std.specs.Int.RustNames.{bit_and}
+use Rattle.csicodec_names.specs.declared.flags.Modifiers.{Modifiers}
+use Rattle.csicodec_names.specs.FlagBits.{kitty_bits, modifier_bits}
+use Rattle.csicodec_names.specs.ModeNumbers.{dec_mode_number, terminal_mode_number}
+use Rattle.csicodec_names.specs.DeviceNumbers.{device_attribute_number}
+use Rattle.csicodec_names.specs.declared.device.DeviceAttributeCodes.{DeviceAttributeCodes}
+use Rattle.csicodec_tokens.specs.Digits.{largest}
+use Rattle.csicodec_tokens.specs.Sequence.{IsSpellable}
+use Rattle.csicodec_actions.specs.declared.actions.device.DeviceAttribute.TheVariants as attribute
+use Rattle.csicodec_actions.specs.declared.actions.graphics.XtSmGraphicsItem.{XtSmGraphicsItem}
+use Rattle.csicodec_actions.specs.declared.actions.graphics.XtSmGraphicsItem.TheVariants as item
+use Rattle.csicodec_actions.specs.declared.actions.mode.DecPrivateMode.{DecPrivateMode}
+use Rattle.csicodec_actions.specs.declared.actions.mode.DecPrivateMode.TheVariants as dec
+use Rattle.csicodec_actions.specs.declared.actions.mode.TerminalMode.{TerminalMode}
+use Rattle.csicodec_actions.specs.declared.actions.mode.TerminalMode.TheVariants as terminal
+use Rattle.csicodec_actions.specs.declared.actions.mouse.MouseButton.{MouseButton}
+use Rattle.csicodec_actions.specs.Graphics.{IsUnnamedItem}
+use Rattle.csicodec_actions.specs.Mouse.{button_code, pressed, released}
 
 -- a byte; a value of a kind, as its number; a value that is left out where its number is this one; an extension of a terminal, as its token
 pub data Item : Type 0 where
@@ -73,3 +91,23 @@ plain n = any_number (pos n)
 abbrev pub listed : {A : Type 0} → (A → Item) → List A → List Item
 listed item [] = []
 listed item (a ∷ others) = put ";" ∷ item a ∷ listed item others
+
+-- ---- what is read back
+
+-- the token is no number of an extension that has a name, and no `;`
+abbrev pub IsUnnamed : CsiParam → Type 0
+IsUnnamed (Integer z) = (c : DeviceAttributeCodes) → z ≡ pos (device_attribute_number c) → ⊥
+IsUnnamed (P b) = b ≡ 59 → ⊥
+
+-- an extension that has a name, or any other token that a sequence can have
+abbrev pub GoodAttribute : DeviceAttribute → Type 0
+GoodAttribute (attribute.Code c) = Unit {0}
+GoodAttribute (attribute.Unspecified t) = IsSpellable t × IsUnnamed t
+
+-- each value is written as a number that counts as it, and each extension as its token
+abbrev pub AllGood : List Item → Type 0
+AllGood [] = Unit {0}
+AllGood (Byte b ∷ items) = AllGood items
+AllGood (The k v ∷ items) = Good k v × AllGood items
+AllGood (Unless n k v ∷ items) = Good k v × AllGood items
+AllGood (Attribute a ∷ items) = GoodAttribute a × AllGood items

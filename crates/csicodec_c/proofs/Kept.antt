@@ -37,8 +37,8 @@ use Rattle.csicodec_actions.specs.declared.actions.mouse.MouseReport.{MouseRepor
 use Rattle.csicodec_actions.specs.declared.actions.mouse.MouseReport.TheVariants as mouse
 use Rattle.csicodec_actions.specs.Devices.{Device}
 use Rattle.csicodec_actions.specs.Devices as device
-use Rattle.csicodec_actions.specs.Good.{AllGood, GoodAttribute, GoodDec, GoodTerminal, IsOneBased}
-use Rattle.csicodec_actions.specs.Kinds.{Count, Kind, Last}
+use Rattle.csicodec_actions.specs.Written.{AllGood, GoodAttribute, Attribute, listed}
+use Rattle.csicodec_actions.specs.Kinds.{GoodDec, GoodTerminal, IsOneBased, Count, Kind, Last}
 use Rattle.csicodec_actions.specs.Modes.{dec_number, terminal_number}
 use Rattle.csicodec_actions.specs.Mouse.{is_release}
 use Rattle.csicodec_actions.specs.Ranges as actions_ranges
@@ -49,7 +49,6 @@ use Rattle.csicodec_actions.specs.Table.Keyboard.{written_keyboard}
 use Rattle.csicodec_actions.specs.Table.Mode.{written_mode}
 use Rattle.csicodec_actions.specs.Table.Mouse.{written_mouse, written_report}
 use Rattle.csicodec_actions.specs.Table.Window.{written_window}
-use Rattle.csicodec_actions.specs.Written.{Attribute, listed}
 use Rattle.csicodec_parser.specs.Canonical.{Canonical, IsCanonicalSgr}
 use Rattle.csicodec_parser.specs.Segments.{Actions}
 use Rattle.csicodec.proofs.Kept.{Kept}

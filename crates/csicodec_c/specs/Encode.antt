@@ -2,7 +2,7 @@
 use Rattle.std.specs.Prelude.{ℕ, ◌≡◌, ◌⊎◌, ◌↔◌, ◌<◌, false, List, [], ◌∷◌, Some, drop, take, length}
 use Rattle.std.specs.List.{slice_get}
 use Rattle.csicodec_actions.specs.Actions.{Action}
-use Rattle.csicodec_actions.specs.Texts.{texts}
+use Rattle.csicodec_actions.specs.Table.{texts}
 use Rattle.csicodec_parser.specs.Canonical.{Canonical}
 use Rattle.csicodec_c.specs.declared.canonical.Judged.{Judged}
 use Rattle.csicodec_c.specs.declared.encode.Encoded.{Encoded}

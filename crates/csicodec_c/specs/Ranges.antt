@@ -28,7 +28,7 @@ use Rattle.csicodec_actions.specs.Devices.{Device}
 use Rattle.csicodec_actions.specs.Devices as device
 use Rattle.csicodec_actions.specs.Actions.{Action}
 use Rattle.csicodec_actions.specs.Actions as action
-use Rattle.csicodec_actions.specs.Good.{IsOneBased}
+use Rattle.csicodec_actions.specs.Kinds.{IsOneBased}
 use Rattle.csicodec_actions.specs.Modes.{dec_number, terminal_number}
 use Rattle.csicodec_actions.specs.Ranges as typed
 

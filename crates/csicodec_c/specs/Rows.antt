@@ -22,7 +22,7 @@ use Rattle.csicodec_actions.specs.Devices as device
 use Rattle.csicodec_actions.specs.Actions.{Action}
 use Rattle.csicodec_actions.specs.Actions as action
 use Rattle.csicodec_actions.specs.Graphics.{item_number}
-use Rattle.csicodec_actions.specs.KeyNumbers.{kitty_mode_number, path_number}
+use Rattle.csicodec_actions.specs.Kinds.{kitty_mode_number, path_number}
 use Rattle.csicodec_actions.specs.Modes.{dec_number, resource_number, terminal_number}
 use Rattle.csicodec_c.specs.declared.plain.Param.{Param}
 use Rattle.csicodec_c.specs.declared.plain.Plain.{Plain}

@@ -1,7 +1,7 @@
 //! Plain structs as actions, and their texts.
 ghost use Rattle.std.specs.Prelude.{◌≡◌, ◌⊎◌, ◌↔◌, ◌<◌, List, [], drop, take, map, length, true, IfOk, IfErr, IfSome, MatchOption};
 ghost use Rattle.csicodec_actions.specs.Actions.{Action};
-ghost use Rattle.csicodec_actions.specs.Texts.{texts};
+ghost use Rattle.csicodec_actions.specs.Table.{texts};
 ghost use Rattle.csicodec_parser.specs.ActionOf.{action_of};
 ghost use Rattle.csicodec_c.specs.Encode.{AllStand, HasNone, IsDone, IsRefused, Stands, StandsForNone, refused};
 ghost use Rattle.std.specs.Option.{option_map};

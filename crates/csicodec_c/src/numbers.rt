@@ -3,7 +3,7 @@ ghost use Rattle.std.specs.Prelude.{◌≡◌, ◌↔◌, ◌==◌, ◌||◌, If
 ghost use Rattle.std.specs.Int.{FitsUnsignedBits};
 ghost use Rattle.csicodec_names.specs.FlagBits.{kitty_bits};
 ghost use Rattle.csicodec_actions.specs.Devices.{attribute_token};
-ghost use Rattle.csicodec_actions.specs.Good.{IsOneBased};
+ghost use Rattle.csicodec_actions.specs.Kinds.{IsOneBased};
 ghost use Rattle.csicodec_actions.specs.Graphics.{item_number};
 ghost use Rattle.csicodec_actions.specs.Modes.{dec_number, terminal_number};
 ghost use Rattle.csicodec_actions.specs.declared.actions.mouse.MouseButton.{MouseButton};

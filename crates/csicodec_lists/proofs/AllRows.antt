@@ -21,7 +21,7 @@ use Rattle.csicodec_actions.specs.Table.Mode.{as_mode}
 use Rattle.csicodec_actions.specs.Table.Mouse.{as_mouse}
 use Rattle.csicodec_actions.specs.Table.Path.{as_path}
 use Rattle.csicodec_actions.specs.Table.Window.{window_fields, as_window}
-use Rattle.csicodec_actions.specs.Whole.{table, field_table, plain, boxed, whole}
+use Rattle.csicodec_actions.specs.Table.{table, field_table, plain, boxed, whole}
 use Rattle.csicodec_actions.proofs.AllFieldRows.{FieldRowsKeep, fields-append, fields-keep, option_or-assoc}
 use Rattle.csicodec_actions.proofs.Found.{guarded, one-of}
 

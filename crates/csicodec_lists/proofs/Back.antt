@@ -35,7 +35,7 @@ use Rattle.csicodec_actions.specs.Actions.{Action, Cursor, Edit, Mode, Mouse, De
 use Rattle.csicodec_actions.specs.Devices as devices
 use Rattle.csicodec_actions.specs.Devices.{attribute_at, attribute_token, listed_attributes}
 use Rattle.csicodec_actions.specs.FieldRows.{numbers, read_fields}
-use Rattle.csicodec_actions.specs.Good.{AllGood, GoodAttribute}
+use Rattle.csicodec_actions.specs.Written.{AllGood, GoodAttribute, Item, Byte, The, Unless, Attribute, Written, any_number, listed, tokens, two}
 use Rattle.csicodec_actions.specs.Kinds.{Kind, Any, Clear, Control, Count, GraphicsItem, InDisplay, InLine, Last, Path, Pressed, Released, Value, number, read}
 use Rattle.csicodec_actions.specs.Mouse.{is_release}
 use Rattle.csicodec_actions.specs.Rows.{Number, mark, open_row, read_by, rows_before}
@@ -49,9 +49,7 @@ use Rattle.csicodec_actions.specs.Table.Mode.{written_mode}
 use Rattle.csicodec_actions.specs.Table.Mouse.{report, written_mouse}
 use Rattle.csicodec_actions.specs.Table.Path.{written_path}
 use Rattle.csicodec_actions.specs.Table.Window.{written_window}
-use Rattle.csicodec_actions.specs.Texts.{written}
-use Rattle.csicodec_actions.specs.Whole.{table, field_table}
-use Rattle.csicodec_actions.specs.Written.{Item, Byte, The, Unless, Attribute, Written, any_number, listed, tokens, two}
+use Rattle.csicodec_actions.specs.Table.{written, table, field_table}
 use Rattle.csicodec_actions.proofs.Values.{read-good, read_any}
 use Rattle.csicodec_lists.proofs.Disjoint.{row-whole, rows_lem}
 use Rattle.csicodec_lists.proofs.FieldsApart.{field-whole}

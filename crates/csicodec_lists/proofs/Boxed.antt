@@ -8,7 +8,7 @@ use Rattle.csicodec_actions.specs.FieldRows.{read_fields}
 use Rattle.csicodec_actions.specs.Rows.{read_by}
 use Rattle.csicodec_actions.specs.Table.Graphics.{graphics_fields, as_graphics}
 use Rattle.csicodec_actions.specs.Table.Window.{window_fields, as_window}
-use Rattle.csicodec_actions.specs.Whole.{field_table, plain, boxed, whole}
+use Rattle.csicodec_actions.specs.Table.{field_table, plain, boxed, whole}
 use Rattle.csicodec_actions.proofs.AllFieldRows.{FieldRowsKeep, fields-append, fields-keep}
 use Rattle.csicodec_actions.proofs.Found.{one-of}
 use Rattle.csicodec_lists.proofs.AllRows.{TableKeeps, table-keeps, no-tokens}

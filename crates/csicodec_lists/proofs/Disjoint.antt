@@ -8,7 +8,7 @@ use Rattle.csicodec_tokens.specs.declared.param.CsiParam.TheVariants.{Integer, P
 use Rattle.csicodec_actions.specs.Actions.{Action}
 use Rattle.csicodec_actions.specs.FieldRows.{read_fields}
 use Rattle.csicodec_actions.specs.Rows.{Slot, Byte, Number, One, Row, fits, has_shape, gives, given, Before, rows_before, read_by}
-use Rattle.csicodec_actions.specs.Whole.{table, field_table, whole, RowsDecide}
+use Rattle.csicodec_actions.specs.Table.{table, field_table, whole, RowsDecide}
 use Rattle.csicodec_lists.proofs.AllRows.{whole-table}
 use Rattle.std.proofs.lemmas.Option.{same_Some, slice_get_read}
 use Rattle.csicodec_actions.proofs.Found.{guarded}

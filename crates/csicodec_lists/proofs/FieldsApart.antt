@@ -14,7 +14,7 @@ use Rattle.csicodec_actions.specs.FieldRows.{Slot, This, Empty, End, Maybe, Ther
 use Rattle.csicodec_actions.specs.Rows.{Row, Byte, open_row, rows_before, read_by}
 use Rattle.csicodec_actions.specs.Table.Graphics.{graphics_rows}
 use Rattle.csicodec_actions.specs.Table.Window.{areas, windows}
-use Rattle.csicodec_actions.specs.Whole.{table, field_table, whole, FieldRowsDecide}
+use Rattle.csicodec_actions.specs.Table.{table, field_table, whole, FieldRowsDecide}
 use Rattle.csicodec_actions.proofs.AllFieldRows.{AllFieldRows, over-in}
 use Rattle.csicodec_lists.proofs.AllRows.{whole-table}
 use Rattle.csicodec_lists.proofs.Disjoint.{apart-given, has}

@@ -9,15 +9,14 @@ use Rattle.csicodec_tokens.specs.declared.param.CsiParam.TheVariants.{Integer, P
 use Rattle.csicodec_tokens.specs.Param.{spells, token_text}
 use Rattle.csicodec_tokens.specs.Sequence.{IsFinal, IsSpellable, Apart, Spellable}
 use Rattle.csicodec_actions.specs.Actions.{Action}
-use Rattle.csicodec_actions.specs.Kinds.{Kind, Value, number}
+use Rattle.csicodec_actions.specs.Kinds.{Kind, Value, number, Good, IsSaid}
 use Rattle.csicodec_names.specs.Numbered.{is_number}
 use Rattle.csicodec_actions.specs.declared.actions.device.DeviceAttribute.{DeviceAttribute}
 use Rattle.csicodec_actions.specs.declared.actions.device.DeviceAttribute.TheVariants as attribute
 use Rattle.csicodec_actions.specs.Devices.{attribute_token}
-use Rattle.csicodec_actions.specs.Written.{Item, Byte, The, Unless, Attribute, Written, tokens, shown, written_text}
-use Rattle.csicodec_actions.specs.Good.{Good, GoodAttribute, AllGood, IsSaid}
+use Rattle.csicodec_actions.specs.Written.{Item, Byte, The, Unless, Attribute, Written, tokens, shown, written_text, GoodAttribute, AllGood}
 use Rattle.csicodec_actions.proofs.Values.{number-said, attribute-said}
-use Rattle.csicodec_actions.specs.Whole.{whole}
+use Rattle.csicodec_actions.specs.Table.{whole}
 
 -- ---- a test that is computed for each action: its bytes can stand in a sequence, no two numbers side by side, and its final can end one
 

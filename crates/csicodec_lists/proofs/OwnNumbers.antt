@@ -5,7 +5,7 @@ use Rattle.std.specs.Option.{is_some}
 use Rattle.std.proofs.lemmas.Int.{to_z-of_z}
 use mir.Syntax.{w64}
 use mir.Val.{SFits, of_z, to_z}
-use Rattle.csicodec_actions.specs.Good.{IsOwn}
+use Rattle.csicodec_actions.specs.Kinds.{IsOwn}
 
 pub unnamed-told : {C : Type 0} (number : C → ℕ) (z : ℤ) → SFits w64 z → (o : Option C) → ((x : C) → (o ≡ Some x) ↔ (to_z w64 (of_z w64 z) ≡ pos (number x))) → (b : Bool) → is_some o ≡ not b
     → IsTrue b ↔ ((x : C) → z ≡ pos (number x) → ⊥)

@@ -1,8 +1,7 @@
 //! What several subjects ask of a value: whether it is read back from its own text.
 ghost use Rattle.std.specs.Prelude.{◌↔◌, IsTrue};
 ghost use Rattle.csicodec_tokens.specs.Sequence.{IsSpellable};
-ghost use Rattle.csicodec_actions.specs.Good.{Good};
-ghost use Rattle.csicodec_actions.specs.Kinds.{Any, Count};
+ghost use Rattle.csicodec_actions.specs.Kinds.{Good, Any, Count};
 
 use csicodec_base::{CsiParam, OneBased};
 

@@ -2,7 +2,7 @@
 ghost use Rattle.std.specs.Prelude.{◌≡◌, ◌↔◌, IsTrue};
 ghost use Rattle.std.specs.Option.{option_map};
 ghost use Rattle.csicodec_actions.specs.Actions.{Cursor as Moves};
-ghost use Rattle.csicodec_actions.specs.Good.{AllGood};
+ghost use Rattle.csicodec_actions.specs.Written.{AllGood};
 ghost use Rattle.csicodec_actions.specs.Special.{IsSpecial};
 ghost use Rattle.csicodec_actions.specs.Table.Cursor.{as_cursor, written_cursor};
 

@@ -3,13 +3,12 @@ ghost use Rattle.std.specs.Prelude.{◌≡◌, ◌↔◌, IfOk, IsSome, IsTrue, 
 ghost use Rattle.std.specs.Option.{option_map};
 ghost use Rattle.csicodec_actions.specs.Actions.{Device as Devices};
 ghost use Rattle.csicodec_actions.specs.Devices.{attributes_of, device_of, listed_attributes};
-ghost use Rattle.csicodec_actions.specs.Good.{AllGood, Good, GoodAttribute, IsUnnamed};
-ghost use Rattle.csicodec_actions.specs.Kinds.{GraphicsItem};
+ghost use Rattle.csicodec_actions.specs.Written.{AllGood, GoodAttribute, IsUnnamed, Attribute, any_number, listed};
+ghost use Rattle.csicodec_actions.specs.Kinds.{Good, GraphicsItem};
 ghost use Rattle.csicodec_actions.specs.Rows.{given};
 ghost use Rattle.csicodec_actions.specs.Special.{IsNeverRead};
 ghost use Rattle.csicodec_actions.specs.Table.Device.{as_device, classes, requests, terminals, written_attributes, written_device};
 ghost use Rattle.csicodec_actions.specs.Table.Graphics.{written_graphics};
-ghost use Rattle.csicodec_actions.specs.Written.{Attribute, any_number, listed};
 
 use crate::canonical::{is_said, is_spellable_token};
 use csicodec_actions::{

@@ -2,7 +2,7 @@
 ghost use Rattle.std.specs.Prelude.{◌≡◌, ◌↔◌, IsTrue};
 ghost use Rattle.std.specs.Option.{option_map};
 ghost use Rattle.csicodec_actions.specs.Actions.{Edit as Edits};
-ghost use Rattle.csicodec_actions.specs.Good.{AllGood};
+ghost use Rattle.csicodec_actions.specs.Written.{AllGood};
 ghost use Rattle.csicodec_actions.specs.Table.Edit.{as_edit, written_edit};
 
 use crate::canonical::is_count;

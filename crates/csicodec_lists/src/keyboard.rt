@@ -3,8 +3,8 @@ ghost use Rattle.std.specs.Prelude.{◌≡◌, ◌↔◌, IsTrue};
 ghost use Rattle.std.specs.Int.RustNames.{bit_and};
 ghost use Rattle.std.specs.Option.{option_map};
 ghost use Rattle.csicodec_actions.specs.Actions.{Keyboard as Keys};
-ghost use Rattle.csicodec_actions.specs.Good.{AllGood, Good};
-ghost use Rattle.csicodec_actions.specs.Kinds.{Flags as FlagsKind, Pops, read};
+ghost use Rattle.csicodec_actions.specs.Written.{AllGood};
+ghost use Rattle.csicodec_actions.specs.Kinds.{Good, Flags as FlagsKind, Pops, read};
 ghost use Rattle.csicodec_actions.specs.Table.Keyboard.{as_keyboard, written_keyboard};
 
 use bitflags::Flags;

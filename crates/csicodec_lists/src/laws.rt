@@ -1,5 +1,5 @@
 //! Laws of the table. Each is the contract of a function that does nothing.
-ghost use Rattle.csicodec_actions.specs.Whole.{FieldRowsDecide, RowsDecide};
+ghost use Rattle.csicodec_actions.specs.Table.{FieldRowsDecide, RowsDecide};
 
 use csicodec_base::CsiParam;
 

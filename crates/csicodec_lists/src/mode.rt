@@ -2,8 +2,8 @@
 ghost use Rattle.std.specs.Prelude.{◌≡◌, ◌↔◌, IsTrue};
 ghost use Rattle.std.specs.Option.{option_map};
 ghost use Rattle.csicodec_actions.specs.Actions.{Mode as Modes};
-ghost use Rattle.csicodec_actions.specs.Good.{AllGood, Good};
-ghost use Rattle.csicodec_actions.specs.Kinds.{Dec, Terminal};
+ghost use Rattle.csicodec_actions.specs.Written.{AllGood};
+ghost use Rattle.csicodec_actions.specs.Kinds.{Good, Dec, Terminal};
 ghost use Rattle.csicodec_actions.specs.Table.Mode.{as_mode, written_mode};
 
 use crate::canonical::is_said;

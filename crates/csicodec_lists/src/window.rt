@@ -3,7 +3,7 @@ ghost use Rattle.std.specs.Prelude.{◌≡◌, ◌↔◌, IfOk, IsTrue, OnErr};
 ghost use Rattle.std.specs.Option.{option_map};
 ghost use Rattle.csicodec_actions.specs.Actions.{Window as Windows};
 ghost use Rattle.csicodec_actions.specs.FieldRows.{IsReadByFields, given};
-ghost use Rattle.csicodec_actions.specs.Good.{AllGood};
+ghost use Rattle.csicodec_actions.specs.Written.{AllGood};
 ghost use Rattle.csicodec_actions.specs.Table.Window.{alone_rows, areas, as_window, maybe, two_rows, which_rows, windows, written_window};
 
 use crate::canonical::{is_one_based, is_said};

@@ -17,7 +17,7 @@ use Rattle.csicodec_parser.specs.declared.parser.Stage.TheVariants.{Fresh, Going
 use Rattle.csicodec_parser.specs.Groups.{group, marked, start, has_odd}
 use Rattle.csicodec_parser.specs.Cut.{body}
 use Rattle.csicodec_parser.specs.Segments.{empty_action}
-use Rattle.csicodec_actions.specs.Whole.{plain, whole}
+use Rattle.csicodec_actions.specs.Table.{plain, whole}
 use Rattle.csicodec_parser.specs.Private.Steps.{front, block, block_of, is_semicolon, with_semicolon, segments, segments_at, rest_action, actions_after, body_actions, actions_in, left_at, from_at, GoesBy, CanGo, CutsOn}
 use Rattle.csicodec_parser.proofs.Fronts.{front_empty, front_fits}
 use Rattle.csicodec_parser.proofs.GroupOf.{marked-body}

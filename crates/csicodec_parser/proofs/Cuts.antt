@@ -12,7 +12,7 @@ use Rattle.csicodec_actions.specs.Actions.{Action, Unspecified}
 use Rattle.csicodec_parser.specs.Groups.{group, start, has_odd, Piece}
 use Rattle.csicodec_parser.specs.Cut.{semicolon, NoSemicolon, IsBlock, body, Cut, IsStuck, IsRestAfter}
 use Rattle.csicodec_parser.specs.Segments.{remainder, Segmented, BodyActions, CutActions, WholeActions, ActionsIn, Actions}
-use Rattle.csicodec_actions.specs.Whole.{whole}
+use Rattle.csicodec_actions.specs.Table.{whole}
 use Rattle.csicodec_parser.specs.Private.Steps.{front, block, block_of, is_semicolon, with_semicolon, rest_action, actions_after, body_actions, cut_actions, actions_in, actions, CutsOn}
 use Rattle.csicodec_parser.proofs.Fronts.{piece_front, front_piece, stuck_front, front_stuck, front_fits, front_empty}
 use Rattle.csicodec_parser.proofs.Blocks.{segments_block, segments_unknown, semicolon_from}

@@ -3,7 +3,7 @@ use Rattle.std.proofs.Common.{◌≡◌, ℕ, Bool, List, Option, None, Some, re
 use Rattle.std.specs.Prelude.{unwrap_or}
 use Rattle.csicodec_tokens.specs.declared.param.CsiParam.{CsiParam}
 use Rattle.csicodec_actions.specs.Actions.{Action, Unspecified, TakesMemory}
-use Rattle.csicodec_actions.specs.Whole.{boxed}
+use Rattle.csicodec_actions.specs.Table.{boxed}
 use Rattle.csicodec_lists.proofs.Boxed.{boxed-takes}
 use Rattle.csicodec_parser.specs.declared.group.Group.{Group}
 use Rattle.csicodec_parser.specs.declared.group.Group.TheVariants.{Whole, Styles, Modes, DecModes}

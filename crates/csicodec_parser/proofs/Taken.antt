@@ -21,8 +21,7 @@ use Rattle.csicodec_actions.specs.Actions.{Action, Mode, Unspecified}
 use Rattle.csicodec_parser.specs.Groups.{group, marked, has_odd}
 use Rattle.csicodec_parser.specs.Cut.{body}
 use Rattle.csicodec_parser.specs.Private.Steps.{one_token, front, block_of, with_semicolon, rest_action, actions, actions_in, actions_after, body_actions}
-use Rattle.csicodec_actions.specs.Texts.{text, texts}
-use Rattle.csicodec_actions.specs.Whole.{plain}
+use Rattle.csicodec_actions.specs.Table.{text, texts, plain}
 use Rattle.csicodec_parser.proofs.Blocks.{semicolon_from, segments_block, after_unknown, first_cut, odd_unknown, body_some}
 use Rattle.csicodec_lists.proofs.Boxed.{boxed_whole}
 use Rattle.csicodec_parser.proofs.Rests.{rest_unknown}

@@ -12,7 +12,7 @@ use Rattle.csicodec_parser.specs.Cut.{body}
 use Rattle.csicodec_parser.specs.Groups.{has_odd}
 use Rattle.csicodec_parser.specs.Segments.{IsUnread}
 use Rattle.csicodec_parser.specs.Private.Steps.{found, front}
-use Rattle.csicodec_actions.specs.Whole.{plain, boxed}
+use Rattle.csicodec_actions.specs.Table.{plain, boxed}
 use Rattle.csicodec_lists.proofs.Boxed.{plain_whole, boxed_whole}
 use Rattle.csicodec_parser.proofs.Fronts.{front_stuck, stuck_front}
 

@@ -9,12 +9,11 @@ use Rattle.csicodec_parser.specs.declared.group.Group.{Group}
 use Rattle.csicodec_parser.specs.declared.group.Group.TheVariants as groups
 use Rattle.csicodec_actions.specs.Actions.{Action, Sgr, Unspecified}
 use Rattle.csicodec_parser.specs.Cut.{body, IsStuck}
-use Rattle.csicodec_actions.specs.Good.{AllGood}
+use Rattle.csicodec_actions.specs.Written.{AllGood, Written}
 use Rattle.csicodec_parser.specs.Groups.{group, has_odd}
 use Rattle.csicodec_parser.specs.Segments.{IsUnread}
 use Rattle.csicodec_actions.specs.Special.{IsNeverRead}
-use Rattle.csicodec_actions.specs.Texts.{written}
-use Rattle.csicodec_actions.specs.Written.{Written}
+use Rattle.csicodec_actions.specs.Table.{written}
 
 -- ---- attributes
 

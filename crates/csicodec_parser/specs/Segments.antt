@@ -7,7 +7,7 @@ use Rattle.csicodec_parser.specs.declared.group.Group.TheVariants as groups
 use Rattle.csicodec_actions.specs.Actions.{Action, Sgr, Unspecified}
 use Rattle.csicodec_parser.specs.Groups.{group, marked, has_odd}
 use Rattle.csicodec_parser.specs.Cut.{body, Cut, IsStuck}
-use Rattle.csicodec_actions.specs.Whole.{Whole}
+use Rattle.csicodec_actions.specs.Table.{Whole}
 
 -- what is left after the last piece is one unknown action, unless nothing is left; among private modes it keeps its `?`
 abbrev pub remainder : Group → List CsiParam → Bool → ℕ → List Action

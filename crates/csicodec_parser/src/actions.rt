@@ -7,8 +7,7 @@ ghost use Rattle.csicodec_actions.specs.Actions as action;
 ghost use Rattle.csicodec_actions.specs.Actions.{TakesMemory};
 ghost use Rattle.csicodec_actions.specs.Devices.{device_of};
 ghost use Rattle.csicodec_actions.specs.FieldRows.{IsReadByFields};
-ghost use Rattle.csicodec_actions.specs.Texts.{text};
-ghost use Rattle.csicodec_actions.specs.Whole.{boxed, plain};
+ghost use Rattle.csicodec_actions.specs.Table.{text, boxed, plain};
 ghost use Rattle.csicodec_parser.specs.ActionOf.{action_of, unspecified_of, unspecified_text};
 ghost use Rattle.csicodec_parser.specs.Canonical.{Canonical, IsUnspecified};
 
@@ -281,7 +280,7 @@ pub fn append_text(alloc: Global, out: &mut TextBuffer, action: &CSI) -> Result<
 
 /// The action of a list that is read whole, if a row reads it, and its value holds no memory.
 #[inline(always)]
-#[tactic(auto, unfolding(csicodec_actions::specs::Whole::plain))]
+#[tactic(auto, unfolding(csicodec_actions::specs::Table::plain))]
 pub(crate) fn plain_action(params: &[CsiParam], control: char) -> Option<CSI>
     ensures { option_map action_of result ≡ plain params.now control }
 {
@@ -308,7 +307,7 @@ pub(crate) fn plain_action(params: &[CsiParam], control: char) -> Option<CSI>
 /// there is one, or where the fields of the list take memory.
 #[cold]
 #[inline(never)]
-#[tactic(auto, unfolding(csicodec_actions::specs::Whole::boxed))]
+#[tactic(auto, unfolding(csicodec_actions::specs::Table::boxed))]
 pub(crate) fn boxed_action(
     alloc: Global,
     params: &[CsiParam],

@@ -5,7 +5,7 @@ ghost use Rattle.csicodec_actions.specs.Actions.{Unspecified as Unknown};
 ghost use Rattle.csicodec_parser.specs.ActionOf.{action_of};
 ghost use Rattle.csicodec_parser.specs.Groups.{group as group_of_list, has_odd, marked, start};
 ghost use Rattle.csicodec_parser.specs.Segments.{Actions};
-ghost use Rattle.csicodec_actions.specs.Whole.{plain, whole};
+ghost use Rattle.csicodec_actions.specs.Table.{plain, whole};
 ghost use Rattle.csicodec_parser.specs.Private.Steps.{with_semicolon, block, rest_action, left_at, fresh_cost, from_at, GoesBy, CanGo, CutsOn};
 ghost use Rattle.csicodec_parser.specs.Private.Steps.{BeginsAs, IsRestAlone, BodyBeginsAs, BodyIsRestAlone, LeftBeginsAs, LeftIsRestAlone, PaysRest, PaysBlock, PaysAll};
 

@@ -7,7 +7,7 @@ ghost use Rattle.csicodec_parser.specs.ActionOf.{action_of};
 ghost use Rattle.csicodec_parser.specs.Groups.{marked};
 ghost use Rattle.csicodec_parser.specs.Private.Steps.{front};
 ghost use Rattle.csicodec_parser.specs.declared.group.Group.TheVariants.{Styles};
-ghost use Rattle.csicodec_actions.specs.Texts.{text, texts};
+ghost use Rattle.csicodec_actions.specs.Table.{text, texts};
 ghost use Rattle.csicodec_parser.specs.ActionOf.{unspecified_text};
 
 use crate::actions::{CSI, Unspecified, append_text};

@@ -1,9 +1,8 @@
 //! The keyboard, and paths of characters.
 ghost use Rattle.std.specs.Prelude.{◌≤◌, ◌++◌, [], ◌∷◌, length, ◌≡◌, ◌↔◌, ◌<◌, Some, pos};
-ghost use Rattle.csicodec_actions.specs.Kinds.{Flags as FlagsKind, Path, Way, read};
+ghost use Rattle.csicodec_actions.specs.Kinds.{Flags as FlagsKind, Path, Way, read, kitty_mode_number, path_number};
 ghost use Rattle.csicodec_actions.specs.Table.Keyboard.{written_keyboard};
 ghost use Rattle.csicodec_actions.specs.Written.{Byte, The, shown, written_text};
-ghost use Rattle.csicodec_actions.specs.KeyNumbers.{kitty_mode_number, path_number};
 ghost use Rattle.csicodec_actions.specs.declared.actions.keyboard.CharacterPath.{CharacterPath};
 ghost use Rattle.csicodec_actions.specs.declared.actions.keyboard.KittyKeyboardMode.{KittyKeyboardMode};
 

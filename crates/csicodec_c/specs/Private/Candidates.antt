@@ -9,8 +9,7 @@ use Rattle.csicodec_actions.specs.Actions.{Action}
 use Rattle.csicodec_actions.specs.Actions as action
 use Rattle.csicodec_actions.specs.Devices.{Device}
 use Rattle.csicodec_actions.specs.Devices as device
-use Rattle.csicodec_actions.specs.Good.{IsOneBased}
-use Rattle.csicodec_actions.specs.Kinds.{below}
+use Rattle.csicodec_actions.specs.Kinds.{IsOneBased, below}
 use Rattle.csicodec_c.specs.declared.plain.Param.{Param}
 use Rattle.csicodec_c.specs.declared.plain.Plain.{Plain}
 use Rattle.csicodec_c.specs.Ranges.{AttributeInRange, InRange}

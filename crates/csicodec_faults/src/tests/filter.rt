@@ -1,7 +1,7 @@
 //! Streams that a filter rewrites.
 ghost use Rattle.std.specs.Prelude.{◌≡◌, ◌<◌, List};
 ghost use Rattle.csicodec.specs.Actions.{Action};
-ghost use Rattle.csicodec.specs.Texts.{texts};
+ghost use Rattle.csicodec.specs.Table.{texts};
 
 use crate::fakes::{Taking, Writer};
 use csicodec::{

@@ -18,7 +18,7 @@ use Rattle.csicodec_actions.specs.Modes.{changed, switched}
 use Rattle.csicodec_actions.specs.Kinds.{read, Dec, Terminal}
 use Rattle.csicodec_parser.specs.Progress.{Progress}
 use Rattle.csicodec_parser.specs.Segments.{empty_action}
-use Rattle.csicodec_actions.specs.Whole.{boxed, whole}
+use Rattle.csicodec_actions.specs.Table.{boxed, whole}
 
 abbrev pub styled : Option (sgr_type.Sgr × ℕ) → Option (Action × ℕ)
 styled None = None

@@ -1,5 +1,5 @@
 use Rattle.std.proofs.Common.{false, sym, ap, ◌∙◌}
-use Rattle.csicodec_actions.specs.Texts.{texts}
+use Rattle.csicodec_actions.specs.Table.{texts}
 use Rattle.csicodec.proofs.OneReading.{one_decoding}
 use Rattle.csicodec.proofs.laws.one_normal_form.Goals as goal
 

@@ -1,7 +1,7 @@
 use Rattle.std.proofs.Common.{◌≡◌, false, ℕ, List, ◌++◌, ◌+◌, length}
 use Rattle.std.specs.Io.KnownBytes.{Consumes}
 use Rattle.csicodec_actions.specs.Actions.{Action}
-use Rattle.csicodec_actions.specs.Texts.{texts}
+use Rattle.csicodec_actions.specs.Table.{texts}
 use Rattle.csicodec.specs.Private.Steps.{DecodesFront}
 use Rattle.csicodec.proofs.stream.stream_into.Given as goal
 

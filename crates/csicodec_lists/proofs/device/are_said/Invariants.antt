@@ -1,7 +1,6 @@
 use Rattle.std.specs.Prelude.{◌↔◌}
 use Rattle.std.proofs.Common.{length}
-use Rattle.csicodec_actions.specs.Good.{AllGood}
-use Rattle.csicodec_actions.specs.Written.{any_number, listed}
+use Rattle.csicodec_actions.specs.Written.{AllGood, any_number, listed}
 use Rattle.csicodec_lists.proofs.device.are_said.Given as goal
 
 -- what decides is left

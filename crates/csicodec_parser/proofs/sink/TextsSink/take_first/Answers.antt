@@ -4,7 +4,7 @@ use mir.Val.{SFits}
 use mir.Syntax.{w64}
 use Rattle.csicodec_tokens.specs.declared.param.CsiParam.TheVariants.{Integer}
 use Rattle.csicodec_actions.specs.Actions.{Sgr}
-use Rattle.csicodec_actions.specs.Texts.{text}
+use Rattle.csicodec_actions.specs.Table.{text}
 use Rattle.csicodec_parser.proofs.Fronts.{piece_of_front}
 use Rattle.csicodec_parser.specs.Private.Steps.{styled}
 use Rattle.csicodec_parser.proofs.Taken.{if_ok, texts_last, terminal_first, dec_first, first_taken}

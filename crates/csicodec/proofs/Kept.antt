@@ -14,29 +14,29 @@ use Rattle.csicodec_actions.specs.Written.{Attribute, any_number, listed, AllGoo
 use Rattle.csicodec_tokens.specs.declared.param.CsiParam.{CsiParam}
 use Rattle.csicodec_tokens.specs.OneBased.{most}
 use Rattle.csicodec_tokens.specs.Sequence.{IsSpellable, Spellable}
-use Rattle.csicodec_actions.specs.declared.actions.cursor.Cursor.TheVariants as cursor
-use Rattle.csicodec_actions.specs.declared.actions.mode.Change.{Change}
-use Rattle.csicodec_actions.specs.declared.actions.mode.Change.TheVariants as change
-use Rattle.csicodec_actions.specs.declared.actions.mode.DecPrivateMode.{DecPrivateMode}
-use Rattle.csicodec_actions.specs.declared.actions.mode.Switch.{Switch}
-use Rattle.csicodec_actions.specs.declared.actions.mode.Switch.TheVariants as switch
-use Rattle.csicodec_actions.specs.declared.actions.mode.TerminalMode.{TerminalMode}
+use Rattle.csicodec_actions.specs.declared.cursor.Cursor.TheVariants as cursor
+use Rattle.csicodec_actions.specs.declared.mode.Change.{Change}
+use Rattle.csicodec_actions.specs.declared.mode.Change.TheVariants as change
+use Rattle.csicodec_actions.specs.declared.mode.DecPrivateMode.{DecPrivateMode}
+use Rattle.csicodec_actions.specs.declared.mode.Switch.{Switch}
+use Rattle.csicodec_actions.specs.declared.mode.Switch.TheVariants as switch
+use Rattle.csicodec_actions.specs.declared.mode.TerminalMode.{TerminalMode}
 use Rattle.csicodec_actions.specs.Actions.{Action, Cursor, Device, Mode, Mouse}
-use Rattle.csicodec_actions.specs.declared.actions.mouse.MouseButton.{MouseButton}
-use Rattle.csicodec_actions.specs.declared.actions.mouse.MouseReport.TheVariants as mouse
+use Rattle.csicodec_actions.specs.declared.mouse.MouseButton.{MouseButton}
+use Rattle.csicodec_actions.specs.declared.mouse.MouseReport.TheVariants as mouse
 use Rattle.csicodec_names.specs.declared.flags.Modifiers.{Modifiers}
 use Rattle.csicodec_actions.specs.Mouse.{pressed, released, is_release}
 use Rattle.csicodec_actions.specs.Kinds.{IsReport, Good, IsOneBased, Any, Dec, GraphicsItem, Terminal, read}
 use Rattle.csicodec_actions.proofs.MouseCodes.{release-pressed, none-released}
 use Rattle.csicodec_parser.specs.Canonical.{Canonical}
-use Rattle.csicodec_actions.specs.declared.actions.graphics.XtSmGraphicsItem.{XtSmGraphicsItem}
+use Rattle.csicodec_actions.specs.declared.graphics.XtSmGraphicsItem.{XtSmGraphicsItem}
 use Rattle.csicodec_actions.specs.Modes.{changed, switched}
 use Rattle.csicodec_actions.specs.Ranges.{InRange}
 use Rattle.csicodec_actions.specs.FieldRows.{FieldRow, Over}
 use Rattle.csicodec_actions.specs.Table.Graphics.{graphics_fields}
 use Rattle.csicodec_actions.specs.Table.Window.{window_fields}
 use Rattle.csicodec_actions.specs.Table.{table, field_table, whole}
-use Rattle.csicodec_actions.specs.declared.actions.device.DeviceAttribute.{DeviceAttribute}
+use Rattle.csicodec_actions.specs.declared.device.DeviceAttribute.{DeviceAttribute}
 use Rattle.csicodec_actions.proofs.AllFieldRows.{FieldsKeep, FieldRowsKeep, KeepsRest}
 use Rattle.csicodec_lists.proofs.AllRows.{KeepsTail, TableKeeps, all-append, table-append, spellable-tokens, whole-keeps}
 use Rattle.csicodec.proofs.Twins.{IsParsedSpecial}

@@ -1,14 +1,14 @@
 -- What a mode is written as is read as it: as a piece, or as a whole list.
 use Rattle.std.proofs.Common.{ℕ, ◌≡◌, List, [], ◌∷◌, Bool, true, refl, ap, pos}
 use Rattle.csicodec_tokens.specs.declared.param.CsiParam.TheVariants.{Integer, P}
-use Rattle.csicodec_actions.specs.declared.actions.mode.Change.{Change}
-use Rattle.csicodec_actions.specs.declared.actions.mode.Change.TheVariants as change
-use Rattle.csicodec_actions.specs.declared.actions.mode.DecPrivateMode.{DecPrivateMode}
-use Rattle.csicodec_actions.specs.declared.actions.mode.Mode as mode_type
-use Rattle.csicodec_actions.specs.declared.actions.mode.Mode.TheVariants as mode
-use Rattle.csicodec_actions.specs.declared.actions.mode.Switch.{Switch}
-use Rattle.csicodec_actions.specs.declared.actions.mode.Switch.TheVariants as switch
-use Rattle.csicodec_actions.specs.declared.actions.mode.TerminalMode.{TerminalMode}
+use Rattle.csicodec_actions.specs.declared.mode.Change.{Change}
+use Rattle.csicodec_actions.specs.declared.mode.Change.TheVariants as change
+use Rattle.csicodec_actions.specs.declared.mode.DecPrivateMode.{DecPrivateMode}
+use Rattle.csicodec_actions.specs.declared.mode.Mode as mode_type
+use Rattle.csicodec_actions.specs.declared.mode.Mode.TheVariants as mode
+use Rattle.csicodec_actions.specs.declared.mode.Switch.{Switch}
+use Rattle.csicodec_actions.specs.declared.mode.Switch.TheVariants as switch
+use Rattle.csicodec_actions.specs.declared.mode.TerminalMode.{TerminalMode}
 use Rattle.csicodec_parser.specs.declared.group.Group.TheVariants as groups
 use Rattle.csicodec_actions.specs.Actions.{Mode}
 use Rattle.csicodec_parser.specs.Groups.{group, Piece}

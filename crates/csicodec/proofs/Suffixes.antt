@@ -3,12 +3,12 @@ use Rattle.std.proofs.Common.{◌≡◌, ℕ, ◌<◌, Bool, true, false, List, 
 use Rattle.std.proofs.lemmas.Bool.{cases_Bool}
 use Rattle.std.proofs.lemmas.List.{take-append-drop}
 use Rattle.csicodec_tokens.specs.declared.param.CsiParam.{CsiParam}
-use Rattle.csicodec_actions.specs.declared.actions.mode.Change.{Change}
-use Rattle.csicodec_actions.specs.declared.actions.mode.Change.TheVariants as changes
-use Rattle.csicodec_actions.specs.declared.actions.mode.DecPrivateMode.{DecPrivateMode}
-use Rattle.csicodec_actions.specs.declared.actions.mode.Switch.{Switch}
-use Rattle.csicodec_actions.specs.declared.actions.mode.Switch.TheVariants as switches
-use Rattle.csicodec_actions.specs.declared.actions.mode.TerminalMode.{TerminalMode}
+use Rattle.csicodec_actions.specs.declared.mode.Change.{Change}
+use Rattle.csicodec_actions.specs.declared.mode.Change.TheVariants as changes
+use Rattle.csicodec_actions.specs.declared.mode.DecPrivateMode.{DecPrivateMode}
+use Rattle.csicodec_actions.specs.declared.mode.Switch.{Switch}
+use Rattle.csicodec_actions.specs.declared.mode.Switch.TheVariants as switches
+use Rattle.csicodec_actions.specs.declared.mode.TerminalMode.{TerminalMode}
 use Rattle.csicodec_parser.specs.declared.group.Group.{Group}
 use Rattle.csicodec_parser.specs.declared.group.Group.TheVariants as groups
 use Rattle.csicodec_actions.specs.Actions.{Action, Mode, Unspecified}

@@ -5,7 +5,7 @@ use Rattle.std.proofs.lemmas.Str.{encode_ascii}
 use Rattle.csicodec_tokens.specs.declared.param.CsiParam.{CsiParam}
 use Rattle.csicodec_tokens.specs.OneBased.{most}
 use Rattle.csicodec_base.specs.declared.sgr.Sgr as sgr_type
-use Rattle.csicodec_actions.specs.declared.actions.cursor.Cursor.TheVariants as cursor
+use Rattle.csicodec_actions.specs.declared.cursor.Cursor.TheVariants as cursor
 use Rattle.csicodec_actions.specs.Actions.{Action, Sgr, Cursor, Device, Unspecified}
 use Rattle.csicodec_parser.specs.Canonical.{Canonical}
 use Rattle.csicodec_actions.specs.Devices.{RequestTerminalParameters}

@@ -5,7 +5,7 @@ use Rattle.std.specs.Fmt.{digits, signed_decimal}
 use Rattle.csicodec_tokens.specs.Param.{token_text}
 use Rattle.csicodec_tokens.specs.declared.param.CsiParam.{CsiParam}
 use Rattle.csicodec_tokens.specs.declared.param.CsiParam.TheVariants.{Integer}
-use Rattle.csicodec_actions.specs.declared.actions.device.DeviceAttribute.{DeviceAttribute}
+use Rattle.csicodec_actions.specs.declared.device.DeviceAttribute.{DeviceAttribute}
 use Rattle.csicodec_actions.specs.Devices as devices
 use Rattle.csicodec_actions.specs.Devices.{attribute_token}
 use Rattle.csicodec_actions.specs.Private.DeviceTexts.{attributes_behind, device_behind, device_front, listed_text, terminal_front}

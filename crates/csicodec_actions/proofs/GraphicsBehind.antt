@@ -8,7 +8,7 @@ use Rattle.csicodec_tokens.specs.declared.refusal.ParseRefusal.{ParseRefusal}
 use Rattle.csicodec_tokens.specs.declared.refusal.ParseRefusal.TheVariants.{NotSpelled, Memory}
 use Rattle.csicodec_tokens.specs.Fields.{Fields, RefusesFields}
 use Rattle.csicodec_tokens.proofs.FieldsOf.{fields-computed}
-use Rattle.csicodec_actions.specs.declared.actions.graphics.XtSmGraphics.{XtSmGraphics}
+use Rattle.csicodec_actions.specs.declared.graphics.XtSmGraphics.{XtSmGraphics}
 use Rattle.csicodec_actions.specs.Actions.{Device}
 use Rattle.csicodec_actions.specs.Devices.{graphics_of}
 use Rattle.csicodec_actions.specs.FieldRows.{given}

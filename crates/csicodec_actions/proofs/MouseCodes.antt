@@ -6,8 +6,8 @@ use Rattle.std.proofs.lemmas.Bool.{cases_Bool, and_parts, eqb-true, eq-eqb}
 use Rattle.std.proofs.lemmas.Nat.{and_le_r, and_assoc, and_shr}
 use Rattle.std.proofs.lemmas.Option.{same_Some}
 use Rattle.csicodec_names.specs.declared.flags.Modifiers.{Modifiers}
-use Rattle.csicodec_actions.specs.declared.actions.mouse.MouseButton.{MouseButton}
-use Rattle.csicodec_actions.specs.declared.actions.mouse.MouseButton.TheVariants as button
+use Rattle.csicodec_actions.specs.declared.mouse.MouseButton.{MouseButton}
+use Rattle.csicodec_actions.specs.declared.mouse.MouseButton.TheVariants as button
 use Rattle.csicodec_actions.specs.Kinds.{AreHeld, IsReport}
 use Rattle.csicodec_actions.specs.Mouse.{button_code, button_bits, pressed, released, reported, report_code, is_release}
 use Rattle.csicodec_names.specs.Numbered.{is_number, with_number}

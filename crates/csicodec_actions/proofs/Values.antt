@@ -18,19 +18,19 @@ use Rattle.csicodec_names.specs.EnumNumbers.{cursor_style_number, erase_in_displ
 use Rattle.csicodec_names.specs.ModeNumbers.{dec_mode_number, terminal_mode_number}
 use Rattle.csicodec_tokens.specs.OneBased.{most, number_or}
 use Rattle.csicodec_tokens.specs.Sequence.{IsSpellable}
-use Rattle.csicodec_actions.specs.declared.actions.mode.DecPrivateMode.{DecPrivateMode}
-use Rattle.csicodec_actions.specs.declared.actions.mode.DecPrivateMode.TheVariants as dec
-use Rattle.csicodec_actions.specs.declared.actions.mode.TerminalMode.{TerminalMode}
-use Rattle.csicodec_actions.specs.declared.actions.mode.TerminalMode.TheVariants as terminal
-use Rattle.csicodec_actions.specs.declared.actions.mode.XtermKeyModifierResource.TheVariants as resource
+use Rattle.csicodec_actions.specs.declared.mode.DecPrivateMode.{DecPrivateMode}
+use Rattle.csicodec_actions.specs.declared.mode.DecPrivateMode.TheVariants as dec
+use Rattle.csicodec_actions.specs.declared.mode.TerminalMode.{TerminalMode}
+use Rattle.csicodec_actions.specs.declared.mode.TerminalMode.TheVariants as terminal
+use Rattle.csicodec_actions.specs.declared.mode.XtermKeyModifierResource.TheVariants as resource
 use Rattle.csicodec_actions.specs.Kinds.{Kind, Count, Last, Any, Style, Control, Clear, InDisplay, InLine, Dec, Terminal, Resource, Flags, Way, Path, Pops, Word, Pressed, Released, GraphicsItem, Value, read, number, below, short, code_or, IsOneBased, IsSaid, IsOwn, GoodDec, GoodItem, GoodTerminal, Good, kitty_mode_number, kitty_modes, path_number, paths}
 use Rattle.csicodec_names.specs.Numbered.{is_number, with_number}
-use Rattle.csicodec_actions.specs.declared.actions.keyboard.CharacterPath.TheVariants as path
-use Rattle.csicodec_actions.specs.declared.actions.keyboard.KittyKeyboardMode.TheVariants as way
+use Rattle.csicodec_actions.specs.declared.keyboard.CharacterPath.TheVariants as path
+use Rattle.csicodec_actions.specs.declared.keyboard.KittyKeyboardMode.TheVariants as way
 use Rattle.csicodec_names.specs.declared.flags.KittyKeyboardFlags.{KittyKeyboardFlags}
 use Rattle.csicodec_names.specs.FlagBits.{kitty_bits}
-use Rattle.csicodec_actions.specs.declared.actions.graphics.XtSmGraphicsItem.{XtSmGraphicsItem}
-use Rattle.csicodec_actions.specs.declared.actions.graphics.XtSmGraphicsItem.TheVariants as item
+use Rattle.csicodec_actions.specs.declared.graphics.XtSmGraphicsItem.{XtSmGraphicsItem}
+use Rattle.csicodec_actions.specs.declared.graphics.XtSmGraphicsItem.TheVariants as item
 use Rattle.csicodec_actions.specs.Graphics.{item_number, item_of}
 use Rattle.csicodec_names.proofs.Coded.{is_number-pos, listed-number, none-found, Coded, found-of, small, attributes, styles, controls, clears, lines, displays, decs, terminals}
 use Rattle.csicodec_actions.proofs.Found.{map-some}

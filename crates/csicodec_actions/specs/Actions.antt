@@ -2,13 +2,13 @@
 use Rattle.std.specs.Prelude.{ℕ, ℤ, List, Bool, true, false, IsTrue}
 use Rattle.csicodec_tokens.specs.declared.param.CsiParam.{CsiParam}
 use Rattle.csicodec_base.specs.declared.sgr.Sgr as sgr_type
-use Rattle.csicodec_actions.specs.declared.actions.cursor.Cursor as cursor_type
-use Rattle.csicodec_actions.specs.declared.actions.edit.Edit as edit_type
-use Rattle.csicodec_actions.specs.declared.actions.keyboard.CharacterPath.{CharacterPath}
-use Rattle.csicodec_actions.specs.declared.actions.keyboard.Keyboard as keyboard_type
-use Rattle.csicodec_actions.specs.declared.actions.mode.Mode as mode_type
-use Rattle.csicodec_actions.specs.declared.actions.mouse.MouseReport as mouse_type
-use Rattle.csicodec_actions.specs.declared.actions.window.Window as window_type
+use Rattle.csicodec_actions.specs.declared.cursor.Cursor as cursor_type
+use Rattle.csicodec_actions.specs.declared.edit.Edit as edit_type
+use Rattle.csicodec_actions.specs.declared.keyboard.CharacterPath.{CharacterPath}
+use Rattle.csicodec_actions.specs.declared.keyboard.Keyboard as keyboard_type
+use Rattle.csicodec_actions.specs.declared.mode.Mode as mode_type
+use Rattle.csicodec_actions.specs.declared.mouse.MouseReport as mouse_type
+use Rattle.csicodec_actions.specs.declared.window.Window as window_type
 use Rattle.csicodec_actions.specs.Devices as device_type
 
 -- one constructor for each variant of `CSI`, with lists in place of vectors

@@ -6,14 +6,14 @@ use Rattle.csicodec_names.specs.Numbered.{with_number}
 use Rattle.csicodec_names.specs.declared.device.DeviceAttributeCodes.{DeviceAttributeCodes}
 use Rattle.csicodec_tokens.specs.declared.param.CsiParam.{CsiParam}
 use Rattle.csicodec_tokens.specs.declared.param.CsiParam.TheVariants.{Integer, P}
-use Rattle.csicodec_actions.specs.declared.actions.device.Device as device_type
-use Rattle.csicodec_actions.specs.declared.actions.device.Device.TheVariants as device
-use Rattle.csicodec_actions.specs.declared.actions.device.DeviceAttribute.{DeviceAttribute}
-use Rattle.csicodec_actions.specs.declared.actions.device.DeviceAttribute.TheVariants.{Code, Unspecified}
-use Rattle.csicodec_actions.specs.declared.actions.device.DeviceAttributes as attributes_type
-use Rattle.csicodec_actions.specs.declared.actions.device.DeviceAttributes.TheVariants as attributes
-use Rattle.csicodec_actions.specs.declared.actions.graphics.XtSmGraphics as graphics_type
-use Rattle.csicodec_actions.specs.declared.actions.graphics.XtSmGraphicsItem.{XtSmGraphicsItem}
+use Rattle.csicodec_actions.specs.declared.device.Device as device_type
+use Rattle.csicodec_actions.specs.declared.device.Device.TheVariants as device
+use Rattle.csicodec_actions.specs.declared.device.DeviceAttribute.{DeviceAttribute}
+use Rattle.csicodec_actions.specs.declared.device.DeviceAttribute.TheVariants.{Code, Unspecified}
+use Rattle.csicodec_actions.specs.declared.device.DeviceAttributes as attributes_type
+use Rattle.csicodec_actions.specs.declared.device.DeviceAttributes.TheVariants as attributes
+use Rattle.csicodec_actions.specs.declared.graphics.XtSmGraphics as graphics_type
+use Rattle.csicodec_actions.specs.declared.graphics.XtSmGraphicsItem.{XtSmGraphicsItem}
 
 -- ---- one constructor for each variant, with lists in place of vectors
 

@@ -1,12 +1,12 @@
 -- The numbers of XTSMGRAPHICS (xterm's ctlseqs).
 use Rattle.std.specs.Prelude.{ℕ, ℤ, ◌≡◌, pos, if◌then◌else◌}
 use Rattle.csicodec_names.specs.Numbered.{is_number}
-use Rattle.csicodec_actions.specs.declared.actions.graphics.XtSmGraphicsAction.{XtSmGraphicsAction}
-use Rattle.csicodec_actions.specs.declared.actions.graphics.XtSmGraphicsAction.TheVariants as action
-use Rattle.csicodec_actions.specs.declared.actions.graphics.XtSmGraphicsItem.{XtSmGraphicsItem}
-use Rattle.csicodec_actions.specs.declared.actions.graphics.XtSmGraphicsItem.TheVariants as item
-use Rattle.csicodec_actions.specs.declared.actions.graphics.XtSmGraphicsStatus.{XtSmGraphicsStatus}
-use Rattle.csicodec_actions.specs.declared.actions.graphics.XtSmGraphicsStatus.TheVariants as status
+use Rattle.csicodec_actions.specs.declared.graphics.XtSmGraphicsAction.{XtSmGraphicsAction}
+use Rattle.csicodec_actions.specs.declared.graphics.XtSmGraphicsAction.TheVariants as action
+use Rattle.csicodec_actions.specs.declared.graphics.XtSmGraphicsItem.{XtSmGraphicsItem}
+use Rattle.csicodec_actions.specs.declared.graphics.XtSmGraphicsItem.TheVariants as item
+use Rattle.csicodec_actions.specs.declared.graphics.XtSmGraphicsStatus.{XtSmGraphicsStatus}
+use Rattle.csicodec_actions.specs.declared.graphics.XtSmGraphicsStatus.TheVariants as status
 
 abbrev pub item_number : XtSmGraphicsItem → ℤ
 item_number item.NumberOfColorRegisters = pos 1

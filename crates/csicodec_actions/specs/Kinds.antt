@@ -11,22 +11,22 @@ use Rattle.csicodec_names.specs.EnumNumbers.{cursor_style_number, erase_in_displ
 use Rattle.csicodec_names.specs.ModeNumbers.{dec_mode_number, terminal_mode_number, dec_codes, terminal_codes}
 use Rattle.csicodec_tokens.specs.declared.param.CsiParam.TheVariants.{Integer, P}
 use Rattle.csicodec_tokens.specs.OneBased.{most, number_or}
-use Rattle.csicodec_actions.specs.declared.actions.mode.DecPrivateMode.{DecPrivateMode}
-use Rattle.csicodec_actions.specs.declared.actions.mode.DecPrivateMode.TheVariants as dec
-use Rattle.csicodec_actions.specs.declared.actions.mode.TerminalMode.{TerminalMode}
-use Rattle.csicodec_actions.specs.declared.actions.mode.TerminalMode.TheVariants as terminal
-use Rattle.csicodec_actions.specs.declared.actions.mode.XtermKeyModifierResource.{XtermKeyModifierResource}
-use Rattle.csicodec_actions.specs.declared.actions.keyboard.CharacterPath.TheVariants as path
-use Rattle.csicodec_actions.specs.declared.actions.keyboard.KittyKeyboardMode.TheVariants as way
-use Rattle.csicodec_actions.specs.declared.actions.keyboard.CharacterPath.{CharacterPath}
-use Rattle.csicodec_actions.specs.declared.actions.keyboard.KittyKeyboardMode.{KittyKeyboardMode}
+use Rattle.csicodec_actions.specs.declared.mode.DecPrivateMode.{DecPrivateMode}
+use Rattle.csicodec_actions.specs.declared.mode.DecPrivateMode.TheVariants as dec
+use Rattle.csicodec_actions.specs.declared.mode.TerminalMode.{TerminalMode}
+use Rattle.csicodec_actions.specs.declared.mode.TerminalMode.TheVariants as terminal
+use Rattle.csicodec_actions.specs.declared.mode.XtermKeyModifierResource.{XtermKeyModifierResource}
+use Rattle.csicodec_actions.specs.declared.keyboard.CharacterPath.TheVariants as path
+use Rattle.csicodec_actions.specs.declared.keyboard.KittyKeyboardMode.TheVariants as way
+use Rattle.csicodec_actions.specs.declared.keyboard.CharacterPath.{CharacterPath}
+use Rattle.csicodec_actions.specs.declared.keyboard.KittyKeyboardMode.{KittyKeyboardMode}
 use Rattle.csicodec_names.specs.declared.flags.KittyKeyboardFlags.{KittyKeyboardFlags}
 use Rattle.csicodec_names.specs.FlagBits.{kitty_bits, modifier_bits}
-use Rattle.csicodec_actions.specs.declared.actions.graphics.XtSmGraphicsItem.{XtSmGraphicsItem}
+use Rattle.csicodec_actions.specs.declared.graphics.XtSmGraphicsItem.{XtSmGraphicsItem}
 use Rattle.csicodec_actions.specs.Graphics.{item_number, item_of, IsUnnamedItem}
 use Rattle.csicodec_actions.specs.Modes.{dec_number, terminal_number, resource_number, resources}
 use Rattle.csicodec_actions.specs.Mouse.{pressed, released, reported, report_code, button_code}
-use Rattle.csicodec_actions.specs.declared.actions.mouse.MouseButton.{MouseButton}
+use Rattle.csicodec_actions.specs.declared.mouse.MouseButton.{MouseButton}
 use Rattle.csicodec_names.specs.declared.flags.Modifiers.{Modifiers}
 use Rattle.csicodec_names.specs.Numbered.{with_number}
 use Rattle.csicodec_names.specs.DeviceNumbers.{device_attribute_number}
@@ -34,9 +34,9 @@ use Rattle.csicodec_names.specs.declared.device.DeviceAttributeCodes.{DeviceAttr
 use Rattle.csicodec_tokens.specs.Digits.{largest}
 use Rattle.csicodec_tokens.specs.Sequence.{IsSpellable}
 use Rattle.csicodec_tokens.specs.declared.param.CsiParam.{CsiParam}
-use Rattle.csicodec_actions.specs.declared.actions.device.DeviceAttribute.{DeviceAttribute}
-use Rattle.csicodec_actions.specs.declared.actions.device.DeviceAttribute.TheVariants as attribute
-use Rattle.csicodec_actions.specs.declared.actions.graphics.XtSmGraphicsItem.TheVariants as item
+use Rattle.csicodec_actions.specs.declared.device.DeviceAttribute.{DeviceAttribute}
+use Rattle.csicodec_actions.specs.declared.device.DeviceAttribute.TheVariants as attribute
+use Rattle.csicodec_actions.specs.declared.graphics.XtSmGraphicsItem.TheVariants as item
 
 -- ---- the numbers of the keyboard's ways, and of paths of characters
 

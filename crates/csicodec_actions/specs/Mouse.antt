@@ -4,8 +4,8 @@ use Rattle.std.specs.Int.RustNames.{bit_and}
 use Rattle.std.specs.Option.{option_map}
 use Rattle.csicodec_names.specs.Numbered.{with_number}
 use Rattle.csicodec_names.specs.declared.flags.Modifiers.{Modifiers}
-use Rattle.csicodec_actions.specs.declared.actions.mouse.MouseButton.{MouseButton}
-use Rattle.csicodec_actions.specs.declared.actions.mouse.MouseButton.TheVariants as button
+use Rattle.csicodec_actions.specs.declared.mouse.MouseButton.{MouseButton}
+use Rattle.csicodec_actions.specs.declared.mouse.MouseButton.TheVariants as button
 
 abbrev pub button_code : MouseButton → ℕ
 button_code button.Button1Press = 0

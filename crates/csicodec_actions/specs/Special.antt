@@ -2,8 +2,8 @@
 use Rattle.std.specs.Prelude.{◌≡◌, List}
 use Rattle.std.specs.List.{All}
 use Rattle.csicodec_tokens.specs.OneBased.{most}
-use Rattle.csicodec_actions.specs.declared.actions.cursor.Cursor.TheVariants as cursor
-use Rattle.csicodec_actions.specs.declared.actions.mouse.MouseReport.TheVariants as mouse
+use Rattle.csicodec_actions.specs.declared.cursor.Cursor.TheVariants as cursor
+use Rattle.csicodec_actions.specs.declared.mouse.MouseReport.TheVariants as mouse
 use Rattle.csicodec_actions.specs.Actions.{Action, Cursor, Device, Mouse}
 use Rattle.csicodec_actions.specs.Devices.{RequestTerminalParameters}
 

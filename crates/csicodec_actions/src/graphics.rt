@@ -1,15 +1,178 @@
-//! The row of graphics.
-ghost use Rattle.std.specs.Prelude.{◌≡◌, ◌<◌, IfErr, IfOk, OnErr, Some, drop, length};
+//! Graphics of a terminal, asked for and answered, and their row.
+ghost use Rattle.std.specs.Prelude.{◌≡◌, ◌↔◌, IfOk, Some, pos, ◌<◌, IfErr, OnErr, drop, length};
+ghost use Rattle.std.specs.Fmt.{signed_decimal};
+ghost use Rattle.csicodec_actions.specs.Devices.{graphics_of};
+ghost use Rattle.csicodec_actions.specs.Graphics.{action_number, item_number, item_of, status_number};
+ghost use Rattle.csicodec_actions.specs.declared.graphics.XtSmGraphicsAction.{XtSmGraphicsAction};
+ghost use Rattle.csicodec_actions.specs.declared.graphics.XtSmGraphicsStatus.{XtSmGraphicsStatus};
 ghost use Rattle.std.specs.Option.{option_map};
 ghost use Rattle.csicodec_actions.specs.Actions.{Device as Devices};
-ghost use Rattle.csicodec_actions.specs.Devices.{graphics_of};
 ghost use Rattle.csicodec_actions.specs.FieldRows.{IsReadByFields, given, numbers};
 ghost use Rattle.csicodec_actions.specs.Table.Graphics.{RefusesGraphics, as_graphics, graphics_behind, graphics_rows};
 
-use crate::actions::{XtSmGraphics, XtSmGraphicsItem};
 use crate::fields::{fields_in, number, numbers_behind};
 use csicodec_base::{Cracked, CsiParam, ParseRefusal};
 use std::alloc::{AllocError, Global};
+use std::fmt;
+
+/// What of the graphics is asked for or set: the first number of XTSMGRAPHICS (xterm's ctlseqs).
+#[derive(Clone, Copy, Debug, PartialEq, Eq)]
+pub enum XtSmGraphicsItem {
+    /// 1: how many colour registers there are.
+    NumberOfColorRegisters,
+    /// 2: how large an image of sixels can be, in pixels.
+    SixelGraphicsGeometry,
+    /// 3: how large an image of ReGIS can be, in pixels.
+    RegisGraphicsGeometry,
+    /// Any other number; `of` makes the one or the other of a number. 1 to 3 are read back as the items above, and a number
+    /// below 0 isn't read back.
+    Unspecified(i64),
+}
+
+impl XtSmGraphicsItem {
+    /// The item of a number: by its name where it has one.
+    pub fn of(number: i64) -> XtSmGraphicsItem
+        ensures { result ≡ item_of number }
+    {
+        match number {
+            1 => XtSmGraphicsItem::NumberOfColorRegisters,
+            2 => XtSmGraphicsItem::SixelGraphicsGeometry,
+            3 => XtSmGraphicsItem::RegisGraphicsGeometry,
+            _ => XtSmGraphicsItem::Unspecified(number),
+        }
+    }
+
+    /// The number of this item.
+    pub fn number(&self) -> i64
+        ensures { result ≡ item_number self.now }
+    {
+        match self {
+            XtSmGraphicsItem::NumberOfColorRegisters => 1,
+            XtSmGraphicsItem::SixelGraphicsGeometry => 2,
+            XtSmGraphicsItem::RegisGraphicsGeometry => 3,
+            XtSmGraphicsItem::Unspecified(number) => *number,
+        }
+    }
+}
+
+/// Writes the number of the item.
+impl fmt::Display for XtSmGraphicsItem {
+    ghost output = { λ item. Some (signed_decimal (item_number item)) };
+
+    fn fmt<W: fmt::Write>(&self, f: &mut fmt::Formatter<W>) -> fmt::Result {
+        let number = self.number();
+        write!(f, "{number}")
+    }
+}
+
+/// What is done with the item: the second number of XTSMGRAPHICS, where it is a request.
+#[derive(Clone, Copy, Debug, PartialEq, Eq)]
+pub enum XtSmGraphicsAction {
+    /// 1: it is asked for.
+    ReadAttribute,
+    /// 2: it is set back to what it was at first.
+    ResetToDefault,
+    /// 3: it is set to the values.
+    SetToValue,
+    /// 4: the most that it can be is asked for.
+    ReadMaximumAllowedValue,
+}
+
+impl XtSmGraphicsAction {
+    /// The number of this action, 1 to 4.
+    pub fn to_i64(&self) -> i64
+        ensures { result ≡ pos (action_number self.now) }
+    {
+        match self {
+            XtSmGraphicsAction::ReadAttribute => 1,
+            XtSmGraphicsAction::ResetToDefault => 2,
+            XtSmGraphicsAction::SetToValue => 3,
+            XtSmGraphicsAction::ReadMaximumAllowedValue => 4,
+        }
+    }
+}
+
+/// What became of the request: the second number of XTSMGRAPHICS, where it is an answer.
+#[derive(Clone, Copy, Debug, PartialEq, Eq)]
+pub enum XtSmGraphicsStatus {
+    /// 0: it was done, and the values follow.
+    Success,
+    /// 1: the terminal has no such item.
+    InvalidItem,
+    /// 2: the terminal has no such action.
+    InvalidAction,
+    /// 3: it could not be done.
+    Failure,
+}
+
+impl XtSmGraphicsStatus {
+    /// The number of this status, 0 to 3.
+    pub fn to_i64(&self) -> i64
+        ensures { result ≡ pos (status_number self.now) }
+    {
+        match self {
+            XtSmGraphicsStatus::Success => 0,
+            XtSmGraphicsStatus::InvalidItem => 1,
+            XtSmGraphicsStatus::InvalidAction => 2,
+            XtSmGraphicsStatus::Failure => 3,
+        }
+    }
+}
+
+/// XTSMGRAPHICS (xterm's ctlseqs): a request for what the terminal can draw, or its answer.
+///
+/// ```text
+/// "\x1b[?1;3;256S"   item: NumberOfColorRegisters, action_or_status: 3, value: 256; action() is Some(SetToValue)
+/// ```
+#[derive(Debug, Drop, PartialEq, Eq)]
+pub struct XtSmGraphics {
+    /// What it is about.
+    pub item: XtSmGraphicsItem,
+    /// The number of the action, where it is a request, and of the status, where it is an answer. Nothing in the
+    /// sequence tells which of the two it is.
+    pub action_or_status: i64,
+    /// A number of colour registers, or a width and a height in pixels, where they are set or answered.
+    pub value: Vec<i64>,
+}
+
+impl XtSmGraphics {
+    /// What is done, where it is a request: `None` for a number that no action has.
+    pub fn action(&self) -> Option<XtSmGraphicsAction>
+        ensures { (action : XtSmGraphicsAction) → (result ≡ Some action) ↔ (self.now.action_or_status ≡ pos (action_number action)) }
+    {
+        match self.action_or_status {
+            1 => Some(XtSmGraphicsAction::ReadAttribute),
+            2 => Some(XtSmGraphicsAction::ResetToDefault),
+            3 => Some(XtSmGraphicsAction::SetToValue),
+            4 => Some(XtSmGraphicsAction::ReadMaximumAllowedValue),
+            _ => None,
+        }
+    }
+
+    /// What became of it, where it is an answer: `None` for a number that no status has.
+    pub fn status(&self) -> Option<XtSmGraphicsStatus>
+        ensures { (status : XtSmGraphicsStatus) → (result ≡ Some status) ↔ (self.now.action_or_status ≡ pos (status_number status)) }
+    {
+        match self.action_or_status {
+            0 => Some(XtSmGraphicsStatus::Success),
+            1 => Some(XtSmGraphicsStatus::InvalidItem),
+            2 => Some(XtSmGraphicsStatus::InvalidAction),
+            3 => Some(XtSmGraphicsStatus::Failure),
+            _ => None,
+        }
+    }
+
+    /// A copy, in memory of its own.
+    pub fn clone(&self, alloc: Global) -> Result<Self, AllocError>
+        ensures { IfOk result (λ copy. graphics_of copy ≡ graphics_of self.now) }
+    {
+        Ok(XtSmGraphics {
+            item: self.item,
+            action_or_status: self.action_or_status,
+            value: self.value.as_slice().to_vec(alloc)?,
+        })
+    }
+}
 
 /// What is asked or said of graphics before this final character, if a row reads the list. An `Err` comes only before
 /// `S`: the fields of a list take memory, also where no row reads them.

@@ -1,17 +1,26 @@
 //! The actions of control sequences, subject by subject, the table of the lists that stand for them, and how they are written.
 #![tactic(auto)]
 
-mod actions;
+mod cursor;
+mod device;
+mod edit;
 mod encode;
 pub mod fields;
 mod graphics;
+mod keyboard;
+mod mode;
+mod mouse;
 mod print;
+mod window;
 
-pub use actions::{
-    Change, CharacterPath, Cursor, DecPrivateMode, Device, DeviceAttribute, DeviceAttributeFlags,
-    DeviceAttributes, Edit, Keyboard, KittyKeyboardMode, Mode, MouseButton, MouseReport, Switch,
-    TerminalMode, Window, XtSmGraphics, XtSmGraphicsAction, XtSmGraphicsItem, XtSmGraphicsStatus,
-    XtermKeyModifierResource,
+pub use cursor::Cursor;
+pub use device::{Device, DeviceAttribute, DeviceAttributeFlags, DeviceAttributes};
+pub use edit::Edit;
+pub use graphics::{
+    XtSmGraphics, XtSmGraphicsAction, XtSmGraphicsItem, XtSmGraphicsStatus, graphics_action,
 };
-pub use graphics::graphics_action;
+pub use keyboard::{CharacterPath, Keyboard, KittyKeyboardMode};
+pub use mode::{Change, DecPrivateMode, Mode, Switch, TerminalMode, XtermKeyModifierResource};
+pub use mouse::{MouseButton, MouseReport};
 pub use print::write_path;
+pub use window::Window;

@@ -9,7 +9,8 @@ ghost use Rattle.std.specs.Fmt.{decimal};
 mod device;
 mod window;
 
-use crate::actions::{CharacterPath, MouseReport};
+use crate::keyboard::CharacterPath;
+use crate::mouse::MouseReport;
 use bitflags::Flags;
 use csicodec_base::Text;
 use std::fmt;

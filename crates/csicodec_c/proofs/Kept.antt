@@ -13,28 +13,28 @@ use Rattle.csicodec_tokens.specs.Sequence.{IsFinal, IsSpellable, Reads, Spellabl
 use Rattle.csicodec_base.specs.declared.sgr.Font.TheVariants as font
 use Rattle.csicodec_base.specs.declared.sgr.Sgr.{Sgr}
 use Rattle.csicodec_base.specs.declared.sgr.Sgr.TheVariants as sgr
-use Rattle.csicodec_actions.specs.declared.actions.cursor.Cursor.{Cursor}
-use Rattle.csicodec_actions.specs.declared.actions.cursor.Cursor.TheVariants as cursor
-use Rattle.csicodec_actions.specs.declared.actions.edit.Edit.{Edit}
-use Rattle.csicodec_actions.specs.declared.actions.edit.Edit.TheVariants as edit
-use Rattle.csicodec_actions.specs.declared.actions.keyboard.Keyboard.{Keyboard}
-use Rattle.csicodec_actions.specs.declared.actions.keyboard.Keyboard.TheVariants as keyboard
-use Rattle.csicodec_actions.specs.declared.actions.mode.Mode.{Mode}
-use Rattle.csicodec_actions.specs.declared.actions.mode.Mode.TheVariants as mode
-use Rattle.csicodec_actions.specs.declared.actions.window.Window.{Window}
-use Rattle.csicodec_actions.specs.declared.actions.window.Window.TheVariants as window
+use Rattle.csicodec_actions.specs.declared.cursor.Cursor.{Cursor}
+use Rattle.csicodec_actions.specs.declared.cursor.Cursor.TheVariants as cursor
+use Rattle.csicodec_actions.specs.declared.edit.Edit.{Edit}
+use Rattle.csicodec_actions.specs.declared.edit.Edit.TheVariants as edit
+use Rattle.csicodec_actions.specs.declared.keyboard.Keyboard.{Keyboard}
+use Rattle.csicodec_actions.specs.declared.keyboard.Keyboard.TheVariants as keyboard
+use Rattle.csicodec_actions.specs.declared.mode.Mode.{Mode}
+use Rattle.csicodec_actions.specs.declared.mode.Mode.TheVariants as mode
+use Rattle.csicodec_actions.specs.declared.window.Window.{Window}
+use Rattle.csicodec_actions.specs.declared.window.Window.TheVariants as window
 use Rattle.csicodec_actions.specs.Actions.{Action}
 use Rattle.csicodec_actions.specs.Actions as action
 use Rattle.csicodec_names.specs.declared.flags.Modifiers.{Modifiers}
-use Rattle.csicodec_actions.specs.declared.actions.device.DeviceAttribute.{DeviceAttribute}
-use Rattle.csicodec_actions.specs.declared.actions.device.DeviceAttribute.TheVariants as attribute
-use Rattle.csicodec_actions.specs.declared.actions.mode.DecPrivateMode.{DecPrivateMode}
-use Rattle.csicodec_actions.specs.declared.actions.mode.DecPrivateMode.TheVariants as dec
-use Rattle.csicodec_actions.specs.declared.actions.mode.TerminalMode.{TerminalMode}
-use Rattle.csicodec_actions.specs.declared.actions.mode.TerminalMode.TheVariants as terminal
-use Rattle.csicodec_actions.specs.declared.actions.mouse.MouseButton.{MouseButton}
-use Rattle.csicodec_actions.specs.declared.actions.mouse.MouseReport.{MouseReport}
-use Rattle.csicodec_actions.specs.declared.actions.mouse.MouseReport.TheVariants as mouse
+use Rattle.csicodec_actions.specs.declared.device.DeviceAttribute.{DeviceAttribute}
+use Rattle.csicodec_actions.specs.declared.device.DeviceAttribute.TheVariants as attribute
+use Rattle.csicodec_actions.specs.declared.mode.DecPrivateMode.{DecPrivateMode}
+use Rattle.csicodec_actions.specs.declared.mode.DecPrivateMode.TheVariants as dec
+use Rattle.csicodec_actions.specs.declared.mode.TerminalMode.{TerminalMode}
+use Rattle.csicodec_actions.specs.declared.mode.TerminalMode.TheVariants as terminal
+use Rattle.csicodec_actions.specs.declared.mouse.MouseButton.{MouseButton}
+use Rattle.csicodec_actions.specs.declared.mouse.MouseReport.{MouseReport}
+use Rattle.csicodec_actions.specs.declared.mouse.MouseReport.TheVariants as mouse
 use Rattle.csicodec_actions.specs.Devices.{Device}
 use Rattle.csicodec_actions.specs.Devices as device
 use Rattle.csicodec_actions.specs.Written.{AllGood, GoodAttribute, Attribute, listed}

@@ -11,10 +11,10 @@ use Rattle.csicodec_names.specs.ModeNumbers.{dec_mode_number, dec_codes, termina
 use Rattle.csicodec_names.specs.Numbered.{with_number}
 use Rattle.csicodec_names.specs.declared.modes.DecPrivateModeCode.{DecPrivateModeCode}
 use Rattle.csicodec_names.specs.declared.modes.TerminalModeCode.{TerminalModeCode}
-use Rattle.csicodec_actions.specs.declared.actions.mode.DecPrivateMode.{DecPrivateMode}
-use Rattle.csicodec_actions.specs.declared.actions.mode.DecPrivateMode.TheVariants as dec
-use Rattle.csicodec_actions.specs.declared.actions.mode.TerminalMode.{TerminalMode}
-use Rattle.csicodec_actions.specs.declared.actions.mode.TerminalMode.TheVariants as terminal
+use Rattle.csicodec_actions.specs.declared.mode.DecPrivateMode.{DecPrivateMode}
+use Rattle.csicodec_actions.specs.declared.mode.DecPrivateMode.TheVariants as dec
+use Rattle.csicodec_actions.specs.declared.mode.TerminalMode.{TerminalMode}
+use Rattle.csicodec_actions.specs.declared.mode.TerminalMode.TheVariants as terminal
 use Rattle.csicodec_actions.specs.Kinds.{Dec, Terminal, below, code_or, read, short}
 use Rattle.csicodec_actions.specs.Modes.{dec_number, terminal_number}
 use Rattle.csicodec_c.specs.Private.Candidates.{Reads}

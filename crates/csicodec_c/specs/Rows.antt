@@ -5,18 +5,18 @@ use Rattle.csicodec_names.specs.EnumNumbers.{cursor_style_number, erase_in_displ
 use Rattle.csicodec_names.specs.FlagBits.{kitty_bits}
 use Rattle.csicodec_base.specs.declared.sgr.Sgr.{Sgr}
 use Rattle.csicodec_base.specs.declared.sgr.Sgr.TheVariants as sgr
-use Rattle.csicodec_actions.specs.declared.actions.cursor.Cursor.{Cursor}
-use Rattle.csicodec_actions.specs.declared.actions.cursor.Cursor.TheVariants as cursor
-use Rattle.csicodec_actions.specs.declared.actions.edit.Edit.{Edit}
-use Rattle.csicodec_actions.specs.declared.actions.edit.Edit.TheVariants as edit
-use Rattle.csicodec_actions.specs.declared.actions.mode.Mode.{Mode}
-use Rattle.csicodec_actions.specs.declared.actions.mode.Mode.TheVariants as mode
-use Rattle.csicodec_actions.specs.declared.actions.mouse.MouseReport.{MouseReport}
-use Rattle.csicodec_actions.specs.declared.actions.mouse.MouseReport.TheVariants as mouse
-use Rattle.csicodec_actions.specs.declared.actions.window.Window.{Window}
-use Rattle.csicodec_actions.specs.declared.actions.window.Window.TheVariants as window
-use Rattle.csicodec_actions.specs.declared.actions.keyboard.Keyboard.{Keyboard}
-use Rattle.csicodec_actions.specs.declared.actions.keyboard.Keyboard.TheVariants as keyboard
+use Rattle.csicodec_actions.specs.declared.cursor.Cursor.{Cursor}
+use Rattle.csicodec_actions.specs.declared.cursor.Cursor.TheVariants as cursor
+use Rattle.csicodec_actions.specs.declared.edit.Edit.{Edit}
+use Rattle.csicodec_actions.specs.declared.edit.Edit.TheVariants as edit
+use Rattle.csicodec_actions.specs.declared.mode.Mode.{Mode}
+use Rattle.csicodec_actions.specs.declared.mode.Mode.TheVariants as mode
+use Rattle.csicodec_actions.specs.declared.mouse.MouseReport.{MouseReport}
+use Rattle.csicodec_actions.specs.declared.mouse.MouseReport.TheVariants as mouse
+use Rattle.csicodec_actions.specs.declared.window.Window.{Window}
+use Rattle.csicodec_actions.specs.declared.window.Window.TheVariants as window
+use Rattle.csicodec_actions.specs.declared.keyboard.Keyboard.{Keyboard}
+use Rattle.csicodec_actions.specs.declared.keyboard.Keyboard.TheVariants as keyboard
 use Rattle.csicodec_actions.specs.Devices.{Device}
 use Rattle.csicodec_actions.specs.Devices as device
 use Rattle.csicodec_actions.specs.Actions.{Action}

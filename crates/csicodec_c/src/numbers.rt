@@ -6,7 +6,7 @@ ghost use Rattle.csicodec_actions.specs.Devices.{attribute_token};
 ghost use Rattle.csicodec_actions.specs.Kinds.{IsOneBased};
 ghost use Rattle.csicodec_actions.specs.Graphics.{item_number};
 ghost use Rattle.csicodec_actions.specs.Modes.{dec_number, terminal_number};
-ghost use Rattle.csicodec_actions.specs.declared.actions.mouse.MouseButton.{MouseButton};
+ghost use Rattle.csicodec_actions.specs.declared.mouse.MouseButton.{MouseButton};
 ghost use Rattle.csicodec_names.specs.declared.color.Blink.{Blink};
 ghost use Rattle.csicodec_names.specs.declared.color.Intensity.{Intensity};
 ghost use Rattle.csicodec_names.specs.declared.color.Underline.{Underline};

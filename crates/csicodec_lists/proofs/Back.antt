@@ -13,23 +13,23 @@ use Rattle.csicodec_names.specs.declared.enums.TabulationClear.TheVariants as cl
 use Rattle.csicodec_tokens.specs.Fields.{fields_of}
 use Rattle.csicodec_tokens.specs.OneBased.{most}
 use Rattle.csicodec_tokens.specs.declared.param.CsiParam.TheVariants.{Integer, P}
-use Rattle.csicodec_actions.specs.declared.actions.cursor.Cursor as cursor_type
-use Rattle.csicodec_actions.specs.declared.actions.cursor.Cursor.TheVariants as cursor
-use Rattle.csicodec_actions.specs.declared.actions.device.DeviceAttribute.{DeviceAttribute}
-use Rattle.csicodec_actions.specs.declared.actions.device.DeviceAttribute.TheVariants as attribute
-use Rattle.csicodec_actions.specs.declared.actions.edit.Edit as edit_type
-use Rattle.csicodec_actions.specs.declared.actions.edit.Edit.TheVariants as edit
-use Rattle.csicodec_actions.specs.declared.actions.graphics.XtSmGraphicsItem.{XtSmGraphicsItem}
-use Rattle.csicodec_actions.specs.declared.actions.keyboard.CharacterPath.{CharacterPath}
-use Rattle.csicodec_actions.specs.declared.actions.keyboard.CharacterPath.TheVariants as path
-use Rattle.csicodec_actions.specs.declared.actions.keyboard.Keyboard as keyboard_type
-use Rattle.csicodec_actions.specs.declared.actions.keyboard.Keyboard.TheVariants as keyboard
-use Rattle.csicodec_actions.specs.declared.actions.mode.Mode as mode_type
-use Rattle.csicodec_actions.specs.declared.actions.mode.Mode.TheVariants as mode
-use Rattle.csicodec_actions.specs.declared.actions.mouse.MouseReport as mouse_type
-use Rattle.csicodec_actions.specs.declared.actions.mouse.MouseReport.TheVariants as mouse
-use Rattle.csicodec_actions.specs.declared.actions.window.Window as window_type
-use Rattle.csicodec_actions.specs.declared.actions.window.Window.TheVariants as window
+use Rattle.csicodec_actions.specs.declared.cursor.Cursor as cursor_type
+use Rattle.csicodec_actions.specs.declared.cursor.Cursor.TheVariants as cursor
+use Rattle.csicodec_actions.specs.declared.device.DeviceAttribute.{DeviceAttribute}
+use Rattle.csicodec_actions.specs.declared.device.DeviceAttribute.TheVariants as attribute
+use Rattle.csicodec_actions.specs.declared.edit.Edit as edit_type
+use Rattle.csicodec_actions.specs.declared.edit.Edit.TheVariants as edit
+use Rattle.csicodec_actions.specs.declared.graphics.XtSmGraphicsItem.{XtSmGraphicsItem}
+use Rattle.csicodec_actions.specs.declared.keyboard.CharacterPath.{CharacterPath}
+use Rattle.csicodec_actions.specs.declared.keyboard.CharacterPath.TheVariants as path
+use Rattle.csicodec_actions.specs.declared.keyboard.Keyboard as keyboard_type
+use Rattle.csicodec_actions.specs.declared.keyboard.Keyboard.TheVariants as keyboard
+use Rattle.csicodec_actions.specs.declared.mode.Mode as mode_type
+use Rattle.csicodec_actions.specs.declared.mode.Mode.TheVariants as mode
+use Rattle.csicodec_actions.specs.declared.mouse.MouseReport as mouse_type
+use Rattle.csicodec_actions.specs.declared.mouse.MouseReport.TheVariants as mouse
+use Rattle.csicodec_actions.specs.declared.window.Window as window_type
+use Rattle.csicodec_actions.specs.declared.window.Window.TheVariants as window
 use Rattle.csicodec_actions.specs.Actions as actions
 use Rattle.csicodec_actions.specs.Actions.{Action, Cursor, Edit, Mode, Mouse, Device, Window, Keyboard, SelectCharacterPath}
 use Rattle.csicodec_actions.specs.Devices as devices

@@ -11,8 +11,8 @@ use Rattle.csicodec_tokens.specs.Sequence.{IsFinal, IsSpellable, Apart, Spellabl
 use Rattle.csicodec_actions.specs.Actions.{Action}
 use Rattle.csicodec_actions.specs.Kinds.{Kind, Value, number, Good, IsSaid}
 use Rattle.csicodec_names.specs.Numbered.{is_number}
-use Rattle.csicodec_actions.specs.declared.actions.device.DeviceAttribute.{DeviceAttribute}
-use Rattle.csicodec_actions.specs.declared.actions.device.DeviceAttribute.TheVariants as attribute
+use Rattle.csicodec_actions.specs.declared.device.DeviceAttribute.{DeviceAttribute}
+use Rattle.csicodec_actions.specs.declared.device.DeviceAttribute.TheVariants as attribute
 use Rattle.csicodec_actions.specs.Devices.{attribute_token}
 use Rattle.csicodec_actions.specs.Written.{Item, Byte, The, Unless, Attribute, Written, tokens, shown, written_text, GoodAttribute, AllGood}
 use Rattle.csicodec_actions.proofs.Values.{number-said, attribute-said}

@@ -6,12 +6,12 @@ use Rattle.csicodec_tokens.specs.declared.param.CsiParam.{CsiParam}
 use Rattle.csicodec_tokens.specs.declared.param.CsiParam.TheVariants.{Integer}
 use Rattle.std.specs.Prelude.{pos}
 use Rattle.std.specs.Fmt.{decimal}
-use Rattle.csicodec_actions.specs.declared.actions.mode.Change.{Change}
-use Rattle.csicodec_actions.specs.declared.actions.mode.Change.TheVariants as change
-use Rattle.csicodec_actions.specs.declared.actions.mode.DecPrivateMode.{DecPrivateMode}
-use Rattle.csicodec_actions.specs.declared.actions.mode.Switch.{Switch}
-use Rattle.csicodec_actions.specs.declared.actions.mode.Switch.TheVariants as switch
-use Rattle.csicodec_actions.specs.declared.actions.mode.TerminalMode.{TerminalMode}
+use Rattle.csicodec_actions.specs.declared.mode.Change.{Change}
+use Rattle.csicodec_actions.specs.declared.mode.Change.TheVariants as change
+use Rattle.csicodec_actions.specs.declared.mode.DecPrivateMode.{DecPrivateMode}
+use Rattle.csicodec_actions.specs.declared.mode.Switch.{Switch}
+use Rattle.csicodec_actions.specs.declared.mode.Switch.TheVariants as switch
+use Rattle.csicodec_actions.specs.declared.mode.TerminalMode.{TerminalMode}
 use Rattle.csicodec_actions.specs.Modes.{changed, dec_number, switched, terminal_number}
 use Rattle.csicodec_actions.specs.Table.Mode.{written_mode}
 use Rattle.csicodec_actions.proofs.Values.{dec-numbered, terminal-numbered}

@@ -4,8 +4,8 @@ use Rattle.csicodec_tokens.specs.declared.param.CsiParam.{CsiParam}
 use Rattle.csicodec_names.specs.declared.enums.CursorTabulationControl.TheVariants as control
 use Rattle.csicodec_names.specs.declared.enums.TabulationClear.TheVariants as clear
 use Rattle.csicodec_tokens.specs.OneBased.{most}
-use Rattle.csicodec_actions.specs.declared.actions.cursor.Cursor as cursor_type
-use Rattle.csicodec_actions.specs.declared.actions.cursor.Cursor.TheVariants as cursor
+use Rattle.csicodec_actions.specs.declared.cursor.Cursor as cursor_type
+use Rattle.csicodec_actions.specs.declared.cursor.Cursor.TheVariants as cursor
 use Rattle.csicodec_actions.specs.Actions.{Action, Cursor}
 use Rattle.csicodec_actions.specs.Kinds.{Count, Last, Style, Control, Clear}
 use Rattle.csicodec_actions.specs.Rows.{Row, row, One, Number, mark, counted, chosen, halves, paired, Before, before, read_by}

@@ -2,7 +2,7 @@
 -- before a final character, and what each action is written as; graphics are in a table of their own.
 use Rattle.std.specs.Prelude.{ℕ, ℤ, ◌+ℤ◌, List, [], ◌∷◌, ◌++◌, Option, pos}
 use Rattle.csicodec_tokens.specs.declared.param.CsiParam.{CsiParam}
-use Rattle.csicodec_actions.specs.declared.actions.device.DeviceAttribute.{DeviceAttribute}
+use Rattle.csicodec_actions.specs.declared.device.DeviceAttribute.{DeviceAttribute}
 use Rattle.csicodec_actions.specs.Devices as devices
 use Rattle.csicodec_actions.specs.Actions.{Action, Device}
 use Rattle.csicodec_actions.specs.Rows.{Row, row, open_row, Number, mark, Before, before, read_by}

@@ -3,8 +3,8 @@ use Rattle.std.specs.Prelude.{ℕ, List, [], ◌∷◌, Option}
 use Rattle.csicodec_tokens.specs.declared.param.CsiParam.{CsiParam}
 use Rattle.csicodec_names.specs.declared.enums.EraseInDisplay.TheVariants as display
 use Rattle.csicodec_names.specs.declared.enums.EraseInLine.TheVariants as line
-use Rattle.csicodec_actions.specs.declared.actions.edit.Edit as edit_type
-use Rattle.csicodec_actions.specs.declared.actions.edit.Edit.TheVariants as edit
+use Rattle.csicodec_actions.specs.declared.edit.Edit as edit_type
+use Rattle.csicodec_actions.specs.declared.edit.Edit.TheVariants as edit
 use Rattle.csicodec_actions.specs.Actions.{Action, Edit}
 use Rattle.csicodec_actions.specs.Kinds.{InDisplay, InLine}
 use Rattle.csicodec_actions.specs.Rows.{counted, chosen, Before, before, read_by}

@@ -4,7 +4,7 @@ use Rattle.csicodec_tokens.specs.declared.param.CsiParam.{CsiParam}
 use Rattle.csicodec_tokens.specs.declared.refusal.ParseRefusal.{ParseRefusal}
 use Rattle.csicodec_tokens.specs.declared.refusal.ParseRefusal.TheVariants.{NotSpelled, Memory}
 use Rattle.csicodec_tokens.specs.Fields.{RefusesFields, fields_of}
-use Rattle.csicodec_actions.specs.declared.actions.graphics.XtSmGraphicsItem.{XtSmGraphicsItem}
+use Rattle.csicodec_actions.specs.declared.graphics.XtSmGraphicsItem.{XtSmGraphicsItem}
 use Rattle.csicodec_actions.specs.Actions.{Action, Device}
 use Rattle.csicodec_actions.specs.Devices.{XtSmGraphics}
 use Rattle.csicodec_actions.specs.FieldRows.{FieldRow, field_row, Must, Rest, Over, over, no_byte, byte, given, read_fields}

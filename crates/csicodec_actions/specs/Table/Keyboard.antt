@@ -1,9 +1,9 @@
 -- The keyboard (kitty, "Comprehensive keyboard handling in terminals"): lists before `u`, and what each action is written as.
 use Rattle.std.specs.Prelude.{ℕ, List, [], ◌∷◌, Option}
 use Rattle.csicodec_tokens.specs.declared.param.CsiParam.{CsiParam}
-use Rattle.csicodec_actions.specs.declared.actions.keyboard.Keyboard as keyboard_type
-use Rattle.csicodec_actions.specs.declared.actions.keyboard.Keyboard.TheVariants as keyboard
-use Rattle.csicodec_actions.specs.declared.actions.keyboard.KittyKeyboardMode.TheVariants as way
+use Rattle.csicodec_actions.specs.declared.keyboard.Keyboard as keyboard_type
+use Rattle.csicodec_actions.specs.declared.keyboard.Keyboard.TheVariants as keyboard
+use Rattle.csicodec_actions.specs.declared.keyboard.KittyKeyboardMode.TheVariants as way
 use Rattle.csicodec_names.specs.declared.flags.KittyKeyboardFlags.{KittyKeyboardFlags}
 use Rattle.csicodec_actions.specs.Actions.{Action, Keyboard}
 use Rattle.csicodec_actions.specs.Kinds.{Flags, Way, Pops}

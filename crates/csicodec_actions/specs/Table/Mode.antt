@@ -2,8 +2,8 @@
 -- Modes that are set, reset, saved and restored are cut into pieces.
 use Rattle.std.specs.Prelude.{ℕ, List, [], ◌∷◌, Option, Some, None}
 use Rattle.csicodec_tokens.specs.declared.param.CsiParam.{CsiParam}
-use Rattle.csicodec_actions.specs.declared.actions.mode.Mode as mode_type
-use Rattle.csicodec_actions.specs.declared.actions.mode.Mode.TheVariants as mode
+use Rattle.csicodec_actions.specs.declared.mode.Mode as mode_type
+use Rattle.csicodec_actions.specs.declared.mode.Mode.TheVariants as mode
 use Rattle.csicodec_actions.specs.Actions.{Action, Mode}
 use Rattle.csicodec_actions.specs.Kinds.{Any, Dec, Terminal, Resource}
 use Rattle.csicodec_actions.specs.Rows.{Row, row, One, mark, Before, before, read_by}

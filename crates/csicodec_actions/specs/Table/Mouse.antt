@@ -2,9 +2,9 @@
 use Rattle.std.specs.Prelude.{ℕ, List, [], ◌∷◌, Option, if◌then◌else◌}
 use Rattle.csicodec_tokens.specs.declared.param.CsiParam.{CsiParam}
 use Rattle.csicodec_names.specs.declared.flags.Modifiers.{Modifiers}
-use Rattle.csicodec_actions.specs.declared.actions.mouse.MouseButton.{MouseButton}
-use Rattle.csicodec_actions.specs.declared.actions.mouse.MouseReport as mouse_type
-use Rattle.csicodec_actions.specs.declared.actions.mouse.MouseReport.TheVariants as mouse
+use Rattle.csicodec_actions.specs.declared.mouse.MouseButton.{MouseButton}
+use Rattle.csicodec_actions.specs.declared.mouse.MouseReport as mouse_type
+use Rattle.csicodec_actions.specs.declared.mouse.MouseReport.TheVariants as mouse
 use Rattle.csicodec_actions.specs.Actions.{Action, Mouse}
 use Rattle.csicodec_actions.specs.Kinds.{Kind, Value, Pressed, Released, Word}
 use Rattle.csicodec_actions.specs.Mouse.{is_release}

@@ -7,7 +7,7 @@ ghost use Rattle.csicodec_actions.specs.Devices.{attribute_token, attributes_of,
 ghost use Rattle.csicodec_actions.specs.Table.Device.{written_device};
 ghost use Rattle.csicodec_actions.specs.Written.{written_text};
 
-use crate::actions::{Device, DeviceAttribute, DeviceAttributes};
+use crate::device::{Device, DeviceAttribute, DeviceAttributes};
 use csicodec_base::{CsiParam, Text};
 use std::fmt;
 

@@ -3,7 +3,7 @@ ghost use Rattle.std.specs.Prelude.{[], Some};
 ghost use Rattle.csicodec_actions.specs.Table.Window.{maybe, written_window};
 ghost use Rattle.csicodec_actions.specs.Written.{shown, written_text};
 
-use crate::actions::Window;
+use crate::window::Window;
 use std::fmt;
 
 /// A number that may be absent, which then leaves nothing.

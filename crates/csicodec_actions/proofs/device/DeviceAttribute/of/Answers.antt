@@ -3,7 +3,7 @@ use mir.Syntax.{w64}
 use mir.Val.{SFits}
 use Rattle.csicodec_names.proofs.Coded.{attributes, found-of}
 use Rattle.csicodec_names.specs.DeviceNumbers.{device_attribute_codes, device_attribute_number}
-use Rattle.csicodec_actions.proofs.actions.device.DeviceAttribute.of.Goals as goal
+use Rattle.csicodec_actions.proofs.device.DeviceAttribute.of.Goals as goal
 
 pub returns-in-Some : goal.returns-in-Some
 returns-in-Some c =

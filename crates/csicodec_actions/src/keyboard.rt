@@ -3,8 +3,8 @@ ghost use Rattle.std.specs.Prelude.{◌≤◌, ◌++◌, [], ◌∷◌, length, 
 ghost use Rattle.csicodec_actions.specs.Kinds.{Flags as FlagsKind, Path, Way, read, kitty_mode_number, path_number};
 ghost use Rattle.csicodec_actions.specs.Table.Keyboard.{written_keyboard};
 ghost use Rattle.csicodec_actions.specs.Written.{Byte, The, shown, written_text};
-ghost use Rattle.csicodec_actions.specs.declared.actions.keyboard.CharacterPath.{CharacterPath};
-ghost use Rattle.csicodec_actions.specs.declared.actions.keyboard.KittyKeyboardMode.{KittyKeyboardMode};
+ghost use Rattle.csicodec_actions.specs.declared.keyboard.CharacterPath.{CharacterPath};
+ghost use Rattle.csicodec_actions.specs.declared.keyboard.KittyKeyboardMode.{KittyKeyboardMode};
 
 use bitflags::Flags;
 use csicodec_base::{KittyKeyboardFlags, Text};

@@ -4,7 +4,7 @@ ghost use Rattle.csicodec_actions.specs.Table.Mode.{written_mode};
 ghost use Rattle.csicodec_actions.specs.Written.{Byte, The, shown, written_text};
 ghost use Rattle.csicodec_actions.specs.Modes.{changed, dec_number, resource_number, switched, terminal_number};
 ghost use Rattle.csicodec_actions.specs.Kinds.{Dec, Resource, Terminal, read};
-ghost use Rattle.csicodec_actions.specs.declared.actions.mode.XtermKeyModifierResource.{XtermKeyModifierResource};
+ghost use Rattle.csicodec_actions.specs.declared.mode.XtermKeyModifierResource.{XtermKeyModifierResource};
 
 use csicodec_base::{DecPrivateModeCode, TerminalModeCode, Text};
 use std::fmt;
@@ -59,7 +59,7 @@ impl From<u16> for DecPrivateMode {
 }
 
 impl From<DecPrivateModeCode> for DecPrivateMode {
-    ghost use Rattle.csicodec_actions.specs.declared.actions.mode.DecPrivateMode.TheVariants as dec;
+    ghost use Rattle.csicodec_actions.specs.declared.mode.DecPrivateMode.TheVariants as dec;
 
     ghost from_gives = { λ code mode. mode ≡ dec.Code code };
 
@@ -118,7 +118,7 @@ impl From<u16> for TerminalMode {
 }
 
 impl From<TerminalModeCode> for TerminalMode {
-    ghost use Rattle.csicodec_actions.specs.declared.actions.mode.TerminalMode.TheVariants as terminal;
+    ghost use Rattle.csicodec_actions.specs.declared.mode.TerminalMode.TheVariants as terminal;
 
     ghost from_gives = { λ code mode. mode ≡ terminal.Code code };
 

@@ -3,10 +3,10 @@ use mir.Syntax.{w64}
 use mir.Val.{SFits}
 use Rattle.csicodec_names.proofs.Coded.{found-of, terminals}
 use Rattle.csicodec_names.specs.ModeNumbers.{terminal_mode_number, terminal_codes}
-use Rattle.csicodec_actions.specs.declared.actions.mode.TerminalMode.TheVariants as terminal
+use Rattle.csicodec_actions.specs.declared.mode.TerminalMode.TheVariants as terminal
 use Rattle.csicodec_actions.specs.Kinds.{read, Terminal}
 use Rattle.csicodec_actions.proofs.Values.{named, own-number}
-use Rattle.csicodec_actions.proofs.actions.mode.TerminalModeFromU16.from.Goals as goal
+use Rattle.csicodec_actions.proofs.mode.TerminalModeFromU16.from.Goals as goal
 
 pub returns-in-Some : goal.returns-in-Some
 unfolding read

@@ -17,7 +17,12 @@ use csicodec_actions::{
     CharacterPath, Cursor, Device, Edit, Keyboard, Mode, MouseReport, Window, write_path,
 };
 use csicodec_base::{CsiParam, Sgr, Text, TextBuffer};
-use csicodec_lists::{cursor_action, device_action, edit_action, graphics_action, is_canonical_cursor, is_canonical_device, is_canonical_edit, is_canonical_keyboard, is_canonical_mode, is_canonical_mouse, is_canonical_window, is_said, is_special, keyboard_action, mode_action, mouse_action, path_action, window_action};
+use csicodec_lists::{
+    cursor_action, device_action, edit_action, graphics_action, is_canonical_cursor,
+    is_canonical_device, is_canonical_edit, is_canonical_keyboard, is_canonical_mode,
+    is_canonical_mouse, is_canonical_window, is_said, is_special, keyboard_action, mode_action,
+    mouse_action, path_action, window_action,
+};
 use std::alloc::{AllocError, Global};
 use std::fmt;
 

@@ -8,7 +8,7 @@ pub mod Mode
 pub mod Mouse
 pub mod Path
 pub mod Window
-use Rattle.std.specs.Prelude.{◌≡◌, ℕ, ℤ, List, ◌++◌, Option, Some, [], ◌∷◌, None, encode_utf8}
+use Rattle.std.specs.Prelude.{⊤, ◌≡◌, ℕ, ℤ, List, ◌++◌, Option, Some, [], ◌∷◌, None, encode_utf8}
 use Rattle.std.specs.List.{Contains, flat_map}
 use Rattle.std.specs.Option.{option_or}
 use Rattle.csicodec_tokens.specs.declared.param.CsiParam.{CsiParam}
@@ -45,6 +45,11 @@ boxed list final = option_or (as_device list final) (option_or (as_window list f
 -- the action of a list before a final character: what a row of any subject gives; no two rows do (`RowsDecide`)
 unfoldable pub whole : List CsiParam → ℕ → Option Action
 whole list final = option_or (plain list final) (boxed list final)
+
+-- what a proof unfolds to compute which row of any subject reads a list
+unfoldable pub all_subjects : ⊤
+unfolding whole plain boxed as_cursor as_edit as_mode as_mouse as_keyboard as_path as_device as_window as_graphics
+all_subjects = tt
 
 abbrev pub Whole : List CsiParam → ℕ → Action → Type 0
 Whole list final action = whole list final ≡ Some action

@@ -12,16 +12,9 @@ use Rattle.csicodec_actions.specs.Actions.{Action}
 use Rattle.csicodec_actions.specs.FieldRows.{read_fields}
 use Rattle.csicodec_actions.specs.Kinds.{Kind, Value, read}
 use Rattle.csicodec_actions.specs.Rows.{Slot, Byte, Number, One, Makes, AtEnd, ended, has_shape, made, gives, Row, given, Before, rows_before, read_by}
-use Rattle.csicodec_actions.specs.Table.Cursor.{as_cursor}
-use Rattle.csicodec_actions.specs.Table.Device.{as_device}
-use Rattle.csicodec_actions.specs.Table.Edit.{as_edit}
-use Rattle.csicodec_actions.specs.Table.Graphics.{graphics_fields, as_graphics}
-use Rattle.csicodec_actions.specs.Table.Keyboard.{as_keyboard}
-use Rattle.csicodec_actions.specs.Table.Mode.{as_mode}
-use Rattle.csicodec_actions.specs.Table.Mouse.{as_mouse}
-use Rattle.csicodec_actions.specs.Table.Path.{as_path}
-use Rattle.csicodec_actions.specs.Table.Window.{window_fields, as_window}
-use Rattle.csicodec_actions.specs.Table.{table, field_table, plain, boxed, whole}
+use Rattle.csicodec_actions.specs.Table.Graphics.{graphics_fields}
+use Rattle.csicodec_actions.specs.Table.Window.{window_fields}
+use Rattle.csicodec_actions.specs.Table.{all_subjects, table, field_table, whole}
 use Rattle.csicodec_actions.proofs.AllFieldRows.{FieldRowsKeep, fields-append, fields-keep, option_or-assoc}
 use Rattle.csicodec_actions.proofs.Found.{guarded, one-of}
 
@@ -41,7 +34,7 @@ read-append : {R : Type 0} (xs ys : List (Before R)) (list : List CsiParam) (fin
 read-append xs ys list final = ap (λ rows. given rows list) (before-append xs ys final) ∙ given-append (rows_before xs final) (rows_before ys final) list
 
 whole-parts : (list : List CsiParam) (final : ℕ) → whole list final ≡ option_or (read_by table list final) (option_or (read_fields window_fields list final) (read_fields graphics_fields list final))
-unfolding whole plain boxed as_cursor as_edit as_mode as_mouse as_keyboard as_path as_device as_window as_graphics
+unfolding all_subjects
 whole-parts list final = simp (option_or-assoc, read-append) refl
 
 pub whole-table : (list : List CsiParam) (final : ℕ) → whole list final ≡ option_or (read_by table list final) (read_fields field_table list final)

@@ -3,6 +3,10 @@ use Rattle.std.proofs.Common.{ℕ, ◌≡◌, ◌<◌, ◌⊎◌, List, [], ◌�
 use Rattle.csicodec_tokens.specs.declared.param.CsiParam.{CsiParam}
 use Rattle.csicodec_tokens.specs.Sequence.{Seq}
 use Rattle.csicodec_actions.specs.Actions.{Action}
+use Rattle.csicodec_base.specs.declared.sgr.Sgr.{Sgr}
+use Rattle.csicodec_parser.specs.ActionOf.{action_of}
+use Rattle.csicodec_parser.specs.declared.actions.CSI.{CSI}
+use Rattle.csicodec_parser.specs.declared.actions.CSI.TheVariants as csi
 use Rattle.csicodec_parser.specs.Canonical.{Canonical}
 use Rattle.csicodec.specs.Decoding.{Joins, AreActions, Decodes}
 use Rattle.csicodec.specs.Exact.{Exact}
@@ -69,3 +73,8 @@ read-canonical a flag d =
 pub exact_lem : (a : Action) (flag : Bool) → InRange a → Exact a flag
 unfolding Exact
 exact_lem a flag range = (λ r. read-canonical a flag r.back, λ ok. alone-only flag a (canonical-alone a flag range ok))
+
+-- only an attribute has numbers whose range its type gives
+pub no-attribute : (a : CSI) → ((s : Sgr) → a ≡ csi.Sgr s → ⊥) → InRange (action_of a)
+no-attribute (csi.Sgr s) none = absurd (none s refl)
+no-attribute a none = tt

@@ -9,7 +9,7 @@ use Rattle.csicodec_names.specs.declared.enums.EraseInLine.{EraseInLine}
 use Rattle.csicodec_names.specs.declared.enums.TabulationClear.{TabulationClear}
 use Rattle.csicodec_names.specs.EnumNumbers.{cursor_style_number, erase_in_display_number, erase_in_line_number, tabulation_clear_number, tabulation_control_number, cursor_styles, tabulation_controls, tabulation_clears, erases_in_display, erases_in_line}
 use Rattle.csicodec_names.specs.ModeNumbers.{dec_mode_number, terminal_mode_number, dec_codes, terminal_codes}
-use Rattle.csicodec_tokens.specs.declared.param.CsiParam.TheVariants.{Integer, P}
+use Rattle.csicodec_tokens.specs.declared.param.CsiParam.TheVariants.{Integer}
 use Rattle.csicodec_tokens.specs.OneBased.{most, number_or}
 use Rattle.csicodec_actions.specs.declared.mode.DecPrivateMode.{DecPrivateMode}
 use Rattle.csicodec_actions.specs.declared.mode.DecPrivateMode.TheVariants as dec
@@ -29,13 +29,7 @@ use Rattle.csicodec_actions.specs.Mouse.{pressed, released, reported, report_cod
 use Rattle.csicodec_actions.specs.declared.mouse.MouseButton.{MouseButton}
 use Rattle.csicodec_names.specs.declared.flags.Modifiers.{Modifiers}
 use Rattle.csicodec_names.specs.Numbered.{with_number}
-use Rattle.csicodec_names.specs.DeviceNumbers.{device_attribute_number}
-use Rattle.csicodec_names.specs.declared.device.DeviceAttributeCodes.{DeviceAttributeCodes}
 use Rattle.csicodec_tokens.specs.Digits.{largest}
-use Rattle.csicodec_tokens.specs.Sequence.{IsSpellable}
-use Rattle.csicodec_tokens.specs.declared.param.CsiParam.{CsiParam}
-use Rattle.csicodec_actions.specs.declared.device.DeviceAttribute.{DeviceAttribute}
-use Rattle.csicodec_actions.specs.declared.device.DeviceAttribute.TheVariants as attribute
 use Rattle.csicodec_actions.specs.declared.graphics.XtSmGraphicsItem.TheVariants as item
 
 -- ---- the numbers of the keyboard's ways, and of paths of characters

@@ -1,32 +1,18 @@
 -- What an action of a list is written as: bytes and values, and then the final character.
 use Prim.Native.Char.{Char, code}
-use Rattle.std.specs.Prelude.{ℕ, ℤ, List, [], ◌∷◌, ◌++◌, if◌then◌else◌, pos, ◌≡◌, ◌<◌, ◌≤ℤ◌, ◌^◌, Some}
+use Rattle.std.specs.Prelude.{ℕ, ℤ, List, [], ◌∷◌, ◌++◌, if◌then◌else◌, pos, ◌≡◌}
 use Rattle.std.specs.Fmt.{signed_decimal}
 use Rattle.csicodec_tokens.specs.declared.param.CsiParam.{CsiParam}
 use Rattle.csicodec_tokens.specs.declared.param.CsiParam.TheVariants.{Integer, P}
 use Rattle.csicodec_tokens.specs.Param.{token_text}
 use Rattle.csicodec_actions.specs.declared.device.DeviceAttribute.{DeviceAttribute}
 use Rattle.csicodec_actions.specs.Devices.{attribute_token}
-use Rattle.csicodec_actions.specs.Kinds.{Kind, Count, Any, Value, number, Last, Style, Control, Clear, InDisplay, InLine, Dec, Terminal, Resource, Flags, Way, Path, Pops, Word, Pressed, Released, GraphicsItem, Good}
-use Rattle.csicodec_names.specs.Numbered.{is_number, with_number}
-use Rattle.std.specs.Int.RustNames.{bit_and}
-use Rattle.csicodec_names.specs.declared.flags.Modifiers.{Modifiers}
-use Rattle.csicodec_names.specs.FlagBits.{kitty_bits, modifier_bits}
-use Rattle.csicodec_names.specs.ModeNumbers.{dec_mode_number, terminal_mode_number}
+use Rattle.csicodec_actions.specs.Kinds.{Kind, Count, Any, Value, number, Good}
+use Rattle.csicodec_names.specs.Numbered.{is_number}
 use Rattle.csicodec_names.specs.DeviceNumbers.{device_attribute_number}
 use Rattle.csicodec_names.specs.declared.device.DeviceAttributeCodes.{DeviceAttributeCodes}
-use Rattle.csicodec_tokens.specs.Digits.{largest}
 use Rattle.csicodec_tokens.specs.Sequence.{IsSpellable}
 use Rattle.csicodec_actions.specs.declared.device.DeviceAttribute.TheVariants as attribute
-use Rattle.csicodec_actions.specs.declared.graphics.XtSmGraphicsItem.{XtSmGraphicsItem}
-use Rattle.csicodec_actions.specs.declared.graphics.XtSmGraphicsItem.TheVariants as item
-use Rattle.csicodec_actions.specs.declared.mode.DecPrivateMode.{DecPrivateMode}
-use Rattle.csicodec_actions.specs.declared.mode.DecPrivateMode.TheVariants as dec
-use Rattle.csicodec_actions.specs.declared.mode.TerminalMode.{TerminalMode}
-use Rattle.csicodec_actions.specs.declared.mode.TerminalMode.TheVariants as terminal
-use Rattle.csicodec_actions.specs.declared.mouse.MouseButton.{MouseButton}
-use Rattle.csicodec_actions.specs.Graphics.{IsUnnamedItem}
-use Rattle.csicodec_actions.specs.Mouse.{button_code, pressed, released}
 
 -- a byte; a value of a kind, as its number; a value that is left out where its number is this one; an extension of a terminal, as its token
 pub data Item : Type 0 where

@@ -1,5 +1,5 @@
 -- What is answered of the sequence at the front.
-use Rattle.std.proofs.Common.{◌≡◌, ◌⊎◌, ◌-◌, ◌++◌, ℕ, List, length, refl, ap, ◌∙◌, inl, inr, arith}
+use Rattle.std.proofs.Common.{◌⊎◌, ◌-◌, ℕ, List, length, refl, ap, inl, inr, arith}
 use Rattle.std.proofs.lemmas.List.{length-append}
 use Rattle.csicodec_tokens.specs.declared.param.CsiParam.{CsiParam}
 use Rattle.csicodec_tokens.specs.declared.reader.ReadError.TheVariants as reading

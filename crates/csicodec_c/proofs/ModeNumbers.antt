@@ -1,6 +1,6 @@
 -- What a mode's number is read as has this number.
-use Rattle.std.proofs.Common.{◌≡◌, ℕ, ◌<◌, List, Option, None, Some, refl, sym, ap, ◌∙◌, inl, inr, arith, pos, subst, nat_lt}
-use Rattle.std.specs.Prelude.{ℤ, negsuc, true, false, MatchOption}
+use Rattle.std.proofs.Common.{◌≡◌, ℕ, ◌<◌, List, Option, None, Some, refl, sym, ◌∙◌, inl, inr, arith, pos, nat_lt}
+use Rattle.std.specs.Prelude.{ℤ, negsuc}
 use Rattle.std.specs.Int.{FitsUnsignedBits}
 use Rattle.std.proofs.lemmas.Bool.{cases_Bool, false≢true, lt-ltb, ltb-true}
 use Rattle.std.proofs.lemmas.Int.{to_z-of_z}
@@ -15,7 +15,7 @@ use Rattle.csicodec_actions.specs.declared.mode.DecPrivateMode.{DecPrivateMode}
 use Rattle.csicodec_actions.specs.declared.mode.DecPrivateMode.TheVariants as dec
 use Rattle.csicodec_actions.specs.declared.mode.TerminalMode.{TerminalMode}
 use Rattle.csicodec_actions.specs.declared.mode.TerminalMode.TheVariants as terminal
-use Rattle.csicodec_actions.specs.Kinds.{Dec, Terminal, below, code_or, read, short}
+use Rattle.csicodec_actions.specs.Kinds.{Dec, Terminal, code_or, read, short}
 use Rattle.csicodec_actions.specs.Modes.{dec_number, terminal_number}
 use Rattle.csicodec_c.specs.Private.Candidates.{Reads}
 

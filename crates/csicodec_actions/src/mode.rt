@@ -224,9 +224,9 @@ impl Switch {
         }
     }
 
-    /// The final byte of what does it.
+    /// The final byte of the sequence that does it.
     #[inline(always)]
-    pub fn end(self) -> u8
+    pub fn final_byte(self) -> u8
         ensures is { (mode : TerminalMode) → (written_mode (switched self mode)).final ≡ result }
         ensures ascii { result < 128 }
     {
@@ -259,9 +259,9 @@ impl Change {
         }
     }
 
-    /// The final byte of what does it.
+    /// The final byte of the sequence that does it.
     #[inline(always)]
-    pub fn end(self) -> u8
+    pub fn final_byte(self) -> u8
         ensures is { (mode : DecPrivateMode) → (written_mode (changed self mode)).final ≡ result }
         ensures ascii { result < 128 }
     {

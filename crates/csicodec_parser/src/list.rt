@@ -46,6 +46,7 @@ pub fn list_into<L: Look, S: Sink>(
             Some(action) => sink.take(action),
             None => rest_into(look, end, sink),
         },
+        // attributes by an arm of their own, so that the loop is compiled for them alone
         Group::Styles => pieces_into(Group::Styles, look, end, sink),
         group => pieces_into(group, look, end, sink),
     }

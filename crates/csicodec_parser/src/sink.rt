@@ -140,10 +140,10 @@ impl Sink for Texts {
         match (group, first) {
             (Group::Styles, CsiParam::Integer(number)) => append_code(number, &mut self.bytes),
             (Group::Modes(switch), CsiParam::Integer(number)) => {
-                append_mode("", number, switch.end(), &mut self.bytes)
+                append_mode("", number, switch.final_byte(), &mut self.bytes)
             }
             (Group::DecModes(change), CsiParam::Integer(number)) => {
-                append_mode("?", number, change.end(), &mut self.bytes)
+                append_mode("?", number, change.final_byte(), &mut self.bytes)
             }
             _ => Ok(false),
         }

@@ -28,7 +28,7 @@ returns-in-Modes-Integer-clause-some c =
     if_ok c.append_mode.result
     (λ known h yes.
     let (n, is, small, appended) = h yes in
-    let first = terminal_first c.in-Modes-Integer.switch n c.end.result small c.end.ensures.is in
+    let first = terminal_first c.in-Modes-Integer.switch n c.final_byte.result small c.final_byte.ensures.is in
     let at : c.args.first ≡ Integer (pos n) = c.in-Modes-Integer.is-1 ∙ ap (λ z. Integer z) (sym (to_z-of_z w64 c.in-Modes-Integer.number fits) ∙ is) in
     (first.action, λ others. rw (c.in-Modes-Integer.is-0, at) (first.fronts others), first_taken _ _ _ _ _ first appended))
     c.append_mode.ensures.known
@@ -39,7 +39,7 @@ returns-in-DecModes-Integer-clause-some c =
     if_ok c.append_mode-in-DecModes-Integer.result
     (λ known h yes.
     let (n, is, small, appended) = h yes in
-    let first = dec_first c.in-DecModes-Integer.change n c.end-in-DecModes-Integer.result small c.end-in-DecModes-Integer.ensures.is in
+    let first = dec_first c.in-DecModes-Integer.change n c.final_byte-in-DecModes-Integer.result small c.final_byte-in-DecModes-Integer.ensures.is in
     let at : c.args.first ≡ Integer (pos n) = c.in-DecModes-Integer.is-1 ∙ ap (λ z. Integer z) (sym (to_z-of_z w64 c.in-DecModes-Integer.number fits) ∙ is) in
     (first.action, λ others. rw (c.in-DecModes-Integer.is-0, at) (first.fronts others), first_taken _ _ _ _ _ first appended))
     c.append_mode-in-DecModes-Integer.ensures.known

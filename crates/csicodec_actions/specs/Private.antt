@@ -2,3 +2,4 @@
 pub mod MouseTexts
 pub mod DeviceTexts
 pub mod FieldSteps
+pub mod WindowTexts

@@ -207,7 +207,7 @@ pub enum Mode {
 }
 
 /// What `h` and `l` do to a mode.
-#[derive(Clone, Copy, Debug, PartialEq, Eq)]
+#[derive(Clone, Copy)]
 pub enum Switch {
     Set,
     Reset,
@@ -238,7 +238,7 @@ impl Switch {
 }
 
 /// What `h`, `l`, `s` and `r` do to a private mode.
-#[derive(Clone, Copy, Debug, PartialEq, Eq)]
+#[derive(Clone, Copy)]
 pub enum Change {
     Set,
     Reset,

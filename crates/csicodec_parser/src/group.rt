@@ -11,7 +11,7 @@ use csicodec_actions::{Change, DecPrivateMode, Switch, TerminalMode};
 use csicodec_base::{CsiParam, Sgr, sgr_front};
 
 /// How a list is read.
-#[derive(Clone, Copy, Debug, PartialEq, Eq)]
+#[derive(Clone, Copy)]
 pub enum Group {
     /// Whole: one action for the list.
     Whole,

@@ -21,7 +21,7 @@ use std::marker::Model;
 /// No piece is longer.
 pub(crate) const LONGEST: usize = 13;
 
-#[derive(Clone, Copy, Debug, PartialEq, Eq)]
+#[derive(Clone, Copy)]
 enum Stage {
     /// Nothing was read.
     Fresh,

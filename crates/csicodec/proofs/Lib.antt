@@ -19,3 +19,4 @@ pub mod Twice
 pub mod JoinedCuts
 pub mod Compose
 pub mod Filtered
+mod Known

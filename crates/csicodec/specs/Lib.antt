@@ -48,3 +48,4 @@ pub use Rattle.csicodec_parser.specs.Place
 pub use Rattle.csicodec_parser.specs.Progress
 pub use Rattle.csicodec_parser.specs.Run
 pub use Rattle.csicodec_parser.specs.Segments
+pub mod Known

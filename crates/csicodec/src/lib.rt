@@ -4,6 +4,7 @@
 
 mod filter;
 pub mod laws;
+mod memo;
 mod stream;
 mod words;
 

@@ -272,8 +272,13 @@ impl TextBuffer {
 
     /// Appends the first `count` bytes of a text, by one copy of all. On `Err`, out of memory, the bytes stay.
     #[inline(always)]
-    pub fn push_front(&mut self, text: &[u8; 8], count: usize) -> Result<(), AllocError>
-        requires { count ≤ 8 }
+    pub fn push_front<const N: usize>(
+        &mut self,
+        text: &[u8; N],
+        count: usize,
+    ) -> Result<(), AllocError>
+        requires short { N ≤ 48 }
+        requires count { count ≤ N }
         ensures ok { OnOk result (self.new ≡ self.old ++ take count text.now) }
         ensures err { OnErr result (self.new ≡ self.old) }
     {
@@ -301,7 +306,7 @@ impl TextBuffer {
 }
 
 /// The room that each append wants.
-const ROOM: usize = 32;
+const ROOM: usize = 48;
 
 /// The most that is made ready at once. A processor fills so much by plain writes, which cost less than the instruction for long fills.
 const MOST: usize = 1024;
@@ -310,7 +315,7 @@ const MOST: usize = 1024;
 #[inline(always)]
 fn put(bytes: &mut Vec<u8>, len: usize, part: &[u8], count: usize) -> Result<(), AllocError>
     requires within { len ≤ vec_len bytes.old }
-    requires short { length part.now ≤ 32 }
+    requires short { length part.now ≤ 48 }
     requires count { count ≤ length part.now }
     ensures ok { OnOk result (take (len + count) bytes.new.items ≡ take len bytes.old.items ++ take count part.now) }
     ensures room { OnOk result (len + count ≤ vec_len bytes.new) }
@@ -324,14 +329,14 @@ fn put(bytes: &mut Vec<u8>, len: usize, part: &[u8], count: usize) -> Result<(),
     Ok(())
 }
 
-/// Makes some room ready behind the first bytes: at least 32 bytes, and more where there are many.
+/// Makes some room ready behind the first bytes: at least 48 bytes, and more where there are many.
 #[cold]
 #[inline(never)]
 fn widen(bytes: &mut Vec<u8>, len: usize) -> Result<(), AllocError>
     requires { len ≤ vec_len bytes.old }
     ensures same { take len bytes.new.items ≡ take len bytes.old.items }
     ensures within { len ≤ vec_len bytes.new }
-    ensures room { OnOk result (len + 32 ≤ vec_len bytes.new) }
+    ensures room { OnOk result (len + 48 ≤ vec_len bytes.new) }
 {
     if bytes.capacity() == 0 {
         let alloc = *bytes.allocator();

@@ -7,11 +7,11 @@ use Rattle.csicodec.proofs.stream.stream_into.Goals as goal
 
 pub loop-init : goal.loop-init
 loop-init g c =
-    ([], [], Consumes-nil (g.R.Read.remaining c.args.input.now), ([], append-nil c.args.read.items, record { sequences = []; join = refl; each = refl }), c.requires, omega (arith, ap length (append-nil c.args.read.items)))
+    ([], [], Consumes-nil (g.R.Read.remaining c.args.input.now), ([], append-nil c.args.read.items, record { sequences = []; join = refl; each = refl }), c.requires, omega (arith, ap length (append-nil c.args.read.items)), c.new-memo.ensures)
 
 pub loop-preserved-then-len-enough : goal.loop-preserved-then-len-enough
 loop-preserved-then-len-enough g c =
-    let (more, xs, consumed, front, out, len) = c.loop.invariant in
+    let (more, xs, consumed, front, out, len, known) = c.loop.invariant in
     let (bytes, kept, count, now) = c.in_ok-count.ensures.grows in (
       more ++ bytes,
       xs,
@@ -19,11 +19,12 @@ loop-preserved-then-len-enough g c =
       front_read c.args.read.items more c.loop.held.items bytes c.read_some.new.kept.items xs front kept,
       out,
       length_read c.args.read.items more c.loop.held.items bytes c.read_some.new.kept.items c.loop.start len kept,
+      known,
     )
 
 pub returns-in-None-clause-ok : goal.returns-in-None-clause-ok
 returns-in-None-clause-ok g c = λ given whole.
-    let (more, xs, consumed, front, out, len) = c.loop.invariant in
+    let (more, xs, consumed, front, out, len, known) = c.loop.invariant in
     let (bytes, kept, count, now) = c.in_ok-count.ensures.grows in
     let (ys, part, put) = c.in-Ok.ensures.front in
     let read = c.args.read.items in
@@ -36,7 +37,7 @@ returns-in-None-clause-ok g c = λ given whole.
 
 pub returns-in-Some-error-clause-refused : goal.returns-in-Some-error-clause-refused
 returns-in-Some-error-clause-refused g c = λ given whole.
-    let (more, xs, consumed, front, out, len) = c.loop.invariant in
+    let (more, xs, consumed, front, out, len, known) = c.loop.invariant in
     let (bytes, kept, count, now) = c.in_ok-count.ensures.grows in
     let (ys, part, put) = c.in-Ok.ensures.front in
     let read = c.args.read.items in
@@ -52,7 +53,7 @@ returns-in-Some-error-clause-refused g c = λ given whole.
 
 pub returns-in-Some-2-clause-refused : goal.returns-in-Some-2-clause-refused
 returns-in-Some-2-clause-refused g c = λ given whole.
-    let (more, xs, consumed, front, out, len) = c.loop.invariant in
+    let (more, xs, consumed, front, out, len, known) = c.loop.invariant in
     let (bytes, kept, count, now) = c.in_ok-count.ensures.grows in
     let (ys, part, put) = c.in-Ok.ensures.front in
     let read = c.args.read.items in
@@ -67,7 +68,7 @@ returns-in-Some-2-clause-refused g c = λ given whole.
 
 pub loop-preserved : goal.loop-preserved
 loop-preserved g c =
-    let (more, xs, consumed, front, out, len) = c.loop.invariant in
+    let (more, xs, consumed, front, out, len, known) = c.loop.invariant in
     let (bytes, kept, count, now) = c.in_ok-count.ensures.grows in
     let (ys, part, put) = c.in-Ok.ensures.front in
     let read = c.args.read.items in
@@ -83,4 +84,15 @@ loop-preserved g c =
       rw left all,
       put xs out,
       omega (arith, longer, c.in-Some.ensures, c.deref.ensures.len, ap length c.deref.ensures.value, c.in-Ok.ensures.within, ap length left),
+      c.texts_into.ensures.known,
     )
+
+pub texts_into-requires-clause-known : goal.texts_into-requires-clause-known
+texts_into-requires-clause-known g c =
+    let (more, xs, consumed, front, out, len, known) = c.loop.invariant in
+    known
+
+pub texts_into-requires-clause-texts : goal.texts_into-requires-clause-texts
+texts_into-requires-clause-texts g c =
+    let (more, xs, consumed, front, out, len, known) = c.loop.invariant in
+    (xs, out)

@@ -13,7 +13,7 @@ use Rattle.csicodec_parser.specs.Segments.{BodyActions, CutActions, ActionsIn, A
 use Rattle.csicodec_parser.specs.Canonical.{IsUncut, IsUnknownIn, Canonical}
 use Rattle.csicodec_actions.specs.Ranges.{InRange}
 use Rattle.csicodec_parser.proofs.GroupOf.{marked-body}
-use Rattle.csicodec.proofs.OneReading.{Alone}
+use Rattle.csicodec_streams.proofs.OneReading.{Alone}
 use Rattle.csicodec.proofs.Spelling.{spelling-alone}
 use Rattle.csicodec.proofs.SgrSpelling.{sgr-spelling}
 use Rattle.csicodec.proofs.WrittenBack.{written-back}

@@ -8,14 +8,14 @@ use Rattle.csicodec_parser.specs.ActionOf.{action_of}
 use Rattle.csicodec_parser.specs.declared.actions.CSI.{CSI}
 use Rattle.csicodec_parser.specs.declared.actions.CSI.TheVariants as csi
 use Rattle.csicodec_parser.specs.Canonical.{Canonical}
-use Rattle.csicodec.specs.Decoding.{Joins, AreActions, Decodes}
+use Rattle.csicodec_streams.specs.Decoding.{Joins, AreActions, Decodes}
 use Rattle.csicodec.specs.Exact.{Exact}
 use Rattle.csicodec_actions.specs.Ranges.{InRange}
 use Rattle.csicodec_parser.specs.Segments.{Actions}
 use Rattle.csicodec_actions.specs.Table.{text}
 use Rattle.csicodec.proofs.Alone.{canonical-alone}
 use Rattle.csicodec_parser.proofs.Cuts.{actions_count}
-use Rattle.csicodec.proofs.OneReading.{Alone, one_decoding}
+use Rattle.csicodec_streams.proofs.OneReading.{Alone, one_decoding}
 use Rattle.csicodec.proofs.Parsed.{parsed-kept}
 use Rattle.csicodec.proofs.RoundTrip.{alone-only}
 use Rattle.csicodec.proofs.Twins.{IsParsedSpecial, special-twin}

@@ -1,9 +1,6 @@
 pub mod RowGroups
 pub mod Suffixes
-pub mod Splits
-pub mod Streamed
 mod Escapes
-pub mod OneReading
 pub mod Spelling
 pub mod Modes
 pub mod WrittenBack
@@ -18,5 +15,3 @@ pub mod Exactly
 pub mod Twice
 pub mod JoinedCuts
 pub mod Compose
-pub mod Filtered
-mod Known

@@ -20,7 +20,7 @@ use Rattle.csicodec_actions.specs.Written.{Written, tokens, written_text, AllGoo
 use Rattle.csicodec_parser.proofs.Fronts.{front_stuck, front_empty}
 use Rattle.csicodec_lists.proofs.Items.{sound, IsRead}
 use Rattle.csicodec.proofs.RowGroups.{whole-group}
-use Rattle.csicodec.proofs.OneReading.{decodes-one, Alone}
+use Rattle.csicodec_streams.proofs.OneReading.{decodes-one, Alone}
 
 pub record Spelling (flag : Bool) (a : Action) : Type 0 where
   pub list : List CsiParam

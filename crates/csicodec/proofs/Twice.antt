@@ -5,13 +5,13 @@ use Rattle.std.proofs.lemmas.Grind.{flat_map-append}
 use Rattle.csicodec_tokens.specs.declared.param.CsiParam.{CsiParam}
 use Rattle.csicodec_actions.specs.Actions.{Action}
 use Rattle.csicodec_parser.specs.Canonical.{Canonical}
-use Rattle.csicodec.specs.Decoding.{Joins, AreActions, Decodes}
+use Rattle.csicodec_streams.specs.Decoding.{Joins, AreActions, Decodes}
 use Rattle.csicodec.specs.Streams.{IsNormal, NormaliseTwice, Join}
 use Rattle.csicodec_actions.specs.Table.{text, texts}
 use Rattle.csicodec_lists.proofs.AllRows.{all-append}
 use Rattle.csicodec.proofs.Alone.{canonical-alone}
 use Rattle.csicodec.proofs.Kept.{Kept}
-use Rattle.csicodec.proofs.OneReading.{decodes-append}
+use Rattle.csicodec_streams.proofs.OneReading.{decodes-append}
 use Rattle.csicodec.proofs.Parsed.{parsed-kept}
 use Rattle.csicodec.proofs.Twins.{IsParsedSpecial, special-twin}
 

@@ -2,7 +2,7 @@
 use Rattle.std.specs.Prelude.{◌≡◌, ◌↔◌, List, [], ◌∷◌, Bool}
 use Rattle.csicodec_actions.specs.Actions.{Action}
 use Rattle.csicodec_parser.specs.Canonical.{Canonical}
-use Rattle.csicodec.specs.Decoding.{Decodes}
+use Rattle.csicodec_streams.specs.Decoding.{Decodes}
 use Rattle.csicodec_actions.specs.Table.{text}
 
 -- the text of the value is read as this one value, and as nothing else

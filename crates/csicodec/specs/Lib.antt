@@ -1,14 +1,9 @@
 pub mod Compose
-pub mod Decoding
 pub mod EscTexts
 pub mod Exact
-pub mod Filter
 pub mod RoundTrip
-pub mod Stream
 pub mod Streams
 pub mod Suffix
-pub mod Words
-pub mod Private
 pub use Rattle.csicodec_tokens.specs.Digits
 pub use Rattle.csicodec_names.specs.EnumNumbers
 pub use Rattle.csicodec_names.specs.Esc
@@ -48,4 +43,7 @@ pub use Rattle.csicodec_parser.specs.Place
 pub use Rattle.csicodec_parser.specs.Progress
 pub use Rattle.csicodec_parser.specs.Run
 pub use Rattle.csicodec_parser.specs.Segments
-pub mod Known
+pub use Rattle.csicodec_streams.specs.Decoding
+pub use Rattle.csicodec_streams.specs.Refusals
+pub use Rattle.csicodec_streams.specs.Words
+pub use Rattle.csicodec_filter.specs.Filter

@@ -2,11 +2,7 @@
 //! written.
 #![tactic(auto)]
 
-mod filter;
 pub mod laws;
-mod memo;
-mod stream;
-mod words;
 
 pub use csicodec_actions::{
     CharacterPath, Cursor, DecPrivateMode, Device, DeviceAttribute, DeviceAttributeFlags,
@@ -22,8 +18,8 @@ pub use csicodec_base::{
     TerminalModeCode, Text, Underline, VerticalAlign, behind_csi, read_csi, read_csi_into,
     read_csi_within, sgr_front,
 };
+pub use csicodec_filter::{Filter, NormalForm, Rewrite, append_spans, filter_all};
 pub use csicodec_parser::{CSI, CSIParser, Count, Look, Run, Tokens, Unspecified};
-pub use filter::{Filter, NormalForm, Rewrite, append_spans, filter_all};
-pub use stream::{
+pub use csicodec_streams::{
     DecodeError, RunError, decode_all, encode, encode_all, normal_form, normalise, parse_all,
 };

@@ -1,10 +1,10 @@
 -- What the call that normalises answers a C program.
 use Rattle.std.specs.Prelude.{ℕ, ◌≡◌, false, List, length}
 use Rattle.csicodec_tokens.specs.declared.reader.ReadError.TheVariants as reading
-use Rattle.csicodec.specs.declared.stream.DecodeError.{DecodeError}
-use Rattle.csicodec.specs.declared.stream.DecodeError.TheVariants as decoding
-use Rattle.csicodec.specs.Filter.{NormalisesTo}
-use Rattle.csicodec.specs.Stream.{RefusesDecode}
+use Rattle.csicodec_streams.specs.declared.error.DecodeError.{DecodeError}
+use Rattle.csicodec_streams.specs.declared.error.DecodeError.TheVariants as decoding
+use Rattle.csicodec_streams.specs.Decoding.{NormalisesTo}
+use Rattle.csicodec_streams.specs.Refusals.{RefusesDecode}
 use Rattle.csicodec_c.specs.declared.answer.Normalised.{Normalised}
 use Rattle.csicodec_c.specs.Room.{Fills}
 

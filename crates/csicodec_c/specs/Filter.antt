@@ -2,7 +2,8 @@
 use Rattle.std.specs.Prelude.{ℕ, ◌≡◌, ◌⊎◌, ◌≤◌, List, drop, length}
 use Rattle.csicodec_spans.specs.declared.table.Mode.{Mode}
 use Rattle.csicodec_spans.specs.declared.table.Mode.TheVariants as modes
-use Rattle.csicodec.specs.Filter.{NormalisesTo, Passes}
+use Rattle.csicodec_filter.specs.Filter.{Passes}
+use Rattle.csicodec_streams.specs.Decoding.{NormalisesTo}
 use Rattle.csicodec_c.specs.declared.filter.Filtered.{Filtered}
 use Rattle.csicodec_c.specs.Room.{Fills}
 

@@ -1,7 +1,8 @@
 //! A step of a filter whose state the caller keeps.
 ghost use Rattle.std.specs.Prelude.{◌≡◌, ◌≤◌, ◌<◌, ◌⊎◌, ◌↔◌, List, ℕ, length, drop, Some, IfOk};
 ghost use Rattle.csicodec_spans.specs.declared.table.Mode.{Mode};
-ghost use Rattle.csicodec.specs.Filter.{NormalisesTo, Passes};
+ghost use Rattle.csicodec_filter.specs.Filter.{Passes};
+ghost use Rattle.csicodec_streams.specs.Decoding.{NormalisesTo};
 ghost use Rattle.csicodec_c.specs.Filter.{IsDone, IsRefused, mode_number, refused};
 
 use crate::room::fill;

@@ -5,7 +5,7 @@ use Rattle.csicodec_tokens.specs.declared.param.CsiParam.{CsiParam}
 use Rattle.csicodec_tokens.specs.declared.reader.ReadError.{ReadError}
 use Rattle.csicodec_tokens.specs.declared.reader.ReadError.TheVariants.{NotCsi, BadByte, NumberTooLarge, Truncated, Memory}
 use Rattle.csicodec_tokens.specs.Sequence.{Seq}
-use Rattle.csicodec_tokens.specs.Fault.{Begins, FaultOf}
+use Rattle.csicodec_tokens.specs.Fault.{Begins, FaultOf, IsMetAt}
 use Rattle.csicodec_spans.specs.declared.table.Kind.{Kind}
 use Rattle.csicodec_spans.specs.declared.table.Kind.TheVariants as kind
 use Rattle.csicodec_spans.specs.declared.table.Mode.{Mode}
@@ -24,14 +24,6 @@ part k bs = record { kind = k; bytes = bs }
 -- the bytes are one control sequence
 abbrev pub IsSequence : List ℕ → Type 0
 IsSequence text = (list : List CsiParam) × (final : ℕ) × Seq text list final
-
--- the fault is met at this place
-abbrev pub IsMetAt : ReadError → ℕ → Type 0
-IsMetAt (NotCsi place) n = n ≡ place
-IsMetAt (BadByte place) n = n ≡ place
-IsMetAt (NumberTooLarge place) n = n ≡ place
-IsMetAt (Truncated place) n = ⊥
-IsMetAt Memory n = ⊥
 
 -- the first n bytes are the beginning of a sequence that goes wrong: they go up to the fault, or they are the first `limit`
 -- bytes, and have no end

@@ -1,8 +1,6 @@
 -- What the program tells of a run that failed.
 use Rattle.std.specs.Prelude.{ℕ, List, ◌++◌, codes}
-use Rattle.csicodec.specs.Words.{run_error_text}
-use Rattle.csicodec.specs.declared.stream.DecodeError.TheVariants as decoding
-use Rattle.csicodec.specs.declared.stream.RunError.TheVariants as run
+use Rattle.csicodec_streams.specs.Words.{run_error_text, run_status}
 use Rattle.csicodec_stream.specs.declared.report.Failure.{Failure}
 use Rattle.csicodec_stream.specs.declared.report.Failure.TheVariants as failure
 
@@ -16,8 +14,4 @@ line (failure.Run error) = codes "csicodec: " ++ run_error_text error
 abbrev pub status : Failure → ℕ
 status failure.Usage = 64
 status failure.Open = 2
-status (failure.Run run.Read) = 2
-status (failure.Run run.Write) = 2
-status (failure.Run (run.Decode (decoding.Read start error))) = 1
-status (failure.Run (run.Decode decoding.Memory)) = 3
-status (failure.Run run.Memory) = 3
+status (failure.Run error) = run_status error

@@ -3,10 +3,11 @@ ghost use Rattle.std.specs.Prelude.{◌≤◌, IfOk, length};
 
 use crate::LIMIT;
 use crate::page::Page;
-use csicodec::{CsiParam, RunError};
+use csicodec_base::CsiParam;
 use csicodec_spans::{Kind, Mode, next_span_into};
+use csicodec_streams::{CHUNK, RunError, keep_from, receive, send};
 use std::alloc::{AllocError, Global};
-use std::io::{ErrorKind, Read, Write};
+use std::io::{Read, Write};
 
 /// Adds the lines of all spans that are sure; how many bytes they are, and the mode behind them.
 fn add_spans(
@@ -55,9 +56,7 @@ impl Explainer {
         self.pending.extend_from_slice(bytes)?;
         let (used, mode) = add_spans(&mut self.page, &mut self.params, self.mode, &self.pending)?;
         self.mode = mode;
-        let len = self.pending.len();
-        self.pending.copy_within(used..len, 0);
-        self.pending.truncate(len - used);
+        keep_from(&mut self.pending, used);
         Ok(())
     }
 
@@ -68,12 +67,6 @@ impl Explainer {
         }
         self.page.close()
     }
-}
-
-/// Writes bytes, all of them, and flushes.
-fn send<W: Write>(output: &mut W, bytes: &[u8]) -> Result<(), RunError> {
-    output.write_all(bytes).map_err(|_| RunError::Write)?;
-    output.flush().map_err(|_| RunError::Write)
 }
 
 /// The last lines, and the totals where they are asked for.
@@ -103,21 +96,15 @@ pub fn explain<R: Read, W: Write>(
     output: &mut W,
 ) -> Result<(), RunError> {
     let mut explainer = Explainer::new(alloc);
-    let mut chunk = [0u8; 4096];
+    let mut chunk = [0u8; CHUNK];
     for _ in 0..u64::MAX {
-        match input.read(&mut chunk) {
-            Ok(0) => return end(alloc, count, &mut explainer, output),
-            Ok(len) => {
-                explainer.push(&chunk[..len]).map_err(|_| RunError::Memory)?;
-                send(output, explainer.page.lines())?;
-                explainer.page.clear();
-            }
-            Err(error) => {
-                if error.kind() != ErrorKind::Interrupted {
-                    return Err(RunError::Read);
-                }
-            }
+        let len = receive(input, &mut chunk)?;
+        if len == 0 {
+            return end(alloc, count, &mut explainer, output);
         }
+        explainer.push(&chunk[..len]).map_err(|_| RunError::Memory)?;
+        send(output, explainer.page.lines())?;
+        explainer.page.clear();
     }
     Err(RunError::Read)
 }

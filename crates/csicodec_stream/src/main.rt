@@ -10,7 +10,8 @@ mod report;
 mod totals;
 
 use command::{Command, Task, USAGE, VERSION, Words};
-use csicodec::{NormalForm, RunError, filter_all};
+use csicodec_filter::{NormalForm, filter_all};
+use csicodec_streams::RunError;
 use explain::explain;
 use report::Failure;
 use std::env;

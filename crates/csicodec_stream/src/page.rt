@@ -2,7 +2,8 @@
 
 use crate::escape::append_escaped;
 use crate::totals::Totals;
-use csicodec::{CSI, CsiParam, Esc};
+use csicodec_base::{CsiParam, Esc};
+use csicodec_parser::CSI;
 use csicodec_spans::{Kind, Mode};
 use csicodec_words::{Describe, Described};
 use std::alloc::{AllocError, Global};

@@ -3,7 +3,7 @@ ghost use Rattle.std.specs.Prelude.{◌≡◌, Some};
 ghost use Rattle.csicodec_stream.specs.Report.{line, status};
 ghost use Rattle.csicodec_stream.specs.declared.report.Failure.TheVariants.{Run as Ran};
 
-use csicodec::{DecodeError, RunError};
+use csicodec_streams::RunError;
 use std::fmt;
 
 /// Why a run failed.
@@ -33,9 +33,8 @@ impl Failure {
     {
         match self {
             Failure::Usage => 64,
-            Failure::Open | Failure::Run(RunError::Read | RunError::Write) => 2,
-            Failure::Run(RunError::Decode(DecodeError::Read { .. })) => 1,
-            Failure::Run(RunError::Decode(DecodeError::Memory) | RunError::Memory) => 3,
+            Failure::Open => 2,
+            Failure::Run(error) => error.status(),
         }
     }
 }

@@ -9,3 +9,4 @@ pub mod Reading
 pub mod Beginnings
 pub mod Decimal
 pub mod FieldsOf
+pub mod Longer

@@ -42,6 +42,14 @@ Fault bytes Memory = ⊥
 abbrev pub FaultOf : List ℕ → ReadError → Type 0
 FaultOf bytes e = NoSeq bytes × Fault bytes e
 
+-- the fault is met at this place
+abbrev pub IsMetAt : ReadError → ℕ → Type 0
+IsMetAt (NotCsi place) n = n ≡ place
+IsMetAt (BadByte place) n = n ≡ place
+IsMetAt (NumberTooLarge place) n = n ≡ place
+IsMetAt (Truncated place) n = ⊥
+IsMetAt Memory n = ⊥
+
 -- why these bytes may be refused so, where there is room for a number of tokens already
 abbrev pub Refuses : List ℕ → ℕ → ReadError → Type 0
 Refuses bytes room Memory = (list : List CsiParam) × (final : ℕ) × (rest : List ℕ) × Reads bytes list final rest × (room < length list)

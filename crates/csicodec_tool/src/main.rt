@@ -2,22 +2,19 @@
 //! of its own to standard output. Arguments are not looked at.
 #![tactic(auto)]
 
-mod report;
 #[cfg(test)]
 mod tests;
 
-use csicodec::normalise;
-use report::Report;
+use csicodec_streams::normalise;
 use std::process::ExitCode;
 
 fn main(rt: HostRuntime) -> ExitCode {
     match normalise(rt.alloc(), &mut rt.stdin(), &mut rt.stdout()) {
         Ok(()) => ExitCode::SUCCESS,
         Err(error) => {
-            let report = Report::from(error);
             // Where standard error is gone too, the status is all that can be told.
-            let _told = eprintln!(rt; "{report}");
-            ExitCode::from(report.status())
+            let _told = eprintln!(rt; "csicodec: {error}");
+            ExitCode::from(error.status())
         }
     }
 }

@@ -1,6 +1,7 @@
 //! What the program writes of worked sequences, and of its own output.
 
-use csicodec::normalise;
+use csicodec_base::ReadError;
+use csicodec_streams::{DecodeError, RunError, normalise};
 use std::alloc::Global;
 use std::test::Fail;
 
@@ -81,5 +82,52 @@ fn twice_is_once(rt: HostRuntime) -> Result<(), Fail> {
     let once = normal(rt.alloc(), &all)?;
     let twice = normal(rt.alloc(), &once)?;
     assert!(rt; twice == once);
+    Ok(())
+}
+
+/// The line that the program writes of each error, and its status.
+#[test]
+fn tells_each_error(rt: HostRuntime) -> Result<(), Fail> {
+    let refused = |start, error| RunError::Decode(DecodeError::Read { start, error });
+    for (error, line, status) in [
+        (
+            refused(0, ReadError::NotCsi { at: 1 }),
+            "csicodec: byte 1: not a sequence",
+            1,
+        ),
+        (
+            refused(2, ReadError::BadByte { at: 3 }),
+            "csicodec: byte 5: bad byte",
+            1,
+        ),
+        (
+            refused(0, ReadError::NumberTooLarge { at: 20 }),
+            "csicodec: byte 20: number too large",
+            1,
+        ),
+        (
+            refused(3, ReadError::Truncated { at: 3 }),
+            "csicodec: byte 6: truncated",
+            1,
+        ),
+        (
+            refused(usize::MAX, ReadError::Truncated { at: usize::MAX }),
+            "csicodec: byte 36893488147419103230: truncated",
+            1,
+        ),
+        (RunError::Read, "csicodec: read fault", 2),
+        (RunError::Write, "csicodec: write fault", 2),
+        (RunError::Memory, "csicodec: no memory", 3),
+        (
+            RunError::Decode(DecodeError::Memory),
+            "csicodec: no memory",
+            3,
+        ),
+        (refused(0, ReadError::Memory), "csicodec: no memory", 3),
+    ] {
+        let told = format!(in rt.alloc(); "csicodec: {error}")?;
+        assert_eq!(rt; told.as_str(), line);
+        assert_eq!(rt; error.status(), status, "at {line}");
+    }
     Ok(())
 }

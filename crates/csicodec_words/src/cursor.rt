@@ -2,7 +2,8 @@
 
 use crate::amount::counted;
 use crate::describe::Describe;
-use csicodec::{Cursor, CursorStyle, CursorTabulationControl, OneBased, TabulationClear};
+use csicodec_actions::Cursor;
+use csicodec_base::{CursorStyle, CursorTabulationControl, OneBased, TabulationClear};
 use std::fmt;
 
 impl Describe for Cursor {

@@ -1,10 +1,10 @@
 //! What a terminal is, and its graphics, in words.
 
 use crate::describe::Describe;
-use csicodec::{
-    Device, DeviceAttribute, DeviceAttributeCodes, DeviceAttributeFlags, DeviceAttributes,
-    XtSmGraphics, XtSmGraphicsItem,
+use csicodec_actions::{
+    Device, DeviceAttribute, DeviceAttributeFlags, DeviceAttributes, XtSmGraphics, XtSmGraphicsItem,
 };
+use csicodec_base::DeviceAttributeCodes;
 use std::fmt;
 
 impl Describe for Device {

@@ -2,7 +2,8 @@
 
 use crate::amount::counted;
 use crate::describe::Describe;
-use csicodec::{Edit, EraseInDisplay, EraseInLine};
+use csicodec_actions::Edit;
+use csicodec_base::{EraseInDisplay, EraseInLine};
 use std::fmt;
 
 impl Describe for Edit {

@@ -1,7 +1,7 @@
 //! Escape sequences, in words.
 
 use crate::describe::Describe;
-use csicodec::{Esc, EscCode};
+use csicodec_base::{Esc, EscCode};
 use std::fmt;
 
 impl Describe for Esc {

@@ -2,7 +2,8 @@
 
 use crate::describe::Describe;
 use bitflags::Flags;
-use csicodec::{CharacterPath, Keyboard, KittyKeyboardFlags, KittyKeyboardMode};
+use csicodec_actions::{CharacterPath, Keyboard, KittyKeyboardMode};
+use csicodec_base::KittyKeyboardFlags;
 use std::fmt;
 
 impl Describe for Keyboard {

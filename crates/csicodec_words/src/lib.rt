@@ -17,7 +17,7 @@ mod tests;
 mod window;
 
 use crate::keyboard::path;
-use csicodec::{CSI, Unspecified};
+use csicodec_parser::{CSI, Unspecified};
 pub use describe::{Describe, Described};
 use std::fmt;
 

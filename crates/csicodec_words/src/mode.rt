@@ -1,10 +1,8 @@
 //! Modes, in words.
 
 use crate::describe::Describe;
-use csicodec::{
-    DecPrivateMode, DecPrivateModeCode, Mode, TerminalMode, TerminalModeCode,
-    XtermKeyModifierResource,
-};
+use csicodec_actions::{DecPrivateMode, Mode, TerminalMode, XtermKeyModifierResource};
+use csicodec_base::{DecPrivateModeCode, TerminalModeCode};
 use std::fmt;
 
 impl Describe for Mode {

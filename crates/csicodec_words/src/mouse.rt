@@ -2,7 +2,8 @@
 
 use crate::describe::Describe;
 use bitflags::Flags;
-use csicodec::{Modifiers, MouseButton, MouseReport};
+use csicodec_actions::{MouseButton, MouseReport};
+use csicodec_base::Modifiers;
 use std::fmt;
 
 impl Describe for MouseReport {

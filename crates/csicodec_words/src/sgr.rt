@@ -1,7 +1,7 @@
 //! Attributes of text, in words.
 
 use crate::describe::Describe;
-use csicodec::{AnsiColor, Blink, ColorSpec, Font, Intensity, Sgr, Underline, VerticalAlign};
+use csicodec_base::{AnsiColor, Blink, ColorSpec, Font, Intensity, Sgr, Underline, VerticalAlign};
 use std::fmt;
 
 impl Describe for Sgr {
@@ -125,7 +125,7 @@ fn name_of(color: AnsiColor) -> &'static str {
 mod tests {
     use super::*;
     use crate::describe::Described;
-    use csicodec::SrgbaTuple;
+    use csicodec_base::SrgbaTuple;
     use std::test::Fail;
 
     #[test]

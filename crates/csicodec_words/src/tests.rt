@@ -1,7 +1,10 @@
 //! The words of each action, a line for each variant, by the text that the action has.
 
 use crate::describe::Described;
-use csicodec::{CSI, CharacterPath, CsiParam, Cursor, Edit, Sgr, decode_all, parse_all};
+use csicodec_actions::{CharacterPath, Cursor, Edit};
+use csicodec_base::{CsiParam, Sgr};
+use csicodec_parser::CSI;
+use csicodec_streams::{decode_all, parse_all};
 use std::alloc::Global;
 use std::process::Abort;
 use std::test::Fail;

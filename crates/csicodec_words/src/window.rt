@@ -1,7 +1,7 @@
 //! What is done to the terminal's window, in words.
 
 use crate::describe::Describe;
-use csicodec::Window;
+use csicodec_actions::Window;
 use std::fmt;
 
 impl Describe for Window {
@@ -89,7 +89,7 @@ fn words(window: &Window) -> &'static str {
 mod tests {
     use super::*;
     use crate::describe::Described;
-    use csicodec::OneBased;
+    use csicodec_base::OneBased;
     use std::test::Fail;
 
     #[test]

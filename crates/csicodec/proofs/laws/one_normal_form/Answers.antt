@@ -1,6 +1,6 @@
 use Rattle.std.proofs.Common.{false, sym, ap, ◌∙◌}
 use Rattle.csicodec_actions.specs.Table.{texts}
-use Rattle.csicodec.proofs.OneReading.{one_decoding}
+use Rattle.csicodec_streams.proofs.OneReading.{one_decoding}
 use Rattle.csicodec.proofs.laws.one_normal_form.Goals as goal
 
 pub returns : goal.returns

@@ -1,0 +1,196 @@
+-- The texts of parts, span by span.
+use Rattle.std.proofs.Common.{◌≡◌, ◌≢◌, ◌<◌, ◌⊎◌, ℕ, false, Option, None, Some, IfSome, MatchOption, List, [], ◌∷◌, ◌++◌, length, take, refl, sym, ap, subst, ◌∙◌, append_assoc, append-nil}
+use Rattle.std.specs.List.{AllByRecursion, flat_map}
+use Rattle.std.specs.Io.KnownBytes.{Appends, Consumes, IsAtEnd, Keeps}
+use Rattle.std.proofs.KnownBytes.{Appends-trans, Consumes-trans, Consumes-whole}
+use Rattle.csicodec_tokens.specs.declared.param.CsiParam.{CsiParam}
+use Rattle.csicodec_tokens.specs.Sequence.{Seq}
+use Rattle.csicodec_spans.specs.declared.table.Kind.{Kind}
+use Rattle.csicodec_spans.specs.declared.table.Kind.TheVariants as kind
+use Rattle.csicodec_spans.specs.declared.table.Mode.{Mode}
+use Rattle.csicodec_spans.specs.declared.table.Mode.TheVariants as mode
+use Rattle.csicodec_spans.specs.Parts.{Part, part, left_over, bytes_of, AreAll, IsSpan}
+use Rattle.csicodec_spans.proofs.OneSpan.{none_unsure}
+use Rattle.csicodec_spans.proofs.Kept.{unsure_short, parts_more, parts_on}
+use Rattle.csicodec_spans.proofs.Once.{parts_front, whole_once}
+use Rattle.csicodec_actions.specs.Actions.{Action}
+use Rattle.csicodec_parser.specs.Segments.{Actions}
+use Rattle.csicodec_streams.specs.Decoding.{Decodes}
+use Rattle.csicodec_filter.specs.Filter.{WritesOne, IsWritten, AreWritten, Passes, Filters, IsFrontOf}
+
+pub weaker_part : (V W : List ℕ → List ℕ → Type 0) (k : Kind) (b t : List ℕ) → ((b t : List ℕ) → V b t → W b t) → IsWritten V k b t → IsWritten W k b t
+weaker_part V W kind.Csi b t f h = f b t h
+weaker_part V W kind.Text b t f h = h
+weaker_part V W kind.Esc b t f h = h
+weaker_part V W kind.Str b t f h = h
+weaker_part V W kind.Other b t f h = h
+
+weaker : (V W : List ℕ → List ℕ → Type 0) (ps : List Part) (t : List ℕ) → ((b t : List ℕ) → V b t → W b t) → AreWritten V ps t → AreWritten W ps t
+weaker V W [] t f h = h
+weaker V W (p ∷ ps) t f h = (h.0, h.1, h.2, weaker_part V W p.kind p.bytes h.0 f h.3, weaker V W ps h.1 f h.4)
+
+pub passes_weaker : (V W : List ℕ → List ℕ → Type 0) (limit : ℕ) (m : Mode) (bytes text held : List ℕ) (a : Mode) → ((b t : List ℕ) → V b t → W b t) → Passes V limit m bytes text held a → Passes W limit m bytes text held a
+passes_weaker V W limit m bytes text held a f h = record { parts = h.parts; first = h.first; unsure = h.unsure; written = weaker V W h.parts text f h.written }
+
+-- ---- what is written for each sequence
+
+module _ (Writes : List ℕ → List ℕ → Type 0) where
+  pub written_on : (ps qs : List Part) (s t : List ℕ) → AreWritten Writes ps s → AreWritten Writes qs t → AreWritten Writes (ps ++ qs) (s ++ t)
+  written_on [] qs s t h k = rw h k
+  written_on (p ∷ ps) qs s t h k =
+      (h.0, h.1 ++ t, ap (λ (x : List ℕ). x ++ t) h.2 ∙ append_assoc h.0 h.1 t, h.3, written_on ps qs h.1 t h.4 k)
+
+  plain : (k : Kind) (qs : List Part) → ((b : List ℕ) → IsWritten Writes k b b) → AllByRecursion (λ (p : Part). p.kind ≡ k) qs → AreWritten Writes qs (flat_map bytes_of qs)
+  plain k [] f h = refl
+  plain k (q ∷ qs) f h = (q.bytes, flat_map bytes_of qs, refl, subst (λ (x : Kind). IsWritten Writes x q.bytes q.bytes) (sym h.0) (f q.bytes), plain k qs f h.1)
+
+  all_plain : (k : Kind) (bytes t : List ℕ) (qs : List Part) → ((b : List ℕ) → IsWritten Writes k b b) → AreAll k bytes qs → t ≡ bytes → AreWritten Writes qs t
+  all_plain k bytes t qs f s e = subst (λ (x : List ℕ). AreWritten Writes qs x) (s.joined ∙ sym e) (plain k qs f s.all)
+
+  one : (k : Kind) (bytes t : List ℕ) (qs : List Part) → qs ≡ part k bytes ∷ [] → IsWritten Writes k bytes t → AreWritten Writes qs t
+  one k bytes t qs e n = rw e (t, [], sym (append-nil t), n, refl)
+
+  pub written_span : (k : Kind) (bytes t : List ℕ) (qs : List Part) → IsSpan k bytes qs → IsWritten Writes k bytes t → AreWritten Writes qs t
+  written_span kind.Csi bytes t qs s n = one kind.Csi bytes t qs s n
+  written_span kind.Esc bytes t qs s n = one kind.Esc bytes t qs s n
+  written_span kind.Text bytes t qs s n = all_plain kind.Text bytes t qs (λ b. refl) s n
+  written_span kind.Str bytes t qs s n = all_plain kind.Str bytes t qs (λ b. refl) s n
+  written_span kind.Other bytes t qs s n = all_plain kind.Other bytes t qs (λ b. refl) s n
+
+  -- what is left at the end passes as it is
+  written_left : (rest : List ℕ) → AreWritten Writes (left_over rest) rest
+  written_left [] = refl
+  written_left (b ∷ rest) = (b ∷ rest, [], sym (append-nil (b ∷ rest)), refl, refl)
+
+  -- by its final byte, a span's text
+  pub by_control : (control : Option ℕ) (k : Kind) (bytes text : List ℕ) (list : List CsiParam) → MatchOption control (k ≢ kind.Csi) (λ final. (k ≡ kind.Csi) × Seq bytes list final)
+      → MatchOption control (text ≡ bytes) (λ final. Writes bytes text) → IsWritten Writes k bytes text
+  by_control None kind.Csi bytes text list h w = absurd (h refl)
+  by_control None kind.Text bytes text list h w = w
+  by_control None kind.Esc bytes text list h w = w
+  by_control None kind.Str bytes text list h w = w
+  by_control None kind.Other bytes text list h w = w
+  by_control (Some final) k bytes text list h w = rw h.0 w
+
+  -- a chunk more
+  pub passes_on : (limit : ℕ) (m n a : Mode) (first second left rest s t : List ℕ) → Passes Writes limit m first s left n → Passes Writes limit n (left ++ second) t rest a → Passes Writes limit m (first ++ second) (s ++ t) rest a
+  passes_on limit m n a first second left rest s t h k = record {
+    parts = h.parts ++ k.parts;
+    first = parts_on limit h.parts k.parts m (first ++ second) (left ++ second) rest n a (parts_more limit h.parts m first second left n h.first) k.first;
+    unsure = k.unsure;
+    written = written_on h.parts k.parts s t h.written k.written;
+  }
+
+  -- the end
+  pub filters : (limit : ℕ) (m a : Mode) (bytes text rest : List ℕ) → Passes Writes limit m bytes text rest a → Filters Writes limit m bytes (text ++ rest)
+  filters limit m a bytes text rest h = record {
+    parts = h.parts ++ left_over rest;
+    whole = record { sure = h.parts; rest = rest; after = a; first = h.first; unsure = h.unsure; whole = refl };
+    written = written_on h.parts (left_over rest) text rest h.written (written_left rest);
+  }
+
+  -- nothing came yet
+  pub passes_none : (limit : ℕ) → Passes Writes limit mode.Text [] [] [] mode.Text
+  passes_none limit = record { parts = []; first = (refl, refl); unsure = none_unsure limit mode.Text; written = refl }
+
+  -- what is held is short
+  pub short : (limit : ℕ) (m a : Mode) (bytes text held : List ℕ) → Passes Writes limit m bytes text held a → (length held < limit) ⊎ (length held < 3)
+  short limit m a bytes text held h = unsure_short limit a held h.unsure
+
+  -- ---- one text
+
+  one_part : WritesOne Writes → (k : Kind) (b s t : List ℕ) → IsWritten Writes k b s → IsWritten Writes k b t → s ≡ t
+  one_part unique kind.Csi b s t h k = unique b s t h k
+  one_part unique kind.Text b s t h k = h ∙ sym k
+  one_part unique kind.Esc b s t h k = h ∙ sym k
+  one_part unique kind.Str b s t h k = h ∙ sym k
+  one_part unique kind.Other b s t h k = h ∙ sym k
+
+  -- the text of more parts goes on with that of the first
+  front_text : WritesOne Writes → (ps more : List Part) (s t : List ℕ) → AreWritten Writes ps s → AreWritten Writes (ps ++ more) t → (rest : List ℕ) × (t ≡ s ++ rest)
+  front_text unique [] more s t h k = (t, rw h refl)
+  front_text unique (p ∷ ps) more s t h k =
+      let first = one_part unique p.kind p.bytes h.0 k.0 h.3 k.3 in
+      let (rest, e) = front_text unique ps more h.1 k.1 h.4 k.4 in
+      (rest, k.2 ∙ ap (λ (x : List ℕ). x ++ k.1) (sym first) ∙ ap (λ (x : List ℕ). h.0 ++ x) e ∙ sym (append_assoc h.0 h.1 rest) ∙ ap (λ (x : List ℕ). x ++ rest) (sym h.2))
+
+  -- what passed before the others came is a front of the whole text
+  pub passes_front : (limit : ℕ) (m a : Mode) (read more text held : List ℕ) → Passes Writes limit m read text held a → IsFrontOf Writes limit m (read ++ more) text
+  passes_front limit m a read more text held h unique whole f =
+      let w = f.whole in
+      let (others, e) = parts_front limit h.parts w.sure m (read ++ more) (held ++ more) w.rest a w.after (parts_more limit h.parts m read more held a h.first) w.first w.unsure in
+      let parts : f.parts ≡ h.parts ++ (others ++ left_over w.rest) = w.whole ∙ ap (λ (x : List Part). x ++ left_over w.rest) e ∙ append_assoc h.parts others (left_over w.rest) in
+      front_text unique h.parts (others ++ left_over w.rest) text whole h.written (subst (λ (x : List Part). AreWritten Writes x whole) parts f.written)
+
+  -- and so is a front of it
+  pub shorter_front : (limit : ℕ) (m : Mode) (bytes sent unsent : List ℕ) → IsFrontOf Writes limit m bytes (sent ++ unsent) → IsFrontOf Writes limit m bytes sent
+  shorter_front limit m bytes sent unsent h unique whole f =
+      let (rest, e) = h unique whole f in
+      (unsent ++ rest, e ∙ append_assoc sent unsent rest)
+
+  -- the whole text is a front of itself
+  pub filters_front : (limit : ℕ) (m : Mode) (bytes text : List ℕ) → Filters Writes limit m bytes text → IsFrontOf Writes limit m bytes text
+  filters_front limit m bytes text h unique whole f =
+      let same = whole_once limit m bytes f.parts h.parts f.whole h.whole in
+      let parts : f.parts ≡ h.parts ++ [] = same ∙ sym (append-nil h.parts) in
+      front_text unique h.parts [] text whole h.written (subst (λ (x : List Part). AreWritten Writes x whole) parts f.written)
+
+-- ---- readers and writers
+
+pub keeps_consumes : (a b c : Option (List ℕ)) (bs : List ℕ) → Keeps a b → Consumes b c bs → Consumes a c bs
+keeps_consumes None b c bs p q = tt
+keeps_consumes (Some x) None c bs p q = absurd p
+keeps_consumes (Some x) (Some y) None bs p q = absurd q
+keeps_consumes (Some x) (Some y) (Some z) bs p q = sym p ∙ q
+
+-- a stream from a reader to a writer, by what is known of both
+module _ (Writes : List ℕ → List ℕ → Type 0) where
+  abbrev pub SentFront : ℕ → Option (List ℕ) → Option (List ℕ) → Option (List ℕ) → Type 0
+  SentFront limit i w x = IfSome i (λ bytes. (sent : List ℕ) × IsFrontOf Writes limit mode.Text bytes sent × Appends w x sent)
+
+  -- what was written is a front, where some of the input was read
+  pub sent_front : (limit : ℕ) (a : Mode) (read text held sent unsent : List ℕ) (i j w x : Option (List ℕ)) → Consumes i j read → Passes Writes limit mode.Text read text held a
+      → text ≡ sent ++ unsent → Appends w x sent → SentFront limit i w x
+  sent_front limit a read text held sent unsent None j w x consumed passed parts written = tt
+  sent_front limit a read text held sent unsent (Some xs) None w x consumed passed parts written = absurd consumed
+  sent_front limit a read text held sent unsent (Some xs) (Some ys) w x consumed passed parts written =
+      let whole = passes_front Writes limit mode.Text a read ys text held passed in
+      (sent, rw consumed (shorter_front Writes limit mode.Text (read ++ ys) sent unsent (rw parts at whole)), written)
+
+  module _ (limit : ℕ) (a : Mode) (read text held buf : List ℕ) (count : ℕ) (i j k w x y : Option (List ℕ)) where
+    all_consumed : Consumes i j read → Consumes j k (take count buf) → count ≡ 0 → Consumes i k read
+    all_consumed consumed more none =
+        let same : read ++ take count buf ≡ read = ap (λ (n : ℕ). read ++ take n buf) none ∙ append-nil read in
+        subst (Consumes i k) same (Consumes-trans i j k read (take count buf) consumed more)
+
+    -- all that was written is what the filter makes of all that was read, where no byte is left and what was held went out too
+    pub all_filtered : Consumes i j read → Passes Writes limit mode.Text read text held a → Appends w x text → Consumes j k (take count buf) → count ≡ 0 → IsAtEnd k → Appends x y held
+        → IfSome i (λ bytes. (t : List ℕ) × Filters Writes limit mode.Text bytes t × Appends w y t)
+    all_filtered consumed passed written more none end ok =
+        let P : List ℕ → Type 0 = λ bytes. (t : List ℕ) × Filters Writes limit mode.Text bytes t × Appends w y t in
+        Consumes-whole i k read P (all_consumed consumed more none) end
+        (text ++ held, filters Writes limit mode.Text a read text held passed, Appends-trans w x y text held written ok)
+
+    -- and a front of it, where only some of what was held went out
+    pub all_front : (sent unsent : List ℕ) → Consumes i j read → Passes Writes limit mode.Text read text held a → Appends w x text → Consumes j k (take count buf) → count ≡ 0 → IsAtEnd k
+        → held ≡ sent ++ unsent → Appends x y sent → SentFront limit i w y
+    all_front sent unsent consumed passed written more none end parts some =
+        let P : List ℕ → Type 0 = λ bytes. (s : List ℕ) × IsFrontOf Writes limit mode.Text bytes s × Appends w y s in
+        let whole = filters_front Writes limit mode.Text read (text ++ held) (filters Writes limit mode.Text a read text held passed) in
+        let split : text ++ held ≡ (text ++ sent) ++ unsent = ap (λ (t : List ℕ). text ++ t) parts ∙ sym (append_assoc text sent unsent) in
+        Consumes-whole i k read P (all_consumed consumed more none) end
+        (text ++ sent, shorter_front Writes limit mode.Text read (text ++ sent) unsent (rw split at whole), Appends-trans w x y text sent written some)
+
+  -- a chunk more
+  pub one_more : (Now : List ℕ → List ℕ → Type 0) (limit other : ℕ) (n a : Mode) (read chunk text more held rest : List ℕ) → other ≡ limit → ((b t : List ℕ) → Now b t → Writes b t)
+      → Passes Writes limit mode.Text read text held n → Passes Now other n (held ++ chunk) more rest a → Passes Writes limit mode.Text (read ++ chunk) (text ++ more) rest a
+  one_more Now limit other n a read chunk text more held rest e same h k =
+      let later = passes_weaker Now Writes other n (held ++ chunk) more rest a same k in
+      passes_on Writes limit mode.Text n a read chunk held rest text more h (subst (λ (l : ℕ). Passes Writes l n (held ++ chunk) more rest a) e later)
+
+  -- and its front that went out
+  pub more_front : (limit : ℕ) (a : Mode) (all text more held sent unsent : List ℕ) (i k w x y : Option (List ℕ)) → Consumes i k all → Passes Writes limit mode.Text all (text ++ more) held a
+      → Appends w x text → more ≡ sent ++ unsent → Appends x y sent → SentFront limit i w y
+  more_front limit a all text more held sent unsent i k w x y consumed passed written parts some =
+      let split : text ++ more ≡ (text ++ sent) ++ unsent = ap (λ (t : List ℕ). text ++ t) parts ∙ sym (append_assoc text sent unsent) in
+      sent_front limit a all (text ++ more) held (text ++ sent) unsent i k w y consumed passed split (Appends-trans w x y text sent written some)

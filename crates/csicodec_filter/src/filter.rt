@@ -1,0 +1,144 @@
+//! A stream that is rewritten as it comes.
+ghost use Rattle.std.specs.Prelude.{◌≡◌, ◌<◌, ◌≤◌, ◌⊎◌, ◌++◌, ℕ, List, [], length, drop, MatchOption, OnOk, IfOk, IfSome};
+ghost use Rattle.csicodec_tokens.specs.Sequence.{Seq};
+ghost use Rattle.csicodec_spans.specs.declared.table.Mode.{Mode};
+ghost use Rattle.csicodec_spans.specs.declared.table.Mode.TheVariants.{Text as Plain};
+ghost use Rattle.csicodec_filter.specs.Filter.{Passes};
+
+use crate::rewrite::Rewrite;
+use csicodec_base::CsiParam;
+use csicodec_spans::{Mode, next_span_into};
+use csicodec_streams::keep_from;
+use std::alloc::{AllocError, Global};
+use std::marker::Model;
+
+/// The text of a span: what is written for a control sequence, and anything else as it is.
+fn append_span<T: Rewrite>(
+    rewrite: &mut T,
+    params: &[CsiParam],
+    control: Option<char>,
+    bytes: &[u8],
+    out: &mut Vec<u8>,
+) -> Result<(), AllocError>
+    requires { IfSome control (Seq bytes.now params.now) }
+    ensures text { OnOk result ((text : List ℕ) × MatchOption control (text ≡ bytes.now) (λ _. T.writes rewrite.old bytes.now text)
+        × (out.new.items ≡ out.old.items ++ text)) }
+    ensures same { OnOk result ((bytes text : List ℕ) → T.writes rewrite.new bytes text → T.writes rewrite.old bytes text) }
+{
+    match control {
+        Some(control) => rewrite.rewrite(bytes, params, control, out),
+        None => out.extend_from_slice(bytes),
+    }
+}
+
+/// Appends the texts of all spans of the bytes that are sure, and answers how many bytes they are, and the mode behind them.
+///
+/// It is a step of a [`Filter`] whose state the caller keeps: the next step begins in that mode, and with the bytes that are
+/// left, which are fewer than `limit`, or than 3, ahead of those that come. `params` is a buffer that is kept from step to
+/// step. Where nothing comes any more, the bytes that are left pass as they are.
+///
+/// ```text
+/// let (used, mode) =
+///     append_spans(&mut rewrite, &mut params, 65536, Mode::Text, b"a\x1b[01mb\x1b[", &mut out)?;
+/// // With a NormalForm "a\x1b[1mb" is appended, and used is 7: "\x1b[" waits for more.
+/// ```
+pub fn append_spans<T: Rewrite>(
+    rewrite: &mut T,
+    params: &mut Vec<CsiParam>,
+    limit: usize,
+    mode: Mode,
+    bytes: &[u8],
+    out: &mut Vec<u8>,
+) -> Result<(usize, Mode), AllocError>
+    requires { 0 < limit }
+    ensures passes { IfOk result (λ (used, after). (used ≤ length bytes.now) × (text : List ℕ)
+        × Passes (T.writes rewrite.old) limit mode bytes.now text (drop used bytes.now) after × (out.new.items ≡ out.old.items ++ text)) }
+    ensures same { OnOk result ((bytes text : List ℕ) → T.writes rewrite.new bytes text → T.writes rewrite.old bytes text) }
+{
+    let mut rest = bytes;
+    let mut mode = mode;
+    while let Some(read) = next_span_into(params, limit, mode, rest)? {
+        append_span(rewrite, params, read.control, read.cut.span.bytes, out)?;
+        rest = read.cut.rest;
+        mode = read.cut.mode;
+    }
+    Ok((bytes.len() - rest.len(), mode))
+}
+
+/// A stream that is rewritten as it comes: each control sequence of at most `limit` bytes becomes what `R` writes for it, and
+/// every other byte passes as it is.
+///
+/// What a control sequence is, and what isn't one, is told by [`Spans`](csicodec_spans::Spans). It doesn't matter how the
+/// stream is cut into the slices that are pushed. After an `Err` the filter and what was appended are of no more use.
+///
+/// ```text
+/// let mut filter = Filter::new(alloc, 65536, NormalForm::new(alloc));
+/// filter.push(b"a\x1b[0", &mut out)?;      // appends "a"
+/// filter.push(b"1mb", &mut out)?;          // appends "\x1b[1mb"
+/// filter.finish(&mut out)?;                // appends what is held, here nothing
+/// ```
+#[derive(Drop)]
+pub struct Filter<R> {
+    rewrite: R,
+    limit: usize,
+    mode: Mode,
+    pending: Vec<u8>,
+    params: Vec<CsiParam>,
+}
+
+impl<R> Model for Filter<R> {
+    ghost use Rattle.std.specs.Prelude.{◌<◌};
+    ghost use Rattle.csicodec_filter.specs.Filter.{Held};
+
+    ghost Value = { Held R };
+
+    ghost view = { λ f. record { rewrite = f.rewrite; limit = f.limit; mode = f.mode; bytes = f.pending.items } };
+
+    ghost invariant = { λ f. 0 < f.limit };
+}
+
+impl<R: Rewrite + Drop> Filter<R> {
+    /// A stream of which nothing has come.
+    pub fn new(alloc: Global, limit: usize, rewrite: R) -> Filter<R>
+        requires { 0 < limit }
+        ensures { result ≡ record { rewrite = rewrite; limit = limit; mode = Plain; bytes = [] } }
+    {
+        Filter {
+            rewrite,
+            limit,
+            mode: Mode::Text,
+            pending: Vec::new(alloc),
+            params: Vec::new(alloc),
+        }
+    }
+
+    /// Takes the next bytes, and appends the texts of all that is sure now. What isn't is held, and is short: fewer bytes than
+    /// `limit`, or than 3 where that is less.
+    pub fn push(&mut self, bytes: &[u8], out: &mut Vec<u8>) -> Result<(), AllocError>
+        ensures passes { OnOk result ((text : List ℕ) × Passes (R.writes self.old.rewrite) self.old.limit self.old.mode (self.old.bytes ++ bytes.now) text self.new.bytes self.new.mode
+            × (out.new.items ≡ out.old.items ++ text)) }
+        ensures limit { OnOk result (self.new.limit ≡ self.old.limit) }
+        ensures same { OnOk result ((bytes text : List ℕ) → R.writes self.new.rewrite bytes text → R.writes self.old.rewrite bytes text) }
+        ensures short { OnOk result ((length self.new.bytes < self.new.limit) ⊎ (length self.new.bytes < 3)) }
+    {
+        self.pending.extend_from_slice(bytes)?;
+        let (used, mode) = append_spans(
+            &mut self.rewrite,
+            &mut self.params,
+            self.limit,
+            self.mode,
+            &self.pending,
+            out,
+        )?;
+        self.mode = mode;
+        keep_from(&mut self.pending, used);
+        Ok(())
+    }
+
+    /// Appends what is held: nothing comes any more.
+    pub fn finish(&mut self, out: &mut Vec<u8>) -> Result<(), AllocError>
+        ensures { OnOk result (out.new.items ≡ out.old.items ++ self.old.bytes) }
+    {
+        out.extend_from_slice(&self.pending)
+    }
+}

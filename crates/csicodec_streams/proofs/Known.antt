@@ -1,0 +1,122 @@
+-- Normal forms that are known.
+use Rattle.std.proofs.Common.{◌≡◌, ℕ, zero, suc, ◌+◌, ◌-◌, ◌%◌, ◌^◌, ◌≤◌, Bool, true, false, not, cond, eqb, w8, map, List, [], ◌∷◌, ◌++◌, length, take, drop, refl, sym, ap, subst, ◌∙◌, append_assoc, arith}
+use Rattle.std.proofs.Math.Seq.{take-append_seam, drop-append_seam}
+use Rattle.std.proofs.lemmas.List.{map-id, take-append-drop, take-take, take_all, length-append, length-drop}
+use Rattle.std.proofs.lemmas.Bool.{eqb-true}
+use Rattle.std.proofs.lemmas.Simd.{leading_from_mask_l, length-zip2, mask_l-mod, tops_compared, trailing_mask_l}
+use Rattle.std.specs.List.{prefix_len}
+use Rattle.std.specs.Simd.Lanes.{mask_l, top, zip2}
+use lib.Count.{count_trailing_zeros}
+use Rattle.csicodec_tokens.specs.declared.param.CsiParam.{CsiParam}
+use Rattle.csicodec_tokens.specs.Sequence.{Reads}
+use Rattle.csicodec_actions.specs.Actions.{Action}
+use Rattle.csicodec_actions.specs.Table.{text, texts}
+use Rattle.csicodec_parser.specs.Segments.{Actions}
+use Rattle.csicodec_streams.specs.Decoding.{Decodes}
+use Rattle.csicodec_streams.specs.Decoding.{NormalisesTo}
+use Rattle.csicodec_streams.proofs.OneReading.{one_sequence}
+use Rattle.csicodec_streams.proofs.Splits.{IsSplit}
+use Rattle.csicodec_streams.proofs.Streamed.{front_of, front_on, split_of}
+
+-- the texts of actions, and then of more
+pub texts_joined : (xs ys : List Action) → texts (xs ++ ys) ≡ texts xs ++ texts ys
+texts_joined [] ys = refl
+texts_joined (x ∷ xs) ys = ap (λ (l : List ℕ). text x ++ l) (texts_joined xs ys) ∙ sym (append_assoc (text x) (texts xs) (texts ys))
+
+-- some bytes more are decoded
+pub split_known : (bytes rest : List ℕ) (len : ℕ) (xs ys : List Action) → IsSplit bytes false rest xs → Decodes (take len rest) false ys → IsSplit bytes false (drop len rest) (xs ++ ys)
+split_known bytes rest len xs ys s d =
+    split_of bytes false (drop len rest) (xs ++ ys) (front_on bytes rest false (drop len rest) xs ys (front_of bytes false rest xs s) (take len rest, sym (take-append-drop len rest), d))
+
+-- bytes that begin as others have the normal form of those
+pub same_known : (bytes known text : List ℕ) (len n : ℕ) → len ≤ n → len ≤ 32 → take n (take 32 bytes) ≡ take n known → NormalisesTo (take len known) text → NormalisesTo (take len bytes) text
+same_known bytes known text len n within short same k =
+    let front : take len bytes ≡ take len known = sym (take-take len 32 bytes short) ∙ sym (take-take len n (take 32 bytes) within) ∙ ap (λ (l : List ℕ). take len l) same ∙ take-take len n known within in
+    subst (λ (l : List ℕ). NormalisesTo l text) (sym front) k
+
+-- the bytes of a sequence that was read decode to its actions
+pub read_known : (rest behind : List ℕ) (list : List CsiParam) (final : ℕ) (ys : List Action) (len : ℕ) → Reads rest list final behind → Actions list false final ys → len ≡ length rest - length behind → Decodes (take len rest) false ys
+read_known rest behind list final ys len r a is =
+    let long : len ≡ length r.0 = omega (arith, is, ap length r.2, length-append r.0 behind) in
+    let front : take len rest ≡ r.0 = ap (λ (l : List ℕ). take len l) r.2 ∙ ap (λ (n : ℕ). take n (r.0 ++ behind)) long ∙ take-append_seam r.0 behind in
+    subst (λ (l : List ℕ). Decodes l false ys) (sym front) (one_sequence r.0 list final ys r.1 a)
+
+-- what was appended to the texts of some actions are those of the further ones
+pub texts_behind : (xs ys : List Action) (old new : List ℕ) (len : ℕ) → old ≡ texts xs → new ≡ texts (xs ++ ys) → len ≡ length old → drop len new ≡ texts ys
+texts_behind xs ys old new len o n is =
+    ap (λ (l : List ℕ). drop len l) (n ∙ texts_joined xs ys ∙ ap (λ (l : List ℕ). l ++ texts ys) (sym o)) ∙ ap (λ (k : ℕ). drop k (old ++ texts ys)) is ∙ drop-append_seam old (texts ys)
+
+-- ---- lanes that are the same
+
+-- whether two lanes differ
+abbrev differ : ℕ → ℕ → Bool
+differ a b = not (eqb a b)
+
+-- as many lanes are the same as come before the first that differs
+same_before : (xs ys : List ℕ) → length xs ≡ length ys → take (prefix_len not (zip2 differ xs ys)) xs ≡ take (prefix_len not (zip2 differ xs ys)) ys
+same_before [] [] long = refl
+same_before [] (y ∷ ys) long = absurd (omega (arith, long))
+same_before (x ∷ xs) [] long = absurd (omega (arith, long))
+same_before (x ∷ xs) (y ∷ ys) long = go (prefix_len not (zip2 differ xs ys)) (eqb x y) refl (same_before xs ys (omega (arith, long)))
+  where
+    one : (n : ℕ) → 1 + n ≡ suc n
+    one n = omega arith
+
+    go : (n : ℕ) (b : Bool) → eqb x y ≡ b → take n xs ≡ take n ys → take (cond (not (not (eqb x y))) (1 + n) 0) (x ∷ xs) ≡ take (cond (not (not (eqb x y))) (1 + n) 0) (y ∷ ys)
+    go n true is same = rw (is, one n) (ap (λ (a : ℕ). a ∷ take n xs) (eqb-true x y is) ∙ ap (λ (l : List ℕ). y ∷ l) same)
+    go n false is same = rw is refl
+
+pub same_lanes : (xs ys : List ℕ) → length xs ≡ 32 → length ys ≡ 32 → (k : ℕ) → k ≡ count_trailing_zeros 64 (mask_l (zip2 differ xs ys)) → take k xs ≡ take k ys
+same_lanes xs ys long short k is = go (mask_l ms) refl
+  where
+    ms : List Bool
+    ms = zip2 differ xs ys
+
+    many : length ms ≡ 32
+    many = length-zip2 differ xs ys (long ∙ sym short) ∙ long
+
+    before : take (prefix_len not ms) xs ≡ take (prefix_len not ms) ys
+    before = same_before xs ys (long ∙ sym short)
+
+    go : (m : ℕ) → mask_l ms ≡ m → take k xs ≡ take k ys
+    go zero none =
+        let all : prefix_len not ms ≡ length ms = leading_from_mask_l (λ (b : Bool). b) ms (ap mask_l (map-id ms) ∙ none) in
+        let same : xs ≡ ys = sym (take_all (prefix_len not ms) xs (omega (arith, all, many, long))) ∙ before ∙ take_all (prefix_len not ms) ys (omega (arith, all, many, short)) in
+        ap (λ (l : List ℕ). take k l) same
+    go (suc m) some =
+        let first : count_trailing_zeros 64 (mask_l ms) ≡ prefix_len not ms =
+        ap (λ (l : List Bool). count_trailing_zeros 64 (mask_l l)) (sym (map-id ms))
+        ∙ trailing_mask_l (λ (b : Bool). b) 64 ms (omega (arith, many)) (rw (map-id ms) (omega (arith, some))) in
+        ap (λ (n : ℕ). take n xs) (is ∙ first) ∙ before ∙ ap (λ (n : ℕ). take n ys) (sym (is ∙ first))
+
+-- a comparison's mask, of lanes of bytes
+pub differing_mask : (xs ys : List ℕ) → length xs ≡ 32 → length ys ≡ 32
+    → count_trailing_zeros 64 (mask_l (map (top 7) (zip2 (λ a b. cond (differ a b) 255 0) xs ys)) % 2 ^ 64) ≡ count_trailing_zeros 64 (mask_l (zip2 differ xs ys))
+differing_mask xs ys long short =
+    ap (λ (ms : List Bool). count_trailing_zeros 64 (mask_l ms % 2 ^ 64)) (tops_compared w8 differ xs ys)
+    ∙ ap (count_trailing_zeros 64) (mask_l-mod (zip2 differ xs ys) 64 (omega (arith, length-zip2 differ xs ys (long ∙ sym short), long)))
+
+-- what is kept of bytes and their normal form
+pub slot_known : (bytes front text copied zs : List ℕ) (len : ℕ) → front ≡ take 32 bytes → copied ≡ text → len ≤ 32 → length text ≤ 48 → NormalisesTo (take len bytes) text
+    → (len ≤ 32) × (length text ≤ 48) × NormalisesTo (take len front) (take (length text) (copied ++ zs))
+slot_known bytes front text copied zs len is same short small k =
+    let begin : take len front ≡ take len bytes = ap (λ (l : List ℕ). take len l) is ∙ take-take len 32 bytes short in
+    let all : take (length text) (copied ++ zs) ≡ text = ap (λ (l : List ℕ). take (length text) (l ++ zs)) same ∙ take-append_seam text zs in
+    (short, small, subst (λ (l : List ℕ). NormalisesTo l (take (length text) (copied ++ zs))) (sym begin) (subst (λ (l : List ℕ). NormalisesTo (take len bytes) l) (sym all) k))
+
+-- texts that are known, behind those of the actions before
+pub texts_more : (before told ys : List Action) (old new text : List ℕ) → old ≡ texts (before ++ told) → new ≡ old ++ text → text ≡ texts ys → new ≡ texts (before ++ (told ++ ys))
+texts_more before told ys old new text o n t =
+    n ∙ ap (λ (l : List ℕ). l ++ text) o ∙ ap (λ (l : List ℕ). texts (before ++ told) ++ l) t ∙ sym (texts_joined (before ++ told) ys) ∙ ap texts (append_assoc before told ys)
+
+-- all bytes from a place on
+pub slice_from : (n : ℕ) (xs : List ℕ) → take (length xs - n) (drop n xs) ≡ drop n xs
+slice_from n xs = take_all (length xs - n) (drop n xs) (omega (arith, length-drop n xs))
+
+-- where nothing was known
+pub split_none_known : (bytes rest : List ℕ) (len : ℕ) (xs ys : List Action) → len ≡ 0 → IsSplit bytes false rest xs → Decodes (take len rest) false ys → IsSplit bytes false rest (xs ++ ys)
+split_none_known bytes rest len xs ys none s d = subst (λ (n : ℕ). IsSplit bytes false (drop n rest) (xs ++ ys)) none (split_known bytes rest len xs ys s d)
+
+-- texts that are joined are no shorter
+pub texts_longer : (xs ys : List Action) (old new : List ℕ) → old ≡ texts xs → new ≡ texts (xs ++ ys) → length old ≤ length new
+texts_longer xs ys old new o n = omega (arith, ap length o, ap length (n ∙ texts_joined xs ys), length-append (texts xs) (texts ys))

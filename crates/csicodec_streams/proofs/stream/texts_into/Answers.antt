@@ -1,0 +1,84 @@
+use Rattle.std.proofs.Common.{◌≡◌, ℕ, false, [], ◌++◌, List, length, refl, sym, ap, subst, ◌∙◌, append_assoc, append-nil, arith}
+use Rattle.csicodec_actions.specs.Table.{texts}
+use Rattle.csicodec_parser.specs.Private.Steps.{actions}
+use Rattle.csicodec_parser.proofs.Cuts.{actions_are}
+use Rattle.csicodec_streams.proofs.Known.{read_known, slice_from, split_known, split_none_known, texts_behind, texts_longer, texts_more}
+use Rattle.csicodec_streams.proofs.Splits.{IsSplit, split_none, split_more, begins}
+use Rattle.csicodec_streams.proofs.Streamed.{errs, front_of}
+use Rattle.csicodec_streams.proofs.stream.texts_into.Goals as goal
+
+pub loop-alloc-init : goal.loop-alloc-init
+loop-alloc-init c = ([], split_none c.args.bytes.now false, λ before h. h ∙ ap texts (sym (append-nil before)), c.requires.known)
+
+pub loop-alloc-preserved-then-known-gt0 : goal.loop-alloc-preserved-then-known-gt0
+loop-alloc-preserved-then-known-gt0 c =
+    let (told, split, held, known) = c.loop-alloc.invariant in
+    let (text, (ys, decodes, is), out) = c.recall-known.ensures.text in
+    let bytes = c.args.bytes.now in
+    let rest = c.loop-alloc.rest.now in
+    let len = c.recall-known.result in (
+      told ++ ys,
+      subst (λ (l : List ℕ). IsSplit bytes false l (told ++ ys)) (sym (slice_from len rest)) (split_known bytes rest len told ys split decodes),
+      λ before h. texts_more before told ys _ _ text (held before h) out is,
+      known,
+    )
+
+pub returns-in_err-list_into-in-Ok-clause-err : goal.returns-in_err-list_into-in-Ok-clause-err
+returns-in_err-list_into-in-Ok-clause-err c =
+    let (told, split, held, known) = c.loop-alloc.invariant in
+    let tail = c.in-Ok.tail in
+    errs c.from_residual.result (begins c.args.bytes.now c.loop-alloc.rest.now false told split _ tail.control tail.rest.now c.in-Ok.ensures.found)
+
+pub split_at-requires : goal.split_at-requires
+split_at-requires c =
+    let (told, split, held, known) = c.loop-alloc.invariant in
+    let (text, (none, decodes, is), out) = c.recall-known.ensures.text in
+    let (before, h) = c.requires.texts in
+    let xs = before ++ (told ++ none) in
+    let ys = actions c.deref.result.now false c.in-Ok.tail.control in
+    let mid = texts_more before told none _ _ text (held before h) out is in
+    texts_longer xs ys c.as_slice-before.result.now c.as_slice.result.now (c.as_slice-before.ensures ∙ mid)
+    (c.as_slice.ensures ∙ (rw c.new-tokens.ensures at c.in_ok-list_into-in-Ok.ensures.taken) xs mid)
+
+pub keep-requires-clause-normal : goal.keep-requires-clause-normal
+keep-requires-clause-normal c =
+    let (told, split, held, known) = c.loop-alloc.invariant in
+    let (text, (none, decodes, is), out) = c.recall-known.ensures.text in
+    let (before, h) = c.requires.texts in
+    let tail = c.in-Ok.tail in
+    let xs = before ++ (told ++ none) in
+    let ys = actions c.deref.result.now false tail.control in
+    let mid = texts_more before told none _ _ text (held before h) out is in
+    let old = c.as_slice-before.result.now in
+    let new = c.as_slice.result.now in (
+      ys,
+      read_known c.loop-alloc.rest.now tail.rest.now _ tail.control ys _ c.in-Ok.ensures.found (rw c.deref.ensures.value (actions_are c.read_csi_into.new.params.items false tail.control)) refl,
+      c.split_at.ensures.back
+          ∙ texts_behind xs ys old new (length old) (c.as_slice-before.ensures ∙ mid) (c.as_slice.ensures ∙ (rw c.new-tokens.ensures at c.in_ok-list_into-in-Ok.ensures.taken) xs mid) refl,
+    )
+
+pub loop-alloc-preserved : goal.loop-alloc-preserved
+loop-alloc-preserved c =
+    let (told, split, held, known) = c.loop-alloc.invariant in
+    let (text, (none, decodes, is), out) = c.recall-known.ensures.text in
+    let tail = c.in-Ok.tail in
+    let bytes = c.args.bytes.now in
+    let rest = c.loop-alloc.rest.now in
+    let ys = actions c.deref.result.now false tail.control in
+    let passed : c.recall-known.result ≡ 0 = omega (arith, c.if-known-gt0.false) in (
+      (told ++ none) ++ ys,
+      split_more bytes rest tail.rest.now false (told ++ none) ys _ tail.control (split_none_known bytes rest c.recall-known.result told none passed split decodes) c.in-Ok.ensures.found
+          (rw c.deref.ensures.value (actions_are c.read_csi_into.new.params.items false tail.control)),
+      λ before h. rw (← append_assoc) ((rw c.new-tokens.ensures at c.in_ok-list_into-in-Ok.ensures.taken) (before ++ (told ++ none)) (texts_more before told none _ _ text (held before h) out is)),
+      c.keep.ensures,
+    )
+
+pub returns-in-Err-clause-front : goal.returns-in-Err-clause-front
+returns-in-Err-clause-front c =
+    let (told, split, held, known) = c.loop-alloc.invariant in
+    let (text, (none, decodes, is), out) = c.recall-known.ensures.text in
+    let passed : c.recall-known.result ≡ 0 = omega (arith, c.if-known-gt0.false) in (
+      told ++ none,
+      front_of c.args.bytes.now false c.loop-alloc.rest.now (told ++ none) (split_none_known c.args.bytes.now c.loop-alloc.rest.now c.recall-known.result told none passed split decodes),
+      λ before h. texts_more before told none _ _ text (held before h) out is,
+    )

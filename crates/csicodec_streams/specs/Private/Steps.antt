@@ -1,0 +1,24 @@
+-- What the private steps of a decoding say to each other: how far it has come, and why it goes no further.
+use Rattle.std.specs.Prelude.{ℕ, ◌≡◌, ◌<◌, ◌++◌, Bool, true, false, List, [], length, Option, None, Some}
+use Rattle.csicodec_tokens.specs.declared.reader.ReadError.{ReadError}
+use Rattle.csicodec_tokens.specs.declared.reader.ReadError.TheVariants as read_errors
+use Rattle.csicodec_tokens.specs.Fault.{Refuses}
+use Rattle.csicodec_actions.specs.Actions.{Action}
+use Rattle.csicodec_streams.specs.Decoding.{Decodes}
+
+-- the sequences at the front of the bytes have these actions, and behind them comes the rest
+abbrev pub DecodesFront : List ℕ → Bool → List ℕ → List Action → Type 0
+DecodesFront bytes flag rest actions = (front : List ℕ) × (bytes ≡ front ++ rest) × Decodes front flag actions
+
+-- nothing is behind them, or what begins with no sequence, or with one for which there was no memory
+abbrev pub StopsAt : List ℕ → Option ReadError → Type 0
+StopsAt rest None = rest ≡ []
+StopsAt rest (Some error) = (0 < length rest) × ((room : ℕ) × Refuses rest room error)
+
+-- an error stays, whatever follows the bytes that have it; only those that end too early can go on
+abbrev pub stays : ReadError → Bool
+stays (read_errors.NotCsi place) = true
+stays (read_errors.BadByte place) = true
+stays (read_errors.NumberTooLarge place) = true
+stays (read_errors.Truncated place) = false
+stays read_errors.Memory = true

@@ -1,0 +1,165 @@
+//! Bytes to actions.
+ghost use Rattle.std.specs.Prelude.{◌≡◌, ◌++◌, ◌≤◌, List, Option, [], map, false, length, OnErr, OnOk, IfOk, IfErr};
+ghost use Rattle.csicodec_streams.specs.declared.error.DecodeError.TheVariants.{Memory};
+ghost use Rattle.csicodec_actions.specs.Actions.{Action};
+ghost use Rattle.csicodec_parser.specs.ActionOf.{action_of};
+ghost use Rattle.csicodec_streams.specs.Decoding.{Decodes, NormalisesTo};
+ghost use Rattle.csicodec_parser.specs.Segments.{Actions};
+ghost use Rattle.csicodec_streams.specs.Private.Steps.{DecodesFront, StopsAt};
+ghost use Rattle.csicodec_streams.specs.Refusals.{RefusesDecode, refusal_of};
+ghost use Rattle.csicodec_actions.specs.Table.{texts};
+
+use crate::error::DecodeError;
+use csicodec_base::{CsiParam, ReadError, read_csi_into};
+use csicodec_parser::{CSI, Sink, Texts, Tokens, list_into};
+use std::alloc::{AllocError, Global};
+
+/// The actions of one parameter list, into a sink.
+#[inline(always)]
+pub fn parse_into<S: Sink>(
+    alloc: Global,
+    params: &[CsiParam],
+    parameters_truncated: bool,
+    control: char,
+    sink: &mut S,
+) -> Result<(), AllocError>
+    ensures { OnOk result ((before : List Action) → S.holds sink.old before →
+        (actions : List Action) × Actions params.now parameters_truncated control actions × S.holds sink.new (before ++ actions)) }
+{
+    let mut tokens = Tokens::new(params);
+    list_into(alloc, &mut tokens, parameters_truncated, control, sink)
+}
+
+/// The refusal of the sequence that begins at `start`.
+pub(crate) fn refusal_at(start: usize, error: ReadError) -> DecodeError
+    ensures { result ≡ refusal_of start error }
+{
+    match error {
+        ReadError::Memory => DecodeError::Memory,
+        error => DecodeError::Read { start, error },
+    }
+}
+
+/// What stands behind the sequences at the front of some bytes.
+#[derive(Clone, Copy)]
+pub(crate) struct Behind<'a> {
+    /// The bytes behind them.
+    pub(crate) rest: &'a [u8],
+    /// Why these begin with no sequence; `None` where there are no more.
+    pub(crate) error: Option<ReadError>,
+}
+
+/// The actions of the sequences at the front of the bytes, one after the other, into a sink.
+#[inline(always)]
+fn front_into<'a, S: Sink>(
+    alloc: Global,
+    params: &mut Vec<CsiParam>,
+    bytes: &'a [u8],
+    parameters_truncated: bool,
+    sink: &mut S,
+) -> Result<Behind<'a>, AllocError>
+    ensures front { IfOk result (λ behind. (actions : List Action) × DecodesFront bytes.now parameters_truncated behind.rest.now actions
+        × ((before : List Action) → S.holds sink.old before → S.holds sink.new (before ++ actions))) }
+    ensures behind { IfOk result (λ behind. StopsAt behind.rest.now behind.error) }
+    ensures within { IfOk result (λ behind. length behind.rest.now ≤ length bytes.now) }
+    ensures err { OnErr result (RefusesDecode bytes.now parameters_truncated Memory) }
+{
+    let mut rest = bytes;
+    while !rest.is_empty() {
+        match read_csi_into(params, rest) {
+            Ok(tail) => {
+                let mut tokens = Tokens::new(params);
+                list_into(alloc, &mut tokens, parameters_truncated, tail.control, sink)?;
+                rest = tail.rest;
+            }
+            Err(error) => {
+                return Ok(Behind {
+                    rest,
+                    error: Some(error),
+                });
+            }
+        }
+    }
+    Ok(Behind { rest, error: None })
+}
+
+/// The actions of all sequences of the bytes, into a sink that holds none. One buffer is kept for their parameters.
+fn decode_into<S: Sink>(
+    alloc: Global,
+    bytes: &[u8],
+    parameters_truncated: bool,
+    sink: &mut S,
+) -> Result<(), DecodeError>
+    requires { S.holds sink.old [] }
+    ensures done { OnOk result ((actions : List Action) × Decodes bytes.now parameters_truncated actions × S.holds sink.new actions) }
+    ensures refused { IfErr result (RefusesDecode bytes.now parameters_truncated) }
+{
+    let mut params = Vec::new(alloc);
+    let behind = front_into(alloc, &mut params, bytes, parameters_truncated, sink)?;
+    match behind.error {
+        None => Ok(()),
+        Some(error) => Err(refusal_at(bytes.len() - behind.rest.len(), error)),
+    }
+}
+
+/// All actions of one parameter list before its final character.
+///
+/// ```text
+/// let read = read_csi(alloc, b"\x1b[1;31m")?;
+/// parse_all(alloc, &read.params, false, read.control)?     // Intensity(Bold), Foreground(PaletteIndex(1))
+/// ```
+pub fn parse_all(
+    alloc: Global,
+    params: &[CsiParam],
+    parameters_truncated: bool,
+    control: char,
+) -> Result<Vec<CSI>, AllocError>
+    ensures { IfOk result (λ all. Actions params.now parameters_truncated control (map action_of all.items)) }
+{
+    let mut all = Vec::new(alloc);
+    parse_into(alloc, params, parameters_truncated, control, &mut all)?;
+    Ok(all)
+}
+
+/// All actions of the bytes, which are sequences one after the other, in order; each is parsed with the flag.
+/// Empty bytes have none.
+///
+/// `DecodeError::Read` says where and why the first sequence that is refused is none, and `DecodeError::Memory` that memory
+/// ran out. The first of the two that is met from the front is answered.
+///
+/// ```text
+/// decode_all(alloc, b"\x1b[1;3m\x1b[2A", false)?     // Intensity(Bold), Italic(true), Up(2)
+/// decode_all(alloc, b"\x1b[m\x1b[1", false)          // Err(Read { start: 3, error: Truncated { at: 3 } })
+/// ```
+pub fn decode_all(
+    alloc: Global,
+    bytes: &[u8],
+    parameters_truncated: bool,
+) -> Result<Vec<CSI>, DecodeError>
+    // What is answered are the actions of the bytes.
+    ensures found { IfOk result (λ all. Decodes bytes.now parameters_truncated (map action_of all.items)) }
+    // Bytes that have actions are refused only where memory runs out.
+    ensures only { (actions : List Action) → Decodes bytes.now parameters_truncated actions →
+        IfErr result (λ e. e ≡ Memory) }
+    // A refusal is the fault of the bytes, at its place.
+    ensures refused { IfErr result (RefusesDecode bytes.now parameters_truncated) }
+{
+    let mut all = Vec::new(alloc);
+    decode_into(alloc, bytes, parameters_truncated, &mut all)?;
+    Ok(all)
+}
+
+/// The normal form of the bytes: the joined texts of all their actions, each parsed with `parameters_truncated` false. It
+/// refuses what [`decode_all`] refuses.
+///
+/// ```text
+/// normal_form(alloc, b"\x1b[01;3m")?      // b"\x1b[1m\x1b[3m"
+/// ```
+pub fn normal_form(alloc: Global, bytes: &[u8]) -> Result<Vec<u8>, DecodeError>
+    ensures found { IfOk result (λ all. NormalisesTo bytes.now all.items) }
+    ensures refused { IfErr result (RefusesDecode bytes.now false) }
+{
+    let mut texts = Texts::new(alloc);
+    decode_into(alloc, bytes, false, &mut texts)?;
+    Ok(texts.bytes.into_vec())
+}

@@ -1,0 +1,16 @@
+//! Streams of control sequences: bytes to actions, actions to bytes, and bytes to their normal form. `csicodec` exports what is for
+//! users.
+#![tactic(auto)]
+
+mod decode;
+mod error;
+mod io;
+mod memo;
+mod stream;
+mod texts;
+
+pub use decode::{decode_all, normal_form, parse_all, parse_into};
+pub use error::{DecodeError, RunError};
+pub use io::{CHUNK, keep_from, receive, send};
+pub use stream::normalise;
+pub use texts::{encode, encode_all};

@@ -1,17 +1,20 @@
 //! One module a subject.
 
 mod bytes;
-mod devices;
 mod escapes;
-mod graphics;
-mod lists;
-mod modes;
 mod pairs;
 mod parts;
 mod pieces;
 mod readme;
-mod reports;
 mod rest;
 mod whole_lists;
-mod windows;
-mod worked;
+
+use csicodec::{CsiParam, read_csi};
+use std::alloc::Global;
+use std::test::Fail;
+
+/// The tokens that a text spells.
+fn tokens_of(alloc: Global, list: &str) -> Result<Vec<CsiParam>, Fail> {
+    let text = format!(in alloc; "\x1b[{list}m")?;
+    Ok(read_csi(alloc, text.as_bytes())?.params)
+}

@@ -1,5 +1,5 @@
 -- A report that is written is read back, and what is read is one that can be written.
-use Rattle.std.proofs.Common.{◌≡◌, ℕ, zero, suc, ◌<◌, ◌+◌, ◌*◌, ◌/◌, List, [], ◌∷◌, Some, refl, inl, inr, arith, rules, pos}
+use Rattle.std.proofs.Common.{◌≡◌, ℕ, zero, suc, ◌<◌, ◌/◌, List, [], ◌∷◌, Some, refl, inl, inr, arith, rules, pos}
 use Rattle.std.specs.Prelude.{ℤ, negsuc, ◌==◌, ◌&&◌, ◌||◌, not, Bool, true, false}
 use Rattle.std.specs.Int.RustNames.{bit_and}
 use Rattle.std.proofs.lemmas.Bool.{cases_Bool, and_parts, eqb-true, eq-eqb}
@@ -29,7 +29,8 @@ below (suc k) f n h e =
 -- the bits of the button and of the modifiers lie apart
 abbrev lie_apart : MouseButton → ℕ → Bool
 lie_apart b m =
-    not (bit_and m 14 == m) || (button_bits (bit_and (button_code b + 2 * m) 99) == button_code b && bit_and (button_code b + 2 * m) 28 / 2 == m)
+    let code = report_code (b, record { bits = m }) in
+    not (bit_and m 14 == m) || (button_bits (bit_and code 99) == button_code b && bit_and code 28 / 2 == m)
 
 apart : (b : MouseButton) → all_below 16 (lie_apart b) ≡ true
 apart b = elim b as (λ x. all_below 16 (lie_apart x) ≡ true) [ button.None ↦ refl | _ ↦ refl ]
@@ -40,8 +41,8 @@ report-back buttons b m one held =
     let small = and_le_r m.bits 14 in
     let test : lie_apart b m.bits ≡ true = below 16 (lie_apart b) m.bits (omega (arith, small, held)) (apart b) in
     let both = and_parts _ _ (rw (eq-eqb (bit_and m.bits 14) m.bits held) at test) in
-    let code : button_bits (bit_and (button_code b + 2 * m.bits) 99) ≡ button_code b = eqb-true _ _ both.0 in
-    let bits : bit_and (button_code b + 2 * m.bits) 28 / 2 ≡ m.bits = eqb-true _ _ both.1 in
+    let code : button_bits (bit_and (report_code (b, m)) 99) ≡ button_code b = eqb-true _ _ both.0 in
+    let bits : bit_and (report_code (b, m)) 28 / 2 ≡ m.bits = eqb-true _ _ both.1 in
     rw (code, one, bits) refl
 
 pub report-good : (buttons : List MouseButton) (v : MouseButton × Modifiers) → IsReport buttons v → reported buttons (pos (report_code v)) ≡ Some v
@@ -79,8 +80,8 @@ report-read buttons (negsuc n) v all e = cc
 code-small : (b : MouseButton) → button_code b < 68
 code-small b = elim b as (λ x. button_code x < 68) [ button.None ↦ omega arith | _ ↦ omega arith ]
 
-pub report-small : (v : MouseButton × Modifiers) → AreHeld v.1 → report_code v < 100
-report-small v held = let small = and_le_r v.1.bits 14 in let code = code-small v.0 in omega (arith, small, held, code)
+pub report-small : (v : MouseButton × Modifiers) → report_code v < 100
+report-small v = let code = code-small v.0 in grind (arith, code)
 
 -- a button that is read before M is no release, and what else is read before m is no button
 pub release-pressed : (b : MouseButton) → with_number button_code pressed (pos (button_code b)) ≡ Some b → is_release b ≡ false

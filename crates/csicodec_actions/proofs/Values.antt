@@ -297,8 +297,8 @@ number-said Way m h = said (kitty_mode_number m) (small kitty_mode_number kitty_
 number-said Path p h = said (path_number p) (small path_number paths tracks largest (search (rules, arith) depth 60) p)
 number-said Pops n h = said n (omega (arith, h))
 number-said Word n h = said n (omega (arith, h))
-number-said Pressed v h = let small = report-small v h.held in said (report_code v) (omega (arith, small))
-number-said Released v h = let small = report-small v h.held in said (report_code v) (omega (arith, small))
+number-said Pressed v h = let small = report-small v in said (report_code v) (omega (arith, small))
+number-said Released v h = let small = report-small v in said (report_code v) (omega (arith, small))
 number-said Resource r h = said (resource_number r) (small resource_number resources keys largest (search (rules, arith) depth 60) r)
 number-said GraphicsItem i h = item-said i h
 

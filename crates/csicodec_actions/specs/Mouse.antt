@@ -1,8 +1,9 @@
 -- The code of a mouse report: a button, and the modifiers that are held.
-use Rattle.std.specs.Prelude.{ℕ, ℤ, ◌+◌, ◌*◌, ◌/◌, ◌==◌, Bool, true, false, List, [], ◌∷◌, Option, None, if◌then◌else◌, pos, negsuc}
+use Rattle.std.specs.Prelude.{ℕ, ℤ, ◌+◌, ◌/◌, ◌==◌, Bool, true, false, List, [], ◌∷◌, Option, None, if◌then◌else◌, pos, negsuc}
 use Rattle.std.specs.Int.RustNames.{bit_and}
 use Rattle.std.specs.Option.{option_map}
 use Rattle.csicodec_names.specs.Numbered.{with_number}
+use Rattle.csicodec_names.specs.FlagBits.{modifier_bits}
 use Rattle.csicodec_names.specs.declared.flags.Modifiers.{Modifiers}
 use Rattle.csicodec_actions.specs.declared.mouse.MouseButton.{MouseButton}
 use Rattle.csicodec_actions.specs.declared.mouse.MouseButton.TheVariants as button
@@ -64,8 +65,16 @@ abbrev pub reported : List MouseButton → ℤ → Option (MouseButton × Modifi
 reported buttons (pos n) = option_map (λ b. (b, record { bits = bit_and n 28 / 2 })) (with_number button_code buttons (pos (button_bits (bit_and n 99))))
 reported buttons (negsuc n) = None
 
+-- the set has this bit
+abbrev pub has : Modifiers → ℕ → Bool
+has m bit = bit_and (modifier_bits m) bit == bit
+
+-- 4 for SHIFT, 8 for ALT and 16 for CTRL, each where the set has it; other bits of a set are in no report
+abbrev pub modifiers_code : Modifiers → ℕ
+modifiers_code m = (if has m 2 then 4 else 0) + (if has m 4 then 8 else 0) + (if has m 8 then 16 else 0)
+
 abbrev pub report_code : MouseButton × Modifiers → ℕ
-report_code v = button_code v.0 + 2 * v.1.bits
+report_code v = button_code v.0 + modifiers_code v.1
 
 abbrev pub is_release : MouseButton → Bool
 is_release button.Button1Press = false

@@ -1,5 +1,4 @@
 -- What private steps say of each other. No promise rests on these files.
-pub mod MouseTexts
 pub mod DeviceTexts
 pub mod FieldSteps
 pub mod WindowTexts

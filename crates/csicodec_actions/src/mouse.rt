@@ -1,6 +1,6 @@
 //! Reports of the mouse.
-ghost use Rattle.std.specs.Prelude.{◌≡◌, ◌<◌};
-ghost use Rattle.csicodec_actions.specs.Mouse.{button_code, held_buttons, is_release};
+ghost use Rattle.std.specs.Prelude.{◌≡◌, ◌<◌, ◌≤◌};
+ghost use Rattle.csicodec_actions.specs.Mouse.{button_code, held_buttons, is_release, modifiers_code};
 ghost use Rattle.csicodec_names.specs.FlagBits.{button_bits};
 
 use bitflags::Flags;
@@ -87,7 +87,7 @@ impl From<MouseButton> for MouseButtons {
 
 impl MouseButton {
     /// The code of this button.
-    pub(crate) fn code(&self) -> u32
+    pub(crate) fn code(&self) -> u8
         ensures value { result ≡ button_code self.now }
         ensures short { result < 68 }
     {
@@ -128,4 +128,27 @@ impl MouseButton {
                 | MouseButton::Button7Release
         )
     }
+}
+
+/// What the keys that are held add to the code of a button: 4 for SHIFT, 8 for ALT, 16 for CTRL.
+pub(crate) fn modifiers_code(modifiers: Modifiers) -> u8
+    ensures value { result ≡ modifiers_code modifiers }
+    ensures short { result ≤ 28 }
+{
+    let shift = if modifiers.contains(Modifiers::SHIFT) {
+        4
+    } else {
+        0
+    };
+    let alt = if modifiers.contains(Modifiers::ALT) {
+        8
+    } else {
+        0
+    };
+    let ctrl = if modifiers.contains(Modifiers::CTRL) {
+        16
+    } else {
+        0
+    };
+    shift + alt + ctrl
 }

@@ -266,13 +266,7 @@ pub fn append_text(alloc: Global, out: &mut TextBuffer, action: &CSI) -> Result<
         CSI::Edit(edit) => edit.write_to(&mut text),
         CSI::Mode(mode) => mode.write_to(&mut text),
         CSI::Device(_) | CSI::Window(_) => return append_displayed(alloc, out, action),
-        CSI::Mouse(mouse) => {
-            mouse.write_code(&mut text);
-            out.push_text(&text)?;
-            let mut place = Text::new();
-            mouse.write_place(&mut place);
-            return out.push_text(&place);
-        }
+        CSI::Mouse(mouse) => mouse.write_to(&mut text),
         CSI::Keyboard(keyboard) => keyboard.write_to(&mut text),
         CSI::SelectCharacterPath(path, effect) => write_path(&mut text, path, *effect),
         CSI::Unspecified(unspecified) => {

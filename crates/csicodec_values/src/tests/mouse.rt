@@ -122,17 +122,17 @@ fn mouse(rt: HostRuntime) -> Result<(), Fail> {
         ),
         (
             report(MouseButton::Button1Press, 1),
-            "\x1b[<2;1;65535M",
+            "\x1b[<0;1;65535M",
             false,
         ),
         (
             report(MouseButton::Button1Press, 16),
-            "\x1b[<32;1;65535M",
+            "\x1b[<0;1;65535M",
             false,
         ),
         (
-            report(MouseButton::Button7Release, 65535),
-            "\x1b[<131137;1;65535m",
+            report(MouseButton::Button4Press, 65535),
+            "\x1b[<92;1;65535M",
             false,
         ),
     ];

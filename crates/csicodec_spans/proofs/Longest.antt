@@ -9,7 +9,8 @@ use Rattle.csicodec_spans.specs.declared.table.Front.{Front}
 use Rattle.csicodec_spans.specs.declared.table.Front.TheVariants.{GoesOn, Ends, New, Esc, Csi, Unsure}
 use Rattle.csicodec_spans.specs.Private.TableBy.{kind_in, stays, look, meant}
 use Rattle.csicodec_spans.specs.Parts.{Cuts, IsMore, IsMaximal}
-use Rattle.csicodec_spans.proofs.OneSpan.{run_cut, taken_cut}
+use Rattle.csicodec_spans.specs.Table.{ahead}
+use Rattle.csicodec_spans.proofs.OneSpan.{more_stays, run_cut, taken_cut}
 use Rattle.csicodec_spans.proofs.Agrees.{Agrees, agrees, found}
 use Rattle.csicodec_spans.proofs.Spanned.{join_cuts}
 
@@ -22,25 +23,25 @@ pub parts_drop : (bytes rest : List ℕ) (n : ℕ) → (text : List ℕ) × (byt
 parts_drop bytes rest n (text, e) = (text ++ take n rest, e ∙ ap (λ (t : List ℕ). text ++ t) (sym (take-append-drop n rest)) ∙ sym (append_assoc text (take n rest) (drop n rest)))
 
 -- more of what is open makes it longer
-more_longer : (bytes first rest : List ℕ) (k : Kind) (m a : Mode) (n : ℕ) → k ≡ kind_in m → IsLonger bytes first rest k m m
+more_longer : (bytes first rest : List ℕ) (k : Kind) (m a : Mode) (n : ℕ) → k ≡ kind_in m → IsMore (ahead m rest) → IsLonger bytes first rest k m m
     → ((limit : ℕ) → Cuts limit m rest (kind_in m) (take n rest) (drop n rest) a) → IsLonger bytes first (drop n rest) k m a
-more_longer bytes first rest k m a n e h more = record {
+more_longer bytes first rest k m a n e goes h more = record {
   split = parts_drop bytes rest n h.split;
   cut = λ limit start text c.
       let (longer, d) = h.cut limit start text c in
-      (longer ++ take n rest, join_cuts limit start m a bytes longer rest (take n rest) (drop n rest) k e d (subst (λ (x : Kind). Cuts limit m rest x (take n rest) (drop n rest) a) (sym e) (more limit)));
+      (longer ++ take n rest, join_cuts limit start m a bytes longer rest (take n rest) (drop n rest) k e goes d (subst (λ (x : Kind). Cuts limit m rest x (take n rest) (drop n rest) a) (sym e) (more limit)));
 }
 
 pub stays_longer : (bytes first rest : List ℕ) (k : Kind) (m : Mode) (n : ℕ) → k ≡ kind_in m → ((i : ℕ) → i < n → stays m (get_or rest i 0) ≡ true) → n ≤ length rest → IsLonger bytes first rest k m m
     → IsLonger bytes first (drop n rest) k m m
 stays_longer bytes first rest k m zero e stay le h = h
-stays_longer bytes first rest k m (suc n) e stay le h = more_longer bytes first rest k m m (suc n) e h (λ limit. run_cut limit (suc n) m rest stay le (omega arith))
+stays_longer bytes first rest k m (suc n) e stay le h = more_longer bytes first rest k m m (suc n) e (more_stays m rest (omega arith) (stay 0 (omega arith))) h (λ limit. run_cut limit (suc n) m rest stay le (omega arith))
 
 pub goes_longer : (bytes first rest : List ℕ) (k : Kind) (m : Mode) (n : ℕ) → k ≡ kind_in m → look m rest ≡ GoesOn n → IsLonger bytes first rest k m m → IsLonger bytes first (drop n rest) k m m
-goes_longer bytes first rest k m n e is h = more_longer bytes first rest k m m n e h (λ limit. taken_cut limit m rest (GoesOn n) (kind_in m) n m is (inl refl))
+goes_longer bytes first rest k m n e is h = more_longer bytes first rest k m m n e (subst IsMore (sym (found m rest (GoesOn n) is)) tt) h (λ limit. taken_cut limit m rest (GoesOn n) (kind_in m) n m is (inl refl))
 
 pub ends_longer : (bytes first rest : List ℕ) (k : Kind) (m : Mode) (n : ℕ) → k ≡ kind_in m → look m rest ≡ Ends n → IsLonger bytes first rest k m m → IsLonger bytes first (drop n rest) k m mode.Text
-ends_longer bytes first rest k m n e is h = more_longer bytes first rest k m mode.Text n e h (λ limit. taken_cut limit m rest (Ends n) (kind_in m) n mode.Text is (inl refl))
+ends_longer bytes first rest k m n e is h = more_longer bytes first rest k m mode.Text n e (subst IsMore (sym (found m rest (Ends n) is)) tt) h (λ limit. taken_cut limit m rest (Ends n) (kind_in m) n mode.Text is (inl refl))
 
 not_text : (m : Mode) → m ≢ mode.Text → kind_in m ≢ kind.Text
 not_text mode.Text other e = other refl

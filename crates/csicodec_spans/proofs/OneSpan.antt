@@ -11,9 +11,10 @@ use Rattle.csicodec_spans.specs.declared.table.Front.{Front}
 use Rattle.csicodec_spans.specs.declared.table.Front.TheVariants.{GoesOn, Csi, Unsure}
 use Rattle.csicodec_spans.specs.Table.{Answer, More, Anew, ahead}
 use Rattle.csicodec_spans.specs.Private.TableBy.{kind_in, stays, look, meant}
-use Rattle.csicodec_spans.specs.Parts.{Part, part, Allows, AllowsCsi, IsFirstPart, AreFirstParts, IsUnsure, IsUnsureBy, bytes_of, AreAll, IsSpan, Cuts}
+use Rattle.csicodec_spans.specs.Parts.{Part, part, Allows, AllowsCsi, IsFirstPart, AreFirstParts, IsUnsure, IsUnsureBy, IsMore, bytes_of, AreAll, AreOne, IsSpan, Cuts}
 use Rattle.csicodec_spans.proofs.Rows.{Sound}
 use Rattle.csicodec_spans.proofs.Agrees.{found, sound}
+use Rattle.csicodec_spans.proofs.AsOne.{one_alone, one_none, one_on}
 
 one : (k : Kind) (text : List ℕ) → AreAll k text (part k text ∷ [])
 one k text = record { some = omega arith; all = (refl, tt); joined = append-nil text }
@@ -54,6 +55,14 @@ span_of_singles mode.Str bs some = are_singles kind.Str bs some
 span_of_singles mode.BadCsi bs some = are_singles kind.Other bs some
 span_of_singles mode.BadEsc bs some = are_singles kind.Other bs some
 
+-- a byte that stays goes on with what is open
+pub more_stays : (m : Mode) (bytes : List ℕ) → 0 < length bytes → stays m (get_or bytes 0 0) ≡ true → IsMore (ahead m bytes)
+more_stays m [] some e = absurd (omega arith)
+more_stays m (b ∷ bs) some e = subst IsMore (sym (found m (b ∷ bs) (GoesOn 1) is)) tt
+  where
+    is : look m (b ∷ bs) ≡ GoesOn 1
+    is = rw e refl
+
 stays_part : (limit : ℕ) (m : Mode) (b : ℕ) (bs : List ℕ) → stays m b ≡ true → IsFirstPart limit m (b ∷ bs) (part (kind_in m) (b ∷ [])) bs m
 stays_part limit m b bs e = (refl, subst (λ (f : Answer). Allows f limit (b ∷ bs) (kind_in m) (b ∷ []) m) (sym (found m (b ∷ bs) (GoesOn 1) is)) (refl, refl, refl))
   where
@@ -67,12 +76,25 @@ run_parts limit (suc n) m [] h le = absurd (omega arith)
 run_parts limit (suc n) m (b ∷ bs) h le =
     (bs, m, stays_part limit m b bs (h 0 (omega arith)), run_parts limit n m bs (λ k lt. h (suc k) (omega arith)) (omega arith))
 
+run_one : (limit n : ℕ) (m : Mode) (bytes : List ℕ) → ((k : ℕ) → k < n → stays m (get_or bytes k 0) ≡ true) → n ≤ length bytes → AreOne limit m bytes [] (singles (kind_in m) (take n bytes))
+run_one limit zero m bytes h le = one_none limit m bytes []
+run_one limit (suc n) m [] h le = absurd (omega arith)
+run_one limit (suc n) m (b ∷ bs) h le =
+    let p = part (kind_in m) (b ∷ []) in
+    let others = run_one limit n m bs (λ k lt. h (suc k) (omega arith)) (omega arith) in
+    one_on limit (p ∷ []) (singles (kind_in m) (take n bs)) m m (b ∷ bs) bs (bs, m, stays_part limit m b bs (h 0 (omega arith)), (refl, refl)) (one_alone limit m (b ∷ bs) [] p) others (λ some. next n some h le)
+  where
+    next : (n : ℕ) → 0 < length (singles (kind_in m) (take n bs)) → ((k : ℕ) → k < suc n → stays m (get_or (b ∷ bs) k 0) ≡ true) → suc n ≤ length (b ∷ bs) → IsMore (ahead m bs)
+    next zero some h le = absurd (omega arith)
+    next (suc n) some h le = more_stays m bs (omega arith) (h 1 (omega arith))
+
 -- bytes that stay are a span
 pub run_cut : (limit n : ℕ) (m : Mode) (bytes : List ℕ) → ((k : ℕ) → k < n → stays m (get_or bytes k 0) ≡ true) → n ≤ length bytes → 0 < n
     → Cuts limit m bytes (kind_in m) (take n bytes) (drop n bytes) m
 run_cut limit n m bytes h le some = record {
   parts = singles (kind_in m) (take n bytes);
   span = span_of_singles m (take n bytes) (rw (length-take-le n bytes le) some);
+  one = run_one limit n m bytes h le;
   first = run_parts limit n m bytes h le;
 }
 
@@ -91,6 +113,7 @@ allowed_cut : (limit : ℕ) (m a : Mode) (bytes : List ℕ) (k : Kind) (n : ℕ)
 allowed_cut limit m a bytes k n f e s = record {
   parts = part k (take n bytes) ∷ [];
   span = one_span k (take n bytes);
+  one = one_alone limit m bytes [] (part k (take n bytes));
   first = (drop n bytes, a, (sym (take-append-drop n bytes), subst (λ (x : Answer). Allows x limit bytes k (take n bytes) a) (sym e) s), (refl, refl));
 }
 

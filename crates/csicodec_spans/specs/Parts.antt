@@ -66,6 +66,13 @@ IsUnsureBy Undecided limit bytes = Unit {0}
 abbrev pub IsUnsure : ℕ → Mode → List ℕ → Type 0
 IsUnsure limit m bytes = IsUnsureBy (ahead m bytes) limit bytes
 
+-- more of what is open stands in front
+abbrev pub IsMore : Answer → Type 0
+IsMore (More k n a) = Unit {0}
+IsMore (Anew k n a) = ⊥
+IsMore Sequence = ⊥
+IsMore Undecided = ⊥
+
 abbrev pub bytes_of : Part → List ℕ
 bytes_of p = p.bytes
 
@@ -83,10 +90,18 @@ IsSpan kind.Text text parts = AreAll kind.Text text parts
 IsSpan kind.Str text parts = AreAll kind.Str text parts
 IsSpan kind.Other text parts = AreAll kind.Other text parts
 
+-- behind the parts before them, these are parts of one text, of one control string, or of one control that went wrong:
+-- wherever they are divided, more of what is open stands there
+abbrev pub AreOne : ℕ → Mode → List ℕ → List Part → List Part → Type 0
+AreOne limit m bytes before parts =
+    (some : List Part) (more : List Part) (rest : List ℕ) (after : Mode) → parts ≡ some ++ more → 0 < length some → 0 < length more
+    → AreFirstParts limit m bytes (before ++ some) rest after → IsMore (ahead after rest)
+
 -- a span of this kind and text in front of the bytes, what is behind it, and the mode there
 pub record Cuts (limit : ℕ) (m : Mode) (bytes : List ℕ) (kind : Kind) (text : List ℕ) (rest : List ℕ) (next : Mode) : Type 0 where
   pub parts : List Part
   pub span : IsSpan kind text parts
+  pub one : AreOne limit m bytes [] parts
   pub first : AreFirstParts limit m bytes parts rest next
 
 -- behind these bytes, the text is a part of this kind
@@ -101,13 +116,6 @@ pub record EndsInQuote (parts : List Part) (before : List ℕ) : Type 0 where
   pub outside : List ℕ
   pub ends : before ≡ outside ++ 27 ∷ []
   pub quote : IsPartAt parts outside kind.Str (27 ∷ 27 ∷ [])
-
--- more of what is open stands in front
-abbrev pub IsMore : Answer → Type 0
-IsMore (More k n a) = Unit {0}
-IsMore (Anew k n a) = ⊥
-IsMore Sequence = ⊥
-IsMore Undecided = ⊥
 
 -- a span of this kind is as long as it can be: neither text nor what is open behind it goes on there
 abbrev pub IsMaximal : Kind → Mode → List ℕ → Type 0

@@ -9,8 +9,8 @@ use Rattle.csicodec_tokens.specs.Sequence.{Seq}
 use Rattle.csicodec_tokens.specs.Fault.{Begins, NoSeq, IsLeast, IsBad, FaultOf, IsMetAt}
 use Rattle.csicodec_tokens.proofs.Beginnings.{begins}
 
--- one text cut twice: the first cut is the earlier or the same, or the second is the earlier
-pub cuts : (a b x y : List ℕ) → a ++ x ≡ b ++ y → ((k : List ℕ) × (a ≡ b ++ k)) ⊎ ((c : ℕ) × (k : List ℕ) × (b ≡ a ++ c ∷ k))
+-- one list cut twice: the first cut is the later or the same, or the second is the later
+pub cuts : {T : Type 0} (a b x y : List T) → a ++ x ≡ b ++ y → ((k : List T) × (a ≡ b ++ k)) ⊎ ((c : T) × (k : List T) × (b ≡ a ++ c ∷ k))
 cuts a [] x y e = inl (a, refl)
 cuts [] (c ∷ b) x y e = inr (c, b, refl)
 cuts (d ∷ a) (c ∷ b) x y e =

@@ -5,7 +5,7 @@ use csicodec_spans::{Kind, Mode, Spans, next_span};
 use std::test::Fail;
 
 /// Each span's kind as a letter, and its text behind that, with `$` for ESC.
-static STREAMS: [(&[u8], &str); 29] = [
+static STREAMS: [(&[u8], &str); 33] = [
     (b"", ""),
     (b"ab\x1b[1mcd", "Tab C$[1m Tcd "),
     (b"\x1b[1m\x1b[0001;?m", "C$[1m C$[0001;?m "),
@@ -14,6 +14,9 @@ static STREAMS: [(&[u8], &str); 29] = [
     (b"\x1b]0;a\x1b\\b", "S$]0;a$\\ Tb "),
     (b"\x1b]0;a\x1b[mb", "S$]0;a C$[m Tb "),
     (b"\x1b]1\x1b]2\x07", "S$]1 S$]2\x07 "),
+    // Two that are closed, side by side, are two.
+    (b"\x1b]a\x07\x1b]b\x07", "S$]a\x07 S$]b\x07 "),
+    (b"\x1b_a\x1b\\\x1b_b\x1b\\", "S$_a$\\ S$_b$\\ "),
     // BEL ends no other string, CAN and SUB each.
     (b"\x1bPa\x07b\x1b\\", "S$Pa\x07b$\\ "),
     (b"\x1b_a\x07b\x1b\\", "S$_a\x07b$\\ "),
@@ -39,6 +42,9 @@ static STREAMS: [(&[u8], &str); 29] = [
         "O$[99999999999999999999m Tx ",
     ),
     (b"\x1b\x1b[m", "O$ C$[m "),
+    // Two that have gone wrong, side by side, are two.
+    (b"\x1b[1\nm\x1b[2\nm", "O$[1\nm O$[2\nm "),
+    (b"\x1b\x1b\x1b[m", "O$ O$ C$[m "),
     // C1 bytes and UTF-8 are text, and end a control sequence that has gone wrong.
     (b"\x9b1m", "T\u{9b}1m "),
     (

@@ -1,4 +1,4 @@
-use Rattle.std.proofs.Common.{sym, ◌∙◌, subst}
+use Rattle.std.proofs.Common.{sym, ◌∙◌, subst, arith}
 use Rattle.csicodec_tokens.specs.Fault.{FaultOf}
 use Rattle.csicodec_spans.proofs.Sequences.{refused}
 use Rattle.csicodec_spans.proofs.Spanned.{IsPlain, cut_parts, cut_some}
@@ -33,4 +33,5 @@ returns-in-Some c =
       cut = p.cut;
       maximal = p.maximal;
       memory = tt;
+      kept = elim c.match-look.branch [ in-Csi+in-Err+in_default-error w ↦ rw w.params-is w.read_csi_into.ensures.kept | in_default w ↦ rw w.params-is (omega arith) ];
     }

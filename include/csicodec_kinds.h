@@ -1,4 +1,4 @@
-/* The kinds of actions, and the numbers that stand in them. Written by .ci/kinds; csicodec.h includes it. */
+/* The kinds of actions, and the numbers that stand in them. Written by tools/kinds; csicodec.h includes it. */
 #ifndef CSICODEC_KINDS_H
 #define CSICODEC_KINDS_H
 

@@ -1,4 +1,4 @@
-//! The actions, under the names of the library and with its documentation. Written by .ci/kinds.
+//! The actions, under the names of the library and with its documentation. Written by tools/kinds.
 
 use crate::{
     CursorStyle, CursorTabulationControl, DecPrivateModeCode, DeviceAttributeCodes,
@@ -722,7 +722,6 @@ pub enum CsiParam {
     /// The number of a longest run of digits. What is read is from 0 to `i64::MAX`, and doesn't tell
     /// how many zeros led it; a number below 0 can be made and printed, and is never read.
     Integer(i64),
-
     /// Any other byte by itself. What is read is one of `:` `;` `<` `=` `>` `?` or an intermediate
     /// byte from `' '` to `'/'`; any byte can be made and printed.
     P(u8),

@@ -1,4 +1,4 @@
-//! The struct of each action, and the action of each struct. Written by .ci/kinds.
+//! The struct of each action, and the action of each struct. Written by tools/kinds.
 
 use crate::numbers::{
     color, color_row, extended_row, extensions, first, flags, font, font_number, graphics,

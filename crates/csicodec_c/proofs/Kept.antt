@@ -54,7 +54,8 @@ use Rattle.csicodec.proofs.Kept.{Kept}
 use Rattle.csicodec.proofs.Parsed.{parsed-kept}
 use Rattle.csicodec.proofs.Twins.{IsParsedSpecial}
 use Rattle.csicodec_c.proofs.ModeNumbers.{dec-fits, terminal-fits}
-use Rattle.csicodec_c.specs.Ranges.{AttributeInRange, CursorInRange, DeviceInRange, EditInRange, InRange, KeyboardInRange, ModeInRange, MouseInRange, SgrInRange, TokenInRange, WindowInRange}
+use Rattle.csicodec_c.specs.Ranges.{CursorInRange, DeviceInRange, EditInRange, InRange, KeyboardInRange, ModeInRange, MouseInRange, SgrInRange, WindowInRange}
+use Rattle.csicodec_c.specs.Values.{AttributeInRange, TokenInRange}
 
 sgr-range : (s : Sgr) → actions_ranges.SgrInRange s → IsCanonicalSgr s → SgrInRange s
 sgr-range (sgr.Font font.Default) range h = tt

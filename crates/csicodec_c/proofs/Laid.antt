@@ -7,9 +7,9 @@ use Rattle.csicodec_actions.specs.Actions.{Action}
 use Rattle.csicodec_c.specs.declared.next.Counts.{Counts}
 use Rattle.csicodec_c.specs.declared.plain.Param.{Param}
 use Rattle.csicodec_c.specs.declared.plain.Plain.{Plain}
-use Rattle.csicodec_c.specs.Next.{Lays}
+use Rattle.csicodec_c.specs.Next.{Lays, all_params, plains}
 use Rattle.csicodec_c.specs.Room.{laid}
-use Rattle.csicodec_c.specs.Rows.{all_params, params_of, plain_of, plains}
+use Rattle.csicodec_c.specs.Rows.{params_of, plain_of}
 
 -- ---- items
 

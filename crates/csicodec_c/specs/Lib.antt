@@ -1,6 +1,7 @@
 pub mod Answer
 pub mod Room
 pub mod Plain
+pub mod Values
 pub mod Rows
 pub mod Next
 pub mod Encode

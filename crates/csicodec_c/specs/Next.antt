@@ -1,6 +1,6 @@
 -- What the call for the sequence at the front answers a C program.
-use Rattle.std.specs.Prelude.{ℕ, ◌≡◌, ◌≢◌, ◌+◌, false, List, length}
-use Rattle.std.specs.List.{All}
+use Rattle.std.specs.Prelude.{ℕ, ◌≡◌, ◌≢◌, ◌+◌, false, List, [], ◌∷◌, length}
+use Rattle.std.specs.List.{All, flat_map}
 use Rattle.csicodec_tokens.specs.declared.param.CsiParam.{CsiParam}
 use Rattle.csicodec_tokens.specs.declared.reader.ReadError.{ReadError}
 use Rattle.csicodec_tokens.specs.declared.reader.ReadError.TheVariants as reading
@@ -14,7 +14,7 @@ use Rattle.csicodec_c.specs.declared.plain.Param.{Param}
 use Rattle.csicodec_c.specs.declared.plain.Plain.{Plain}
 use Rattle.csicodec_c.specs.Ranges.{InRange}
 use Rattle.csicodec_c.specs.Room.{laid}
-use Rattle.csicodec_c.specs.Rows.{plains, all_params}
+use Rattle.csicodec_c.specs.Rows.{params_of, plain_of}
 
 abbrev pub refused : ℕ → ℕ → Front
 refused status at = record { status = status; at = at; used = 0; actions = 0; params = 0 }
@@ -38,6 +38,15 @@ pub record IsFront (bytes : List ℕ) (actions : List Action) (rest : List ℕ) 
   pub final : ℕ
   pub reads : Reads bytes list final rest
   pub are : Actions list false final actions
+
+-- the structs of actions in turn, whose tokens stand one behind the other from this place on
+abbrev pub plains : ℕ → List Action → List Plain
+plains place [] = []
+plains place (a ∷ actions) = plain_of place a ∷ plains (place + length (params_of a)) actions
+
+-- and these tokens
+abbrev pub all_params : List Action → List Param
+all_params actions = flat_map params_of actions
 
 -- these actions and their tokens, as many as there is room for, and how many they are
 pub record Lays (actions_old actions_new : List Plain) (params_old params_new : List Param) (count : Counts) (all : List Action) : Type 0 where

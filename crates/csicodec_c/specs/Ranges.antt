@@ -1,13 +1,9 @@
 -- The actions that a struct can stand for: each number is one that its type lets stand, and a font has a text. What isn't
--- listed is in range. Written by .ci/kinds.
+-- listed is in range. Written by tools/kinds.
 use Rattle.std.specs.Prelude.{◌<◌, ◌^◌}
 use Rattle.std.specs.Char.{IsScalar}
 use Rattle.std.specs.List.{All}
-use Rattle.csicodec_tokens.specs.declared.param.CsiParam.{CsiParam}
-use Rattle.csicodec_tokens.specs.declared.param.CsiParam.TheVariants.{Integer, P}
 use Rattle.csicodec_names.specs.FlagBits.{kitty_bits}
-use Rattle.csicodec_base.specs.declared.sgr.Font.{Font}
-use Rattle.csicodec_base.specs.declared.sgr.Font.TheVariants as font
 use Rattle.csicodec_base.specs.declared.sgr.Sgr.{Sgr}
 use Rattle.csicodec_base.specs.declared.sgr.Sgr.TheVariants as sgr
 use Rattle.csicodec_actions.specs.declared.cursor.Cursor.{Cursor}
@@ -18,34 +14,19 @@ use Rattle.csicodec_actions.specs.declared.mode.Mode.{Mode}
 use Rattle.csicodec_actions.specs.declared.mode.Mode.TheVariants as mode
 use Rattle.csicodec_actions.specs.declared.mouse.MouseReport.{MouseReport}
 use Rattle.csicodec_actions.specs.declared.mouse.MouseReport.TheVariants as mouse
+use Rattle.csicodec_actions.specs.Devices.{Device}
+use Rattle.csicodec_actions.specs.Devices as device
 use Rattle.csicodec_actions.specs.declared.window.Window.{Window}
 use Rattle.csicodec_actions.specs.declared.window.Window.TheVariants as window
 use Rattle.csicodec_actions.specs.declared.keyboard.Keyboard.{Keyboard}
 use Rattle.csicodec_actions.specs.declared.keyboard.Keyboard.TheVariants as keyboard
-use Rattle.csicodec_actions.specs.declared.device.DeviceAttribute.{DeviceAttribute}
-use Rattle.csicodec_actions.specs.declared.device.DeviceAttribute.TheVariants as attribute
-use Rattle.csicodec_actions.specs.Devices.{Device}
-use Rattle.csicodec_actions.specs.Devices as device
 use Rattle.csicodec_actions.specs.Actions.{Action}
 use Rattle.csicodec_actions.specs.Actions as action
 use Rattle.csicodec_actions.specs.Kinds.{IsOneBased}
 use Rattle.csicodec_actions.specs.Modes.{dec_number, terminal_number}
 use Rattle.csicodec_actions.specs.Ranges as typed
+use Rattle.csicodec_c.specs.Values.{AttributeInRange, HasText, TokenInRange}
 
--- the primary font, or one of nine others
-abbrev pub HasText : Font → Type 0
-HasText font.Default = Unit {0}
-HasText (font.Alternate n) = (0 < n) × (n < 10)
-
-abbrev pub TokenInRange : CsiParam → Type 0
-TokenInRange (Integer z) = Unit {0}
-TokenInRange (P b) = b < 256
-
-abbrev pub AttributeInRange : DeviceAttribute → Type 0
-AttributeInRange (attribute.Code c) = Unit {0}
-AttributeInRange (attribute.Unspecified t) = TokenInRange t
-
--- a font has a text; of the others what the types let stand
 abbrev pub SgrInRange : Sgr → Type 0
 SgrInRange (sgr.Font v) = HasText v
 SgrInRange other = typed.SgrInRange other

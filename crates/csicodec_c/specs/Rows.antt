@@ -1,6 +1,5 @@
--- The struct of each action: a row for each kind. Written by .ci/kinds.
-use Rattle.std.specs.Prelude.{ℕ, ◌+◌, List, [], ◌∷◌, map, length, pos, Some}
-use Rattle.std.specs.List.{flat_map}
+-- The struct of each action: a row for each kind. Written by tools/kinds.
+use Rattle.std.specs.Prelude.{ℕ, List, [], map, length, pos, Some}
 use Rattle.csicodec_names.specs.EnumNumbers.{cursor_style_number, erase_in_display_number, erase_in_line_number, tabulation_clear_number, tabulation_control_number}
 use Rattle.csicodec_names.specs.FlagBits.{kitty_bits}
 use Rattle.csicodec_base.specs.declared.sgr.Sgr.{Sgr}
@@ -13,12 +12,12 @@ use Rattle.csicodec_actions.specs.declared.mode.Mode.{Mode}
 use Rattle.csicodec_actions.specs.declared.mode.Mode.TheVariants as mode
 use Rattle.csicodec_actions.specs.declared.mouse.MouseReport.{MouseReport}
 use Rattle.csicodec_actions.specs.declared.mouse.MouseReport.TheVariants as mouse
+use Rattle.csicodec_actions.specs.Devices.{Device}
+use Rattle.csicodec_actions.specs.Devices as device
 use Rattle.csicodec_actions.specs.declared.window.Window.{Window}
 use Rattle.csicodec_actions.specs.declared.window.Window.TheVariants as window
 use Rattle.csicodec_actions.specs.declared.keyboard.Keyboard.{Keyboard}
 use Rattle.csicodec_actions.specs.declared.keyboard.Keyboard.TheVariants as keyboard
-use Rattle.csicodec_actions.specs.Devices.{Device}
-use Rattle.csicodec_actions.specs.Devices as device
 use Rattle.csicodec_actions.specs.Actions.{Action}
 use Rattle.csicodec_actions.specs.Actions as action
 use Rattle.csicodec_actions.specs.Graphics.{item_number}
@@ -159,23 +158,15 @@ keyboard_plain (keyboard.PopKittyState n) = row 703 (pos n) (pos 0)
 keyboard_plain keyboard.QueryKittySupport = row 704 (pos 0) (pos 0)
 keyboard_plain (keyboard.ReportKittyState flags) = row 705 (pos (kitty_bits flags)) (pos 0)
 
--- the tokens of an action: of an unknown one, of a terminal's extensions, and the values of graphics
+-- the tokens of an action: of a terminal's extensions, and the values of graphics
 abbrev pub device_params : Device → List Param
-device_params (device.DeviceAttributes device.Vt100WithAdvancedVideoOption) = []
-device_params (device.DeviceAttributes device.Vt101WithNoOptions) = []
-device_params (device.DeviceAttributes device.Vt102) = []
 device_params (device.DeviceAttributes (device.Vt220 list)) = map attribute_param list
 device_params (device.DeviceAttributes (device.Vt320 list)) = map attribute_param list
 device_params (device.DeviceAttributes (device.Vt420 list)) = map attribute_param list
-device_params device.SoftReset = []
-device_params device.RequestPrimaryDeviceAttributes = []
-device_params device.RequestSecondaryDeviceAttributes = []
-device_params device.RequestTertiaryDeviceAttributes = []
-device_params device.RequestTerminalNameAndVersion = []
-device_params (device.RequestTerminalParameters n) = []
-device_params device.StatusReport = []
 device_params (device.XtSmGraphics item action_or_status value) = map value_param value
+device_params other = []
 
+-- and of an unknown one
 abbrev pub params_of : Action → List Param
 params_of (action.Sgr s) = []
 params_of (action.Cursor c) = []
@@ -200,11 +191,3 @@ plain_of place (action.Window w) = window_plain w
 plain_of place (action.Keyboard k) = keyboard_plain k
 plain_of place (action.SelectCharacterPath path effect) = row 801 (pos (path_number path)) effect
 plain_of place (action.Unspecified params flag final) = unknown_row final place (length params)
-
--- actions in turn, their tokens one behind the other from this place on
-abbrev pub plains : ℕ → List Action → List Plain
-plains place [] = []
-plains place (a ∷ actions) = plain_of place a ∷ plains (place + length (params_of a)) actions
-
-abbrev pub all_params : List Action → List Param
-all_params actions = flat_map params_of actions

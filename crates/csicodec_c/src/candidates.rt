@@ -1,5 +1,5 @@
 //! What a struct without tokens may stand for, subject by subject: a value with this struct is found wherever there is one.
-//! Of another struct nothing is promised: the caller sees whether what is found has it. Written by .ci/kinds.
+//! Of another struct nothing is promised: the caller sees whether what is found has it. Written by tools/kinds.
 ghost use Rattle.std.specs.Prelude.{◌≡◌, [], IfOk, IfSome};
 ghost use Rattle.std.specs.Option.{option_map};
 ghost use Rattle.csicodec_actions.specs.Devices.{device_of};

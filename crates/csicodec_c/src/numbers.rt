@@ -12,7 +12,7 @@ ghost use Rattle.csicodec_names.specs.declared.color.Intensity.{Intensity};
 ghost use Rattle.csicodec_names.specs.declared.color.Underline.{Underline};
 ghost use Rattle.csicodec_names.specs.declared.color.VerticalAlign.{VerticalAlign};
 ghost use Rattle.csicodec_actions.specs.Ranges.{ColorInRange};
-ghost use Rattle.csicodec_c.specs.Ranges.{HasText};
+ghost use Rattle.csicodec_c.specs.Values.{HasText};
 ghost use Rattle.csicodec_c.specs.Private.Candidates.{IsPlace, IsTen, Reads, color_of, itself, unless};
 ghost use Rattle.csicodec_c.specs.Plain.{align_number, blink_number, button_number, flag_number, font_number, intensity_number, underline_number};
 

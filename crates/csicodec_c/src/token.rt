@@ -2,7 +2,7 @@
 ghost use Rattle.std.specs.Prelude.{◌≡◌, ◌++◌, List, length, map, take, drop, ⊤, IfOk, IfSome};
 ghost use Rattle.std.specs.Option.{option_map};
 ghost use Rattle.csicodec_c.specs.Private.Candidates.{FindsToken, FindsTokens};
-ghost use Rattle.csicodec_c.specs.Ranges.{AttributeInRange, TokenInRange};
+ghost use Rattle.csicodec_c.specs.Values.{AttributeInRange, TokenInRange};
 ghost use Rattle.csicodec_c.specs.Plain.{attribute_param, param_of, value_param};
 ghost use Rattle.csicodec_c.specs.Room.{laid};
 ghost use Rattle.csicodec_c.specs.declared.plain.Param.{Param};

@@ -12,8 +12,9 @@ use Rattle.csicodec_actions.specs.Devices as device
 use Rattle.csicodec_actions.specs.Kinds.{IsOneBased, below}
 use Rattle.csicodec_c.specs.declared.plain.Param.{Param}
 use Rattle.csicodec_c.specs.declared.plain.Plain.{Plain}
-use Rattle.csicodec_c.specs.Ranges.{AttributeInRange, InRange}
+use Rattle.csicodec_c.specs.Ranges.{InRange}
 use Rattle.csicodec_c.specs.Rows.{params_of, plain_of}
+use Rattle.csicodec_c.specs.Values.{AttributeInRange}
 
 -- what has this number, and none where there can be none
 abbrev pub Reads : {A : Type 0} → (A → ℕ) → (ℤ → Type 0) → ℤ → Option A → Type 0

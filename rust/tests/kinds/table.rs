@@ -1,22 +1,9 @@
-//! Each kind of action with its text: nothing else compares the kinds' numbers with the library's. Written by .ci/kinds.
+//! Each kind of action, its text, and whether it is read back. Written by tools/kinds.
 
+use crate::{at, extensions};
 use csicodec::*;
 
-fn at(number: u32) -> OneBased {
-    OneBased::new(number).unwrap()
-}
-
-fn extensions() -> DeviceAttributeFlags {
-    DeviceAttributeFlags {
-        attributes: vec![
-            DeviceAttribute::Code(DeviceAttributeCodes::Printer),
-            DeviceAttribute::Unspecified(CsiParam::Integer(7)),
-        ],
-    }
-}
-
-/// Each action, its text, and whether it is read back.
-fn kinds() -> Vec<(CSI, &'static str, bool)> {
+pub(crate) fn kinds() -> Vec<(CSI, &'static str, bool)> {
     vec![
         (CSI::Sgr(Sgr::Reset), "0m", true),
         (CSI::Sgr(Sgr::Intensity(Intensity::Bold)), "1m", true),
@@ -495,19 +482,4 @@ fn kinds() -> Vec<(CSI, &'static str, bool)> {
             true,
         ),
     ]
-}
-
-#[test]
-fn each_kind() {
-    for (action, text, read) in kinds() {
-        let text = format!("\x1b[{text}");
-        assert_eq!(action.to_string(), text);
-        assert_eq!(
-            encode(std::slice::from_ref(&action)).as_deref(),
-            Ok(text.as_bytes())
-        );
-        assert_eq!(action.is_canonical(), Ok(read), "{action:?}");
-        let back: Result<Vec<_>, _> = actions(text.as_bytes()).collect();
-        assert_eq!(back == Ok(vec![action]), read, "{text:?}");
-    }
 }

@@ -1,0 +1,129 @@
+"""What the package for Rust has for each kind: the library's types, and their structs. See kinds."""
+import re
+
+from kinds_library import BY_NUMBER, IN_TURN, declared, has_tokens, is_boxed, low, numbers_of, of, span, type_of
+from kinds_source import source_name
+from kinds_specs import names_in
+from kinds_table import PATH
+
+
+def said(body):
+    """The types in a declaration's variants."""
+    for line in body.split("\n"):
+        if not line.lstrip().startswith("///"):
+            yield from re.findall(r"\b[A-Z]\w*", "".join(re.split("([(:])", line, maxsplit=1)[1:]))
+
+
+def rust_types(subject, sources):
+    own = {name for name, _, _, _ in declared(sources)} | {"Box", "Option"}
+    others = {other for _, _, _, body in declared(sources) for other in said(body)} - own
+    out = f"""//! {subject}, under the names of the library and with its documentation. Written by tools/kinds.
+
+use crate::{{{", ".join(sorted(others))}}};
+"""
+    for name, docs, derives, body in declared(sources):
+        derives = "Clone, Debug, PartialEq, Eq, Hash" if "Drop" in derives else "Clone, Copy, Debug, PartialEq, Eq, Hash"
+        out += f"\n{docs}#[derive({derives})]\npub enum {name} {{\n{body}}}\n"
+        rows_ = numbers_of(name, body)
+        if not rows_:
+            continue
+        out += f"\nimpl {name} {{\n    /// Its number.\n    pub fn to_i64(&self) -> i64 {{\n        match self {{\n"
+        out += "".join(f"            {name}::{v} => {n},\n" for v, n, _ in rows_)
+        out += f"        }}\n    }}\n\n    /// The one that has this number.\n    pub fn from_i64(number: i64) -> Option<Self> {{\n        match number {{\n"
+        out += "".join(f"            {n} => Some({name}::{v}),\n" for v, n, _ in rows_)
+        out += "            _ => None,\n        }\n    }\n}\n"
+    return out
+
+
+def rust_to(number, group, variant, form, names):
+    name, tail = source_name(group, variant)
+    a, b = names_in(names)
+    left, right = {
+        "unit": ("", f"row({number}, 0, 0)"),
+        "count": ("(count)", f"row({number}, i64::from(*count), 0)"),
+        "place": ("(place)", f"row({number}, i64::from(place.as_one_based()), 0)"),
+        "places": (f" {{ {a}, {b} }}", f"row({number}, i64::from({a}.as_one_based()), i64::from({b}.as_one_based()))"),
+        "int": ("(number)", f"row({number}, *number, 0)"),
+        "ints": (f" {{ {a}, {b} }}", f"row({number}, *{a}, *{b})"),
+        "sizes": (f" {{ {a}, {b} }}", f"sized_row({number}, *{a}, *{b})"),
+        "enum": ("(value)", f"row({number}, {'font_number(value)' if names == ['Font'] else 'i64::from(value.number())' if names and names[0].endswith('Mode') else 'value.to_i64()'}, 0)"),
+        "flag": ("(value)", f"row({number}, i64::from(*value), 0)"),
+        "color": ("(color)", f"color_row({number}, color)"),
+        "keys": (" { resource, value }", f"sized_row({number}, Some(resource.to_i64()), *value)"),
+        "area": (" { request_id, page_number, top, left, bottom, right }", f"Plain {{ top: top.as_one_based(), left: left.as_one_based(), bottom: bottom.as_one_based(), right: right.as_one_based(), ..row({number}, *request_id, *page_number) }}"),
+        "report": (f" {{ {a}, {b}, button, modifiers }}", f"report_row({number}, *{a}, *{b}, *button, *modifiers)"),
+        "state": (" { flags, mode }", f"row({number}, i64::from(flags.bits()), mode.to_i64())"),
+        "bits": ("(flags)", f"row({number}, i64::from(flags.bits()), 0)"),
+        "extensions": ("(flags)", f"extended_row({number}, flags, params)"),
+        "graphics": ("(graphics)", f"graphics_row({number}, graphics, params)"),
+    }[form]
+    return f"{name}{left}{tail} => {right},\n"
+
+
+def rust_of(number, group, variant, form, names):
+    name, tail = source_name(group, variant)
+    a, b = names_in(names)
+    right = {
+        "unit": "",
+        "count": "(plain.first.try_into().ok()?)",
+        "place": "(place(plain.first)?)",
+        "places": f" {{ {a}: place(plain.first)?, {b}: place(plain.second)? }}",
+        "int": "(plain.first)",
+        "ints": f" {{ {a}: plain.first, {b}: plain.second }}",
+        "sizes": f" {{ {a}: first(plain), {b}: second(plain) }}",
+        "enum": f"({names[0] if names else ''}::{'at' if names and names[0].endswith('Mode') else 'from_i64'}(plain.first)?)" if names != ["Font"] else "(font(plain.first)?)",
+        "flag": "(plain.first != 0)",
+        "color": "(color(plain)?)",
+        "keys": " { resource: XtermKeyModifierResource::from_i64(plain.first)?, value: second(plain) }",
+        "area": " { request_id: plain.first, page_number: plain.second, top: OneBased::new(plain.top)?, left: OneBased::new(plain.left)?, bottom: OneBased::new(plain.bottom)?, right: OneBased::new(plain.right)? }",
+        "report": f" {{ {a}: plain.first.try_into().ok()?, {b}: plain.second.try_into().ok()?, button: MouseButton::from_i64(i64::from(plain.button))?, modifiers: Modifiers::from_bits_retain(plain.modifiers) }}",
+        "state": " { flags: flags(plain.first)?, mode: KittyKeyboardMode::from_i64(plain.second)? }",
+        "bits": "(flags(plain.first)?)",
+        "extensions": "(extensions(params))",
+        "graphics": "(graphics(plain, params)?)",
+    }[form]
+    return f"{number} => {name}{right}{tail},\n"
+
+
+def rust_rows():
+    out = """//! The struct of each action, and the action of each struct. Written by tools/kinds.
+
+use crate::numbers::{color, color_row, extended_row, extensions, first, flags, font, font_number, graphics, graphics_row, place, report_row, row, second, sized_row, unknown_row};
+use crate::raw::{Param, Plain};
+use crate::*;
+"""
+    for group in BY_NUMBER:
+        more = ", params: &mut Vec<Param>" if has_tokens(group) else ""
+        out += f"\nfn {low(group)}_plain({low(group)}: &{type_of(group)}{more}) -> Plain {{\n    match {low(group)} {{\n"
+        out += "".join(rust_to(*kind) for kind in of(group))
+        out += "    }\n}\n"
+        more = ", params: &[Param]" if has_tokens(group) else ""
+        out += f"\nfn {low(group)}_of(plain: &Plain{more}) -> Option<{type_of(group)}> {{\n    Some(match plain.kind {{\n"
+        out += "".join(rust_of(*kind) for kind in of(group))
+        out += "        _ => return None,\n    })\n}\n"
+    out += """
+/// The struct of an action; its tokens go behind those that are there.
+pub(crate) fn plain_of(action: &CSI, params: &mut Vec<Param>) -> Plain {
+    match action {
+"""
+    for group in IN_TURN:
+        out += f"        CSI::{group}({low(group)}) => {low(group)}_plain({low(group)}{', params' if has_tokens(group) else ''}),\n"
+    out += f"""        CSI::SelectCharacterPath(path, effect) => row({PATH}, path.to_i64(), *effect),
+        CSI::Unspecified(unknown) => unknown_row(unknown, params),
+    }}
+}}
+
+/// The action of a struct that the library made; `params` are its own tokens. It makes no other one.
+pub(crate) fn action_of(plain: &Plain, params: &[Param]) -> Option<CSI> {{
+    Some(match plain.kind {{
+        0 => CSI::Unspecified(Box::new(Unspecified::of(plain, params)?)),
+"""
+    for group in BY_NUMBER:
+        value = f"{low(group)}_of(plain{', params' if has_tokens(group) else ''})?"
+        out += f"        {span(group)} => CSI::{group}({f'Box::new({value})' if is_boxed(group) else value}),\n"
+    out += f"""        {PATH} => CSI::SelectCharacterPath(CharacterPath::from_i64(plain.first)?, plain.second),
+        _ => return None,
+    }})
+}}
+"""
+    return out

@@ -1,0 +1,176 @@
+"""The source of csicodec_c that has a line for each kind: the struct of an action, and what a struct without tokens may stand for. See
+kinds."""
+import re
+
+from kinds_library import BY_NUMBER, IN_TURN, LISTS, NAMED, acting, declared, has_tokens, is_boxed, kinds, low, number_of, of, snake, span, text_of, type_of, used
+from kinds_specs import names_in
+from kinds_table import PATH
+
+
+def source_use(text):
+    """The `use` line of the types that the text of a source says."""
+    return f"use csicodec::{{{used([name for name, _, _, _ in declared(NAMED + acting())] + ['Modifiers'], text)}}};\n"
+
+
+def numbers_use(text):
+    """The `use` line of the functions between numbers and values that it calls."""
+    names = re.findall(r"^pub\(crate\) fn (\w+)", text_of("crates/csicodec_c/src/numbers.rt"), re.M)
+    return f"use crate::numbers::{{{used([name for name in names if f'{name}(' in text], text)}}};\n"
+
+
+def source_name(group, variant):
+    """A variant in Rust or Rattle, and what stands behind its value."""
+    name = f"{type_of(group)}::{variant[0]}"
+    return (f"{name}(DeviceAttributes::{variant[1]}", ")") if len(variant) > 1 else (name, "")
+
+
+def code_row(number, group, variant, form, names):
+    name, tail = source_name(group, variant)
+    a, b = names_in(names)
+    left, right = {
+        "unit": ("", f"row({number}, 0, 0)"),
+        "count": ("(count)", f"row({number}, i64::from(*count), 0)"),
+        "place": ("(place)", f"row({number}, i64::from(place.as_one_based()), 0)"),
+        "places": (f" {{ {a}, {b} }}", f"row({number}, i64::from({a}.as_one_based()), i64::from({b}.as_one_based()))"),
+        "int": ("(number)", f"row({number}, *number, 0)"),
+        "ints": (f" {{ {a}, {b} }}", f"row({number}, *{a}, *{b})"),
+        "sizes": (f" {{ {a}, {b} }}", f"sized_row({number}, *{a}, *{b})"),
+        "enum": ("(value)", f"row({number}, {number_of(names[0])[1]}, 0)" if form == "enum" else ""),
+        "flag": ("(value)", f"row({number}, flag_number(*value), 0)"),
+        "color": ("(color)", f"color_row({number}, color)"),
+        "keys": (" { resource, value }", f"sized_row({number}, Some(i64::from(resource.number())), *value)"),
+        "area": (" { request_id, page_number, top, left, bottom, right }", f"Plain {{ top: top.as_one_based(), left: left.as_one_based(), bottom: bottom.as_one_based(), right: right.as_one_based(), ..row({number}, *request_id, *page_number) }}"),
+        "report": (f" {{ {a}, {b}, button, modifiers }}", f"report_row({number}, *{a}, *{b}, *button, *modifiers)"),
+        "state": (" { flags, mode }", f"row({number}, i64::from(flags.bits()), i64::from(mode.number()))"),
+        "bits": ("(flags)", f"row({number}, i64::from(flags.bits()), 0)"),
+        "extensions": ("(flags)", f"list_row({number}, 0, 0, place, flags.attributes.len())"),
+        "graphics": ("(graphics)", f"list_row({number}, item_number(graphics.item), graphics.action_or_status, place, graphics.value.len())"),
+    }[form]
+    return f"{name}{left}{tail} => {right},\n"
+
+
+def rows():
+    body = ""
+    for group in BY_NUMBER:
+        value = f"place ({low(group)}_of {low(group)}.now)" if has_tokens(group) else f"{low(group)}.now"
+        place = "place: usize, " if has_tokens(group) else ""
+        body += f"\nfn {low(group)}_plain({place}{low(group)}: &{type_of(group)}) -> Plain\n    ensures {{ result ≡ {low(group)}_plain {value} }}\n{{\n    match {low(group)} {{\n"
+        for kind in of(group):
+            body += code_row(*kind)
+        body += "    }\n}\n"
+    body += """
+/// An action whose tokens, if it has any, stand from this place on.
+pub(crate) fn plain_of(place: usize, action: &CSI) -> Plain
+    ensures { result ≡ plain_of place (action_of action.now) }
+{
+    match action {
+"""
+    for group in IN_TURN:
+        body += f"        CSI::{group}({low(group)}) => {low(group)}_plain({'place, ' if has_tokens(group) else ''}{low(group)}),\n"
+    body += f"""        CSI::SelectCharacterPath(path, effect) => row({PATH}, i64::from(path.number()), *effect),
+        CSI::Unspecified(unknown) => unknown_row(unknown.control, place, unknown.params.len()),
+    }}
+}}
+"""
+    return f"""//! The struct of each action, subject by subject. Written by tools/kinds.
+ghost use Rattle.std.specs.Prelude.{{◌≡◌}};
+ghost use Rattle.csicodec_actions.specs.Devices.{{device_of}};
+ghost use Rattle.csicodec_parser.specs.ActionOf.{{action_of}};
+ghost use Rattle.csicodec_c.specs.Rows.{{{", ".join(sorted([f"{low(group)}_plain" for group in IN_TURN] + ["plain_of"]))}}};
+
+{numbers_use(body)}use crate::plain::{{Plain, color_row, list_row, report_row, row, sized_row, unknown_row}};
+use bitflags::Flags;
+{source_use(body)}""" + body
+
+
+def candidate(number, group, variant, form, names):
+    name, tail = source_name(group, variant)
+    a, b = names_in(names)
+    right = {
+        "unit": "",
+        "count": "(count(plain)?)",
+        "place": "(first_place(plain)?)",
+        "places": f" {{ {a}: first_place(plain)?, {b}: second_place(plain)? }}",
+        "int": "(plain.first)",
+        "ints": f" {{ {a}: plain.first, {b}: plain.second }}",
+        "sizes": f" {{ {a}: first(plain), {b}: second(plain) }}",
+        "enum": f"({number_of(names[0])[2]})" if form == "enum" else "",
+        "flag": "(flag(plain)?)",
+        "color": "(color(plain)?)",
+        "keys": " { resource: XtermKeyModifierResource::parse(plain.first)?, value: second(plain) }",
+        "area": " { request_id: plain.first, page_number: plain.second, top: side(plain.top)?, left: side(plain.left)?, bottom: side(plain.bottom)?, right: side(plain.right)? }",
+        "report": f" {{ {a}: first_word(plain)?, {b}: second_word(plain)?, button: button(plain.button)?, modifiers: Modifiers::from_bits_retain(plain.modifiers) }}",
+        "state": " { flags: flags(plain)?, mode: KittyKeyboardMode::from_i64(plain.second)? }",
+        "bits": "(flags(plain)?)",
+    }[form]
+    return f"{number} => Some({name}{right}{tail}),\n"
+
+
+def candidates():
+    body = """use std::alloc::{AllocError, Global};
+
+/// What none of the rules reads.
+pub(crate) const UNSPECIFIED: u32 = 0;
+"""
+    for number, group, variant, form, _ in kinds():
+        if form in LISTS:
+            body += f"/// `{variant[-1]}`.\npub(crate) const {snake(variant[-1])}: u32 = {number};\n"
+    for group in BY_NUMBER:
+        name = low(group)
+        ensures = f"ensures in_range {{ IfSome result {group}InRange }}\n    ensures finds {{ Finds {name}_plain {group}InRange plain.now result }}"
+        if has_tokens(group):
+            ensures = f"ensures in_range {{ IfSome result (λ {name}. {group}InRange ({name}_of {name})) }}\n    ensures bare {{ IfSome result (λ {name}. {name}_params ({name}_of {name}) ≡ []) }}\n    ensures finds {{ Finds ({name}_plain plain.now.place) HasNoList plain.now (option_map {name}_of result) }}"
+        body += f"\nfn {name}_candidate(plain: &Plain) -> Option<{type_of(group)}>\n    {ensures}\n{{\n    match plain.kind {{\n"
+        for kind in of(group):
+            if kind[3] not in LISTS:
+                body += candidate(*kind)
+        body += "        _ => None,\n    }\n}\n"
+    body += """
+/// Of what takes no memory.
+fn small_candidate(plain: &Plain) -> Option<CSI>
+    ensures in_range { IfSome result (λ csi. InRange (action_of csi)) }
+    ensures bare { IfSome result (λ csi. params_of (action_of csi) ≡ []) }
+    ensures finds { Finds (plain_of plain.now.place) IsSmall plain.now (option_map action_of result) }
+{
+    match plain.kind {
+"""
+    for group in BY_NUMBER:
+        if not is_boxed(group):
+            body += f"        {span(group)} => Some(CSI::{group}({low(group)}_candidate(plain)?)),\n"
+    body += f"""        {PATH} => Some(CSI::SelectCharacterPath(CharacterPath::from_i64(plain.first)?, plain.second)),
+        _ => None,
+    }}
+}}
+
+/// Of all that have no tokens.
+pub(crate) fn candidate(alloc: Global, plain: &Plain) -> Result<Option<CSI>, AllocError>
+    ensures in_range {{ IfOk result (λ r. IfSome r (λ csi. InRange (action_of csi))) }}
+    ensures bare {{ IfOk result (λ r. IfSome r (λ csi. params_of (action_of csi) ≡ [])) }}
+    ensures finds {{ IfOk result (λ r. Finds (plain_of plain.now.place) IsBare plain.now (option_map action_of r)) }}
+{{
+    match plain.kind {{
+"""
+    for group in BY_NUMBER:
+        if is_boxed(group):
+            body += f"""        {span(group)} => match {low(group)}_candidate(plain) {{
+            Some({low(group)}) => Ok(Some(CSI::{group}(Box::new(alloc, {low(group)})?))),
+            None => Ok(None),
+        }},
+"""
+    body += """        _ => Ok(small_candidate(plain)),
+    }
+}
+"""
+    return f"""//! What a struct without tokens may stand for, subject by subject: a value with this struct is found wherever there is one.
+//! Of another struct nothing is promised: the caller sees whether what is found has it. Written by tools/kinds.
+ghost use Rattle.std.specs.Prelude.{{◌≡◌, [], IfOk, IfSome}};
+ghost use Rattle.std.specs.Option.{{option_map}};
+ghost use Rattle.csicodec_actions.specs.Devices.{{device_of}};
+ghost use Rattle.csicodec_parser.specs.ActionOf.{{action_of}};
+ghost use Rattle.csicodec_c.specs.Private.Candidates.{{Finds, HasNoList, IsBare, IsSmall}};
+ghost use Rattle.csicodec_c.specs.Ranges.{{{", ".join(sorted([f"{group}InRange" for group in IN_TURN] + ["InRange"]))}}};
+ghost use Rattle.csicodec_c.specs.Rows.{{{", ".join(sorted([f"{low(group)}_plain" for group in IN_TURN] + ["device_params", "params_of", "plain_of"]))}}};
+
+{numbers_use(body)}use crate::plain::Plain;
+use bitflags::Flags;
+{source_use(body)}""" + body

@@ -5,6 +5,7 @@ ghost use Rattle.csicodec_base.specs.declared.sgr.Sgr.{Sgr};
 ghost use Rattle.csicodec_base.specs.FrontBy.{piece};
 ghost use Rattle.csicodec_base.specs.Pieces.{NoColon, Piece};
 
+pub use csicodec_names::laws::{kitty_flags, modifiers, mouse_buttons};
 pub use csicodec_tokens::laws::{
     beginnings_go_on, fields_in_turn, one_fault, one_fields, one_sequence, printed_is_spelled,
 };

@@ -7,6 +7,7 @@ mod device;
 mod enums;
 mod esc;
 mod flags;
+pub mod laws;
 mod modes;
 
 pub use codes::SgrCode;

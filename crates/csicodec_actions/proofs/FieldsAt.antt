@@ -1,19 +1,19 @@
 -- What the code finds in the fields of a list.
-use Rattle.std.proofs.Common.{◌≡◌, ◌≤◌, ◌+◌, ℕ, zero, suc, List, append_assoc, [], ◌∷◌, ◌++◌, inl, inr, drop, length, Option, None, Some, refl, sym, ap, ◌∙◌, arith, get_or, Bor, false}
+use Rattle.std.proofs.Common.{◌≡◌, ◌<◌, ◌≤◌, ◌+◌, ℕ, zero, suc, List, append_assoc, [], ◌∷◌, ◌++◌, inl, inr, drop, length, Option, None, Some, refl, sym, ap, ◌∙◌, arith, get_or, Bor, false}
 use Rattle.std.proofs.lemmas.Bool.{cases_Bool, le-ltb, lt-ltb}
 use Rattle.std.specs.Prelude.{ℤ, ◌==◌, if◌then◌else◌, nat_lt, IsNone, IfSome, Result, Ok}
 use Rattle.std.specs.Bool.{then_some}
 use Rattle.std.specs.Option.{ok_or, option_copied, option_map}
 use Rattle.std.specs.Result.{result_ok}
+use Rattle.std.proofs.lemmas.List.{length-append}
 use Rattle.std.proofs.lemmas.Option.{same_Some}
 use Rattle.csicodec_tokens.specs.declared.param.CsiParam.{CsiParam}
 use Rattle.csicodec_tokens.specs.declared.param.CsiParam.TheVariants.{Integer, P}
-use Rattle.csicodec_tokens.specs.declared.refusal.ParseRefusal.TheVariants.{NotSpelled}
+use Rattle.csicodec_tokens.specs.declared.refusal.ParseRefusal.TheVariants.{Memory, NotSpelled}
 use Rattle.csicodec_tokens.specs.Fields.{RefusesFields, fields_of}
 use Rattle.csicodec_tokens.specs.OneBased.{number_or}
-use Rattle.csicodec_tokens.proofs.FieldsOf.{computed-fields}
-use Rattle.csicodec_actions.specs.FieldRows.{ahead_of_byte, numbers, value_or}
-use Rattle.csicodec_actions.specs.Private.FieldSteps.{field, has_field}
+use Rattle.csicodec_tokens.proofs.FieldsOf.{computed-fields, fields-computed}
+use Rattle.csicodec_actions.specs.FieldRows.{HasFields, ahead_of_byte, field, has_field, numbers, value_or}
 use Rattle.csicodec_actions.specs.Kinds.{Count, read}
 
 pub field-at : (fs : List (Option ℤ)) (i : ℕ) → get_or fs i None ≡ field fs i
@@ -53,6 +53,9 @@ no-fields list refused = go (fields_of list) refl
     go None e = sym e
     go (Some f) e = absurd (refused f (computed-fields list f e))
 
+pub some-fields : (list : List CsiParam) → RefusesFields list Memory → HasFields list
+some-fields list r = rw (fields-computed r.0 list r.1) r.2
+
 -- ---- the numbers behind
 
 pub none-behind : (fs : List (Option ℤ)) (i : ℕ) → length fs ≤ i → numbers (drop i fs) ≡ []
@@ -86,6 +89,11 @@ number-next values fs at o all e h =
 pub number_found : (values : List ℤ) (fs : List (Option ℤ)) (at : ℕ) (z : ℤ) (all : List ℤ) → Some z ≡ field fs at → values ++ numbers (drop at fs) ≡ all
     → (values ++ z ∷ []) ++ numbers (drop (at + 1) fs) ≡ all
 number_found values fs at z all e h = append_assoc values (z ∷ []) (numbers (drop (at + 1) fs)) ∙ number-next values fs at (Some z) all e h
+
+pub number_there : (values : List ℤ) (fs : List (Option ℤ)) (at : ℕ) (z : ℤ) (all : List ℤ) → Some z ≡ field fs at → values ++ numbers (drop at fs) ≡ all → 0 < length all
+number_there values fs at z all e h =
+    let here : numbers (drop at fs) ≡ z ∷ numbers (drop (suc at) fs) = numbers-from fs at ∙ ap (λ o. and_number o (numbers (drop (suc at) fs))) (sym e) in
+    omega (arith, ap length here, ap length h, length-append values (numbers (drop at fs)))
 
 pub number_missed : (values : List ℤ) (fs : List (Option ℤ)) (at : ℕ) (all : List ℤ) → None ≡ field fs at → values ++ numbers (drop at fs) ≡ all → values ++ numbers (drop (at + 1) fs) ≡ all
 number_missed values fs at all e h = number-next values fs at None all e h

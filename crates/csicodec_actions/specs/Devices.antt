@@ -1,5 +1,5 @@
 -- What a device says or is asked, without where it lies in memory; and the extensions that a terminal names, as tokens.
-use Rattle.std.specs.Prelude.{ℤ, ◌==◌, List, [], ◌∷◌, Option, None, Some, if◌then◌else◌, pos}
+use Rattle.std.specs.Prelude.{ℤ, ◌<◌, ◌==◌, List, [], ◌∷◌, length, Option, None, Some, if◌then◌else◌, pos}
 use Rattle.std.specs.List.{flat_map}
 use Rattle.csicodec_names.specs.DeviceNumbers.{device_attribute_codes, device_attribute_number}
 use Rattle.csicodec_names.specs.Numbered.{with_number}
@@ -57,6 +57,21 @@ device_of device.RequestTerminalNameAndVersion = RequestTerminalNameAndVersion
 device_of (device.RequestTerminalParameters n) = RequestTerminalParameters n
 device_of device.StatusReport = StatusReport
 device_of (device.XtSmGraphics g) = graphics_of g
+
+-- ---- memory
+
+-- an answer with extensions
+abbrev pub HasExtensions : Attributes → Type 0
+HasExtensions (Vt220 attributes) = 0 < length attributes
+HasExtensions (Vt320 attributes) = 0 < length attributes
+HasExtensions (Vt420 attributes) = 0 < length attributes
+HasExtensions a = ⊥
+
+-- extensions, and the values of graphics, are all that takes memory
+abbrev pub HoldsMemory : Device → Type 0
+HoldsMemory (DeviceAttributes a) = HasExtensions a
+HoldsMemory (XtSmGraphics item action_or_status value) = 0 < length value
+HoldsMemory d = ⊥
 
 -- ---- extensions as tokens
 

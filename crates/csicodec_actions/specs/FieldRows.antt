@@ -1,6 +1,6 @@
 -- Rows over the fields of a list: a row is a field for each slot, and what is made of their numbers. Fields behind the row are ignored.
 use Prim.Native.Char.{Char, code}
-use Rattle.std.specs.Prelude.{◌≡◌, ◌⊎◌, ℕ, ℤ, ◌==◌, ◌&&◌, Bool, true, false, not, List, [], ◌∷◌, Option, Some, None, option_and_then, option_map, if◌then◌else◌}
+use Rattle.std.specs.Prelude.{◌≡◌, ◌⊎◌, ◌<◌, ℕ, zero, suc, ℤ, ◌==◌, ◌&&◌, Bool, true, false, not, List, [], ◌∷◌, length, Option, Some, None, IsSomeAnd, option_and_then, option_map, if◌then◌else◌}
 use Rattle.std.specs.Option.{option_or, is_some}
 use Rattle.csicodec_names.specs.Numbered.{is_number}
 use Rattle.csicodec_tokens.specs.declared.param.CsiParam.{CsiParam}
@@ -23,6 +23,15 @@ behind (f ∷ fs) = fs
 abbrev pub is_there : List (Option ℤ) → Bool
 is_there [] = false
 is_there (f ∷ fs) = true
+
+-- the number of the field at an index from 0 on, and whether the field stands there
+abbrev pub field : List (Option ℤ) → ℕ → Option ℤ
+field fs zero = first fs
+field fs (suc i) = field (behind fs) i
+
+abbrev pub has_field : List (Option ℤ) → ℕ → Bool
+has_field fs zero = is_there fs
+has_field fs (suc i) = has_field (behind fs) i
 
 -- the numbers of fields, of which empty ones have none
 abbrev pub numbers : List (Option ℤ) → List ℤ
@@ -157,6 +166,13 @@ abbrev pub read_fields : {R : Type 0} → List (Over R) → List CsiParam → �
 read_fields [] list final = None
 read_fields (o ∷ others) list final = option_or (if final == o.final then read_over o list else None) (read_fields others list final)
 
--- lists before this final are read by their fields, before `S` those behind a `?`; they take memory also where no row reads them
-abbrev pub IsReadByFields : ℕ → Type 0
-IsReadByFields final = (final ≡ code "t") ⊎ ((final ≡ code "y") ⊎ (final ≡ code "S"))
+-- ---- memory
+
+-- the list has at least one field
+abbrev pub HasFields : List CsiParam → Type 0
+HasFields list = IsSomeAnd (fields_of list) (λ fs. 0 < length fs)
+
+-- an entry of this final has fields in the list. They take memory also where no row reads them
+abbrev pub TakesFields : {R : Type 0} → List (Over R) → List CsiParam → ℕ → Type 0
+TakesFields [] list final = ⊥
+TakesFields (o ∷ others) list final = ((final ≡ o.final) × IsSomeAnd (fields_over o list) (λ fs. 0 < length fs)) ⊎ TakesFields others list final

@@ -2,16 +2,16 @@
 ghost use Rattle.std.specs.Prelude.{◌≡◌, ◌<◌, IfOk, OnErr, Some, drop, length};
 ghost use Rattle.std.specs.Option.{option_map};
 ghost use Rattle.csicodec_tokens.specs.Fields.{fields_of};
-ghost use Rattle.csicodec_actions.specs.FieldRows.{ahead_of_byte, numbers, value_or};
-ghost use Rattle.csicodec_actions.specs.Private.FieldSteps.{field, has_field};
+ghost use Rattle.csicodec_actions.specs.FieldRows.{HasFields, ahead_of_byte, field, has_field, numbers, value_or};
 ghost use Rattle.csicodec_actions.specs.Kinds.{Count};
 
 use csicodec_base::{Cracked, CsiParam, OneBased, ParseRefusal};
 use std::alloc::{AllocError, Global};
 
-/// The fields of a list, if it has any.
+/// The fields of a list, if it is a list of fields. An `Err` comes only where it has at least one.
 pub fn fields_in(alloc: Global, params: &[CsiParam]) -> Result<Option<Cracked>, AllocError>
-    ensures { IfOk result (λ fields. fields ≡ fields_of params.now) }
+    ensures ok { IfOk result (λ fields. fields ≡ fields_of params.now) }
+    ensures err { OnErr result (HasFields params.now) }
 {
     match Cracked::parse(alloc, params) {
         Ok(fields) => Ok(Some(fields)),
@@ -52,10 +52,10 @@ pub fn place(fields: &Cracked, idx: usize) -> Option<OneBased>
     OneBased::from_optional_esc_param(fields.get(idx)).ok()
 }
 
-/// The numbers of all fields from this one on.
+/// The numbers of all fields from this one on. An `Err` comes only where there are any.
 pub fn numbers_behind(alloc: Global, fields: &Cracked, idx: usize) -> Result<Vec<i64>, AllocError>
     ensures ok { IfOk result (λ values. values.items ≡ numbers (drop idx fields.now)) }
-    ensures err { OnErr result (0 < length fields.now) }
+    ensures err { OnErr result (0 < length (numbers (drop idx fields.now))) }
 {
     let mut values = Vec::new(alloc);
     for at in idx..fields.len() {

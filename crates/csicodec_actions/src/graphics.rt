@@ -1,14 +1,14 @@
 //! Graphics of a terminal, asked for and answered, and their row.
-ghost use Rattle.std.specs.Prelude.{◌≡◌, ◌↔◌, IfOk, Some, pos, ◌<◌, IfErr, OnErr, drop, length};
+ghost use Rattle.std.specs.Prelude.{◌≡◌, ◌↔◌, IfOk, Some, pos, ◌<◌, IfErr, OnErr, length};
 ghost use Rattle.std.specs.Fmt.{signed_decimal};
-ghost use Rattle.csicodec_actions.specs.Devices.{graphics_of};
+ghost use Rattle.csicodec_actions.specs.Devices.{HoldsMemory, graphics_of};
 ghost use Rattle.csicodec_actions.specs.Graphics.{action_number, item_number, item_of, status_number};
 ghost use Rattle.csicodec_actions.specs.declared.graphics.XtSmGraphicsAction.{XtSmGraphicsAction};
 ghost use Rattle.csicodec_actions.specs.declared.graphics.XtSmGraphicsStatus.{XtSmGraphicsStatus};
 ghost use Rattle.std.specs.Option.{option_map};
 ghost use Rattle.csicodec_actions.specs.Actions.{Device as Devices};
-ghost use Rattle.csicodec_actions.specs.FieldRows.{IsReadByFields, given, numbers};
-ghost use Rattle.csicodec_actions.specs.Table.Graphics.{RefusesGraphics, as_graphics, graphics_behind, graphics_rows};
+ghost use Rattle.csicodec_actions.specs.FieldRows.{TakesFields, given};
+ghost use Rattle.csicodec_actions.specs.Table.Graphics.{RefusesGraphics, as_graphics, graphics_behind, graphics_fields, graphics_rows};
 
 use crate::fields::{fields_in, number, numbers_behind};
 use csicodec_base::{Cracked, CsiParam, ParseRefusal};
@@ -162,27 +162,30 @@ impl XtSmGraphics {
         }
     }
 
-    /// A copy, in memory of its own.
+    /// A copy, in memory of its own. Of no values it takes none.
     pub fn clone(&self, alloc: Global) -> Result<Self, AllocError>
-        ensures { IfOk result (λ copy. graphics_of copy ≡ graphics_of self.now) }
+        ensures same { IfOk result (λ copy. graphics_of copy ≡ graphics_of self.now) }
+        ensures plain { OnErr result (HoldsMemory (graphics_of self.now)) }
     {
+        let mut value = Vec::new(alloc);
+        value.extend_from_slice(&self.value)?;
         Ok(XtSmGraphics {
             item: self.item,
             action_or_status: self.action_or_status,
-            value: self.value.as_slice().to_vec(alloc)?,
+            value,
         })
     }
 }
 
 /// What is asked or said of graphics before this final character, if a row reads the list. An `Err` comes only before
-/// `S`: the fields of a list take memory, also where no row reads them.
+/// `S`, where fields stand behind a `?`: they take memory, also where no row reads them.
 pub fn graphics_action(
     alloc: Global,
     params: &[CsiParam],
     control: char,
 ) -> Result<Option<XtSmGraphics>, AllocError>
     ensures ok { IfOk result (λ graphics. option_map (λ g. Devices (graphics_of g)) graphics ≡ as_graphics params.now control) }
-    ensures err { OnErr result (IsReadByFields control) }
+    ensures err { OnErr result (TakesFields graphics_fields params.now control) }
 {
     match control {
         'S' => graphics(alloc, params),
@@ -213,7 +216,8 @@ impl XtSmGraphics {
 
 #[tactic(auto, unfolding(crate::specs::Table::Graphics::as_graphics))]
 fn graphics(alloc: Global, params: &[CsiParam]) -> Result<Option<XtSmGraphics>, AllocError>
-    ensures { IfOk result (λ graphics. option_map (λ g. Devices (graphics_of g)) graphics ≡ as_graphics params.now 83) }
+    ensures ok { IfOk result (λ graphics. option_map (λ g. Devices (graphics_of g)) graphics ≡ as_graphics params.now 83) }
+    ensures err { OnErr result (TakesFields graphics_fields params.now 83) }
 {
     let [CsiParam::P(b'?'), list @ ..] = params else {
         return Ok(None);

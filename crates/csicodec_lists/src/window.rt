@@ -2,9 +2,9 @@
 ghost use Rattle.std.specs.Prelude.{◌≡◌, ◌↔◌, IfOk, IsTrue, OnErr};
 ghost use Rattle.std.specs.Option.{option_map};
 ghost use Rattle.csicodec_actions.specs.Actions.{Window as Windows};
-ghost use Rattle.csicodec_actions.specs.FieldRows.{IsReadByFields, given};
+ghost use Rattle.csicodec_actions.specs.FieldRows.{TakesFields, given};
 ghost use Rattle.csicodec_actions.specs.Written.{AllGood};
-ghost use Rattle.csicodec_actions.specs.Table.Window.{alone_rows, areas, as_window, maybe, two_rows, which_rows, windows, written_window};
+ghost use Rattle.csicodec_actions.specs.Table.Window.{alone_rows, areas, as_window, maybe, two_rows, which_rows, window_fields, windows, written_window};
 
 use crate::canonical::{is_one_based, is_said};
 use csicodec_actions::Window;
@@ -12,8 +12,8 @@ use csicodec_actions::fields::{ahead_of, fields_in, is_there, number, place};
 use csicodec_base::{Cracked, CsiParam};
 use std::alloc::{AllocError, Global};
 
-/// What is done to a window before this final character, if a row reads the list. An `Err` comes only before `t` and
-/// `y`: the fields of a list take memory, also where no row reads them.
+/// What is done to a window before this final character, if a row reads the list. An `Err` comes only where the list has
+/// fields, before `t`, or before `y` and ahead of a `*`: they take memory, also where no row reads them.
 #[tactic(auto, unfolding(csicodec_actions::specs::Table::Window::as_window))]
 pub fn window_action(
     alloc: Global,
@@ -21,7 +21,7 @@ pub fn window_action(
     control: char,
 ) -> Result<Option<Window>, AllocError>
     ensures ok { IfOk result (λ window. option_map (λ w. Windows w) window ≡ as_window params.now control) }
-    ensures err { OnErr result (IsReadByFields control) }
+    ensures err { OnErr result (TakesFields window_fields params.now control) }
 {
     match control {
         't' => window(alloc, params),
@@ -32,7 +32,8 @@ pub fn window_action(
 
 #[tactic(auto, unfolding(csicodec_actions::specs::Table::Window::as_window))]
 fn window(alloc: Global, params: &[CsiParam]) -> Result<Option<Window>, AllocError>
-    ensures { IfOk result (λ window. option_map (λ w. Windows w) window ≡ as_window params.now 116) }
+    ensures ok { IfOk result (λ window. option_map (λ w. Windows w) window ≡ as_window params.now 116) }
+    ensures err { OnErr result (TakesFields window_fields params.now 116) }
 {
     match fields_in(alloc, params)? {
         Some(fields) => Ok(window_of(&fields)),
@@ -42,7 +43,8 @@ fn window(alloc: Global, params: &[CsiParam]) -> Result<Option<Window>, AllocErr
 
 #[tactic(auto, unfolding(csicodec_actions::specs::Table::Window::as_window))]
 fn area(alloc: Global, params: &[CsiParam]) -> Result<Option<Window>, AllocError>
-    ensures { IfOk result (λ area. option_map (λ w. Windows w) area ≡ as_window params.now 121) }
+    ensures ok { IfOk result (λ area. option_map (λ w. Windows w) area ≡ as_window params.now 121) }
+    ensures err { OnErr result (TakesFields window_fields params.now 121) }
 {
     let Some(front) = ahead_of(params, b'*') else {
         return Ok(None);

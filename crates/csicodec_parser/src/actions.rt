@@ -1,13 +1,13 @@
 //! The actions that a control sequence stands for, and what each of them does: how it is copied and printed, whether it is
 //! read back, and which list that is read whole it is. What has an arm for each of them stands here.
-ghost use Rattle.std.specs.Prelude.{◌≡◌, ◌⊎◌, ◌↔◌, ◌++◌, IfOk, IsOk, IsSome, IsTrue, OnErr, OnOk, Some};
+ghost use Rattle.std.specs.Prelude.{◌≡◌, ◌⊎◌, ◌↔◌, ◌++◌, ◌<◌, IfOk, IsOk, IsSome, IsTrue, OnErr, OnOk, Some, length};
 ghost use Rattle.std.specs.Io.{StartsWith};
 ghost use Rattle.std.specs.Option.{option_map};
 ghost use Rattle.csicodec_actions.specs.Actions as action;
 ghost use Rattle.csicodec_actions.specs.Actions.{TakesMemory};
 ghost use Rattle.csicodec_actions.specs.Devices.{device_of};
-ghost use Rattle.csicodec_actions.specs.FieldRows.{IsReadByFields};
-ghost use Rattle.csicodec_actions.specs.Table.{text, boxed, plain};
+ghost use Rattle.csicodec_actions.specs.FieldRows.{TakesFields};
+ghost use Rattle.csicodec_actions.specs.Table.{boxed, field_table, plain, text};
 ghost use Rattle.csicodec_parser.specs.ActionOf.{action_of, unspecified_of, unspecified_text};
 ghost use Rattle.csicodec_parser.specs.Canonical.{Canonical, IsUnspecified};
 
@@ -43,12 +43,15 @@ pub struct Unspecified {
 }
 
 impl Unspecified {
-    /// A copy, in memory of its own.
+    /// A copy, in memory of its own. Of no tokens it takes none.
     pub fn clone(&self, alloc: Global) -> Result<Self, AllocError>
-        ensures { IfOk result (λ copy. unspecified_of copy ≡ unspecified_of self.now) }
+        ensures same { IfOk result (λ copy. unspecified_of copy ≡ unspecified_of self.now) }
+        ensures plain { OnErr result (0 < length self.now.params.items) }
     {
+        let mut params = Vec::new(alloc);
+        params.extend_from_slice(&self.params)?;
         Ok(Unspecified {
-            params: self.params.as_slice().to_vec(alloc)?,
+            params,
             parameters_truncated: self.parameters_truncated,
             control: self.control,
         })
@@ -303,7 +306,7 @@ pub(crate) fn plain_action(params: &[CsiParam], control: char) -> Option<CSI>
 }
 
 /// The action of a list that is read whole, if a row reads it, and its value holds memory. An `Err` comes only where
-/// there is one, or where the fields of the list take memory.
+/// there is one, or where the list is read by its fields and has some.
 #[cold]
 #[inline(never)]
 #[tactic(auto, unfolding(csicodec_actions::specs::Table::boxed))]
@@ -313,7 +316,7 @@ pub(crate) fn boxed_action(
     control: char,
 ) -> Result<Option<CSI>, AllocError>
     ensures ok { IfOk result (λ action. option_map action_of action ≡ boxed params.now control) }
-    ensures err { OnErr result (IsSome (boxed params.now control) ⊎ IsReadByFields control) }
+    ensures err { OnErr result (IsSome (boxed params.now control) ⊎ TakesFields field_table params.now control) }
 {
     if let Some(device) = device_action(alloc, params, control)? {
         return Ok(Some(CSI::Device(Box::new(alloc, device)?)));

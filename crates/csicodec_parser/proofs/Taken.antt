@@ -20,10 +20,12 @@ use Rattle.csicodec_parser.specs.declared.group.Group.TheVariants.{Whole, Modes,
 use Rattle.csicodec_actions.specs.Actions.{Action, Mode, Unspecified}
 use Rattle.csicodec_parser.specs.Groups.{group, marked, has_odd}
 use Rattle.csicodec_parser.specs.Cut.{body}
+use Rattle.csicodec_parser.specs.Segments.{Actions}
 use Rattle.csicodec_parser.specs.Private.Steps.{one_token, front, block_of, with_semicolon, rest_action, actions, actions_in, actions_after, body_actions}
 use Rattle.csicodec_actions.specs.Table.{text, texts, plain}
 use Rattle.csicodec_parser.proofs.Blocks.{semicolon_from, segments_block, after_unknown, first_cut, odd_unknown, body_some}
 use Rattle.csicodec_lists.proofs.Boxed.{boxed_whole}
+use Rattle.csicodec_parser.proofs.Cuts.{actions_are}
 use Rattle.csicodec_parser.proofs.Rests.{rest_unknown}
 
 pub on_ok : {T E P Q : Type 0} (r : Result T E) → (P → Q) → OnOk r P → OnOk r Q
@@ -40,6 +42,12 @@ taken_all before told xs all e = append_assoc before told xs ∙ ap (λ (l : Lis
 
 pub none_taken : {S : Type 0} (holds : S → List Action → Type 0) (s : S) (before : List Action) → holds s before → holds s (before ++ [])
 none_taken holds s before h = subst (holds s) (sym (append-nil before)) h
+
+-- what is computed are the actions of the list
+pub all_taken : {S T E : Type 0} (holds : S → List Action → Type 0) (old new : S) (r : Result T E) (list : List CsiParam) (flag : Bool) (final : ℕ)
+    → OnOk r ((before : List Action) → holds old before → holds new (before ++ actions list flag final))
+    → OnOk r ((all : List Action) × Actions list flag final all × ((before : List Action) → holds old before → holds new (before ++ all)))
+all_taken holds old new r list flag final h = on_ok r (λ put. (actions list flag final, actions_are list flag final, put)) h
 
 -- ---- the actions of a list that is cut
 

@@ -2,6 +2,7 @@
 ghost use Rattle.std.specs.Prelude.{◌≡◌, ◌<◌, ◌≤◌, ◌+◌, ◌*◌, ◌∷◌, [], ◌++◌, ℕ, List, length, drop, slice_get, None, Some, true, false, IfOk, IfSome, OnOk};
 ghost use Rattle.csicodec_actions.specs.Actions.{Action, Unspecified as Unknown};
 ghost use Rattle.csicodec_parser.specs.Groups.{group as group_of_list, has_odd, marked};
+ghost use Rattle.csicodec_parser.specs.Segments.{Actions};
 ghost use Rattle.csicodec_parser.specs.declared.group.Group.TheVariants.{Whole};
 ghost use Rattle.csicodec_parser.specs.Private.Steps.{actions, front, rest_action, with_semicolon};
 
@@ -31,7 +32,7 @@ pub fn list_into<L: Look, S: Sink>(
     sink: &mut S,
 ) -> Result<(), AllocError>
     requires { L.passed look.old ≡ 0 }
-    ensures taken { OnOk result ((before : List Action) → S.holds sink.old before → S.holds sink.new (before ++ actions (L.tokens look.old) truncated control)) }
+    ensures taken { OnOk result ((all : List Action) × Actions (L.tokens look.old) truncated control all × ((before : List Action) → S.holds sink.old before → S.holds sink.new (before ++ all))) }
     ensures list { L.tokens look.new ≡ L.tokens look.old }
     ensures counted { L.looks look.old ≤ L.looks look.new }
     ensures cheap { L.looks look.new ≤ L.looks look.old + 128 * (length (L.tokens look.old) + 1) }

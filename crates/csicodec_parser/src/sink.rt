@@ -4,8 +4,8 @@ ghost use Rattle.std.specs.Fmt.{decimal};
 ghost use Rattle.csicodec_tokens.specs.Param.{spells, token_text};
 ghost use Rattle.csicodec_actions.specs.Actions.{Action, Sgr as Styled, Unspecified as Unknown};
 ghost use Rattle.csicodec_parser.specs.ActionOf.{action_of};
-ghost use Rattle.csicodec_parser.specs.Groups.{marked};
-ghost use Rattle.csicodec_parser.specs.Private.Steps.{front};
+ghost use Rattle.csicodec_parser.specs.Cut.{IsStuck};
+ghost use Rattle.csicodec_parser.specs.Groups.{Piece, marked};
 ghost use Rattle.csicodec_parser.specs.declared.group.Group.TheVariants.{Styles};
 ghost use Rattle.csicodec_actions.specs.Table.{text, texts};
 ghost use Rattle.csicodec_parser.specs.ActionOf.{unspecified_text};
@@ -28,15 +28,15 @@ pub trait Sink {
     /// Takes the first token of a list, where it is a piece by itself, whatever follows it. After `false` nothing was taken,
     /// and a piece may stand there all the same. After an `Err` nothing is said of what it holds.
     fn take_first(&mut self, group: Group, first: CsiParam) -> Result<bool, AllocError>
-        ensures some { IfOk result (λ known. known ≡ true → (action : Action) × ((others : List CsiParam) → front group (first ∷ others) ≡ Some (action, 1))
+        ensures some { IfOk result (λ known. known ≡ true → (action : Action) × ((others : List CsiParam) → Piece group (first ∷ others) 1 action)
             × ((before : List Action) → holds self.old before → holds self.new (before ++ action ∷ []))) }
         ensures none { IfOk result (λ known. known ≡ false → self.new ≡ self.old) };
 
     /// Takes the known piece at the front, and answers its number of tokens. After an `Err` nothing is said of what it
     /// holds.
     fn take_piece(&mut self, group: Group, rest: &[CsiParam]) -> Result<Option<usize>, AllocError>
-        ensures none { IfOk result (λ len. len ≡ None → (front group rest.now ≡ None) × (self.new ≡ self.old)) }
-        ensures some { IfOk result (λ o. IfSome o (λ len. (action : Action) × (front group rest.now ≡ Some (action, len))
+        ensures none { IfOk result (λ len. len ≡ None → IsStuck group rest.now × (self.new ≡ self.old)) }
+        ensures some { IfOk result (λ o. IfSome o (λ len. (action : Action) × Piece group rest.now len action
             × ((before : List Action) → holds self.old before → holds self.new (before ++ action ∷ [])))) }
         ensures within { IfOk result (λ o. IfSome o (λ len. (0 < len) × (len ≤ length rest.now))) };
 

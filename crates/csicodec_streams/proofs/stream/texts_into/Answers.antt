@@ -1,7 +1,5 @@
 use Rattle.std.proofs.Common.{◌≡◌, ℕ, false, [], ◌++◌, List, length, refl, sym, ap, subst, ◌∙◌, append_assoc, append-nil, arith}
 use Rattle.csicodec_actions.specs.Table.{texts}
-use Rattle.csicodec_parser.specs.Private.Steps.{actions}
-use Rattle.csicodec_parser.proofs.Cuts.{actions_are}
 use Rattle.csicodec_streams.proofs.Known.{read_known, slice_from, split_known, split_none_known, texts_behind, texts_longer, texts_more}
 use Rattle.csicodec_streams.proofs.Splits.{IsSplit, split_none, split_more, begins}
 use Rattle.csicodec_streams.proofs.Streamed.{errs, front_of}
@@ -35,10 +33,9 @@ split_at-requires c =
     let (text, (none, decodes, is), out) = c.recall-known.ensures.text in
     let (before, h) = c.requires.texts in
     let xs = before ++ (told ++ none) in
-    let ys = actions c.deref.result.now false c.in-Ok.tail.control in
+    let (ys, are, put) = c.in_ok-list_into-in-Ok.ensures.taken in
     let mid = texts_more before told none _ _ text (held before h) out is in
-    texts_longer xs ys c.as_slice-before.result.now c.as_slice.result.now (c.as_slice-before.ensures ∙ mid)
-    (c.as_slice.ensures ∙ (rw c.new-tokens.ensures at c.in_ok-list_into-in-Ok.ensures.taken) xs mid)
+    texts_longer xs ys c.as_slice-before.result.now c.as_slice.result.now (c.as_slice-before.ensures ∙ mid) (c.as_slice.ensures ∙ put xs mid)
 
 pub keep-requires-clause-normal : goal.keep-requires-clause-normal
 keep-requires-clause-normal c =
@@ -47,14 +44,13 @@ keep-requires-clause-normal c =
     let (before, h) = c.requires.texts in
     let tail = c.in-Ok.tail in
     let xs = before ++ (told ++ none) in
-    let ys = actions c.deref.result.now false tail.control in
+    let (ys, are, put) = rw (c.new-tokens.ensures, c.deref.ensures.value) at c.in_ok-list_into-in-Ok.ensures.taken in
     let mid = texts_more before told none _ _ text (held before h) out is in
     let old = c.as_slice-before.result.now in
     let new = c.as_slice.result.now in (
       ys,
-      read_known c.loop-alloc.rest.now tail.rest.now _ tail.control ys _ c.in-Ok.ensures.found (rw c.deref.ensures.value (actions_are c.read_csi_into.new.params.items false tail.control)) refl,
-      c.split_at.ensures.back
-          ∙ texts_behind xs ys old new (length old) (c.as_slice-before.ensures ∙ mid) (c.as_slice.ensures ∙ (rw c.new-tokens.ensures at c.in_ok-list_into-in-Ok.ensures.taken) xs mid) refl,
+      read_known c.loop-alloc.rest.now tail.rest.now _ tail.control ys _ c.in-Ok.ensures.found are refl,
+      c.split_at.ensures.back ∙ texts_behind xs ys old new (length old) (c.as_slice-before.ensures ∙ mid) (c.as_slice.ensures ∙ put xs mid) refl,
     )
 
 pub loop-alloc-preserved : goal.loop-alloc-preserved
@@ -64,12 +60,11 @@ loop-alloc-preserved c =
     let tail = c.in-Ok.tail in
     let bytes = c.args.bytes.now in
     let rest = c.loop-alloc.rest.now in
-    let ys = actions c.deref.result.now false tail.control in
+    let (ys, are, put) = rw (c.new-tokens.ensures, c.deref.ensures.value) at c.in_ok-list_into-in-Ok.ensures.taken in
     let passed : c.recall-known.result ≡ 0 = omega (arith, c.if-known-gt0.false) in (
       (told ++ none) ++ ys,
-      split_more bytes rest tail.rest.now false (told ++ none) ys _ tail.control (split_none_known bytes rest c.recall-known.result told none passed split decodes) c.in-Ok.ensures.found
-          (rw c.deref.ensures.value (actions_are c.read_csi_into.new.params.items false tail.control)),
-      λ before h. rw (← append_assoc) ((rw c.new-tokens.ensures at c.in_ok-list_into-in-Ok.ensures.taken) (before ++ (told ++ none)) (texts_more before told none _ _ text (held before h) out is)),
+      split_more bytes rest tail.rest.now false (told ++ none) ys _ tail.control (split_none_known bytes rest c.recall-known.result told none passed split decodes) c.in-Ok.ensures.found are,
+      λ before h. rw (← append_assoc) (put (before ++ (told ++ none)) (texts_more before told none _ _ text (held before h) out is)),
       c.keep.ensures,
     )
 

@@ -5,7 +5,7 @@ use mir.Syntax.{w64}
 use Rattle.csicodec_tokens.specs.declared.param.CsiParam.TheVariants.{Integer}
 use Rattle.csicodec_actions.specs.Actions.{Sgr}
 use Rattle.csicodec_actions.specs.Table.{text}
-use Rattle.csicodec_parser.proofs.Fronts.{piece_of_front}
+use Rattle.csicodec_parser.proofs.Fronts.{front_piece, piece_of_front}
 use Rattle.csicodec_parser.specs.Private.Steps.{styled}
 use Rattle.csicodec_parser.proofs.Taken.{if_ok, texts_last, terminal_first, dec_first, first_taken}
 use Rattle.csicodec_parser.proofs.sink.TextsSink.take_first.Goals as goal
@@ -17,7 +17,9 @@ returns-in-Styles-Integer-clause-some c =
     (λ known h yes.
     let (s, fronts, appended) = rw (to_z-of_z w64 c.in-Styles-Integer.number fits) at h yes in (
       Sgr s,
-      λ others. rw (c.in-Styles-Integer.is-0, c.in-Styles-Integer.is-1) (ap styled (piece_of_front (Integer c.in-Styles-Integer.number ∷ others) (Some (s, 1)) (fronts others))),
+      λ others.
+          front_piece c.args.group (c.args.first ∷ others) 1 (Sgr s)
+          (rw (c.in-Styles-Integer.is-0, c.in-Styles-Integer.is-1) (ap styled (piece_of_front (Integer c.in-Styles-Integer.number ∷ others) (Some (s, 1)) (fronts others)))),
       λ before held. appended ∙ ap (λ l. l ++ text (Sgr s)) held ∙ sym (texts_last before (Sgr s)),
     ))
     c.append_code.ensures.known
@@ -30,7 +32,7 @@ returns-in-Modes-Integer-clause-some c =
     let (n, is, small, appended) = h yes in
     let first = terminal_first c.in-Modes-Integer.switch n c.final_byte.result small c.final_byte.ensures.is in
     let at : c.args.first ≡ Integer (pos n) = c.in-Modes-Integer.is-1 ∙ ap (λ z. Integer z) (sym (to_z-of_z w64 c.in-Modes-Integer.number fits) ∙ is) in
-    (first.action, λ others. rw (c.in-Modes-Integer.is-0, at) (first.fronts others), first_taken _ _ _ _ _ first appended))
+    (first.action, λ others. front_piece c.args.group (c.args.first ∷ others) 1 first.action (rw (c.in-Modes-Integer.is-0, at) (first.fronts others)), first_taken _ _ _ _ _ first appended))
     c.append_mode.ensures.known
 
 pub returns-in-DecModes-Integer-clause-some : goal.returns-in-DecModes-Integer-clause-some
@@ -41,5 +43,5 @@ returns-in-DecModes-Integer-clause-some c =
     let (n, is, small, appended) = h yes in
     let first = dec_first c.in-DecModes-Integer.change n c.final_byte-in-DecModes-Integer.result small c.final_byte-in-DecModes-Integer.ensures.is in
     let at : c.args.first ≡ Integer (pos n) = c.in-DecModes-Integer.is-1 ∙ ap (λ z. Integer z) (sym (to_z-of_z w64 c.in-DecModes-Integer.number fits) ∙ is) in
-    (first.action, λ others. rw (c.in-DecModes-Integer.is-0, at) (first.fronts others), first_taken _ _ _ _ _ first appended))
+    (first.action, λ others. front_piece c.args.group (c.args.first ∷ others) 1 first.action (rw (c.in-DecModes-Integer.is-0, at) (first.fronts others)), first_taken _ _ _ _ _ first appended))
     c.append_mode-in-DecModes-Integer.ensures.known

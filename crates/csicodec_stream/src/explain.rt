@@ -118,7 +118,7 @@ mod tests {
         b"a\xc3\x1b[1;31mb\x1b]0;t\x07\x1b]1;u\x1b\\\x1bP\x1b\x1bq\x1b]2;v\x18c\x1b[\x07;\x80\x1b7\x1b[3";
 
     const LINES: &str = "       0  a\\xc3                     text  2 bytes
-       2  \\e[1;31m                  SGR  bold
+       2  \\e[1;31m                  SGR  bold on
                                     SGR  foreground red
        9  b                         text  1 byte
       10  \\e]0;t\\x07                OSC  string of 6 bytes

@@ -18,9 +18,9 @@ impl Describe for Cursor {
             Cursor::CharacterAbsolute(col) => to_column(f, "CHA", col),
             Cursor::CharacterPositionAbsolute(col) => to_column(f, "HPA", col),
             Cursor::Position { line, col } => at(f, "CUP  cursor to", line, col),
-            Cursor::ActivePositionReport { line, col } => at(f, "CPR  cursor at", line, col),
+            Cursor::ActivePositionReport { line, col } => reported(f, line, col),
             Cursor::CharacterAndLinePosition { line, col } => at(f, "HVP  cursor to", line, col),
-            Cursor::ForwardTabulation(n) => counted(f, "CHT  cursor on", *n, "tab stop"),
+            Cursor::ForwardTabulation(n) => counted(f, "CHT  cursor forward", *n, "tab stop"),
             Cursor::BackwardTabulation(n) => counted(f, "CBT  cursor back", *n, "tab stop"),
             Cursor::LineTabulation(n) => counted(f, "CVT  cursor down", *n, "line tab stop"),
             Cursor::CharacterPositionForward(n) => counted(f, "HPR  cursor right", *n, "column"),
@@ -32,19 +32,23 @@ impl Describe for Cursor {
             Cursor::TabulationClear(clear) => f.write_str(cleared(clear)),
             Cursor::SetTopAndBottomMargins { top, bottom } => margins(
                 f,
-                "DECSTBM  margins at lines",
+                "DECSTBM  scrolling region:",
+                "line",
                 top,
                 bottom,
             ),
             Cursor::SetLeftAndRightMargins { left, right } => margins(
                 f,
-                "DECSLRM  margins at columns",
+                "DECSLRM  left and right margins:",
+                "column",
                 left,
                 right,
             ),
             Cursor::SaveCursor => f.write_str("SCOSC  save the cursor's position"),
             Cursor::RestoreCursor => f.write_str("SCORC  restore the cursor's position"),
-            Cursor::RequestActivePositionReport => f.write_str("DSR 6  ask where the cursor is"),
+            Cursor::RequestActivePositionReport => f.write_str(
+                "DSR  ask for the cursor's position",
+            ),
             Cursor::CursorStyle(look) => f.write_str(style(look)),
         }
     }
@@ -69,18 +73,34 @@ fn at<W: fmt::Write>(
     write!(f, "{name} line {line}, column {col}")
 }
 
-/// Margins, of which 4294967295 is the page's last line or column.
-fn margins<W: fmt::Write>(
+/// An answer. The key F3 with modifiers sends the same for places in line 1.
+fn reported<W: fmt::Write>(
+    f: &mut fmt::Formatter<W>,
+    line: &OneBased,
+    col: &OneBased,
+) -> fmt::Result {
+    at(f, "CPR  answer: cursor at", line, col)?;
+    let (line, col) = (line.as_one_based(), col.as_one_based());
+    if line == 1 && 1 < col && col <= 16 {
+        f.write_str(" (or the key F3 with modifiers)")
+    } else {
+        Ok(())
+    }
+}
+
+/// The lines or columns from one to another, both counted, of which 4294967295 is the screen's last.
+pub fn margins<W: fmt::Write>(
     f: &mut fmt::Formatter<W>,
     name: &'static str,
+    unit: &'static str,
     first: &OneBased,
     last: &OneBased,
 ) -> fmt::Result {
     let (first, last) = (first.as_one_based(), last.as_one_based());
-    if last == u32::MAX {
-        write!(f, "{name} {first} to the last")
-    } else {
-        write!(f, "{name} {first} to {last}")
+    match (first, last) {
+        (1, u32::MAX) => write!(f, "{name} the whole screen"),
+        (_, u32::MAX) => write!(f, "{name} {unit} {first} to the last"),
+        _ => write!(f, "{name} {unit}s {first} to {last}"),
     }
 }
 
@@ -99,7 +119,7 @@ fn tabulation(control: &CursorTabulationControl) -> &'static str {
             "CTC  clear the line tab stop at the cursor"
         }
         CursorTabulationControl::ClearAllCharacterTabStopsAtActiveLine => {
-            "CTC  clear all tab stops of the line"
+            "CTC  clear all tab stops in the line"
         }
         CursorTabulationControl::ClearAllCharacterTabStops => "CTC  clear all tab stops",
         CursorTabulationControl::ClearAllLineTabStops => "CTC  clear all line tab stops",
@@ -115,23 +135,23 @@ fn cleared(clear: &TabulationClear) -> &'static str {
             "TBC  clear the line tab stop at the cursor"
         }
         TabulationClear::ClearCharacterTabStopsAtActiveLine => {
-            "TBC  clear all tab stops of the line"
+            "TBC  clear all tab stops in the line"
         }
         TabulationClear::ClearAllCharacterTabStops => "TBC  clear all tab stops",
         TabulationClear::ClearAllLineTabStops => "TBC  clear all line tab stops",
-        TabulationClear::ClearAllTabStops => "TBC  clear all tab stops, of lines too",
+        TabulationClear::ClearAllTabStops => "TBC  clear all tab stops and line tab stops",
     }
 }
 
 fn style(look: &CursorStyle) -> &'static str {
     match look {
-        CursorStyle::Default => "DECSCUSR  cursor as the user set it up",
-        CursorStyle::BlinkingBlock => "DECSCUSR  cursor a blinking block",
-        CursorStyle::SteadyBlock => "DECSCUSR  cursor a steady block",
-        CursorStyle::BlinkingUnderline => "DECSCUSR  cursor a blinking underline",
-        CursorStyle::SteadyUnderline => "DECSCUSR  cursor a steady underline",
-        CursorStyle::BlinkingBar => "DECSCUSR  cursor a blinking bar",
-        CursorStyle::SteadyBar => "DECSCUSR  cursor a steady bar",
+        CursorStyle::Default => "DECSCUSR  cursor: as set up (DEC: blinking block)",
+        CursorStyle::BlinkingBlock => "DECSCUSR  cursor: blinking block",
+        CursorStyle::SteadyBlock => "DECSCUSR  cursor: steady block",
+        CursorStyle::BlinkingUnderline => "DECSCUSR  cursor: blinking underline",
+        CursorStyle::SteadyUnderline => "DECSCUSR  cursor: steady underline",
+        CursorStyle::BlinkingBar => "DECSCUSR  cursor: blinking bar",
+        CursorStyle::SteadyBar => "DECSCUSR  cursor: steady bar",
     }
 }
 
@@ -147,7 +167,10 @@ mod tests {
         let last = OneBased::new(u32::MAX);
         for (cursor, words) in [
             (Cursor::Up(1), "CUU  cursor up 1 line"),
-            (Cursor::ForwardTabulation(2), "CHT  cursor on 2 tab stops"),
+            (
+                Cursor::ForwardTabulation(2),
+                "CHT  cursor forward 2 tab stops",
+            ),
             (Cursor::LinePositionAbsolute(9), "VPA  cursor to line 9"),
             (Cursor::CharacterAbsolute(col), "CHA  cursor to column 7"),
             (
@@ -159,19 +182,19 @@ mod tests {
                     top: line,
                     bottom: last,
                 },
-                "DECSTBM  margins at lines 5 to the last",
+                "DECSTBM  scrolling region: line 5 to the last",
             ),
             (
                 Cursor::SetLeftAndRightMargins {
                     left: line,
                     right: col,
                 },
-                "DECSLRM  margins at columns 5 to 7",
+                "DECSLRM  left and right margins: columns 5 to 7",
             ),
             (Cursor::SaveCursor, "SCOSC  save the cursor's position"),
             (
                 Cursor::CursorStyle(CursorStyle::SteadyBar),
-                "DECSCUSR  cursor a steady bar",
+                "DECSCUSR  cursor: steady bar",
             ),
             (
                 Cursor::TabulationClear(TabulationClear::ClearAllCharacterTabStops),

@@ -4,7 +4,7 @@ use crate::describe::Describe;
 use csicodec_actions::{
     Device, DeviceAttribute, DeviceAttributeFlags, DeviceAttributes, XtSmGraphics, XtSmGraphicsItem,
 };
-use csicodec_base::DeviceAttributeCodes;
+use csicodec_base::{CsiParam, DeviceAttributeCodes};
 use std::fmt;
 
 impl Describe for Device {
@@ -13,23 +13,29 @@ impl Describe for Device {
             Device::DeviceAttributes(attributes) => attributes.describe(f),
             Device::SoftReset => f.write_str("DECSTR  soft reset"),
             Device::RequestPrimaryDeviceAttributes => {
-                f.write_str("DA1  ask which terminal it is")
+                f.write_str("DA1  ask for the terminal's class and extensions")
             }
             Device::RequestSecondaryDeviceAttributes => {
-                f.write_str("DA2  ask for the terminal's version")
+                f.write_str("DA2  ask for the terminal's type and version")
             }
-            Device::RequestTertiaryDeviceAttributes => {
-                f.write_str("DA3  ask for the terminal's unit")
-            }
+            Device::RequestTertiaryDeviceAttributes => { f.write_str("DA3  ask for the unit's ID") }
             Device::RequestTerminalNameAndVersion => {
                 f.write_str("XTVERSION  ask for the terminal's name and version")
             }
-            Device::RequestTerminalParameters(number) => {
-                write!(f, "DECREQTPARM  ask for the line's parameters, {number}")
-            }
-            Device::StatusReport => f.write_str("DSR 5  ask for the terminal's state"),
+            Device::RequestTerminalParameters(number) => line_asked(f, *number),
+            Device::StatusReport => f.write_str("DSR  ask for the terminal's status"),
             Device::XtSmGraphics(graphics) => graphics.describe(f),
         }
+    }
+}
+
+/// What the number of DECREQTPARM says: whether the terminal may report unasked, too.
+fn line_asked<W: fmt::Write>(f: &mut fmt::Formatter<W>, number: i64) -> fmt::Result {
+    f.write_str("DECREQTPARM  ask for the serial line's parameters")?;
+    match number {
+        0 => f.write_str(", and allow reports unasked"),
+        1 => f.write_str(", and forbid reports unasked"),
+        _ => write!(f, ", {number}"),
     }
 }
 
@@ -37,10 +43,10 @@ impl Describe for DeviceAttributes {
     fn describe<W: fmt::Write>(&self, f: &mut fmt::Formatter<W>) -> fmt::Result {
         match self {
             DeviceAttributes::Vt100WithAdvancedVideoOption => {
-                f.write_str("DA1  answer: a VT100 with advanced video")
+                f.write_str("DA1  answer: VT100 with advanced video")
             }
-            DeviceAttributes::Vt101WithNoOptions => f.write_str("DA1  answer: a VT101"),
-            DeviceAttributes::Vt102 => f.write_str("DA1  answer: a VT102"),
+            DeviceAttributes::Vt101WithNoOptions => f.write_str("DA1  answer: VT101"),
+            DeviceAttributes::Vt102 => f.write_str("DA1  answer: VT102"),
             DeviceAttributes::Vt220(flags) => extensions(f, "VT220", flags),
             DeviceAttributes::Vt320(flags) => extensions(f, "VT320", flags),
             DeviceAttributes::Vt420(flags) => extensions(f, "VT420", flags),
@@ -53,17 +59,35 @@ fn extensions<W: fmt::Write>(
     class: &'static str,
     flags: &DeviceAttributeFlags,
 ) -> fmt::Result {
-    write!(f, "DA1  answer: of class {class}")?;
+    write!(f, "DA1  answer: {class} class")?;
+    let mut ahead = ", with ";
     for attribute in &flags.attributes {
-        match attribute {
-            DeviceAttribute::Code(code) => {
-                let name = extension(code);
-                write!(f, ", {name}")?;
-            }
-            DeviceAttribute::Unspecified(token) => write!(f, ", {token}")?,
-        }
+        f.write_str(ahead)?;
+        attribute.describe(f)?;
+        ahead = ", ";
     }
     Ok(())
+}
+
+/// Numbers that the codec has no name for are told where xterm has one.
+impl Describe for DeviceAttribute {
+    fn describe<W: fmt::Write>(&self, f: &mut fmt::Formatter<W>) -> fmt::Result {
+        match self {
+            DeviceAttribute::Code(code) => f.write_str(extension(code)),
+            DeviceAttribute::Unspecified(CsiParam::Integer(7)) => {
+                f.write_str("soft character set (DRCS)")
+            }
+            DeviceAttribute::Unspecified(CsiParam::Integer(16)) => f.write_str("locator port"),
+            DeviceAttribute::Unspecified(CsiParam::Integer(17)) => {
+                f.write_str("terminal state interrogation")
+            }
+            DeviceAttribute::Unspecified(CsiParam::Integer(28)) => {
+                f.write_str("rectangular editing")
+            }
+            DeviceAttribute::Unspecified(CsiParam::Integer(52)) => f.write_str("clipboard"),
+            DeviceAttribute::Unspecified(token) => write!(f, "{token}"),
+        }
+    }
 }
 
 fn extension(code: &DeviceAttributeCodes) -> &'static str {
@@ -74,7 +98,7 @@ fn extension(code: &DeviceAttributeCodes) -> &'static str {
         DeviceAttributeCodes::SixelGraphics => "sixel graphics",
         DeviceAttributeCodes::SelectiveErase => "selective erase",
         DeviceAttributeCodes::UserDefinedKeys => "user-defined keys",
-        DeviceAttributeCodes::NationalReplacementCharsets => "national character sets",
+        DeviceAttributeCodes::NationalReplacementCharsets => "national replacement character sets",
         DeviceAttributeCodes::TechnicalCharacters => "technical characters",
         DeviceAttributeCodes::UserWindows => "user windows",
         DeviceAttributeCodes::HorizontalScrolling => "horizontal scrolling",
@@ -83,28 +107,46 @@ fn extension(code: &DeviceAttributeCodes) -> &'static str {
     }
 }
 
-/// Whether it is a request or an answer stands nowhere in the sequence, so the second number is told as it is.
+/// The second number is an action of a request or a status of an answer: 0 is only a status and 4 only an action, and of
+/// 1 to 3 both meanings are told.
 impl Describe for XtSmGraphics {
     fn describe<W: fmt::Write>(&self, f: &mut fmt::Formatter<W>) -> fmt::Result {
-        let number = self.action_or_status;
-        match self.item {
-            XtSmGraphicsItem::NumberOfColorRegisters => {
-                f.write_str("XTSMGRAPHICS  number of colour registers")?;
-            }
-            XtSmGraphicsItem::SixelGraphicsGeometry => {
-                f.write_str("XTSMGRAPHICS  size of sixel images")?;
-            }
-            XtSmGraphicsItem::RegisGraphicsGeometry => {
-                f.write_str("XTSMGRAPHICS  size of ReGIS images")?;
-            }
-            XtSmGraphicsItem::Unspecified(item) => write!(f, "XTSMGRAPHICS  item {item}")?,
+        f.write_str(match self.action_or_status {
+            0 => "XTSMGRAPHICS  answer: ",
+            1 => "XTSMGRAPHICS  ask for ",
+            2 => "XTSMGRAPHICS  set back ",
+            3 => "XTSMGRAPHICS  set ",
+            4 => "XTSMGRAPHICS  ask for the maximum of ",
+            _ => "XTSMGRAPHICS  unknown action on ",
+        })?;
+        subject(f, &self.item)?;
+        match self.action_or_status {
+            1 => f.write_str(" (or answer: no such item)"),
+            2 => f.write_str(" (or answer: no such action)"),
+            3 if self.value.is_empty() => f.write_str(" (or answer: failed)"),
+            0 | 3 => values(f, &self.value),
+            _ => Ok(()),
         }
-        write!(f, ", action or status {number}")?;
-        for value in &self.value {
-            write!(f, ", {value}")?;
-        }
-        Ok(())
     }
+}
+
+fn subject<W: fmt::Write>(f: &mut fmt::Formatter<W>, item: &XtSmGraphicsItem) -> fmt::Result {
+    match item {
+        XtSmGraphicsItem::NumberOfColorRegisters => f.write_str("the number of colour registers"),
+        XtSmGraphicsItem::SixelGraphicsGeometry => f.write_str("the size of sixel images"),
+        XtSmGraphicsItem::RegisGraphicsGeometry => f.write_str("the size of ReGIS images"),
+        XtSmGraphicsItem::Unspecified(item) => write!(f, "item {item}"),
+    }
+}
+
+/// The values, behind a colon and separated by commas.
+fn values<W: fmt::Write>(f: &mut fmt::Formatter<W>, values: &[i64]) -> fmt::Result {
+    let mut ahead = ": ";
+    for value in values {
+        write!(f, "{ahead}{value}")?;
+        ahead = ", ";
+    }
+    Ok(())
 }
 
 #[cfg(test)]
@@ -117,14 +159,14 @@ mod tests {
     fn tells_devices(rt: HostRuntime) -> Result<(), Fail> {
         for (device, words) in [
             (Device::SoftReset, "DECSTR  soft reset"),
-            (Device::StatusReport, "DSR 5  ask for the terminal's state"),
+            (Device::StatusReport, "DSR  ask for the terminal's status"),
             (
-                Device::RequestTerminalParameters(1),
-                "DECREQTPARM  ask for the line's parameters, 1",
+                Device::RequestTerminalParameters(2),
+                "DECREQTPARM  ask for the serial line's parameters, 2",
             ),
             (
                 Device::DeviceAttributes(DeviceAttributes::Vt102),
-                "DA1  answer: a VT102",
+                "DA1  answer: VT102",
             ),
         ] {
             let told = Described(&device).to_string(rt.alloc())?;
@@ -142,7 +184,7 @@ mod tests {
         let told = Described(&terminal).to_string(rt.alloc())?;
         assert_eq!(rt;
             told.as_str(),
-            "DA1  answer: of class VT220, sixel graphics, ANSI colours"
+            "DA1  answer: VT220 class, with sixel graphics, ANSI colours"
         );
         Ok(())
     }
@@ -159,7 +201,7 @@ mod tests {
         let told = Described(&graphics).to_string(rt.alloc())?;
         assert_eq!(rt;
             told.as_str(),
-            "XTSMGRAPHICS  number of colour registers, action or status 3, 256"
+            "XTSMGRAPHICS  set the number of colour registers: 256"
         );
         Ok(())
     }

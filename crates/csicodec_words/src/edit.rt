@@ -17,7 +17,7 @@ impl Describe for Edit {
             Edit::ScrollUp(count) => counted(f, "SU  scroll up", *count, "line"),
             Edit::ScrollDown(count) => counted(f, "SD  scroll down", *count, "line"),
             Edit::Repeat(count) => {
-                counted(f, "REP  repeat the character before,", *count, "time")
+                counted(f, "REP  repeat the last character", *count, "more time")
             }
             Edit::EraseInDisplay(part) => f.write_str(in_display(part)),
             Edit::EraseInLine(part) => f.write_str(in_line(part)),
@@ -27,10 +27,10 @@ impl Describe for Edit {
 
 fn in_display(part: &EraseInDisplay) -> &'static str {
     match part {
-        EraseInDisplay::EraseToEndOfDisplay => "ED  erase to the end of the page",
-        EraseInDisplay::EraseToStartOfDisplay => "ED  erase to the start of the page",
-        EraseInDisplay::EraseDisplay => "ED  erase the page",
-        EraseInDisplay::EraseScrollback => "ED  erase the lines scrolled off",
+        EraseInDisplay::EraseToEndOfDisplay => "ED  erase to the end of the screen",
+        EraseInDisplay::EraseToStartOfDisplay => "ED  erase to the start of the screen",
+        EraseInDisplay::EraseDisplay => "ED  erase the screen",
+        EraseInDisplay::EraseScrollback => "ED  erase the scrollback",
     }
 }
 
@@ -55,7 +55,7 @@ mod tests {
             (Edit::ScrollUp(5), "SU  scroll up 5 lines"),
             (
                 Edit::EraseInDisplay(EraseInDisplay::EraseDisplay),
-                "ED  erase the page",
+                "ED  erase the screen",
             ),
             (
                 Edit::EraseInLine(EraseInLine::EraseToEndOfLine),

@@ -13,9 +13,13 @@ impl Describe for Esc {
                 control,
             } => {
                 f.write_str("unknown  ESC ")?;
-                if let Some(intermediate) = intermediate {
-                    let between = char::from(*intermediate);
-                    write!(f, "{between} ")?;
+                match intermediate {
+                    Some(b' ') => f.write_str("SP ")?,
+                    Some(intermediate) => {
+                        let between = char::from(*intermediate);
+                        write!(f, "{between} ")?;
+                    }
+                    None => {}
                 }
                 let last = char::from(*control);
                 write!(f, "{last}")
@@ -28,8 +32,8 @@ fn words(code: &EscCode) -> &'static str {
     match code {
         EscCode::FullReset => "RIS  full reset",
         EscCode::Index => "IND  cursor down 1 line, scrolling",
-        EscCode::NextLine => "NEL  cursor to the start of the next line, scrolling",
-        EscCode::CursorPositionLowerLeft => "ESC F  cursor to the lower left corner",
+        EscCode::NextLine => "NEL  cursor to column 1, down 1 line, scrolling",
+        EscCode::CursorPositionLowerLeft => "ESC F  cursor to the lower left corner (HP)",
         EscCode::HorizontalTabSet => "HTS  set a tab stop at the cursor",
         EscCode::ReverseIndex => "RI  cursor up 1 line, scrolling",
         EscCode::SingleShiftG2 => "SS2  next character from G2",
@@ -37,37 +41,37 @@ fn words(code: &EscCode) -> &'static str {
         EscCode::StartOfGuardedArea => "SPA  start of a guarded area",
         EscCode::EndOfGuardedArea => "EPA  end of a guarded area",
         EscCode::StartOfString => "SOS  start of a string",
-        EscCode::ReturnTerminalId => "DECID  ask which terminal it is",
+        EscCode::ReturnTerminalId => "DECID  ask for the terminal's class and extensions",
         EscCode::StringTerminator => "ST  end of a string",
         EscCode::PrivacyMessage => "PM  privacy message",
         EscCode::ApplicationProgramCommand => "APC  command to a program",
-        EscCode::TmuxTitle => "ESC k  title of the window (Screen, tmux)",
+        EscCode::TmuxTitle => "ESC k  start of a window's title (screen, tmux)",
         EscCode::DecBackIndex => "DECBI  cursor left 1 column, scrolling",
         EscCode::DecSaveCursorPosition => "DECSC  save the cursor",
         EscCode::DecRestoreCursorPosition => "DECRC  restore the cursor",
-        EscCode::DecApplicationKeyPad => "DECKPAM  application keypad",
-        EscCode::DecNormalKeyPad => "DECKPNM  normal keypad",
-        EscCode::DecLineDrawingG0 => "SCS  G0 is line drawing",
-        EscCode::UkCharacterSetG0 => "SCS  G0 is British",
-        EscCode::AsciiCharacterSetG0 => "SCS  G0 is ASCII",
-        EscCode::DecLineDrawingG1 => "SCS  G1 is line drawing",
-        EscCode::UkCharacterSetG1 => "SCS  G1 is British",
-        EscCode::AsciiCharacterSetG1 => "SCS  G1 is ASCII",
+        EscCode::DecApplicationKeyPad => "DECKPAM  application keypad on",
+        EscCode::DecNormalKeyPad => "DECKPNM  application keypad off",
+        EscCode::DecLineDrawingG0 => "SCS  G0: DEC special graphics (line drawing)",
+        EscCode::UkCharacterSetG0 => "SCS  G0: British",
+        EscCode::AsciiCharacterSetG0 => "SCS  G0: ASCII",
+        EscCode::DecLineDrawingG1 => "SCS  G1: DEC special graphics (line drawing)",
+        EscCode::UkCharacterSetG1 => "SCS  G1: British",
+        EscCode::AsciiCharacterSetG1 => "SCS  G1: ASCII",
         EscCode::DecScreenAlignmentDisplay => "DECALN  fill the screen with E",
-        EscCode::DecDoubleHeightTopHalfLine => "DECDHL  double height, top half",
-        EscCode::DecDoubleHeightBottomHalfLine => "DECDHL  double height, bottom half",
-        EscCode::DecSingleWidthLine => "DECSWL  single width",
-        EscCode::DecDoubleWidthLine => "DECDWL  double width",
-        EscCode::ApplicationModeArrowUpPress => "SS3 A  key up",
-        EscCode::ApplicationModeArrowDownPress => "SS3 B  key down",
-        EscCode::ApplicationModeArrowRightPress => "SS3 C  key right",
-        EscCode::ApplicationModeArrowLeftPress => "SS3 D  key left",
-        EscCode::ApplicationModeHomePress => "SS3 H  key Home",
-        EscCode::ApplicationModeEndPress => "SS3 F  key End",
-        EscCode::F1Press => "SS3 P  key F1",
-        EscCode::F2Press => "SS3 Q  key F2",
-        EscCode::F3Press => "SS3 R  key F3",
-        EscCode::F4Press => "SS3 S  key F4",
+        EscCode::DecDoubleHeightTopHalfLine => "DECDHL  line of double height, top half",
+        EscCode::DecDoubleHeightBottomHalfLine => "DECDHL  line of double height, bottom half",
+        EscCode::DecSingleWidthLine => "DECSWL  line of single width",
+        EscCode::DecDoubleWidthLine => "DECDWL  line of double width",
+        EscCode::ApplicationModeArrowUpPress => "key  Up (application mode)",
+        EscCode::ApplicationModeArrowDownPress => "key  Down (application mode)",
+        EscCode::ApplicationModeArrowRightPress => "key  Right (application mode)",
+        EscCode::ApplicationModeArrowLeftPress => "key  Left (application mode)",
+        EscCode::ApplicationModeHomePress => "key  Home (application mode)",
+        EscCode::ApplicationModeEndPress => "key  End (application mode)",
+        EscCode::F1Press => "key  F1",
+        EscCode::F2Press => "key  F2",
+        EscCode::F3Press => "key  F3",
+        EscCode::F4Press => "key  F4",
     }
 }
 
@@ -82,7 +86,11 @@ mod tests {
         for (intermediate, control, words) in [
             (None, b'c', "RIS  full reset"),
             (None, b'7', "DECSC  save the cursor"),
-            (Some(b'('), b'0', "SCS  G0 is line drawing"),
+            (
+                Some(b'('),
+                b'0',
+                "SCS  G0: DEC special graphics (line drawing)",
+            ),
             (Some(b'#'), b'8', "DECALN  fill the screen with E"),
             (None, b'l', "unknown  ESC l"),
             (Some(b'%'), b'G', "unknown  ESC % G"),

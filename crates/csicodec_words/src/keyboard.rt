@@ -1,5 +1,6 @@
 //! What the keyboard reports, and paths of characters, in words.
 
+use crate::amount::counted;
 use crate::describe::Describe;
 use bitflags::Flags;
 use csicodec_actions::{CharacterPath, Keyboard, KittyKeyboardMode};
@@ -14,12 +15,8 @@ impl Describe for Keyboard {
                 write!(f, "kitty keyboard  {how}")?;
                 wishes(f, flags)
             }
-            Keyboard::PushKittyState { flags, mode } => {
-                let how = way(mode);
-                write!(f, "kitty keyboard  push, {how}")?;
-                wishes(f, flags)
-            }
-            Keyboard::PopKittyState(count) => write!(f, "kitty keyboard  pop {count}"),
+            Keyboard::PushKittyState { flags, mode } => pushed(f, flags, mode),
+            Keyboard::PopKittyState(count) => counted(f, "kitty keyboard  pop", *count, "time"),
             Keyboard::QueryKittySupport => f.write_str("kitty keyboard  ask for the flags"),
             Keyboard::ReportKittyState(flags) => {
                 f.write_str("kitty keyboard  answer:")?;
@@ -31,13 +28,29 @@ impl Describe for Keyboard {
 
 fn way(mode: &KittyKeyboardMode) -> &'static str {
     match mode {
-        KittyKeyboardMode::AssignAll => "set to:",
-        KittyKeyboardMode::SetSpecified => "add:",
-        KittyKeyboardMode::ClearSpecified => "take away:",
+        KittyKeyboardMode::AssignAll => "set",
+        KittyKeyboardMode::SetSpecified => "add",
+        KittyKeyboardMode::ClearSpecified => "remove",
     }
 }
 
-/// Each flag that is set, and how many they are by their number.
+/// The flags before are kept, and these take their place. The protocol knows no way to add or remove here.
+fn pushed<W: fmt::Write>(
+    f: &mut fmt::Formatter<W>,
+    flags: &KittyKeyboardFlags,
+    mode: &KittyKeyboardMode,
+) -> fmt::Result {
+    f.write_str("kitty keyboard  push")?;
+    wishes(f, flags)?;
+    match mode {
+        KittyKeyboardMode::AssignAll => Ok(()),
+        KittyKeyboardMode::SetSpecified | KittyKeyboardMode::ClearSpecified => {
+            f.write_str(" (with a second number, which isn't kitty's)")
+        }
+    }
+}
+
+/// The number of the flags, and each that is set.
 fn wishes<W: fmt::Write>(f: &mut fmt::Formatter<W>, flags: &KittyKeyboardFlags) -> fmt::Result {
     let bits = flags.bits();
     write!(f, " flags {bits}")?;
@@ -53,7 +66,7 @@ fn wishes<W: fmt::Write>(f: &mut fmt::Formatter<W>, flags: &KittyKeyboardFlags) 
         ),
         (
             KittyKeyboardFlags::REPORT_ALL_KEYS_AS_ESCAPE_CODES,
-            ", all keys",
+            ", all keys as escape codes",
         ),
         (
             KittyKeyboardFlags::REPORT_ASSOCIATED_TEXT,
@@ -70,7 +83,7 @@ fn wishes<W: fmt::Write>(f: &mut fmt::Formatter<W>, flags: &KittyKeyboardFlags) 
 /// Where characters go.
 pub(crate) fn path(to: &CharacterPath) -> &'static str {
     match to {
-        CharacterPath::ImplementationDefault => "as the terminal has it",
+        CharacterPath::ImplementationDefault => "as the terminal is set up",
         CharacterPath::LeftToRightOrTopToBottom => "from left to right",
         CharacterPath::RightToLeftOrBottomToTop => "from right to left",
     }
@@ -89,13 +102,13 @@ mod tests {
         for (keyboard, words) in [
             (
                 Keyboard::SetKittyState { flags, mode },
-                "kitty keyboard  set to: flags 1, unambiguous keys",
+                "kitty keyboard  set flags 1, unambiguous keys",
             ),
             (
                 Keyboard::PushKittyState { flags, mode },
-                "kitty keyboard  push, set to: flags 1, unambiguous keys",
+                "kitty keyboard  push flags 1, unambiguous keys",
             ),
-            (Keyboard::PopKittyState(2), "kitty keyboard  pop 2"),
+            (Keyboard::PopKittyState(2), "kitty keyboard  pop 2 times"),
             (
                 Keyboard::ReportKittyState(KittyKeyboardFlags::NONE),
                 "kitty keyboard  answer: flags 0",

@@ -11,14 +11,17 @@ mod esc;
 mod keyboard;
 mod mode;
 mod mouse;
+mod other_modes;
 mod sgr;
 #[cfg(test)]
 mod tests;
 mod window;
 
 use crate::keyboard::path;
+use csicodec_base::CsiParam;
 use csicodec_parser::{CSI, Unspecified};
 pub use describe::{Describe, Described};
+pub use mode::{private_mode_name, terminal_mode_name};
 use std::fmt;
 
 /// In the words of its subject.
@@ -42,9 +45,16 @@ impl Describe for CSI {
     }
 }
 
-/// What no table has a name for is told by its bytes behind `ESC [`.
+/// What no table has a name for is told by its tokens, with SP for a blank, as the standards write it.
 impl Describe for Unspecified {
     fn describe<W: fmt::Write>(&self, f: &mut fmt::Formatter<W>) -> fmt::Result {
-        write!(f, "unknown  {self}")
+        f.write_str("unknown  CSI ")?;
+        for token in &self.params {
+            match token {
+                CsiParam::P(b' ') => f.write_str(" SP ")?,
+                _ => write!(f, "{token}")?,
+            }
+        }
+        f.write_char(self.control)
     }
 }

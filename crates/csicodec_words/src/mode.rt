@@ -1,26 +1,37 @@
 //! Modes, in words.
 
 use crate::describe::Describe;
+use crate::other_modes::{other_mode, other_terminal_mode};
 use csicodec_actions::{DecPrivateMode, Mode, TerminalMode, XtermKeyModifierResource};
 use csicodec_base::{DecPrivateModeCode, TerminalModeCode};
 use std::fmt;
 
+/// What is done to a mode.
+#[derive(Clone, Copy)]
+enum Deed {
+    Set,
+    Reset,
+    Save,
+    Restore,
+    Query,
+}
+
 impl Describe for Mode {
     fn describe<W: fmt::Write>(&self, f: &mut fmt::Formatter<W>) -> fmt::Result {
         match self {
-            Mode::SetDecPrivateMode(mode) => private(f, "DECSET", mode, "on"),
-            Mode::ResetDecPrivateMode(mode) => private(f, "DECRST", mode, "off"),
-            Mode::SaveDecPrivateMode(mode) => private(f, "XTSAVE", mode, "saved"),
-            Mode::RestoreDecPrivateMode(mode) => private(f, "XTRESTORE", mode, "restored"),
-            Mode::QueryDecPrivateMode(mode) => private(f, "DECRQM", mode, "asked for"),
-            Mode::SetMode(mode) => terminal(f, "SM", mode, "on"),
-            Mode::ResetMode(mode) => terminal(f, "RM", mode, "off"),
-            Mode::QueryMode(mode) => terminal(f, "DECRQM", mode, "asked for"),
+            Mode::SetDecPrivateMode(mode) => private(f, "DECSET", mode, Deed::Set),
+            Mode::ResetDecPrivateMode(mode) => private(f, "DECRST", mode, Deed::Reset),
+            Mode::SaveDecPrivateMode(mode) => private(f, "XTSAVE", mode, Deed::Save),
+            Mode::RestoreDecPrivateMode(mode) => private(f, "XTRESTORE", mode, Deed::Restore),
+            Mode::QueryDecPrivateMode(mode) => private(f, "DECRQM", mode, Deed::Query),
+            Mode::SetMode(mode) => terminal(f, "SM", mode, Deed::Set),
+            Mode::ResetMode(mode) => terminal(f, "RM", mode, Deed::Reset),
+            Mode::QueryMode(mode) => terminal(f, "DECRQM", mode, Deed::Query),
             Mode::XtermKeyMode { resource, value } => {
                 let name = keys(resource);
                 match value {
-                    Some(value) => write!(f, "XTMODKEYS  {name} set to {value}"),
-                    None => write!(f, "XTMODKEYS  {name} as at first"),
+                    Some(value) => write!(f, "XTMODKEYS  set {name} to {value}"),
+                    None => write!(f, "XTMODKEYS  set {name} back to its initial value"),
                 }
             }
         }
@@ -31,63 +42,128 @@ fn private<W: fmt::Write>(
     f: &mut fmt::Formatter<W>,
     name: &'static str,
     mode: &DecPrivateMode,
-    done: &'static str,
+    deed: Deed,
 ) -> fmt::Result {
     let number = mode.number();
     let words = match mode {
-        DecPrivateMode::Code(code) => private_mode(code),
-        DecPrivateMode::Unspecified(_) => "unknown private mode",
+        DecPrivateMode::Code(code) => match in_one(code, deed) {
+            Some(words) => return write!(f, "{name} {number}  {words}"),
+            None => private_mode(code),
+        },
+        DecPrivateMode::Unspecified(number) => other_mode(*number),
     };
-    write!(f, "{name} {number}  {words} {done}")
+    done(f, name, number, words, deed)
 }
 
 fn terminal<W: fmt::Write>(
     f: &mut fmt::Formatter<W>,
     name: &'static str,
     mode: &TerminalMode,
-    done: &'static str,
+    deed: Deed,
 ) -> fmt::Result {
     let number = mode.number();
-    let words = match mode {
-        TerminalMode::Code(code) => terminal_mode(code),
-        TerminalMode::Unspecified(_) => "unknown mode",
+    let words = match (mode, deed) {
+        (TerminalMode::Code(TerminalModeCode::SendReceive), Deed::Set) => {
+            return write!(f, "{name} {number}  local echo off (SRM)");
+        }
+        (TerminalMode::Code(TerminalModeCode::SendReceive), Deed::Reset) => {
+            return write!(f, "{name} {number}  local echo on (SRM)");
+        }
+        (TerminalMode::Code(code), _) => terminal_mode(code),
+        (TerminalMode::Unspecified(number), _) => other_terminal_mode(*number),
     };
-    write!(f, "{name} {number}  {words} {done}")
+    done(f, name, number, words, deed)
+}
+
+/// What is done to the mode of that number, which these words name.
+fn done<W: fmt::Write>(
+    f: &mut fmt::Formatter<W>,
+    name: &'static str,
+    number: u32,
+    words: &'static str,
+    deed: Deed,
+) -> fmt::Result {
+    match deed {
+        Deed::Set => write!(f, "{name} {number}  {words} on"),
+        Deed::Reset => write!(f, "{name} {number}  {words} off"),
+        Deed::Save => write!(f, "{name} {number}  save the mode: {words}"),
+        Deed::Restore => write!(f, "{name} {number}  restore the mode: {words}"),
+        Deed::Query => write!(f, "{name} {number}  ask for the mode: {words}"),
+    }
+}
+
+/// What is done to a mode whose states are more than on and off.
+fn in_one(code: &DecPrivateModeCode, deed: Deed) -> Option<&'static str> {
+    match (code, deed) {
+        (DecPrivateModeCode::DecAnsiMode, Deed::Reset) => Some("ANSI mode (DECANM) off: VT52"),
+        (DecPrivateModeCode::Select132Columns, Deed::Reset) => {
+            Some("132 columns (DECCOLM) off: 80")
+        }
+        (DecPrivateModeCode::OptEnableAlternateScreen, Deed::Reset) => {
+            Some("alternate screen off, erased before")
+        }
+        (DecPrivateModeCode::SaveCursor, Deed::Set) => Some("save the cursor"),
+        (DecPrivateModeCode::SaveCursor, Deed::Reset) => Some("restore the cursor"),
+        (DecPrivateModeCode::ClearAndEnableAlternateScreen, Deed::Set) => {
+            Some("save the cursor, alternate screen on, erased")
+        }
+        (DecPrivateModeCode::ClearAndEnableAlternateScreen, Deed::Reset) => {
+            Some("alternate screen off, restore the cursor")
+        }
+        _ => None,
+    }
+}
+
+/// What the private mode of this number is called.
+pub fn private_mode_name(number: u16) -> &'static str {
+    match DecPrivateMode::from(number) {
+        DecPrivateMode::Code(code) => private_mode(&code),
+        DecPrivateMode::Unspecified(number) => other_mode(number),
+    }
+}
+
+/// What the mode of this number is called.
+pub fn terminal_mode_name(number: u16) -> &'static str {
+    match TerminalMode::from(number) {
+        TerminalMode::Code(code) => terminal_mode(&code),
+        TerminalMode::Unspecified(number) => other_terminal_mode(number),
+    }
 }
 
 fn private_mode(code: &DecPrivateModeCode) -> &'static str {
     match code {
         DecPrivateModeCode::ApplicationCursorKeys => "application cursor keys (DECCKM)",
-        DecPrivateModeCode::DecAnsiMode => "ANSI sequences (DECANM)",
+        DecPrivateModeCode::DecAnsiMode => "ANSI mode (DECANM)",
         DecPrivateModeCode::Select132Columns => "132 columns (DECCOLM)",
         DecPrivateModeCode::SmoothScroll => "smooth scroll (DECSCLM)",
         DecPrivateModeCode::ReverseVideo => "reverse video (DECSCNM)",
         DecPrivateModeCode::OriginMode => "origin at the margins (DECOM)",
-        DecPrivateModeCode::AutoWrap => "wrap at the line's end (DECAWM)",
-        DecPrivateModeCode::AutoRepeat => "repeat of keys (DECARM)",
+        DecPrivateModeCode::AutoWrap => "auto-wrap (DECAWM)",
+        DecPrivateModeCode::AutoRepeat => "auto-repeat of keys (DECARM)",
         DecPrivateModeCode::StartBlinkingCursor => "blinking cursor",
         DecPrivateModeCode::ShowCursor => "visible cursor (DECTCEM)",
-        DecPrivateModeCode::ReverseWraparound => "reverse wraparound",
+        DecPrivateModeCode::ReverseWraparound => "reverse wraparound (XTREVWRAP)",
         DecPrivateModeCode::EnableAlternateScreen => "alternate screen",
         DecPrivateModeCode::LeftRightMarginMode => "left and right margins (DECLRMM)",
         DecPrivateModeCode::SixelDisplayMode => "sixel display mode (DECSDM)",
         DecPrivateModeCode::MouseTracking => "reports of mouse buttons",
-        DecPrivateModeCode::HighlightMouseTracking => "mouse highlight tracking",
+        DecPrivateModeCode::HighlightMouseTracking => "reports of mouse highlighting",
         DecPrivateModeCode::ButtonEventMouse => "reports of mouse drags",
-        DecPrivateModeCode::AnyEventMouse => "reports of all mouse motions",
-        DecPrivateModeCode::FocusTracking => "reports of the focus",
+        DecPrivateModeCode::AnyEventMouse => "reports of mouse motions",
+        DecPrivateModeCode::FocusTracking => "reports of focus",
         DecPrivateModeCode::Utf8Mouse => "mouse reports in UTF-8",
-        DecPrivateModeCode::SGRMouse => "SGR mouse reports in cells",
-        DecPrivateModeCode::SGRPixelsMouse => "SGR mouse reports in pixels",
+        DecPrivateModeCode::SGRMouse => "mouse reports in SGR's form, in cells",
+        DecPrivateModeCode::SGRPixelsMouse => "mouse reports in SGR's form, in pixels",
         DecPrivateModeCode::XTermMetaSendsEscape => "meta sends ESC",
         DecPrivateModeCode::XTermAltSendsEscape => "alt sends ESC",
-        DecPrivateModeCode::OptEnableAlternateScreen => "alternate screen (cleared at exit)",
+        DecPrivateModeCode::OptEnableAlternateScreen => "alternate screen",
         DecPrivateModeCode::SaveCursor => "saved cursor",
-        DecPrivateModeCode::ClearAndEnableAlternateScreen => "alternate screen with saved cursor",
-        DecPrivateModeCode::UsePrivateColorRegistersForEachGraphic => "colours for each image",
+        DecPrivateModeCode::ClearAndEnableAlternateScreen => "alternate screen with a saved cursor",
+        DecPrivateModeCode::UsePrivateColorRegistersForEachGraphic =>
+            "private colours for each image",
         DecPrivateModeCode::BracketedPaste => "bracketed paste",
         DecPrivateModeCode::SynchronizedOutput => "synchronized output",
-        DecPrivateModeCode::GraphemeClustering => "grapheme clusters",
+        DecPrivateModeCode::GraphemeClustering => "width by grapheme clusters",
         DecPrivateModeCode::MinTTYApplicationEscapeKeyMode => "application escape key",
         DecPrivateModeCode::SixelScrollsRight => "cursor to the right of sixel images",
         DecPrivateModeCode::Win32InputMode => "Win32 input mode",
@@ -97,7 +173,7 @@ fn private_mode(code: &DecPrivateModeCode) -> &'static str {
 fn terminal_mode(code: &TerminalModeCode) -> &'static str {
     match code {
         TerminalModeCode::KeyboardAction => "keyboard lock (KAM)",
-        TerminalModeCode::Insert => "insertion (IRM)",
+        TerminalModeCode::Insert => "insert mode (IRM)",
         TerminalModeCode::BiDirectionalSupportMode => "bidirectional support (BDSM)",
         TerminalModeCode::SendReceive => "no local echo (SRM)",
         TerminalModeCode::AutomaticNewline => "newline at line feed (LNM)",
@@ -136,26 +212,26 @@ mod tests {
             ),
             (
                 Mode::QueryDecPrivateMode(paste),
-                "DECRQM 2004  bracketed paste asked for",
+                "DECRQM 2004  ask for the mode: bracketed paste",
             ),
             (
                 Mode::SaveDecPrivateMode(DecPrivateMode::Unspecified(77)),
-                "XTSAVE 77  unknown private mode saved",
+                "XTSAVE 77  save the mode: unnamed private mode",
             ),
-            (Mode::SetMode(insert), "SM 4  insertion (IRM) on"),
+            (Mode::SetMode(insert), "SM 4  insert mode (IRM) on"),
             (
                 Mode::XtermKeyMode {
                     resource,
                     value: Some(2),
                 },
-                "XTMODKEYS  modifyOtherKeys set to 2",
+                "XTMODKEYS  set modifyOtherKeys to 2",
             ),
             (
                 Mode::XtermKeyMode {
                     resource,
                     value: None,
                 },
-                "XTMODKEYS  modifyOtherKeys as at first",
+                "XTMODKEYS  set modifyOtherKeys back to its initial value",
             ),
         ] {
             let told = Described(&mode).to_string(rt.alloc())?;

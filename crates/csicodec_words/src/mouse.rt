@@ -16,7 +16,7 @@ impl Describe for MouseReport {
                 modifiers,
             } => {
                 let what = event(button);
-                write!(f, "SGR mouse  {what} at line {y}, column {x}")?;
+                write!(f, "mouse  {what} line {y}, column {x}")?;
                 held(f, modifiers)
             }
             MouseReport::SGR1016 {
@@ -26,7 +26,7 @@ impl Describe for MouseReport {
                 modifiers,
             } => {
                 let what = event(button);
-                write!(f, "SGR mouse  {what} at pixel {x_pixels}, {y_pixels}")?;
+                write!(f, "mouse  {what} pixel {x_pixels}, {y_pixels}")?;
                 held(f, modifiers)
             }
         }
@@ -34,14 +34,16 @@ impl Describe for MouseReport {
 }
 
 /// The keys that are held down.
-fn held<W: fmt::Write>(f: &mut fmt::Formatter<W>, modifiers: &Modifiers) -> fmt::Result {
+pub fn held<W: fmt::Write>(f: &mut fmt::Formatter<W>, modifiers: &Modifiers) -> fmt::Result {
+    let mut ahead = ", with ";
     for (key, name) in [
-        (Modifiers::SHIFT, ", shift"),
-        (Modifiers::ALT, ", alt"),
-        (Modifiers::CTRL, ", control"),
+        (Modifiers::SHIFT, "shift"),
+        (Modifiers::ALT, "alt"),
+        (Modifiers::CTRL, "control"),
     ] {
         if modifiers.contains(key) {
-            f.write_str(name)?;
+            write!(f, "{ahead}{name}")?;
+            ahead = ", ";
         }
     }
     Ok(())
@@ -49,24 +51,24 @@ fn held<W: fmt::Write>(f: &mut fmt::Formatter<W>, modifiers: &Modifiers) -> fmt:
 
 fn event(button: &MouseButton) -> &'static str {
     match button {
-        MouseButton::Button1Press => "button 1 pressed",
-        MouseButton::Button2Press => "button 2 pressed",
-        MouseButton::Button3Press => "button 3 pressed",
-        MouseButton::Button4Press => "wheel up",
-        MouseButton::Button5Press => "wheel down",
-        MouseButton::Button6Press => "wheel left",
-        MouseButton::Button7Press => "wheel right",
-        MouseButton::Button1Release => "button 1 released",
-        MouseButton::Button2Release => "button 2 released",
-        MouseButton::Button3Release => "button 3 released",
-        MouseButton::Button4Release => "wheel up released",
-        MouseButton::Button5Release => "wheel down released",
-        MouseButton::Button6Release => "wheel left released",
-        MouseButton::Button7Release => "wheel right released",
-        MouseButton::Button1Drag => "drag with button 1",
-        MouseButton::Button2Drag => "drag with button 2",
-        MouseButton::Button3Drag => "drag with button 3",
-        MouseButton::None => "motion",
+        MouseButton::Button1Press => "button 1 pressed at",
+        MouseButton::Button2Press => "button 2 pressed at",
+        MouseButton::Button3Press => "button 3 pressed at",
+        MouseButton::Button4Press => "wheel turned up at",
+        MouseButton::Button5Press => "wheel turned down at",
+        MouseButton::Button6Press => "wheel turned left at",
+        MouseButton::Button7Press => "wheel turned right at",
+        MouseButton::Button1Release => "button 1 released at",
+        MouseButton::Button2Release => "button 2 released at",
+        MouseButton::Button3Release => "button 3 released at",
+        MouseButton::Button4Release => "wheel up released at",
+        MouseButton::Button5Release => "wheel down released at",
+        MouseButton::Button6Release => "wheel left released at",
+        MouseButton::Button7Release => "wheel right released at",
+        MouseButton::Button1Drag => "button 1 dragged to",
+        MouseButton::Button2Drag => "button 2 dragged to",
+        MouseButton::Button3Drag => "button 3 dragged to",
+        MouseButton::None => "moved to",
     }
 }
 
@@ -86,7 +88,7 @@ mod tests {
                     button: MouseButton::Button1Press,
                     modifiers: Modifiers::NONE,
                 },
-                "SGR mouse  button 1 pressed at line 5, column 7",
+                "mouse  button 1 pressed at line 5, column 7",
             ),
             (
                 MouseReport::SGR1016 {
@@ -95,7 +97,7 @@ mod tests {
                     button: MouseButton::None,
                     modifiers: Modifiers::CTRL,
                 },
-                "SGR mouse  motion at pixel 70, 50, control",
+                "mouse  moved to pixel 70, 50, with control",
             ),
         ] {
             let told = Described(&report).to_string(rt.alloc())?;

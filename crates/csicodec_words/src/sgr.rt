@@ -10,7 +10,7 @@ impl Describe for Sgr {
             Sgr::Reset => "all attributes off",
             Sgr::Intensity(strokes) => intensity(strokes),
             Sgr::Underline(line) => underline(line),
-            Sgr::UnderlineColor(color) => return tell_color(f, "underline", color),
+            Sgr::UnderlineColor(color) => return tell_color(f, "underline colour", color),
             Sgr::Blink(pace) => blink(pace),
             Sgr::Italic(on) => either(*on, "italic on", "italic off"),
             Sgr::Inverse(on) => either(*on, "inverse on", "inverse off"),
@@ -36,36 +36,36 @@ fn either(test: bool, on: &'static str, off: &'static str) -> &'static str {
 
 fn intensity(strokes: &Intensity) -> &'static str {
     match strokes {
-        Intensity::Normal => "normal intensity",
-        Intensity::Bold => "bold",
-        Intensity::Half => "faint",
+        Intensity::Normal => "bold and faint off",
+        Intensity::Bold => "bold on",
+        Intensity::Half => "faint on",
     }
 }
 
 fn underline(line: &Underline) -> &'static str {
     match line {
         Underline::None => "underline off",
-        Underline::Single => "underline",
-        Underline::Double => "double underline",
-        Underline::Curly => "curly underline",
-        Underline::Dotted => "dotted underline",
-        Underline::Dashed => "dashed underline",
+        Underline::Single => "underline on",
+        Underline::Double => "double underline on",
+        Underline::Curly => "curly underline on",
+        Underline::Dotted => "dotted underline on",
+        Underline::Dashed => "dashed underline on",
     }
 }
 
 fn blink(pace: &Blink) -> &'static str {
     match pace {
         Blink::None => "blink off",
-        Blink::Slow => "slow blink",
-        Blink::Rapid => "rapid blink",
+        Blink::Slow => "slow blink on",
+        Blink::Rapid => "rapid blink on",
     }
 }
 
 fn vertical(place: &VerticalAlign) -> &'static str {
     match place {
-        VerticalAlign::BaseLine => "on the base line",
-        VerticalAlign::SuperScript => "superscript",
-        VerticalAlign::SubScript => "subscript",
+        VerticalAlign::BaseLine => "superscript and subscript off",
+        VerticalAlign::SuperScript => "superscript on",
+        VerticalAlign::SubScript => "subscript on",
     }
 }
 
@@ -131,8 +131,8 @@ mod tests {
     #[test]
     fn tells_attributes(rt: HostRuntime) -> Result<(), Fail> {
         for (sgr, words) in [
-            (Sgr::Intensity(Intensity::Bold), "SGR  bold"),
-            (Sgr::Underline(Underline::Curly), "SGR  curly underline"),
+            (Sgr::Intensity(Intensity::Bold), "SGR  bold on"),
+            (Sgr::Underline(Underline::Curly), "SGR  curly underline on"),
             (Sgr::Italic(false), "SGR  italic off"),
             (Sgr::Font(Font::Alternate(3)), "SGR  alternative font 3"),
             (
@@ -145,7 +145,7 @@ mod tests {
             ),
             (
                 Sgr::UnderlineColor(ColorSpec::Default),
-                "SGR  underline default",
+                "SGR  underline colour default",
             ),
             (
                 Sgr::Foreground(ColorSpec::TrueColor(SrgbaTuple(1, 20, 255, 255))),

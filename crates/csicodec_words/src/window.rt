@@ -8,12 +8,20 @@ impl Describe for Window {
     fn describe<W: fmt::Write>(&self, f: &mut fmt::Formatter<W>) -> fmt::Result {
         f.write_str(words(self))?;
         match self {
-            Window::MoveWindow { x, y } => write!(f, " {x}, {y}"),
-            Window::ResizeWindowPixels { width, height }
-            | Window::ReportCellSizePixelsResponse { width, height }
-            | Window::ResizeWindowCells { width, height } => {
+            Window::MoveWindow { x, y } => write!(f, " {x}, {y} (or answer: it stands there)"),
+            Window::ResizeWindowPixels { width, height } => {
                 side(f, " width", *width)?;
-                side(f, ", height", *height)
+                side(f, ", height", *height)?;
+                f.write_str(" (or answer: the text area's size)")
+            }
+            Window::ResizeWindowCells { width, height } => {
+                side(f, " width", *width)?;
+                side(f, ", height", *height)?;
+                f.write_str(" (or answer: its size)")
+            }
+            Window::ReportCellSizePixelsResponse { width, height } => {
+                told_side(f, " width", *width)?;
+                told_side(f, ", height", *height)
             }
             Window::ChecksumRectangularArea {
                 request_id,
@@ -33,54 +41,68 @@ impl Describe for Window {
     }
 }
 
-/// A width or a height; one that is absent stays as it is.
+/// A width or a height to set: one that is absent stays as it is, and 0 is the display's.
 fn side<W: fmt::Write>(
     f: &mut fmt::Formatter<W>,
     name: &'static str,
     size: Option<i64>,
 ) -> fmt::Result {
     match size {
+        Some(0) => write!(f, "{name} of the display"),
         Some(size) => write!(f, "{name} {size}"),
         None => write!(f, "{name} as it is"),
+    }
+}
+
+/// A width or a height that is answered.
+fn told_side<W: fmt::Write>(
+    f: &mut fmt::Formatter<W>,
+    name: &'static str,
+    size: Option<i64>,
+) -> fmt::Result {
+    match size {
+        Some(size) => write!(f, "{name} {size}"),
+        None => write!(f, "{name} not told"),
     }
 }
 
 /// The words ahead of the numbers.
 fn words(window: &Window) -> &'static str {
     match window {
-        Window::DeIconify => "XTWINOPS 1  open the window again",
-        Window::Iconify => "XTWINOPS 2  make the window an icon",
-        Window::MoveWindow { .. } => "XTWINOPS 3  move the window to pixel",
-        Window::ResizeWindowPixels { .. } => "XTWINOPS 4  resize the text area, in pixels:",
-        Window::RaiseWindow => "XTWINOPS 5  raise the window",
-        Window::LowerWindow => "XTWINOPS 6  lower the window",
-        Window::ReportCellSizePixelsResponse { .. } => "XTWINOPS 6  answer: a cell, in pixels:",
-        Window::RefreshWindow => "XTWINOPS 7  draw the window again",
-        Window::ResizeWindowCells { .. } => "XTWINOPS 8  resize the text area, in cells:",
-        Window::RestoreMaximizedWindow => "XTWINOPS 9  undo maximizing",
-        Window::MaximizeWindow => "XTWINOPS 9  maximize the window",
-        Window::MaximizeWindowVertically => "XTWINOPS 9  maximize the window's height",
-        Window::MaximizeWindowHorizontally => "XTWINOPS 9  maximize the window's width",
-        Window::UndoFullScreenMode => "XTWINOPS 10  full screen off",
-        Window::ChangeToFullScreenMode => "XTWINOPS 10  full screen on",
-        Window::ToggleFullScreen => "XTWINOPS 10  full screen on or off",
-        Window::ReportWindowState => "XTWINOPS 11  ask whether the window is open",
-        Window::ReportWindowPosition => "XTWINOPS 13  ask for the window's place",
-        Window::ReportTextAreaPosition => "XTWINOPS 13  ask for the text area's place",
-        Window::ReportTextAreaSizePixels => "XTWINOPS 14  ask for the text area's size in pixels",
-        Window::ReportWindowSizePixels => "XTWINOPS 14  ask for the window's size in pixels",
-        Window::ReportScreenSizePixels => "XTWINOPS 15  ask for the screen's size in pixels",
-        Window::ReportCellSizePixels => "XTWINOPS 16  ask for a cell's size in pixels",
-        Window::ReportTextAreaSizeCells => "XTWINOPS 18  ask for the text area's size in cells",
-        Window::ReportScreenSizeCells => "XTWINOPS 19  ask for the screen's size in cells",
-        Window::ReportIconLabel => "XTWINOPS 20  ask for the icon's label",
-        Window::ReportWindowTitle => "XTWINOPS 21  ask for the window's title",
-        Window::PushIconAndWindowTitle => "XTWINOPS 22  push the icon's label and the title",
-        Window::PushIconTitle => "XTWINOPS 22  push the icon's label",
-        Window::PushWindowTitle => "XTWINOPS 22  push the window's title",
-        Window::PopIconAndWindowTitle => "XTWINOPS 23  pop the icon's label and the title",
-        Window::PopIconTitle => "XTWINOPS 23  pop the icon's label",
-        Window::PopWindowTitle => "XTWINOPS 23  pop the window's title",
+        Window::DeIconify =>
+            "XTWINOPS  restore the window from its icon (or answer: it is no icon)",
+        Window::Iconify => "XTWINOPS  make the window an icon (or answer: it is one)",
+        Window::MoveWindow { .. } => "XTWINOPS  move the window to pixel",
+        Window::ResizeWindowPixels { .. } => "XTWINOPS  resize the window, in pixels:",
+        Window::RaiseWindow => "XTWINOPS  raise the window",
+        Window::LowerWindow => "XTWINOPS  lower the window",
+        Window::ReportCellSizePixelsResponse { .. } => "XTWINOPS  answer: a cell's size in pixels:",
+        Window::RefreshWindow => "XTWINOPS  refresh the window",
+        Window::ResizeWindowCells { .. } => "XTWINOPS  resize the text area, in cells:",
+        Window::RestoreMaximizedWindow => "XTWINOPS  restore a maximized window",
+        Window::MaximizeWindow => "XTWINOPS  maximize the window",
+        Window::MaximizeWindowVertically => "XTWINOPS  maximize the window vertically",
+        Window::MaximizeWindowHorizontally => "XTWINOPS  maximize the window horizontally",
+        Window::UndoFullScreenMode => "XTWINOPS  full screen off",
+        Window::ChangeToFullScreenMode => "XTWINOPS  full screen on",
+        Window::ToggleFullScreen => "XTWINOPS  toggle full screen",
+        Window::ReportWindowState => "XTWINOPS  ask whether the window is an icon",
+        Window::ReportWindowPosition => "XTWINOPS  ask for the window's position",
+        Window::ReportTextAreaPosition => "XTWINOPS  ask for the text area's position",
+        Window::ReportTextAreaSizePixels => "XTWINOPS  ask for the text area's size in pixels",
+        Window::ReportWindowSizePixels => "XTWINOPS  ask for the window's size in pixels",
+        Window::ReportScreenSizePixels => "XTWINOPS  ask for the display's size in pixels",
+        Window::ReportCellSizePixels => "XTWINOPS  ask for a cell's size in pixels",
+        Window::ReportTextAreaSizeCells => "XTWINOPS  ask for the text area's size in cells",
+        Window::ReportScreenSizeCells => "XTWINOPS  ask for the display's size in cells",
+        Window::ReportIconLabel => "XTWINOPS  ask for the icon's label",
+        Window::ReportWindowTitle => "XTWINOPS  ask for the window's title",
+        Window::PushIconAndWindowTitle => "XTWINOPS  push the icon's label and the title",
+        Window::PushIconTitle => "XTWINOPS  push the icon's label",
+        Window::PushWindowTitle => "XTWINOPS  push the window's title",
+        Window::PopIconAndWindowTitle => "XTWINOPS  pop the icon's label and the title",
+        Window::PopIconTitle => "XTWINOPS  pop the icon's label",
+        Window::PopWindowTitle => "XTWINOPS  pop the window's title",
         Window::ChecksumRectangularArea { .. } => "DECRQCRA  ask for the checksum of lines",
     }
 }
@@ -96,22 +118,19 @@ mod tests {
     fn tells_windows(rt: HostRuntime) -> Result<(), Fail> {
         let one = OneBased::new(1);
         for (window, words) in [
-            (Window::Iconify, "XTWINOPS 2  make the window an icon"),
+            (Window::RaiseWindow, "XTWINOPS  raise the window"),
             (
                 Window::MoveWindow { x: 3, y: -4 },
-                "XTWINOPS 3  move the window to pixel 3, -4",
+                "XTWINOPS  move the window to pixel 3, -4 (or answer: it stands there)",
             ),
             (
                 Window::ResizeWindowCells {
                     width: Some(80),
                     height: None,
                 },
-                "XTWINOPS 8  resize the text area, in cells: width 80, height as it is",
+                "XTWINOPS  resize the text area, in cells: width 80, height as it is (or answer: its size)",
             ),
-            (
-                Window::PushWindowTitle,
-                "XTWINOPS 22  push the window's title",
-            ),
+            (Window::PushWindowTitle, "XTWINOPS  push the window's title"),
             (
                 Window::ChecksumRectangularArea {
                     request_id: 9,

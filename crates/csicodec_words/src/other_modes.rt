@@ -1,0 +1,72 @@
+//! Modes that the codec has no code for, in words.
+
+/// The private mode of this number, where DEC, xterm, rxvt, contour or kitty has it.
+pub fn other_mode(number: u16) -> &'static str {
+    match number {
+        9 => "reports of mouse presses (X10)",
+        10 => "tool bar",
+        13 => "blinking cursor by resource",
+        14 => "blinking cursor turned round",
+        18 => "form feed behind a printed screen (DECPFF)",
+        19 => "print of the whole screen (DECPEX)",
+        30 => "scroll bar",
+        34 => "right to left (DECRLM)",
+        35 => "font shifting keys",
+        38 => "Tektronix mode (DECTEK)",
+        40 => "switching between 80 and 132 columns",
+        41 => "more(1) fix",
+        42 => "national replacement character sets (DECNRCM)",
+        43 => "expanded graphics print (DECGEPM)",
+        44 => "margin bell",
+        46 => "logging",
+        66 => "application keypad (DECNKM)",
+        67 => "backspace from the backarrow key (DECBKM)",
+        68 => "data processing keys (DECKBUM)",
+        95 => "no clearing at DECCOLM (DECNCSM)",
+        1007 => "cursor keys from the wheel on the alternate screen",
+        1010 => "scroll to the bottom at output",
+        1011 => "scroll to the bottom at a key",
+        1014 => "fast scroll",
+        1015 => "mouse reports in urxvt's form",
+        1034 => "eighth bit from meta",
+        1035 => "modifiers for alt and num lock",
+        1037 => "DEL from the keypad's delete key",
+        1040 => "selection kept when it is not highlighted",
+        1041 => "clipboard selection",
+        1042 => "urgency hint at BEL",
+        1043 => "raise of the window at BEL",
+        1044 => "clipboard data kept",
+        1045 => "extended reverse wraparound (XTREVWRAP2)",
+        1046 => "switching to the alternate screen",
+        1050 => "function keys from terminfo",
+        1051 => "Sun's function keys",
+        1052 => "HP's function keys",
+        1053 => "SCO's function keys",
+        1060 => "X11R6's keyboard",
+        1061 => "VT220's keyboard",
+        2001 => "readline mouse button 1",
+        2002 => "readline mouse button 2",
+        2003 => "readline mouse button 3",
+        2005 => "readline character quoting",
+        2006 => "readline newline pasting",
+        2031 => "reports of colour scheme changes",
+        2048 => "reports of window sizes",
+        5522 => "paste events with MIME types",
+        _ => "unnamed private mode",
+    }
+}
+
+/// The mode of this number, where ECMA-48 has it.
+pub fn other_terminal_mode(number: u16) -> &'static str {
+    match number {
+        1 => "transfer of guarded areas (GATM)",
+        3 => "control characters shown (CRM)",
+        5 => "status reports unasked (SRTM)",
+        6 => "erasure of protected areas (ERM)",
+        7 => "vertical editing backwards (VEM)",
+        10 => "horizontal editing backwards (HEM)",
+        13 => "format effectors stored (FEAM)",
+        18 => "tab stops of a single line (TSM)",
+        _ => "unnamed mode",
+    }
+}

@@ -3,7 +3,7 @@ kinds."""
 import re
 
 from kinds_library import BY_NUMBER, IN_TURN, LISTS, NAMED, acting, declared, has_tokens, is_boxed, kinds, low, number_of, of, snake, span, text_of, type_of, used
-from kinds_specs import names_in
+from kinds_specs import can_be_named, names_in, own_use
 from kinds_table import PATH
 
 
@@ -117,10 +117,17 @@ pub(crate) const UNSPECIFIED: u32 = 0;
             body += f"/// `{variant[-1]}`.\npub(crate) const {snake(variant[-1])}: u32 = {number};\n"
     for group in BY_NUMBER:
         name = low(group)
-        ensures = f"ensures in_range {{ IfSome result {group}InRange }}\n    ensures finds {{ Finds {name}_plain {group}InRange plain.now result }}"
+        holds = lambda what: f"IfSome result {what}" if not has_tokens(group) else f"IfSome result (λ {name}. {what} ({name}_of {name}))"
+        clauses = {"in_range": holds(f"{group}InRange")}
+        if can_be_named(group):
+            clauses["named"] = holds(f"IsNamed{group}")
         if has_tokens(group):
-            ensures = f"ensures in_range {{ IfSome result (λ {name}. {group}InRange ({name}_of {name})) }}\n    ensures bare {{ IfSome result (λ {name}. {name}_params ({name}_of {name}) ≡ []) }}\n    ensures finds {{ Finds ({name}_plain plain.now.place) HasNoList plain.now (option_map {name}_of result) }}"
-        body += f"\nfn {name}_candidate(plain: &Plain) -> Option<{type_of(group)}>\n    {ensures}\n{{\n    match plain.kind {{\n"
+            clauses["bare"] = f"IfSome result (λ {name}. {name}_params ({name}_of {name}) ≡ [])"
+            clauses["finds"] = f"Finds ({name}_plain plain.now.place) HasNoList plain.now (option_map {name}_of result)"
+        else:
+            clauses["finds"] = f"Finds {name}_plain {group}InRange plain.now result"
+        ensures = "".join(f"    ensures {clause} {{ {says} }}\n" for clause, says in clauses.items())
+        body += f"\nfn {name}_candidate(plain: &Plain) -> Option<{type_of(group)}>\n{ensures}{{\n    match plain.kind {{\n"
         for kind in of(group):
             if kind[3] not in LISTS:
                 body += candidate(*kind)
@@ -129,6 +136,7 @@ pub(crate) const UNSPECIFIED: u32 = 0;
 /// Of what takes no memory.
 fn small_candidate(plain: &Plain) -> Option<CSI>
     ensures in_range { IfSome result (λ csi. InRange (action_of csi)) }
+    ensures named { IfSome result (λ csi. IsNamed (action_of csi)) }
     ensures bare { IfSome result (λ csi. params_of (action_of csi) ≡ []) }
     ensures finds { Finds (plain_of plain.now.place) IsSmall plain.now (option_map action_of result) }
 {
@@ -145,6 +153,7 @@ fn small_candidate(plain: &Plain) -> Option<CSI>
 /// Of all that have no tokens.
 pub(crate) fn candidate(alloc: Global, plain: &Plain) -> Result<Option<CSI>, AllocError>
     ensures in_range {{ IfOk result (λ r. IfSome r (λ csi. InRange (action_of csi))) }}
+    ensures named {{ IfOk result (λ r. IfSome r (λ csi. IsNamed (action_of csi))) }}
     ensures bare {{ IfOk result (λ r. IfSome r (λ csi. params_of (action_of csi) ≡ [])) }}
     ensures finds {{ IfOk result (λ r. Finds (plain_of plain.now.place) IsBare plain.now (option_map action_of r)) }}
 {{
@@ -162,14 +171,16 @@ pub(crate) fn candidate(alloc: Global, plain: &Plain) -> Result<Option<CSI>, All
 }
 """
     return f"""//! What a struct without tokens may stand for, subject by subject: a value with this struct is found wherever there is one.
-//! Of another struct nothing is promised: the caller sees whether what is found has it. Written by tools/kinds.
+//! It is by its name. Of another struct nothing is promised: the caller sees whether what is found has it. Written by
+//! tools/kinds.
 ghost use Rattle.std.specs.Prelude.{{◌≡◌, [], IfOk, IfSome}};
 ghost use Rattle.std.specs.Option.{{option_map}};
 ghost use Rattle.csicodec_actions.specs.Devices.{{device_of}};
 ghost use Rattle.csicodec_parser.specs.ActionOf.{{action_of}};
 ghost use Rattle.csicodec_c.specs.Private.Candidates.{{Finds, HasNoList, IsBare, IsSmall}};
-ghost use Rattle.csicodec_c.specs.Ranges.{{{", ".join(sorted([f"{group}InRange" for group in IN_TURN] + ["InRange"]))}}};
-ghost use Rattle.csicodec_c.specs.Rows.{{{", ".join(sorted([f"{low(group)}_plain" for group in IN_TURN] + ["device_params", "params_of", "plain_of"]))}}};
+ghost {own_use("Named", body).strip()};
+ghost {own_use("Ranges", body).strip()};
+ghost {own_use("Rows", body).strip()};
 
 {numbers_use(body)}use crate::plain::Plain;
 use bitflags::Flags;

@@ -1,4 +1,5 @@
-"""The specs of csicodec_c that have a line for each kind: which struct an action is, and which actions are in range. See kinds."""
+"""The specs of csicodec_c that have a line for each kind: which struct an action is, which actions are in range, and which are by their
+name. See kinds."""
 import re
 
 from kinds_library import BY_NUMBER, IN_TURN, has_tokens, low, module, number_of, of, text_of, type_of, used
@@ -10,6 +11,16 @@ def spec_use(crate, file, text):
     names = re.findall(r"^(?:abbrev |unfoldable )?pub (?:record )?(\w+) ", text_of(f"crates/{crate}/specs/{file}.antt"), re.M)
     said = used(names, text)
     return f"use Rattle.{crate}.specs.{file}.{{{said}}}\n" if said else ""
+
+
+def own_use(file, text):
+    """The same of the files that are written here."""
+    names = {
+        "Rows": ["plain_of", "params_of"] + [f"{low(group)}_{what}" for group in IN_TURN for what in ("plain", "params")],
+        "Ranges": ["InRange"] + [f"{group}InRange" for group in IN_TURN],
+        "Named": ["IsNamed"] + [f"IsNamed{group}" for group in IN_TURN],
+    }[file]
+    return f"use Rattle.csicodec_c.specs.{file}.{{{used(names, text)}}}\n"
 
 
 def type_use(group, text):
@@ -156,3 +167,39 @@ use Rattle.std.specs.List.{{All}}
 {spec_use("csicodec_names", "FlagBits", body)}{type_uses(body)}{spec_use("csicodec_actions", "Kinds", body)}{spec_use("csicodec_actions", "Modes", body)}\
 use Rattle.csicodec_actions.specs.Ranges as typed
 {spec_use("csicodec_c", "Values", body)}""" + body
+
+
+# ---- what is by its name
+
+
+def named_row(number, group, variant, form, names):
+    """What of it could stand by a name or by a number."""
+    left, right = {
+        "enum": (" v", {"DecPrivateMode": "IsNamedDec v", "TerminalMode": "IsNamedTerminal v"}.get((names + [""])[0])),
+        "extensions": (" list", "All IsNamedAttribute list"),
+        "graphics": (" item action_or_status value", "IsNamedItem item"),
+    }.get(form, (None, None))
+    return right and (value(group, variant, left), right)
+
+
+def can_be_named(group):
+    return any(named_row(*kind) for kind in of(group))
+
+
+def named():
+    body = ""
+    for group in filter(can_be_named, BY_NUMBER):
+        body += f"\nabbrev pub IsNamed{group} : {type_of(group)} → Type 0\n"
+        rows_ = [named_row(*kind) for kind in of(group)]
+        body += "".join(f"IsNamed{group} ({row[0]}) = {row[1]}\n" for row in rows_ if row)
+        body += "" if all(rows_) else f"IsNamed{group} other = Unit {{0}}\n"
+    body += "\nabbrev pub IsNamed : Action → Type 0\n"
+    body += "".join(f"IsNamed (action.{group} a) = IsNamed{group} a\n" for group in filter(can_be_named, BY_NUMBER))
+    body += """IsNamed (action.Unspecified params flag final) = flag ≡ false
+IsNamed other = Unit {0}
+"""
+    return f"""-- Which action is meant, of those that have one struct: a mode, an extension of a terminal and an item of graphics are by their names
+-- where they have one, and the flag of an unknown action isn't set. Any other action has no like. Written by tools/kinds.
+use Rattle.std.specs.Prelude.{{◌≡◌, false}}
+use Rattle.std.specs.List.{{All}}
+{type_uses(body)}{spec_use("csicodec_c", "Values", body)}""" + body

@@ -9,7 +9,7 @@ use Rattle.csicodec_c.specs.declared.plain.Param.{Param}
 use Rattle.csicodec_c.specs.declared.plain.Plain.{Plain}
 use Rattle.csicodec_c.specs.Next.{IsDone, IsRefused}
 use Rattle.csicodec_c.specs.Private.Fronts.{IsAnswer}
-use Rattle.csicodec_c.proofs.Kept.{read_range}
+use Rattle.csicodec_c.proofs.Kept.{read_kept}
 
 pub front_answer : (bytes rest : List ℕ) (list : List CsiParam) (final : ℕ) (ao an : List Plain) (po pn : List Param) (answer : Front)
     → Reads bytes list final rest → IsAnswer list final (length bytes - length rest) ao an po pn answer → IsDone bytes ao an po pn answer ⊎ IsRefused bytes ao an po pn answer
@@ -17,7 +17,8 @@ front_answer bytes rest list final ao an po pn answer reads (inl laid) = inl (re
   actions = laid.all;
   rest = rest;
   front = record { list = list; final = final; reads = reads; are = laid.are };
-  in_range = read_range bytes list final rest laid.all reads laid.are;
+  in_range = (read_kept bytes list final rest laid.all reads laid.are).0;
+  named = (read_kept bytes list final rest laid.all reads laid.are).1;
   ok = laid.ok;
   used = omega (arith, laid.used_all, ap length reads.2, length-append reads.0 rest);
   count = laid.lays.actions;

@@ -1,9 +1,9 @@
--- What is read of bytes is in range.
+-- What is read of bytes is in range, and by its name.
 use Rattle.std.proofs.Common.{◌≡◌, ◌<◌, ℕ, List, [], ◌∷◌, Bool, false, true, rules, arith, refl, inl, inr}
 use Rattle.std.specs.Prelude.{◌==◌, ◌&&◌}
 use Rattle.std.specs.List.{All, AllByRecursion}
 use Rattle.std.proofs.Math.Utf8.{low_scalar}
-use Rattle.std.proofs.lemmas.List.Elements.{All-from_recursion}
+use Rattle.std.proofs.lemmas.List.Elements.{All-from_recursion, All-weaker}
 use Rattle.std.proofs.lemmas.Bool.{and_parts, cases_Bool, eqb-true}
 use Rattle.csicodec_tokens.specs.declared.param.CsiParam.{CsiParam}
 use Rattle.csicodec_tokens.specs.declared.param.CsiParam.TheVariants.{Integer, P}
@@ -27,6 +27,8 @@ use Rattle.csicodec_actions.specs.Actions as action
 use Rattle.csicodec_names.specs.declared.flags.Modifiers.{Modifiers}
 use Rattle.csicodec_actions.specs.declared.device.DeviceAttribute.{DeviceAttribute}
 use Rattle.csicodec_actions.specs.declared.device.DeviceAttribute.TheVariants as attribute
+use Rattle.csicodec_actions.specs.declared.graphics.XtSmGraphicsItem.{XtSmGraphicsItem}
+use Rattle.csicodec_actions.specs.declared.graphics.XtSmGraphicsItem.TheVariants as item
 use Rattle.csicodec_actions.specs.declared.mode.DecPrivateMode.{DecPrivateMode}
 use Rattle.csicodec_actions.specs.declared.mode.DecPrivateMode.TheVariants as dec
 use Rattle.csicodec_actions.specs.declared.mode.TerminalMode.{TerminalMode}
@@ -37,7 +39,7 @@ use Rattle.csicodec_actions.specs.declared.mouse.MouseReport.TheVariants as mous
 use Rattle.csicodec_actions.specs.Devices.{Device}
 use Rattle.csicodec_actions.specs.Devices as device
 use Rattle.csicodec_actions.specs.Written.{AllGood, GoodAttribute, Attribute, listed}
-use Rattle.csicodec_actions.specs.Kinds.{GoodDec, GoodTerminal, IsOneBased, Count, Kind, Last}
+use Rattle.csicodec_actions.specs.Kinds.{GoodDec, GoodItem, GoodTerminal, IsOneBased, Count, Kind, Last}
 use Rattle.csicodec_actions.specs.Modes.{dec_number, terminal_number}
 use Rattle.csicodec_actions.specs.Mouse.{is_release}
 use Rattle.csicodec_actions.specs.Ranges as actions_ranges
@@ -55,7 +57,8 @@ use Rattle.csicodec.proofs.Parsed.{parsed-kept}
 use Rattle.csicodec.proofs.Twins.{IsParsedSpecial}
 use Rattle.csicodec_c.proofs.ModeNumbers.{dec-fits, terminal-fits}
 use Rattle.csicodec_c.specs.Ranges.{CursorInRange, DeviceInRange, EditInRange, InRange, KeyboardInRange, ModeInRange, MouseInRange, SgrInRange, WindowInRange}
-use Rattle.csicodec_c.specs.Values.{AttributeInRange, TokenInRange}
+use Rattle.csicodec_c.specs.Named.{IsNamed, IsNamedDevice, IsNamedMode}
+use Rattle.csicodec_c.specs.Values.{AttributeInRange, IsNamedAttribute, IsNamedDec, IsNamedItem, IsNamedTerminal, TokenInRange}
 
 sgr-range : (s : Sgr) → actions_ranges.SgrInRange s → IsCanonicalSgr s → SgrInRange s
 sgr-range (sgr.Font font.Default) range h = tt
@@ -82,24 +85,24 @@ edit-range : (e : Edit) → AllGood (written_edit e).items → EditInRange e
 edit-range (edit.Repeat n) h = search rules
 edit-range other h = search rules
 
-dec-range : (m : DecPrivateMode) → GoodDec m → dec_number m < 65536
-dec-range (dec.Code c) h = dec-fits c
-dec-range (dec.Unspecified n) h = h.fits
+dec-kept : (m : DecPrivateMode) → GoodDec m → (dec_number m < 65536) × IsNamedDec m
+dec-kept (dec.Code c) h = (dec-fits c, tt)
+dec-kept (dec.Unspecified n) h = (h.fits, h.own)
 
-terminal-range : (m : TerminalMode) → GoodTerminal m → terminal_number m < 65536
-terminal-range (terminal.Code c) h = terminal-fits c
-terminal-range (terminal.Unspecified n) h = h.fits
+terminal-kept : (m : TerminalMode) → GoodTerminal m → (terminal_number m < 65536) × IsNamedTerminal m
+terminal-kept (terminal.Code c) h = (terminal-fits c, tt)
+terminal-kept (terminal.Unspecified n) h = (h.fits, h.own)
 
-mode-range : (m : Mode) → AllGood (written_mode m).items → ModeInRange m
-mode-range (mode.SetDecPrivateMode m) h = dec-range m h.0
-mode-range (mode.ResetDecPrivateMode m) h = dec-range m h.0
-mode-range (mode.SaveDecPrivateMode m) h = dec-range m h.0
-mode-range (mode.RestoreDecPrivateMode m) h = dec-range m h.0
-mode-range (mode.QueryDecPrivateMode m) h = dec-range m h.0
-mode-range (mode.SetMode m) h = terminal-range m h.0
-mode-range (mode.ResetMode m) h = terminal-range m h.0
-mode-range (mode.QueryMode m) h = terminal-range m h.0
-mode-range (mode.XtermKeyMode keys value) h = tt
+mode-kept : (m : Mode) → AllGood (written_mode m).items → ModeInRange m × IsNamedMode m
+mode-kept (mode.SetDecPrivateMode m) h = dec-kept m h.0
+mode-kept (mode.ResetDecPrivateMode m) h = dec-kept m h.0
+mode-kept (mode.SaveDecPrivateMode m) h = dec-kept m h.0
+mode-kept (mode.RestoreDecPrivateMode m) h = dec-kept m h.0
+mode-kept (mode.QueryDecPrivateMode m) h = dec-kept m h.0
+mode-kept (mode.SetMode m) h = terminal-kept m h.0
+mode-kept (mode.ResetMode m) h = terminal-kept m h.0
+mode-kept (mode.QueryMode m) h = terminal-kept m h.0
+mode-kept (mode.XtermKeyMode keys value) h = (tt, tt)
 
 words : (b : MouseButton) (m : Modifiers) (x y : ℕ) → AllGood (written_report b m x y).items → (x < 65536) × (y < 65536)
 words b m x y h = elim (cases_Bool (is_release b)) [
@@ -119,21 +122,32 @@ tokens-range : (list : List CsiParam) → Spellable list → AllByRecursion Toke
 tokens-range [] h = tt
 tokens-range (t ∷ list) h = (token-range t h.0, tokens-range list h.2)
 
-attribute-range : (a : DeviceAttribute) → GoodAttribute a → AttributeInRange a
-attribute-range (attribute.Code c) h = tt
-attribute-range (attribute.Unspecified t) h = token-range t h.0
+attribute-kept : (a : DeviceAttribute) → GoodAttribute a → AttributeInRange a × IsNamedAttribute a
+attribute-kept (attribute.Code c) h = (tt, tt)
+attribute-kept (attribute.Unspecified (Integer z)) h = (tt, h.1)
+attribute-kept (attribute.Unspecified (P b)) h = (token-range (P b) h.0, tt)
 
-attributes-range : (list : List DeviceAttribute) → AllGood (listed Attribute list) → AllByRecursion AttributeInRange list
-attributes-range [] h = tt
-attributes-range (a ∷ list) h = (attribute-range a h.0, attributes-range list h.1)
+attributes-good : (list : List DeviceAttribute) → AllGood (listed Attribute list) → AllByRecursion GoodAttribute list
+attributes-good [] h = tt
+attributes-good (a ∷ list) h = (h.0, attributes-good list h.1)
 
-device-range : (d : Device) → AllGood (written_device d).items → DeviceInRange d
-device-range (device.DeviceAttributes (device.Vt220 list)) h = All-from_recursion AttributeInRange list (attributes-range list h.1)
-device-range (device.DeviceAttributes (device.Vt320 list)) h = All-from_recursion AttributeInRange list (attributes-range list h.1)
-device-range (device.DeviceAttributes (device.Vt420 list)) h = All-from_recursion AttributeInRange list (attributes-range list h.1)
-device-range (device.DeviceAttributes device.Vt102) h = tt
-device-range (device.DeviceAttributes other) h = tt
-device-range other h = tt
+attributes-kept : (list : List DeviceAttribute) → AllGood (listed Attribute list) → All AttributeInRange list × All IsNamedAttribute list
+attributes-kept list h =
+    let good = All-from_recursion GoodAttribute list (attributes-good list h) in
+    (All-weaker GoodAttribute AttributeInRange (λ a g. (attribute-kept a g).0) list good, All-weaker GoodAttribute IsNamedAttribute (λ a g. (attribute-kept a g).1) list good)
+
+item-kept : (i : XtSmGraphicsItem) → GoodItem i → IsNamedItem i
+item-kept (item.Unspecified z) h = h.1
+item-kept other h = tt
+
+device-kept : (d : Device) → AllGood (written_device d).items → DeviceInRange d × IsNamedDevice d
+device-kept (device.DeviceAttributes (device.Vt220 list)) h = attributes-kept list h.1
+device-kept (device.DeviceAttributes (device.Vt320 list)) h = attributes-kept list h.1
+device-kept (device.DeviceAttributes (device.Vt420 list)) h = attributes-kept list h.1
+device-kept (device.DeviceAttributes device.Vt102) h = (tt, tt)
+device-kept (device.DeviceAttributes other) h = (tt, tt)
+device-kept (device.XtSmGraphics item action_or_status value) h = (tt, item-kept item h.0)
+device-kept other h = (tt, tt)
 
 window-range : (w : Window) → AllGood (written_window w).items → WindowInRange w
 window-range (window.ChecksumRectangularArea request page top left bottom right) h = (h.1.1.0, h.1.1.1.0, h.1.1.1.1.0, h.1.1.1.1.1.0)
@@ -146,31 +160,28 @@ keyboard-range (keyboard.PopKittyState n) h = h.0
 keyboard-range keyboard.QueryKittySupport h = tt
 keyboard-range (keyboard.ReportKittyState flags) h = omega (arith, h.0)
 
-canonical-range : (a : Action) → actions_ranges.InRange a → Canonical a false → InRange a
-canonical-range (action.Sgr s) range h = sgr-range s range h
-canonical-range (action.Cursor c) range h = cursor-range c h.0
-canonical-range (action.Edit e) range h = edit-range e h.0
-canonical-range (action.Mode m) range h = mode-range m h.0
-canonical-range (action.Mouse m) range h = mouse-range m h.0
-canonical-range (action.Device d) range h = device-range d h.0
-canonical-range (action.Window w) range h = window-range w h.0
-canonical-range (action.Keyboard k) range h = keyboard-range k h.0
-canonical-range (action.Unspecified params flag final) range h = (All-from_recursion TokenInRange params (tokens-range params h.spellable), low_scalar final (omega (arith, h.ends.1)))
-canonical-range other range h = tt
+canonical-kept : (a : Action) → actions_ranges.InRange a → Canonical a false → InRange a × IsNamed a
+canonical-kept (action.Sgr s) range h = (sgr-range s range h, tt)
+canonical-kept (action.Cursor c) range h = (cursor-range c h.0, tt)
+canonical-kept (action.Edit e) range h = (edit-range e h.0, tt)
+canonical-kept (action.Mode m) range h = mode-kept m h.0
+canonical-kept (action.Mouse m) range h = (mouse-range m h.0, tt)
+canonical-kept (action.Device d) range h = device-kept d h.0
+canonical-kept (action.Window w) range h = (window-range w h.0, tt)
+canonical-kept (action.Keyboard k) range h = (keyboard-range k h.0, tt)
+canonical-kept (action.Unspecified params flag final) range h = ((All-from_recursion TokenInRange params (tokens-range params h.spellable), low_scalar final (omega (arith, h.ends.1))), h.same_flag)
+canonical-kept other range h = (tt, tt)
 
-special-range : (a : Action) → IsParsedSpecial a → InRange a
-special-range a (inl e) = rw e (record { above = omega arith; fits = omega arith }, most-fits)
-special-range a (inr (inl e)) = rw e tt
-special-range a (inr (inr e)) = rw e tt
+special-kept : (a : Action) → IsParsedSpecial a → InRange a × IsNamed a
+special-kept a (inl e) = rw e ((record { above = omega arith; fits = omega arith }, most-fits), tt)
+special-kept a (inr (inl e)) = rw e (tt, tt)
+special-kept a (inr (inr e)) = rw e (tt, tt)
 
-kept-range : (a : Action) → Kept false a → InRange a
-kept-range a k = elim k.canonical [ inl special ↦ special-range a special | inr canonical ↦ canonical-range a k.range canonical ]
-
-all-kept : (actions : List Action) → AllByRecursion (Kept false) actions → AllByRecursion InRange actions
-all-kept [] h = tt
-all-kept (a ∷ actions) h = (kept-range a h.0, all-kept actions h.1)
+kept : (a : Action) → Kept false a → InRange a × IsNamed a
+kept a k = elim k.canonical [ inl special ↦ special-kept a special | inr canonical ↦ canonical-kept a k.range canonical ]
 
 -- the actions of a sequence
-pub read_range : (bytes : List ℕ) (list : List CsiParam) (final : ℕ) (rest : List ℕ) (actions : List Action) → Reads bytes list final rest → Actions list false final actions → All InRange actions
-read_range bytes list final rest actions reads are =
-    All-from_recursion InRange actions (all-kept actions (parsed-kept list false final actions reads.1.spellable reads.1.ends are))
+pub read_kept : (bytes : List ℕ) (list : List CsiParam) (final : ℕ) (rest : List ℕ) (actions : List Action) → Reads bytes list final rest → Actions list false final actions → All InRange actions × All IsNamed actions
+read_kept bytes list final rest actions reads are =
+    let all = All-from_recursion (Kept false) actions (parsed-kept list false final actions reads.1.spellable reads.1.ends are) in
+    (All-weaker (Kept false) InRange (λ a k. (kept a k).0) actions all, All-weaker (Kept false) IsNamed (λ a k. (kept a k).1) actions all)

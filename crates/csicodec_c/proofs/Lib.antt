@@ -2,6 +2,8 @@ mod Fronts
 mod Kept
 mod Laid
 mod ModeNumbers
+mod OneAction
+mod OneValue
 mod Running
 mod Same
 mod Stand

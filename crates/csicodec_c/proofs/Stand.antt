@@ -1,12 +1,13 @@
--- Structs that stand for actions, and one more.
-use Rattle.std.proofs.Common.{ℕ, ◌+◌, ◌<◌, List, [], ◌∷◌, ◌++◌, length, map, take, slice_index_or, subst, sym}
+-- Structs that stand for actions: one more, and for which one each.
+use Rattle.std.proofs.Common.{ℕ, ◌+◌, ◌<◌, List, [], ◌∷◌, ◌++◌, length, map, take, slice_index_or, subst, sym, ◌∙◌}
 use Rattle.std.proofs.lemmas.List.{map-append, take_more}
 use Rattle.csicodec_parser.specs.declared.actions.CSI.{CSI}
 use Rattle.csicodec_parser.specs.ActionOf.{action_of}
 use Rattle.csicodec_actions.specs.Actions.{Action}
 use Rattle.csicodec_c.specs.declared.plain.Param.{Param}
 use Rattle.csicodec_c.specs.declared.plain.Plain.{Plain}
-use Rattle.csicodec_c.specs.Encode.{AllStand, Stands}
+use Rattle.csicodec_c.specs.Encode.{AllStand, OneAction, Stands}
+use Rattle.csicodec_c.proofs.OneAction.{action-named, same-action}
 
 stand_snoc : (plains : List Plain) (params : List Param) (actions : List Action) (p : Plain) (a : Action) → AllStand plains params actions → Stands p params a → AllStand (plains ++ p ∷ []) params (actions ++ a ∷ [])
 stand_snoc [] params [] p a all one = (one, tt)
@@ -23,3 +24,11 @@ pub stand_more_mapped : (plains : List Plain) (params : List Param) (list : List
     AllStand (take i plains) params (map action_of list) → Stands (slice_index_or plains i d) params (action_of csi) → AllStand (take (i + 1) plains) params (map action_of (list ++ csi ∷ []))
 stand_more_mapped plains params list i d csi low all one =
     subst (λ (l : List Action). AllStand (take (i + 1) plains) params l) (sym (map-append action_of list (csi ∷ []))) (stand_more plains params (map action_of list) i d (action_of csi) low all one)
+
+-- of the actions with one struct and its tokens there is one by its name
+pub one_stands : (plain : Plain) (params : List Param) → OneAction plain params
+one_stands plain params a has =
+    let like = action-named plain.place a has.0 in
+    let one : Stands plain params like.one = ((like.in_range, like.plain ∙ has.1, like.params ∙ has.2), like.named) in
+    let only = λ (c : Action) (other : Stands plain params c). same-action plain.place c like.one other.0.0 other.1 one.0.0 one.1 (other.0.1 ∙ sym one.0.1) (other.0.2 ∙ sym one.0.2) in
+    (like.one, one, only)

@@ -8,6 +8,7 @@ use Rattle.csicodec_c.specs.declared.canonical.Judged.{Judged}
 use Rattle.csicodec_c.specs.declared.encode.Encoded.{Encoded}
 use Rattle.csicodec_c.specs.declared.plain.Param.{Param}
 use Rattle.csicodec_c.specs.declared.plain.Plain.{Plain}
+use Rattle.csicodec_c.specs.Named.{IsNamed}
 use Rattle.csicodec_c.specs.Ranges.{InRange}
 use Rattle.csicodec_c.specs.Room.{Fills}
 use Rattle.csicodec_c.specs.Rows.{params_of, plain_of}
@@ -15,13 +16,21 @@ use Rattle.csicodec_c.specs.Rows.{params_of, plain_of}
 abbrev pub refused : ℕ → ℕ → Encoded
 refused status at = record { status = status; at = at; needed = 0 }
 
--- the struct is that of the action, whose tokens stand at its place
-abbrev pub Stands : Plain → List Param → Action → Type 0
-Stands plain params a = InRange a × (plain_of plain.place a ≡ plain) × (params_of a ≡ take plain.len (drop plain.place params))
+-- the action has this struct, and its tokens stand at the place of the struct
+abbrev pub Has : Plain → List Param → Action → Type 0
+Has plain params a = InRange a × (plain_of plain.place a ≡ plain) × (params_of a ≡ take plain.len (drop plain.place params))
 
--- no action has this struct and these tokens
+-- the struct stands for the one of these that is by its name
+abbrev pub Stands : Plain → List Param → Action → Type 0
+Stands plain params a = Has plain params a × IsNamed a
+
+-- the struct stands for none: no action has it, by its name or not
 abbrev pub StandsForNone : Plain → List Param → Type 0
-StandsForNone plain params = (a : Action) → Stands plain params a → ⊥
+StandsForNone plain params = (a : Action) → Has plain params a → ⊥
+
+-- where any action has the struct and the tokens, they stand for one action, and for no other
+abbrev pub OneAction : Plain → List Param → Type 0
+OneAction plain params = (a : Action) → Has plain params a → (b : Action) × Stands plain params b × ((c : Action) → Stands plain params c → c ≡ b)
 
 -- so in turn
 abbrev pub AllStand : List Plain → List Param → List Action → Type 0

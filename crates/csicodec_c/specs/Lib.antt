@@ -7,4 +7,5 @@ pub mod Next
 pub mod Encode
 pub mod Filter
 pub mod Ranges
+pub mod Named
 pub mod Private

@@ -12,6 +12,7 @@ use Rattle.csicodec_c.specs.declared.next.Counts.{Counts}
 use Rattle.csicodec_c.specs.declared.next.Front.{Front}
 use Rattle.csicodec_c.specs.declared.plain.Param.{Param}
 use Rattle.csicodec_c.specs.declared.plain.Plain.{Plain}
+use Rattle.csicodec_c.specs.Named.{IsNamed}
 use Rattle.csicodec_c.specs.Ranges.{InRange}
 use Rattle.csicodec_c.specs.Room.{laid}
 use Rattle.csicodec_c.specs.Rows.{params_of, plain_of}
@@ -61,6 +62,7 @@ pub record IsDone (bytes : List ℕ) (actions_old actions_new : List Plain) (par
   pub rest : List ℕ
   pub front : IsFront bytes actions rest
   pub in_range : All InRange actions
+  pub named : All IsNamed actions
   pub ok : answer.status ≡ 0
   pub used : answer.used + length rest ≡ length bytes
   pub count : answer.actions ≡ length actions

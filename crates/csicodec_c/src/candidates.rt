@@ -1,10 +1,12 @@
 //! What a struct without tokens may stand for, subject by subject: a value with this struct is found wherever there is one.
-//! Of another struct nothing is promised: the caller sees whether what is found has it. Written by tools/kinds.
+//! It is by its name. Of another struct nothing is promised: the caller sees whether what is found has it. Written by
+//! tools/kinds.
 ghost use Rattle.std.specs.Prelude.{◌≡◌, [], IfOk, IfSome};
 ghost use Rattle.std.specs.Option.{option_map};
 ghost use Rattle.csicodec_actions.specs.Devices.{device_of};
 ghost use Rattle.csicodec_parser.specs.ActionOf.{action_of};
 ghost use Rattle.csicodec_c.specs.Private.Candidates.{Finds, HasNoList, IsBare, IsSmall};
+ghost use Rattle.csicodec_c.specs.Named.{IsNamed, IsNamedDevice, IsNamedMode};
 ghost use Rattle.csicodec_c.specs.Ranges.{CursorInRange, DeviceInRange, EditInRange, InRange, KeyboardInRange, ModeInRange, MouseInRange, SgrInRange, WindowInRange};
 ghost use Rattle.csicodec_c.specs.Rows.{cursor_plain, device_params, device_plain, edit_plain, keyboard_plain, mode_plain, mouse_plain, params_of, plain_of, sgr_plain, window_plain};
 
@@ -127,6 +129,7 @@ fn edit_candidate(plain: &Plain) -> Option<Edit>
 
 fn mode_candidate(plain: &Plain) -> Option<Mode>
     ensures in_range { IfSome result ModeInRange }
+    ensures named { IfSome result IsNamedMode }
     ensures finds { Finds mode_plain ModeInRange plain.now result }
 {
     match plain.kind {
@@ -148,6 +151,7 @@ fn mode_candidate(plain: &Plain) -> Option<Mode>
 
 fn device_candidate(plain: &Plain) -> Option<Device>
     ensures in_range { IfSome result (λ device. DeviceInRange (device_of device)) }
+    ensures named { IfSome result (λ device. IsNamedDevice (device_of device)) }
     ensures bare { IfSome result (λ device. device_params (device_of device) ≡ []) }
     ensures finds { Finds (device_plain plain.now.place) HasNoList plain.now (option_map device_of result) }
 {
@@ -272,6 +276,7 @@ fn keyboard_candidate(plain: &Plain) -> Option<Keyboard>
 /// Of what takes no memory.
 fn small_candidate(plain: &Plain) -> Option<CSI>
     ensures in_range { IfSome result (λ csi. InRange (action_of csi)) }
+    ensures named { IfSome result (λ csi. IsNamed (action_of csi)) }
     ensures bare { IfSome result (λ csi. params_of (action_of csi) ≡ []) }
     ensures finds { Finds (plain_of plain.now.place) IsSmall plain.now (option_map action_of result) }
 {
@@ -290,6 +295,7 @@ fn small_candidate(plain: &Plain) -> Option<CSI>
 /// Of all that have no tokens.
 pub(crate) fn candidate(alloc: Global, plain: &Plain) -> Result<Option<CSI>, AllocError>
     ensures in_range { IfOk result (λ r. IfSome r (λ csi. InRange (action_of csi))) }
+    ensures named { IfOk result (λ r. IfSome r (λ csi. IsNamed (action_of csi))) }
     ensures bare { IfOk result (λ r. IfSome r (λ csi. params_of (action_of csi) ≡ [])) }
     ensures finds { IfOk result (λ r. Finds (plain_of plain.now.place) IsBare plain.now (option_map action_of r)) }
 {

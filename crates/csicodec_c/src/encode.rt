@@ -6,6 +6,7 @@ ghost use Rattle.csicodec_parser.specs.ActionOf.{action_of};
 ghost use Rattle.csicodec_c.specs.Encode.{AllStand, HasNone, IsDone, IsRefused, Stands, StandsForNone, refused};
 ghost use Rattle.std.specs.Option.{option_map};
 ghost use Rattle.csicodec_c.specs.Private.Candidates.{IsExtended, IsGraphics, IsUnknown, Makes};
+ghost use Rattle.csicodec_c.specs.Named.{IsNamed};
 ghost use Rattle.csicodec_c.specs.Ranges.{InRange};
 ghost use Rattle.csicodec_c.specs.Rows.{params_of};
 
@@ -93,6 +94,7 @@ fn part<T>(items: &[T], place: usize, len: usize) -> Option<&[T]>
 fn unknown(alloc: Global, plain: &Plain, params: &[Param]) -> Result<Option<CSI>, AllocError>
     ensures in_range { IfOk result (λ r. IfSome r (λ csi. InRange (action_of csi))) }
     ensures tokens { IfOk result (λ r. IfSome r (λ csi. params_of (action_of csi) ≡ params.now)) }
+    ensures named { IfOk result (λ r. IfSome r (λ csi. IsNamed (action_of csi))) }
     ensures finds { IfOk result (λ r. Makes IsUnknown plain.now params.now (option_map action_of r)) }
 {
     let Some(control) = char::from_u32(plain.final_char) else {
@@ -113,6 +115,7 @@ fn unknown(alloc: Global, plain: &Plain, params: &[Param]) -> Result<Option<CSI>
 fn extended(alloc: Global, plain: &Plain, params: &[Param]) -> Result<Option<CSI>, AllocError>
     ensures in_range { IfOk result (λ r. IfSome r (λ csi. InRange (action_of csi))) }
     ensures tokens { IfOk result (λ r. IfSome r (λ csi. params_of (action_of csi) ≡ params.now)) }
+    ensures named { IfOk result (λ r. IfSome r (λ csi. IsNamed (action_of csi))) }
     ensures finds { IfOk result (λ r. Makes IsExtended plain.now params.now (option_map action_of r)) }
 {
     let Some(attributes) = tokens(alloc, params)? else {
@@ -132,6 +135,7 @@ fn extended(alloc: Global, plain: &Plain, params: &[Param]) -> Result<Option<CSI
 fn graphics(alloc: Global, plain: &Plain, params: &[Param]) -> Result<Option<CSI>, AllocError>
     ensures in_range { IfOk result (λ r. IfSome r (λ csi. InRange (action_of csi))) }
     ensures tokens { IfOk result (λ r. IfSome r (λ csi. params_of (action_of csi) ≡ params.now)) }
+    ensures named { IfOk result (λ r. IfSome r (λ csi. IsNamed (action_of csi))) }
     ensures finds { IfOk result (λ r. Makes IsGraphics plain.now params.now (option_map action_of r)) }
 {
     let Some(value) = tokens(alloc, params)? else {
@@ -150,6 +154,7 @@ fn graphics(alloc: Global, plain: &Plain, params: &[Param]) -> Result<Option<CSI
 fn made(alloc: Global, plain: &Plain, params: &[Param]) -> Result<Option<CSI>, AllocError>
     ensures in_range { IfOk result (λ r. IfSome r (λ csi. InRange (action_of csi))) }
     ensures tokens { IfOk result (λ r. IfSome r (λ csi. params_of (action_of csi) ≡ params.now)) }
+    ensures named { IfOk result (λ r. IfSome r (λ csi. IsNamed (action_of csi))) }
     ensures finds { IfOk result (λ r. Makes InRange plain.now params.now (option_map action_of r)) }
 {
     match plain.kind {

@@ -6,6 +6,7 @@ mod candidates;
 mod canonical;
 mod encode;
 mod filter;
+pub mod laws;
 mod next;
 mod numbers;
 mod plain;

@@ -12,8 +12,8 @@ ghost use Rattle.csicodec_names.specs.declared.color.Intensity.{Intensity};
 ghost use Rattle.csicodec_names.specs.declared.color.Underline.{Underline};
 ghost use Rattle.csicodec_names.specs.declared.color.VerticalAlign.{VerticalAlign};
 ghost use Rattle.csicodec_actions.specs.Ranges.{ColorInRange};
-ghost use Rattle.csicodec_c.specs.Values.{HasText};
-ghost use Rattle.csicodec_c.specs.Private.Candidates.{IsPlace, IsTen, Reads, color_of, itself, unless};
+ghost use Rattle.csicodec_c.specs.Values.{HasText, IsNamedDec, IsNamedItem, IsNamedTerminal};
+ghost use Rattle.csicodec_c.specs.Private.Candidates.{IsPlace, IsTen, Reads, ReadsNamed, color_of, itself, unless};
 ghost use Rattle.csicodec_c.specs.Plain.{align_number, blink_number, button_number, flag_number, font_number, intensity_number, underline_number};
 
 use crate::plain::Plain;
@@ -188,18 +188,18 @@ pub(crate) fn flags(plain: &Plain) -> Option<KittyKeyboardFlags>
     Some(KittyKeyboardFlags::from_bits_retain(first_word(plain)?))
 }
 
-/// The first number, as that of a private mode.
+/// The first number, as that of a private mode, by its code where it has one.
 #[tactic(auto, using(crate::proofs::ModeNumbers::dec_reads))]
 pub(crate) fn private_mode(plain: &Plain) -> Option<DecPrivateMode>
-    ensures { Reads dec_number (FitsUnsignedBits 16) plain.now.first result }
+    ensures { ReadsNamed dec_number IsNamedDec (FitsUnsignedBits 16) plain.now.first result }
 {
     DecPrivateMode::at(plain.first)
 }
 
-/// The first number, as that of a mode.
+/// The first number, as that of a mode, by its code where it has one.
 #[tactic(auto, using(crate::proofs::ModeNumbers::terminal_reads))]
 pub(crate) fn terminal_mode(plain: &Plain) -> Option<TerminalMode>
-    ensures { Reads terminal_number (FitsUnsignedBits 16) plain.now.first result }
+    ensures { ReadsNamed terminal_number IsNamedTerminal (FitsUnsignedBits 16) plain.now.first result }
 {
     TerminalMode::at(plain.first)
 }
@@ -328,9 +328,10 @@ pub(crate) fn button(number: u8) -> Option<MouseButton>
     }
 }
 
-/// The first number, as that of an item of graphics.
+/// The first number, as that of an item of graphics, by its name where it has one.
 pub(crate) fn item(plain: &Plain) -> XtSmGraphicsItem
-    ensures { item_number result ≡ plain.now.first }
+    ensures number { item_number result ≡ plain.now.first }
+    ensures named { IsNamedItem result }
 {
     match plain.first {
         1 => XtSmGraphicsItem::NumberOfColorRegisters,

@@ -2,7 +2,7 @@
 ghost use Rattle.std.specs.Prelude.{◌≡◌, ◌++◌, List, length, map, take, drop, ⊤, IfOk, IfSome};
 ghost use Rattle.std.specs.Option.{option_map};
 ghost use Rattle.csicodec_c.specs.Private.Candidates.{FindsToken, FindsTokens};
-ghost use Rattle.csicodec_c.specs.Values.{AttributeInRange, TokenInRange};
+ghost use Rattle.csicodec_c.specs.Values.{AttributeInRange, IsNamedAttribute, TokenInRange};
 ghost use Rattle.csicodec_c.specs.Plain.{attribute_param, param_of, value_param};
 ghost use Rattle.csicodec_c.specs.Room.{laid};
 ghost use Rattle.csicodec_c.specs.declared.plain.Param.{Param};
@@ -21,18 +21,23 @@ pub(crate) trait Token: Copy {
     /// Whether its number is one that its type lets stand.
     ghost in_range: { Self → Type 0 };
 
+    /// Whether it is by its name, if it has one.
+    ghost named: { Self → Type 0 };
+
     fn to_param(self) -> Param
         ensures { result ≡ crosses self };
 
-    /// What the struct stands for, of what is in range.
+    /// What the struct stands for, of what is in range, by its name.
     fn of_param(param: Param) -> Option<Self>
-        ensures { FindsToken crosses in_range param result };
+        ensures { FindsToken crosses in_range named param result };
 }
 
 impl Token for i64 {
     ghost crosses = { value_param };
 
     ghost in_range = { λ value. ⊤ };
+
+    ghost named = { λ value. ⊤ };
 
     fn to_param(self) -> Param {
         Param {
@@ -53,6 +58,8 @@ impl Token for CsiParam {
     ghost crosses = { param_of };
 
     ghost in_range = { TokenInRange };
+
+    ghost named = { λ token. ⊤ };
 
     fn to_param(self) -> Param {
         match self {
@@ -77,6 +84,8 @@ impl Token for DeviceAttribute {
     ghost crosses = { attribute_param };
 
     ghost in_range = { AttributeInRange };
+
+    ghost named = { IsNamedAttribute };
 
     fn to_param(self) -> Param {
         attribute_token(self).to_param()
@@ -105,12 +114,12 @@ pub(crate) fn put_all<T: Token>(room: &mut [Param], place: usize, tokens: &[T]) 
     Some(end)
 }
 
-/// The tokens that structs stand for, of those that are in range.
+/// The tokens that structs stand for, of those that are in range, by their names.
 pub(crate) fn tokens<T: Token + Drop>(
     alloc: Global,
     params: &[Param],
 ) -> Result<Option<Vec<T>>, AllocError>
-    ensures { IfOk result (λ r. FindsTokens T.crosses T.in_range params.now (option_map (λ all. all.items) r)) }
+    ensures { IfOk result (λ r. FindsTokens T.crosses T.in_range T.named params.now (option_map (λ all. all.items) r)) }
 {
     let mut all = Vec::new(alloc);
     for param in params {

@@ -20,6 +20,10 @@ use Rattle.csicodec_c.specs.Values.{AttributeInRange}
 abbrev pub Reads : {A : Type 0} → (A → ℕ) → (ℤ → Type 0) → ℤ → Option A → Type 0
 Reads number Fits z found = MatchOption found (¬ Fits z) (λ a. (z ≡ pos (number a)) × Fits (pos (number a)))
 
+-- the same of what is by its name
+abbrev pub ReadsNamed : {A : Type 0} → (A → ℕ) → (A → Type 0) → (ℤ → Type 0) → ℤ → Option A → Type 0
+ReadsNamed number Named Fits z found = MatchOption found (¬ Fits z) (λ a. (z ≡ pos (number a)) × Fits (pos (number a)) × Named a)
+
 abbrev pub itself : ℕ → ℕ
 itself n = n
 
@@ -70,12 +74,13 @@ IsBare a = InRange a
 
 -- ---- tokens
 
--- what this token stands for, or nothing in range
-abbrev pub FindsToken : {A : Type 0} → (A → Param) → (A → Type 0) → Param → Option A → Type 0
-FindsToken crosses InRange param found = MatchOption found ((a : _) → InRange a → crosses a ≡ param → ⊥) (λ a. InRange a × (crosses a ≡ param))
+-- what this token stands for, by its name, or nothing in range
+abbrev pub FindsToken : {A : Type 0} → (A → Param) → (A → Type 0) → (A → Type 0) → Param → Option A → Type 0
+FindsToken crosses InRange Named param found = MatchOption found ((a : _) → InRange a → crosses a ≡ param → ⊥) (λ a. InRange a × (crosses a ≡ param) × Named a)
 
-abbrev pub FindsTokens : {A : Type 0} → (A → Param) → (A → Type 0) → List Param → Option (List A) → Type 0
-FindsTokens crosses InRange params found = MatchOption found ((all : List _) → All InRange all → map crosses all ≡ params → ⊥) (λ all. All InRange all × (map crosses all ≡ params))
+abbrev pub FindsTokens : {A : Type 0} → (A → Param) → (A → Type 0) → (A → Type 0) → List Param → Option (List A) → Type 0
+FindsTokens crosses InRange Named params found =
+    MatchOption found ((all : List _) → All InRange all → map crosses all ≡ params → ⊥) (λ all. All InRange all × (map crosses all ≡ params) × All Named all)
 
 -- what has this struct and these tokens, if anything in range has
 abbrev pub Makes : (Action → Type 0) → Plain → List Param → Option Action → Type 0

@@ -1,5 +1,5 @@
-/* Each allocation fails in turn: the call says so, and everything is given back. Link with
- * -Wl,--wrap=malloc,--wrap=realloc,--wrap=free. */
+/* Each allocation fails in turn: the call says so, and everything is given back; and how many allocations csicodec_next makes.
+ * Link with -Wl,--wrap=malloc,--wrap=realloc,--wrap=free. */
 #include "csicodec.h"
 
 #include <stdio.h>
@@ -10,11 +10,12 @@ void *__real_malloc(size_t size);
 void *__real_realloc(void *block, size_t size);
 void __real_free(void *block);
 
-static long left = -1, held, refused;
+static long left = -1, held, refused, asked;
 
 static int fails(void) {
     int now = left >= 0 && left-- == 0;
     refused += now;
+    asked++;
     return now;
 }
 
@@ -38,6 +39,12 @@ void __wrap_free(void *block) {
  * reads without memory. */
 static const char *const texts[] = {"\x1b[1;38:2::1:2:3;0%m", "\x1b[?62;2;7;9;11;13c", "\x1b[4;40;30t", "\x1b[?2;1;9;8S",
                                     "\x1b[1;3;4;5;7;8;9;53;21;22;0m"};
+/* How many allocations csicodec_next makes: none but for a device, a window, or what none of the rules reads. */
+static const struct {
+    const char *text;
+    long asked;
+} costs[] = {{"\x1b[1;38:2::1:2:3m", 0}, {"\x1b[?2004;25h", 0}, {"\x1b[3;4H", 0}, {"\x1b[<4;3;4M", 0}, {"\x1b[>3;2u", 0},
+             {"\x1b[c", 1}, {"\x1b[200~", 2}, {"\x1b[1;5A", 2}};
 static uint8_t out[256];
 static struct csicodec_action actions[16];
 static struct csicodec_param params[64];
@@ -90,6 +97,12 @@ int main(void) {
             fprintf(stderr, "starve: call %zu of ESC %s isn't as promised\n", call, texts[i] + 1);
             return 1;
         }
+    }
+    for (size_t i = 0; i < sizeof costs / sizeof costs[0]; i++) {
+        asked = 0;
+        if (next((const uint8_t *)costs[i].text, strlen(costs[i].text)) == CSICODEC_OK && asked == costs[i].asked) continue;
+        fprintf(stderr, "starve: csicodec_next of ESC %s makes %ld allocations, not %ld\n", costs[i].text + 1, asked, costs[i].asked);
+        return 2;
     }
     printf("each allocation was refused in turn\n");
     return 0;

@@ -4,6 +4,7 @@ use crate::escape::append_escaped;
 use crate::totals::Totals;
 use csicodec_base::{CsiParam, Esc};
 use csicodec_parser::CSI;
+use csicodec_readings::{EscReading, Reading};
 use csicodec_spans::{Kind, Mode};
 use csicodec_words::{Describe, Described};
 use std::alloc::{AllocError, Global};
@@ -202,7 +203,13 @@ impl Page {
                 let words = self.text.len().saturating_add(WORDS);
                 pad(&mut self.text, words)?;
             }
-            append_words(self.alloc, &mut self.text, &action?)?;
+            let action = action?;
+            let reading = Reading {
+                action: &action,
+                params,
+                control,
+            };
+            append_words(self.alloc, &mut self.text, &reading)?;
             self.totals.add_action();
         }
         self.advance(Kind::Csi, 1, bytes);
@@ -213,7 +220,7 @@ impl Page {
     fn add_escape(&mut self, bytes: &[u8]) -> Result<(), AllocError> {
         self.close()?;
         append_head(self.alloc, &mut self.text, self.place, bytes, false)?;
-        append_words(self.alloc, &mut self.text, &escape_of(bytes))?;
+        append_words(self.alloc, &mut self.text, &EscReading(escape_of(bytes)))?;
         self.advance(Kind::Esc, 1, bytes);
         Ok(())
     }

@@ -1,0 +1,127 @@
+//! What a terminal makes of a control sequence or an escape sequence: the words of its action, and where a terminal reads
+//! it otherwise than the codec, or the codec has no action for it, the words of what terminals make of it.
+#![tactic(auto)]
+
+mod escapes;
+mod keys;
+mod list;
+mod otherwise;
+mod table;
+mod template;
+#[cfg(test)]
+mod tests;
+
+use crate::escapes::escape_words;
+use crate::keys::key_of;
+use crate::list::{intermediate, marker, number};
+use crate::otherwise::{Otherwise, read_otherwise, status_of};
+use crate::table::{Form, words};
+use crate::template::fill;
+use csicodec_base::{CsiParam, Esc};
+use csicodec_parser::{CSI, Unspecified};
+use csicodec_words::{Describe, private_mode_name, terminal_mode_name};
+use std::fmt;
+
+/// What stands behind the words of a sequence that is unknown to the codec.
+const NO_ACTION: &str = " (no action)";
+
+/// One action of a control sequence, as a terminal reads it.
+#[derive(Clone, Copy)]
+pub struct Reading<'a> {
+    /// The action.
+    pub action: &'a CSI,
+    /// The whole list of the sequence.
+    pub params: &'a [CsiParam],
+    /// Its final character.
+    pub control: char,
+}
+
+impl<'a> Describe for Reading<'a> {
+    fn describe<W: fmt::Write>(&self, f: &mut fmt::Formatter<W>) -> fmt::Result {
+        if let CSI::Unspecified(unknown) = self.action {
+            return unread(f, unknown);
+        }
+        match read_otherwise(self.params, self.control) {
+            Some(reading) => tell(f, &reading, self.action),
+            None => self.action.describe(f),
+        }
+    }
+}
+
+/// An escape sequence, as a terminal reads it.
+#[derive(Clone, Copy)]
+pub struct EscReading(pub Esc);
+
+impl Describe for EscReading {
+    fn describe<W: fmt::Write>(&self, f: &mut fmt::Formatter<W>) -> fmt::Result {
+        if let Esc::Unspecified {
+            intermediate,
+            control,
+        } = self.0
+        {
+            if let Some(words) = escape_words(intermediate.unwrap_or(0), control) {
+                f.write_str(words)?;
+                return f.write_str(NO_ACTION);
+            }
+        }
+        self.0.describe(f)
+    }
+}
+
+/// What terminals read otherwise than the codec.
+fn tell<W: fmt::Write>(
+    f: &mut fmt::Formatter<W>,
+    reading: &Otherwise,
+    action: &CSI,
+) -> fmt::Result {
+    match reading {
+        Otherwise::Instead(reading) => write!(f, "{reading}"),
+        Otherwise::Or(also) => {
+            action.describe(f)?;
+            f.write_str(also)
+        }
+    }
+}
+
+/// A sequence, or what is left of one, that no row of the codec's table reads.
+fn unread<W: fmt::Write>(f: &mut fmt::Formatter<W>, unknown: &Unspecified) -> fmt::Result {
+    let (params, control) = (unknown.params.as_slice(), unknown.control);
+    if let Some(key) = key_of(params, control) {
+        write!(f, "{key}")?;
+        return f.write_str(NO_ACTION);
+    }
+    let first = number(params, 0).unwrap_or(0);
+    let form = Form {
+        marker: marker(params),
+        between: intermediate(params),
+        control,
+    };
+    match (form.marker, form.between, control) {
+        (0 | b'?', b'$', 'y') => mode_told(f, params)?,
+        (0, 0, 't') if first >= 24 && params.len() == 1 => fill(
+            f,
+            params,
+            "DECSLPP  {1#line} a page",
+        )?,
+        (b'>', 0, 'c') if params.len() <= 2 => {
+            f.write_str("DA2  ask for the terminal's type and version")?;
+        }
+        _ => match words(form, first) {
+            Some(words) => fill(f, params, words)?,
+            None => return unknown.describe(f),
+        },
+    }
+    f.write_str(NO_ACTION)
+}
+
+/// The answer to DECRQM.
+fn mode_told<W: fmt::Write>(f: &mut fmt::Formatter<W>, params: &[CsiParam]) -> fmt::Result {
+    let mode = number(params, 0).unwrap_or(0);
+    let state = status_of(number(params, 1).unwrap_or(0));
+    let name = match u16::try_from(mode) {
+        Ok(mode) if marker(params) == b'?' => private_mode_name(mode),
+        Ok(mode) => terminal_mode_name(mode),
+        Err(_) => "unnamed mode",
+    };
+    write!(f, "DECRPM {mode}  answer: {name} {state}")
+}

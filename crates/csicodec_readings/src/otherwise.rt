@@ -1,0 +1,171 @@
+//! Sequences that terminals read otherwise than the codec's table, which is termwiz's.
+
+use crate::list::{intermediate, marker, number, positive};
+use csicodec_base::CsiParam;
+use std::fmt;
+
+/// How a terminal reads a sequence otherwise.
+#[derive(Clone, Copy, Debug, PartialEq, Eq)]
+pub enum Otherwise {
+    /// In place of the action.
+    Instead(Instead),
+    /// As the action, or as this.
+    Or(&'static str),
+}
+
+/// What a terminal reads in place of the action.
+#[derive(Clone, Copy, Debug, PartialEq, Eq)]
+pub enum Instead {
+    /// A mouse's button from 8 on: bit 128 of its code stands for 8 to 11 (xterm's ctlseqs, Mouse Tracking).
+    Mouse {
+        code: i64,
+        x: i64,
+        y: i64,
+        released: bool,
+    },
+    /// DECSLRM: with a right margin of 0, or none, it is the last column (DEC VT510, xterm).
+    Margins {
+        left: i64,
+    },
+    /// DECRQCRA: what is left out at the end is the last line and column, and page 0 is every page (DEC VT510).
+    Checksum {
+        request: i64,
+        page: Option<i64>,
+        top: i64,
+        left: i64,
+        bottom: Option<i64>,
+        right: Option<i64>,
+    },
+}
+
+/// What a terminal makes of a list that the codec reads as one action; none where it makes the same.
+pub fn read_otherwise(params: &[CsiParam], control: char) -> Option<Otherwise> {
+    match (marker(params), intermediate(params), control) {
+        (b'<', 0, 'M' | 'm') => mouse(params, control),
+        (0, 0, 's') if params.len() > 1 && positive(params, 1).is_none() => {
+            let left = positive(params, 0).unwrap_or(1);
+            Some(Otherwise::Instead(Instead::Margins { left }))
+        }
+        (0, b'*', 'y') => checksum(params),
+        (0, 0, 't') if params.len() > 2 && number(params, 0) == Some(5) => {
+            Some(Otherwise::Or(" (or answer: the display's size in pixels)"))
+        }
+        (0, 0, 'I') if params.is_empty() => Some(Otherwise::Or(" (or focus gained)")),
+        _ => None,
+    }
+}
+
+fn mouse(params: &[CsiParam], control: char) -> Option<Otherwise> {
+    let code = number(params, 0)?;
+    if !(128..192).contains(&code) {
+        return None;
+    }
+    Some(Otherwise::Instead(Instead::Mouse {
+        code,
+        x: number(params, 1)?,
+        y: number(params, 2)?,
+        released: control == 'm',
+    }))
+}
+
+fn checksum(params: &[CsiParam]) -> Option<Otherwise> {
+    let (page, bottom, right) = (
+        positive(params, 1),
+        positive(params, 4),
+        positive(params, 5),
+    );
+    if page.is_some() && bottom.is_some() && right.is_some() {
+        return None;
+    }
+    Some(Otherwise::Instead(Instead::Checksum {
+        request: number(params, 0).unwrap_or(0),
+        page,
+        top: positive(params, 2).unwrap_or(1),
+        left: positive(params, 3).unwrap_or(1),
+        bottom,
+        right,
+    }))
+}
+
+/// A number, or the last where there is none.
+#[derive(Drop)]
+struct Last(Option<i64>);
+
+impl fmt::Display for Last {
+    fn fmt<W: fmt::Write>(&self, f: &mut fmt::Formatter<W>) -> fmt::Result {
+        match self.0 {
+            Some(value) => write!(f, "{value}"),
+            None => f.write_str("the last"),
+        }
+    }
+}
+
+impl fmt::Display for Instead {
+    fn fmt<W: fmt::Write>(&self, f: &mut fmt::Formatter<W>) -> fmt::Result {
+        match self {
+            Instead::Mouse {
+                code,
+                x,
+                y,
+                released,
+            } => {
+                let button = 8 + (code & 3);
+                let done = match (released, code & 32 != 0) {
+                    (true, _) => "released at",
+                    (false, true) => "dragged to",
+                    (false, false) => "pressed at",
+                };
+                write!(f, "mouse  button {button} {done} line {y}, column {x}")?;
+                held(f, *code)
+            }
+            Instead::Margins { left } => {
+                write!(
+                    f,
+                    "DECSLRM  left and right margins: column {left} to the last"
+                )
+            }
+            Instead::Checksum {
+                request,
+                page,
+                top,
+                left,
+                bottom,
+                right,
+            } => {
+                let (bottom, right) = (Last(*bottom), Last(*right));
+                write!(
+                    f,
+                    "DECRQCRA  ask for the checksum of lines {top} to {bottom}, "
+                )?;
+                write!(f, "columns {left} to {right} of ")?;
+                match page {
+                    Some(page) => write!(f, "page {page}, request {request}"),
+                    None => write!(f, "all pages, request {request}"),
+                }
+            }
+        }
+    }
+}
+
+/// The keys that are held down, by the bits of a mouse's code.
+fn held<W: fmt::Write>(f: &mut fmt::Formatter<W>, code: i64) -> fmt::Result {
+    let mut ahead = ", with ";
+    for (bit, name) in [(4, "shift"), (8, "alt"), (16, "control")] {
+        if code & bit != 0 {
+            write!(f, "{ahead}{name}")?;
+            ahead = ", ";
+        }
+    }
+    Ok(())
+}
+
+/// What the second number of DECRPM says of a mode.
+pub fn status_of(state: i64) -> &'static str {
+    match state {
+        1 => "on",
+        2 => "off",
+        3 => "always on",
+        4 => "always off",
+        _ => "isn't known to the terminal",
+    }
+}

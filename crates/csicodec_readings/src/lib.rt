@@ -2,9 +2,12 @@
 //! it otherwise than the codec, or the codec has no action for it, the words of what terminals make of it.
 #![tactic(auto)]
 
+mod dec;
+mod ecma;
 mod escapes;
 mod keys;
 mod list;
+mod others;
 mod otherwise;
 mod table;
 mod template;

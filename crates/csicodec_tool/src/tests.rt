@@ -85,47 +85,43 @@ fn twice_is_once(rt: HostRuntime) -> Result<(), Fail> {
     Ok(())
 }
 
-/// The line that the program writes of each error, and its status.
+/// What the program writes of each error behind its name, and its status.
 #[test]
 fn tells_each_error(rt: HostRuntime) -> Result<(), Fail> {
     let refused = |start, error| RunError::Decode(DecodeError::Read { start, error });
     for (error, line, status) in [
         (
             refused(0, ReadError::NotCsi { at: 1 }),
-            "csicodec: byte 1: not a sequence",
+            "byte 1: not a sequence",
             1,
         ),
         (
             refused(2, ReadError::BadByte { at: 3 }),
-            "csicodec: byte 5: bad byte",
+            "byte 5: bad byte",
             1,
         ),
         (
             refused(0, ReadError::NumberTooLarge { at: 20 }),
-            "csicodec: byte 20: number too large",
+            "byte 20: number too large",
             1,
         ),
         (
             refused(3, ReadError::Truncated { at: 3 }),
-            "csicodec: byte 6: truncated",
+            "byte 6: truncated",
             1,
         ),
         (
             refused(usize::MAX, ReadError::Truncated { at: usize::MAX }),
-            "csicodec: byte 36893488147419103230: truncated",
+            "byte 36893488147419103230: truncated",
             1,
         ),
-        (RunError::Read, "csicodec: read fault", 2),
-        (RunError::Write, "csicodec: write fault", 2),
-        (RunError::Memory, "csicodec: no memory", 3),
-        (
-            RunError::Decode(DecodeError::Memory),
-            "csicodec: no memory",
-            3,
-        ),
-        (refused(0, ReadError::Memory), "csicodec: no memory", 3),
+        (RunError::Read, "read fault", 2),
+        (RunError::Write, "write fault", 2),
+        (RunError::Memory, "no memory", 3),
+        (RunError::Decode(DecodeError::Memory), "no memory", 3),
+        (refused(0, ReadError::Memory), "no memory", 3),
     ] {
-        let told = format!(in rt.alloc(); "csicodec: {error}")?;
+        let told = error.to_string(rt.alloc())?;
         assert_eq!(rt; told.as_str(), line);
         assert_eq!(rt; error.status(), status, "at {line}");
     }

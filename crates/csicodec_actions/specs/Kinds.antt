@@ -16,9 +16,9 @@ use Rattle.csicodec_actions.specs.declared.mode.DecPrivateMode.TheVariants as de
 use Rattle.csicodec_actions.specs.declared.mode.TerminalMode.{TerminalMode}
 use Rattle.csicodec_actions.specs.declared.mode.TerminalMode.TheVariants as terminal
 use Rattle.csicodec_actions.specs.declared.mode.XtermKeyModifierResource.{XtermKeyModifierResource}
-use Rattle.csicodec_actions.specs.declared.keyboard.CharacterPath.TheVariants as path
+use Rattle.csicodec_actions.specs.declared.path.CharacterPath.TheVariants as path
 use Rattle.csicodec_actions.specs.declared.keyboard.KittyKeyboardMode.TheVariants as way
-use Rattle.csicodec_actions.specs.declared.keyboard.CharacterPath.{CharacterPath}
+use Rattle.csicodec_actions.specs.declared.path.CharacterPath.{CharacterPath}
 use Rattle.csicodec_actions.specs.declared.keyboard.KittyKeyboardMode.{KittyKeyboardMode}
 use Rattle.csicodec_names.specs.declared.flags.KittyKeyboardFlags.{KittyKeyboardFlags}
 use Rattle.csicodec_names.specs.FlagBits.{kitty_bits, modifier_bits}

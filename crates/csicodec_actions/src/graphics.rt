@@ -196,13 +196,8 @@ pub fn graphics_action(
 impl XtSmGraphics {
     /// What a list asks or says of graphics (XTSMGRAPHICS of xterm, `CSI ? .. S`), whatever its first token is. `NotSpelled`
     /// where the list is empty, or lacks the number of an item or of an action; `Memory` only where fields stand behind the
-    /// first token.
-    ///
-    /// ```text
-    /// XtSmGraphics::parse(alloc, &[P(b'?'), Integer(2), P(b';'), Integer(1)])      // item: SixelGraphicsGeometry
-    /// XtSmGraphics::parse(alloc, &[P(b'?'), Integer(2)])                           // Err(NotSpelled)
-    /// ```
-    pub fn parse(alloc: Global, params: &[CsiParam]) -> Result<XtSmGraphics, ParseRefusal>
+    /// first token. `parse`, which answers an action, stands beside `CSI`.
+    pub fn of_list(alloc: Global, params: &[CsiParam]) -> Result<XtSmGraphics, ParseRefusal>
         ensures read { IfOk result (λ graphics. graphics_behind params.now ≡ Some (Devices (graphics_of graphics))) }
         ensures refused { IfErr result (RefusesGraphics params.now) }
     {

@@ -3,7 +3,6 @@ ghost use Rattle.std.specs.Prelude.{◌≤◌, ◌++◌, [], ◌∷◌, length, 
 ghost use Rattle.csicodec_actions.specs.Kinds.{Flags as FlagsKind, Path, Way, read, kitty_mode_number, path_number};
 ghost use Rattle.csicodec_actions.specs.Table.Keyboard.{written_keyboard};
 ghost use Rattle.csicodec_actions.specs.Written.{Byte, The, shown, written_text};
-ghost use Rattle.csicodec_actions.specs.declared.keyboard.CharacterPath.{CharacterPath};
 ghost use Rattle.csicodec_actions.specs.declared.keyboard.KittyKeyboardMode.{KittyKeyboardMode};
 
 use bitflags::Flags;
@@ -79,45 +78,6 @@ pub enum Keyboard {
     QueryKittySupport,
     /// The answer.
     ReportKittyState(KittyKeyboardFlags),
-}
-
-/// SCP (ECMA-48, 8.3.111): the path of characters.
-#[derive(Clone, Copy, Debug, PartialEq, Eq)]
-pub enum CharacterPath {
-    /// As the terminal has it.
-    ImplementationDefault,
-    /// From left to right, or from top to bottom.
-    LeftToRightOrTopToBottom,
-    /// From right to left, or from bottom to top.
-    RightToLeftOrBottomToTop,
-}
-
-impl CharacterPath {
-    /// The path of 0, 1 or 2, and none for another number.
-    #[tactic(auto, unfolding(crate::specs::Kinds::read))]
-    pub fn from_i64(number: i64) -> Option<Self>
-        ensures each { (path : CharacterPath) → (result ≡ Some path) ↔ (number ≡ pos (path_number path)) }
-        ensures read { result ≡ read Path number }
-    {
-        match number {
-            0 => Some(CharacterPath::ImplementationDefault),
-            1 => Some(CharacterPath::LeftToRightOrTopToBottom),
-            2 => Some(CharacterPath::RightToLeftOrBottomToTop),
-            _ => None,
-        }
-    }
-
-    /// The number of this path, 0 to 2.
-    pub fn number(&self) -> u8
-        ensures value { result ≡ path_number self.now }
-        ensures short { result < 10 }
-    {
-        match self {
-            CharacterPath::ImplementationDefault => 0,
-            CharacterPath::LeftToRightOrTopToBottom => 1,
-            CharacterPath::RightToLeftOrBottomToTop => 2,
-        }
-    }
 }
 
 impl Keyboard {

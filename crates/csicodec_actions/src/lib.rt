@@ -10,7 +10,7 @@ mod graphics;
 mod keyboard;
 mod mode;
 mod mouse;
-mod print;
+mod path;
 mod window;
 
 pub use cursor::Cursor;
@@ -19,8 +19,8 @@ pub use edit::Edit;
 pub use graphics::{
     XtSmGraphics, XtSmGraphicsAction, XtSmGraphicsItem, XtSmGraphicsStatus, graphics_action,
 };
-pub use keyboard::{CharacterPath, Keyboard, KittyKeyboardMode};
+pub use keyboard::{Keyboard, KittyKeyboardMode};
 pub use mode::{Change, DecPrivateMode, Mode, Switch, TerminalMode, XtermKeyModifierResource};
 pub use mouse::{MouseButton, MouseReport};
-pub use print::write_path;
+pub use path::{CharacterPath, write_path};
 pub use window::Window;

@@ -181,21 +181,21 @@ impl XtermKeyModifierResource {
 /// ```
 #[derive(Clone, Copy, Debug, PartialEq, Eq)]
 pub enum Mode {
-    /// DECSET (DEC VT510, xterm): the private mode is set.
+    /// DECSET (xterm's name; SM in DEC VT510): the private mode is set.
     SetDecPrivateMode(DecPrivateMode),
-    /// DECRST (DEC VT510, xterm): the private mode is reset.
+    /// DECRST (xterm's name; RM in DEC VT510): the private mode is reset.
     ResetDecPrivateMode(DecPrivateMode),
     /// XTSAVE (xterm): whether the private mode is set is kept aside.
     SaveDecPrivateMode(DecPrivateMode),
     /// XTRESTORE (xterm): the private mode becomes what was kept aside.
     RestoreDecPrivateMode(DecPrivateMode),
-    /// DECRQM (DEC VT510): asks whether the private mode is set.
+    /// DECRQM (DEC VT300 and up): asks whether the private mode is set.
     QueryDecPrivateMode(DecPrivateMode),
     /// SM (ECMA-48, 8.3.125): the mode is set.
     SetMode(TerminalMode),
     /// RM (ECMA-48, 8.3.106): the mode is reset.
     ResetMode(TerminalMode),
-    /// DECRQM (DEC VT510): asks whether the mode is set.
+    /// DECRQM (DEC VT300 and up): asks whether the mode is set.
     QueryMode(TerminalMode),
     /// XTMODKEYS (xterm): how modifiers are told with these keys.
     XtermKeyMode {

@@ -1,10 +1,13 @@
 //! Reports of the mouse.
-ghost use Rattle.std.specs.Prelude.{◌≡◌, ◌<◌, ◌≤◌};
+ghost use Rattle.std.specs.Prelude.{◌≡◌, ◌<◌, ◌≤◌, ◌++◌, Some, length};
 ghost use Rattle.csicodec_actions.specs.Mouse.{button_code, held_buttons, is_release, modifiers_code};
 ghost use Rattle.csicodec_names.specs.FlagBits.{button_bits};
+ghost use Rattle.csicodec_actions.specs.Table.Mouse.{written_mouse};
+ghost use Rattle.csicodec_actions.specs.Written.{written_text};
 
 use bitflags::Flags;
-use csicodec_base::{Modifiers, MouseButtons};
+use csicodec_base::{Modifiers, MouseButtons, Text};
+use std::fmt;
 
 /// A button.
 #[derive(Clone, Copy, PartialEq, Eq, Debug)]
@@ -151,4 +154,44 @@ pub(crate) fn modifiers_code(modifiers: Modifiers) -> u8
         0
     };
     shift + alt + ctrl
+}
+
+impl MouseReport {
+    /// Appends the parameters and the final byte: 16 bytes at most, as the place is of 16 bits. The text holds 10 at most
+    /// before.
+    pub fn write_to(&self, text: &mut Text)
+        requires room { length text.old ≤ 10 }
+        ensures { text.new ≡ text.old ++ written_text (written_mouse self.now) }
+    {
+        let (MouseReport::SGR1006 {
+            x,
+            y,
+            button,
+            modifiers,
+        }
+        | MouseReport::SGR1016 {
+            x_pixels: x,
+            y_pixels: y,
+            button,
+            modifiers,
+        }) = self;
+        text.push(b'<');
+        text.push_u8(button.code() + modifiers_code(*modifiers));
+        text.push(b';');
+        text.push_u16(*x);
+        text.push(b';');
+        text.push_u16(*y);
+        text.push(if button.is_release() { b'm' } else { b'M' });
+    }
+}
+
+/// Writes the parameters and the final character, without `ESC [`.
+impl fmt::Display for MouseReport {
+    ghost output = { λ m. Some (written_text (written_mouse m)) };
+
+    fn fmt<W: fmt::Write>(&self, f: &mut fmt::Formatter<W>) -> fmt::Result {
+        let mut text = Text::new();
+        self.write_to(&mut text);
+        f.write_str(text.as_str())
+    }
 }

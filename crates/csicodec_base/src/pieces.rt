@@ -1,15 +1,16 @@
 //! The longest spelling of an attribute at the front of a list before `m`.
-ghost use Rattle.std.specs.Prelude.{◌≡◌, ◌∷◌, ◌<◌, ◌≤◌, List, IfSome, Some, pos, take, length};
+ghost use Rattle.std.specs.Prelude.{◌≡◌, ◌∷◌, ◌<◌, ◌≤◌, List, IfSome, None, Some, pos, take, length};
 ghost use Rattle.csicodec_names.specs.Numbers.{number_of};
-ghost use Rattle.csicodec_base.specs.Attributes.{action_of};
+ghost use Rattle.csicodec_base.specs.Attributes.{action_of as attribute_of};
 ghost use Rattle.csicodec_base.specs.FrontBy.{captured, color_by, front_by, piece};
 ghost use Rattle.csicodec_base.specs.Pieces.{IsFront};
 ghost use Rattle.csicodec_base.specs.Shapes.{byte_of, color_of_tokens, color_shapes, four_shape, palette_shapes, rgb_shapes, rgba_shapes, semicolon_shapes, three_shape, underline_rows};
 ghost use Rattle.csicodec_tokens.specs.declared.param.CsiParam.{CsiParam};
 ghost use Rattle.csicodec_tokens.specs.declared.param.CsiParam.TheVariants.{Integer};
 
-use crate::sgr::{Font, Sgr};
-use csicodec_names::{Blink, ColorSpec, Intensity, SgrCode, SrgbaTuple, Underline, VerticalAlign};
+use crate::ready::attribute_alone;
+use crate::sgr::Sgr;
+use csicodec_names::{ColorSpec, SgrCode, SrgbaTuple, Underline};
 use csicodec_tokens::CsiParam::{self, Integer, P};
 
 /// The longest piece of the table of attributes at the front of a parameter list before `m`, and its number of tokens,
@@ -26,6 +27,7 @@ use csicodec_tokens::CsiParam::{self, Integer, P};
 /// sgr_front(&[Integer(38), P(b';'), Integer(5), P(b';'), Integer(9)])  // Some((Foreground(PaletteIndex(9)), 5))
 /// sgr_front(&[Integer(38)])                                           // None
 /// ```
+#[inline(always)]
 pub fn sgr_front(rest: &[CsiParam]) -> Option<(Sgr, usize)>
     ensures piece { IsFront rest.now result }
     // It is the answer for every list with the same first 13 tokens.
@@ -36,12 +38,19 @@ pub fn sgr_front(rest: &[CsiParam]) -> Option<(Sgr, usize)>
         [] => None,
         [P(mark), ..] if *mark != b';' => None,
         [P(_), ..] => Some((Sgr::Reset, 1)),
-        [Integer(number), after @ ..] => code_front(SgrCode::from_i64(*number)?, after),
+        [Integer(number), after @ ..] => {
+            let code = SgrCode::from_i64(*number)?;
+            match attribute_alone(*number) {
+                Some(sgr) => Some((sgr, 1)),
+                None => code_front(code, after),
+            }
+        }
     }
 }
 
-/// The piece that begins with the code, by the tokens behind it.
+/// The piece that begins with a code that sets no attribute alone, by the tokens behind it.
 fn code_front(code: SgrCode, after: &[CsiParam]) -> Option<(Sgr, usize)>
+    requires { attribute_of code ≡ None }
     ensures { result ≡ piece (Integer (pos (number_of code)) ∷ after.now) }
 {
     match code {
@@ -58,86 +67,7 @@ fn code_front(code: SgrCode, after: &[CsiParam]) -> Option<(Sgr, usize)>
             let (color, tokens) = color_front(after)?;
             Some((Sgr::UnderlineColor(color), tokens))
         }
-        _ => Some((attribute_of(code)?, 1)),
-    }
-}
-
-/// The attribute that a code sets alone; none for a code that needs further tokens or can have them.
-fn attribute_of(code: SgrCode) -> Option<Sgr>
-    ensures { result ≡ action_of code }
-{
-    match code {
-        SgrCode::Reset => Some(Sgr::Reset),
-        SgrCode::IntensityBold => Some(Sgr::Intensity(Intensity::Bold)),
-        SgrCode::IntensityDim => Some(Sgr::Intensity(Intensity::Half)),
-        SgrCode::ItalicOn => Some(Sgr::Italic(true)),
-        SgrCode::BlinkOn => Some(Sgr::Blink(Blink::Slow)),
-        SgrCode::RapidBlinkOn => Some(Sgr::Blink(Blink::Rapid)),
-        SgrCode::InverseOn => Some(Sgr::Inverse(true)),
-        SgrCode::InvisibleOn => Some(Sgr::Invisible(true)),
-        SgrCode::StrikeThroughOn => Some(Sgr::StrikeThrough(true)),
-        SgrCode::DefaultFont => Some(Sgr::Font(Font::Default)),
-        SgrCode::AltFont1 => Some(Sgr::Font(Font::Alternate(1))),
-        SgrCode::AltFont2 => Some(Sgr::Font(Font::Alternate(2))),
-        SgrCode::AltFont3 => Some(Sgr::Font(Font::Alternate(3))),
-        SgrCode::AltFont4 => Some(Sgr::Font(Font::Alternate(4))),
-        SgrCode::AltFont5 => Some(Sgr::Font(Font::Alternate(5))),
-        SgrCode::AltFont6 => Some(Sgr::Font(Font::Alternate(6))),
-        SgrCode::AltFont7 => Some(Sgr::Font(Font::Alternate(7))),
-        SgrCode::AltFont8 => Some(Sgr::Font(Font::Alternate(8))),
-        SgrCode::AltFont9 => Some(Sgr::Font(Font::Alternate(9))),
-        SgrCode::UnderlineDouble => Some(Sgr::Underline(Underline::Double)),
-        SgrCode::NormalIntensity => Some(Sgr::Intensity(Intensity::Normal)),
-        SgrCode::ItalicOff => Some(Sgr::Italic(false)),
-        SgrCode::UnderlineOff => Some(Sgr::Underline(Underline::None)),
-        SgrCode::BlinkOff => Some(Sgr::Blink(Blink::None)),
-        SgrCode::InverseOff => Some(Sgr::Inverse(false)),
-        SgrCode::InvisibleOff => Some(Sgr::Invisible(false)),
-        SgrCode::StrikeThroughOff => Some(Sgr::StrikeThrough(false)),
-        SgrCode::ForegroundBlack => Some(Sgr::Foreground(ColorSpec::PaletteIndex(0))),
-        SgrCode::ForegroundRed => Some(Sgr::Foreground(ColorSpec::PaletteIndex(1))),
-        SgrCode::ForegroundGreen => Some(Sgr::Foreground(ColorSpec::PaletteIndex(2))),
-        SgrCode::ForegroundYellow => Some(Sgr::Foreground(ColorSpec::PaletteIndex(3))),
-        SgrCode::ForegroundBlue => Some(Sgr::Foreground(ColorSpec::PaletteIndex(4))),
-        SgrCode::ForegroundMagenta => Some(Sgr::Foreground(ColorSpec::PaletteIndex(5))),
-        SgrCode::ForegroundCyan => Some(Sgr::Foreground(ColorSpec::PaletteIndex(6))),
-        SgrCode::ForegroundWhite => Some(Sgr::Foreground(ColorSpec::PaletteIndex(7))),
-        SgrCode::ForegroundDefault => Some(Sgr::Foreground(ColorSpec::Default)),
-        SgrCode::BackgroundBlack => Some(Sgr::Background(ColorSpec::PaletteIndex(0))),
-        SgrCode::BackgroundRed => Some(Sgr::Background(ColorSpec::PaletteIndex(1))),
-        SgrCode::BackgroundGreen => Some(Sgr::Background(ColorSpec::PaletteIndex(2))),
-        SgrCode::BackgroundYellow => Some(Sgr::Background(ColorSpec::PaletteIndex(3))),
-        SgrCode::BackgroundBlue => Some(Sgr::Background(ColorSpec::PaletteIndex(4))),
-        SgrCode::BackgroundMagenta => Some(Sgr::Background(ColorSpec::PaletteIndex(5))),
-        SgrCode::BackgroundCyan => Some(Sgr::Background(ColorSpec::PaletteIndex(6))),
-        SgrCode::BackgroundWhite => Some(Sgr::Background(ColorSpec::PaletteIndex(7))),
-        SgrCode::BackgroundDefault => Some(Sgr::Background(ColorSpec::Default)),
-        SgrCode::OverlineOn => Some(Sgr::Overline(true)),
-        SgrCode::OverlineOff => Some(Sgr::Overline(false)),
-        SgrCode::ResetUnderlineColor => Some(Sgr::UnderlineColor(ColorSpec::Default)),
-        SgrCode::VerticalAlignSuperScript => Some(Sgr::VerticalAlign(VerticalAlign::SuperScript)),
-        SgrCode::VerticalAlignSubScript => Some(Sgr::VerticalAlign(VerticalAlign::SubScript)),
-        SgrCode::VerticalAlignBaseLine => Some(Sgr::VerticalAlign(VerticalAlign::BaseLine)),
-        SgrCode::ForegroundBrightBlack => Some(Sgr::Foreground(ColorSpec::PaletteIndex(8))),
-        SgrCode::ForegroundBrightRed => Some(Sgr::Foreground(ColorSpec::PaletteIndex(9))),
-        SgrCode::ForegroundBrightGreen => Some(Sgr::Foreground(ColorSpec::PaletteIndex(10))),
-        SgrCode::ForegroundBrightYellow => Some(Sgr::Foreground(ColorSpec::PaletteIndex(11))),
-        SgrCode::ForegroundBrightBlue => Some(Sgr::Foreground(ColorSpec::PaletteIndex(12))),
-        SgrCode::ForegroundBrightMagenta => Some(Sgr::Foreground(ColorSpec::PaletteIndex(13))),
-        SgrCode::ForegroundBrightCyan => Some(Sgr::Foreground(ColorSpec::PaletteIndex(14))),
-        SgrCode::ForegroundBrightWhite => Some(Sgr::Foreground(ColorSpec::PaletteIndex(15))),
-        SgrCode::BackgroundBrightBlack => Some(Sgr::Background(ColorSpec::PaletteIndex(8))),
-        SgrCode::BackgroundBrightRed => Some(Sgr::Background(ColorSpec::PaletteIndex(9))),
-        SgrCode::BackgroundBrightGreen => Some(Sgr::Background(ColorSpec::PaletteIndex(10))),
-        SgrCode::BackgroundBrightYellow => Some(Sgr::Background(ColorSpec::PaletteIndex(11))),
-        SgrCode::BackgroundBrightBlue => Some(Sgr::Background(ColorSpec::PaletteIndex(12))),
-        SgrCode::BackgroundBrightMagenta => Some(Sgr::Background(ColorSpec::PaletteIndex(13))),
-        SgrCode::BackgroundBrightCyan => Some(Sgr::Background(ColorSpec::PaletteIndex(14))),
-        SgrCode::BackgroundBrightWhite => Some(Sgr::Background(ColorSpec::PaletteIndex(15))),
-        SgrCode::UnderlineOn
-        | SgrCode::ForegroundColor
-        | SgrCode::BackgroundColor
-        | SgrCode::UnderlineColor => None,
+        _ => None,
     }
 }
 

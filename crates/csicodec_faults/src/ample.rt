@@ -1,7 +1,9 @@
 //! What the calls take and answer, made while there is memory.
 
 use crate::fakes::INPUT;
-use csicodec::{CSI, CsiParam, Intensity, Sgr, Unspecified, Window, parse_all, read_csi};
+use csicodec::{
+    CSI, CsiParam, DecodeError, Intensity, ReadError, Sgr, Unspecified, Window, parse_all, read_csi,
+};
 use std::alloc::{AllocError, Global};
 
 /// An attribute, and an unknown action with no parameters.
@@ -9,6 +11,12 @@ pub(crate) const NO_PARAMETERS: &[u8] = b"\x1b[1m\x1b[z";
 
 /// The same, and then the beginning of a sequence.
 pub(crate) const CUT_SHORT: &[u8] = b"\x1b[1m\x1b[z\x1b[";
+
+/// Its fault.
+pub(crate) const BEHIND: DecodeError = DecodeError::Read {
+    start: 7,
+    error: ReadError::Truncated { at: 2 },
+};
 
 /// An answer of a terminal that names so many extensions that a list of them grows three times.
 pub(crate) const ANSWER: &[u8] = b"\x1b[?62;1;2;6;8;9;15;22;98;99c";

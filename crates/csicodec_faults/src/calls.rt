@@ -1,7 +1,7 @@
 //! The calls that take memory, and how each may end.
 
 use crate::ample::{ANSWER, Ample, GRAPHICS, WINDOW};
-use crate::{copies, reads, writes};
+use crate::{boxes, copies, reads, streams, writes};
 use std::alloc::Global;
 
 #[derive(Clone, Copy, Debug, PartialEq, Eq)]
@@ -17,12 +17,16 @@ pub(crate) enum Call {
     ParseGraphics,
     DecodeAll,
     DecodeCutShort,
+    FromDevice,
+    FromWindow,
+    FromUnspecified,
     EncodeAll,
     EncodeWindow,
     EncodeAnswer,
     EncodeGraphics,
     Encode,
     NormalForm,
+    NormalCutShort,
     CloneUnspecified,
     CloneAction,
     CloneWindow,
@@ -30,10 +34,16 @@ pub(crate) enum Call {
     CloneGraphics,
     IsCanonical,
     Normalise,
+    NormaliseCutShort,
+    NormaliseFails,
+    AppendSpans,
+    Push,
     FilterAll,
+    FilterFails,
 }
 
-pub(crate) const CALLS: [Call; 25] = [
+/// Each call, in the order in which they are made. `.ci/starve` has how many requests for memory each makes.
+pub(crate) const CALLS: [Call; 34] = [
     Call::Read,
     Call::ReadInto,
     Call::Crack,
@@ -45,12 +55,16 @@ pub(crate) const CALLS: [Call; 25] = [
     Call::ParseGraphics,
     Call::DecodeAll,
     Call::DecodeCutShort,
+    Call::FromDevice,
+    Call::FromWindow,
+    Call::FromUnspecified,
     Call::EncodeAll,
     Call::EncodeWindow,
     Call::EncodeAnswer,
     Call::EncodeGraphics,
     Call::Encode,
     Call::NormalForm,
+    Call::NormalCutShort,
     Call::CloneUnspecified,
     Call::CloneAction,
     Call::CloneWindow,
@@ -58,7 +72,12 @@ pub(crate) const CALLS: [Call; 25] = [
     Call::CloneGraphics,
     Call::IsCanonical,
     Call::Normalise,
+    Call::NormaliseCutShort,
+    Call::NormaliseFails,
+    Call::AppendSpans,
+    Call::Push,
     Call::FilterAll,
+    Call::FilterFails,
 ];
 
 /// How a call ended.
@@ -92,19 +111,28 @@ pub(crate) fn run(call: Call, ample: &Ample, alloc: Global) -> Outcome {
         Call::ParseGraphics => reads::graphics(ample, alloc),
         Call::DecodeAll => reads::decode(ample, alloc),
         Call::DecodeCutShort => reads::decode_cut_short(alloc),
+        Call::FromDevice => boxes::device(alloc),
+        Call::FromWindow => boxes::window(alloc),
+        Call::FromUnspecified => boxes::unknown(alloc),
         Call::EncodeAll => writes::encoded(&ample.actions, crate::fakes::OUTPUT, alloc),
         Call::EncodeWindow => writes::encoded(&ample.window, WINDOW, alloc),
         Call::EncodeAnswer => writes::encoded(&ample.device, ANSWER, alloc),
         Call::EncodeGraphics => writes::encoded(&ample.graphics, GRAPHICS, alloc),
         Call::Encode => writes::encoded_in_turn(&ample.actions, crate::fakes::OUTPUT, alloc),
         Call::NormalForm => writes::in_normal_form(alloc),
+        Call::NormalCutShort => writes::cut_short(alloc),
         Call::CloneUnspecified => copies::unknown(ample, alloc),
         Call::CloneAction => copies::action(&ample.actions, alloc),
         Call::CloneWindow => copies::action(&ample.window, alloc),
         Call::CloneAnswer => copies::action(&ample.device, alloc),
         Call::CloneGraphics => copies::action(&ample.graphics, alloc),
         Call::IsCanonical => copies::is_canonical(ample, alloc),
-        Call::Normalise => writes::normalised(alloc),
-        Call::FilterAll => writes::filtered(alloc),
+        Call::Normalise => streams::normalised(alloc),
+        Call::NormaliseCutShort => streams::cut_short(alloc),
+        Call::NormaliseFails => streams::read_fails(alloc),
+        Call::AppendSpans => streams::appended(alloc),
+        Call::Push => streams::pushed(alloc),
+        Call::FilterAll => streams::filtered(alloc),
+        Call::FilterFails => streams::filter_fails(alloc),
     }
 }

@@ -8,7 +8,7 @@ pub(crate) const INPUT: &[u8] = b"\x1b[1;1231231;3m";
 /// What comes out.
 pub(crate) const OUTPUT: &[u8] = b"\x1b[1m\x1b[1231231;3m";
 
-/// A reader that gives at most `step` bytes a call, and whose call number `fails_at`, counted from 1, fails.
+/// A reader that gives at most `step` bytes a call, and whose call number `fails_at`, counted from 1, fails, that one alone.
 #[derive(Drop)]
 pub(crate) struct Reader {
     left: &'static [u8],
@@ -25,8 +25,12 @@ impl Reader {
     }
 
     pub(crate) fn failing(step: usize, fails_at: u32, kind: ErrorKind) -> Reader {
+        Reader::of(INPUT, step, fails_at, kind)
+    }
+
+    pub(crate) fn of(left: &'static [u8], step: usize, fails_at: u32, kind: ErrorKind) -> Reader {
         Reader {
-            left: INPUT,
+            left,
             step,
             calls: 0,
             fails_at,
@@ -56,6 +60,8 @@ pub(crate) enum Taking {
     Steps(usize),
     /// Each write fails.
     WriteFails(ErrorKind),
+    /// Each write fails once, and then takes at most 3 bytes.
+    FailsOnce(ErrorKind),
     /// Each write takes no byte.
     Nothing,
     /// The flush fails.
@@ -68,6 +74,7 @@ pub(crate) struct Writer {
     held: [u8; 64],
     used: usize,
     taking: Taking,
+    failed: bool,
     flushed: bool,
 }
 
@@ -77,11 +84,12 @@ impl Writer {
             held: [0; 64],
             used: 0,
             taking,
+            failed: false,
             flushed: false,
         }
     }
 
-    /// Whether just these bytes were written, and flushed.
+    /// Whether just these bytes were written, and then flushed.
     pub(crate) fn has(&self, bytes: &[u8]) -> bool {
         self.flushed && self.held.get(..self.used) == Some(bytes)
     }
@@ -94,9 +102,13 @@ impl Writer {
 
 impl Write for Writer {
     fn write(&mut self, buf: &[u8]) -> Result<usize> {
+        self.flushed = false;
+        self.failed = !self.failed;
         let step = match self.taking {
             Taking::Steps(step) => step,
             Taking::WriteFails(kind) => return Err(Error::from(kind)),
+            Taking::FailsOnce(kind) if self.failed => return Err(Error::from(kind)),
+            Taking::FailsOnce(_) => 3,
             Taking::Nothing => 0,
             Taking::FlushFails(_) => 64,
         };

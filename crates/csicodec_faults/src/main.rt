@@ -3,36 +3,40 @@
 //!
 //! Standard input is a number, or nothing: so many requests for memory are made before the calls. `.ci/starve` has one
 //! request refused, always of the same number, and so with ever more of them before the calls each request of a call in
-//! turn, that one alone: the call then answers that it is out of memory, or what it answers with ample memory. The status is 0
-//! where each call answered rightly and 1 where one was out of memory. What is wrong is printed.
+//! turn, that one alone: that call then answers that it is out of memory, and its name is printed. What is wrong is printed too.
 #![tactic(auto)]
 
 mod ample;
+mod boxes;
 mod calls;
 mod copies;
 mod fakes;
 mod reads;
+mod streams;
 #[cfg(test)]
 mod tests;
 mod writes;
 
 use ample::Ample;
-use calls::{CALLS, Outcome, run};
+use calls::{CALLS, Call, Outcome, run};
 use std::alloc::Global;
 use std::io::Read;
 use std::process::ExitCode;
 
-/// How many calls were out of memory, if none is wrong.
-fn refusals(ample: &Ample, alloc: Global) -> Option<u32> {
-    let mut refusals = 0u32;
+/// Which call was out of memory, at most one; or what is wrong.
+fn refused(ample: &Ample, alloc: Global) -> Result<Option<Call>, &'static str> {
+    let mut refused = None;
     for call in CALLS {
         match run(call, ample, alloc) {
-            Outcome::Refused => refusals = refusals.saturating_add(1),
+            Outcome::Refused if refused.is_some() => {
+                return Err("one refused request, and more than one call out of memory");
+            }
+            Outcome::Refused => refused = Some(call),
             Outcome::Right => {}
-            Outcome::Wrong => return None,
+            Outcome::Wrong => return Err("a wrong answer"),
         }
     }
-    Some(refusals)
+    Ok(refused)
 }
 
 /// As many requests for memory as the number on standard input says. One may be refused.
@@ -43,29 +47,18 @@ fn ask(alloc: Global, number: &str) {
     }
 }
 
-/// What is wrong, if something is; else whether a call was out of memory.
-fn ran(alloc: Global, number: &str) -> Result<bool, &'static str> {
-    let Ok(ample) = Ample::new(alloc) else {
-        return Ok(true);
-    };
-    ask(alloc, number);
-    match refusals(&ample, alloc) {
-        Some(count @ 0..=1) => Ok(count == 1),
-        Some(_) => Err("one refused request, and more than one call out of memory"),
-        None => Err("a wrong answer"),
-    }
-}
-
 fn main(rt: HostRuntime) -> ExitCode {
     let mut bytes = [0u8; 16];
     let count = rt.stdin().read(&mut bytes).unwrap_or(0);
     let number = str::from_utf8(&bytes[..count]).unwrap_or("");
-    match ran(rt.alloc(), number) {
-        Ok(false) => ExitCode::SUCCESS,
-        Ok(true) => ExitCode::FAILURE,
-        Err(wrong) => {
-            let _told = println!(rt; "{wrong}");
-            ExitCode::SUCCESS
-        }
-    }
+    let Ok(ample) = Ample::new(rt.alloc()) else {
+        return ExitCode::FAILURE;
+    };
+    ask(rt.alloc(), number);
+    let _told = match refused(&ample, rt.alloc()) {
+        Ok(None) => Ok(()),
+        Ok(Some(call)) => println!(rt; "{call:?}"),
+        Err(wrong) => println!(rt; "{wrong}"),
+    };
+    ExitCode::SUCCESS
 }

@@ -1,10 +1,10 @@
 //! Sequences and lists that are read.
 
-use crate::ample::{Ample, CUT_SHORT, NO_PARAMETERS};
+use crate::ample::{Ample, BEHIND, CUT_SHORT, NO_PARAMETERS};
 use crate::calls::{Outcome, judge};
 use crate::fakes::INPUT;
 use csicodec::{
-    CSI, Cracked, CsiParam, DecodeError, Device, Intensity, ParseRefusal, ReadError, Sgr,
+    CSI, Cracked, CsiParam, DecodeError, Intensity, ParseGraphics, ParseRefusal, ReadError, Sgr,
     XtSmGraphics, decode_all, parse_all, read_csi, read_csi_into,
 };
 use std::alloc::{AllocError, Global};
@@ -78,15 +78,7 @@ pub(crate) fn all(params: &[CsiParam], control: char, actions: &[CSI], alloc: Gl
 
 pub(crate) fn graphics(ample: &Ample, alloc: Global) -> Outcome {
     match XtSmGraphics::parse(alloc, &ample.geometry) {
-        Ok(read) => match ample.graphics.first() {
-            Some(CSI::Device(device)) => {
-                judge(
-                    false,
-                    matches!(&**device, Device::XtSmGraphics(known) if *known == read),
-                )
-            }
-            _ => Outcome::Wrong,
-        },
+        Ok(read) => judge(false, ample.graphics.first() == Some(&read)),
         Err(error) => judge(error == ParseRefusal::Memory, false),
     }
 }
@@ -100,12 +92,8 @@ pub(crate) fn decode(ample: &Ample, alloc: Global) -> Outcome {
 
 /// Out of memory comes before the fault that stands behind it.
 pub(crate) fn decode_cut_short(alloc: Global) -> Outcome {
-    let fault = DecodeError::Read {
-        start: 7,
-        error: ReadError::Truncated { at: 2 },
-    };
     match decode_all(alloc, CUT_SHORT, false) {
         Ok(_) => Outcome::Wrong,
-        Err(error) => judge(error == DecodeError::Memory, error == fault),
+        Err(error) => judge(error == DecodeError::Memory, error == BEHIND),
     }
 }

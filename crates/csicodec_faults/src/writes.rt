@@ -1,10 +1,9 @@
 //! Actions that are written.
 
+use crate::ample::{BEHIND, CUT_SHORT};
 use crate::calls::{Outcome, judge};
-use crate::fakes::{INPUT, OUTPUT, Reader, Taking, Writer};
-use csicodec::{
-    CSI, DecodeError, NormalForm, RunError, encode, encode_all, filter_all, normal_form, normalise,
-};
+use crate::fakes::{INPUT, OUTPUT};
+use csicodec::{CSI, DecodeError, encode, encode_all, normal_form};
 use std::alloc::{AllocError, Global};
 
 pub(crate) fn encoded(actions: &[CSI], text: &[u8], alloc: Global) -> Outcome {
@@ -34,21 +33,10 @@ pub(crate) fn in_normal_form(alloc: Global) -> Outcome {
     }
 }
 
-/// The reader and the writer take no memory. Nothing is written where memory runs out.
-pub(crate) fn normalised(alloc: Global) -> Outcome {
-    let mut writer = Writer::new(Taking::Steps(64));
-    match normalise(alloc, &mut Reader::by(64), &mut writer) {
-        Ok(()) => judge(false, writer.has(OUTPUT)),
-        Err(error) => judge(error == RunError::Memory && writer.is_untouched(), false),
-    }
-}
-
-/// The same of a filter, which writes what is sure before memory runs out.
-pub(crate) fn filtered(alloc: Global) -> Outcome {
-    let mut writer = Writer::new(Taking::Steps(64));
-    let rewrite = NormalForm::new(alloc);
-    match filter_all(alloc, 64, rewrite, &mut Reader::by(64), &mut writer) {
-        Ok(()) => judge(false, writer.has(OUTPUT)),
-        Err(error) => judge(error == RunError::Memory, false),
+/// Out of memory comes before the fault that stands behind it.
+pub(crate) fn cut_short(alloc: Global) -> Outcome {
+    match normal_form(alloc, CUT_SHORT) {
+        Ok(_) => Outcome::Wrong,
+        Err(error) => judge(error == DecodeError::Memory, error == BEHIND),
     }
 }

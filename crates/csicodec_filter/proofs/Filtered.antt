@@ -1,5 +1,6 @@
 -- The texts of parts, span by span.
-use Rattle.std.proofs.Common.{◌≡◌, ◌≢◌, ◌<◌, ◌⊎◌, ℕ, false, Option, None, Some, IfSome, MatchOption, List, [], ◌∷◌, ◌++◌, length, take, refl, sym, ap, subst, ◌∙◌, append_assoc, append-nil}
+use Rattle.std.proofs.Common.{◌≡◌, ◌≢◌, ◌<◌, ◌≤◌, ◌⊎◌, ℕ, Option, None, Some, IfSome, MatchOption, List, [], ◌∷◌, ◌++◌, length, take, drop, refl, sym, ap, subst, ◌∙◌, append_assoc, append-nil, arith}
+use Rattle.std.proofs.lemmas.List.{length-take, take-append-drop}
 use Rattle.std.specs.List.{AllByRecursion, flat_map}
 use Rattle.std.specs.Io.KnownBytes.{Appends, Consumes, IsAtEnd, Keeps}
 use Rattle.std.proofs.KnownBytes.{Appends-trans, Consumes-trans, Consumes-whole}
@@ -9,13 +10,14 @@ use Rattle.csicodec_spans.specs.declared.table.Kind.{Kind}
 use Rattle.csicodec_spans.specs.declared.table.Kind.TheVariants as kind
 use Rattle.csicodec_spans.specs.declared.table.Mode.{Mode}
 use Rattle.csicodec_spans.specs.declared.table.Mode.TheVariants as mode
-use Rattle.csicodec_spans.specs.Parts.{Part, part, left_over, bytes_of, AreAll, IsSpan}
+use Rattle.csicodec_spans.specs.Parts.{Part, part, left_over, bytes_of, AreAll, Allows, AreFirstParts, IsSpan}
+use Rattle.csicodec_spans.specs.Table.{Sequence, ahead}
+use Rattle.csicodec_spans.proofs.Agrees.{opens}
 use Rattle.csicodec_spans.proofs.OneSpan.{none_unsure}
 use Rattle.csicodec_spans.proofs.Kept.{unsure_short, parts_more, parts_on}
 use Rattle.csicodec_spans.proofs.Once.{parts_front, whole_once}
-use Rattle.csicodec_actions.specs.Actions.{Action}
-use Rattle.csicodec_parser.specs.Segments.{Actions}
-use Rattle.csicodec_streams.specs.Decoding.{Decodes}
+use Rattle.csicodec_streams.specs.Decoding.{NormalisesTo}
+use Rattle.csicodec_streams.specs.Known.{IsOne}
 use Rattle.csicodec_filter.specs.Filter.{WritesOne, IsWritten, AreWritten, Passes, Filters, IsFrontOf}
 
 pub weaker_part : (V W : List ℕ → List ℕ → Type 0) (k : Kind) (b t : List ℕ) → ((b t : List ℕ) → V b t → W b t) → IsWritten V k b t → IsWritten W k b t
@@ -71,6 +73,26 @@ module _ (Writes : List ℕ → List ℕ → Type 0) where
   by_control None kind.Str bytes text list h w = w
   by_control None kind.Other bytes text list h w = w
   by_control (Some final) k bytes text list h w = rw h.0 w
+
+  -- one sequence more, in front of what is left
+  pub passed_one : (limit : ℕ) (m n : Mode) (bytes rest text more : List ℕ) (parts : List Part) (len : ℕ) → AreFirstParts limit m bytes parts rest n → AreWritten Writes parts text
+      → IsOne (take len rest) → len ≤ limit → len ≤ length rest → Writes (take len rest) more
+      → AreFirstParts limit m bytes (parts ++ part kind.Csi (take len rest) ∷ []) (drop len rest) mode.Text × AreWritten Writes (parts ++ part kind.Csi (take len rest) ∷ []) (text ++ more)
+  passed_one limit m n bytes rest text more parts len first written one short within w =
+      let front = take len rest in
+      let long : length front ≤ limit = omega (arith, length-take len rest, short) in
+      let whole : rest ≡ 27 ∷ 91 ∷ ((one.2.body ++ one.1 ∷ []) ++ drop len rest) = sym (take-append-drop len rest) ∙ ap (λ (t : List ℕ). t ++ drop len rest) one.2.whole in
+      let csi : ahead n rest ≡ Sequence = ap (ahead n) whole ∙ opens n ((one.2.body ++ one.1 ∷ []) ++ drop len rest) in
+      let allowed : Allows (ahead n rest) limit rest kind.Csi front mode.Text = rw csi (one, long, refl) in (
+        parts_on limit parts (part kind.Csi front ∷ []) m bytes rest (drop len rest) n mode.Text first (drop len rest, mode.Text, (sym (take-append-drop len rest), allowed), (refl, refl)),
+        written_on parts (part kind.Csi front ∷ []) text more written (more, [], sym (append-nil more), w, refl),
+      )
+
+  -- what is kept of a span, where normal forms are written
+  pub kept_span : (control : Option ℕ) (k : Kind) (bytes text back : List ℕ) (list : List CsiParam) → MatchOption control (k ≢ kind.Csi) (λ final. (k ≡ kind.Csi) × Seq bytes list final)
+      → MatchOption control (text ≡ bytes) (λ final. Writes bytes text) → back ≡ text → ((b t : List ℕ) → Writes b t → NormalisesTo b t) → IfSome control (λ final. NormalisesTo bytes back × IsOne bytes)
+  kept_span None k bytes text back list h w is f = tt
+  kept_span (Some final) k bytes text back list h w is f = (rw is (f bytes text w), (list, final, h.1))
 
   -- a chunk more
   pub passes_on : (limit : ℕ) (m n a : Mode) (first second left rest s t : List ℕ) → Passes Writes limit m first s left n → Passes Writes limit n (left ++ second) t rest a → Passes Writes limit m (first ++ second) (s ++ t) rest a

@@ -1,10 +1,13 @@
 //! A stream that is rewritten as it comes.
-ghost use Rattle.std.specs.Prelude.{◌≡◌, ◌<◌, ◌≤◌, ◌⊎◌, ◌++◌, ℕ, List, [], length, drop, MatchOption, OnOk, IfOk, IfSome};
+ghost use Rattle.std.specs.Prelude.{◌≡◌, ◌<◌, ◌≤◌, ◌⊎◌, ◌++◌, ℕ, List, [], true, length, take, drop, MatchOption, OnOk, IfOk, IfSome};
 ghost use Rattle.csicodec_tokens.specs.Sequence.{Seq};
 ghost use Rattle.csicodec_spans.specs.declared.table.Mode.{Mode};
 ghost use Rattle.csicodec_spans.specs.declared.table.Mode.TheVariants.{Text as Plain};
+ghost use Rattle.csicodec_streams.specs.Decoding.{NormalisesTo};
+ghost use Rattle.csicodec_streams.specs.Known.{AreKnown, IsOne};
 ghost use Rattle.csicodec_filter.specs.Filter.{Passes};
 
+use crate::known::Known;
 use crate::rewrite::Rewrite;
 use csicodec_base::CsiParam;
 use csicodec_spans::{Mode, next_span_into};
@@ -28,6 +31,66 @@ fn append_span<T: Rewrite>(
     match control {
         Some(control) => rewrite.rewrite(bytes, params, control, out),
         None => out.extend_from_slice(bytes),
+    }
+}
+
+/// Keeps a span that is a control sequence, and its normal form, if that is wanted.
+#[inline(always)]
+fn keep_span(
+    known: &mut Known,
+    wanted: bool,
+    control: Option<char>,
+    bytes: &[u8],
+    span: &[u8],
+    text: &[u8],
+)
+    requires known { AreKnown known.old.memo.slots.items }
+    requires front { span.now ≡ take (length span.now) bytes.now }
+    requires normal { wanted ≡ true → IfSome control (λ _. NormalisesTo span.now text.now × IsOne span.now) }
+    ensures { AreKnown known.new.memo.slots.items }
+{
+    if wanted && control.is_some() {
+        known.keep(bytes, span.len(), text);
+    }
+}
+
+/// The same of some bytes, with what is known from those before.
+#[inline(never)]
+pub(crate) fn append_known<T: Rewrite>(
+    rewrite: &mut T,
+    params: &mut Vec<CsiParam>,
+    known: &mut Known,
+    limit: usize,
+    mode: Mode,
+    bytes: &[u8],
+    out: &mut Vec<u8>,
+) -> Result<(usize, Mode), AllocError>
+    requires limit { 0 < limit }
+    requires known { AreKnown known.old.memo.slots.items }
+    ensures passes { IfOk result (λ (used, after). (used ≤ length bytes.now) × (text : List ℕ)
+        × Passes (T.writes rewrite.old) limit mode bytes.now text (drop used bytes.now) after × (out.new.items ≡ out.old.items ++ text)) }
+    ensures same { OnOk result ((bytes text : List ℕ) → T.writes rewrite.new bytes text → T.writes rewrite.old bytes text) }
+    ensures known { OnOk result (AreKnown known.new.memo.slots.items) }
+{
+    let normal = rewrite.writes_normal_forms();
+    let mut rest = bytes;
+    let mut mode = mode;
+    loop {
+        let len = known.recall(normal, limit, rest, out)?;
+        if len > 0 {
+            rest = rest.split_at(len).1;
+            mode = Mode::Text;
+            continue;
+        }
+        let Some(read) = next_span_into(params, limit, mode, rest)? else {
+            return Ok((bytes.len() - rest.len(), mode));
+        };
+        let before = out.len();
+        append_span(rewrite, params, read.control, read.cut.span.bytes, out)?;
+        let text = out.split_at(before).1;
+        keep_span(known, normal, read.control, rest, read.cut.span.bytes, text);
+        rest = read.cut.rest;
+        mode = read.cut.mode;
     }
 }
 
@@ -55,14 +118,8 @@ pub fn append_spans<T: Rewrite>(
         × Passes (T.writes rewrite.old) limit mode bytes.now text (drop used bytes.now) after × (out.new.items ≡ out.old.items ++ text)) }
     ensures same { OnOk result ((bytes text : List ℕ) → T.writes rewrite.new bytes text → T.writes rewrite.old bytes text) }
 {
-    let mut rest = bytes;
-    let mut mode = mode;
-    while let Some(read) = next_span_into(params, limit, mode, rest)? {
-        append_span(rewrite, params, read.control, read.cut.span.bytes, out)?;
-        rest = read.cut.rest;
-        mode = read.cut.mode;
-    }
-    Ok((bytes.len() - rest.len(), mode))
+    let mut known = Known::new(*params.allocator());
+    append_known(rewrite, params, &mut known, limit, mode, bytes, out)
 }
 
 /// A stream that is rewritten as it comes: each control sequence of at most `limit` bytes becomes what `R` writes for it, and
@@ -112,6 +169,36 @@ impl<R: Rewrite + Drop> Filter<R> {
         }
     }
 
+    /// The same with what is known from the bytes before.
+    pub(crate) fn push_known(
+        &mut self,
+        known: &mut Known,
+        bytes: &[u8],
+        out: &mut Vec<u8>,
+    ) -> Result<(), AllocError>
+        requires { AreKnown known.old.memo.slots.items }
+        ensures passes { OnOk result ((text : List ℕ) × Passes (R.writes self.old.rewrite) self.old.limit self.old.mode (self.old.bytes ++ bytes.now) text self.new.bytes self.new.mode
+            × (out.new.items ≡ out.old.items ++ text)) }
+        ensures limit { OnOk result (self.new.limit ≡ self.old.limit) }
+        ensures same { OnOk result ((bytes text : List ℕ) → R.writes self.new.rewrite bytes text → R.writes self.old.rewrite bytes text) }
+        ensures short { OnOk result ((length self.new.bytes < self.new.limit) ⊎ (length self.new.bytes < 3)) }
+        ensures known { OnOk result (AreKnown known.new.memo.slots.items) }
+    {
+        self.pending.extend_from_slice(bytes)?;
+        let (used, mode) = append_known(
+            &mut self.rewrite,
+            &mut self.params,
+            known,
+            self.limit,
+            self.mode,
+            &self.pending,
+            out,
+        )?;
+        self.mode = mode;
+        keep_from(&mut self.pending, used);
+        Ok(())
+    }
+
     /// Takes the next bytes, and appends the texts of all that is sure now. What isn't is held, and is short: fewer bytes than
     /// `limit`, or than 3 where that is less.
     pub fn push(&mut self, bytes: &[u8], out: &mut Vec<u8>) -> Result<(), AllocError>
@@ -121,18 +208,8 @@ impl<R: Rewrite + Drop> Filter<R> {
         ensures same { OnOk result ((bytes text : List ℕ) → R.writes self.new.rewrite bytes text → R.writes self.old.rewrite bytes text) }
         ensures short { OnOk result ((length self.new.bytes < self.new.limit) ⊎ (length self.new.bytes < 3)) }
     {
-        self.pending.extend_from_slice(bytes)?;
-        let (used, mode) = append_spans(
-            &mut self.rewrite,
-            &mut self.params,
-            self.limit,
-            self.mode,
-            &self.pending,
-            out,
-        )?;
-        self.mode = mode;
-        keep_from(&mut self.pending, used);
-        Ok(())
+        let mut known = Known::new(*self.params.allocator());
+        self.push_known(&mut known, bytes, out)
     }
 
     /// Appends what is held: nothing comes any more.

@@ -2,6 +2,7 @@
 #![tactic(auto)]
 
 mod filter;
+mod known;
 mod rewrite;
 mod run;
 

@@ -1,6 +1,7 @@
 //! What is written in the place of a control sequence.
-ghost use Rattle.std.specs.Prelude.{◌≡◌, ◌++◌, ℕ, List, OnOk};
+ghost use Rattle.std.specs.Prelude.{◌≡◌, ◌++◌, ℕ, List, true, OnOk};
 ghost use Rattle.csicodec_tokens.specs.Sequence.{Seq};
+ghost use Rattle.csicodec_streams.specs.Decoding.{NormalisesTo};
 
 use csicodec_base::CsiParam;
 use csicodec_parser::Texts;
@@ -37,6 +38,13 @@ pub trait Rewrite {
         requires { Seq bytes.now params.now control }
         ensures text { OnOk result ((text : List ℕ) × writes self.old bytes.now text × (out.new.items ≡ out.old.items ++ text)) }
         ensures same { OnOk result ((bytes text : List ℕ) → writes self.new bytes text → writes self.old bytes text) };
+
+    /// Whether it writes normal forms. Then a sequence that came before may be looked up, and isn't passed to `rewrite` again.
+    fn writes_normal_forms(&self) -> bool
+        ensures { result ≡ true → (bytes text : List ℕ) → (NormalisesTo bytes text → writes self.now bytes text) × (writes self.now bytes text → NormalisesTo bytes text) }
+    {
+        false
+    }
 }
 
 /// Each control sequence in its normal form: the texts of its actions, one sequence for each.
@@ -57,8 +65,6 @@ impl NormalForm {
 }
 
 impl Rewrite for NormalForm {
-    ghost use Rattle.csicodec_streams.specs.Decoding.{NormalisesTo};
-
     ghost writes = { λ _ bytes text. NormalisesTo bytes text };
 
     fn rewrite(
@@ -72,5 +78,9 @@ impl Rewrite for NormalForm {
         parse_into(self.alloc, params, false, control, &mut self.texts)?;
         out.extend_from_slice(self.texts.bytes.as_slice())?;
         Ok(())
+    }
+
+    fn writes_normal_forms(&self) -> bool {
+        true
     }
 }

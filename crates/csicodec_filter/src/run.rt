@@ -6,6 +6,7 @@ ghost use Rattle.csicodec_spans.specs.declared.table.Mode.TheVariants.{Text as P
 ghost use Rattle.csicodec_filter.specs.Filter.{Filters, IsFrontOf, Passes};
 
 use crate::filter::Filter;
+use crate::known::Known;
 use crate::rewrite::Rewrite;
 use csicodec_spans::Mode;
 use csicodec_streams::{CHUNK, RunError, receive, send};
@@ -43,6 +44,7 @@ pub fn filter_all<T: Rewrite + Drop, R: Read, W: Write>(
         (sent : List ℕ) × IsFrontOf (T.writes rewrite) limit Plain bytes sent × Appends (W.contents output.old) (W.contents output.new) sent)) }
 {
     let mut filter = Filter::new(alloc, limit, rewrite);
+    let mut known = Known::new(alloc);
     let mut out = Vec::new(alloc);
     let mut chunk = [0u8; CHUNK];
     for _ in 0..u64::MAX {
@@ -56,7 +58,7 @@ pub fn filter_all<T: Rewrite + Drop, R: Read, W: Write>(
             };
             return send(output, &out);
         }
-        let Ok(()) = filter.push(&chunk[..count], &mut out) else {
+        let Ok(()) = filter.push_known(&mut known, &chunk[..count], &mut out) else {
             return Err(RunError::Memory);
         };
         let Ok(()) = send(output, &out) else {

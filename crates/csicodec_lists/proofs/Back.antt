@@ -20,8 +20,8 @@ use Rattle.csicodec_actions.specs.declared.device.DeviceAttribute.TheVariants as
 use Rattle.csicodec_actions.specs.declared.edit.Edit as edit_type
 use Rattle.csicodec_actions.specs.declared.edit.Edit.TheVariants as edit
 use Rattle.csicodec_actions.specs.declared.graphics.XtSmGraphicsItem.{XtSmGraphicsItem}
-use Rattle.csicodec_actions.specs.declared.keyboard.CharacterPath.{CharacterPath}
-use Rattle.csicodec_actions.specs.declared.keyboard.CharacterPath.TheVariants as path
+use Rattle.csicodec_actions.specs.declared.path.CharacterPath.{CharacterPath}
+use Rattle.csicodec_actions.specs.declared.path.CharacterPath.TheVariants as path
 use Rattle.csicodec_actions.specs.declared.keyboard.Keyboard as keyboard_type
 use Rattle.csicodec_actions.specs.declared.keyboard.Keyboard.TheVariants as keyboard
 use Rattle.csicodec_actions.specs.declared.mode.Mode as mode_type

@@ -13,7 +13,7 @@ pub enum Esc {
     /// Two bytes that are no [`EscCode`]. Each is printed as the character of that number, from
     /// U+0000 to U+00FF.
     Unspecified {
-        /// What stands between ESC and the control, in ECMA-48 a byte from 02/00 to 02/15.
+        /// What stands between ESC and the control, in ECMA-35 (13) a byte from 02/00 to 02/15.
         intermediate: Option<u8>,
         /// The last byte, which says with the intermediate what is asked for.
         control: u8,
@@ -112,7 +112,7 @@ pub enum EscCode {
     /// `ESC k` (GNU Screen, tmux): opens a title of the window, up to `StringTerminator`.
     TmuxTitle = 0x6b,
     /// `ESC 6`, DECBI (DEC VT420): moves the cursor one column to the left, and at the left margin
-    /// moves the contents of the page one column to the right.
+    /// moves what stands within the margins one column to the right.
     DecBackIndex = 0x36,
     /// `ESC 7`, DECSC (DEC VT100): saves the cursor's position, and with it the attributes and the
     /// character sets.

@@ -66,7 +66,7 @@ pub enum DecPrivateModeCode {
     BracketedPaste = 2004,
     /// What is drawn is shown when this is reset (contour).
     SynchronizedOutput = 2026,
-    /// The cursor moves by clusters of graphemes (contour).
+    /// How many cells a character takes goes by grapheme clusters (contour).
     GraphemeClustering = 2027,
     /// The escape key sends a sequence of its own (mintty).
     MinTTYApplicationEscapeKeyMode = 7727,

@@ -5,6 +5,7 @@
 mod actions;
 mod canonical;
 mod count;
+mod graphics;
 mod group;
 mod list;
 mod look;
@@ -14,6 +15,7 @@ mod tokens;
 
 pub use actions::{CSI, Unspecified, append_text};
 pub use count::Count;
+pub use graphics::ParseGraphics;
 pub use list::list_into;
 pub use look::Look;
 pub use parser::{CSIParser, Run};

@@ -56,6 +56,7 @@ pub trait Sink {
 impl Sink for Vec<CSI> {
     ghost holds = { λ v actions. map action_of v.items ≡ actions };
 
+    #[inline(always)]
     fn take(&mut self, action: CSI) -> Result<(), AllocError> {
         self.push(action)?;
         Ok(())

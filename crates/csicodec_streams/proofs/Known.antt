@@ -1,7 +1,7 @@
 -- Normal forms that are known.
-use Rattle.std.proofs.Common.{◌≡◌, ℕ, zero, suc, ◌+◌, ◌-◌, ◌%◌, ◌^◌, ◌≤◌, Bool, true, false, not, cond, eqb, w8, map, List, [], ◌∷◌, ◌++◌, length, take, drop, refl, sym, ap, subst, ◌∙◌, append_assoc, arith}
-use Rattle.std.proofs.Math.Seq.{take-append_seam, drop-append_seam}
-use Rattle.std.proofs.lemmas.List.{map-id, take-append-drop, take-take, take_all, length-append, length-drop}
+use Rattle.std.proofs.Common.{◌≡◌, ℕ, zero, suc, ◌+◌, ◌-◌, ◌%◌, ◌^◌, ◌<◌, ◌≤◌, Bool, true, false, not, cond, eqb, w8, map, List, [], ◌∷◌, ◌++◌, length, take, drop, refl, sym, ap, subst, ◌∙◌, append_assoc, arith}
+use Rattle.std.proofs.Math.Seq.{take-append_seam, take-append-add, drop-append_seam}
+use Rattle.std.proofs.lemmas.List.{map-id, take-append-drop, take-take, take_all, length-append, length-drop, length-take}
 use Rattle.std.proofs.lemmas.Bool.{eqb-true}
 use Rattle.std.proofs.lemmas.Simd.{leading_from_mask_l, length-zip2, mask_l-mod, tops_compared, trailing_mask_l}
 use Rattle.std.specs.List.{prefix_len}
@@ -14,6 +14,7 @@ use Rattle.csicodec_actions.specs.Table.{text, texts}
 use Rattle.csicodec_parser.specs.Segments.{Actions}
 use Rattle.csicodec_streams.specs.Decoding.{Decodes}
 use Rattle.csicodec_streams.specs.Decoding.{NormalisesTo}
+use Rattle.csicodec_streams.specs.Known.{IsOne}
 use Rattle.csicodec_streams.proofs.OneReading.{one_sequence}
 use Rattle.csicodec_streams.proofs.Splits.{IsSplit}
 use Rattle.csicodec_streams.proofs.Streamed.{front_of, front_on, split_of}
@@ -28,18 +29,49 @@ pub split_known : (bytes rest : List ℕ) (len : ℕ) (xs ys : List Action) → 
 split_known bytes rest len xs ys s d =
     split_of bytes false (drop len rest) (xs ++ ys) (front_on bytes rest false (drop len rest) xs ys (front_of bytes false rest xs s) (take len rest, sym (take-append-drop len rest), d))
 
--- bytes that begin as others have the normal form of those
-pub same_known : (bytes known text : List ℕ) (len n : ℕ) → len ≤ n → len ≤ 32 → take n (take 32 bytes) ≡ take n known → NormalisesTo (take len known) text → NormalisesTo (take len bytes) text
-same_known bytes known text len n within short same k =
-    let front : take len bytes ≡ take len known = sym (take-take len 32 bytes short) ∙ sym (take-take len n (take 32 bytes) within) ∙ ap (λ (l : List ℕ). take len l) same ∙ take-take len n known within in
-    subst (λ (l : List ℕ). NormalisesTo l text) (sym front) k
+same_shorter : (bytes known : List ℕ) (len n : ℕ) → len ≤ n → take n bytes ≡ take n known → take len bytes ≡ take len known
+same_shorter bytes known len n within same = sym (take-take len n bytes within) ∙ ap (λ (l : List ℕ). take len l) same ∙ take-take len n known within
+
+-- bytes that begin as others have the normal form of those, and are one sequence as they are
+pub same_known : (bytes known text : List ℕ) (len n : ℕ) → len ≤ n → take n bytes ≡ take n known → NormalisesTo (take len known) text → NormalisesTo (take len bytes) text
+same_known bytes known text len n within same k =
+    subst (λ (l : List ℕ). NormalisesTo l text) (sym (same_shorter bytes known len n within same)) k
+
+pub same_one : (bytes known : List ℕ) (len n : ℕ) → len ≤ n → take n bytes ≡ take n known → IsOne (take len known) → IsOne (take len bytes)
+same_one bytes known len n within same k = subst IsOne (sym (same_shorter bytes known len n within same)) k
+
+-- so many bytes are the same, where as many and more are in parts of them
+pub same_in_front : (xs ys : List ℕ) (w n len : ℕ) → len ≤ n → len ≤ w → take n (take w xs) ≡ take n (take w ys) → take len xs ≡ take len ys
+same_in_front xs ys w n len within short same =
+    sym (take-take len w xs short) ∙ sym (take-take len n (take w xs) within) ∙ ap (λ (l : List ℕ). take len l) same ∙ take-take len n (take w ys) within ∙ take-take len w ys short
+
+take_parts : (xs : List ℕ) (k n : ℕ) → k ≤ length xs → take (k + n) xs ≡ take k xs ++ take n (drop k xs)
+take_parts xs k n within =
+    let long : length (take k xs) ≡ k = omega (arith, length-take k xs, within) in
+    ap (λ (l : List ℕ). take (k + n) l) (sym (take-append-drop k xs)) ∙ ap (λ (i : ℕ). take (i + n) (take k xs ++ drop k xs)) (sym long) ∙ take-append-add (take k xs) (drop k xs) n
+
+-- the same where some stand in front of those parts
+pub same_behind : (xs ys : List ℕ) (k w n len : ℕ) → k ≤ length xs → k ≤ length ys → k ≤ len → len ≤ k + n → len ≤ k + w → take k xs ≡ take k ys
+    → take n (take w (drop k xs)) ≡ take n (take w (drop k ys)) → take len xs ≡ take len ys
+same_behind xs ys k w n len long short front within part same more =
+    let left : ℕ = len - k in
+    let all : len ≡ k + left = omega (arith, front) in
+    let behind : take left (drop k xs) ≡ take left (drop k ys) = same_in_front (drop k xs) (drop k ys) w n left (omega (arith, within)) (omega (arith, part)) more in
+    ap (λ (i : ℕ). take i xs) all ∙ take_parts xs k left long ∙ ap (λ (l : List ℕ). l ++ take left (drop k xs)) same ∙ ap (λ (l : List ℕ). take k ys ++ l) behind
+    ∙ sym (take_parts ys k left short) ∙ ap (λ (i : ℕ). take i ys) (sym all)
+
+read_front : (rest behind : List ℕ) (list : List CsiParam) (final : ℕ) (len : ℕ) (r : Reads rest list final behind) → len ≡ length rest - length behind → take len rest ≡ r.0
+read_front rest behind list final len r is =
+    let long : len ≡ length r.0 = omega (arith, is, ap length r.2, length-append r.0 behind) in
+    ap (λ (l : List ℕ). take len l) r.2 ∙ ap (λ (n : ℕ). take n (r.0 ++ behind)) long ∙ take-append_seam r.0 behind
 
 -- the bytes of a sequence that was read decode to its actions
 pub read_known : (rest behind : List ℕ) (list : List CsiParam) (final : ℕ) (ys : List Action) (len : ℕ) → Reads rest list final behind → Actions list false final ys → len ≡ length rest - length behind → Decodes (take len rest) false ys
-read_known rest behind list final ys len r a is =
-    let long : len ≡ length r.0 = omega (arith, is, ap length r.2, length-append r.0 behind) in
-    let front : take len rest ≡ r.0 = ap (λ (l : List ℕ). take len l) r.2 ∙ ap (λ (n : ℕ). take n (r.0 ++ behind)) long ∙ take-append_seam r.0 behind in
-    subst (λ (l : List ℕ). Decodes l false ys) (sym front) (one_sequence r.0 list final ys r.1 a)
+read_known rest behind list final ys len r a is = subst (λ (l : List ℕ). Decodes l false ys) (sym (read_front rest behind list final len r is)) (one_sequence r.0 list final ys r.1 a)
+
+-- and are one sequence
+pub read_one : (rest behind : List ℕ) (list : List CsiParam) (final : ℕ) (len : ℕ) → Reads rest list final behind → len ≡ length rest - length behind → IsOne (take len rest)
+read_one rest behind list final len r is = subst IsOne (sym (read_front rest behind list final len r is)) (list, final, r.1)
 
 -- what was appended to the texts of some actions are those of the further ones
 pub texts_behind : (xs ys : List Action) (old new : List ℕ) (len : ℕ) → old ≡ texts xs → new ≡ texts (xs ++ ys) → len ≡ length old → drop len new ≡ texts ys
@@ -66,13 +98,13 @@ same_before (x ∷ xs) (y ∷ ys) long = go (prefix_len not (zip2 differ xs ys))
     go n true is same = rw (is, one n) (ap (λ (a : ℕ). a ∷ take n xs) (eqb-true x y is) ∙ ap (λ (l : List ℕ). y ∷ l) same)
     go n false is same = rw is refl
 
-pub same_lanes : (xs ys : List ℕ) → length xs ≡ 32 → length ys ≡ 32 → (k : ℕ) → k ≡ count_trailing_zeros 64 (mask_l (zip2 differ xs ys)) → take k xs ≡ take k ys
-same_lanes xs ys long short k is = go (mask_l ms) refl
+pub same_lanes : (xs ys : List ℕ) (w : ℕ) → w < 64 → length xs ≡ w → length ys ≡ w → (k : ℕ) → k ≡ count_trailing_zeros 64 (mask_l (zip2 differ xs ys)) → take k xs ≡ take k ys
+same_lanes xs ys w few long short k is = go (mask_l ms) refl
   where
     ms : List Bool
     ms = zip2 differ xs ys
 
-    many : length ms ≡ 32
+    many : length ms ≡ w
     many = length-zip2 differ xs ys (long ∙ sym short) ∙ long
 
     before : take (prefix_len not ms) xs ≡ take (prefix_len not ms) ys
@@ -86,23 +118,23 @@ same_lanes xs ys long short k is = go (mask_l ms) refl
     go (suc m) some =
         let first : count_trailing_zeros 64 (mask_l ms) ≡ prefix_len not ms =
         ap (λ (l : List Bool). count_trailing_zeros 64 (mask_l l)) (sym (map-id ms))
-        ∙ trailing_mask_l (λ (b : Bool). b) 64 ms (omega (arith, many)) (rw (map-id ms) (omega (arith, some))) in
+        ∙ trailing_mask_l (λ (b : Bool). b) 64 ms (omega (arith, many, few)) (rw (map-id ms) (omega (arith, some))) in
         ap (λ (n : ℕ). take n xs) (is ∙ first) ∙ before ∙ ap (λ (n : ℕ). take n ys) (sym (is ∙ first))
 
 -- a comparison's mask, of lanes of bytes
-pub differing_mask : (xs ys : List ℕ) → length xs ≡ 32 → length ys ≡ 32
+pub differing_mask : (xs ys : List ℕ) (w : ℕ) → w < 64 → length xs ≡ w → length ys ≡ w
     → count_trailing_zeros 64 (mask_l (map (top 7) (zip2 (λ a b. cond (differ a b) 255 0) xs ys)) % 2 ^ 64) ≡ count_trailing_zeros 64 (mask_l (zip2 differ xs ys))
-differing_mask xs ys long short =
+differing_mask xs ys w few long short =
     ap (λ (ms : List Bool). count_trailing_zeros 64 (mask_l ms % 2 ^ 64)) (tops_compared w8 differ xs ys)
-    ∙ ap (count_trailing_zeros 64) (mask_l-mod (zip2 differ xs ys) 64 (omega (arith, length-zip2 differ xs ys (long ∙ sym short), long)))
+    ∙ ap (count_trailing_zeros 64) (mask_l-mod (zip2 differ xs ys) 64 (omega (arith, length-zip2 differ xs ys (long ∙ sym short), long, few)))
 
 -- what is kept of bytes and their normal form
-pub slot_known : (bytes front text copied zs : List ℕ) (len : ℕ) → front ≡ take 32 bytes → copied ≡ text → len ≤ 32 → length text ≤ 48 → NormalisesTo (take len bytes) text
-    → (len ≤ 32) × (length text ≤ 48) × NormalisesTo (take len front) (take (length text) (copied ++ zs))
-slot_known bytes front text copied zs len is same short small k =
-    let begin : take len front ≡ take len bytes = ap (λ (l : List ℕ). take len l) is ∙ take-take len 32 bytes short in
+pub slot_known : (bytes front text copied zs : List ℕ) (len : ℕ) → front ≡ take 48 bytes → copied ≡ text → len ≤ 48 → length text ≤ 48 → NormalisesTo (take len bytes) text → IsOne (take len bytes)
+    → (len ≤ 48) × (length text ≤ 48) × NormalisesTo (take len front) (take (length text) (copied ++ zs)) × (0 < len → IsOne (take len front))
+slot_known bytes front text copied zs len is same short small k one =
+    let begin : take len front ≡ take len bytes = ap (λ (l : List ℕ). take len l) is ∙ take-take len 48 bytes short in
     let all : take (length text) (copied ++ zs) ≡ text = ap (λ (l : List ℕ). take (length text) (l ++ zs)) same ∙ take-append_seam text zs in
-    (short, small, subst (λ (l : List ℕ). NormalisesTo l (take (length text) (copied ++ zs))) (sym begin) (subst (λ (l : List ℕ). NormalisesTo (take len bytes) l) (sym all) k))
+    (short, small, subst (λ (l : List ℕ). NormalisesTo l (take (length text) (copied ++ zs))) (sym begin) (subst (λ (l : List ℕ). NormalisesTo (take len bytes) l) (sym all) k), λ some. subst IsOne (sym begin) one)
 
 -- texts that are known, behind those of the actions before
 pub texts_more : (before told ys : List Action) (old new text : List ℕ) → old ≡ texts (before ++ told) → new ≡ old ++ text → text ≡ texts ys → new ≡ texts (before ++ (told ++ ys))

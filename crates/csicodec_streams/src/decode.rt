@@ -1,5 +1,5 @@
 //! Bytes to actions.
-ghost use Rattle.std.specs.Prelude.{◌≡◌, ◌++◌, ◌≤◌, List, Option, [], map, false, length, OnErr, OnOk, IfOk, IfErr};
+ghost use Rattle.std.specs.Prelude.{◌≡◌, ◌++◌, ◌+◌, ◌*◌, ◌≤◌, List, Option, [], map, false, length, OnErr, OnOk, IfOk, IfErr};
 ghost use Rattle.csicodec_streams.specs.declared.error.DecodeError.TheVariants.{Memory};
 ghost use Rattle.csicodec_actions.specs.Actions.{Action};
 ghost use Rattle.csicodec_parser.specs.ActionOf.{action_of};
@@ -10,9 +10,12 @@ ghost use Rattle.csicodec_streams.specs.Refusals.{RefusesDecode, refusal_of};
 ghost use Rattle.csicodec_actions.specs.Table.{texts};
 
 use crate::error::DecodeError;
-use csicodec_base::{CsiParam, ReadError, read_csi_into};
-use csicodec_parser::{CSI, Sink, Texts, Tokens, list_into};
+use csicodec_base::{CsiParam, ReadError, read_csi_into, read_csi_within};
+use csicodec_parser::{CSI, Look, Sink, Texts, Tokens, list_into};
 use std::alloc::{AllocError, Global};
+
+/// The tokens of a list of at most so many are read into a place that is kept, and of a longer one into memory.
+const SHORT: usize = 32;
 
 /// The actions of one parameter list, into a sink.
 #[inline(always)]
@@ -49,6 +52,23 @@ pub(crate) struct Behind<'a> {
     pub(crate) error: Option<ReadError>,
 }
 
+/// The actions of a list that has more tokens than most.
+#[cold]
+#[inline(never)]
+fn long_into<S: Sink>(
+    alloc: Global,
+    params: &[CsiParam],
+    parameters_truncated: bool,
+    control: char,
+    sink: &mut S,
+) -> Result<(), AllocError>
+    ensures { OnOk result ((all : List Action) × Actions params.now parameters_truncated control all
+        × ((before : List Action) → S.holds sink.old before → S.holds sink.new (before ++ all))) }
+{
+    let mut tokens = Tokens::new(params);
+    list_into(alloc, &mut tokens, parameters_truncated, control, sink)
+}
+
 /// The actions of the sequences at the front of the bytes, one after the other, into a sink.
 #[inline(always)]
 fn front_into<'a, S: Sink>(
@@ -64,12 +84,19 @@ fn front_into<'a, S: Sink>(
     ensures within { IfOk result (λ behind. length behind.rest.now ≤ length bytes.now) }
     ensures err { OnErr result (RefusesDecode bytes.now parameters_truncated Memory) }
 {
+    let mut room = [CsiParam::P(0); SHORT];
     let mut rest = bytes;
     while !rest.is_empty() {
+        if let Ok(read) = read_csi_within(&mut room, rest) {
+            let (list, _) = room.split_at(read.count);
+            let mut tokens = Tokens::new(list);
+            list_into(alloc, &mut tokens, parameters_truncated, read.control, sink)?;
+            rest = read.rest;
+            continue;
+        }
         match read_csi_into(params, rest) {
             Ok(tail) => {
-                let mut tokens = Tokens::new(params);
-                list_into(alloc, &mut tokens, parameters_truncated, tail.control, sink)?;
+                long_into(alloc, params, parameters_truncated, tail.control, sink)?;
                 rest = tail.rest;
             }
             Err(error) => {
@@ -116,8 +143,29 @@ pub fn parse_all(
 ) -> Result<Vec<CSI>, AllocError>
     ensures { IfOk result (λ all. Actions params.now parameters_truncated control (map action_of all.items)) }
 {
+    parse_all_over(
+        alloc,
+        &mut Tokens::new(params),
+        parameters_truncated,
+        control,
+    )
+}
+
+/// The same of any list of which nothing is passed yet, whose looks are counted: at most 128 × (length + 1).
+pub fn parse_all_over<L: Look>(
+    alloc: Global,
+    look: &mut L,
+    parameters_truncated: bool,
+    control: char,
+) -> Result<Vec<CSI>, AllocError>
+    requires { L.passed look.old ≡ 0 }
+    ensures all { IfOk result (λ all. Actions (L.tokens look.old) parameters_truncated control (map action_of all.items)) }
+    ensures list { L.tokens look.new ≡ L.tokens look.old }
+    ensures counted { L.looks look.old ≤ L.looks look.new }
+    ensures cheap { L.looks look.new ≤ L.looks look.old + 128 * (length (L.tokens look.old) + 1) }
+{
     let mut all = Vec::new(alloc);
-    parse_into(alloc, params, parameters_truncated, control, &mut all)?;
+    list_into(alloc, look, parameters_truncated, control, &mut all)?;
     Ok(all)
 }
 

@@ -81,7 +81,8 @@ impl<T: Drop> From<AllocFailed<T>> for DecodeError {
     }
 }
 
-/// Why a run from a reader to a writer ended early.
+/// Why a run from a reader to a writer ended early. `normalise` has written nothing then, but with `Write`; a filter has written a
+/// front of what it makes of the whole input.
 ///
 /// ```text
 /// normalise(alloc, &mut input, &mut output)      // of "\x1b[m\x1b[1", Err(Decode(Read { start: 3, .. }))
@@ -89,13 +90,15 @@ impl<T: Drop> From<AllocFailed<T>> for DecodeError {
 /// ```
 #[derive(Clone, Copy, Debug, PartialEq, Eq)]
 pub enum RunError {
-    /// A read answered an error, of any kind; nothing was written.
+    /// A read answered an error: for `normalise` of any kind, for a filter of any but `Interrupted`. A filter tells it of a reader
+    /// too that has no end in 2^64 - 1 reads.
     Read,
-    /// The input is no join of sequences, and holds `DecodeError::Read`; nothing was written.
+    /// The input is no join of sequences, and this holds `DecodeError::Read`. A filter never tells it.
     Decode(DecodeError),
-    /// A write or the flush answered an error, of any kind, or a write took no byte.
+    /// A write or the flush answered an error, for `normalise` of any kind, for a filter of any but a write's `Interrupted`; or a
+    /// write took no byte.
     Write,
-    /// Memory ran out; nothing was written.
+    /// Memory ran out; or there are more than `isize::MAX` bytes for `normalise`.
     Memory,
 }
 

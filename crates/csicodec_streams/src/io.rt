@@ -1,5 +1,5 @@
 //! Bytes in and out.
-ghost use Rattle.std.specs.Prelude.{◌≡◌, ◌⊎◌, ◌++◌, ◌<◌, ◌≤◌, ℕ, List, length, OnOk, IfOk, IfErr, drop, vec_len, take, OnErr};
+ghost use Rattle.std.specs.Prelude.{◌≡◌, ◌⊎◌, ◌++◌, ◌+◌, ◌^◌, ◌<◌, ◌≤◌, ℕ, List, length, OnOk, IfOk, IfErr, drop, vec_len, take, OnErr};
 ghost use Rattle.std.specs.Io.KnownBytes.{Appends, Consumes, IsAtEnd, Keeps};
 
 use crate::error::RunError;
@@ -7,6 +7,9 @@ use std::io::{ErrorKind, Read, Write};
 
 /// How many bytes are asked of a reader at once.
 pub const CHUNK: usize = 4096;
+
+/// The most bytes that an input may have: what was read counts as kept, and no vector holds more.
+pub(crate) const MOST: usize = isize::MAX as usize;
 
 /// Appends what one read of at most so many bytes gives, and answers how many came: none at the end.
 #[inline(always)]
@@ -29,22 +32,24 @@ pub(crate) fn read_some<R: Read>(
     Ok(count)
 }
 
-/// Reads to the end, and keeps nothing.
+/// Reads to the end, and keeps nothing, where so many bytes came before. `Memory` where there are more than `MOST` of both.
 #[cold]
 #[inline(never)]
-pub(crate) fn read_out<R: Read>(input: &mut R) -> Result<(), RunError>
+pub(crate) fn read_out<R: Read>(input: &mut R, before: usize) -> Result<(), RunError>
     ensures end { OnOk result ((bytes : List ℕ) × Consumes (R.remaining input.old) (R.remaining input.new) bytes × IsAtEnd (R.remaining input.new)) }
-    ensures err { IfErr result (λ e. e ≡ RunError.Read) }
+    ensures err { IfErr result (λ e. (e ≡ RunError.Read) ⊎ (e ≡ RunError.Memory)) }
+    ensures long { IfErr result (λ e. e ≡ RunError.Memory → (bytes : List ℕ) × Consumes (R.remaining input.old) (R.remaining input.new) bytes × (2 ^ 63 ≤ before + length bytes)) }
 {
     let mut chunk = [0u8; CHUNK];
-    for _ in 0..u64::MAX {
+    let mut read = before;
+    while read <= MOST {
         match input.read(&mut chunk) {
             Ok(0) => return Ok(()),
-            Ok(_) => {}
+            Ok(count) => read += count,
             Err(_) => return Err(RunError::Read),
         }
     }
-    Err(RunError::Read)
+    Err(RunError::Memory)
 }
 
 /// Writes all the bytes, and flushes.

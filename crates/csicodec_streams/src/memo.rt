@@ -1,45 +1,59 @@
 //! Short sequences that came before, and their normal forms: one that comes again is looked up, and not read again.
-ghost use Rattle.std.specs.Prelude.{◌≡◌, ◌<◌, ◌≤◌, ◌++◌, ℕ, List, length, take};
+ghost use Rattle.std.specs.Prelude.{◌≡◌, ◌+◌, ◌<◌, ◌≤◌, ◌++◌, ℕ, List, length, take};
 ghost use Rattle.csicodec_streams.specs.Decoding.{NormalisesTo};
-ghost use Rattle.csicodec_streams.specs.Known.{AreKnown};
+ghost use Rattle.csicodec_streams.specs.Known.{AreKnown, IsOne};
 
 use csicodec_base::TextBuffer;
 use std::alloc::Global;
 use std::simd::prelude::*;
 
-/// How many bytes a sequence has at most that is kept.
-const LONGEST: usize = 32;
+/// How many bytes a slot has for a sequence, and how many for its normal form.
+const WIDE: usize = 48;
 
-/// How many bytes its normal form has at most.
-const WIDEST: usize = 48;
+/// How many new sequences come before a table is made.
+const FIRST: usize = 16;
 
 /// How many slots there are at first, and how many at most.
 const FEWEST: usize = 64;
 
 const MOST: usize = 4096;
 
-/// All bits of the first 32 bytes, and none of those behind.
-static FRONT: [u8; 64] = [
-    255, 255, 255, 255, 255, 255, 255, 255, 255, 255, 255, 255, 255, 255, 255, 255, 255, 255, 255,
-    255, 255, 255, 255, 255, 255, 255, 255, 255, 255, 255, 255, 255, 0, 0, 0, 0, 0, 0, 0, 0, 0, 0,
-    0, 0, 0, 0, 0, 0, 0, 0, 0, 0, 0, 0, 0, 0, 0, 0, 0, 0, 0, 0, 0, 0,
-];
+/// After so many new sequences in a row, only each `STEP`th is looked for.
+const PATIENCE: u32 = 32;
+
+const STEP: u32 = 16;
+
+/// How often others have to want the place of a sequence that came again before one of them has it.
+const WORTH: u8 = 4;
+
+/// A number without a pattern, by which a hash is multiplied.
+const SPREAD: u64 = 0x9e37_79b9_7f4a_7c15;
 
 /// Some bytes and their normal form; at first none, whose normal form is empty.
 #[derive(Clone, Copy)]
 pub(crate) struct Slot {
-    bytes: [u8; 32],
+    bytes: [u8; 48],
     text: [u8; 48],
     len: u8,
     text_len: u8,
 }
 
-/// A table of bytes whose normal forms are known. It takes no memory at first, and grows while much of what comes is new.
+/// A table of control sequences whose normal forms are known. It takes no memory at first, and grows while much of what comes is
+/// new; without memory it stays as it is. Each sequence may stand in one of two slots, which are neighbours.
+///
+/// A caller asks for the [`place`](Memo::place) of what stands in front, then whether it is known there
+/// ([`recall`](Memo::recall)), and if not, tells its normal form once that was found ([`keep`](Memo::keep)).
 #[derive(Drop)]
-pub(crate) struct Memo {
+pub struct Memo {
     slots: Vec<Slot>,
+    /// How often others have to want each slot before one has it.
+    worth: Vec<u8>,
     /// How many are kept before it grows.
     spare: usize,
+    /// How many were new, of late.
+    missed: u32,
+    /// How many are passed over before one is looked for.
+    passed: u32,
 }
 
 impl Memo {
@@ -49,76 +63,166 @@ impl Memo {
     {
         Memo {
             slots: Vec::new(alloc),
-            spare: 0,
+            worth: Vec::new(alloc),
+            spare: FIRST,
+            missed: 0,
+            passed: 0,
         }
     }
 
-    /// Where the sequence in front of the bytes would be, by all its bytes. Beyond the table where it isn't short.
+    /// Where the sequence in front of the bytes would be. Beyond the table where it isn't short, or isn't to be looked for.
     #[inline(always)]
-    pub fn place(&self, bytes: &[u8]) -> usize {
-        if bytes.len() < LONGEST {
+    pub fn place(&mut self, bytes: &[u8]) -> usize
+        requires { AreKnown self.old.slots.items }
+        ensures { AreKnown self.new.slots.items }
+    {
+        if self.passed > 0 {
+            self.passed -= 1;
             return usize::MAX;
         }
-        let front = u8x32::from_slice(bytes);
-        // The first byte from 40 on behind ESC and '['.
-        let letters = (front & u8x32::splat(0x40)).simd_ne(u8x32::splat(0));
-        let last = (letters.to_bitmask() & 0xffff_fffc).trailing_zeros() as usize;
-        if last >= LONGEST {
-            return usize::MAX;
+        match hash(bytes) {
+            Some(hash) => hash & self.slots.len().wrapping_sub(2),
+            None => usize::MAX,
         }
-        let (low, high) = (&FRONT[LONGEST - 1 - last..], &FRONT[LONGEST + 15 - last..]);
-        let low = u64x2::from_le_bytes(u8x16::from_slice(bytes) & u8x16::from_slice(low));
-        let high = u64x2::from_le_bytes(u8x16::from_slice(&bytes[16..]) & u8x16::from_slice(high));
-        let [a, b] = (low ^ high * u64x2::splat(16)).to_array();
-        let hash = (a ^ b.rotate_left(5)).wrapping_mul(0x9e37_79b9_7f4a_7c15) >> 52;
-        hash as usize & self.slots.len().wrapping_sub(1)
     }
 
     /// Appends the normal form of some bytes in front, if it is known, and answers how many they are.
     #[inline(always)]
-    pub fn recall(&self, place: usize, bytes: &[u8], out: &mut TextBuffer) -> usize
+    pub fn recall(&mut self, place: usize, bytes: &[u8], out: &mut TextBuffer) -> usize
+        requires { AreKnown self.old.slots.items }
+        ensures within { result ≤ length bytes.now }
+        ensures text { (text : List ℕ) × NormalisesTo (take result bytes.now) text × (out.new ≡ out.old ++ text) }
+        ensures one { 0 < result → IsOne (take result bytes.now) }
+        ensures known { AreKnown self.new.slots.items }
+    {
+        let first = self.told(place, bytes, out);
+        if first > 0 {
+            self.hit(place);
+            return first;
+        }
+        let second = self.told(place ^ 1, bytes, out);
+        if second > 0 {
+            self.hit(place ^ 1);
+            return second;
+        }
+        second
+    }
+
+    /// Notes that a sequence came again.
+    #[inline(always)]
+    fn hit(&mut self, place: usize)
+        requires { AreKnown self.old.slots.items }
+        ensures { AreKnown self.new.slots.items }
+    {
+        self.missed /= 2;
+        if let Some(worth) = self.worth.get_mut(place) {
+            *worth = WORTH;
+        }
+    }
+
+    /// The same of one slot.
+    #[inline(always)]
+    fn told(&self, place: usize, bytes: &[u8], out: &mut TextBuffer) -> usize
         requires known { AreKnown self.now.slots.items }
         ensures within { result ≤ length bytes.now }
         ensures text { (text : List ℕ) × NormalisesTo (take result bytes.now) text × (out.new ≡ out.old ++ text) }
+        ensures one { 0 < result → IsOne (take result bytes.now) }
+        ensures none { result ≡ 0 → out.new ≡ out.old }
     {
-        if place >= self.slots.len() || bytes.len() < LONGEST {
+        if place >= self.slots.len() || bytes.len() < WIDE {
             return 0;
         }
         let slot = &self.slots[place];
         let len = usize::from(slot.len);
-        if len == 0 || same_front(u8x32::from_slice(bytes), u8x32::from_array(slot.bytes)) < len {
+        if len == 0 || same_front(bytes, &slot.bytes, len) < len {
             return 0;
         }
-        let text = slot.text;
-        match out.push_front(&text, usize::from(slot.text_len)) {
+        match out.push_front(&slot.text, usize::from(slot.text_len)) {
             Ok(()) => len,
             Err(_) => 0,
         }
     }
 
-    /// Keeps the first bytes and their normal form, unless one of them is long.
+    /// Keeps the first bytes and their normal form, unless one of them is long, or they were not looked for.
     #[inline(always)]
     pub fn keep(&mut self, place: usize, bytes: &[u8], len: usize, text: &[u8])
         requires known { AreKnown self.old.slots.items }
         requires normal { NormalisesTo (take len bytes.now) text.now }
+        requires one { IsOne (take len bytes.now) }
+        ensures { AreKnown self.new.slots.items }
+    {
+        if place < MOST {
+            self.put(place, bytes, len, text);
+        }
+    }
+
+    /// Keeps them where one of the two slots is free.
+    #[inline(never)]
+    fn put(&mut self, place: usize, bytes: &[u8], len: usize, text: &[u8])
+        requires known { AreKnown self.old.slots.items }
+        requires normal { NormalisesTo (take len bytes.now) text.now }
+        requires one { IsOne (take len bytes.now) }
         ensures { AreKnown self.new.slots.items }
     {
         if self.spare == 0 {
             return self.grow();
         }
-        let Some(front) = bytes.first_chunk::<LONGEST>() else {
+        self.miss();
+        let own = self.free(place);
+        let Some(front) = bytes.first_chunk::<WIDE>() else {
             return;
         };
-        if place < self.slots.len() && len <= LONGEST && text.len() <= WIDEST {
-            let mut wide = [0; WIDEST];
+        if own < self.slots.len() && len <= WIDE && text.len() <= WIDE {
+            let mut wide = [0; WIDE];
             wide[..text.len()].copy_from_slice(text);
-            self.spare -= 1;
-            self.slots[place] = Slot {
+            self.slots[own] = Slot {
                 bytes: *front,
                 text: wide,
                 len: len as u8,
                 text_len: text.len() as u8,
             };
+        }
+    }
+
+    /// Notes that a sequence is new.
+    fn miss(&mut self)
+        requires { AreKnown self.old.slots.items }
+        ensures { AreKnown self.new.slots.items }
+    {
+        self.spare = self.spare.saturating_sub(1);
+        if self.missed < PATIENCE {
+            self.missed += 1;
+        } else {
+            self.passed = STEP - 1;
+        }
+    }
+
+    /// The one of two slots that another sequence has from now on. Beyond the table where both are worth more.
+    fn free(&mut self, place: usize) -> usize
+        requires { AreKnown self.old.slots.items }
+        ensures { AreKnown self.new.slots.items }
+    {
+        if self.is_free(place) {
+            return place;
+        }
+        if self.is_free(place ^ 1) {
+            return place ^ 1;
+        }
+        usize::MAX
+    }
+
+    /// Whether another sequence has the slot from now on. If not, the slot is worth less.
+    fn is_free(&mut self, place: usize) -> bool
+        requires { AreKnown self.old.slots.items }
+        ensures { AreKnown self.new.slots.items }
+    {
+        match self.worth.get_mut(place) {
+            Some(worth) => {
+                let is_free = *worth == 0;
+                *worth = if is_free { WORTH } else { *worth - 1 };
+                is_free
+            }
+            None => false,
         }
     }
 
@@ -133,25 +237,94 @@ impl Memo {
         let len = self.slots.len();
         if len < MOST {
             let alloc = *self.slots.allocator();
-            let larger = (4 * len).max(FEWEST);
+            let larger = (8 * len).max(FEWEST);
             let empty = Slot {
-                bytes: [0; LONGEST],
-                text: [0; WIDEST],
+                bytes: [0; WIDE],
+                text: [0; WIDE],
                 len: 0,
                 text_len: 0,
             };
+            let Ok(worth) = vec![in alloc; 0; larger] else {
+                return;
+            };
             if let Ok(slots) = vec![in alloc; empty; larger] {
                 self.slots = slots;
+                self.worth = worth;
                 self.spare = larger;
             }
         }
     }
 }
 
+/// A number for the sequence in front, by its bytes up to the final one, which is the first from 40 on behind ESC and '['. None
+/// where it isn't short.
+#[inline(always)]
+fn hash(bytes: &[u8]) -> Option<usize> {
+    if bytes.len() < WIDE {
+        return None;
+    }
+    let front = word(bytes, 2);
+    let letters = front & 0x4040_4040_4040_4040;
+    if letters != 0 {
+        let all = front & (letters ^ letters.wrapping_sub(1));
+        return Some((all.wrapping_mul(SPREAD) >> 51) as usize);
+    }
+    let behind = u8x32::from_slice(bytes.split_at(10).1);
+    let letters = (behind & u8x32::splat(0x40)).simd_ne(u8x32::splat(0));
+    let last = letters.to_bitmask().trailing_zeros() as usize;
+    if last > 29 {
+        return None;
+    }
+    let (mid, end) = (word(bytes, 3 + last / 2), word(bytes, 3 + last));
+    let all = front ^ mid.rotate_left(7) ^ end.wrapping_mul(0xff51_afd7_ed55_8ccd);
+    Some((all.wrapping_mul(SPREAD) >> 51) as usize)
+}
+
+/// Eight bytes from a place on.
+#[inline(always)]
+fn word(bytes: &[u8], place: usize) -> u64
+    requires { place + 16 ≤ length bytes.now }
+{
+    let [word, _] = u64x2::from_le_bytes(u8x16::from_slice(bytes.split_at(place).1)).to_array();
+    word
+}
+
+/// So many of the first bytes are those that are known; behind the first 16 it looks only where `len` is more.
+#[inline(always)]
+fn same_front(bytes: &[u8], known: &[u8; 48], len: usize) -> usize
+    requires { 48 ≤ length bytes.now }
+    ensures { take result bytes.now ≡ take result known.now }
+{
+    let near = same_16(u8x16::from_slice(bytes), u8x16::from_slice(known));
+    if near < 16 {
+        return near;
+    }
+    if len <= 16 {
+        return 16;
+    }
+    let (_, behind) = bytes.split_at(16);
+    let (_, known_behind) = known.split_at(16);
+    let far = same_32(u8x32::from_slice(behind), u8x32::from_slice(known_behind));
+    if far < 32 {
+        return 16 + far;
+    }
+    48
+}
+
 /// As many bytes are the same in front.
 #[inline(always)]
-fn same_front(a: u8x32, b: u8x32) -> usize
-    ensures { take result a ≡ take result b }
+fn same_16(a: u8x16, b: u8x16) -> usize
+    ensures same { take result a ≡ take result b }
+    ensures few { result ≤ 64 }
+{
+    a.simd_ne(b).to_bitmask().trailing_zeros() as usize
+}
+
+/// The same of longer ones.
+#[inline(always)]
+fn same_32(a: u8x32, b: u8x32) -> usize
+    ensures same { take result a ≡ take result b }
+    ensures few { result ≤ 64 }
 {
     a.simd_ne(b).to_bitmask().trailing_zeros() as usize
 }

@@ -11,7 +11,7 @@ ghost use Rattle.csicodec_actions.specs.Table.{text, texts};
 
 use crate::decode::{Behind, refusal_at};
 use crate::error::{DecodeError, RunError};
-use crate::io::{CHUNK, keep_from, read_out, read_some, write_out};
+use crate::io::{CHUNK, MOST, keep_from, read_out, read_some, write_out};
 use crate::memo::Memo;
 use csicodec_base::{CsiParam, ReadError, read_csi_into};
 use csicodec_parser::{Texts, Tokens, list_into};
@@ -72,16 +72,17 @@ fn stays(error: ReadError) -> bool
     !matches!(error, ReadError::Truncated { .. })
 }
 
-/// What is told of a refusal in mid-stream: the rest of the input is read first, since a read that fails is told instead.
+/// What is told of a refusal in mid-stream, where so many bytes were read: the rest of the input is read first, since a read that
+/// fails is told instead.
 #[cold]
 #[inline(never)]
-fn refused<R: Read>(input: &mut R, error: DecodeError) -> RunError
+fn refused<R: Read>(input: &mut R, count: usize, error: DecodeError) -> RunError
     ensures refused { (given : Option (List ℕ)) (read : List ℕ) → Consumes given (R.remaining input.old) read →
         ((more : List ℕ) → RefusesDecode (read ++ more) false error) → RefusesRun given result }
     ensures read_whole { (fault : DecodeError) → result ≡ RunError.Decode fault → IsAtEnd (R.remaining input.new) }
 {
     match error {
-        DecodeError::Read { .. } => match read_out(input) {
+        DecodeError::Read { .. } => match read_out(input, count) {
             Ok(()) => RunError::Decode(error),
             Err(failed) => failed,
         },
@@ -110,7 +111,7 @@ fn stream_into<R: Read>(
     let mut memo = Memo::new(alloc);
     let mut chunk = [0u8; CHUNK];
     let (mut start, mut enough) = (0usize, CHUNK);
-    for _ in 0..u64::MAX {
+    'chunks: while start.saturating_add(held.len()) <= MOST {
         let count = read_some(input, &mut chunk, &mut held)?;
         if count > 0 && held.len() < enough {
             continue;
@@ -125,14 +126,17 @@ fn stream_into<R: Read>(
         match error {
             None if count == 0 => return Ok(()),
             Some(error) if count == 0 => return Err(RunError::from(refusal_at(place, error))),
-            Some(error) if stays(error) => return Err(refused(input, refusal_at(place, error))),
+            Some(error) if stays(error) => {
+                let read = start.saturating_add(held.len());
+                return Err(refused(input, read, refusal_at(place, error)));
+            }
             None | Some(_) => {}
         }
         keep_from(&mut held, used);
         start = place;
         enough = 2 * held.len().max(CHUNK / 2);
     }
-    Err(RunError::Read)
+    Err(RunError::Memory)
 }
 
 /// Reads all there is, and writes the texts of its actions: each sequence in its normal form, one sequence for each
@@ -141,7 +145,8 @@ fn stream_into<R: Read>(
 /// The input is sequences one after the other, each parsed with `parameters_truncated` false. `RunError` tells a failed
 /// read, an input that is refused, a failed write and out of memory apart; any error of a read, `Interrupted` too, is
 /// `Read`, and any of a write or the flush, or a write that takes no byte, is `Write`. After all but `Write` nothing was
-/// written.
+/// written. An input that is refused is read to its end before that is told, since a read that fails is told instead; one of
+/// more than `isize::MAX` bytes is `Memory`.
 ///
 /// ```text
 /// normalise(alloc, &mut input, &mut output)?;      // reads "\x1b[01;3m", and writes "\x1b[1m\x1b[3m"

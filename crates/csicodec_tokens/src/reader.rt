@@ -316,6 +316,7 @@ pub fn read_csi_into<'a>(
 /// ```text
 /// let read = read_csi_within(&mut room, b"\x1b[0001;?m!")?;   // 3 tokens: 1, ';', '?' then 'm' and b"!"
 /// ```
+#[inline(always)]
 pub fn read_csi_within<'a>(
     room: &mut [CsiParam],
     bytes: &'a [u8],
@@ -328,6 +329,49 @@ pub fn read_csi_within<'a>(
 {
     let mut count = 0;
     let mut rest = behind_introducer(bytes)?;
+    while room.len() - count > 1 {
+        match part_front(bytes, rest)? {
+            Part::Token(token, others) => {
+                room[count] = token;
+                if let Some(behind) = behind_semicolon(others) {
+                    room[count + 1] = CsiParam::P(b';');
+                    count += 2;
+                    rest = behind;
+                } else {
+                    count += 1;
+                    rest = others;
+                }
+            }
+            Part::Final(byte, behind) => {
+                return Ok(ShortCsi {
+                    count,
+                    control: char::from(byte),
+                    rest: behind,
+                });
+            }
+        }
+    }
+    last_within(room, count, bytes, rest)
+}
+
+/// The same from the rest on, where there is room for few more tokens.
+#[cold]
+#[inline(never)]
+fn last_within<'a>(
+    room: &mut [CsiParam],
+    before: usize,
+    bytes: &[u8],
+    start: &'a [u8],
+) -> Result<ShortCsi<'a>, ReadError>
+    requires fits { before ≤ length room.old }
+    requires within { length start.now ≤ length bytes.now }
+    requires read { HasRead bytes.now (take before room.old) start.now }
+    ensures found { IfOk result (λ read. Reads bytes.now (take read.count room.new) read.control read.rest.now) }
+    ensures fits { IfOk result (λ read. read.count ≤ length room.new) }
+    ensures refused { IfErr result (λ e. Refuses bytes.now (length room.new) e) }
+{
+    let mut count = before;
+    let mut rest = start;
     loop {
         match part_front(bytes, rest)? {
             Part::Token(token, others) => {

@@ -5,6 +5,7 @@ ghost use Rattle.std.specs.Prelude.{◌<◌};
 mod attributes;
 mod cursor;
 mod devices;
+mod displays;
 mod keyboard;
 mod modes;
 mod mouse;

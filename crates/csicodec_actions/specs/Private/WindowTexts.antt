@@ -1,6 +1,6 @@
 -- What private steps say of the numbers in the text of a window. Nothing public rests on this file.
-use Rattle.csicodec_actions.specs.declared.print.window.Numbers.{Numbers}
-use Rattle.csicodec_actions.specs.declared.print.window.Numbers.TheVariants.{Alone, Which, Two, Area}
+use Rattle.csicodec_actions.specs.declared.window.Numbers.{Numbers}
+use Rattle.csicodec_actions.specs.declared.window.Numbers.TheVariants.{Alone, Which, Two, Area}
 use Rattle.csicodec_actions.specs.declared.window.Window.TheVariants as window
 use Rattle.csicodec_actions.specs.Table.Window.{alone, which, two, written_window}
 use Rattle.csicodec_actions.specs.Written.{Written}

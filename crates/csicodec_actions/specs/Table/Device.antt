@@ -73,7 +73,7 @@ written_attributes (devices.Vt220 attributes) = written_class 62 attributes
 written_attributes (devices.Vt320 attributes) = written_class 63 attributes
 written_attributes (devices.Vt420 attributes) = written_class 64 attributes
 
--- the parameters of a line: no parity, 8 bits, 128 for 38400 baud both ways, a clock multiplier of 1, and no switches
+-- the parameters of a serial line: no parity, 8 bits, 128 both ways (38400 baud in xterm), 1 for a clock multiplier of 16, no switches
 abbrev pub line : List Item
 line = listed plain (1 ∷ 1 ∷ 128 ∷ 128 ∷ 1 ∷ 0 ∷ [])
 

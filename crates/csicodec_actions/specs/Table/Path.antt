@@ -1,8 +1,8 @@
 -- SCP, select character path (ECMA-48, 8.3.111): lists before `k`, and what the action is written as.
 use Rattle.std.specs.Prelude.{ℕ, ℤ, List, [], ◌∷◌, Option, if◌then◌else◌, pos}
 use Rattle.csicodec_tokens.specs.declared.param.CsiParam.{CsiParam}
-use Rattle.csicodec_actions.specs.declared.keyboard.CharacterPath.{CharacterPath}
-use Rattle.csicodec_actions.specs.declared.keyboard.CharacterPath.TheVariants as path
+use Rattle.csicodec_actions.specs.declared.path.CharacterPath.{CharacterPath}
+use Rattle.csicodec_actions.specs.declared.path.CharacterPath.TheVariants as path
 use Rattle.csicodec_actions.specs.Actions.{Action, SelectCharacterPath}
 use Rattle.csicodec_actions.specs.Kinds.{Any, Path}
 use Rattle.csicodec_names.specs.Numbered.{is_number}

@@ -115,12 +115,13 @@ fn drops_a_class_of_actions(rt: HostRuntime) -> Result<(), Fail> {
     Ok(())
 }
 
-/// A reader of a stream by `step` bytes, each read interrupted once before, and at whose end stands an error or the end.
+/// A reader of a stream by `step` bytes, each read of which fails once before, and at whose end stands an error or the end.
 #[derive(Drop)]
 struct Live {
     left: &'static [u8],
     step: usize,
-    interrupted: bool,
+    kind: ErrorKind,
+    failed: bool,
     fails: bool,
 }
 
@@ -129,7 +130,8 @@ impl Live {
         Live {
             left,
             step,
-            interrupted: false,
+            kind: ErrorKind::Interrupted,
+            failed: false,
             fails,
         }
     }
@@ -137,9 +139,9 @@ impl Live {
 
 impl Read for Live {
     fn read(&mut self, buf: &mut [u8]) -> IoResult<usize> {
-        self.interrupted = !self.interrupted;
-        if self.interrupted {
-            return Err(Error::from(ErrorKind::Interrupted));
+        self.failed = !self.failed;
+        if self.failed {
+            return Err(Error::from(self.kind));
         }
         if self.left.is_empty() && self.fails {
             return Err(Error::from(ErrorKind::Other));
@@ -179,16 +181,42 @@ fn what_is_sure_is_written_before_a_failed_read(rt: HostRuntime) {
 }
 
 #[test]
+fn reads_that_fail(rt: HostRuntime) {
+    for (kind, wanted) in [
+        (ErrorKind::Interrupted, Ok(())),
+        (ErrorKind::WouldBlock, Err(RunError::Read)),
+        (ErrorKind::Other, Err(RunError::Read)),
+    ] {
+        let mut reader = Live::new(b"a\x1b[1m", 64, false);
+        reader.kind = kind;
+        let mut writer = Writer::new(Taking::Steps(64));
+        let rewrite = NormalForm::new(rt.alloc());
+        let answer = filter_all(rt.alloc(), 64, rewrite, &mut reader, &mut writer);
+        assert_eq!(rt; answer, wanted, "{kind:?}");
+    }
+}
+
+#[test]
 fn writes_that_fail(rt: HostRuntime) {
-    for taking in [
-        Taking::WriteFails(ErrorKind::Other),
-        Taking::Nothing,
-        Taking::FlushFails(ErrorKind::Other),
+    for (taking, wanted) in [
+        (Taking::FailsOnce(ErrorKind::Interrupted), Ok(())),
+        (
+            Taking::FailsOnce(ErrorKind::WouldBlock),
+            Err(RunError::Write),
+        ),
+        (Taking::FailsOnce(ErrorKind::Other), Err(RunError::Write)),
+        (Taking::Nothing, Err(RunError::Write)),
+        (Taking::FlushFails(ErrorKind::Other), Err(RunError::Write)),
+        (
+            Taking::FlushFails(ErrorKind::Interrupted),
+            Err(RunError::Write),
+        ),
     ] {
         let mut writer = Writer::new(taking);
         let rewrite = NormalForm::new(rt.alloc());
         let mut reader = Live::new(b"a\x1b[1m", 64, false);
         let answer = filter_all(rt.alloc(), 64, rewrite, &mut reader, &mut writer);
-        assert_eq!(rt; answer, Err(RunError::Write), "{taking:?}");
+        assert_eq!(rt; answer, wanted, "{taking:?}");
+        assert!(rt; answer.is_err() || writer.has(b"a\x1b[1m"), "{taking:?}");
     }
 }

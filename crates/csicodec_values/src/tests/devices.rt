@@ -3,8 +3,8 @@
 use super::check;
 use csicodec::CsiParam::{Integer, P};
 use csicodec::{
-    CSI, Device, DeviceAttribute, DeviceAttributeCodes, DeviceAttributeFlags, DeviceAttributes,
-    XtSmGraphics, XtSmGraphicsItem,
+    CSI, CsiParam, Device, DeviceAttribute, DeviceAttributeCodes, DeviceAttributeFlags,
+    DeviceAttributes, ParseGraphics, ParseRefusal, XtSmGraphics, XtSmGraphicsItem,
 };
 use std::alloc::Global;
 use std::test::Fail;
@@ -218,6 +218,46 @@ fn graphics(rt: HostRuntime) -> Result<(), Fail> {
             let device = CSI::Device(Box::new(rt.alloc(), Device::XtSmGraphics(graphics))?);
             let text = format!(in rt.alloc(); "{front}{end}")?;
             check(&rt, rt.alloc(), device, false, text.as_str(), named && said)?;
+        }
+    }
+    Ok(())
+}
+
+/// Lists that `XtSmGraphics::parse` reads behind any first token, as the action with this text, and those that it doesn't.
+#[test]
+fn graphics_behind_a_token(rt: HostRuntime) -> Result<(), Fail> {
+    let rows: [(&[CsiParam], Option<&str>); 6] = [
+        (
+            &[P(b'?'), Integer(2), P(b';'), Integer(1)],
+            Some("\x1b[?2;1S"),
+        ),
+        (
+            &[Integer(7), Integer(1), P(b';'), Integer(2)],
+            Some("\x1b[?1;2S"),
+        ),
+        (
+            &[
+                P(b'?'),
+                Integer(1),
+                P(b';'),
+                Integer(3),
+                P(b';'),
+                P(b';'),
+                Integer(5),
+            ],
+            Some("\x1b[?1;3;5S"),
+        ),
+        (&[P(b'?'), Integer(2)], None),
+        (&[P(b'?')], None),
+        (&[], None),
+    ];
+    for (list, text) in rows {
+        match XtSmGraphics::parse(rt.alloc(), list) {
+            Ok(action) => {
+                let said = format!(in rt.alloc(); "{action}")?;
+                assert_eq!(rt; Some(said.as_str()), text);
+            }
+            Err(error) => assert_eq!(rt; (error, text), (ParseRefusal::NotSpelled, None)),
         }
     }
     Ok(())

@@ -1,8 +1,7 @@
 //! Worked lists of graphics: what each stands for, and its text.
 
 use super::worked::{check_unknown, tokens_of};
-use csicodec::CsiParam::{Integer, P};
-use csicodec::{CSI, Device, ParseRefusal, XtSmGraphics, XtSmGraphicsItem, encode_all, parse_all};
+use csicodec::{CSI, Device, XtSmGraphics, XtSmGraphicsItem, encode_all, parse_all};
 use std::test::Fail;
 
 static READ: [(&str, XtSmGraphicsItem, i64, &[i64], &str); 6] = [
@@ -59,10 +58,6 @@ fn graphics(rt: HostRuntime) -> Result<(), Fail> {
             action_or_status,
             value: value.to_vec(rt.alloc())?,
         };
-        assert!(rt;
-            matches!(XtSmGraphics::parse(rt.alloc(), &params), Ok(read) if read == graphics),
-            "{list:?}"
-        );
         let device = Device::XtSmGraphics(graphics);
         let actions = vec![in rt.alloc(); CSI::Device(Box::new(rt.alloc(), device)?)]?;
         assert!(rt;
@@ -80,31 +75,6 @@ fn graphics(rt: HostRuntime) -> Result<(), Fail> {
         &["?1;;", "?1", "?;1", "?", "?1;1:2", ">1;1", "1;1"],
         'S',
     )
-}
-
-/// A list by itself, whose first token may be any.
-#[test]
-fn graphics_by_themselves(rt: HostRuntime) -> Result<(), Fail> {
-    assert!(rt;
-        matches!(
-            XtSmGraphics::parse(rt.alloc(), &[]),
-            Err(ParseRefusal::NotSpelled)
-        )
-    );
-    assert!(rt;
-        matches!(
-            XtSmGraphics::parse(rt.alloc(), &[P(b'?')]),
-            Err(ParseRefusal::NotSpelled)
-        )
-    );
-    let graphics = XtSmGraphics {
-        item: XtSmGraphicsItem::NumberOfColorRegisters,
-        action_or_status: 2,
-        value: Vec::new(rt.alloc()),
-    };
-    let params = [Integer(7), Integer(1), P(b';'), Integer(2)];
-    assert!(rt; matches!(XtSmGraphics::parse(rt.alloc(), &params), Ok(read) if read == graphics));
-    Ok(())
 }
 
 /// Which values that are built by hand are read back.

@@ -1,7 +1,7 @@
 use Rattle.std.proofs.Common.{rules, ◌∙◌, sym, None}
 use Rattle.csicodec_names.specs.declared.codes.SgrCode.TheVariants.{ForegroundColor, BackgroundColor, UnderlineColor}
 use Rattle.csicodec_base.specs.Shapes.{Front, Back, Line}
-use Rattle.csicodec_base.proofs.CodePieces.{front_38, front_48, front_58, color_front, underline_front, one_token_front}
+use Rattle.csicodec_base.proofs.CodePieces.{front_38, front_48, front_58, color_front, underline_front}
 use Rattle.csicodec_base.proofs.pieces.code_front.Goals as goal
 
 pub returns-in-UnderlineOn : goal.returns-in-UnderlineOn
@@ -30,6 +30,3 @@ pub returns-in_err-color-in-UnderlineColor : goal.returns-in_err-color-in-Underl
 returns-in_err-color-in-UnderlineColor c =
     let e = color_front c.args.code UnderlineColor Line c.args.after.now None c.in-UnderlineColor.is (front_58 c.args.after.now) c.in_err-color-in-UnderlineColor.ensures in
     search (rules, e)
-
-pub returns-in_ok-attribute_of-in_default : goal.returns-in_ok-attribute_of-in_default
-returns-in_ok-attribute_of-in_default c = sym (one_token_front _ _ _ (sym c.in_ok-attribute_of-in_default.ensures))

@@ -8,7 +8,7 @@ use Rattle.csicodec_tokens.specs.declared.param.CsiParam.TheVariants.{Integer, P
 use Rattle.csicodec_names.specs.declared.codes.SgrCode.{SgrCode}
 use Rattle.csicodec_names.specs.Numbers.{number_of}
 use Rattle.csicodec_base.proofs.Table.{is_front, is_near, is_within}
-use Rattle.csicodec_base.proofs.CodePieces.{at_end, at_semicolon, at_other_byte, at_number, at_unknown_number}
+use Rattle.csicodec_base.proofs.CodePieces.{at_end, at_semicolon, at_other_byte, at_number, at_unknown_number, one_token_front}
 use Rattle.csicodec_base.proofs.pieces.sgr_front.Goals as goal
 
 pub returns-in-P-2 : goal.returns-in-P-2
@@ -17,20 +17,37 @@ returns-in-P-2 c =
     let e = sym (at_semicolon c.args.rest.now (Integer (pos 0)) (omega arith) first) in
     record { piece = is_front _ _ e; near = is_near _ _ e; within = is_within _ _ e }
 
-pub returns-in_ok-from_i64-in-Integer : goal.returns-in_ok-from_i64-in-Integer
-returns-in_ok-from_i64-in-Integer c =
+pub code_front-requires : goal.code_front-requires
+code_front-requires c =
     let fits : SFits w64 c.in-Integer.number = search rules in
-    let number : c.in-Integer.number ≡ pos (number_of c.in_ok-from_i64-in-Integer.field-0) =
-    sym (to_z-of_z w64 c.in-Integer.number fits) ∙ (c.in_ok-from_i64-in-Integer.ensures c.in_ok-from_i64-in-Integer.field-0).0 refl in
-    let first : get_or c.args.rest.now 0 (Integer (pos 0)) ≡ Integer (pos (number_of c.in_ok-from_i64-in-Integer.field-0)) = cc in
-    let e = c.code_front.ensures ∙ sym (at_number c.args.rest.now _ (Integer (pos 0)) (pos (number_of c.in_ok-from_i64-in-Integer.field-0)) (take_rest c.args.rest.now 1) (omega arith) first) in
+    let number : c.in-Integer.number ≡ pos (number_of c.in_ok-code-in-Integer.code) =
+    sym (to_z-of_z w64 c.in-Integer.number fits) ∙ (c.in_ok-code-in-Integer.ensures c.in_ok-code-in-Integer.code).0 refl in
+    sym (c.attribute_alone.ensures c.in_ok-code-in-Integer.code (to_z-of_z w64 c.in-Integer.number fits ∙ number)) ∙ c.in-None.is
+
+pub returns-in-Some : goal.returns-in-Some
+returns-in-Some c =
+    let fits : SFits w64 c.in-Integer.number = search rules in
+    let number : c.in-Integer.number ≡ pos (number_of c.in_ok-code-in-Integer.code) =
+    sym (to_z-of_z w64 c.in-Integer.number fits) ∙ (c.in_ok-code-in-Integer.ensures c.in_ok-code-in-Integer.code).0 refl in
+    let alone = sym (c.attribute_alone.ensures c.in_ok-code-in-Integer.code (to_z-of_z w64 c.in-Integer.number fits ∙ number)) ∙ c.in-Some.is in
+    let first : get_or c.args.rest.now 0 (Integer (pos 0)) ≡ Integer (pos (number_of c.in_ok-code-in-Integer.code)) = cc in
+    let e = sym (at_number c.args.rest.now _ (Integer (pos 0)) (pos (number_of c.in_ok-code-in-Integer.code)) (take_rest c.args.rest.now 1) (omega arith) first ∙ one_token_front _ _ _ alone) in
     record { piece = is_front _ _ e; near = is_near _ _ e; within = is_within _ _ e }
 
-pub returns-in_err-from_i64-in-Integer : goal.returns-in_err-from_i64-in-Integer
-returns-in_err-from_i64-in-Integer c =
+pub returns-in-None : goal.returns-in-None
+returns-in-None c =
+    let fits : SFits w64 c.in-Integer.number = search rules in
+    let number : c.in-Integer.number ≡ pos (number_of c.in_ok-code-in-Integer.code) =
+    sym (to_z-of_z w64 c.in-Integer.number fits) ∙ (c.in_ok-code-in-Integer.ensures c.in_ok-code-in-Integer.code).0 refl in
+    let first : get_or c.args.rest.now 0 (Integer (pos 0)) ≡ Integer (pos (number_of c.in_ok-code-in-Integer.code)) = cc in
+    let e = c.code_front.ensures ∙ sym (at_number c.args.rest.now _ (Integer (pos 0)) (pos (number_of c.in_ok-code-in-Integer.code)) (take_rest c.args.rest.now 1) (omega arith) first) in
+    record { piece = is_front _ _ e; near = is_near _ _ e; within = is_within _ _ e }
+
+pub returns-in_err-code-in-Integer : goal.returns-in_err-code-in-Integer
+returns-in_err-code-in-Integer c =
     let fits : SFits w64 c.in-Integer.number = search rules in
     let no_code : (code : SgrCode) → c.in-Integer.number ≢ pos (number_of code) = λ code h.
-    (let none = (c.in_err-from_i64-in-Integer.ensures code).1 (to_z-of_z w64 c.in-Integer.number fits ∙ h) in cc) in
+    (let none = (c.in_err-code-in-Integer.ensures code).1 (to_z-of_z w64 c.in-Integer.number fits ∙ h) in cc) in
     let e = c.from_residual.ensures ∙ sym (at_unknown_number c.args.rest.now (Integer (pos 0)) c.in-Integer.number (omega arith) (cc) no_code) in
     record { piece = is_front _ _ e; near = is_near _ _ e; within = is_within _ _ e }
 

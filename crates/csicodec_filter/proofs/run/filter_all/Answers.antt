@@ -6,6 +6,7 @@ use Rattle.csicodec_filter.proofs.run.filter_all.Goals as goal
 
 pub loop-init : goal.loop-init
 loop-init g c = rw c.new-filter.ensures (record {
+  known = c.new-known.ensures;
   limit = refl;
   same = λ bytes text h. h;
   passed = ([], [], search rules, passes_none (g.T.Rewrite.writes c.args.rewrite) c.args.limit, search rules);
@@ -26,8 +27,8 @@ returns-in_default-finish-clause-front g c =
     let (read, text, consumed, passed, appended) = c.loop.invariant.passed in
     sent_front (g.T.Rewrite.writes c.args.rewrite) c.args.limit c.loop.filter.mode read text c.loop.filter.bytes text [] _ _ _ _ consumed passed (sym (append-nil text)) appended
 
-pub returns-in_default-push-clause-front : goal.returns-in_default-push-clause-front
-returns-in_default-push-clause-front g c =
+pub returns-in_default-push_known-clause-front : goal.returns-in_default-push_known-clause-front
+returns-in_default-push_known-clause-front g c =
     let (read, text, consumed, passed, appended) = c.loop.invariant.passed in
     sent_front (g.T.Rewrite.writes c.args.rewrite) c.args.limit c.loop.filter.mode read text c.loop.filter.bytes text [] _ _ _ _ consumed passed (sym (append-nil text)) appended
 
@@ -61,28 +62,29 @@ returns-then-count-eq0-clause-front g c =
 pub returns-in_default-send-clause-front : goal.returns-in_default-send-clause-front
 returns-in_default-send-clause-front g c =
     let (read, text, consumed, passed, appended) = c.loop.invariant.passed in
-    let (more, made, out) = c.in-Ok-push.ensures.passes in
+    let (more, made, out) = c.in-Ok-push_known.ensures.passes in
     let chunk = take c.in-Ok.count c.receive.new.chunk in
     let (sent, unsent, parts, some) = c.in_default-send.ensures.front in
-    let now = one_more (g.T.Rewrite.writes c.args.rewrite) (g.T.Rewrite.writes c.loop.filter.rewrite) c.args.limit c.loop.filter.limit c.loop.filter.mode c.push.new.self.mode read chunk text more c.loop.filter.bytes c.push.new.self.bytes c.loop.invariant.limit c.loop.invariant.same passed made in
+    let now = one_more (g.T.Rewrite.writes c.args.rewrite) (g.T.Rewrite.writes c.loop.filter.rewrite) c.args.limit c.loop.filter.limit c.loop.filter.mode c.push_known.new.self.mode read chunk text more c.loop.filter.bytes c.push_known.new.self.bytes c.loop.invariant.limit c.loop.invariant.same passed made in
     let split : more ≡ sent ++ unsent = sym (ap (λ t. t ++ more) c.clear.ensures.items) ∙ sym out ∙ sym c.deref-in-loop.ensures.value ∙ parts in
-    more_front (g.T.Rewrite.writes c.args.rewrite) c.args.limit c.push.new.self.mode (read ++ chunk) text more c.push.new.self.bytes sent unsent _ _ _ _ _
+    more_front (g.T.Rewrite.writes c.args.rewrite) c.args.limit c.push_known.new.self.mode (read ++ chunk) text more c.push_known.new.self.bytes sent unsent _ _ _ _ _
     (Consumes-trans _ _ _ read chunk consumed c.in-Ok.ensures.read.0) now appended split some
 
 pub loop-preserved : goal.loop-preserved
 loop-preserved g c =
     let (read, text, consumed, passed, appended) = c.loop.invariant.passed in
-    let (more, made, out) = c.in-Ok-push.ensures.passes in
+    let (more, made, out) = c.in-Ok-push_known.ensures.passes in
     let chunk = take c.in-Ok.count c.receive.new.chunk in
     let whole = c.deref-in-loop.ensures.value ∙ out ∙ ap (λ t. t ++ more) c.clear.ensures.items in
     record {
-      limit = c.in-Ok-push.ensures.limit ∙ c.loop.invariant.limit;
-      same = λ bytes t h. c.loop.invariant.same bytes t (c.in-Ok-push.ensures.same bytes t h);
+      known = c.in-Ok-push_known.ensures.known;
+      limit = c.in-Ok-push_known.ensures.limit ∙ c.loop.invariant.limit;
+      same = λ bytes t h. c.loop.invariant.same bytes t (c.in-Ok-push_known.ensures.same bytes t h);
       passed = (
         read ++ chunk,
         text ++ more,
         Consumes-trans _ _ _ read chunk consumed c.in-Ok.ensures.read.0,
-        one_more (g.T.Rewrite.writes c.args.rewrite) (g.T.Rewrite.writes c.loop.filter.rewrite) c.args.limit c.loop.filter.limit c.loop.filter.mode c.push.new.self.mode read chunk text more c.loop.filter.bytes c.push.new.self.bytes c.loop.invariant.limit c.loop.invariant.same passed made,
+        one_more (g.T.Rewrite.writes c.args.rewrite) (g.T.Rewrite.writes c.loop.filter.rewrite) c.args.limit c.loop.filter.limit c.loop.filter.mode c.push_known.new.self.mode read chunk text more c.loop.filter.bytes c.push_known.new.self.bytes c.loop.invariant.limit c.loop.invariant.same passed made,
         Appends-trans _ _ _ text more appended (rw whole at c.in-Ok-send.ensures.ok),
       );
     }

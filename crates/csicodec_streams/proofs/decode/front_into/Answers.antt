@@ -7,18 +7,34 @@ use Rattle.csicodec_streams.proofs.decode.front_into.Goals as goal
 pub loop-alloc-init : goal.loop-alloc-init
 loop-alloc-init g c = ([], split_none c.args.bytes.now c.args.parameters_truncated, none_taken g.S.Sink.holds c.args.sink.now)
 
-pub loop-alloc-preserved : goal.loop-alloc-preserved
-loop-alloc-preserved g c =
+pub loop-alloc-preserved-in-Ok : goal.loop-alloc-preserved-in-Ok
+loop-alloc-preserved-in-Ok g c =
     let (told, split, held) = c.loop-alloc.invariant in
-    let tail = c.in-Ok.tail in
-    let (ys, are, put) = rw (c.new-tokens.ensures, c.deref.ensures.value) at c.in_ok-list_into-in-Ok.ensures.taken in (
+    let read = c.in-Ok.read in
+    let (ys, are, put) = rw (c.new-tokens.ensures, c.split_at.ensures.front) at c.in_ok-list_into.ensures.taken in (
       told ++ ys,
-      split_more c.args.bytes.now c.loop-alloc.rest.now tail.rest.now c.args.parameters_truncated told ys _ tail.control split c.in-Ok.ensures.found are,
+      split_more c.args.bytes.now c.loop-alloc.rest.now read.rest.now c.args.parameters_truncated told ys _ read.control split c.in-Ok.ensures.found are,
       λ before h. rw (← append_assoc) (put (before ++ told) (held before h)),
     )
 
-pub returns-in_err-list_into-in-Ok-clause-err : goal.returns-in_err-list_into-in-Ok-clause-err
-returns-in_err-list_into-in-Ok-clause-err g c =
+pub loop-alloc-preserved : goal.loop-alloc-preserved
+loop-alloc-preserved g c =
     let (told, split, held) = c.loop-alloc.invariant in
-    let tail = c.in-Ok.tail in
-    errs c.from_residual.result (begins c.args.bytes.now c.loop-alloc.rest.now c.args.parameters_truncated told split _ tail.control tail.rest.now c.in-Ok.ensures.found)
+    let tail = c.in-Ok-read_csi_into.tail in
+    let (ys, are, put) = rw c.deref.ensures.value at c.in_ok-long_into-in-Ok-read_csi_into.ensures in (
+      told ++ ys,
+      split_more c.args.bytes.now c.loop-alloc.rest.now tail.rest.now c.args.parameters_truncated told ys _ tail.control split c.in-Ok-read_csi_into.ensures.found are,
+      λ before h. rw (← append_assoc) (put (before ++ told) (held before h)),
+    )
+
+pub returns-in_err-list_into-clause-err : goal.returns-in_err-list_into-clause-err
+returns-in_err-list_into-clause-err g c =
+    let (told, split, held) = c.loop-alloc.invariant in
+    let read = c.in-Ok.read in
+    errs c.from_residual.result (begins c.args.bytes.now c.loop-alloc.rest.now c.args.parameters_truncated told split _ read.control read.rest.now c.in-Ok.ensures.found)
+
+pub returns-in_err-long_into-in-Ok-read_csi_into-clause-err : goal.returns-in_err-long_into-in-Ok-read_csi_into-clause-err
+returns-in_err-long_into-in-Ok-read_csi_into-clause-err g c =
+    let (told, split, held) = c.loop-alloc.invariant in
+    let tail = c.in-Ok-read_csi_into.tail in
+    errs c.from_residual-in_err-long_into-in-Ok-read_csi_into.result (begins c.args.bytes.now c.loop-alloc.rest.now c.args.parameters_truncated told split _ tail.control tail.rest.now c.in-Ok-read_csi_into.ensures.found)

@@ -1,6 +1,14 @@
+use Rattle.std.proofs.Common.{◌++◌, take, arith}
+use Rattle.std.proofs.lemmas.List.{length-append}
 use Rattle.std.proofs.KnownBytes.{Consumes-trans}
 use Rattle.csicodec_streams.proofs.io.read_out.Goals as goal
 
-pub loop-preserved : goal.loop-preserved
-loop-preserved g c =
-    let (bytes, consumed) = c.loop.invariant in (_, Consumes-trans _ _ _ bytes _ consumed c.in-Ok.ensures.bytes.0)
+pub loop-read-preserved : goal.loop-read-preserved
+loop-read-preserved g c =
+    let (bytes, consumed, counted) = c.loop-read.invariant in
+    let buf = c.read.new.buf in
+    let n = c.in-Ok.count in (
+      bytes ++ take n buf,
+      Consumes-trans _ _ _ bytes _ consumed c.in-Ok.ensures.bytes.0,
+      omega (arith, counted, length-append bytes (take n buf), c.in-Ok.ensures.bound.1),
+    )

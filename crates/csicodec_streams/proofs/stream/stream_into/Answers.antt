@@ -5,47 +5,47 @@ use Rattle.csicodec_streams.proofs.Splits.{refuses_at}
 use Rattle.csicodec_streams.proofs.Streamed.{front_all, front_on, front_read, kept_behind, length_read, refused_end, split_of, stays_refused, whole_given}
 use Rattle.csicodec_streams.proofs.stream.stream_into.Goals as goal
 
-pub loop-init : goal.loop-init
-loop-init g c =
+pub chunks-init : goal.chunks-init
+chunks-init g c =
     ([], [], Consumes-nil (g.R.Read.remaining c.args.input.now), ([], append-nil c.args.read.items, record { sequences = []; join = refl; each = refl }), c.requires, omega (arith, ap length (append-nil c.args.read.items)), c.new-memo.ensures)
 
-pub loop-preserved-then-len-enough : goal.loop-preserved-then-len-enough
-loop-preserved-then-len-enough g c =
-    let (more, xs, consumed, front, out, len, known) = c.loop.invariant in
+pub chunks-preserved-then-len-enough : goal.chunks-preserved-then-len-enough
+chunks-preserved-then-len-enough g c =
+    let (more, xs, consumed, front, out, len, known) = c.chunks.invariant in
     let (bytes, kept, count, now) = c.in_ok-count.ensures.grows in (
       more ++ bytes,
       xs,
       Consumes-trans _ _ _ more bytes consumed now,
-      front_read c.args.read.items more c.loop.held.items bytes c.read_some.new.kept.items xs front kept,
+      front_read c.args.read.items more c.chunks.held.items bytes c.read_some.new.kept.items xs front kept,
       out,
-      length_read c.args.read.items more c.loop.held.items bytes c.read_some.new.kept.items c.loop.start len kept,
+      length_read c.args.read.items more c.chunks.held.items bytes c.read_some.new.kept.items c.chunks.start len kept,
       known,
     )
 
 pub returns-in-None-clause-ok : goal.returns-in-None-clause-ok
 returns-in-None-clause-ok g c = λ given whole.
-    let (more, xs, consumed, front, out, len, known) = c.loop.invariant in
+    let (more, xs, consumed, front, out, len, known) = c.chunks.invariant in
     let (bytes, kept, count, now) = c.in_ok-count.ensures.grows in
     let (ys, part, put) = c.in-Ok.ensures.front in
     let read = c.args.read.items in
     let held = c.read_some.new.kept.items in
     let rest = c.in-Ok.behind.rest.now in
-    let all = front_on (read ++ (more ++ bytes)) held false rest xs ys (front_read read more c.loop.held.items bytes held xs front kept) (rw c.deref.ensures.value at part) in
+    let all = front_on (read ++ (more ++ bytes)) held false rest xs ys (front_read read more c.chunks.held.items bytes held xs front kept) (rw c.deref.ensures.value at part) in
     let none : rest ≡ [] = rw c.in-None.is at c.in-Ok.ensures.behind in
     whole_given given _ (read ++ (more ++ bytes)) (xs ++ ys) _ (Consumes-trans _ _ _ read (more ++ bytes) whole (Consumes-trans _ _ _ more bytes consumed now)) (c.in_ok-count.ensures.end c.if-count-eq0.true)
     (front_all (read ++ (more ++ bytes)) false rest (xs ++ ys) all none) (put xs out)
 
 pub returns-in-Some-error-clause-refused : goal.returns-in-Some-error-clause-refused
 returns-in-Some-error-clause-refused g c = λ given whole.
-    let (more, xs, consumed, front, out, len, known) = c.loop.invariant in
+    let (more, xs, consumed, front, out, len, known) = c.chunks.invariant in
     let (bytes, kept, count, now) = c.in_ok-count.ensures.grows in
     let (ys, part, put) = c.in-Ok.ensures.front in
     let read = c.args.read.items in
     let held = c.read_some.new.kept.items in
     let rest = c.in-Ok.behind.rest.now in
-    let all = front_on (read ++ (more ++ bytes)) held false rest xs ys (front_read read more c.loop.held.items bytes held xs front kept) (rw c.deref.ensures.value at part) in
+    let all = front_on (read ++ (more ++ bytes)) held false rest xs ys (front_read read more c.chunks.held.items bytes held xs front kept) (rw c.deref.ensures.value at part) in
     let stop = rw c.in-Some-error.is at c.in-Ok.ensures.behind in
-    let longer = length_read read more c.loop.held.items bytes held c.loop.start len kept in
+    let longer = length_read read more c.chunks.held.items bytes held c.chunks.start len kept in
     let place : c.in-Some.place ≡ length (read ++ (more ++ bytes)) - length rest = omega (arith, longer, c.in-Some.ensures, c.deref.ensures.len, ap length c.deref.ensures.value, c.in-Ok.ensures.within) in
     rw (c.from.ensures, c.refusal_at.ensures, place)
     (refused_end given _ (read ++ (more ++ bytes)) _ (Consumes-trans _ _ _ read (more ++ bytes) whole (Consumes-trans _ _ _ more bytes consumed now)) (c.in_ok-count.ensures.end c.if-count-eq0-2.true)
@@ -53,30 +53,30 @@ returns-in-Some-error-clause-refused g c = λ given whole.
 
 pub returns-in-Some-2-clause-refused : goal.returns-in-Some-2-clause-refused
 returns-in-Some-2-clause-refused g c = λ given whole.
-    let (more, xs, consumed, front, out, len, known) = c.loop.invariant in
+    let (more, xs, consumed, front, out, len, known) = c.chunks.invariant in
     let (bytes, kept, count, now) = c.in_ok-count.ensures.grows in
     let (ys, part, put) = c.in-Ok.ensures.front in
     let read = c.args.read.items in
     let held = c.read_some.new.kept.items in
     let rest = c.in-Ok.behind.rest.now in
-    let all = front_on (read ++ (more ++ bytes)) held false rest xs ys (front_read read more c.loop.held.items bytes held xs front kept) (rw c.deref.ensures.value at part) in
+    let all = front_on (read ++ (more ++ bytes)) held false rest xs ys (front_read read more c.chunks.held.items bytes held xs front kept) (rw c.deref.ensures.value at part) in
     let stop = rw c.in-Some-2.is at c.in-Ok.ensures.behind in
-    let longer = length_read read more c.loop.held.items bytes held c.loop.start len kept in
+    let longer = length_read read more c.chunks.held.items bytes held c.chunks.start len kept in
     let place : c.in-Some.place ≡ length (read ++ (more ++ bytes)) - length rest = omega (arith, longer, c.in-Some.ensures, c.deref.ensures.len, ap length c.deref.ensures.value, c.in-Ok.ensures.within) in
     c.refused.ensures.refused given (read ++ (more ++ bytes)) (Consumes-trans _ _ _ read (more ++ bytes) whole (Consumes-trans _ _ _ more bytes consumed now))
     (λ after. rw (c.refusal_at-in-Some-2.ensures, place) (stays_refused (read ++ (more ++ bytes)) rest after false (xs ++ ys) stop.1.0 c.in-Some-2.error all stop.0 stop.1.1 (sym c.stays.ensures ∙ c.if-stays.true)))
 
-pub loop-preserved : goal.loop-preserved
-loop-preserved g c =
-    let (more, xs, consumed, front, out, len, known) = c.loop.invariant in
+pub chunks-preserved : goal.chunks-preserved
+chunks-preserved g c =
+    let (more, xs, consumed, front, out, len, known) = c.chunks.invariant in
     let (bytes, kept, count, now) = c.in_ok-count.ensures.grows in
     let (ys, part, put) = c.in-Ok.ensures.front in
     let read = c.args.read.items in
     let held = c.read_some.new.kept.items in
     let rest = c.in-Ok.behind.rest.now in
     let mine : DecodesFront held false rest ys = rw c.deref.ensures.value at part in
-    let all = front_on (read ++ (more ++ bytes)) held false rest xs ys (front_read read more c.loop.held.items bytes held xs front kept) mine in
-    let longer = length_read read more c.loop.held.items bytes held c.loop.start len kept in
+    let all = front_on (read ++ (more ++ bytes)) held false rest xs ys (front_read read more c.chunks.held.items bytes held xs front kept) mine in
+    let longer = length_read read more c.chunks.held.items bytes held c.chunks.start len kept in
     let left : c.keep_from.new.bytes.items ≡ rest = c.keep_from.ensures ∙ kept_behind _ held rest ys mine (omega (arith, c.deref.ensures.len, ap length c.deref.ensures.value)) in (
       more ++ bytes,
       xs ++ ys,
@@ -89,10 +89,10 @@ loop-preserved g c =
 
 pub texts_into-requires-clause-known : goal.texts_into-requires-clause-known
 texts_into-requires-clause-known g c =
-    let (more, xs, consumed, front, out, len, known) = c.loop.invariant in
+    let (more, xs, consumed, front, out, len, known) = c.chunks.invariant in
     known
 
 pub texts_into-requires-clause-texts : goal.texts_into-requires-clause-texts
 texts_into-requires-clause-texts g c =
-    let (more, xs, consumed, front, out, len, known) = c.loop.invariant in
+    let (more, xs, consumed, front, out, len, known) = c.chunks.invariant in
     (xs, out)

@@ -1,6 +1,6 @@
 use Rattle.std.proofs.Common.{◌≡◌, ℕ, false, [], ◌++◌, List, length, refl, sym, ap, subst, ◌∙◌, append_assoc, append-nil, arith}
 use Rattle.csicodec_actions.specs.Table.{texts}
-use Rattle.csicodec_streams.proofs.Known.{read_known, slice_from, split_known, split_none_known, texts_behind, texts_longer, texts_more}
+use Rattle.csicodec_streams.proofs.Known.{read_known, read_one, slice_from, split_known, split_none_known, texts_behind, texts_longer, texts_more}
 use Rattle.csicodec_streams.proofs.Splits.{IsSplit, split_none, split_more, begins}
 use Rattle.csicodec_streams.proofs.Streamed.{errs, front_of}
 use Rattle.csicodec_streams.proofs.stream.texts_into.Goals as goal
@@ -18,7 +18,7 @@ loop-alloc-preserved-then-known-gt0 c =
       told ++ ys,
       subst (λ (l : List ℕ). IsSplit bytes false l (told ++ ys)) (sym (slice_from len rest)) (split_known bytes rest len told ys split decodes),
       λ before h. texts_more before told ys _ _ text (held before h) out is,
-      known,
+      c.recall-known.ensures.known,
     )
 
 pub returns-in_err-list_into-in-Ok-clause-err : goal.returns-in_err-list_into-in-Ok-clause-err
@@ -52,6 +52,11 @@ keep-requires-clause-normal c =
       read_known c.loop-alloc.rest.now tail.rest.now _ tail.control ys _ c.in-Ok.ensures.found are refl,
       c.split_at.ensures.back ∙ texts_behind xs ys old new (length old) (c.as_slice-before.ensures ∙ mid) (c.as_slice.ensures ∙ put xs mid) refl,
     )
+
+pub keep-requires-clause-one : goal.keep-requires-clause-one
+keep-requires-clause-one c =
+    let tail = c.in-Ok.tail in
+    read_one c.loop-alloc.rest.now tail.rest.now _ tail.control _ c.in-Ok.ensures.found refl
 
 pub loop-alloc-preserved : goal.loop-alloc-preserved
 loop-alloc-preserved c =

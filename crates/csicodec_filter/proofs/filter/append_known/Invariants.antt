@@ -1,16 +1,18 @@
 use Rattle.std.proofs.Common.{◌≡◌, ℕ, List, ◌++◌, length}
 use Rattle.csicodec_spans.specs.Parts.{Part, AreFirstParts}
+use Rattle.csicodec_streams.specs.Known.{AreKnown}
 use Rattle.csicodec_filter.specs.Filter.{AreWritten}
-use Rattle.csicodec_filter.proofs.filter.append_spans.Given as goal
+use Rattle.csicodec_filter.proofs.filter.append_known.Given as goal
 
 -- some parts were cut, and their texts appended
-abbrev pub invariant-loop-read : goal.invariant-loop-read
-invariant-loop-read g l = record {
+abbrev pub invariant-loop-len : goal.invariant-loop-len
+invariant-loop-len g l = record {
   cut : (before : List ℕ) × (l.bytes ≡ before ++ l.rest);
   passed : (parts : List Part) × (text : List ℕ) × AreFirstParts l.limit l.fn.mode l.bytes parts l.rest l.mode
       × AreWritten (g.T.Rewrite.writes l.initial.rewrite) parts text × (l.out.items ≡ l.initial.out.items ++ text);
   same : (bytes text : List ℕ) → g.T.Rewrite.writes l.rewrite bytes text → g.T.Rewrite.writes l.initial.rewrite bytes text;
+  known : AreKnown l.known.memo.slots.items;
 }
 
-abbrev pub decreases-loop-read : goal.decreases-loop-read
-decreases-loop-read g l = length l.rest
+abbrev pub decreases-loop-len : goal.decreases-loop-len
+decreases-loop-len g l = length l.rest

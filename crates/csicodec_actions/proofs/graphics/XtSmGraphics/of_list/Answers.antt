@@ -1,6 +1,6 @@
 use Rattle.std.proofs.Common.{◌∙◌, rules, sym}
 use Rattle.csicodec_actions.proofs.GraphicsBehind.{found_graphics, list_read, list_refused, refused_graphics}
-use Rattle.csicodec_actions.proofs.graphics.XtSmGraphics.parse.Goals as goal
+use Rattle.csicodec_actions.proofs.graphics.XtSmGraphics.of_list.Goals as goal
 
 pub returns-in_err-fields-clause-refused : goal.returns-in_err-fields-clause-refused
 returns-in_err-fields-clause-refused c = search (rules, list_refused)

@@ -1,5 +1,5 @@
 use Rattle.csicodec_filter.proofs.Filtered.{short}
-use Rattle.csicodec_filter.proofs.filter.Filter.push.Goals as goal
+use Rattle.csicodec_filter.proofs.filter.Filter.push_known.Goals as goal
 
 pub returns-clause-short : goal.returns-clause-short
 returns-clause-short g c =

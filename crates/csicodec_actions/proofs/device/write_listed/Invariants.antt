@@ -1,7 +1,7 @@
 use Rattle.std.proofs.Common.{take}
 use Rattle.std.specs.Fmt.{HasWritten, IsPlainFormatter}
 use Rattle.csicodec_actions.specs.Private.DeviceTexts.{listed_text}
-use Rattle.csicodec_actions.proofs.print.device.write_listed.Given as goal
+use Rattle.csicodec_actions.proofs.device.write_listed.Given as goal
 
 abbrev pub invariant-loop-item : goal.invariant-loop-item
 invariant-loop-item g l =

@@ -1,0 +1,37 @@
+use Rattle.std.proofs.Common.{◌≡◌, ◌<◌, ◌∷◌, [], length, take, subst, arith}
+use Rattle.std.proofs.lemmas.List.{length-append, length-set, length-take-le, take_more_set}
+use Rattle.std.proofs.lemmas.Result.{err_from_is_err_and}
+use Rattle.csicodec_tokens.specs.Private.Reading.{IsPart}
+use Rattle.csicodec_tokens.proofs.Tokens.{others_shorter}
+use Rattle.csicodec_tokens.proofs.Reading.{read_more, read_all, fault_refuses}
+use Rattle.csicodec_tokens.proofs.reader.last_within.Goals as goal
+
+pub loop-token-init : goal.loop-token-init
+loop-token-init c = record { within = c.requires.within; fits = c.requires.fits; read = c.requires.read }
+
+pub returns-in_err-token-clause-refused : goal.returns-in_err-token-clause-refused
+returns-in_err-token-clause-refused c =
+    let p = err_from_is_err_and c.from_residual.result c.from_residual.ensures.1 in
+    rw (p.1, p.2) (fault_refuses _ _ _ (c.in_err-token.ensures.fault _ c.loop-token.invariant.read))
+
+pub returns-then-count-room-clause-refused : goal.returns-then-count-room-clause-refused
+returns-then-count-room-clause-refused c =
+    let first = subst (IsPart c.loop-token.rest.now) c.in-Token.is c.in_ok-token.ensures.part in
+    let front = take c.loop-token.count c.loop-token.room in
+    let long : length front ≡ c.loop-token.count = length-take-le c.loop-token.count c.loop-token.room c.loop-token.invariant.fits in
+    c.refusal.ensures _ _ (read_more _ _ _ _ _ c.loop-token.invariant.read first) (omega (arith, long, c.if-count-room.true, length-append front (c.in-Token.token ∷ [])))
+
+pub loop-token-preserved : goal.loop-token-preserved
+loop-token-preserved c =
+    let first = subst (IsPart c.loop-token.rest.now) c.in-Token.is c.in_ok-token.ensures.part in
+    let low : c.loop-token.count < length c.loop-token.room = omega (arith, c.if-count-room.false, c.loop-token.invariant.fits) in
+    record {
+      within = omega (arith, c.loop-token.invariant.within, others_shorter _ _ _ first);
+      fits = omega (arith, low, length-set c.loop-token.room c.loop-token.count c.in-Token.token);
+      read = rw (take_more_set c.loop-token.room c.loop-token.count c.in-Token.token low) (read_more _ _ _ _ _ c.loop-token.invariant.read first);
+    }
+
+pub returns-in-Final-clause-found : goal.returns-in-Final-clause-found
+returns-in-Final-clause-found c =
+    let last = subst (IsPart c.loop-token.rest.now) c.in-Final.is c.in_ok-token.ensures.part in
+    rw c.from.ensures (read_all _ _ _ _ _ c.loop-token.invariant.read last.0 last.1)

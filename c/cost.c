@@ -20,9 +20,22 @@ static size_t all_next(const uint8_t *bytes, size_t len, int encodes) {
     return done;
 }
 
+/* The events of a stream in turn, in pieces of 4,096 bytes. */
+static size_t all_events(const uint8_t *bytes, size_t len) {
+    struct csicodec_stream stream = csicodec_stream_of(4096, actions, 1 << 10, params, 1 << 10);
+    struct csicodec_event event;
+    size_t at = 0, end = 0, done = 0;
+    while (end < len) {
+        end = len - end > 4096 ? end + 4096 : len;
+        for (; csicodec_next_event(&stream, bytes + at, end - at, &event); at += event.used) done++;
+    }
+    return done;
+}
+
 static size_t run(const char *call, const uint8_t *bytes, size_t len) {
     if (!strcmp(call, "next")) return all_next(bytes, len, 0);
     if (!strcmp(call, "encode")) return all_next(bytes, len, 1);
+    if (!strcmp(call, "events")) return all_events(bytes, len);
     if (!strcmp(call, "normalise")) return csicodec_normalise(bytes, len, out, sizeof out).needed;
     return csicodec_next((const uint8_t *)"x", 1, actions, 1, params, 1).at;
 }

@@ -4,11 +4,11 @@
  * more actions; each action has a text, which is a control sequence of its own, its normal form.
  *
  * Every call keeps nothing: what it reads is read during the call, and what it answers is put into room that the caller
- * lends, so there is nothing to free. Room may have a length of 0. No pointer may be null, not even with a length of 0, and
- * what a call writes to may not overlap what it reads. Calls share nothing, so any threads may make them; no call may be
+ * lends, so there is nothing to free. Room may have a length of 0, and then its pointer may be null. What a call writes to may
+ * not overlap what it reads. Calls share nothing, so any threads may make them; no call may be
  * made from a signal handler. Memory is taken with malloc and given back before the call returns.
  *
- * Link with libcsicodec_c.a and liblibc_c.a: cc -I include main.c libcsicodec_c.a liblibc_c.a */
+ * Link with -lcsicodec, as `pkg-config --cflags --libs csicodec` says. */
 #ifndef CSICODEC_H
 #define CSICODEC_H
 
@@ -16,6 +16,11 @@
 #include <stdint.h>
 
 #include "csicodec_kinds.h"
+#include "csicodec_names.h"
+
+/* The version of this header. csicodec_version() answers the library's, which is to be the same number. */
+#define CSICODEC_VERSION "0.9.0"
+#define CSICODEC_VERSION_NUMBER 900
 
 #ifdef __cplusplus
 extern "C" {
@@ -212,6 +217,58 @@ struct csicodec_filtered {
 struct csicodec_filtered csicodec_filter(uint32_t mode, size_t limit, const uint8_t *bytes, size_t len, uint8_t *out,
                                          size_t room);
 
+enum csicodec_span_kind {
+    /* Characters, and controls of C0 but ESC, and DEL. */
+    CSICODEC_SPAN_TEXT = 0,
+    /* One whole control sequence. */
+    CSICODEC_SPAN_CSI = 1,
+    /* One whole escape sequence: ESC, at most one intermediate byte (20 to 2f), and a final byte (30 to 7e). */
+    CSICODEC_SPAN_ESC = 2,
+    /* A control string (ECMA-48, 5.6), or as much of it as there is: OSC, DCS, SOS, PM or APC, with what closes it. */
+    CSICODEC_SPAN_STRING = 3,
+    /* A control that went wrong, or as much of it as there is. A terminal may carry it out all the same. */
+    CSICODEC_SPAN_OTHER = 4
+};
+
+struct csicodec_spanned {
+    /* CSICODEC_OK, CSICODEC_TRUNCATED or CSICODEC_BAD_STATE. */
+    uint32_t status;
+    /* Of CSICODEC_OK, enum csicodec_span_kind. */
+    uint32_t kind;
+    /* Of CSICODEC_OK, enum csicodec_filter_mode: the mode behind the span. */
+    uint32_t mode;
+    /* Of CSICODEC_OK, how many bytes the span has: 1 or more. */
+    size_t used;
+};
+
+/* The span at the front of len bytes of a stream, in the mode that the bytes before them leave open: one text, one control or
+ * one string, as long as it can be. A control sequence of more than limit bytes is CSICODEC_SPAN_OTHER. CSICODEC_TRUNCATED says
+ * that it depends on what follows: there are fewer bytes than limit, or than 3, and they come again with more behind them.
+ * Text and strings end where the bytes do, and may go on in the next ones. It takes no memory. */
+struct csicodec_spanned csicodec_span(uint32_t mode, size_t limit, const uint8_t *bytes, size_t len);
+
+/* enum csicodec_esc_code: the code of an escape sequence by its intermediate byte, or 0 for none, and its final byte; 0 where no
+ * code is written so. */
+uint32_t csicodec_esc(uint8_t intermediate, uint8_t final_byte);
+
+/* The version of the library: CSICODEC_VERSION_NUMBER of its own header. */
+uint32_t csicodec_version(void);
+
+/* What a status says, in a few words; NULL of a number that is none. */
+static inline const char *csicodec_status_text(uint32_t status) {
+    switch (status) {
+    case CSICODEC_OK: return "done";
+    case CSICODEC_NOT_CSI: return "not a sequence";
+    case CSICODEC_BAD_BYTE: return "bad byte";
+    case CSICODEC_NUMBER_TOO_LARGE: return "number too large";
+    case CSICODEC_TRUNCATED: return "truncated";
+    case CSICODEC_MEMORY: return "no memory";
+    case CSICODEC_NO_ACTION: return "no action";
+    case CSICODEC_BAD_STATE: return "bad state";
+    default: return NULL;
+    }
+}
+
 /* The sizes are those of the library. */
 #if defined(__cplusplus) && __cplusplus >= 201103L
 static_assert(sizeof(struct csicodec_action) == 64, "csicodec_action has 64 bytes");
@@ -220,6 +277,8 @@ static_assert(sizeof(struct csicodec_param) == 16, "csicodec_param has 16 bytes"
 typedef char csicodec_action_has_64_bytes[sizeof(struct csicodec_action) == 64 ? 1 : -1];
 typedef char csicodec_param_has_16_bytes[sizeof(struct csicodec_param) == 16 ? 1 : -1];
 #endif
+
+#include "csicodec_stream.h"
 
 #ifdef __cplusplus
 }

@@ -113,11 +113,11 @@ enum csicodec_kind {
     CSICODEC_EDIT_ERASE_IN_DISPLAY = 209,
     /* EL (ECMA-48, 8.3.41): blanks a part of the cursor's line. (first: enum csicodec_erase_in_line) */
     CSICODEC_EDIT_ERASE_IN_LINE = 210,
-    /* DECSET (DEC VT510, xterm): the private mode is set. (first: the number of the mode, 0 to 65535, such as one of enum
-     * csicodec_dec_private_mode_code) */
+    /* DECSET (xterm's name; SM in DEC VT510): the private mode is set. (first: the number of the mode, 0 to 65535, such as one
+     * of enum csicodec_dec_private_mode_code) */
     CSICODEC_MODE_SET_DEC_PRIVATE_MODE = 301,
-    /* DECRST (DEC VT510, xterm): the private mode is reset. (first: the number of the mode, 0 to 65535, such as one of enum
-     * csicodec_dec_private_mode_code) */
+    /* DECRST (xterm's name; RM in DEC VT510): the private mode is reset. (first: the number of the mode, 0 to 65535, such as
+     * one of enum csicodec_dec_private_mode_code) */
     CSICODEC_MODE_RESET_DEC_PRIVATE_MODE = 302,
     /* XTSAVE (xterm): whether the private mode is set is kept aside. (first: the number of the mode, 0 to 65535, such as one of
      * enum csicodec_dec_private_mode_code) */
@@ -125,8 +125,8 @@ enum csicodec_kind {
     /* XTRESTORE (xterm): the private mode becomes what was kept aside. (first: the number of the mode, 0 to 65535, such as one
      * of enum csicodec_dec_private_mode_code) */
     CSICODEC_MODE_RESTORE_DEC_PRIVATE_MODE = 304,
-    /* DECRQM (DEC VT510): asks whether the private mode is set. (first: the number of the mode, 0 to 65535, such as one of enum
-     * csicodec_dec_private_mode_code) */
+    /* DECRQM (DEC VT300 and up): asks whether the private mode is set. (first: the number of the mode, 0 to 65535, such as one
+     * of enum csicodec_dec_private_mode_code) */
     CSICODEC_MODE_QUERY_DEC_PRIVATE_MODE = 305,
     /* SM (ECMA-48, 8.3.125): the mode is set. (first: the number of the mode, 0 to 65535, such as one of enum
      * csicodec_terminal_mode_code) */
@@ -134,7 +134,7 @@ enum csicodec_kind {
     /* RM (ECMA-48, 8.3.106): the mode is reset. (first: the number of the mode, 0 to 65535, such as one of enum
      * csicodec_terminal_mode_code) */
     CSICODEC_MODE_RESET_MODE = 307,
-    /* DECRQM (DEC VT510): asks whether the mode is set. (first: the number of the mode, 0 to 65535, such as one of enum
+    /* DECRQM (DEC VT300 and up): asks whether the mode is set. (first: the number of the mode, 0 to 65535, such as one of enum
      * csicodec_terminal_mode_code) */
     CSICODEC_MODE_QUERY_MODE = 308,
     /* XTMODKEYS (xterm): how modifiers are told with these keys. (first: enum csicodec_xterm_key_modifier_resource; second: the
@@ -162,9 +162,10 @@ enum csicodec_kind {
     CSICODEC_DEVICE_REQUEST_TERTIARY_DEVICE_ATTRIBUTES = 410,
     /* XTVERSION (xterm): its name and version. */
     CSICODEC_DEVICE_REQUEST_TERMINAL_NAME_AND_VERSION = 411,
-    /* DECREQTPARM (DEC VT100): a report of the line's parameters. With 0 the terminal may also report unasked, with 1 only when
-     * asked. It is written as the report, DECREPTPARM, whose first number is this one and 2: no parity, 8 bits, 128 (38400
-     * baud) for sending and receiving, a clock multiplier of 1, and no switches. So it isn't read back. (first: the number) */
+    /* DECREQTPARM (DEC VT100): asks for the parameters of the serial line. With 0 the terminal may also report unasked, with 1
+     * only when asked. It is written as the report, DECREPTPARM, whose first number is this one and 2: no parity, 8 bits, 128
+     * for sending and receiving (38400 baud in xterm; DEC's table ends at 120), 1 for a clock multiplier of 16, and no
+     * switches. So it isn't read back. (first: the number) */
     CSICODEC_DEVICE_REQUEST_TERMINAL_PARAMETERS = 412,
     /* DSR 5 (ECMA-48, 8.3.35): its state. */
     CSICODEC_DEVICE_STATUS_REPORT = 413,
@@ -182,7 +183,8 @@ enum csicodec_kind {
     CSICODEC_WINDOW_ICONIFY = 602,
     /* 3: it is moved; a place that a sequence leaves out is 0. (first: x; second: y) */
     CSICODEC_WINDOW_MOVE_WINDOW = 603,
-    /* 4: the text area gets this size, in pixels. (first: width; second: height; either may be absent) */
+    /* 4: the window gets this size, in pixels; 0 is that of the display (xterm). (first: width; second: height; either may be
+     * absent) */
     CSICODEC_WINDOW_RESIZE_WINDOW_PIXELS = 604,
     /* 5: it is put in front of the others. */
     CSICODEC_WINDOW_RAISE_WINDOW = 605,
@@ -208,24 +210,27 @@ enum csicodec_kind {
     CSICODEC_WINDOW_CHANGE_TO_FULL_SCREEN_MODE = 615,
     /* 10 and 2: full screen begins or ends. */
     CSICODEC_WINDOW_TOGGLE_FULL_SCREEN = 616,
-    /* 11: asks whether the window is open or an icon; the answer is CSI 1 t or CSI 2 t. */
+    /* 11: asks whether the window is open or an icon; the answer is CSI 1 t or CSI 2 t, which are read back as DeIconify and
+     * Iconify. */
     CSICODEC_WINDOW_REPORT_WINDOW_STATE = 617,
-    /* 13: asks for the window's place; the answer is CSI 3 ; x ; y t, in pixels. */
+    /* 13: asks for the window's place; the answer is CSI 3 ; x ; y t, in pixels, which is read back as MoveWindow. */
     CSICODEC_WINDOW_REPORT_WINDOW_POSITION = 618,
-    /* 13 and 2: asks for the place of the text area; the answer is CSI 3 ; x ; y t, in pixels. */
+    /* 13 and 2: asks for the place of the text area; the answer is the same. */
     CSICODEC_WINDOW_REPORT_TEXT_AREA_POSITION = 619,
-    /* 14: asks for the size of the text area; the answer is CSI 4 ; height ; width t, in pixels. */
+    /* 14: asks for the size of the text area; the answer is CSI 4 ; height ; width t, in pixels, which is read back as
+     * ResizeWindowPixels. */
     CSICODEC_WINDOW_REPORT_TEXT_AREA_SIZE_PIXELS = 620,
-    /* 14 and 2: asks for the size of the window; the answer is CSI 4 ; height ; width t, in pixels. */
+    /* 14 and 2: asks for the size of the window; the answer is the same. */
     CSICODEC_WINDOW_REPORT_WINDOW_SIZE_PIXELS = 621,
     /* 15: asks for the size of the screen; the answer is CSI 5 ; height ; width t, in pixels, which is read back as
      * RaiseWindow. */
     CSICODEC_WINDOW_REPORT_SCREEN_SIZE_PIXELS = 622,
     /* 16: asks for the size of a cell; the answer is ReportCellSizePixelsResponse. */
     CSICODEC_WINDOW_REPORT_CELL_SIZE_PIXELS = 623,
-    /* 18: asks for the size of the text area; the answer is CSI 8 ; lines ; columns t. */
+    /* 18: asks for the size of the text area; the answer is CSI 8 ; lines ; columns t, which is read back as ResizeWindowCells. */
     CSICODEC_WINDOW_REPORT_TEXT_AREA_SIZE_CELLS = 624,
-    /* 19: asks for the size of the screen in cells; the answer is CSI 9 ; lines ; columns t. */
+    /* 19: asks for the size of the screen in cells; the answer is CSI 9 ; lines ; columns t, which is unknown but where the
+     * lines are 0 to 3. */
     CSICODEC_WINDOW_REPORT_SCREEN_SIZE_CELLS = 625,
     /* 20: asks for the icon's label; the answer is OSC L label ST. */
     CSICODEC_WINDOW_REPORT_ICON_LABEL = 626,
@@ -446,7 +451,7 @@ enum csicodec_dec_private_mode_code {
     CSICODEC_DEC_PRIVATE_MODE_BRACKETED_PASTE = 2004,
     /* What is drawn is shown when this is reset (contour). */
     CSICODEC_DEC_PRIVATE_MODE_SYNCHRONIZED_OUTPUT = 2026,
-    /* The cursor moves by clusters of graphemes (contour). */
+    /* How many cells a character takes goes by grapheme clusters (contour). */
     CSICODEC_DEC_PRIVATE_MODE_GRAPHEME_CLUSTERING = 2027,
     /* The escape key sends a sequence of its own (mintty). */
     CSICODEC_DEC_PRIVATE_MODE_MIN_TTY_APPLICATION_ESCAPE_KEY_MODE = 7727,
@@ -589,12 +594,106 @@ enum csicodec_kitty_keyboard_mode {
 
 /* SCP (ECMA-48, 8.3.111): the path of characters. */
 enum csicodec_character_path {
-    /* As the terminal has it. */
+    /* As the terminal has it: 0, or no number, of freedesktop's recommendation on bidirectional text; ECMA-48 has 1 and 2
+     * alone. */
     CSICODEC_CHARACTER_PATH_IMPLEMENTATION_DEFAULT = 0,
     /* From left to right, or from top to bottom. */
     CSICODEC_CHARACTER_PATH_LEFT_TO_RIGHT_OR_TOP_TO_BOTTOM = 1,
     /* From right to left, or from bottom to top. */
     CSICODEC_CHARACTER_PATH_RIGHT_TO_LEFT_OR_BOTTOM_TO_TOP = 2
+};
+
+/* The codes of escape sequences. A code's number is that of its last character, and 256 times that of the one before it, if
+ * any. */
+enum csicodec_esc_code {
+    /* ESC c, RIS (ECMA-48): puts the terminal into the state that it has when it is switched on. */
+    CSICODEC_ESC_FULL_RESET = 99,
+    /* ESC D, IND (DEC VT100): moves the cursor down one line in its column, and scrolls up at the bottom margin. A VT52 takes
+     * it as a move to the left. */
+    CSICODEC_ESC_INDEX = 68,
+    /* ESC E, NEL (ECMA-48): moves the cursor to the start of the next line, and scrolls up at the bottom margin. */
+    CSICODEC_ESC_NEXT_LINE = 69,
+    /* ESC F (xterm's ctlseqs): moves the cursor to the lower left corner, where the terminal is set to imitate HP's. ECMA-48
+     * has SSA here, the start of a selected area. */
+    CSICODEC_ESC_CURSOR_POSITION_LOWER_LEFT = 70,
+    /* ESC H, HTS (ECMA-48): sets a tab stop in the cursor's column. */
+    CSICODEC_ESC_HORIZONTAL_TAB_SET = 72,
+    /* ESC M, RI (ECMA-48): moves the cursor up one line in its column, and scrolls down at the top margin. */
+    CSICODEC_ESC_REVERSE_INDEX = 77,
+    /* ESC N, SS2 (ECMA-48): the next character, and it alone, is taken from the set G2. */
+    CSICODEC_ESC_SINGLE_SHIFT_G2 = 78,
+    /* ESC O, SS3 (ECMA-48): the next character, and it alone, is taken from the set G3. */
+    CSICODEC_ESC_SINGLE_SHIFT_G3 = 79,
+    /* ESC V, SPA (ECMA-48): the cursor's place is the first of those that are guarded, against change by hand and against
+     * transfer. */
+    CSICODEC_ESC_START_OF_GUARDED_AREA = 86,
+    /* ESC W, EPA (ECMA-48): the cursor's place is the last of the guarded ones. */
+    CSICODEC_ESC_END_OF_GUARDED_AREA = 87,
+    /* ESC X, SOS (ECMA-48): opens a string of characters, up to StringTerminator. Terminals skip it. */
+    CSICODEC_ESC_START_OF_STRING = 88,
+    /* ESC Z, DECID (DEC VT100): asks what terminal this is. The control sequence DA took its place. */
+    CSICODEC_ESC_RETURN_TERMINAL_ID = 90,
+    /* ESC \, ST (ECMA-48): closes the string that a control such as OSC, DCS, SOS, PM or APC opened. */
+    CSICODEC_ESC_STRING_TERMINATOR = 92,
+    /* ESC ^, PM (ECMA-48): opens a privacy message, up to StringTerminator. Terminals skip it. */
+    CSICODEC_ESC_PRIVACY_MESSAGE = 94,
+    /* ESC _, APC (ECMA-48): opens a command to a program, up to StringTerminator. Most terminals skip it. */
+    CSICODEC_ESC_APPLICATION_PROGRAM_COMMAND = 95,
+    /* ESC k (GNU Screen, tmux): opens a title of the window, up to StringTerminator. */
+    CSICODEC_ESC_TMUX_TITLE = 107,
+    /* ESC 6, DECBI (DEC VT420): moves the cursor one column to the left, and at the left margin moves what stands within the
+     * margins one column to the right. */
+    CSICODEC_ESC_DEC_BACK_INDEX = 54,
+    /* ESC 7, DECSC (DEC VT100): saves the cursor's position, and with it the attributes and the character sets. */
+    CSICODEC_ESC_DEC_SAVE_CURSOR_POSITION = 55,
+    /* ESC 8, DECRC (DEC VT100): restores what DecSaveCursorPosition saved. */
+    CSICODEC_ESC_DEC_RESTORE_CURSOR_POSITION = 56,
+    /* ESC =, DECKPAM (DEC VT100): the keys of the keypad send sequences of their own. */
+    CSICODEC_ESC_DEC_APPLICATION_KEY_PAD = 61,
+    /* ESC >, DECKPNM (DEC VT100): the keys of the keypad send the characters that stand on them. */
+    CSICODEC_ESC_DEC_NORMAL_KEY_PAD = 62,
+    /* ESC ( 0, SCS (DEC VT100): makes DEC's special graphics, with which lines are drawn, the set G0. */
+    CSICODEC_ESC_DEC_LINE_DRAWING_G0 = 10288,
+    /* ESC ( A, SCS (DEC VT100): makes the British characters the set G0. */
+    CSICODEC_ESC_UK_CHARACTER_SET_G0 = 10305,
+    /* ESC ( B, SCS (DEC VT100): makes ASCII the set G0. */
+    CSICODEC_ESC_ASCII_CHARACTER_SET_G0 = 10306,
+    /* ESC ) 0, SCS (DEC VT100): makes DEC's special graphics, with which lines are drawn, the set G1. */
+    CSICODEC_ESC_DEC_LINE_DRAWING_G1 = 10544,
+    /* ESC ) A, SCS (DEC VT100): makes the British characters the set G1. */
+    CSICODEC_ESC_UK_CHARACTER_SET_G1 = 10561,
+    /* ESC ) B, SCS (DEC VT100): makes ASCII the set G1. */
+    CSICODEC_ESC_ASCII_CHARACTER_SET_G1 = 10562,
+    /* ESC # 8, DECALN (DEC VT100): fills the screen with the letter E, to adjust the display by. */
+    CSICODEC_ESC_DEC_SCREEN_ALIGNMENT_DISPLAY = 9016,
+    /* ESC # 3, DECDHL (DEC VT100): the cursor's line shows the top half of characters of double height and width. */
+    CSICODEC_ESC_DEC_DOUBLE_HEIGHT_TOP_HALF_LINE = 9011,
+    /* ESC # 4, DECDHL (DEC VT100): the cursor's line shows the bottom half of characters of double height and width. */
+    CSICODEC_ESC_DEC_DOUBLE_HEIGHT_BOTTOM_HALF_LINE = 9012,
+    /* ESC # 5, DECSWL (DEC VT100): the cursor's line shows characters of single height and width. */
+    CSICODEC_ESC_DEC_SINGLE_WIDTH_LINE = 9013,
+    /* ESC # 6, DECDWL (DEC VT100): the cursor's line shows characters of double width and single height. */
+    CSICODEC_ESC_DEC_DOUBLE_WIDTH_LINE = 9014,
+    /* ESC O A (DEC VT100): sent by a terminal for the arrow up, while its cursor keys are in application mode (DECCKM). */
+    CSICODEC_ESC_APPLICATION_MODE_ARROW_UP_PRESS = 20289,
+    /* ESC O B (DEC VT100): sent for the arrow down, in the same mode. */
+    CSICODEC_ESC_APPLICATION_MODE_ARROW_DOWN_PRESS = 20290,
+    /* ESC O C (DEC VT100): sent for the arrow to the right, in the same mode. */
+    CSICODEC_ESC_APPLICATION_MODE_ARROW_RIGHT_PRESS = 20291,
+    /* ESC O D (DEC VT100): sent for the arrow to the left, in the same mode. */
+    CSICODEC_ESC_APPLICATION_MODE_ARROW_LEFT_PRESS = 20292,
+    /* ESC O H (xterm's ctlseqs): sent for Home, in the same mode. */
+    CSICODEC_ESC_APPLICATION_MODE_HOME_PRESS = 20296,
+    /* ESC O F (xterm's ctlseqs): sent for End, in the same mode. */
+    CSICODEC_ESC_APPLICATION_MODE_END_PRESS = 20294,
+    /* ESC O P (xterm's ctlseqs): sent by a terminal for F1, on a DEC VT100 for PF1. */
+    CSICODEC_ESC_F1_PRESS = 20304,
+    /* ESC O Q (xterm's ctlseqs): sent for F2, on a DEC VT100 for PF2. */
+    CSICODEC_ESC_F2_PRESS = 20305,
+    /* ESC O R (xterm's ctlseqs): sent for F3, on a DEC VT100 for PF3. */
+    CSICODEC_ESC_F3_PRESS = 20306,
+    /* ESC O S (xterm's ctlseqs): sent for F4, on a DEC VT100 for PF4. */
+    CSICODEC_ESC_F4_PRESS = 20307
 };
 
 #endif

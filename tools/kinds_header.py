@@ -1,7 +1,7 @@
 """The part of the header that has the kinds, and the numbers that stand in them. See kinds."""
 import re
 
-from kinds_library import NAMED, acting, declared, kinds, low, numbers_of, snake, type_of, variants
+from kinds_library import ESCAPES, NAMED, acting, declared, kinds, low, numbers_of, snake, type_of, variants
 from kinds_table import PATH, PREFIXES
 
 # What the fields of a struct hold, by its form.
@@ -66,7 +66,7 @@ def header_kinds():
         fields = meaning(form, names)
         out += comment(doc + (f" ({fields})" if fields else "")) + f"    {c_name(group, variant)} = {number},\n"
     out += comment("SCP (ECMA-48, 8.3.111): the path of characters (first: enum csicodec_character_path; second: the effect)") + f"    CSICODEC_SELECT_CHARACTER_PATH = {PATH}\n}};\n"
-    for name, (docs, _, body) in types.items():
+    for name, docs, _, body in [*((name, docs, "", body) for name, (docs, _, body) in types.items()), *declared(ESCAPES)]:
         rows_ = numbers_of(name, body)
         if not rows_:
             continue
@@ -76,6 +76,27 @@ def header_kinds():
             out += (comment(doc) if doc else "") + f"    CSICODEC_{PREFIXES.get(name, snake(name))}_{snake(v)} = {n}{',' if (v, n, doc) != rows_[-1] else ''}\n"
         out += "};\n"
     return out
+
+
+def header_names():
+    """What gives the name of a kind."""
+    names = ["CSICODEC_UNSPECIFIED"] + [c_name(group, variant) for _, group, variant, _, _ in kinds()] + ["CSICODEC_SELECT_CHARACTER_PATH"]
+    out = "/* The name of a kind as it stands here, such as \"CSICODEC_CURSOR_UP\"; NULL of a number that is no kind. */\n"
+    out += "static inline const char *csicodec_kind_name(uint32_t kind) {\n    switch (kind) {\n"
+    out += "".join(f'    case {name}: return "{name}";\n' for name in names)
+    out += "    default: return NULL;\n    }\n}\n"
+    return f"""/* The names of kinds. Written by tools/kinds; csicodec.h includes it. */
+#ifndef CSICODEC_NAMES_H
+#define CSICODEC_NAMES_H
+
+#include <stddef.h>
+#include <stdint.h>
+
+#include "csicodec_kinds.h"
+
+{out}
+#endif
+"""
 
 
 def header():

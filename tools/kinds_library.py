@@ -100,6 +100,8 @@ def used(names, text):
 
 # The files that the types of the package's types.rs are in.
 NAMED = ["crates/csicodec_base/src/sgr.rt"] + [f"crates/csicodec_names/src/{name}.rt" for name in ("color", "enums", "modes", "device")]
+# The file that escape sequences are in.
+ESCAPES = ["crates/csicodec_names/src/esc.rt"]
 PARTS = {"Press": "it goes down", "Release": "it goes up", "Drag": "the mouse moves while it is down"}
 
 
@@ -110,7 +112,7 @@ def acting():
     for group in BY_NUMBER:
         if home(type_of(group)) not in NAMED:
             files += [os.path.join(os.path.dirname(home(type_of(group))), f"{name}.rt") for name in FILES_OF[group]] if group in FILES_OF else [home(type_of(group))]
-    return files + [home("CsiParam"), home("CSI")]
+    return files + [home("CharacterPath"), home("CsiParam"), home("CSI")]
 
 
 def declared(sources):
@@ -153,7 +155,7 @@ def variants(body):
         doc = re.match(r"    /// ?(.*)", line)
         if doc and depth == 0:
             docs.append(doc[1])
-        found = re.match(r"    (\w+)(?: = (\d+))?(.*)", line)
+        found = re.match(r"    (\w+)(?: = (0x[0-9a-f]+|\d+))?(.*)", line)
         if found and not doc and depth == 0:
             yield found[1], found[2], " ".join(docs)
             docs = []
@@ -164,4 +166,4 @@ def numbers_of(name, body):
     """Each variant that has a number, with it and its docs."""
     if name in NUMBERED:
         return [(v, NUMBERED[name].get(v), doc) for v, _, doc in variants(body)]
-    return [(v, int(n), doc) for v, n, doc in variants(body) if n]
+    return [(v, int(n, 0), doc) for v, n, doc in variants(body) if n]

@@ -17,13 +17,13 @@ def said(body):
 def rust_types(subject, sources):
     own = {name for name, _, _, _ in declared(sources)} | {"Box", "Option"}
     others = {other for _, _, _, body in declared(sources) for other in said(body)} - own
-    out = f"""//! {subject}, under the names of the library and with its documentation. Written by tools/kinds.
-
-use crate::{{{", ".join(sorted(others))}}};
-"""
+    out = f"//! {subject}, under the names of the library and with its documentation. Written by tools/kinds.\n"
+    if others:
+        out += f"\nuse crate::{{{', '.join(sorted(others))}}};\n"
     for name, docs, derives, body in declared(sources):
         derives = "Clone, Debug, PartialEq, Eq, Hash" if "Drop" in derives else "Clone, Copy, Debug, PartialEq, Eq, Hash"
-        out += f"\n{docs}#[derive({derives})]\npub enum {name} {{\n{body}}}\n"
+        growing = "#[non_exhaustive]\n" if name == "CSI" else ""
+        out += f"\n{docs}#[derive({derives})]\n{growing}pub enum {name} {{\n{body}}}\n"
         rows_ = numbers_of(name, body)
         if not rows_:
             continue

@@ -189,7 +189,7 @@ NUMBERED = {
     },
 }
 # How the numbers of an enumeration begin in C, where it isn't by its name.
-PREFIXES = {"DecPrivateModeCode": "DEC_PRIVATE_MODE", "TerminalModeCode": "TERMINAL_MODE", "DeviceAttributeCodes": "DEVICE_ATTRIBUTE", "MouseButton": "MOUSE"}
+PREFIXES = {"EscCode": "ESC", "DecPrivateModeCode": "DEC_PRIVATE_MODE", "TerminalModeCode": "TERMINAL_MODE", "DeviceAttributeCodes": "DEVICE_ATTRIBUTE", "MouseButton": "MOUSE"}
 
 # ---- the examples
 

@@ -208,21 +208,21 @@ impl XtermKeyModifierResource {
 /// ```
 #[derive(Clone, Copy, Debug, PartialEq, Eq, Hash)]
 pub enum Mode {
-    /// DECSET (DEC VT510, xterm): the private mode is set.
+    /// DECSET (xterm's name; SM in DEC VT510): the private mode is set.
     SetDecPrivateMode(DecPrivateMode),
-    /// DECRST (DEC VT510, xterm): the private mode is reset.
+    /// DECRST (xterm's name; RM in DEC VT510): the private mode is reset.
     ResetDecPrivateMode(DecPrivateMode),
     /// XTSAVE (xterm): whether the private mode is set is kept aside.
     SaveDecPrivateMode(DecPrivateMode),
     /// XTRESTORE (xterm): the private mode becomes what was kept aside.
     RestoreDecPrivateMode(DecPrivateMode),
-    /// DECRQM (DEC VT510): asks whether the private mode is set.
+    /// DECRQM (DEC VT300 and up): asks whether the private mode is set.
     QueryDecPrivateMode(DecPrivateMode),
     /// SM (ECMA-48, 8.3.125): the mode is set.
     SetMode(TerminalMode),
     /// RM (ECMA-48, 8.3.106): the mode is reset.
     ResetMode(TerminalMode),
-    /// DECRQM (DEC VT510): asks whether the mode is set.
+    /// DECRQM (DEC VT300 and up): asks whether the mode is set.
     QueryMode(TerminalMode),
     /// XTMODKEYS (xterm): how modifiers are told with these keys.
     XtermKeyMode {
@@ -268,7 +268,7 @@ pub enum DeviceAttributes {
 /// ```
 #[derive(Clone, Debug, PartialEq, Eq, Hash)]
 pub enum Device {
-    /// DA1 (ECMA-48, 8.3.24; DEC VT220 and up): the answer to the primary device attributes.
+    /// DA1 (ECMA-48, 8.3.24; DEC VT100 and up): the answer to the primary device attributes.
     DeviceAttributes(DeviceAttributes),
     /// DECSTR (DEC VT220): back to the initial state.
     SoftReset,
@@ -280,9 +280,10 @@ pub enum Device {
     RequestTertiaryDeviceAttributes,
     /// XTVERSION (xterm): its name and version.
     RequestTerminalNameAndVersion,
-    /// DECREQTPARM (DEC VT100): a report of the line's parameters. With 0 the terminal may also report unasked, with 1 only
-    /// when asked. It is written as the report, DECREPTPARM, whose first number is this one and 2: no parity, 8 bits, 128
-    /// (38400 baud) for sending and receiving, a clock multiplier of 1, and no switches. So it isn't read back.
+    /// DECREQTPARM (DEC VT100): asks for the parameters of the serial line. With 0 the terminal may also report unasked, with
+    /// 1 only when asked. It is written as the report, DECREPTPARM, whose first number is this one and 2: no parity, 8 bits,
+    /// 128 for sending and receiving (38400 baud in xterm; DEC's table ends at 120), 1 for a clock multiplier of 16, and no
+    /// switches. So it isn't read back.
     RequestTerminalParameters(i64),
     /// DSR 5 (ECMA-48, 8.3.35): its state.
     StatusReport,
@@ -501,7 +502,8 @@ pub enum MouseReport {
 }
 
 /// What is done to the window of a terminal, asked of it and answered: XTWINOPS (xterm's ctlseqs, "Window
-/// manipulation"; the operations 1 to 8 and their numbers come from dtterm), and DECRQCRA (DEC VT420).
+/// manipulation"; the operations 1 to 8, 11, 13, 14, 18, 20 and 21 and their numbers come from dtterm), and DECRQCRA
+/// (DEC VT420).
 ///
 /// Sizes and places are of 64 bits and take any sign where a value is built by hand; what is read from a sequence is 0
 /// or more, and one below 0 isn't read back. An absent number is one that the sequence leaves out: the terminal then
@@ -525,7 +527,7 @@ pub enum Window {
         /// The upper edge, in pixels from the screen's.
         y: i64,
     },
-    /// 4: the text area gets this size, in pixels.
+    /// 4: the window gets this size, in pixels; 0 is that of the display (xterm).
     ResizeWindowPixels {
         /// The width, in pixels.
         width: Option<i64>,
@@ -566,24 +568,28 @@ pub enum Window {
     ChangeToFullScreenMode,
     /// 10 and 2: full screen begins or ends.
     ToggleFullScreen,
-    /// 11: asks whether the window is open or an icon; the answer is `CSI 1 t` or `CSI 2 t`.
+    /// 11: asks whether the window is open or an icon; the answer is `CSI 1 t` or `CSI 2 t`, which are read back as `DeIconify`
+    /// and `Iconify`.
     ReportWindowState,
-    /// 13: asks for the window's place; the answer is `CSI 3 ; x ; y t`, in pixels.
+    /// 13: asks for the window's place; the answer is `CSI 3 ; x ; y t`, in pixels, which is read back as `MoveWindow`.
     ReportWindowPosition,
-    /// 13 and 2: asks for the place of the text area; the answer is `CSI 3 ; x ; y t`, in pixels.
+    /// 13 and 2: asks for the place of the text area; the answer is the same.
     ReportTextAreaPosition,
-    /// 14: asks for the size of the text area; the answer is `CSI 4 ; height ; width t`, in pixels.
+    /// 14: asks for the size of the text area; the answer is `CSI 4 ; height ; width t`, in pixels, which is read back as
+    /// `ResizeWindowPixels`.
     ReportTextAreaSizePixels,
-    /// 14 and 2: asks for the size of the window; the answer is `CSI 4 ; height ; width t`, in pixels.
+    /// 14 and 2: asks for the size of the window; the answer is the same.
     ReportWindowSizePixels,
     /// 15: asks for the size of the screen; the answer is `CSI 5 ; height ; width t`, in pixels, which is read back as
     /// `RaiseWindow`.
     ReportScreenSizePixels,
     /// 16: asks for the size of a cell; the answer is `ReportCellSizePixelsResponse`.
     ReportCellSizePixels,
-    /// 18: asks for the size of the text area; the answer is `CSI 8 ; lines ; columns t`.
+    /// 18: asks for the size of the text area; the answer is `CSI 8 ; lines ; columns t`, which is read back as
+    /// `ResizeWindowCells`.
     ReportTextAreaSizeCells,
-    /// 19: asks for the size of the screen in cells; the answer is `CSI 9 ; lines ; columns t`.
+    /// 19: asks for the size of the screen in cells; the answer is `CSI 9 ; lines ; columns t`, which is unknown but where the
+    /// lines are 0 to 3.
     ReportScreenSizeCells,
     /// 20: asks for the icon's label; the answer is `OSC L label ST`.
     ReportIconLabel,
@@ -685,7 +691,7 @@ pub enum Keyboard {
 /// SCP (ECMA-48, 8.3.111): the path of characters.
 #[derive(Clone, Copy, Debug, PartialEq, Eq, Hash)]
 pub enum CharacterPath {
-    /// As the terminal has it.
+    /// As the terminal has it: 0, or no number, of freedesktop's recommendation on bidirectional text; ECMA-48 has 1 and 2 alone.
     ImplementationDefault,
     /// From left to right, or from top to bottom.
     LeftToRightOrTopToBottom,
@@ -735,6 +741,7 @@ pub enum CsiParam {
 /// CSI::from(Mode::SetDecPrivateMode(DecPrivateMode::from(2004)))   // "\x1b[?2004h"
 /// ```
 #[derive(Clone, Debug, PartialEq, Eq, Hash)]
+#[non_exhaustive]
 pub enum CSI {
     /// SGR, select graphic rendition: an attribute of the text that follows.
     Sgr(Sgr),

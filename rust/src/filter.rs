@@ -5,6 +5,7 @@ use std::num::NonZeroUsize;
 
 /// A stream of a terminal that is rewritten as it comes: each control sequence comes in its normal form, and every other byte
 /// as it was. It doesn't matter how the stream is cut into the slices that are pushed.
+#[derive(Clone, Debug)]
 pub struct Filter {
     limit: usize,
     mode: u32,

@@ -12,23 +12,28 @@
 #![deny(missing_docs)]
 
 mod actions;
+mod esc;
 mod filter;
 mod numbers;
-mod raw;
 mod rows;
+mod stream;
 mod types;
 mod values;
 
 pub use actions::*;
+pub use esc::{Esc, EscCode};
 pub use filter::Filter;
+pub use stream::{Event, Events, Parser, Span, SpanKind, Spans, StringKind, events, spans};
 pub use types::*;
 pub use values::*;
 
+use csicodec_sys as raw;
 use std::fmt;
 
 /// Why bytes are no sequences one after the other, or actions have no texts. `start` is where the refused sequence begins,
 /// and `at` the place of the fault, counted from there.
 #[derive(Clone, Copy, Debug, PartialEq, Eq)]
+#[non_exhaustive]
 pub enum Error {
     /// It doesn't begin with `ESC [`.
     NotCsi {
@@ -110,6 +115,7 @@ pub fn normalise(bytes: &[u8]) -> Result<Vec<u8>, Error> {
 }
 
 /// An iterator of the actions of some bytes, in order. After an `Err` there are no more.
+#[derive(Clone, Debug)]
 pub struct Actions<'a> {
     rest: &'a [u8],
     start: usize,
@@ -175,32 +181,85 @@ impl Iterator for Actions<'_> {
     }
 }
 
-fn encode_into(actions: &[CSI], out: &mut Vec<u8>) -> Result<(), Error> {
+/// Appends the joined texts of the actions. After an `Err` nothing is appended.
+pub fn encode_to(actions: &[CSI], out: &mut Vec<u8>) -> Result<(), Error> {
     let mut params = Vec::new();
     let plains: Vec<_> = actions
         .iter()
         .map(|action| rows::plain_of(action, &mut params))
         .collect();
+    encode_plains(&plains, &params, actions.len() * 12 + 16, out)
+}
+
+/// The same of structs and their tokens, with so much room at first.
+fn encode_plains(
+    plains: &[raw::Plain],
+    params: &[raw::Param],
+    room: usize,
+    out: &mut Vec<u8>,
+) -> Result<(), Error> {
+    let start = out.len();
+    let mut room = room;
     loop {
-        let answer = raw::encode(&plains, &params, out);
-        match answer.status {
-            0 => {}
-            6 => return Err(Error::NoAction { at: answer.at }),
-            _ => return Err(Error::Memory),
-        }
-        let fits = answer.needed <= out.len();
-        out.resize(answer.needed, 0);
-        if fits {
-            return Ok(());
-        }
+        out.resize(start + room, 0);
+        let answer = raw::encode(plains, params, &mut out[start..]);
+        let error = match answer.status {
+            0 if answer.needed <= room => {
+                out.truncate(start + answer.needed);
+                return Ok(());
+            }
+            0 => {
+                room = answer.needed;
+                continue;
+            }
+            6 => Error::NoAction { at: answer.at },
+            _ => Error::Memory,
+        };
+        out.truncate(start);
+        return Err(error);
     }
 }
 
 /// The joined texts of the actions.
 pub fn encode(actions: &[CSI]) -> Result<Vec<u8>, Error> {
-    let mut out = vec![0; actions.len() * 12 + 16];
-    encode_into(actions, &mut out)?;
+    let mut out = Vec::new();
+    encode_to(actions, &mut out)?;
     Ok(out)
+}
+
+impl Esc {
+    /// The code that these bytes are behind ESC, or the two as they are where no code is written so.
+    pub fn parse(intermediate: Option<u8>, control: u8) -> Esc {
+        let number = raw::esc(intermediate.unwrap_or(0), control);
+        match EscCode::from_i64(i64::from(number)) {
+            Some(code) => Esc::Code(code),
+            None => Esc::Unspecified {
+                intermediate,
+                control,
+            },
+        }
+    }
+}
+
+/// Writes ESC and its characters.
+impl fmt::Display for Esc {
+    fn fmt(&self, f: &mut fmt::Formatter<'_>) -> fmt::Result {
+        let (intermediate, control) = match *self {
+            Esc::Unspecified {
+                intermediate,
+                control,
+            } => (intermediate, control),
+            Esc::Code(code) => match (code as u16).to_be_bytes() {
+                [0, control] => (None, control),
+                [intermediate, control] => (Some(intermediate), control),
+            },
+        };
+        f.write_str("\x1b")?;
+        if let Some(byte) = intermediate {
+            write!(f, "{}", char::from(byte))?;
+        }
+        write!(f, "{}", char::from(control))
+    }
 }
 
 impl CSI {
@@ -219,10 +278,22 @@ impl CSI {
     }
 }
 
-/// Writes the text: `ESC [`, the parameters and the final character.
+/// Writes the text: `ESC [`, the parameters and the final character. It takes memory only for more than 64 bytes and for lists.
 impl fmt::Display for CSI {
     fn fmt(&self, f: &mut fmt::Formatter<'_>) -> fmt::Result {
-        let text = encode(std::slice::from_ref(self)).map_err(|_| fmt::Error)?;
-        f.write_str(std::str::from_utf8(&text).map_err(|_| fmt::Error)?)
+        let mut params = Vec::new();
+        let plain = [rows::plain_of(self, &mut params)];
+        let mut near = [0; 64];
+        let mut far = Vec::new();
+        let answer = raw::encode(&plain, &params, &mut near);
+        let text = match answer.status {
+            0 if answer.needed <= near.len() => &near[..answer.needed],
+            0 => {
+                encode_plains(&plain, &params, answer.needed, &mut far).map_err(|_| fmt::Error)?;
+                &far[..]
+            }
+            _ => return Err(fmt::Error),
+        };
+        f.write_str(std::str::from_utf8(text).map_err(|_| fmt::Error)?)
     }
 }

@@ -61,12 +61,12 @@ pub enum Sgr {
 /// ```
 #[derive(Clone, Copy, Debug, PartialEq, Eq, Hash)]
 pub enum ColorSpec {
-    /// The terminal's own: of the ground codes 39 and 49 (ECMA-48), of an underline 59 (kitty, VTE).
+    /// The terminal's own: of the character code 39 and of the ground 49 (ECMA-48), of an underline 59 (kitty, VTE).
     Default,
     /// A place in the palette, 0 to 255. The first 16 have names (`AnsiColor`); how the others look is the terminal's
     /// choice, in xterm a cube of 216 colours and 24 greys.
     PaletteIndex(u8),
-    /// A colour by its parts (ISO/IEC 8613-6, which is ITU-T T.416).
+    /// A colour by its parts (ISO/IEC 8613-6, which is ITU-T T.416; with an alpha, WezTerm).
     TrueColor(SrgbaTuple),
 }
 
@@ -483,7 +483,7 @@ pub enum DecPrivateModeCode {
     BracketedPaste = 2004,
     /// What is drawn is shown when this is reset (contour).
     SynchronizedOutput = 2026,
-    /// The cursor moves by clusters of graphemes (contour).
+    /// How many cells a character takes goes by grapheme clusters (contour).
     GraphemeClustering = 2027,
     /// The escape key sends a sequence of its own (mintty).
     MinTTYApplicationEscapeKeyMode = 7727,

@@ -44,7 +44,7 @@ pub struct SrgbaTuple(
 macro_rules! flags {
     ($(#[$doc:meta])* $name:ident: $($(#[$each:meta])* $flag:ident = $bits:literal),*) => {
         $(#[$doc])*
-        #[derive(Clone, Copy, Debug, Default, PartialEq, Eq, Hash)]
+        #[derive(Clone, Copy, Default, PartialEq, Eq, Hash)]
         pub struct $name {
             bits: u16,
         }
@@ -65,6 +65,26 @@ macro_rules! flags {
             /// Whether all of these are in the set.
             pub fn contains(&self, other: Self) -> bool {
                 self.bits & other.bits == other.bits
+            }
+        }
+
+        impl std::fmt::Debug for $name {
+            /// The names of the flags, and what has none as a number: `SHIFT | CTRL | 0x40`.
+            fn fmt(&self, f: &mut std::fmt::Formatter<'_>) -> std::fmt::Result {
+                let mut rest = self.bits;
+                let mut between = "";
+                for (name, bits) in [$((stringify!($flag), $bits)),*] {
+                    if bits != 0 && rest & bits == bits {
+                        write!(f, "{between}{name}")?;
+                        rest &= !bits;
+                        between = " | ";
+                    }
+                }
+                match rest {
+                    0 if self.bits != 0 => Ok(()),
+                    0 => f.write_str("NONE"),
+                    _ => write!(f, "{between}{rest:#x}"),
+                }
             }
         }
 

@@ -3,8 +3,8 @@
 
 use csicodec::{actions, encode, normalise};
 
-const GIVEN: &[u8] = include_bytes!("../../crates/csicodec_rows/stdin");
-const WANTED: &[u8] = include_bytes!("../../crates/csicodec_rows/stdout");
+const GIVEN: &[u8] = include_bytes!("data/stdin");
+const WANTED: &[u8] = include_bytes!("data/stdout");
 
 /// The sequences: no byte before the final one is from `@` to `~`.
 fn sequences(bytes: &[u8]) -> impl Iterator<Item = &[u8]> {

@@ -8,8 +8,8 @@ use Rattle.csicodec_names.specs.Numbered.{with_number}
 use Rattle.csicodec_names.specs.declared.color.ColorSpec.TheVariants as color
 use Rattle.csicodec_names.specs.declared.color.Blink.{Blink}
 use Rattle.csicodec_names.specs.declared.color.Blink.TheVariants as blink
-use Rattle.csicodec_actions.specs.declared.keyboard.CharacterPath.{CharacterPath}
-use Rattle.csicodec_actions.specs.declared.keyboard.CharacterPath.TheVariants as character_path
+use Rattle.csicodec_actions.specs.declared.path.CharacterPath.{CharacterPath}
+use Rattle.csicodec_actions.specs.declared.path.CharacterPath.TheVariants as character_path
 use Rattle.csicodec_names.specs.declared.enums.CursorStyle.{CursorStyle}
 use Rattle.csicodec_names.specs.declared.enums.CursorStyle.TheVariants as cursor_style
 use Rattle.csicodec_names.specs.declared.enums.CursorTabulationControl.{CursorTabulationControl}

@@ -6,6 +6,8 @@ pub mod Rows
 pub mod Next
 pub mod Encode
 pub mod Filter
+pub mod Span
+pub mod Version
 pub mod Ranges
 pub mod Named
 pub mod Private

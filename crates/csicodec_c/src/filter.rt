@@ -44,7 +44,7 @@ fn refused(status: u32) -> Filtered
 }
 
 /// The mode of a number.
-fn mode_at(number: u32) -> Option<Mode>
+pub(crate) fn mode_at(number: u32) -> Option<Mode>
     ensures { (mode : Mode) → (result ≡ Some mode) ↔ (number ≡ mode_number mode) }
 {
     match number {
@@ -58,7 +58,7 @@ fn mode_at(number: u32) -> Option<Mode>
     }
 }
 
-fn number_of(mode: Mode) -> u32
+pub(crate) fn number_of(mode: Mode) -> u32
     ensures { result ≡ mode_number mode }
 {
     match mode {

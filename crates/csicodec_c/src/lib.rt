@@ -12,7 +12,9 @@ mod numbers;
 mod plain;
 mod room;
 mod rows;
+mod span;
 mod token;
+mod version;
 
 pub use answer::{Normalised, csicodec_normalise};
 pub use canonical::{Judged, csicodec_is_canonical};
@@ -20,3 +22,5 @@ pub use encode::{Encoded, csicodec_encode};
 pub use filter::{Filtered, csicodec_filter};
 pub use next::{Front, csicodec_next};
 pub use plain::{Param, Plain};
+pub use span::{Spanned, csicodec_esc, csicodec_span};
+pub use version::csicodec_version;

@@ -1,0 +1,74 @@
+/* random COUNT: every call on bytes made at random, in blocks of the heap of just their length, for the address sanitizer to watch. */
+#include "csicodec.h"
+
+#include <stdio.h>
+#include <stdlib.h>
+#include <string.h>
+
+static uint32_t seed = 1;
+
+static uint32_t any(uint32_t count) {
+    seed = seed * 1664525u + 1013904223u;
+    return (seed >> 8) % count;
+}
+
+/* Bytes of controls for the most part. */
+static uint8_t any_byte(void) {
+    static const char often[] = "\x1b\x1b\x1b[[[[]P_\\;;::0123456789?>=<!$ mHJKhltucA\x07\x08\x18~qp";
+    return any(8) ? (uint8_t)often[any(sizeof often - 1)] : (uint8_t)any(256);
+}
+
+static void *block(size_t size) {
+    void *made = malloc(size ? size : 1);
+    if (!made) exit(3);
+    return made;
+}
+
+static int all_calls(const uint8_t *bytes, size_t len) {
+    size_t room = any(40), actions_room = any(4), params_room = any(6);
+    uint8_t *out = block(room);
+    struct csicodec_action *actions = block(actions_room * sizeof *actions);
+    struct csicodec_param *params = block(params_room * sizeof *params);
+    struct csicodec_front front = csicodec_next(bytes, len, actions, actions_room, params, params_room);
+    int good = front.used <= len && front.status <= CSICODEC_MEMORY;
+    if (front.status == CSICODEC_OK && front.actions <= actions_room && front.params <= params_room) {
+        struct csicodec_encoded texts = csicodec_encode(actions, front.actions, params, front.params, out, room);
+        struct csicodec_normalised normal = csicodec_normalise(bytes, front.used, out, room);
+        good &= texts.status == CSICODEC_OK && normal.status == CSICODEC_OK && texts.needed == normal.needed;
+        good &= csicodec_is_canonical(&actions[0], params, front.params).status == CSICODEC_OK;
+    }
+    for (size_t i = 0; i < actions_room * sizeof *actions; i++) ((uint8_t *)actions)[i] = any(3) ? 0 : any_byte();
+    good &= csicodec_encode(actions, actions_room, params, 0, out, room).status != CSICODEC_MEMORY;
+    struct csicodec_filtered passed = csicodec_filter(any(7), any(20), bytes, len, out, room);
+    struct csicodec_spanned span = csicodec_span(any(7), any(20), bytes, len);
+    good &= passed.used <= len && span.used <= len && (span.status != CSICODEC_OK || span.used > 0);
+    good &= csicodec_esc(any_byte(), any_byte()) < 65536;
+    /* Of a stream every byte is told, or waits. */
+    struct csicodec_stream stream = csicodec_stream_of(1 + any(20), actions, actions_room, params, params_room);
+    struct csicodec_event event;
+    size_t at = 0, turns = 0;
+    for (; csicodec_next_event(&stream, bytes + at, len - at, &event) && turns < 2 * len; turns++) {
+        at += event.used;
+        good &= at <= len && event.bytes >= bytes && event.bytes + event.len <= bytes + len;
+    }
+    good &= turns < 2 * len || len == 0;
+    good &= at == len || len - at < (stream.limit < 3 ? 3 : stream.limit);
+    free(out), free(actions), free(params);
+    return good;
+}
+
+int main(int count, char **words) {
+    long turns = count > 1 ? atol(words[1]) : 1000;
+    for (long i = 0; i < turns; i++) {
+        size_t len = any(40);
+        uint8_t *bytes = block(len);
+        for (size_t j = 0; j < len; j++) bytes[j] = any_byte();
+        if (!all_calls(bytes, len)) {
+            fprintf(stderr, "random: turn %ld isn't as promised\n", i);
+            return 1;
+        }
+        free(bytes);
+    }
+    printf("%ld turns\n", turns);
+    return 0;
+}

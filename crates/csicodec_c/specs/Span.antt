@@ -1,0 +1,54 @@
+-- What the calls for the span at the front of a stream, and for an escape sequence, answer a C program.
+use Rattle.std.specs.Prelude.{ℕ, ◌≡◌, ◌≢◌, ◌<◌, ◌++◌, List, Some, length}
+use Rattle.csicodec_spans.specs.declared.table.Kind.{Kind}
+use Rattle.csicodec_spans.specs.declared.table.Kind.TheVariants as kinds
+use Rattle.csicodec_spans.specs.declared.table.Mode.{Mode}
+use Rattle.csicodec_spans.specs.Parts.{Cuts, IsMaximal, IsUnsure}
+use Rattle.csicodec_names.specs.declared.esc.EscCode.{EscCode}
+use Rattle.csicodec_names.specs.Esc.{packed}
+use Rattle.csicodec_names.specs.EscCodes.{esc_number}
+use Rattle.csicodec_c.specs.declared.span.Spanned.{Spanned}
+use Rattle.csicodec_c.specs.Filter.{IsBadState, mode_number}
+
+abbrev pub kind_number : Kind → ℕ
+kind_number kinds.Text = 0
+kind_number kinds.Csi = 1
+kind_number kinds.Esc = 2
+kind_number kinds.Str = 3
+kind_number kinds.Other = 4
+
+abbrev pub refused : ℕ → Spanned
+refused status = record { status = status; kind = 0; mode = 0; used = 0 }
+
+-- the span at the front, as the table of modes cuts it and as long as it can be, and the mode behind it
+pub record IsDone (number limit : ℕ) (bytes : List ℕ) (answer : Spanned) : Type 0 where
+  pub before : Mode
+  pub after : Mode
+  pub kind : Kind
+  pub text : List ℕ
+  pub rest : List ℕ
+  pub began : number ≡ mode_number before
+  pub ok : answer.status ≡ 0
+  pub is : answer.kind ≡ kind_number kind
+  pub mode : answer.mode ≡ mode_number after
+  pub used : answer.used ≡ length text
+  pub some : 0 < length text
+  pub parts : bytes ≡ text ++ rest
+  pub cuts : Cuts limit before bytes kind text rest after
+  pub maximal : IsMaximal kind after rest
+
+-- or nothing is sure of it before more bytes come
+pub record IsWaiting (number limit : ℕ) (bytes : List ℕ) (answer : Spanned) : Type 0 where
+  pub before : Mode
+  pub began : number ≡ mode_number before
+  pub tells : answer ≡ refused 4
+  pub unsure : IsUnsure limit before bytes
+
+-- or the state is none
+abbrev pub IsRefused : ℕ → ℕ → Spanned → Type 0
+IsRefused number limit answer = (answer ≡ refused 7) × IsBadState number limit
+
+-- the number of the code that an intermediate byte, where 0 is none, and a final byte are; and 0 where no code is written so
+pub record IsCode (intermediate final answer : ℕ) : Type 0 where
+  pub code : (known : EscCode) → packed (Some intermediate) final ≡ esc_number known → answer ≡ esc_number known
+  pub other : ((known : EscCode) → packed (Some intermediate) final ≢ esc_number known) → answer ≡ 0

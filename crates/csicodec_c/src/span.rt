@@ -1,0 +1,77 @@
+//! The span at the front of a stream whose state the caller keeps, and the code of an escape sequence.
+ghost use Rattle.std.specs.Prelude.{◌≡◌, ◌⊎◌, Some};
+ghost use Rattle.csicodec_c.specs.Span.{IsCode, IsDone, IsRefused, IsWaiting, kind_number, refused};
+
+use crate::filter::{mode_at, number_of};
+use csicodec::Esc;
+use csicodec_spans::{Kind, next_span};
+
+/// What stands at the front of a stream.
+#[repr(C)]
+#[derive(Clone, Copy, Debug, PartialEq, Eq)]
+pub struct Spanned {
+    /// 0 where it is known, 4 where it depends on what follows, 7 where the mode is none, or the limit is 0.
+    pub status: u32,
+    /// Of 0, what the bytes are.
+    pub kind: u32,
+    /// Of 0, the mode behind them.
+    pub mode: u32,
+    /// Of 0, how many they are: 1 or more.
+    pub used: usize,
+}
+
+fn refused(status: u32) -> Spanned
+    ensures { result ≡ refused status }
+{
+    Spanned {
+        status,
+        kind: 0,
+        mode: 0,
+        used: 0,
+    }
+}
+
+fn kind_number(kind: Kind) -> u32
+    ensures { result ≡ kind_number kind }
+{
+    match kind {
+        Kind::Text => 0,
+        Kind::Csi => 1,
+        Kind::Esc => 2,
+        Kind::Str => 3,
+        Kind::Other => 4,
+    }
+}
+
+/// The span at the front of bytes that stand in a mode.
+#[unsafe(no_mangle)]
+pub extern "C" fn csicodec_span(mode: u32, limit: usize, bytes: &[u8]) -> Spanned
+    ensures { IsDone mode limit bytes.now result ⊎ (IsWaiting mode limit bytes.now result ⊎ IsRefused mode limit result) }
+{
+    let Some(mode) = mode_at(mode) else {
+        return refused(7);
+    };
+    if limit == 0 {
+        return refused(7);
+    }
+    match next_span(limit, mode, bytes) {
+        Some(cut) => Spanned {
+            status: 0,
+            kind: kind_number(cut.span.kind),
+            mode: number_of(cut.mode),
+            used: cut.span.bytes.len(),
+        },
+        None => refused(4),
+    }
+}
+
+/// The number of the code that these bytes are behind ESC, where 0 is no intermediate byte. Where no code is written so it is 0.
+#[unsafe(no_mangle)]
+pub extern "C" fn csicodec_esc(intermediate: u8, control: u8) -> u32
+    ensures { IsCode intermediate control result }
+{
+    match Esc::parse(Some(intermediate), control) {
+        Esc::Code(code) => u32::from(code.to_u16()),
+        Esc::Unspecified { .. } => 0,
+    }
+}

@@ -1,0 +1,366 @@
+//! A terminal's stream: its spans, and event by event what it says.
+
+use crate::{CSI, Esc, raw, rows};
+
+/// What a span is.
+#[derive(Clone, Copy, Debug, PartialEq, Eq, Hash)]
+#[non_exhaustive]
+pub enum SpanKind {
+    /// Characters, and controls of C0 but ESC, and DEL.
+    Text,
+    /// One whole control sequence.
+    Csi,
+    /// One whole escape sequence: ESC, at most one intermediate byte (20 to 2f), and a final byte (30 to 7e).
+    Esc,
+    /// A control string (ECMA-48, 5.6), or as much of it as there is: OSC, DCS, SOS, PM or APC, with what closes it.
+    Str,
+    /// A control that went wrong, or as much of it as there is. A terminal may carry it out all the same.
+    Other,
+}
+
+/// Some bytes of a stream, and what they are.
+#[derive(Clone, Copy, Debug, PartialEq, Eq)]
+pub struct Span<'a> {
+    /// What they are.
+    pub kind: SpanKind,
+    /// The bytes, at least one.
+    pub bytes: &'a [u8],
+}
+
+/// The spans of some bytes, in order: joined they are the bytes.
+#[derive(Clone, Debug)]
+pub struct Spans<'a> {
+    rest: &'a [u8],
+    mode: u32,
+    limit: usize,
+}
+
+/// The spans of a whole stream. A control sequence of more than 65,536 bytes is `Other`.
+///
+/// What a filter keeps, an emulator carries out: a control within a control sequence (`ESC [ 1 BS A`) makes the sequence `Other`
+/// here, and [`events`] tells the control and then the sequence.
+pub fn spans(bytes: &[u8]) -> Spans<'_> {
+    Spans {
+        rest: bytes,
+        mode: 0,
+        limit: LIMIT,
+    }
+}
+
+impl<'a> Iterator for Spans<'a> {
+    type Item = Span<'a>;
+
+    fn next(&mut self) -> Option<Span<'a>> {
+        if self.rest.is_empty() {
+            return None;
+        }
+        let span = raw::span(self.mode, self.limit, self.rest);
+        let (kind, used) = match (span.status, span.kind) {
+            (0, 0) => (SpanKind::Text, span.used),
+            (0, 1) => (SpanKind::Csi, span.used),
+            (0, 2) => (SpanKind::Esc, span.used),
+            (0, 3) => (SpanKind::Str, span.used),
+            (0, _) => (SpanKind::Other, span.used),
+            // It is cut off, and nothing follows.
+            _ => (SpanKind::Other, self.rest.len()),
+        };
+        let (bytes, rest) = self.rest.split_at(used);
+        self.rest = rest;
+        self.mode = span.mode;
+        Some(Span { kind, bytes })
+    }
+}
+
+/// What opened a control string.
+#[derive(Clone, Copy, Debug, PartialEq, Eq, Hash)]
+#[non_exhaustive]
+pub enum StringKind {
+    /// `ESC P`, a device control string.
+    Dcs,
+    /// `ESC X`, a string of characters.
+    Sos,
+    /// `ESC ]`, an operating system command.
+    Osc,
+    /// `ESC ^`, a privacy message.
+    Pm,
+    /// `ESC _`, a command to a program.
+    Apc,
+}
+
+/// What a stream says next.
+#[derive(Clone, Debug, PartialEq, Eq)]
+#[non_exhaustive]
+pub enum Event<'a> {
+    /// Characters, and controls of C0 but ESC, and DEL. A character in UTF-8 may be cut at the end of the bytes.
+    Text(&'a [u8]),
+    /// An action of a control sequence, which may have more: they follow.
+    Csi(CSI),
+    /// An escape sequence.
+    Esc(Esc),
+    /// A piece of a control string. One that is cancelled has no last piece: another event comes.
+    Str {
+        /// What opened it.
+        kind: StringKind,
+        /// What it holds, without what opens and closes it.
+        bytes: &'a [u8],
+        /// Whether it is the first piece.
+        first: bool,
+        /// Whether it is the last piece.
+        last: bool,
+    },
+    /// A control that went wrong, or a piece of it.
+    Other(&'a [u8]),
+}
+
+const LIMIT: usize = 65536;
+const TEXT: u32 = 0;
+const BAD_CSI: u32 = 4;
+
+/// What the bytes before a place leave open, and room that is kept.
+#[derive(Clone, Debug)]
+struct Reader {
+    mode: u32,
+    limit: usize,
+    /// Of the string that is open.
+    string: StringKind,
+    /// How far the controls within a control sequence were told.
+    inside: usize,
+    /// The actions of a sequence that aren't given yet, from `given` to `count`, and how many bytes it has.
+    given: usize,
+    count: usize,
+    used: usize,
+    actions: Vec<raw::Plain>,
+    params: Vec<raw::Param>,
+}
+
+impl Reader {
+    fn new(limit: usize) -> Self {
+        Reader {
+            mode: TEXT,
+            limit,
+            string: StringKind::Osc,
+            inside: 0,
+            given: 0,
+            count: 0,
+            used: 0,
+            actions: vec![raw::Plain::default(); 16],
+            params: vec![raw::Param::default(); 16],
+        }
+    }
+
+    /// The next event at the front of the bytes, and how many of them it has used; none where it depends on what follows.
+    fn next<'a>(&mut self, bytes: &'a [u8]) -> Option<(Event<'a>, usize)> {
+        if self.given < self.count {
+            return Some(self.give());
+        }
+        if bytes.is_empty() {
+            return None;
+        }
+        let sequence = bytes.starts_with(b"\x1b[");
+        if sequence && self.inside == 0 && self.read(bytes, 0) {
+            return Some(self.give());
+        }
+        let span = raw::span(self.mode, self.limit, bytes);
+        if span.status != 0 {
+            return None;
+        }
+        if sequence {
+            let waits = span.mode == BAD_CSI && span.used == bytes.len();
+            if waits && bytes.len() < self.limit {
+                return None;
+            }
+            return Some(self.wrong(&bytes[..span.used], span.mode));
+        }
+        self.mode = span.mode;
+        Some((self.event(span.kind, &bytes[..span.used]), span.used))
+    }
+
+    /// Reads the sequence at the front, of which `used` bytes are in the stream, or as many as it has where that is 0.
+    fn read(&mut self, bytes: &[u8], used: usize) -> bool {
+        loop {
+            let front = raw::next(bytes, &mut self.actions, &mut self.params);
+            let used = if used == 0 { front.used } else { used };
+            if front.status != 0 || used > self.limit {
+                return false;
+            }
+            if front.actions <= self.actions.len() && front.params <= self.params.len() {
+                (self.given, self.count, self.used) = (0, front.actions, used);
+                (self.mode, self.inside) = (TEXT, 0);
+                return true;
+            }
+            let room = front.actions.max(self.actions.len());
+            self.actions.resize(room, raw::Plain::default());
+            let room = front.params.max(self.params.len());
+            self.params.resize(room, raw::Param::default());
+        }
+    }
+
+    /// The next action of a sequence; its bytes are used with the last one.
+    fn give<'a>(&mut self) -> (Event<'a>, usize) {
+        let plain = &self.actions[self.given];
+        let params = &self.params[plain.place..plain.place + plain.len];
+        let action = rows::action_of(plain, params).expect("the library makes no other struct");
+        self.given += 1;
+        let used = if self.given == self.count {
+            self.used
+        } else {
+            0
+        };
+        (Event::Csi(action), used)
+    }
+
+    /// What went wrong behind `ESC [`. Where it is for controls of C0, each is told, and then the sequence without them and
+    /// without DEL is read, as DEC's terminals and xterm do.
+    fn wrong<'a>(&mut self, bytes: &'a [u8], mode: u32) -> (Event<'a>, usize) {
+        let from = self.inside.max(2);
+        if let Some(place) = bytes[from..].iter().position(|byte| *byte < 0x20) {
+            self.inside = from + place + 1;
+            return (Event::Text(&bytes[from + place..self.inside]), 0);
+        }
+        self.inside = 0;
+        self.mode = mode;
+        if mode == TEXT {
+            let mut text = b"\x1b[".to_vec();
+            let kept = |byte: &u8| *byte >= 0x20 && *byte != 0x7f;
+            text.extend(bytes[2..].iter().copied().filter(kept));
+            if self.read(&text, bytes.len()) {
+                return self.give();
+            }
+        }
+        (Event::Other(bytes), bytes.len())
+    }
+
+    /// The event of a span that is no control sequence.
+    fn event<'a>(&mut self, kind: u32, bytes: &'a [u8]) -> Event<'a> {
+        match (kind, bytes) {
+            (0, _) => Event::Text(bytes),
+            (2, [_, control]) => Event::Esc(Esc::parse(None, *control)),
+            (2, [_, intermediate, control]) => {
+                Event::Esc(Esc::parse(Some(*intermediate), *control))
+            }
+            (3, _) => self.piece(bytes),
+            _ => Event::Other(bytes),
+        }
+    }
+
+    fn piece<'a>(&mut self, bytes: &'a [u8]) -> Event<'a> {
+        let opened = match bytes {
+            [0x1b, b'P', ..] => Some(StringKind::Dcs),
+            [0x1b, b'X', ..] => Some(StringKind::Sos),
+            [0x1b, b']', ..] => Some(StringKind::Osc),
+            [0x1b, b'^', ..] => Some(StringKind::Pm),
+            [0x1b, b'_', ..] => Some(StringKind::Apc),
+            _ => None,
+        };
+        self.string = opened.unwrap_or(self.string);
+        let last = self.mode == TEXT;
+        let start = if opened.is_some() { 2 } else { 0 };
+        let end = match bytes.last() {
+            Some(0x07) if last => bytes.len() - 1,
+            _ if last => bytes.len() - 2,
+            _ => bytes.len(),
+        };
+        Event::Str {
+            kind: self.string,
+            bytes: &bytes[start..end],
+            first: opened.is_some(),
+            last,
+        }
+    }
+}
+
+/// An iterator of the events of a slice.
+#[derive(Clone, Debug)]
+pub struct Events<'a> {
+    reader: Reader,
+    rest: &'a [u8],
+}
+
+/// The events of a whole stream. A control sequence of more than 65,536 bytes, or that is cut off, is `Other`.
+///
+/// ```
+/// use csicodec::{CSI, Cursor, Event, events};
+///
+/// let all: Vec<_> = events(b"a\x1b[2A").collect();
+/// assert_eq!(all, [Event::Text(b"a"), Event::Csi(CSI::from(Cursor::Up(2)))]);
+/// ```
+pub fn events(bytes: &[u8]) -> Events<'_> {
+    Events {
+        reader: Reader::new(LIMIT),
+        rest: bytes,
+    }
+}
+
+impl<'a> Iterator for Events<'a> {
+    type Item = Event<'a>;
+
+    fn next(&mut self) -> Option<Event<'a>> {
+        if let Some((event, used)) = self.reader.next(self.rest) {
+            self.rest = &self.rest[used..];
+            return Some(event);
+        }
+        let rest = std::mem::take(&mut self.rest);
+        (!rest.is_empty()).then_some(Event::Other(rest))
+    }
+}
+
+/// A reader of a stream that comes in pieces, as it comes. How it is cut changes nothing but where text, strings and what went wrong
+/// are cut.
+///
+/// ```
+/// use csicodec::{Event, Parser};
+///
+/// let mut parser = Parser::new();
+/// let mut texts = 0;
+/// for piece in [b"a\x1b[".as_slice(), b"1mb"] {
+///     parser.advance(piece, &mut |event| texts += u32::from(matches!(event, Event::Text(_))));
+/// }
+/// assert_eq!(texts, 2);
+/// ```
+#[derive(Clone, Debug)]
+pub struct Parser {
+    reader: Reader,
+    held: Vec<u8>,
+}
+
+impl Default for Parser {
+    fn default() -> Self {
+        Parser::new()
+    }
+}
+
+impl Parser {
+    /// A stream of which nothing has come. A control sequence of more than 65,536 bytes is `Other`.
+    pub fn new() -> Self {
+        Parser {
+            reader: Reader::new(LIMIT),
+            held: Vec::new(),
+        }
+    }
+
+    /// Takes the next bytes, and tells each event that is sure now. What isn't is held: fewer than 65,536 bytes.
+    pub fn advance<F: FnMut(Event<'_>)>(&mut self, bytes: &[u8], tell: &mut F) {
+        if self.held.is_empty() {
+            let used = run(&mut self.reader, bytes, tell);
+            self.held.extend_from_slice(&bytes[used..]);
+        } else {
+            self.held.extend_from_slice(bytes);
+            let used = run(&mut self.reader, &self.held, tell);
+            self.held.drain(..used);
+        }
+    }
+
+    /// The bytes that are held. Where nothing comes any more they are a control that went wrong.
+    pub fn held(&self) -> &[u8] {
+        &self.held
+    }
+}
+
+fn run<F: FnMut(Event<'_>)>(reader: &mut Reader, bytes: &[u8], tell: &mut F) -> usize {
+    let mut rest = bytes;
+    while let Some((event, used)) = reader.next(rest) {
+        tell(event);
+        rest = &rest[used..];
+    }
+    bytes.len() - rest.len()
+}

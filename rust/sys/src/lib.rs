@@ -1,0 +1,190 @@
+//! The static library as `csicodec.h` declares it, which says what each struct and field means, and its calls over slices. Nothing compares
+//! these declarations with the library but the tests of `csicodec`.
+#![allow(missing_docs)]
+
+#[repr(C)]
+#[derive(Clone, Copy, Debug, Default, PartialEq, Eq)]
+pub struct Plain {
+    pub kind: u32,
+    pub final_char: u32,
+    pub first: i64,
+    pub second: i64,
+    pub top: u32,
+    pub left: u32,
+    pub bottom: u32,
+    pub right: u32,
+    pub place: usize,
+    pub len: usize,
+    pub red: u8,
+    pub green: u8,
+    pub blue: u8,
+    pub alpha: u8,
+    pub modifiers: u16,
+    pub button: u8,
+    pub absent: u8,
+}
+
+#[repr(C)]
+#[derive(Clone, Copy, Debug, Default, PartialEq, Eq)]
+pub struct Param {
+    pub kind: u64,
+    pub value: i64,
+}
+
+#[repr(C)]
+#[derive(Clone, Copy, Debug, PartialEq, Eq)]
+pub struct Normalised {
+    pub status: u32,
+    pub start: usize,
+    pub at: usize,
+    pub needed: usize,
+}
+
+#[repr(C)]
+#[derive(Clone, Copy, Debug, PartialEq, Eq)]
+pub struct Front {
+    pub status: u32,
+    pub at: usize,
+    pub used: usize,
+    pub actions: usize,
+    pub params: usize,
+}
+
+#[repr(C)]
+#[derive(Clone, Copy, Debug, PartialEq, Eq)]
+pub struct Encoded {
+    pub status: u32,
+    pub at: usize,
+    pub needed: usize,
+}
+
+#[repr(C)]
+#[derive(Clone, Copy, Debug, PartialEq, Eq)]
+pub struct Judged {
+    pub status: u32,
+    pub canonical: u32,
+}
+
+#[repr(C)]
+#[derive(Clone, Copy, Debug, PartialEq, Eq)]
+pub struct Filtered {
+    pub status: u32,
+    pub mode: u32,
+    pub used: usize,
+    pub needed: usize,
+}
+
+#[repr(C)]
+#[derive(Clone, Copy, Debug, PartialEq, Eq)]
+pub struct Spanned {
+    pub status: u32,
+    pub kind: u32,
+    pub mode: u32,
+    pub used: usize,
+}
+
+const _: () = assert!(size_of::<Plain>() == 64 && size_of::<Param>() == 16);
+
+unsafe extern "C" {
+    fn csicodec_normalise(bytes: *const u8, len: usize, out: *mut u8, room: usize) -> Normalised;
+    fn csicodec_next(
+        bytes: *const u8,
+        len: usize,
+        actions: *mut Plain,
+        actions_room: usize,
+        params: *mut Param,
+        params_room: usize,
+    ) -> Front;
+    fn csicodec_encode(
+        actions: *const Plain,
+        count: usize,
+        params: *const Param,
+        params_count: usize,
+        out: *mut u8,
+        room: usize,
+    ) -> Encoded;
+    fn csicodec_is_canonical(
+        action: *const Plain,
+        params: *const Param,
+        params_count: usize,
+    ) -> Judged;
+    fn csicodec_filter(
+        mode: u32,
+        limit: usize,
+        bytes: *const u8,
+        len: usize,
+        out: *mut u8,
+        room: usize,
+    ) -> Filtered;
+    fn csicodec_span(mode: u32, limit: usize, bytes: *const u8, len: usize) -> Spanned;
+    safe fn csicodec_esc(intermediate: u8, final_byte: u8) -> u32;
+    safe fn csicodec_version() -> u32;
+}
+
+// The exports require nothing, so what is left to owe is what the slices' types say: each pointer and length is that of
+// one slice, which is borrowed for the call, and the mutable ones are apart from the others.
+
+pub fn normalise(bytes: &[u8], out: &mut [u8]) -> Normalised {
+    // SAFETY: as above.
+    unsafe { csicodec_normalise(bytes.as_ptr(), bytes.len(), out.as_mut_ptr(), out.len()) }
+}
+
+pub fn next(bytes: &[u8], actions: &mut [Plain], params: &mut [Param]) -> Front {
+    // SAFETY: as above.
+    unsafe {
+        csicodec_next(
+            bytes.as_ptr(),
+            bytes.len(),
+            actions.as_mut_ptr(),
+            actions.len(),
+            params.as_mut_ptr(),
+            params.len(),
+        )
+    }
+}
+
+pub fn encode(actions: &[Plain], params: &[Param], out: &mut [u8]) -> Encoded {
+    // SAFETY: as above.
+    unsafe {
+        csicodec_encode(
+            actions.as_ptr(),
+            actions.len(),
+            params.as_ptr(),
+            params.len(),
+            out.as_mut_ptr(),
+            out.len(),
+        )
+    }
+}
+
+pub fn is_canonical(action: &Plain, params: &[Param]) -> Judged {
+    // SAFETY: as above.
+    unsafe { csicodec_is_canonical(action, params.as_ptr(), params.len()) }
+}
+
+pub fn filter(mode: u32, limit: usize, bytes: &[u8], out: &mut [u8]) -> Filtered {
+    // SAFETY: as above.
+    unsafe {
+        csicodec_filter(
+            mode,
+            limit,
+            bytes.as_ptr(),
+            bytes.len(),
+            out.as_mut_ptr(),
+            out.len(),
+        )
+    }
+}
+
+pub fn span(mode: u32, limit: usize, bytes: &[u8]) -> Spanned {
+    // SAFETY: as above.
+    unsafe { csicodec_span(mode, limit, bytes.as_ptr(), bytes.len()) }
+}
+
+pub fn esc(intermediate: u8, final_byte: u8) -> u32 {
+    csicodec_esc(intermediate, final_byte)
+}
+
+pub fn version() -> u32 {
+    csicodec_version()
+}

@@ -1,0 +1,110 @@
+//! A stream in every cut has the same events.
+
+use csicodec::{
+    CSI, Cursor, Esc, EscCode, Event, KittyKeyboardFlags, Modifiers, Parser, SpanKind, encode_to,
+    events, spans,
+};
+
+const STREAM: &[u8] = b"a\x1b[1;31mred\x1b]0;[1m;t\x07\x1b(B\x1b7\x1b[1\x08;2H\x1b[\x7f5A\x1b[3\x18z\x1b[1\xc3\xa9\x1bPq\x1b\x1b[m\x1b\\\x1b_x\x1b[200~\x1b!";
+
+/// What an event says, and whether it goes on with what came before; text, strings and what went wrong are joined.
+fn tell(all: &mut Vec<String>, event: Event<'_>) {
+    let goes_on = matches!(
+        event,
+        Event::Text(_) | Event::Other(_) | Event::Str { first: false, .. }
+    );
+    let (head, tail) = match event {
+        Event::Text(text) => ("T".into(), String::from_utf8_lossy(text).into_owned()),
+        Event::Csi(csi) => ("A".into(), csi.to_string()),
+        Event::Esc(esc) => ("E".into(), esc.to_string()),
+        Event::Str {
+            kind, bytes, last, ..
+        } => (
+            format!("{kind:?}"),
+            String::from_utf8_lossy(bytes).into_owned() + if last { "." } else { "" },
+        ),
+        Event::Other(bytes) => ("O".into(), String::from_utf8_lossy(bytes).into_owned()),
+        _ => unreachable!(),
+    };
+    match all.last_mut() {
+        Some(last) if goes_on && last.starts_with(&head) => last.push_str(&tail),
+        _ => all.push(format!("{head} {tail}")),
+    }
+}
+
+#[test]
+fn every_cut() {
+    let mut wanted = Vec::new();
+    events(&STREAM[..STREAM.len() - 2]).for_each(|event| tell(&mut wanted, event));
+    assert_eq!(
+        wanted,
+        [
+            "T a",
+            "A \x1b[1m",
+            "A \x1b[31m",
+            "T red",
+            "Osc 0;[1m;t.",
+            "E \x1b(B",
+            "E \x1b7",
+            "T \x08",
+            "A \x1b[1;2H",
+            "A \x1b[5A",
+            "O \x1b[3",
+            "T \x18z",
+            "O \x1b[1",
+            "T é",
+            "Dcs q\x1b\x1b[m.",
+            "Apc x",
+            "A \x1b[200~",
+        ]
+    );
+    assert_eq!(events(STREAM).last(), Some(Event::Other(b"\x1b!")));
+    for i in 0..=STREAM.len() {
+        for j in i..=STREAM.len() {
+            let mut all = Vec::new();
+            let mut parser = Parser::new();
+            for part in [&STREAM[..i], &STREAM[i..j], &STREAM[j..]] {
+                parser.advance(part, &mut |event| tell(&mut all, event));
+            }
+            // A character of UTF-8 that is cut is told in two parts.
+            let whole = |all: &[String]| all.concat().replace(['\u{fffd}', 'é'], "");
+            assert_eq!(whole(&all), whole(&wanted), "cut at {i} and {j}");
+            assert_eq!(parser.held(), b"\x1b!");
+        }
+    }
+}
+
+#[test]
+fn parts_and_names() {
+    let all: Vec<_> = spans(STREAM).collect();
+    assert_eq!(
+        all.iter()
+            .flat_map(|span| span.bytes)
+            .copied()
+            .collect::<Vec<_>>(),
+        STREAM
+    );
+    assert_eq!(all.last().map(|span| span.kind), Some(SpanKind::Other));
+    assert_eq!(
+        Esc::parse(Some(b'('), b'0'),
+        Esc::Code(EscCode::DecLineDrawingG0)
+    );
+    let unknown = Esc::Unspecified {
+        intermediate: Some(b'!'),
+        control: b'a',
+    };
+    assert_eq!(Esc::parse(Some(b'!'), b'a'), unknown);
+    assert_eq!(
+        (unknown.to_string(), Esc::parse(None, b'7').to_string()),
+        ("\x1b!a".into(), "\x1b7".into())
+    );
+    let keys = Modifiers::SHIFT | Modifiers::CTRL | Modifiers::from_bits_retain(64);
+    assert_eq!(
+        format!("{keys:?} {:?}", KittyKeyboardFlags::NONE),
+        "SHIFT | CTRL | 0x40 NONE"
+    );
+    let mut out = b"a".to_vec();
+    encode_to(&[CSI::from(Cursor::Up(2))], &mut out).expect("a text");
+    assert_eq!(out, b"a\x1b[2A");
+    assert_eq!(csicodec_sys::version(), 900);
+}

@@ -1,50 +1,73 @@
 -- Chunk by chunk.
-use Rattle.std.proofs.Common.{ℕ, List, [], ◌∷◌, ◌++◌, sym, ap, ◌∙◌, append_assoc, append-nil}
+use Rattle.std.proofs.Common.{◌≡◌, ℕ, Bool, false, List, [], ◌∷◌, ◌++◌, sym, ap, subst, ◌∙◌, append_assoc, append-nil}
 use Rattle.std.specs.List.{concat}
 use Rattle.csicodec_spans.specs.declared.table.Mode.{Mode}
 use Rattle.csicodec_spans.specs.declared.table.Mode.TheVariants as mode
-use Rattle.csicodec_spans.specs.Parts.{IsUnsure}
+use Rattle.csicodec_spans.specs.Parts.{Part}
 use Rattle.csicodec_spans.proofs.OneSpan.{none_unsure}
 use Rattle.csicodec_spans.proofs.Kept.{parts_more, parts_on}
 use Rattle.csicodec_safe.specs.Shown.{shown_chars, shown_text}
-use Rattle.csicodec_safe.specs.Cleaned.{RuleOf, Cleans, longest}
-use Rattle.csicodec_safe.specs.Stream.{Between, start_of, AreTaken}
+use Rattle.csicodec_safe.specs.Titles.{title_open, with_titles}
+use Rattle.csicodec_safe.specs.Cleaned.{RuleOf, EndOf, AreSteps, Ends, longest}
+use Rattle.csicodec_safe.specs.Stream.{Between, start_of, Takes, AreTaken}
 use Rattle.csicodec_safe.specs.Stream.{Goes}
+use Rattle.csicodec_safe.proofs.Titles.{open_on, titles_on}
 use Rattle.csicodec_safe.proofs.Sure.{read_none}
 use Rattle.csicodec_safe.proofs.Stepped.{cleans, goes_none, steps_on}
 
 module _ {S : Type 0} (Gives : RuleOf S) where
-  chunk_on : (limit : ℕ) (m n a : Mode) (s mid after : S) (run chars first one left held second two rest last : List ℕ) → (g : Goes Gives limit m s run chars first one left n mid held)
-      → Goes Gives limit n mid g.left g.read (left ++ second) two rest a after last → Goes Gives limit m s run chars (first ++ second) (one ++ two) rest a after last
-  chunk_on limit m n a s mid after run chars first one left held second two rest last g k = record {
-    parts = g.parts ++ k.parts;
-    text = g.text ++ k.text;
-    left = k.left;
-    read = k.read;
-    first = parts_on limit g.parts k.parts m (first ++ second) (left ++ second) rest n a (parts_more limit g.parts m first second left n g.first) k.first;
-    steps = steps_on Gives g.parts k.parts s mid after run g.left k.left g.text k.text g.steps k.steps;
-    is_read = k.is_read;
-    same = sym (append_assoc (shown_chars chars) one two) ∙ ap (λ t. t ++ two) g.same ∙ append_assoc g.text (shown_chars g.read) two ∙ ap (λ t. g.text ++ t) k.same
-        ∙ sym (append_assoc g.text k.text (shown_chars k.read));
+  chunk_on : (limit : ℕ) (m n a : Mode) (t u v : Bool) (s mid after : S) (run chars first one left held second two rest last : List ℕ) → (g : Goes Gives limit m t s run chars first one left n u mid held)
+      → Goes Gives limit n u mid g.left g.read (left ++ second) two rest a v after last → Goes Gives limit m t s run chars (first ++ second) (one ++ two) rest a v after last
+  chunk_on limit m n a t u v s mid after run chars first one left held second two rest last g k =
+      let all : with_titles t (g.parts ++ k.parts) ≡ with_titles t g.parts ++ with_titles u k.parts =
+      titles_on t g.parts k.parts ∙ ap (λ (b : Bool). with_titles t g.parts ++ with_titles b k.parts) (sym g.titles) in
+      record {
+        parts = g.parts ++ k.parts;
+        text = g.text ++ k.text;
+        left = k.left;
+        read = k.read;
+        first = parts_on limit g.parts k.parts m (first ++ second) (left ++ second) rest n a (parts_more limit g.parts m first second left n g.first) k.first;
+        titles = k.titles ∙ ap (λ (b : Bool). title_open b k.parts) g.titles ∙ sym (open_on t g.parts k.parts);
+        steps = subst (λ (ps : List Part). AreSteps Gives s run ps (g.text ++ k.text) after k.left) (sym all)
+            (steps_on Gives (with_titles t g.parts) (with_titles u k.parts) s mid after run g.left k.left g.text k.text g.steps k.steps);
+        is_read = k.is_read;
+        same = sym (append_assoc (shown_chars chars) one two) ∙ ap (λ t. t ++ two) g.same ∙ append_assoc g.text (shown_chars g.read) two ∙ ap (λ t. g.text ++ t) k.same
+            ∙ sym (append_assoc g.text k.text (shown_chars k.read));
+      }
+
+  -- nothing came yet
+  pub takes_none : (s : S) → Takes Gives (start_of s) [] [] (start_of s)
+  takes_none s = record { unsure = none_unsure longest mode.Text; goes = λ run chars h. goes_none Gives longest mode.Text false s run chars [] [] h }
+
+  -- a chunk more
+  pub takes_on : (old mid new : Between S) (first second one two : List ℕ) → Takes Gives old first one mid → Takes Gives mid second two new → Takes Gives old (first ++ second) (one ++ two) new
+  takes_on old mid new first second one two h k = record {
+    unsure = k.unsure;
+    goes = λ run chars read.
+        let g = h.goes run chars read in
+        let all = chunk_on longest old.mode mid.mode new.mode old.titled mid.titled new.titled old.rule mid.rule new.rule run chars (old.bytes ++ first) one mid.bytes mid.held second two new.bytes new.held g (k.goes g.left g.read g.is_read) in
+        subst (λ (bs : List ℕ). Goes Gives longest old.mode old.titled old.rule run chars bs (one ++ two) new.bytes new.mode new.titled new.rule new.held) (append_assoc old.bytes first second) all;
   }
 
-  pub record Came (s : S) (bytes text : List ℕ) (now : Between S) : Type 0 where
-    pub unsure : IsUnsure longest now.mode now.bytes
-    pub goes : Goes Gives longest mode.Text s [] [] bytes text now.bytes now.mode now.rule now.held
+  -- the end
+  pub ends : (Closes : EndOf S) (s : S) (bytes text close : List ℕ) (last : Between S) → Takes Gives (start_of s) bytes text last → Closes last.rule close
+      → Ends Gives Closes longest s bytes (text ++ (shown_text last.held ++ close))
+  ends Closes s bytes text close last h k = record {
+    before = text ++ shown_text last.held;
+    after = last.rule;
+    close = close;
+    cleans = cleans Gives longest last.mode last.titled s last.rule bytes text last.bytes last.held (h.goes [] [] (read_none [])) h.unsure;
+    closes = k;
+    all = sym (append_assoc text (shown_text last.held) close);
+  }
 
-  taken : (s : S) (bytes text : List ℕ) (old new : Between S) (chunks : List (List ℕ)) (more : List ℕ) → Came s bytes text old → AreTaken Gives old chunks more new → Came s (bytes ++ concat chunks) (text ++ more) new
+  taken : (s : S) (bytes text : List ℕ) (old new : Between S) (chunks : List (List ℕ)) (more : List ℕ) → Takes Gives (start_of s) bytes text old → AreTaken Gives old chunks more new
+      → Takes Gives (start_of s) (bytes ++ concat chunks) (text ++ more) new
   taken s bytes text old new [] more h (none, same) = rw (none, same, append-nil bytes, append-nil text) h
   taken s bytes text old new (chunk ∷ chunks) more h (mid, first, others, takes, e, rest) =
-      let g = h.goes in
-      let now : Came s (bytes ++ chunk) (text ++ first) mid = record {
-        unsure = takes.unsure;
-        goes = chunk_on longest mode.Text old.mode mid.mode s old.rule mid.rule [] [] bytes text old.bytes old.held chunk first mid.bytes mid.held g (takes.goes g.left g.read g.is_read);
-      } in
-      let all = taken s (bytes ++ chunk) (text ++ first) mid new chunks others now rest in
+      let all = taken s (bytes ++ chunk) (text ++ first) mid new chunks others (takes_on (start_of s) old mid bytes chunk text first h takes) rest in
       rw (← append_assoc bytes chunk (concat chunks), e, ← append_assoc text first others) all
 
-  pub any_chunks : (s : S) (chunks : List (List ℕ)) (text : List ℕ) (last : Between S) → AreTaken Gives (start_of s) chunks text last → Cleans Gives longest s (concat chunks) (text ++ shown_text last.held) last.rule
-  any_chunks s chunks text last h =
-      let begun : Came s [] [] (start_of s) = record { unsure = none_unsure longest mode.Text; goes = goes_none Gives longest mode.Text s [] [] [] [] (read_none []) } in
-      let c = taken s [] [] (start_of s) last chunks text begun h in
-      cleans Gives longest last.mode s last.rule (concat chunks) text last.bytes last.held c.goes c.unsure
+  pub any_chunks : (Closes : EndOf S) (s : S) (chunks : List (List ℕ)) (text close : List ℕ) (last : Between S) → AreTaken Gives (start_of s) chunks text last → Closes last.rule close
+      → Ends Gives Closes longest s (concat chunks) (text ++ (shown_text last.held ++ close))
+  any_chunks Closes s chunks text close last h k = ends Closes s (concat chunks) text close last (taken s [] [] (start_of s) last chunks text (takes_none s) h) k

@@ -1,5 +1,5 @@
 -- The parts of a stream, span by span, and what was appended for them.
-use Rattle.std.proofs.Common.{◌≡◌, ℕ, List, [], ◌∷◌, ◌++◌, refl, sym, ap, subst, ◌∙◌, append_assoc, append-nil, arith}
+use Rattle.std.proofs.Common.{◌≡◌, ℕ, Bool, false, List, [], ◌∷◌, ◌++◌, refl, sym, ap, subst, ◌∙◌, append_assoc, append-nil, arith}
 use Rattle.std.specs.List.{AllByRecursion, flat_map}
 use Rattle.csicodec_spans.specs.declared.table.Kind.{Kind}
 use Rattle.csicodec_spans.specs.declared.table.Kind.TheVariants as kind
@@ -8,11 +8,13 @@ use Rattle.csicodec_spans.specs.declared.table.Mode.TheVariants as mode
 use Rattle.csicodec_spans.specs.Parts.{Part, part, bytes_of, AreAll, IsSpan, Cuts, IsUnsure}
 use Rattle.csicodec_spans.proofs.Kept.{parts_on}
 use Rattle.csicodec_safe.specs.Shown.{shown_chars, shown_text}
+use Rattle.csicodec_safe.specs.Titles.{title_behind, title_open, read_as, with_titles}
 use Rattle.csicodec_safe.specs.Cleaned.{RuleOf, IsStep, AreSteps, Cleans}
 use Rattle.csicodec_safe.specs.Shown.{IsRead}
 use Rattle.csicodec_safe.specs.Private.Steps.{IsAppended}
 use Rattle.csicodec_safe.specs.Stream.{Goes}
 use Rattle.csicodec_safe.proofs.Sure.{read_more, read_none}
+use Rattle.csicodec_safe.proofs.Titles.{open_on, titled, titles_on}
 use Rattle.csicodec_safe.proofs.Shows.{shown_none, shown_on, shown_read}
 
 module _ {S : Type 0} (Gives : RuleOf S) where
@@ -89,47 +91,53 @@ module _ {S : Type 0} (Gives : RuleOf S) where
       no_own s run chars held ps more after left read h (drops kind.Other bytes ps s run (λ r b. (refl, refl, refl)) span)
 
   -- nothing yet
-  pub goes_none : (limit : ℕ) (m : Mode) (s : S) (run chars bytes held : List ℕ) → IsRead run chars held → Goes Gives limit m s run chars bytes [] bytes m s held
-  goes_none limit m s run chars bytes held read =
-      record { parts = []; text = []; left = run; read = chars; first = (refl, refl); steps = (refl, refl, refl); is_read = read; same = append-nil (shown_chars chars) }
+  pub goes_none : (limit : ℕ) (m : Mode) (t : Bool) (s : S) (run chars bytes held : List ℕ) → IsRead run chars held → Goes Gives limit m t s run chars bytes [] bytes m t s held
+  goes_none limit m t s run chars bytes held read =
+      record { parts = []; text = []; left = run; read = chars; first = (refl, refl); titles = refl; steps = (refl, refl, refl); is_read = read; same = append-nil (shown_chars chars) }
 
   -- a span more
-  pub goes_on : (limit : ℕ) (m n a : Mode) (k : Kind) (s mid after : S) (run chars bytes appended behind held span rest more left : List ℕ) → Goes Gives limit m s run chars bytes appended behind n mid held
-      → Cuts limit n behind k span rest a → IsAppended Gives k mid held span more after left → Goes Gives limit m s run chars bytes (appended ++ more) rest a after left
-  goes_on limit m n a k s mid after run chars bytes appended behind held span rest more left g cut h =
-      let t = spanned k mid g.left g.read held span more cut.parts after left cut.span g.is_read h in
+  pub goes_on : (limit : ℕ) (m n a : Mode) (t u : Bool) (k : Kind) (s mid after : S) (run chars bytes appended behind held span rest more left : List ℕ) → Goes Gives limit m t s run chars bytes appended behind n u mid held
+      → Cuts limit n behind k span rest a → IsAppended Gives (read_as k u) mid held span more after left → Goes Gives limit m t s run chars bytes (appended ++ more) rest a (title_behind u k span) after left
+  goes_on limit m n a t u k s mid after run chars bytes appended behind held span rest more left g cut h =
+      let now = titled u k span cut.parts cut.span in
+      let x = spanned (read_as k u) mid g.left g.read held span more (with_titles u cut.parts) after left now.span g.is_read h in
+      let all : with_titles t (g.parts ++ cut.parts) ≡ with_titles t g.parts ++ with_titles u cut.parts =
+      titles_on t g.parts cut.parts ∙ ap (λ (b : Bool). with_titles t g.parts ++ with_titles b cut.parts) (sym g.titles) in
       record {
         parts = g.parts ++ cut.parts;
-        text = g.text ++ t.text;
-        left = t.left;
-        read = t.read;
+        text = g.text ++ x.text;
+        left = x.left;
+        read = x.read;
         first = parts_on limit g.parts cut.parts m bytes behind rest n a g.first cut.first;
-        steps = steps_on g.parts cut.parts s mid after run g.left t.left g.text t.text g.steps t.steps;
-        is_read = t.is_read;
-        same = sym (append_assoc (shown_chars chars) appended more) ∙ ap (λ (x : List ℕ). x ++ more) g.same ∙ append_assoc g.text (shown_chars g.read) more
-            ∙ ap (λ (x : List ℕ). g.text ++ x) t.same ∙ sym (append_assoc g.text t.text (shown_chars t.read));
+        titles = sym now.behind ∙ ap (λ (b : Bool). title_open b cut.parts) g.titles ∙ sym (open_on t g.parts cut.parts);
+        steps = subst (λ (ps : List Part). AreSteps Gives s run ps (g.text ++ x.text) after x.left) (sym all)
+            (steps_on (with_titles t g.parts) (with_titles u cut.parts) s mid after run g.left x.left g.text x.text g.steps x.steps);
+        is_read = x.is_read;
+        same = sym (append_assoc (shown_chars chars) appended more) ∙ ap (λ (y : List ℕ). y ++ more) g.same ∙ append_assoc g.text (shown_chars g.read) more
+            ∙ ap (λ (y : List ℕ). g.text ++ y) x.same ∙ sym (append_assoc g.text x.text (shown_chars x.read));
       }
 
   -- the whole stream
-  pub cleans : (limit : ℕ) (a : Mode) (s after : S) (bytes appended rest held : List ℕ) → Goes Gives limit mode.Text s [] [] bytes appended rest a after held → IsUnsure limit a rest
+  pub cleans : (limit : ℕ) (a : Mode) (u : Bool) (s after : S) (bytes appended rest held : List ℕ) → Goes Gives limit mode.Text false s [] [] bytes appended rest a u after held → IsUnsure limit a rest
       → Cleans Gives limit s bytes (appended ++ shown_text held) after
-  cleans limit a s after bytes appended [] held g unsure = record {
+  cleans limit a u s after bytes appended [] held g unsure = record {
     parts = g.parts ++ [];
     whole = record { sure = g.parts; rest = []; after = a; first = g.first; unsure = unsure; whole = refl };
     before = g.text;
     run = g.left;
-    steps = subst (λ (ps : List Part). AreSteps Gives s [] ps g.text after g.left) (sym (append-nil g.parts)) g.steps;
+    steps = subst (λ (ps : List Part). AreSteps Gives s [] (with_titles false ps) g.text after g.left) (sym (append-nil g.parts)) g.steps;
     all = ap (λ t. t ++ shown_text held) g.same ∙ append_assoc g.text (shown_chars g.read) (shown_text held) ∙ ap (λ t. g.text ++ t) (sym (shown_read g.left g.read held g.is_read));
   }
-  cleans limit a s after bytes appended (b ∷ rest) held g unsure =
+  cleans limit a u s after bytes appended (b ∷ rest) held g unsure =
       let end : List Part = part kind.Other (b ∷ rest) ∷ [] in
       record {
         parts = g.parts ++ end;
         whole = record { sure = g.parts; rest = b ∷ rest; after = a; first = g.first; unsure = unsure; whole = refl };
         before = g.text ++ shown_text g.left;
         run = [];
-        steps = steps_on g.parts end s after after [] g.left [] g.text (shown_text g.left) g.steps
-            (shown_text g.left, after, [], [], (refl, refl, refl), sym (append-nil (shown_text g.left)), (refl, refl, refl));
+        steps = subst (λ (ps : List Part). AreSteps Gives s [] ps (g.text ++ shown_text g.left) after []) (sym (titles_on false g.parts end))
+            (steps_on (with_titles false g.parts) end s after after [] g.left [] g.text (shown_text g.left) g.steps
+            (shown_text g.left, after, [], [], (refl, refl, refl), sym (append-nil (shown_text g.left)), (refl, refl, refl)));
         all = ap (λ t. t ++ shown_text held) g.same ∙ append_assoc g.text (shown_chars g.read) (shown_text held) ∙ ap (λ t. g.text ++ t) (sym (shown_read g.left g.read held g.is_read))
             ∙ sym (append-nil (g.text ++ shown_text g.left)) ∙ ap (λ t. (g.text ++ shown_text g.left) ++ t) (sym shown_none);
       }

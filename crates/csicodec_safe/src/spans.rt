@@ -1,5 +1,5 @@
 //! The spans of a stream, and what is left of them.
-ghost use Rattle.std.specs.Prelude.{◌≡◌, ◌≢◌, ◌<◌, ◌≤◌, ◌++◌, ℕ, List, [], length, drop, vec_len, MatchOption, OnOk, IfOk};
+ghost use Rattle.std.specs.Prelude.{◌≡◌, ◌≢◌, ◌<◌, ◌≤◌, ◌++◌, ℕ, List, [], length, MatchOption, OnOk, IfOk};
 ghost use Rattle.csicodec_tokens.specs.Sequence.{Seq};
 ghost use Rattle.csicodec_spans.specs.declared.table.Kind.TheVariants.{Csi as Sequence};
 ghost use Rattle.csicodec_spans.specs.Parts.{IsUnsure};
@@ -10,19 +10,11 @@ ghost use Rattle.csicodec_safe.specs.Stream.{Goes};
 
 use crate::rule::Rule;
 use crate::text::{append_shown, append_sure};
+use crate::title::{read_as, title_behind};
 use csicodec_base::CsiParam;
 use csicodec_spans::{Kind, Mode, next_span_into};
+use csicodec_streams::keep_from;
 use std::alloc::AllocError;
-
-/// Keeps the bytes from a place on.
-pub(crate) fn keep_from(bytes: &mut Vec<u8>, from: usize)
-    requires { from ≤ vec_len bytes.old }
-    ensures { bytes.new.items ≡ drop from bytes.old.items }
-{
-    let len = bytes.len();
-    bytes.copy_within(from..len, 0);
-    bytes.truncate(len - from);
-}
 
 /// Appends what is shown of the text, as far as it is sure; `held` are the bytes before it that aren't, and then those at its
 /// end.
@@ -30,6 +22,11 @@ fn append_text(held: &mut Vec<u8>, bytes: &[u8], out: &mut Vec<u8>) -> Result<()
     ensures chars { OnOk result ((chars : List ℕ) × IsRead (held.old.items ++ bytes.now) chars held.new.items × (out.new.items ≡ out.old.items ++ shown_chars chars)) }
     ensures short { OnOk result (length held.new.items ≤ 3) }
 {
+    if held.is_empty() {
+        let rest = append_sure(bytes, out)?;
+        held.extend_from_slice(rest)?;
+        return Ok(());
+    }
     held.extend_from_slice(bytes)?;
     let sure = held.len() - append_sure(held, out)?.len();
     keep_from(held, sure);
@@ -64,11 +61,12 @@ fn append_span<T: Rule>(
 
 /// Appends what is left of all spans of the bytes that are sure, and answers the bytes that aren't, and the mode there.
 ///
-/// `held` are the bytes of the run of text before them that aren't read yet: three at most.
+/// `held` are the bytes of the run of text before them that aren't read yet, three at most; `titled` says whether a title is open.
 pub(crate) fn append_clean<'a, T: Rule>(
     rule: &mut T,
     params: &mut Vec<CsiParam>,
     held: &mut Vec<u8>,
+    titled: &mut bool,
     limit: usize,
     mode: Mode,
     bytes: &'a [u8],
@@ -78,14 +76,16 @@ pub(crate) fn append_clean<'a, T: Rule>(
     ensures parts { IfOk result (λ (rest, after). (front : List ℕ) × (bytes.now ≡ front ++ rest.now)) }
     ensures unsure { IfOk result (λ (rest, after). IsUnsure limit after rest.now) }
     ensures goes { IfOk result (λ (rest, after). (appended : List ℕ) × (out.new.items ≡ out.old.items ++ appended)
-        × ((run chars : List ℕ) → IsRead run chars held.old.items → Goes T.gives limit mode rule.old run chars bytes.now appended rest.now after rule.new held.new.items)) }
+        × ((run chars : List ℕ) → IsRead run chars held.old.items → Goes T.gives limit mode titled.old rule.old run chars bytes.now appended rest.now after titled.new rule.new held.new.items)) }
     ensures short { OnOk result (length held.old.items ≤ 3 → length held.new.items ≤ 3) }
 {
     let mut rest = bytes;
     let mut mode = mode;
     while let Some(read) = next_span_into(params, limit, mode, rest)? {
         let span = read.cut.span;
-        append_span(rule, params, read.control, held, span.kind, span.bytes, out)?;
+        let kind = read_as(span.kind, *titled);
+        append_span(rule, params, read.control, held, kind, span.bytes, out)?;
+        *titled = title_behind(*titled, span.kind, span.bytes);
         rest = read.cut.rest;
         mode = read.cut.mode;
     }

@@ -4,6 +4,7 @@ ghost use Rattle.csicodec_safe.specs.Shown.{shown, shown_chars, shown_text};
 ghost use Rattle.csicodec_safe.specs.Private.Steps.{IsCut};
 ghost use Rattle.csicodec_safe.specs.Shown.{IsRead};
 
+use crate::ascii::behind_plain;
 use bstr::{ByteVec, decode_utf8};
 use std::alloc::AllocError;
 
@@ -46,6 +47,17 @@ fn first_sure(bytes: &[u8]) -> Option<(char, usize)>
     }
 }
 
+/// Appends the plain bytes in front as they are, and answers the others.
+fn append_plain<'a>(bytes: &'a [u8], out: &mut Vec<u8>) -> Result<&'a [u8], AllocError>
+    ensures parts { IfOk result (λ rest. (front : List ℕ) × (bytes.now ≡ front ++ rest.now)) }
+    ensures chars { IfOk result (λ rest. (chars : List ℕ) × IsRead bytes.now chars rest.now × (out.new.items ≡ out.old.items ++ shown_chars chars)) }
+{
+    let rest = behind_plain(bytes);
+    let count = bytes.len() - rest.len();
+    out.extend_from_slice(bytes.split_at(count).0)?;
+    Ok(rest)
+}
+
 /// Appends what is shown of the characters that are sure, whatever follows, and answers the others: three bytes at most.
 pub(crate) fn append_sure<'a>(bytes: &'a [u8], out: &mut Vec<u8>) -> Result<&'a [u8], AllocError>
     ensures parts { IfOk result (λ rest. (front : List ℕ) × (bytes.now ≡ front ++ rest.now)) }
@@ -56,7 +68,7 @@ pub(crate) fn append_sure<'a>(bytes: &'a [u8], out: &mut Vec<u8>) -> Result<&'a 
     let mut rest = bytes;
     while let Some((char, size)) = first_sure(rest) {
         append_char(char, out)?;
-        rest = rest.split_at(size).1;
+        rest = append_plain(rest.split_at(size).1, out)?;
     }
     Ok(rest)
 }

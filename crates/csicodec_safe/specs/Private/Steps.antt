@@ -1,10 +1,22 @@
 -- What private steps say of each other. No promise rests on this file.
-use Rattle.std.specs.Prelude.{ℕ, ◌≡◌, ◌<◌, List, [], ◌++◌, length, None}
+use Rattle.std.specs.Prelude.{ℕ, ◌≡◌, ◌==◌, ◌<◌, Bool, true, ◌&&◌, ◌||◌, nat_le, nat_lt, List, [], ◌++◌, length, None}
+use Rattle.std.specs.List.{AllByRecursion}
 use Rattle.bstr.specs.Utf8.{decoded}
 use Rattle.csicodec_spans.specs.declared.table.Kind.{Kind}
 use Rattle.csicodec_spans.specs.declared.table.Kind.TheVariants as kind
 use Rattle.csicodec_safe.specs.Shown.{IsRead, shown_chars, shown_text}
 use Rattle.csicodec_safe.specs.Cleaned.{RuleOf}
+
+-- a newline, a tab or a character of ASCII that is no control
+abbrev pub plain_byte : ℕ → Bool
+plain_byte b = b == 10 || b == 9 || nat_le 32 b && nat_lt b 127
+
+abbrev pub IsPlainByte : ℕ → Type 0
+IsPlainByte b = plain_byte b ≡ true
+
+-- behind plain bytes
+abbrev pub IsBehindPlain : List ℕ → List ℕ → Type 0
+IsBehindPlain bytes rest = (front : List ℕ) × (bytes ≡ front ++ rest) × AllByRecursion IsPlainByte front
 
 -- no character, but the bytes go no further: the beginning of one, or a byte that is none
 abbrev pub IsCut : List ℕ → Type 0

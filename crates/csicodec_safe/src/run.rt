@@ -1,0 +1,108 @@
+//! Runs from a reader to a writer.
+ghost use Rattle.std.specs.Prelude.{◌≡◌, ◌++◌, ℕ, List, OnErr, OnOk, IfErr};
+ghost use Rattle.std.specs.Io.KnownBytes.{Appends, Consumes, IsAtEnd};
+ghost use Rattle.csicodec_safe.specs.Shown.{IsPlain};
+ghost use Rattle.csicodec_safe.specs.Cleaned.{Ends, Strips, longest};
+ghost use Rattle.csicodec_safe.specs.Stream.{Begins, Between, Takes, start_of};
+ghost use Rattle.csicodec_safe.specs.Styled.{IsStyled, Styles};
+
+use crate::cleaner::Cleaner;
+use crate::rule::Rule;
+use crate::styles::Kept;
+use crate::whole::Dropped;
+use csicodec_streams::{CHUNK, RunError, receive, send};
+use std::alloc::Global;
+use std::io::{Read, Write};
+
+/// Reads to the end, and writes what a rule leaves of the stream; after each read all that is sure is written and flushed.
+///
+/// It holds back what a [`Cleaner`] does, so that it may stand in a pipe that stays open. A read or a write that answers
+/// `Interrupted` is tried again. Any other error of a read is `RunError::Read`; any of a write or the flush, or a write that takes no
+/// byte, is `RunError::Write`; `RunError::Decode` never comes.
+pub fn clean_run<T: Rule + Drop, R: Read, W: Write>(
+    alloc: Global,
+    rule: T,
+    input: &mut R,
+    output: &mut W,
+) -> Result<(), RunError>
+    // What was written is what is left of all the bytes, and what ends it.
+    ensures ok { OnOk result ((bytes : List ℕ) × (text : List ℕ) × Consumes (R.remaining input.old) (R.remaining input.new) bytes
+        × Ends T.gives T.closes longest rule bytes text × Appends (W.contents output.old) (W.contents output.new) text) }
+    ensures end { OnOk result (IsAtEnd (R.remaining input.new)) }
+    // When a read fails, all that was sure of the bytes before it has been written.
+    ensures failed { IfErr result (λ e. e ≡ RunError.Read → (bytes : List ℕ) × (text : List ℕ) × (last : Between T)
+        × Consumes (R.remaining input.old) (R.remaining input.new) bytes × Takes T.gives (start_of rule) bytes text last
+        × Appends (W.contents output.old) (W.contents output.new) text) }
+    // After any error, what went out is a front of the text of bytes that were read.
+    ensures front { OnErr result ((bytes : List ℕ) × (more : List ℕ) × (sent : List ℕ) × Consumes (R.remaining input.old) (R.remaining input.new) (bytes ++ more)
+        × Begins T.gives T.closes rule bytes sent × Appends (W.contents output.old) (W.contents output.new) sent) }
+{
+    let mut cleaner = Cleaner::new(alloc, rule);
+    let mut out = Vec::new(alloc);
+    let mut chunk = [0u8; CHUNK];
+    for _ in 0..u64::MAX {
+        let Ok(count) = receive(input, &mut chunk) else {
+            return Err(RunError::Read);
+        };
+        out.clear();
+        if count == 0 {
+            let Ok(()) = cleaner.finish(&mut out) else {
+                return Err(RunError::Memory);
+            };
+            return send(output, &out);
+        }
+        let Ok(()) = cleaner.push(&chunk[..count], &mut out) else {
+            return Err(RunError::Memory);
+        };
+        let Ok(()) = send(output, &out) else {
+            return Err(RunError::Write);
+        };
+    }
+    Err(RunError::Read)
+}
+
+/// Reads to the end, and writes the plain text of the stream, as [`strip`](crate::strip) makes it of all its bytes, as it comes.
+///
+/// The errors are those of [`clean_run`].
+///
+/// ```text
+/// strip_all(alloc, &mut input, &mut output)?;      // reads "a\x1b[31mb", and writes "ab"
+/// ```
+pub fn strip_all<R: Read, W: Write>(
+    alloc: Global,
+    input: &mut R,
+    output: &mut W,
+) -> Result<(), RunError>
+    // What was written is the stripped text of all the bytes.
+    ensures ok { OnOk result ((bytes : List ℕ) × (text : List ℕ) × Consumes (R.remaining input.old) (R.remaining input.new) bytes
+        × Strips longest bytes text × IsPlain text × Appends (W.contents output.old) (W.contents output.new) text) }
+    ensures end { OnOk result (IsAtEnd (R.remaining input.new)) }
+    // After any error, what went out is a front of the stripped text of bytes that were read, and so of plain text.
+    ensures front { OnErr result ((bytes : List ℕ) × (more : List ℕ) × (sent : List ℕ) × (unsent : List ℕ)
+        × Consumes (R.remaining input.old) (R.remaining input.new) (bytes ++ more) × Strips longest bytes (sent ++ unsent) × IsPlain (sent ++ unsent)
+        × Appends (W.contents output.old) (W.contents output.new) sent) }
+{
+    clean_run(alloc, Dropped, input, output)
+}
+
+/// The same with the styles that stay, as [`clean`](crate::clean) leaves them.
+///
+/// ```text
+/// clean_all(alloc, &mut input, &mut output)?;      // reads "a\x1b[01mb", and writes "a\x1b[1mb\x1b[0m"
+/// ```
+pub fn clean_all<R: Read, W: Write>(
+    alloc: Global,
+    input: &mut R,
+    output: &mut W,
+) -> Result<(), RunError>
+    // What was written is the text of all the bytes with their styles.
+    ensures ok { OnOk result ((bytes : List ℕ) × (text : List ℕ) × Consumes (R.remaining input.old) (R.remaining input.new) bytes
+        × Styles bytes text × IsStyled text × Appends (W.contents output.old) (W.contents output.new) text) }
+    ensures end { OnOk result (IsAtEnd (R.remaining input.new)) }
+    // After any error, what went out is a front of such a text of bytes that were read.
+    ensures front { OnErr result ((bytes : List ℕ) × (more : List ℕ) × (sent : List ℕ) × (unsent : List ℕ)
+        × Consumes (R.remaining input.old) (R.remaining input.new) (bytes ++ more) × Styles bytes (sent ++ unsent) × IsStyled (sent ++ unsent)
+        × Appends (W.contents output.old) (W.contents output.new) sent) }
+{
+    clean_run(alloc, Kept::new(alloc), input, output)
+}

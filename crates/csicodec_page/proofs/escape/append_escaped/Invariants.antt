@@ -1,7 +1,7 @@
 use Rattle.std.proofs.Common.{◌≡◌, ◌++◌, take}
 use Rattle.std.specs.List.{flat_map}
-use Rattle.csicodec_stream.specs.Escaped.{escaped}
-use Rattle.csicodec_stream.proofs.escape.append_escaped.Given as goal
+use Rattle.csicodec_page.specs.Escaped.{escaped}
+use Rattle.csicodec_page.proofs.escape.append_escaped.Given as goal
 
 -- the bytes before this one are appended
 abbrev pub invariant-loop-byte : goal.invariant-loop-byte

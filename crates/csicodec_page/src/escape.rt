@@ -1,7 +1,7 @@
 //! Bytes, shown in ASCII.
 ghost use Rattle.std.specs.Prelude.{◌≡◌, ◌++◌, ◌<◌, OnOk};
 ghost use Rattle.std.specs.List.{flat_map};
-ghost use Rattle.csicodec_stream.specs.Escaped.{escaped, hex_digit};
+ghost use Rattle.csicodec_page.specs.Escaped.{escaped, hex_digit};
 
 use std::alloc::AllocError;
 
@@ -23,7 +23,7 @@ fn append_byte(out: &mut Vec<u8>, byte: u8) -> Result<(), AllocError>
         b'\n' => out.extend_from_slice(b"\\n"),
         b'\r' => out.extend_from_slice(b"\\r"),
         b'\\' => out.extend_from_slice(b"\\\\"),
-        b' '..=b'~' => out.extend_from_slice(&[byte]),
+        b' '..=b'~' => Ok(out.push(byte)?),
         _ => out.extend_from_slice(&[b'\\', b'x', hex_digit(byte / 16), hex_digit(byte % 16)]),
     }
 }

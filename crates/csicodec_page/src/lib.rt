@@ -1,0 +1,20 @@
+//! A stream in words, as it comes: a line, or an object of JSON, for each of its spans.
+#![tactic(auto)]
+
+mod controls;
+mod escape;
+mod explain;
+mod json;
+mod line;
+mod page;
+mod sheet;
+mod style;
+#[cfg(test)]
+mod tests;
+mod totals;
+
+pub use explain::Explainer;
+pub use style::Style;
+
+/// A control sequence of more bytes isn't read.
+pub const LIMIT: usize = 65536;

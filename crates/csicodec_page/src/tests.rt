@@ -1,0 +1,172 @@
+//! A stream with all kinds of spans, told in lines and in JSON.
+
+use crate::explain::Explainer;
+use crate::style::Style;
+use std::alloc::{AllocError, Global};
+use std::test::Fail;
+
+const STREAM: &[u8] =
+    b"a\xc3\x1b[1;31mb\x07\n\x1b]0;t\x07\x1b]1;u\x1b\\\x1bP\x1b\x1bq\x1b]2;v\x18c\x1b[\x07;\x80\x1b7\x1b[3";
+
+const LINES: &str = r#"       0  "a\xc3"                   text  2 bytes
+       2  \e[1;31m                  SGR  bold on
+                                    SGR  foreground red
+       9  "b"                       text  1 byte
+      10  \x07                      BEL  ring the bell
+      11  \n                        LF  cursor down 1 line, scrolling
+      12  \e]0;t\x07                OSC 0  window title and icon name: "t"
+      18  \e]1;u\e\\                OSC 1  icon name: "u"
+      25  \eP\e\eq                  DCS  unknown: "\e\eq" (not closed)
+      30  \e]2;v                    OSC 2  window title: "v" (not closed)
+      35  \x18                      CAN  cancel what is open
+      36  "c"                       text  1 byte
+      37  \e[\x07;                  malformed  4 bytes
+      41  "\x80"                    text  1 byte
+      42  \e7                       DECSC  save the cursor
+      44  \e[3                      malformed  3 bytes
+"#;
+
+const JSON: &str = r#"{"at":0,"kind":"text","hex":"61c3"}
+{"at":2,"kind":"csi","text":"\u001b[1;31m","actions":[{"name":"SGR","words":"bold on"},{"name":"SGR","words":"foreground red"}]}
+{"at":9,"kind":"text","text":"b"}
+{"at":10,"kind":"control","text":"\u0007","actions":[{"name":"BEL","words":"ring the bell"}]}
+{"at":11,"kind":"control","text":"\n","actions":[{"name":"LF","words":"cursor down 1 line, scrolling"}]}
+{"at":12,"kind":"string","text":"\u001b]0;t\u0007","actions":[{"name":"OSC 0","words":"window title and icon name: \"t\""}]}
+{"at":18,"kind":"string","text":"\u001b]1;u\u001b\\","actions":[{"name":"OSC 1","words":"icon name: \"u\""}]}
+{"at":25,"kind":"string","text":"\u001bP\u001b\u001bq","actions":[{"name":"DCS","words":"unknown: \"\\e\\eq\" (not closed)"}]}
+{"at":30,"kind":"string","text":"\u001b]2;v","actions":[{"name":"OSC 2","words":"window title: \"v\" (not closed)"}]}
+{"at":35,"kind":"control","text":"\u0018","actions":[{"name":"CAN","words":"cancel what is open"}]}
+{"at":36,"kind":"text","text":"c"}
+{"at":37,"kind":"malformed","text":"\u001b[\u0007;","actions":[{"name":"malformed","words":"4 bytes"}]}
+{"at":41,"kind":"text","hex":"80"}
+{"at":42,"kind":"escape","text":"\u001b7","actions":[{"name":"DECSC","words":"save the cursor"}]}
+{"at":44,"kind":"malformed","text":"\u001b[3","actions":[{"name":"malformed","words":"3 bytes"}]}
+"#;
+
+const PLAIN: Style<'static> = Style {
+    full: false,
+    json: false,
+    count: false,
+    unknown: false,
+    only: None,
+};
+
+/// What is told of a stream that comes in these two pieces.
+fn told_of<'a>(
+    alloc: Global,
+    style: Style<'a>,
+    front: &[u8],
+    behind: &[u8],
+) -> Result<Explainer<'a>, AllocError> {
+    let mut explainer = Explainer::new(alloc, style);
+    explainer.push(front)?;
+    explainer.push(behind)?;
+    explainer.finish()?;
+    Ok(explainer)
+}
+
+#[test]
+fn explains_any_chunks(rt: HostRuntime) -> Result<(), Fail> {
+    let json = Style {
+        json: true,
+        ..PLAIN
+    };
+    for len in 0..=STREAM.len() {
+        let (front, behind) = STREAM.split_at(len);
+        let explainer = told_of(rt.alloc(), PLAIN, front, behind)?;
+        assert_eq!(rt; explainer.lines(), LINES.as_bytes(), "cut at {len}");
+        let explainer = told_of(rt.alloc(), json, front, behind)?;
+        assert_eq!(rt; explainer.lines(), JSON.as_bytes(), "cut at {len}");
+    }
+    Ok(())
+}
+
+#[test]
+fn tells_what_is_asked_for(rt: HostRuntime) -> Result<(), Fail> {
+    for (style, stream, lines) in [
+        (
+            Style {
+                only: Some("osc 1,BEL"),
+                ..PLAIN
+            },
+            STREAM,
+            r#"      10  \x07                      BEL  ring the bell
+      18  \e]1;u\e\\                OSC 1  icon name: "u"
+"#,
+        ),
+        (
+            Style {
+                unknown: true,
+                ..PLAIN
+            },
+            b"\x1b[1;5Aa\x1b[1~\x1b[1m\x1b[Q\x1b[?".as_slice(),
+            r#"       0  \e[1;5A                   key  Ctrl-Up (no action)
+       7  \e[1~                     key  Home (no action)
+      15  \e[Q                      SEE  select the extent of editing (no action)
+      18  \e[?                      malformed  3 bytes
+"#,
+        ),
+        (
+            Style {
+                only: Some("SGR"),
+                json: true,
+                ..PLAIN
+            },
+            b"a\x1b[1m\x1b7".as_slice(),
+            r#"{"at":1,"kind":"csi","text":"\u001b[1m","actions":[{"name":"SGR","words":"bold on"}]}
+"#,
+        ),
+        (
+            PLAIN,
+            b"\x1b[1;2;3;4;5;6;7;8;9mx".as_slice(),
+            r#"       0  \e[1;2;3;4;5;6;7;8;9m     SGR  bold on
+                                    SGR  faint on
+                                    SGR  italic on
+                                    SGR  underline on
+                                    SGR  slow blink on
+                                    SGR  rapid blink on
+                                    SGR  inverse on
+                                    SGR  concealed on
+                                    SGR  crossed out on
+      20  "x"                       text  1 byte
+"#,
+        ),
+        (
+            PLAIN,
+            b"this is a text that is too long for its column".as_slice(),
+            r#"       0  "this is a text that is too long for its column"
+                                    text  46 bytes
+"#,
+        ),
+    ] {
+        let explainer = told_of(rt.alloc(), style, stream, b"")?;
+        assert_eq!(rt; explainer.lines(), lines.as_bytes());
+    }
+    Ok(())
+}
+
+#[test]
+fn cuts_long_text(rt: HostRuntime) -> Result<(), Fail> {
+    let text = [b'x'; 5000];
+    let style = Style {
+        count: true,
+        ..PLAIN
+    };
+    let mut input: &[u8] = &text;
+    let mut output = Vec::new(rt.alloc());
+    let mut explainer = Explainer::new(rt.alloc(), style);
+    assert!(rt; explainer.read(&mut input, &mut output).is_ok());
+    assert!(rt; explainer.end(&mut output).is_ok());
+    let lines =
+        r#"       0  "xxxxxxxxxxxxxxxxxxxxxxxxxxxxxxxxxxxxxxxxxxxxxxxxxxxxxxxxxxxx".. (5000 bytes)
+                                    text  5000 bytes
+text                       1         5000 bytes
+control sequences          0            0 bytes
+  actions                  0
+escape sequences           0            0 bytes
+strings                    0            0 bytes
+malformed                  0            0 bytes
+"#;
+    assert_eq!(rt; output.as_slice(), lines.as_bytes());
+    Ok(())
+}

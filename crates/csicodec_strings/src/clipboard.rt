@@ -1,0 +1,64 @@
+//! The clipboard (xterm's ctlseqs, Operating System Command 52): letters for what is meant, and text in base64.
+
+use crate::fields::Body;
+use std::fmt;
+
+/// What a letter means.
+fn selection(letter: u8) -> &'static str {
+    match letter {
+        b'c' => "clipboard",
+        b'p' => "primary selection",
+        b'q' => "secondary selection",
+        b's' => "selection",
+        b'0'..=b'7' => "cut buffer",
+        _ => "other selection",
+    }
+}
+
+/// What is meant; with no letter it is the selection and the first cut buffer.
+fn write_selections<W: fmt::Write>(f: &mut fmt::Formatter<W>, letters: &[u8]) -> fmt::Result {
+    if letters.is_empty() {
+        return f.write_str("selection and cut buffer 0");
+    }
+    for (place, letter) in letters.iter().enumerate() {
+        if place > 0 {
+            f.write_str(", ")?;
+        }
+        f.write_str(selection(*letter))?;
+        if letter.is_ascii_digit() {
+            let digit = char::from(*letter);
+            write!(f, " {digit}")?;
+        }
+    }
+    Ok(())
+}
+
+fn is_base64(byte: u8) -> bool {
+    byte.is_ascii_alphanumeric() || byte == b'+' || byte == b'/' || byte == b'='
+}
+
+/// How many bytes a text in base64 is, where all of it is there; about how many, where it isn't.
+fn decoded(text: Body<'_>) -> u64 {
+    let padding = text.bytes.iter().filter(|byte| **byte == b'=').count() as u64;
+    let letters = text.len().saturating_sub(padding);
+    let whole = (letters / 4).saturating_mul(3);
+    whole.saturating_add((letters % 4).saturating_sub(1))
+}
+
+/// OSC 52: which, and what is done with it. What is no base64 clears it.
+pub fn clipboard<W: fmt::Write>(f: &mut fmt::Formatter<W>, rest: Body<'_>) -> fmt::Result {
+    let (letters, text) = rest.cut(b';');
+    if text.bytes == b"?".as_slice() {
+        f.write_str("ask for: ")?;
+        return write_selections(f, letters);
+    }
+    if text.len() == 0 || !text.bytes.iter().all(|byte| is_base64(*byte)) {
+        f.write_str("clear: ")?;
+        return write_selections(f, letters);
+    }
+    write_selections(f, letters)?;
+    let about = if text.more > 0 { "about " } else { "" };
+    let bytes = decoded(text);
+    let unit = if bytes == 1 { "byte" } else { "bytes" };
+    write!(f, ": {about}{bytes} {unit}")
+}

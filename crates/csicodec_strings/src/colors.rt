@@ -1,0 +1,152 @@
+//! Colours that are set, asked for and reset (xterm's ctlseqs, Operating System Commands 4, 5, 10 to 19, 104, 105, 110 to 119).
+//! The answer to a question has the form in which the colour is set.
+
+use crate::fields::{Body, number};
+use crate::shown::Shown;
+use std::fmt;
+
+/// The colours of 10 to 19, in that order.
+static DYNAMIC: [&str; 10] = [
+    "foreground colour",
+    "background colour",
+    "cursor colour",
+    "pointer foreground colour",
+    "pointer background colour",
+    "Tektronix foreground colour",
+    "Tektronix background colour",
+    "highlight background colour",
+    "Tektronix cursor colour",
+    "highlight foreground colour",
+];
+
+/// The special colours of OSC 5, from 0 on.
+static SPECIAL: [&str; 5] = [
+    "bold text",
+    "underlined text",
+    "blinking text",
+    "inverse text",
+    "italic text",
+];
+
+fn dynamic_name(code: u32) -> &'static str {
+    DYNAMIC
+        .get(code.saturating_sub(10) as usize)
+        .copied()
+        .unwrap_or("colour")
+}
+
+fn special_name(index: &[u8]) -> &'static str {
+    let place = number(index).unwrap_or(u32::MAX) as usize;
+    SPECIAL.get(place).copied().unwrap_or("some text")
+}
+
+/// The comma between two things.
+fn write_comma<W: fmt::Write>(f: &mut fmt::Formatter<W>, place: usize) -> fmt::Result {
+    if place > 0 { f.write_str(", ") } else { Ok(()) }
+}
+
+/// A colour of the palette, set or asked for.
+fn palette_pair<W: fmt::Write>(
+    f: &mut fmt::Formatter<W>,
+    index: &[u8],
+    value: &[u8],
+) -> fmt::Result {
+    let index = Shown(index);
+    if value == b"?".as_slice() {
+        return write!(f, "ask for colour {index} of the palette");
+    }
+    let value = Shown(value);
+    write!(f, "colour {index} of the palette: {value}")
+}
+
+/// A special colour, set or asked for.
+fn special_pair<W: fmt::Write>(
+    f: &mut fmt::Formatter<W>,
+    index: &[u8],
+    value: &[u8],
+) -> fmt::Result {
+    let name = special_name(index);
+    if value == b"?".as_slice() {
+        return write!(f, "ask for the colour of {name}");
+    }
+    let value = Shown(value);
+    write!(f, "colour of {name}: {value}")
+}
+
+/// OSC 4: pairs of a number and a colour.
+pub fn palette<W: fmt::Write>(f: &mut fmt::Formatter<W>, rest: Body<'_>) -> fmt::Result {
+    let mut index: &[u8] = &[];
+    for (place, field) in rest.bytes.split(|byte| *byte == b';').enumerate() {
+        if place % 2 == 0 {
+            index = field;
+        } else {
+            write_comma(f, place / 2)?;
+            palette_pair(f, index, field)?;
+        }
+    }
+    Ok(())
+}
+
+/// OSC 5: pairs of a number and a colour.
+pub fn special<W: fmt::Write>(f: &mut fmt::Formatter<W>, rest: Body<'_>) -> fmt::Result {
+    let mut index: &[u8] = &[];
+    for (place, field) in rest.bytes.split(|byte| *byte == b';').enumerate() {
+        if place % 2 == 0 {
+            index = field;
+        } else {
+            write_comma(f, place / 2)?;
+            special_pair(f, index, field)?;
+        }
+    }
+    Ok(())
+}
+
+/// OSC 10 to 19: a colour, and behind it those of the numbers that follow.
+pub fn dynamic<W: fmt::Write>(f: &mut fmt::Formatter<W>, code: u32, rest: Body<'_>) -> fmt::Result {
+    let mut code = code;
+    for (place, field) in rest.bytes.split(|byte| *byte == b';').enumerate() {
+        write_comma(f, place)?;
+        let name = dynamic_name(code);
+        if field == b"?".as_slice() {
+            write!(f, "ask for the {name}")?;
+        } else {
+            let value = Shown(field);
+            write!(f, "{name}: {value}")?;
+        }
+        code = code.saturating_add(1);
+    }
+    Ok(())
+}
+
+/// OSC 104: the colours that are reset, or all.
+pub fn palette_reset<W: fmt::Write>(f: &mut fmt::Formatter<W>, rest: Body<'_>) -> fmt::Result {
+    if rest.bytes.is_empty() {
+        return f.write_str("reset the palette");
+    }
+    f.write_str("reset colour ")?;
+    for (place, field) in rest.bytes.split(|byte| *byte == b';').enumerate() {
+        write_comma(f, place)?;
+        let index = Shown(field);
+        write!(f, "{index}")?;
+    }
+    f.write_str(" of the palette")
+}
+
+/// OSC 105: the special colours that are reset, or all.
+pub fn special_reset<W: fmt::Write>(f: &mut fmt::Formatter<W>, rest: Body<'_>) -> fmt::Result {
+    if rest.bytes.is_empty() {
+        return f.write_str("reset the special colours");
+    }
+    f.write_str("reset the colour of ")?;
+    for (place, field) in rest.bytes.split(|byte| *byte == b';').enumerate() {
+        write_comma(f, place)?;
+        f.write_str(special_name(field))?;
+    }
+    Ok(())
+}
+
+/// OSC 110 to 119.
+pub fn dynamic_reset<W: fmt::Write>(f: &mut fmt::Formatter<W>, code: u32) -> fmt::Result {
+    let name = dynamic_name(code.saturating_sub(100));
+    write!(f, "reset the {name}")
+}

@@ -1,0 +1,76 @@
+//! The parts of a string: what stands between separators, and numbers.
+
+use crate::shown::Quoted;
+
+/// What stands in a string, or the rest of it.
+#[derive(Clone, Copy)]
+pub struct Body<'a> {
+    /// The bytes that are there.
+    pub bytes: &'a [u8],
+    /// How many more there are behind them.
+    pub more: u64,
+}
+
+impl<'a> Body<'a> {
+    /// How many bytes there are.
+    pub fn len(self) -> u64 {
+        (self.bytes.len() as u64).saturating_add(self.more)
+    }
+
+    /// Between quotation marks.
+    pub fn quoted(self) -> Quoted<'a> {
+        Quoted {
+            bytes: self.bytes,
+            more: self.more > 0,
+        }
+    }
+
+    /// What is behind these bytes, where it begins with them.
+    pub fn behind(self, front: &[u8]) -> Option<Body<'a>> {
+        let bytes = self.bytes.strip_prefix(front)?;
+        Some(Body {
+            bytes,
+            more: self.more,
+        })
+    }
+
+    /// What is ahead of the first such byte, and what is behind it; nothing is, where there is none.
+    pub fn cut(self, at: u8) -> (&'a [u8], Body<'a>) {
+        match split_at(self.bytes, at) {
+            Some((front, bytes)) => (
+                front,
+                Body {
+                    bytes,
+                    more: self.more,
+                },
+            ),
+            None => (
+                self.bytes,
+                Body {
+                    bytes: &[],
+                    more: self.more,
+                },
+            ),
+        }
+    }
+}
+
+/// What is ahead of the first such byte, and what is behind it.
+pub fn split_at(bytes: &[u8], at: u8) -> Option<(&[u8], &[u8])> {
+    let place = bytes.iter().position(|byte| *byte == at)?;
+    let (front, rest) = bytes.split_at(place);
+    Some((front, rest.get(1..)?))
+}
+
+/// What is ahead of the first such byte, all where there is none; and what is behind it, nothing where there is none.
+pub fn halves(bytes: &[u8], at: u8) -> (&[u8], &[u8]) {
+    split_at(bytes, at).unwrap_or((bytes, &[]))
+}
+
+/// The number that decimal digits are.
+pub fn number(digits: &[u8]) -> Option<u32> {
+    match std::str::from_utf8(digits) {
+        Ok(text) => text.parse::<u32>().ok(),
+        Err(_) => None,
+    }
+}

@@ -1,0 +1,94 @@
+//! Marks of a shell, notifications and progress.
+
+use crate::fields::{Body, halves, number};
+use crate::shown::{Quoted, Shown};
+use std::fmt;
+
+/// What a mark of a shell means (FinalTerm; iTerm2's and kitty's Shell integration).
+fn mark(letter: &[u8]) -> Option<&'static str> {
+    Some(match letter {
+        b"A" => "start of the prompt",
+        b"B" => "start of the command line",
+        b"C" => "start of the output",
+        b"D" => "end of the command",
+        b"I" => "start of the command line, to the end of the line",
+        b"L" => "to a fresh line",
+        b"N" => "start of the prompt, end of the last command",
+        b"P" => "start of a prompt",
+        _ => return None,
+    })
+}
+
+/// OSC 133: a mark, and behind the last of them the status of the command.
+pub fn prompt_mark<W: fmt::Write>(f: &mut fmt::Formatter<W>, rest: Body<'_>) -> fmt::Result {
+    let (letter, options) = rest.cut(b';');
+    let Some(words) = mark(letter) else {
+        let quoted = rest.quoted();
+        return write!(f, "unknown mark of a shell: {quoted}");
+    };
+    f.write_str(words)?;
+    if options.len() == 0 {
+        return Ok(());
+    }
+    match number(options.bytes) {
+        Some(status) => write!(f, ", status {status}"),
+        None => {
+            let quoted = options.quoted();
+            write!(f, ", {quoted}")
+        }
+    }
+}
+
+/// OSC 633: VS Code's marks, which are those of 133, the command line, and properties.
+pub fn editor_mark<W: fmt::Write>(f: &mut fmt::Formatter<W>, rest: Body<'_>) -> fmt::Result {
+    let (letter, options) = rest.cut(b';');
+    let words = match letter {
+        b"E" => "command line (VS Code): ",
+        b"P" => "property (VS Code): ",
+        _ => return prompt_mark(f, rest),
+    };
+    let quoted = options.quoted();
+    write!(f, "{words}{quoted}")
+}
+
+/// What the progress of ConEmu's OSC 9;4 is.
+fn progress<W: fmt::Write>(f: &mut fmt::Formatter<W>, fields: &[u8]) -> fmt::Result {
+    let (state, percent) = halves(fields, b';');
+    let percent = Shown(percent);
+    match state {
+        b"0" => f.write_str("progress: none"),
+        b"1" => write!(f, "progress: {percent} %"),
+        b"2" => f.write_str("progress: failed"),
+        b"3" => f.write_str("progress: going on"),
+        b"4" => f.write_str("progress: stopped"),
+        _ => f.write_str("progress"),
+    }
+}
+
+/// OSC 9: iTerm2's notification; ConEmu's progress (9;4) and folder (9;9).
+pub fn notification<W: fmt::Write>(f: &mut fmt::Formatter<W>, rest: Body<'_>) -> fmt::Result {
+    if let Some(fields) = rest.behind(b"4;") {
+        return progress(f, fields.bytes);
+    }
+    if let Some(folder) = rest.behind(b"9;") {
+        let quoted = folder.quoted();
+        return write!(f, "current folder (ConEmu): {quoted}");
+    }
+    let quoted = rest.quoted();
+    write!(f, "notification: {quoted}")
+}
+
+/// OSC 777: extensions of rxvt-unicode, of which `notify` has a title and a text.
+pub fn rxvt<W: fmt::Write>(f: &mut fmt::Formatter<W>, rest: Body<'_>) -> fmt::Result {
+    let Some(told) = rest.behind(b"notify;") else {
+        let quoted = rest.quoted();
+        return write!(f, "extension (rxvt): {quoted}");
+    };
+    let (title, text) = told.cut(b';');
+    let title = Quoted {
+        bytes: title,
+        more: false,
+    };
+    let text = text.quoted();
+    write!(f, "notification: {title}, {text}")
+}

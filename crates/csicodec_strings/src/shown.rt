@@ -1,0 +1,112 @@
+//! Bytes as they are shown to people: nothing that a terminal would carry out.
+
+use std::fmt;
+
+/// So many bytes of what is quoted are shown.
+const MOST: usize = 120;
+
+/// Bytes that print as UTF-8 where they are characters that can be seen. Tab, line feed, carriage return, ESC and the
+/// backslash print as `\t`, `\n`, `\r`, `\e` and `\\`, other controls and bytes that are no UTF-8 by their number, as `\x07`, and
+/// characters that can't be seen or that turn the order of a line as `\u{202e}`.
+#[derive(Clone, Copy)]
+pub struct Shown<'a>(pub &'a [u8]);
+
+/// The same between quotation marks, of which one among the bytes prints as `\"`. Of many bytes the first are shown, and `..`
+/// stands behind the marks; so it does where `more` says that there are more.
+#[derive(Clone, Copy)]
+pub struct Quoted<'a> {
+    /// The bytes.
+    pub bytes: &'a [u8],
+    /// Whether there are more behind them.
+    pub more: bool,
+}
+
+/// Whether a byte is an ASCII character that stands for itself anywhere.
+fn is_plain(byte: u8) -> bool {
+    matches!(byte, b' '..=b'~') && byte != b'\\' && byte != b'"'
+}
+
+/// Whether a character is seen, in its place: it is no control, and none that has no width or turns the order of a line.
+pub fn is_seen(character: char) -> bool {
+    !matches!(
+        character,
+        '\u{0}'..='\u{1f}'
+            | '\u{7f}'..='\u{9f}'
+            | '\u{ad}'
+            | '\u{61c}'
+            | '\u{180e}'
+            | '\u{200b}'
+            | '\u{200e}'..='\u{200f}'
+            | '\u{2028}'..='\u{202e}'
+            | '\u{2060}'..='\u{206f}'
+            | '\u{feff}'
+            | '\u{fff9}'..='\u{fffb}'
+            | '\u{e0000}'..='\u{e007f}'
+    )
+}
+
+fn write_character<W: fmt::Write>(f: &mut fmt::Formatter<W>, character: char) -> fmt::Result {
+    match character {
+        '\u{1b}' => f.write_str("\\e"),
+        '\t' => f.write_str("\\t"),
+        '\n' => f.write_str("\\n"),
+        '\r' => f.write_str("\\r"),
+        '\\' => f.write_str("\\\\"),
+        _ => {
+            let number = u32::from(character);
+            if is_seen(character) {
+                f.write_char(character)
+            } else if number < 128 {
+                write!(f, "\\x{number:02x}")
+            } else {
+                write!(f, "\\u{{{number:x}}}")
+            }
+        }
+    }
+}
+
+/// A run of text.
+fn write_text<W: fmt::Write>(f: &mut fmt::Formatter<W>, text: &str, quoted: bool) -> fmt::Result {
+    if text.as_bytes().iter().all(|byte| is_plain(*byte)) {
+        return f.write_str(text);
+    }
+    for character in text.chars() {
+        if quoted && character == '"' {
+            f.write_str("\\\"")?;
+        } else {
+            write_character(f, character)?;
+        }
+    }
+    Ok(())
+}
+
+fn write_bytes<W: fmt::Write>(
+    f: &mut fmt::Formatter<W>,
+    bytes: &[u8],
+    quoted: bool,
+) -> fmt::Result {
+    for chunk in bytes.utf8_chunks() {
+        write_text(f, chunk.valid(), quoted)?;
+        for byte in chunk.invalid() {
+            write!(f, "\\x{byte:02x}")?;
+        }
+    }
+    Ok(())
+}
+
+impl<'a> fmt::Display for Shown<'a> {
+    fn fmt<W: fmt::Write>(&self, f: &mut fmt::Formatter<W>) -> fmt::Result {
+        write_bytes(f, self.0, false)
+    }
+}
+
+impl<'a> fmt::Display for Quoted<'a> {
+    fn fmt<W: fmt::Write>(&self, f: &mut fmt::Formatter<W>) -> fmt::Result {
+        let front = self.bytes.get(..MOST);
+        f.write_char('"')?;
+        write_bytes(f, front.unwrap_or(self.bytes), true)?;
+        f.write_char('"')?;
+        let more = self.more || front.is_some_and(|front| front.len() < self.bytes.len());
+        if more { f.write_str("..") } else { Ok(()) }
+    }
+}

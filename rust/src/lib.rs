@@ -15,19 +15,26 @@ mod actions;
 mod esc;
 mod filter;
 mod numbers;
+mod page;
+mod pen;
+mod room;
 mod rows;
 mod stream;
+mod text;
 mod types;
 mod values;
 
 pub use actions::*;
 pub use esc::{Esc, EscCode};
 pub use filter::Filter;
+pub use pen::Pen;
 pub use stream::{Event, Events, Parser, Span, SpanKind, Spans, StringKind, events, spans};
+pub use text::characters;
 pub use types::*;
 pub use values::*;
 
 use csicodec_sys as raw;
+use room::Room;
 use std::fmt;
 
 /// Why bytes are no sequences one after the other, or actions have no texts. `start` is where the refused sequence begins,
@@ -119,8 +126,7 @@ pub fn normalise(bytes: &[u8]) -> Result<Vec<u8>, Error> {
 pub struct Actions<'a> {
     rest: &'a [u8],
     start: usize,
-    actions: Vec<raw::Plain>,
-    params: Vec<raw::Param>,
+    room: Room,
     given: usize,
     count: usize,
 }
@@ -130,34 +136,25 @@ pub fn actions(bytes: &[u8]) -> Actions<'_> {
     Actions {
         rest: bytes,
         start: 0,
-        actions: vec![raw::Plain::default(); 16],
-        params: vec![raw::Param::default(); 16],
+        room: Room::new(),
         given: 0,
         count: 0,
     }
 }
 
 impl Actions<'_> {
-    /// The actions of the sequence at the front, into the two lists, which grow where they have no room.
+    /// The actions of the sequence at the front.
     fn read(&mut self) -> Result<(), Error> {
-        loop {
-            let answer = raw::next(self.rest, &mut self.actions, &mut self.params);
-            if answer.status != 0 {
-                self.rest = &[];
-                return Err(refusal(answer.status, self.start, answer.at));
-            }
-            if answer.actions <= self.actions.len() && answer.params <= self.params.len() {
-                self.rest = &self.rest[answer.used..];
-                self.start += answer.used;
-                self.given = 0;
-                self.count = answer.actions;
-                return Ok(());
-            }
-            let actions = answer.actions.max(self.actions.len());
-            self.actions.resize(actions, raw::Plain::default());
-            let params = answer.params.max(self.params.len());
-            self.params.resize(params, raw::Param::default());
+        let answer = self.room.next(self.rest);
+        if answer.status != 0 {
+            self.rest = &[];
+            return Err(refusal(answer.status, self.start, answer.at));
         }
+        self.rest = &self.rest[answer.used..];
+        self.start += answer.used;
+        self.given = 0;
+        self.count = answer.actions;
+        Ok(())
     }
 }
 
@@ -173,12 +170,47 @@ impl Iterator for Actions<'_> {
                 return Some(Err(error));
             }
         }
-        let plain = &self.actions[self.given];
         self.given += 1;
-        let params = &self.params[plain.place..plain.place + plain.len];
-        let action = rows::action_of(plain, params).expect("the library makes no other struct");
-        Some(Ok(action))
+        Some(Ok(self.room.action(self.given - 1)))
     }
+}
+
+/// The sequence at the front of some bytes.
+#[derive(Clone, Debug, PartialEq, Eq)]
+#[non_exhaustive]
+pub struct Front {
+    /// What it asks for, at least one action.
+    pub actions: Vec<CSI>,
+    /// How many bytes it has: what follows stands behind them.
+    pub used: usize,
+}
+
+/// The sequence at the front of the bytes, whatever follows it. `Error::Truncated` says that its final byte is yet to come, and in
+/// each `Err` `start` is 0. Of a whole stream [`events`] tells more, and [`actions`] keeps its memory from sequence to sequence.
+///
+/// ```
+/// use csicodec::{CSI, Cursor, Edit, Error, front};
+///
+/// let bytes = b"\x1b[2A\x1b[3@text";
+/// let first = front(bytes)?;
+/// assert_eq!(first.actions, [CSI::from(Cursor::Up(2))]);
+/// let second = front(&bytes[first.used..])?;
+/// assert_eq!(second.actions, [CSI::from(Edit::InsertCharacter(3))]);
+/// assert_eq!(&bytes[first.used + second.used..], b"text");
+/// assert_eq!(front(b"\x1b[2"), Err(Error::Truncated { start: 0, at: 3 }));
+/// # Ok::<(), Error>(())
+/// ```
+pub fn front(bytes: &[u8]) -> Result<Front, Error> {
+    let mut room = Room::new();
+    let answer = room.next(bytes);
+    if answer.status != 0 {
+        return Err(refusal(answer.status, 0, answer.at));
+    }
+    let actions = (0..answer.actions).map(|at| room.action(at)).collect();
+    Ok(Front {
+        actions,
+        used: answer.used,
+    })
 }
 
 /// Appends the joined texts of the actions. After an `Err` nothing is appended.

@@ -1,6 +1,9 @@
 //! A terminal's stream: its spans, and event by event what it says.
 
-use crate::{CSI, Esc, raw, rows};
+use crate::room::Room;
+use crate::text::whole;
+use crate::{CSI, Esc, raw};
+use std::io::{self, ErrorKind, Read};
 
 /// What a span is.
 #[derive(Clone, Copy, Debug, PartialEq, Eq, Hash)]
@@ -91,7 +94,8 @@ pub enum StringKind {
 #[derive(Clone, Debug, PartialEq, Eq)]
 #[non_exhaustive]
 pub enum Event<'a> {
-    /// Characters, and controls of C0 but ESC, and DEL. A character in UTF-8 may be cut at the end of the bytes.
+    /// Characters, and controls of C0 but ESC, and DEL: [`characters`](crate::characters) gives them one by one. No character
+    /// in UTF-8 is cut, but by what stands within it in the stream.
     Text(&'a [u8]),
     /// An action of a control sequence, which may have more: they follow.
     Csi(CSI),
@@ -121,6 +125,8 @@ const BAD_CSI: u32 = 4;
 struct Reader {
     mode: u32,
     limit: usize,
+    /// Whether nothing follows the bytes.
+    ends: bool,
     /// Of the string that is open.
     string: StringKind,
     /// How far the controls within a control sequence were told.
@@ -129,22 +135,21 @@ struct Reader {
     given: usize,
     count: usize,
     used: usize,
-    actions: Vec<raw::Plain>,
-    params: Vec<raw::Param>,
+    room: Room,
 }
 
 impl Reader {
-    fn new(limit: usize) -> Self {
+    fn new(ends: bool) -> Self {
         Reader {
             mode: TEXT,
-            limit,
+            limit: LIMIT,
+            ends,
             string: StringKind::Osc,
             inside: 0,
             given: 0,
             count: 0,
             used: 0,
-            actions: vec![raw::Plain::default(); 16],
-            params: vec![raw::Param::default(); 16],
+            room: Room::new(),
         }
     }
 
@@ -171,35 +176,30 @@ impl Reader {
             }
             return Some(self.wrong(&bytes[..span.used], span.mode));
         }
+        let cut = span.kind == 0 && !self.ends && span.used == bytes.len();
+        let used = if cut { whole(bytes) } else { span.used };
+        if used == 0 {
+            return None;
+        }
         self.mode = span.mode;
-        Some((self.event(span.kind, &bytes[..span.used]), span.used))
+        Some((self.event(span.kind, &bytes[..used]), used))
     }
 
     /// Reads the sequence at the front, of which `used` bytes are in the stream, or as many as it has where that is 0.
     fn read(&mut self, bytes: &[u8], used: usize) -> bool {
-        loop {
-            let front = raw::next(bytes, &mut self.actions, &mut self.params);
-            let used = if used == 0 { front.used } else { used };
-            if front.status != 0 || used > self.limit {
-                return false;
-            }
-            if front.actions <= self.actions.len() && front.params <= self.params.len() {
-                (self.given, self.count, self.used) = (0, front.actions, used);
-                (self.mode, self.inside) = (TEXT, 0);
-                return true;
-            }
-            let room = front.actions.max(self.actions.len());
-            self.actions.resize(room, raw::Plain::default());
-            let room = front.params.max(self.params.len());
-            self.params.resize(room, raw::Param::default());
+        let front = self.room.next(bytes);
+        let used = if used == 0 { front.used } else { used };
+        if front.status != 0 || used > self.limit {
+            return false;
         }
+        (self.given, self.count, self.used) = (0, front.actions, used);
+        (self.mode, self.inside) = (TEXT, 0);
+        true
     }
 
     /// The next action of a sequence; its bytes are used with the last one.
     fn give<'a>(&mut self) -> (Event<'a>, usize) {
-        let plain = &self.actions[self.given];
-        let params = &self.params[plain.place..plain.place + plain.len];
-        let action = rows::action_of(plain, params).expect("the library makes no other struct");
+        let action = self.room.action(self.given);
         self.given += 1;
         let used = if self.given == self.count {
             self.used
@@ -286,7 +286,7 @@ pub struct Events<'a> {
 /// ```
 pub fn events(bytes: &[u8]) -> Events<'_> {
     Events {
-        reader: Reader::new(LIMIT),
+        reader: Reader::new(true),
         rest: bytes,
     }
 }
@@ -305,7 +305,7 @@ impl<'a> Iterator for Events<'a> {
 }
 
 /// A reader of a stream that comes in pieces, as it comes. How it is cut changes nothing but where text, strings and what went wrong
-/// are cut.
+/// are cut; a character of text is never cut by it.
 ///
 /// ```
 /// use csicodec::{Event, Parser};
@@ -333,7 +333,7 @@ impl Parser {
     /// A stream of which nothing has come. A control sequence of more than 65,536 bytes is `Other`.
     pub fn new() -> Self {
         Parser {
-            reader: Reader::new(LIMIT),
+            reader: Reader::new(false),
             held: Vec::new(),
         }
     }
@@ -350,9 +350,38 @@ impl Parser {
         }
     }
 
-    /// The bytes that are held. Where nothing comes any more they are a control that went wrong.
+    /// The bytes that are held. Where nothing comes any more they are a control that went wrong, or a character that is cut.
     pub fn held(&self) -> &[u8] {
         &self.held
+    }
+
+    /// Nothing comes any more: tells what is held.
+    pub fn finish<F: FnMut(Event<'_>)>(mut self, tell: &mut F) {
+        self.reader.ends = true;
+        let used = run(&mut self.reader, &self.held, tell);
+        if used < self.held.len() {
+            tell(Event::Other(&self.held[used..]));
+        }
+    }
+
+    /// Reads to the end, in pieces as they come, and tells each event and at last what is held. After an `Err`, which is the
+    /// reader's, what is held isn't told.
+    pub fn read_to_end<F: FnMut(Event<'_>)>(
+        mut self,
+        mut from: impl Read,
+        tell: &mut F,
+    ) -> io::Result<()> {
+        let mut piece = [0; 4096];
+        loop {
+            match from.read(&mut piece) {
+                Ok(0) => break,
+                Ok(count) => self.advance(&piece[..count], tell),
+                Err(error) if error.kind() == ErrorKind::Interrupted => {}
+                Err(error) => return Err(error),
+            }
+        }
+        self.finish(tell);
+        Ok(())
     }
 }
 

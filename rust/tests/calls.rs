@@ -3,7 +3,7 @@
 use csicodec::{
     Blink, CSI, ColorSpec, CsiParam, Cursor, DecPrivateMode, Error, Font, Intensity, Mode,
     OneBased, Sgr, SrgbaTuple, Underline, Unspecified, VerticalAlign, Window, actions, encode,
-    normalise,
+    front, normalise,
 };
 
 fn all(bytes: &[u8]) -> Vec<CSI> {
@@ -121,4 +121,47 @@ fn parts_are_actions() {
     let mode = Mode::SetDecPrivateMode(DecPrivateMode::from(2004));
     assert_eq!(CSI::from(mode).to_string(), "\x1b[?2004h");
     assert_eq!(CSI::from(Window::RaiseWindow).to_string(), "\x1b[5t");
+}
+
+#[test]
+fn the_front() {
+    let long = [b"\x1b[".as_slice(), &b"1;3;".repeat(100), b"m"].concat();
+    for text in [b"\x1b[1;3m".as_slice(), b"\x1b[200~", b"\x1b[0%m", &long] {
+        let bytes = [text, b"\x1b[2Ax"].concat();
+        let first = front(&bytes).expect("a sequence");
+        assert_eq!(first.used, text.len());
+        assert_eq!(first.actions, all(text));
+    }
+    let refused = [
+        (b"".as_slice(), Error::Truncated { start: 0, at: 0 }),
+        (b"\x1b[1", Error::Truncated { start: 0, at: 3 }),
+        (b"x", Error::NotCsi { start: 0, at: 0 }),
+        (b"\x1b[1\x18", Error::BadByte { start: 0, at: 3 }),
+    ];
+    for (bytes, error) in refused {
+        assert_eq!(front(bytes), Err(error), "{bytes:?}");
+    }
+}
+
+#[test]
+fn cursors_on_a_page() {
+    let page = (24, 80);
+    for (text, from, wanted) in [
+        ("\x1b[300A", (4, 80), Some((0, 80))),
+        ("\x1b[2E", (4, 7), Some((6, 0))),
+        ("\x1b[2F", (4, 7), Some((2, 0))),
+        ("\x1b[2D", (4, 80), Some((4, 77))),
+        ("\x1b[300C", (4, 7), Some((4, 79))),
+        ("\x1b[300;300H", (4, 7), Some((23, 79))),
+        ("\x1b[9f", (4, 7), Some((8, 0))),
+        ("\x1b[9d", (4, 7), Some((8, 7))),
+        ("\x1b[9G", (4, 7), Some((4, 8))),
+        ("\x1b[6n", (4, 7), None),
+    ] {
+        let [CSI::Cursor(cursor)] = all(text.as_bytes())[..] else {
+            panic!("{text:?} is no action of the cursor");
+        };
+        assert_eq!(cursor.target(from, page), wanted, "{text:?}");
+    }
+    assert_eq!(Cursor::Right(3).target((4, 7), (0, 0)), Some((0, 0)));
 }

@@ -1,8 +1,8 @@
 //! A stream in every cut has the same events.
 
 use csicodec::{
-    CSI, Cursor, Esc, EscCode, Event, KittyKeyboardFlags, Modifiers, Parser, SpanKind, encode_to,
-    events, spans,
+    CSI, Cursor, Esc, EscCode, Event, KittyKeyboardFlags, Modifiers, Parser, SpanKind, characters,
+    encode_to, events, spans,
 };
 
 const STREAM: &[u8] = b"a\x1b[1;31mred\x1b]0;[1m;t\x07\x1b(B\x1b7\x1b[1\x08;2H\x1b[\x7f5A\x1b[3\x18z\x1b[1\xc3\xa9\x1bPq\x1b\x1b[m\x1b\\\x1b_x\x1b[200~\x1b!";
@@ -66,10 +66,9 @@ fn every_cut() {
             for part in [&STREAM[..i], &STREAM[i..j], &STREAM[j..]] {
                 parser.advance(part, &mut |event| tell(&mut all, event));
             }
-            // A character of UTF-8 that is cut is told in two parts.
-            let whole = |all: &[String]| all.concat().replace(['\u{fffd}', 'é'], "");
-            assert_eq!(whole(&all), whole(&wanted), "cut at {i} and {j}");
+            assert_eq!(all, wanted, "cut at {i} and {j}");
             assert_eq!(parser.held(), b"\x1b!");
+            parser.finish(&mut |event| assert_eq!(event, Event::Other(b"\x1b!")));
         }
     }
 }
@@ -107,4 +106,37 @@ fn parts_and_names() {
     encode_to(&[CSI::from(Cursor::Up(2))], &mut out).expect("a text");
     assert_eq!(out, b"a\x1b[2A");
     assert_eq!(csicodec_sys::version(), 900);
+}
+
+#[test]
+fn characters_are_never_cut() {
+    let mut bytes = "aé€😀\r\n".as_bytes().to_vec();
+    bytes.extend_from_slice(b"\x1b[m\xe2\x82\x1b[mz\xf0\x9f");
+    let wanted = "aé€😀\r\n\u{fffd}z\u{fffd}";
+    for size in 1..=bytes.len() {
+        let mut told = String::new();
+        let mut parser = Parser::new();
+        let mut tell = |event: Event<'_>| {
+            if let Event::Text(text) = event {
+                told.extend(characters(text));
+            }
+        };
+        bytes
+            .chunks(size)
+            .for_each(|piece| parser.advance(piece, &mut tell));
+        assert_eq!(parser.held(), b"\xf0\x9f");
+        parser.finish(&mut tell);
+        assert_eq!(told, wanted, "pieces of {size}");
+    }
+    assert_eq!(events(&bytes).last(), Some(Event::Text(b"z\xf0\x9f")));
+}
+
+#[test]
+fn a_reader_to_its_end() {
+    let mut all = Vec::new();
+    let read = Parser::new().read_to_end(STREAM, &mut |event| tell(&mut all, event));
+    assert!(read.is_ok());
+    let mut wanted = Vec::new();
+    events(STREAM).for_each(|event| tell(&mut wanted, event));
+    assert_eq!(all, wanted);
 }

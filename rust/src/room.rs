@@ -1,0 +1,41 @@
+//! Room for the actions of one sequence.
+
+use crate::{CSI, raw, rows};
+
+/// Structs of actions and tokens, as many as any sequence so far had.
+#[derive(Clone, Debug)]
+pub(crate) struct Room {
+    actions: Vec<raw::Plain>,
+    params: Vec<raw::Param>,
+}
+
+impl Room {
+    pub(crate) fn new() -> Self {
+        Room {
+            actions: vec![raw::Plain::default(); 16],
+            params: vec![raw::Param::default(); 16],
+        }
+    }
+
+    /// Reads the sequence at the front of the bytes. Where it isn't refused, all its actions stand here.
+    pub(crate) fn next(&mut self, bytes: &[u8]) -> raw::Front {
+        loop {
+            let front = raw::next(bytes, &mut self.actions, &mut self.params);
+            let fits = front.actions <= self.actions.len() && front.params <= self.params.len();
+            if front.status != 0 || fits {
+                return front;
+            }
+            let actions = front.actions.max(self.actions.len());
+            self.actions.resize(actions, raw::Plain::default());
+            let params = front.params.max(self.params.len());
+            self.params.resize(params, raw::Param::default());
+        }
+    }
+
+    /// The action at a place, of those that were read last.
+    pub(crate) fn action(&self, place: usize) -> CSI {
+        let plain = &self.actions[place];
+        let params = &self.params[plain.place..plain.place + plain.len];
+        rows::action_of(plain, params).expect("the library makes no other struct")
+    }
+}

@@ -6,6 +6,9 @@ from kinds_source import source_name
 from kinds_specs import names_in
 from kinds_table import PATH
 
+# What has a variant more in no later version; the others grow as terminals do.
+CLOSED = {"Font", "ColorSpec", "CsiParam", "DecPrivateMode", "TerminalMode", "DeviceAttribute", "Esc"}
+
 
 def said(body):
     """The types in a declaration's variants."""
@@ -22,7 +25,7 @@ def rust_types(subject, sources):
         out += f"\nuse crate::{{{', '.join(sorted(others))}}};\n"
     for name, docs, derives, body in declared(sources):
         derives = "Clone, Debug, PartialEq, Eq, Hash" if "Drop" in derives else "Clone, Copy, Debug, PartialEq, Eq, Hash"
-        growing = "#[non_exhaustive]\n" if name == "CSI" else ""
+        growing = "" if name in CLOSED else "#[non_exhaustive]\n"
         out += f"\n{docs}#[derive({derives})]\n{growing}pub enum {name} {{\n{body}}}\n"
         rows_ = numbers_of(name, body)
         if not rows_:

@@ -17,6 +17,7 @@ use crate::{
 /// "\x1b[6n"          RequestActivePositionReport
 /// ```
 #[derive(Clone, Copy, Debug, PartialEq, Eq, Hash)]
+#[non_exhaustive]
 pub enum Cursor {
     /// CUU (ECMA-48, 8.3.22): this many lines up.
     Up(u32),
@@ -109,6 +110,7 @@ pub enum Cursor {
 /// "\x1b[3L"          InsertLine(3)
 /// ```
 #[derive(Clone, Copy, Debug, PartialEq, Eq, Hash)]
+#[non_exhaustive]
 pub enum Edit {
     /// ICH (ECMA-48, 8.3.64): this many blanks at the cursor, and what stood there moves to the right.
     InsertCharacter(u32),
@@ -164,6 +166,7 @@ pub enum TerminalMode {
 
 /// Which keys `XtermKeyMode` is about (xterm, XTMODKEYS).
 #[derive(Clone, Copy, Debug, PartialEq, Eq, Hash)]
+#[non_exhaustive]
 pub enum XtermKeyModifierResource {
     /// `modifyKeyboard`, number 0.
     Keyboard,
@@ -207,6 +210,7 @@ impl XtermKeyModifierResource {
 /// "\x1b[>4;2m"       XtermKeyMode { resource: OtherKeys, value: Some(2) }
 /// ```
 #[derive(Clone, Copy, Debug, PartialEq, Eq, Hash)]
+#[non_exhaustive]
 pub enum Mode {
     /// DECSET (xterm's name; SM in DEC VT510): the private mode is set.
     SetDecPrivateMode(DecPrivateMode),
@@ -244,6 +248,7 @@ pub enum DeviceAttribute {
 
 /// The answer to the primary device attributes (DA1; ECMA-48, 8.3.24): which terminal of DEC it is, or is like.
 #[derive(Clone, Debug, PartialEq, Eq, Hash)]
+#[non_exhaustive]
 pub enum DeviceAttributes {
     /// `? 1 ; 2`: a VT100 with the advanced video option.
     Vt100WithAdvancedVideoOption,
@@ -267,6 +272,7 @@ pub enum DeviceAttributes {
 /// "\x1b[!p"          SoftReset
 /// ```
 #[derive(Clone, Debug, PartialEq, Eq, Hash)]
+#[non_exhaustive]
 pub enum Device {
     /// DA1 (ECMA-48, 8.3.24; DEC VT100 and up): the answer to the primary device attributes.
     DeviceAttributes(DeviceAttributes),
@@ -293,6 +299,7 @@ pub enum Device {
 
 /// What of the graphics is asked for or set: the first number of XTSMGRAPHICS (xterm's ctlseqs).
 #[derive(Clone, Copy, Debug, PartialEq, Eq, Hash)]
+#[non_exhaustive]
 pub enum XtSmGraphicsItem {
     /// 1: how many colour registers there are.
     NumberOfColorRegisters,
@@ -306,6 +313,7 @@ pub enum XtSmGraphicsItem {
 
 /// What is done with the item: the second number of XTSMGRAPHICS, where it is a request.
 #[derive(Clone, Copy, Debug, PartialEq, Eq, Hash)]
+#[non_exhaustive]
 pub enum XtSmGraphicsAction {
     /// 1: it is asked for.
     ReadAttribute,
@@ -342,6 +350,7 @@ impl XtSmGraphicsAction {
 
 /// What became of the request: the second number of XTSMGRAPHICS, where it is an answer.
 #[derive(Clone, Copy, Debug, PartialEq, Eq, Hash)]
+#[non_exhaustive]
 pub enum XtSmGraphicsStatus {
     /// 0: it was done, and the values follow.
     Success,
@@ -378,6 +387,7 @@ impl XtSmGraphicsStatus {
 
 /// A button.
 #[derive(Clone, Copy, Debug, PartialEq, Eq, Hash)]
+#[non_exhaustive]
 pub enum MouseButton {
     /// Button 1, the left one: it goes down.
     Button1Press,
@@ -475,6 +485,7 @@ impl MouseButton {
 /// "\x1b[<4;5;6m"     SGR1006 { x: 5, y: 6, button: Button1Release, modifiers: SHIFT }
 /// ```
 #[derive(Clone, Copy, Debug, PartialEq, Eq, Hash)]
+#[non_exhaustive]
 pub enum MouseReport {
     /// In cells.
     SGR1006 {
@@ -515,6 +526,7 @@ pub enum MouseReport {
 /// "\x1b[1;1;1;1;9;9*y"       ChecksumRectangularArea of request 1 and page 1, from line 1 and column 1 to 9 and 9
 /// ```
 #[derive(Clone, Copy, Debug, PartialEq, Eq, Hash)]
+#[non_exhaustive]
 pub enum Window {
     /// 1: the window is opened again, if it was an icon.
     DeIconify,
@@ -627,6 +639,7 @@ pub enum Window {
 
 /// How flags change what the keyboard reports.
 #[derive(Clone, Copy, Debug, PartialEq, Eq, Hash)]
+#[non_exhaustive]
 pub enum KittyKeyboardMode {
     /// They take the place of the old ones.
     AssignAll,
@@ -665,6 +678,7 @@ impl KittyKeyboardMode {
 /// "\x1b[?u"          QueryKittySupport
 /// ```
 #[derive(Clone, Copy, Debug, PartialEq, Eq, Hash)]
+#[non_exhaustive]
 pub enum Keyboard {
     /// The flags change in this way.
     SetKittyState {
@@ -690,6 +704,7 @@ pub enum Keyboard {
 
 /// SCP (ECMA-48, 8.3.111): the path of characters.
 #[derive(Clone, Copy, Debug, PartialEq, Eq, Hash)]
+#[non_exhaustive]
 pub enum CharacterPath {
     /// As the terminal has it: 0, or no number, of freedesktop's recommendation on bidirectional text; ECMA-48 has 1 and 2 alone.
     ImplementationDefault,

@@ -20,6 +20,7 @@ pub enum Esc {
 /// The codes of escape sequences. A code's number is that of its last character, and 256 times
 /// that of the one before it, if any.
 #[derive(Clone, Copy, Debug, PartialEq, Eq, Hash)]
+#[non_exhaustive]
 pub enum EscCode {
     /// `ESC c`, RIS (ECMA-48): puts the terminal into the state that it has when it is switched on.
     FullReset = 0x63,

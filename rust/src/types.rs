@@ -21,6 +21,7 @@ pub enum Font {
 /// "\x1b[48:2::1:2:3m"       Background(TrueColor(SrgbaTuple(1, 2, 3, 255)))
 /// ```
 #[derive(Clone, Copy, Debug, PartialEq, Eq, Hash)]
+#[non_exhaustive]
 pub enum Sgr {
     /// All attributes back to the default rendition.
     Reset,
@@ -72,6 +73,7 @@ pub enum ColorSpec {
 
 /// How strong the strokes of a character are (ECMA-48, 8.3.117).
 #[derive(Clone, Copy, Debug, PartialEq, Eq, Hash)]
+#[non_exhaustive]
 pub enum Intensity {
     /// Neither bold nor faint, code 22.
     Normal,
@@ -104,6 +106,7 @@ impl Intensity {
 
 /// The line below a character: 21 and 24 are from ECMA-48, 8.3.117, the kinds behind a colon from kitty and VTE.
 #[derive(Clone, Copy, Debug, PartialEq, Eq, Hash)]
+#[non_exhaustive]
 pub enum Underline {
     /// No line, code 24 or `4:0`.
     None,
@@ -148,6 +151,7 @@ impl Underline {
 
 /// Whether a character blinks, and how fast (ECMA-48, 8.3.117).
 #[derive(Clone, Copy, Debug, PartialEq, Eq, Hash)]
+#[non_exhaustive]
 pub enum Blink {
     /// Steady, code 25.
     None,
@@ -180,6 +184,7 @@ impl Blink {
 
 /// Where on its line a character stands (mintty).
 #[derive(Clone, Copy, Debug, PartialEq, Eq, Hash)]
+#[non_exhaustive]
 pub enum VerticalAlign {
     /// On the line, code 75.
     BaseLine,
@@ -212,6 +217,7 @@ impl VerticalAlign {
 
 /// How the cursor looks (DECSCUSR; DEC VT520, the bars xterm).
 #[derive(Clone, Copy, Debug, PartialEq, Eq, Hash)]
+#[non_exhaustive]
 pub enum CursorStyle {
     /// As the user set the terminal up; by DEC a blinking block.
     Default = 0,
@@ -261,6 +267,7 @@ impl CursorStyle {
 /// What happens to tab stops where the cursor is (CTC, cursor tabulation control; ECMA-48, 8.3.17). A character tab stop
 /// is a column, a line tab stop a line.
 #[derive(Clone, Copy, Debug, PartialEq, Eq, Hash)]
+#[non_exhaustive]
 pub enum CursorTabulationControl {
     /// A character tab stop is set in the cursor's column.
     SetCharacterTabStopAtActivePosition = 0,
@@ -309,6 +316,7 @@ impl CursorTabulationControl {
 
 /// Which tab stops are cleared (TBC, tabulation clear; ECMA-48, 8.3.154).
 #[derive(Clone, Copy, Debug, PartialEq, Eq, Hash)]
+#[non_exhaustive]
 pub enum TabulationClear {
     /// The character tab stop in the cursor's column.
     ClearCharacterTabStopAtActivePosition = 0,
@@ -353,6 +361,7 @@ impl TabulationClear {
 
 /// Which part of the cursor's line is erased (EL, erase in line; ECMA-48, 8.3.41). The cursor's own column is part of it.
 #[derive(Clone, Copy, Debug, PartialEq, Eq, Hash)]
+#[non_exhaustive]
 pub enum EraseInLine {
     /// From the cursor to the end.
     EraseToEndOfLine = 0,
@@ -385,6 +394,7 @@ impl EraseInLine {
 
 /// Which part of the page is erased (ED, erase in page; ECMA-48, 8.3.39). The cursor's own place is part of it.
 #[derive(Clone, Copy, Debug, PartialEq, Eq, Hash)]
+#[non_exhaustive]
 pub enum EraseInDisplay {
     /// From the cursor to the end.
     EraseToEndOfDisplay = 0,
@@ -422,6 +432,7 @@ impl EraseInDisplay {
 /// A private mode: one that `CSI ? .. h` sets and `CSI ? .. l` resets. Those up to 8, 25, 69 and 80 are DEC's (VT510, VT382); where
 /// the others are from is said at each.
 #[derive(Clone, Copy, Debug, PartialEq, Eq, Hash)]
+#[non_exhaustive]
 pub enum DecPrivateModeCode {
     /// DECCKM: the arrow keys send application sequences.
     ApplicationCursorKeys = 1,
@@ -578,6 +589,7 @@ impl DecPrivateModeCode {
 
 /// A mode that `CSI .. h` sets and `CSI .. l` resets (SM and RM; ECMA-48, 8.3.125 and 8.3.106).
 #[derive(Clone, Copy, Debug, PartialEq, Eq, Hash)]
+#[non_exhaustive]
 pub enum TerminalModeCode {
     /// KAM (ECMA-48, 7.2.11): the keyboard is locked.
     KeyboardAction = 2,
@@ -623,6 +635,7 @@ impl TerminalModeCode {
 /// An extension that a terminal names behind its service class, in its answer to the primary device attributes (DA1,
 /// `CSI ? 62 ; .. c`; DEC VT220 and its successors).
 #[derive(Clone, Copy, Debug, PartialEq, Eq, Hash)]
+#[non_exhaustive]
 pub enum DeviceAttributeCodes {
     /// Lines of 132 columns (DEC VT220).
     Columns132 = 1,

@@ -186,7 +186,7 @@ pub struct Front {
 }
 
 /// The sequence at the front of the bytes, whatever follows it. `Error::Truncated` says that its final byte is yet to come, and in
-/// each `Err` `start` is 0. Of a whole stream [`events`] tells more, and [`actions`] keeps its memory from sequence to sequence.
+/// each `Err` `start` is 0. It takes no memory but for the list that it answers, and for long sequences. Of a whole stream [`events`] tells more, and [`actions`] keeps its memory from sequence to sequence.
 ///
 /// ```
 /// use csicodec::{CSI, Cursor, Edit, Error, front};
@@ -201,14 +201,26 @@ pub struct Front {
 /// # Ok::<(), Error>(())
 /// ```
 pub fn front(bytes: &[u8]) -> Result<Front, Error> {
+    let mut near = [raw::Plain::default(); 4];
+    let mut params = [raw::Param::default(); 4];
+    let answer = raw::next(bytes, &mut near, &mut params);
+    if answer.status != 0 {
+        return Err(refusal(answer.status, 0, answer.at));
+    }
+    if answer.actions <= near.len() && answer.params <= params.len() {
+        let plains = near[..answer.actions].iter();
+        return Ok(Front {
+            actions: plains.map(|plain| room::action(plain, &params)).collect(),
+            used: answer.used,
+        });
+    }
     let mut room = Room::new();
     let answer = room.next(bytes);
     if answer.status != 0 {
         return Err(refusal(answer.status, 0, answer.at));
     }
-    let actions = (0..answer.actions).map(|at| room.action(at)).collect();
     Ok(Front {
-        actions,
+        actions: (0..answer.actions).map(|at| room.action(at)).collect(),
         used: answer.used,
     })
 }

@@ -34,8 +34,12 @@ impl Room {
 
     /// The action at a place, of those that were read last.
     pub(crate) fn action(&self, place: usize) -> CSI {
-        let plain = &self.actions[place];
-        let params = &self.params[plain.place..plain.place + plain.len];
-        rows::action_of(plain, params).expect("the library makes no other struct")
+        action(&self.actions[place], &self.params)
     }
+}
+
+/// The action of a struct that the library made, with the tokens that were put beside it.
+pub(crate) fn action(plain: &raw::Plain, params: &[raw::Param]) -> CSI {
+    let params = &params[plain.place..plain.place + plain.len];
+    rows::action_of(plain, params).expect("the library makes no other struct")
 }

@@ -1,6 +1,6 @@
 //! Settings and capabilities that are asked for and told (DEC's DECRQSS; xterm's XTGETTCAP).
 
-use crate::fields::{Body, halves};
+use crate::fields::{Body, halves, is_semicolon, write_comma};
 use crate::shown::Shown;
 use hex::decode_to_slice;
 use std::fmt;
@@ -71,18 +71,22 @@ pub fn capabilities<W: fmt::Write>(
     data: Body<'_>,
 ) -> fmt::Result {
     f.write_str(words)?;
-    for (place, field) in data.bytes.split(|byte| *byte == b';').enumerate() {
-        if place > 0 {
-            f.write_str(", ")?;
-        }
-        let (name, value) = halves(field, b'=');
-        write_decoded(f, name)?;
-        if !value.is_empty() {
-            f.write_str(" = ")?;
-            write_decoded(f, value)?;
-        }
+    for (place, field) in data.bytes.split(is_semicolon).enumerate() {
+        write_comma(f, place)?;
+        write_capability(f, field)?;
     }
     Ok(())
+}
+
+/// A name, and its value where it has one.
+fn write_capability<W: fmt::Write>(f: &mut fmt::Formatter<W>, field: &[u8]) -> fmt::Result {
+    let (name, value) = halves(field, b'=');
+    write_decoded(f, name)?;
+    if value.is_empty() {
+        return Ok(());
+    }
+    f.write_str(" = ")?;
+    write_decoded(f, value)
 }
 
 /// A text of hexadecimal digits as what it stands for, in pieces; what is none as it is.

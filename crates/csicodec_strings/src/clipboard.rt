@@ -1,6 +1,6 @@
 //! The clipboard (xterm's ctlseqs, Operating System Command 52): letters for what is meant, and text in base64.
 
-use crate::fields::Body;
+use crate::fields::{Body, write_comma};
 use std::fmt;
 
 /// What a letter means.
@@ -21,14 +21,18 @@ fn write_selections<W: fmt::Write>(f: &mut fmt::Formatter<W>, letters: &[u8]) ->
         return f.write_str("selection and cut buffer 0");
     }
     for (place, letter) in letters.iter().enumerate() {
-        if place > 0 {
-            f.write_str(", ")?;
-        }
-        f.write_str(selection(*letter))?;
-        if letter.is_ascii_digit() {
-            let digit = char::from(*letter);
-            write!(f, " {digit}")?;
-        }
+        write_comma(f, place)?;
+        write_selection(f, *letter)?;
+    }
+    Ok(())
+}
+
+/// What a letter means, with the number of a cut buffer.
+fn write_selection<W: fmt::Write>(f: &mut fmt::Formatter<W>, letter: u8) -> fmt::Result {
+    f.write_str(selection(letter))?;
+    if letter.is_ascii_digit() {
+        f.write_char(' ')?;
+        return f.write_char(char::from(letter));
     }
     Ok(())
 }

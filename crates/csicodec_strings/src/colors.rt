@@ -1,7 +1,7 @@
 //! Colours that are set, asked for and reset (xterm's ctlseqs, Operating System Commands 4, 5, 10 to 19, 104, 105, 110 to 119).
 //! The answer to a question has the form in which the colour is set.
 
-use crate::fields::{Body, number};
+use crate::fields::{Body, is_semicolon, number, write_comma};
 use crate::shown::Shown;
 use std::fmt;
 
@@ -40,79 +40,74 @@ fn special_name(index: &[u8]) -> &'static str {
     SPECIAL.get(place).copied().unwrap_or("some text")
 }
 
-/// The comma between two things.
-fn write_comma<W: fmt::Write>(f: &mut fmt::Formatter<W>, place: usize) -> fmt::Result {
-    if place > 0 { f.write_str(", ") } else { Ok(()) }
-}
-
-/// A colour of the palette, set or asked for.
-fn palette_pair<W: fmt::Write>(
+/// Which colour an index of OSC 4 means, or of OSC 5 where it is a special colour.
+fn write_indexed<W: fmt::Write>(
     f: &mut fmt::Formatter<W>,
     index: &[u8],
-    value: &[u8],
+    is_special: bool,
 ) -> fmt::Result {
+    if is_special {
+        f.write_str("colour of ")?;
+        return f.write_str(special_name(index));
+    }
     let index = Shown(index);
-    if value == b"?".as_slice() {
-        return write!(f, "ask for colour {index} of the palette");
-    }
-    let value = Shown(value);
-    write!(f, "colour {index} of the palette: {value}")
+    write!(f, "colour {index} of the palette")
 }
 
-/// A special colour, set or asked for.
-fn special_pair<W: fmt::Write>(
+/// A colour that is set or asked for.
+fn write_pair<W: fmt::Write>(
     f: &mut fmt::Formatter<W>,
     index: &[u8],
     value: &[u8],
+    is_special: bool,
 ) -> fmt::Result {
-    let name = special_name(index);
     if value == b"?".as_slice() {
-        return write!(f, "ask for the colour of {name}");
+        f.write_str(if is_special {
+            "ask for the "
+        } else {
+            "ask for "
+        })?;
+        return write_indexed(f, index, is_special);
+    }
+    write_indexed(f, index, is_special)?;
+    let value = Shown(value);
+    write!(f, ": {value}")
+}
+
+/// OSC 4, and OSC 5 with special colours: pairs of a number and a colour.
+pub fn pairs<W: fmt::Write>(
+    f: &mut fmt::Formatter<W>,
+    rest: Body<'_>,
+    is_special: bool,
+) -> fmt::Result {
+    let mut index: &[u8] = &[];
+    for (place, field) in rest.bytes.split(is_semicolon).enumerate() {
+        if place % 2 == 0 {
+            index = field;
+        } else {
+            write_comma(f, place / 2)?;
+            write_pair(f, index, field, is_special)?;
+        }
+    }
+    Ok(())
+}
+
+/// A colour of 10 to 19, set or asked for.
+fn write_dynamic<W: fmt::Write>(f: &mut fmt::Formatter<W>, code: u32, value: &[u8]) -> fmt::Result {
+    let name = dynamic_name(code);
+    if value == b"?".as_slice() {
+        return write!(f, "ask for the {name}");
     }
     let value = Shown(value);
-    write!(f, "colour of {name}: {value}")
-}
-
-/// OSC 4: pairs of a number and a colour.
-pub fn palette<W: fmt::Write>(f: &mut fmt::Formatter<W>, rest: Body<'_>) -> fmt::Result {
-    let mut index: &[u8] = &[];
-    for (place, field) in rest.bytes.split(|byte| *byte == b';').enumerate() {
-        if place % 2 == 0 {
-            index = field;
-        } else {
-            write_comma(f, place / 2)?;
-            palette_pair(f, index, field)?;
-        }
-    }
-    Ok(())
-}
-
-/// OSC 5: pairs of a number and a colour.
-pub fn special<W: fmt::Write>(f: &mut fmt::Formatter<W>, rest: Body<'_>) -> fmt::Result {
-    let mut index: &[u8] = &[];
-    for (place, field) in rest.bytes.split(|byte| *byte == b';').enumerate() {
-        if place % 2 == 0 {
-            index = field;
-        } else {
-            write_comma(f, place / 2)?;
-            special_pair(f, index, field)?;
-        }
-    }
-    Ok(())
+    write!(f, "{name}: {value}")
 }
 
 /// OSC 10 to 19: a colour, and behind it those of the numbers that follow.
 pub fn dynamic<W: fmt::Write>(f: &mut fmt::Formatter<W>, code: u32, rest: Body<'_>) -> fmt::Result {
     let mut code = code;
-    for (place, field) in rest.bytes.split(|byte| *byte == b';').enumerate() {
+    for (place, field) in rest.bytes.split(is_semicolon).enumerate() {
         write_comma(f, place)?;
-        let name = dynamic_name(code);
-        if field == b"?".as_slice() {
-            write!(f, "ask for the {name}")?;
-        } else {
-            let value = Shown(field);
-            write!(f, "{name}: {value}")?;
-        }
+        write_dynamic(f, code, field)?;
         code = code.saturating_add(1);
     }
     Ok(())
@@ -124,7 +119,7 @@ pub fn palette_reset<W: fmt::Write>(f: &mut fmt::Formatter<W>, rest: Body<'_>) -
         return f.write_str("reset the palette");
     }
     f.write_str("reset colour ")?;
-    for (place, field) in rest.bytes.split(|byte| *byte == b';').enumerate() {
+    for (place, field) in rest.bytes.split(is_semicolon).enumerate() {
         write_comma(f, place)?;
         let index = Shown(field);
         write!(f, "{index}")?;
@@ -138,7 +133,7 @@ pub fn special_reset<W: fmt::Write>(f: &mut fmt::Formatter<W>, rest: Body<'_>) -
         return f.write_str("reset the special colours");
     }
     f.write_str("reset the colour of ")?;
-    for (place, field) in rest.bytes.split(|byte| *byte == b';').enumerate() {
+    for (place, field) in rest.bytes.split(is_semicolon).enumerate() {
         write_comma(f, place)?;
         f.write_str(special_name(field))?;
     }

@@ -43,6 +43,35 @@ fn parts(body: Body<'_>) -> Option<Control<'_>> {
     })
 }
 
+/// Strings with no data, by their parameters and final byte: synchronized updates and tmux.
+static ALONE: [(&[u8], u8, &str); 3] = [
+    (b"=1", b's', "synchronized updates  start of an update"),
+    (b"=2", b's', "synchronized updates  end of an update"),
+    (b"1000", b'p', "tmux  control mode on"),
+];
+
+/// DEC's states, by the parameters and final byte of a string with `$` between.
+static STATES: [(&[u8], u8, &str); 4] = [
+    (b"1", b't', "DECRSPS  restore the cursor's state"),
+    (b"2", b't', "DECRSPS  restore the tab stops"),
+    (b"1", b'u', "DECCIR  answer: the cursor's state"),
+    (b"2", b'u', "DECTABSR  answer: the tab stops"),
+];
+
+/// What such a table has for these parameters and this final byte.
+fn with_params(
+    table: &'static [(&'static [u8], u8, &'static str)],
+    params: &[u8],
+    last: u8,
+) -> Option<&'static str> {
+    for (known, name, words) in table {
+        if *name == last && *known == params {
+            return Some(*words);
+        }
+    }
+    None
+}
+
 /// DEC's strings that are told by their name (VT510 and VT420 Programmer Reference): intermediate byte, final byte, words.
 static NAMES: [(u8, u8, &str); 16] = [
     (0, b'p', "ReGIS  drawing"),
@@ -102,38 +131,82 @@ fn named<W: fmt::Write>(
     control: Control<'_>,
     body: Body<'_>,
 ) -> fmt::Result {
-    let marked = control.params.first().copied() == Some(b'>');
-    match (control.params, control.between, control.last) {
-        (_, 0, b'q') => sixel(f, control.data),
-        (_, b'$', b'q') => setting_asked(f, control.data),
-        (_, b'$', b'r') => setting_told(f, control.params, control.data),
-        (_, b'+', b'q') => capabilities(f, "XTGETTCAP  ask for ", control.data),
-        (b"1", b'+', b'r') => capabilities(f, "XTGETTCAP  answer: ", control.data),
-        (_, b'+', b'r') => capabilities(f, "XTGETTCAP  answer: not known: ", control.data),
-        (b"=1", 0, b's') => f.write_str("synchronized updates  start of an update"),
-        (b"=2", 0, b's') => f.write_str("synchronized updates  end of an update"),
-        (b"1000", 0, b'p') => f.write_str("tmux  control mode on"),
-        (b"1", b'$', b't') => told(f, "DECRSPS  restore the cursor's state: ", control.data),
-        (b"2", b'$', b't') => told(f, "DECRSPS  restore the tab stops: ", control.data),
-        (b"1", b'$', b'u') => told(f, "DECCIR  answer: the cursor's state: ", control.data),
-        (b"2", b'$', b'u') => told(f, "DECTABSR  answer: the tab stops: ", control.data),
-        _ => {
-            let between = if marked { b'>' } else { control.between };
-            match name_of(between, control.last) {
-                Some(words) => {
-                    f.write_str(words)?;
-                    told(f, ": ", control.data)
-                }
-                None => unknown(f, body),
-            }
-        }
+    match (control.between, control.last) {
+        (0, b'q') => sixel(f, control.data),
+        (b'$', b'q') => setting_asked(f, control.data),
+        (b'$', b'r') => setting_told(f, control.params, control.data),
+        (b'+', b'q') => capabilities(f, "XTGETTCAP  ask for ", control.data),
+        (b'+', b'r') => capabilities_told(f, control.params, control.data),
+        _ => listed(f, control, body),
     }
+}
+
+/// XTGETTCAP's answer: with 1 the values, else names that aren't known.
+fn capabilities_told<W: fmt::Write>(
+    f: &mut fmt::Formatter<W>,
+    params: &[u8],
+    data: Body<'_>,
+) -> fmt::Result {
+    let words = if params == b"1".as_slice() {
+        "XTGETTCAP  answer: "
+    } else {
+        "XTGETTCAP  answer: not known: "
+    };
+    capabilities(f, words, data)
+}
+
+/// A string that one of the tables has.
+fn listed<W: fmt::Write>(
+    f: &mut fmt::Formatter<W>,
+    control: Control<'_>,
+    body: Body<'_>,
+) -> fmt::Result {
+    if control.between == 0
+        && let Some(words) = with_params(&ALONE, control.params, control.last)
+    {
+        return f.write_str(words);
+    }
+    match words_with_data(control) {
+        Some(words) => told(f, words, control.data),
+        None => unknown(f, body),
+    }
+}
+
+/// What a string does whose data is told.
+fn words_with_data(control: Control<'_>) -> Option<&'static str> {
+    let state = with_params(&STATES, control.params, control.last);
+    if control.between == b'$' && state.is_some() {
+        return state;
+    }
+    let marked = control.params.first().copied() == Some(b'>');
+    let between = if marked { b'>' } else { control.between };
+    name_of(between, control.last)
 }
 
 /// Words, and the data between quotation marks.
 fn told<W: fmt::Write>(f: &mut fmt::Formatter<W>, words: &str, data: Body<'_>) -> fmt::Result {
     let quoted = data.quoted();
-    write!(f, "{words}{quoted}")
+    write!(f, "{words}: {quoted}")
+}
+
+/// The raster attributes that these bytes begin with.
+fn raster_attributes(bytes: &[u8]) -> &[u8] {
+    let digits = bytes
+        .iter()
+        .position(|byte| !byte.is_ascii_digit() && *byte != b';')
+        .unwrap_or(bytes.len());
+    bytes.split_at(digits).0
+}
+
+/// The size that raster attributes tell, behind two numbers for the form of a pixel.
+fn write_size<W: fmt::Write>(f: &mut fmt::Formatter<W>, attributes: &[u8]) -> fmt::Result {
+    let (_numerator, rest) = halves(attributes, b';');
+    let (_denominator, rest) = halves(rest, b';');
+    let (width, height) = halves(rest, b';');
+    match (number(width), number(height)) {
+        (Some(width), Some(height)) => write!(f, " of {width} x {height} pixels"),
+        _ => Ok(()),
+    }
 }
 
 /// A picture of sixels (VT330/VT340 Programmer Reference, volume 2): its size, where its raster attributes tell it.
@@ -141,18 +214,7 @@ fn sixel<W: fmt::Write>(f: &mut fmt::Formatter<W>, data: Body<'_>) -> fmt::Resul
     let len = data.len();
     f.write_str("sixel  picture")?;
     if let Some(raster) = data.behind(b"\"") {
-        let digits = raster
-            .bytes
-            .iter()
-            .position(|byte| !byte.is_ascii_digit() && *byte != b';')
-            .unwrap_or(raster.bytes.len());
-        let (attributes, _data) = raster.bytes.split_at(digits);
-        let (_numerator, rest) = halves(attributes, b';');
-        let (_denominator, rest) = halves(rest, b';');
-        let (width, height) = halves(rest, b';');
-        if let (Some(width), Some(height)) = (number(width), number(height)) {
-            write!(f, " of {width} x {height} pixels")?;
-        }
+        write_size(f, raster_attributes(raster.bytes))?;
     }
     write!(f, ", {len} bytes")
 }
@@ -161,12 +223,8 @@ fn sixel<W: fmt::Write>(f: &mut fmt::Formatter<W>, data: Body<'_>) -> fmt::Resul
 fn passed_on<W: fmt::Write>(f: &mut fmt::Formatter<W>, inner: Body<'_>) -> fmt::Result {
     f.write_str("tmux  pass on \"")?;
     let shown = inner.bytes.get(..120).unwrap_or(inner.bytes);
-    for (place, piece) in shown.split(|byte| *byte == 0x1b).enumerate() {
-        if place > 0 && place % 2 == 0 {
-            f.write_str("\\e")?;
-        }
-        let piece = Shown(piece);
-        write!(f, "{piece}")?;
+    for (place, piece) in shown.split(is_escape).enumerate() {
+        write_piece(f, piece, place > 0 && place % 2 == 0)?;
     }
     f.write_str("\"")?;
     if inner.len() > 120 {
@@ -174,4 +232,21 @@ fn passed_on<W: fmt::Write>(f: &mut fmt::Formatter<W>, inner: Body<'_>) -> fmt::
     } else {
         Ok(())
     }
+}
+
+fn is_escape(byte: &u8) -> bool {
+    *byte == 0x1b
+}
+
+/// A piece of what tmux passes on, with an ESC ahead of it or with none.
+fn write_piece<W: fmt::Write>(
+    f: &mut fmt::Formatter<W>,
+    piece: &[u8],
+    is_escaped: bool,
+) -> fmt::Result {
+    if is_escaped {
+        f.write_str("\\e")?;
+    }
+    let piece = Shown(piece);
+    write!(f, "{piece}")
 }

@@ -1,6 +1,30 @@
-//! The parts of a string: what stands between separators, and numbers.
+//! The parts of a string: what stands between separators, numbers, and words that a table has for them.
 
 use crate::shown::Quoted;
+use std::fmt;
+
+/// Names, each with what it stands for.
+pub type Words = &'static [(&'static [u8], &'static str)];
+
+/// What a name stands for, where the table has it.
+pub fn words_of(table: Words, name: &[u8]) -> Option<&'static str> {
+    for (known, words) in table {
+        if *known == name {
+            return Some(*words);
+        }
+    }
+    None
+}
+
+/// Whether a byte is the semicolon that stands between fields.
+pub fn is_semicolon(byte: &u8) -> bool {
+    *byte == b';'
+}
+
+/// Writes the comma between things in a row: ahead of each but the first, whose place is 0.
+pub fn write_comma<W: fmt::Write>(f: &mut fmt::Formatter<W>, place: usize) -> fmt::Result {
+    if place > 0 { f.write_str(", ") } else { Ok(()) }
+}
 
 /// What stands in a string, or the rest of it.
 #[derive(Clone, Copy)]

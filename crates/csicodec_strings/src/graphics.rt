@@ -1,118 +1,114 @@
 //! kitty's Terminal graphics protocol: keys with values, a semicolon, and data in base64.
 
-use crate::fields::{Body, halves};
+use crate::fields::{Body, halves, words_of, write_comma};
 use crate::shown::Shown;
 use std::fmt;
 
-/// What the action `a` is.
-fn action(value: &[u8]) -> &'static str {
-    match value {
-        b"t" => "send",
-        b"T" => "send and show",
-        b"q" => "ask whether it could be shown",
-        b"p" => "show",
-        b"d" => "delete",
-        b"f" => "send a frame",
-        b"a" => "control an animation",
-        b"c" => "compose frames",
-        _ => "other action",
-    }
-}
+/// Keys with a value of a few, and what they say: the action `a`, the format `f`, where the data is by `t`, and flags.
+static FIELDS: [(&[u8], &str); 21] = [
+    (b"a=t", "send"),
+    (b"a=T", "send and show"),
+    (b"a=q", "ask whether it could be shown"),
+    (b"a=p", "show"),
+    (b"a=d", "delete"),
+    (b"a=f", "send a frame"),
+    (b"a=a", "control an animation"),
+    (b"a=c", "compose frames"),
+    (b"f=24", "RGB"),
+    (b"f=32", "RGBA"),
+    (b"f=100", "PNG"),
+    (b"t=d", "data here"),
+    (b"t=f", "data in a file"),
+    (b"t=t", "data in a temporary file"),
+    (b"t=s", "data in shared memory"),
+    (b"m=0", "last part"),
+    (b"q=1", "no answer where it works"),
+    (b"q=2", "no answer"),
+    (b"o=z", "compressed"),
+    (b"C=1", "the cursor stays"),
+    (b"U=1", "for placeholders"),
+];
 
-/// What a format `f` is.
-fn format(value: &[u8]) -> &'static str {
-    match value {
-        b"24" => "RGB",
-        b"32" => "RGBA",
-        b"100" => "PNG",
-        _ => "other format",
-    }
-}
-
-/// Where the data is, by `t`.
-fn medium(value: &[u8]) -> &'static str {
-    match value {
-        b"d" => "data here",
-        b"f" => "data in a file",
-        b"t" => "data in a temporary file",
-        b"s" => "data in shared memory",
-        _ => "data elsewhere",
-    }
-}
+/// What a key says with any other value.
+static OTHERS: [(&[u8], &str); 4] = [
+    (b"a", "other action"),
+    (b"f", "other format"),
+    (b"t", "data elsewhere"),
+    (b"m", "more to come"),
+];
 
 /// Words ahead of the value of a key, and behind it.
-fn around(key: &[u8]) -> Option<(&'static str, &'static str)> {
-    Some(match key {
-        b"i" => ("picture ", ""),
-        b"I" => ("picture number ", ""),
-        b"p" => ("placement ", ""),
-        b"s" => ("", " pixels wide"),
-        b"v" => ("", " pixels high"),
-        b"S" => ("", " bytes of the data"),
-        b"O" => ("from byte ", " of the data"),
-        b"c" => ("", " columns"),
-        b"r" => ("", " lines"),
-        b"w" => ("part of ", " pixels wide"),
-        b"h" => ("part of ", " pixels high"),
-        b"z" => ("layer ", ""),
-        b"d" => ("what: ", ""),
-        _ => return None,
-    })
+static AROUND: [(&[u8], &str, &str); 13] = [
+    (b"i", "picture ", ""),
+    (b"I", "picture number ", ""),
+    (b"p", "placement ", ""),
+    (b"s", "", " pixels wide"),
+    (b"v", "", " pixels high"),
+    (b"S", "", " bytes of the data"),
+    (b"O", "from byte ", " of the data"),
+    (b"c", "", " columns"),
+    (b"r", "", " lines"),
+    (b"w", "part of ", " pixels wide"),
+    (b"h", "part of ", " pixels high"),
+    (b"z", "layer ", ""),
+    (b"d", "what: ", ""),
+];
+
+/// A value with the words around it; of a key with none, the key ahead of it.
+fn write_value<W: fmt::Write>(f: &mut fmt::Formatter<W>, key: &[u8], value: &[u8]) -> fmt::Result {
+    let value = Shown(value);
+    for (name, ahead, behind) in &AROUND {
+        if *name == key {
+            return write!(f, "{ahead}{value}{behind}");
+        }
+    }
+    let key = Shown(key);
+    write!(f, "{key}={value}")
 }
 
 /// What a key with a value says.
-fn write_key<W: fmt::Write>(f: &mut fmt::Formatter<W>, key: &[u8], value: &[u8]) -> fmt::Result {
-    match (key, value) {
-        (b"a", _) => f.write_str(action(value)),
-        (b"f", _) => f.write_str(format(value)),
-        (b"t", _) => f.write_str(medium(value)),
-        (b"m", b"0") => f.write_str("last part"),
-        (b"m", _) => f.write_str("more to come"),
-        (b"q", b"1") => f.write_str("no answer where it works"),
-        (b"q", b"2") => f.write_str("no answer"),
-        (b"o", b"z") => f.write_str("compressed"),
-        (b"C", b"1") => f.write_str("the cursor stays"),
-        (b"U", b"1") => f.write_str("for placeholders"),
-        _ => {
-            let shown = Shown(value);
-            match around(key) {
-                Some((ahead, behind)) => write!(f, "{ahead}{shown}{behind}"),
-                None => {
-                    let key = Shown(key);
-                    write!(f, "{key}={shown}")
-                }
-            }
-        }
+fn write_key<W: fmt::Write>(f: &mut fmt::Formatter<W>, field: &[u8]) -> fmt::Result {
+    if let Some(words) = words_of(&FIELDS, field) {
+        return f.write_str(words);
+    }
+    let (key, value) = halves(field, b'=');
+    match words_of(&OTHERS, key) {
+        Some(words) => f.write_str(words),
+        None => write_value(f, key, value),
     }
 }
 
+/// Whether a byte is the comma that stands between keys.
+fn is_comma(byte: &u8) -> bool {
+    *byte == b','
+}
+
 /// Whether a key may stand in an answer.
-fn may_answer(key: &[u8]) -> bool {
-    matches!(halves(key, b'=').0, b"i" | b"I" | b"p")
+fn may_answer(field: &[u8]) -> bool {
+    matches!(halves(field, b'=').0, b"i" | b"I" | b"p")
+}
+
+/// The keys, with commas between.
+fn write_keys<W: fmt::Write>(f: &mut fmt::Formatter<W>, keys: &[u8]) -> fmt::Result {
+    for (place, field) in keys.split(is_comma).enumerate() {
+        write_comma(f, place)?;
+        write_key(f, field)?;
+    }
+    Ok(())
 }
 
 /// The words of what stands behind `ESC _ G`.
 pub fn graphics<W: fmt::Write>(f: &mut fmt::Formatter<W>, body: Body<'_>) -> fmt::Result {
     let (keys, data) = body.cut(b';');
-    let mut fields = keys.split(|byte| *byte == b',');
-    let answer = data.len() > 0 && fields.all(may_answer);
-    f.write_str(if answer {
-        "kitty graphics  answer: "
-    } else {
-        "kitty graphics  "
-    })?;
-    for (place, field) in keys.split(|byte| *byte == b',').enumerate() {
-        if place > 0 {
-            f.write_str(", ")?;
-        }
-        let (key, value) = halves(field, b'=');
-        write_key(f, key, value)?;
-    }
-    if answer {
+    let len = data.len();
+    if len > 0 && keys.split(is_comma).all(may_answer) {
+        f.write_str("kitty graphics  answer: ")?;
+        write_keys(f, keys)?;
         let quoted = data.quoted();
         return write!(f, ": {quoted}");
     }
-    let len = data.len();
+    f.write_str("kitty graphics  ")?;
+    write_keys(f, keys)?;
     if len > 0 {
         write!(f, ", {len} bytes")
     } else {

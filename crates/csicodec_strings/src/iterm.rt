@@ -1,6 +1,6 @@
 //! iTerm2's Proprietary Escape Codes (OSC 1337), as `Key` or `Key=value`.
 
-use crate::fields::{Body, split_at};
+use crate::fields::{Body, split_at, words_of};
 use crate::shown::Quoted;
 use std::fmt;
 
@@ -42,28 +42,17 @@ static KEYS: [(&[u8], &str); 31] = [
     (b"StealFocus", "bring the window to the front"),
 ];
 
-fn words_of(key: &[u8]) -> Option<&'static str> {
-    for (name, words) in &KEYS {
-        if *name == key {
-            return Some(*words);
-        }
-    }
-    None
-}
-
 /// OSC 1337.
 pub fn iterm<W: fmt::Write>(f: &mut fmt::Formatter<W>, rest: Body<'_>) -> fmt::Result {
     if let Some(file) = rest.behind(b"File=") {
         return picture(f, file);
     }
     let (key, value) = rest.cut(b'=');
-    match words_of(key) {
-        Some(words) => f.write_str(words)?,
-        None => {
-            let quoted = rest.quoted();
-            return write!(f, "unknown key (iTerm2): {quoted}");
-        }
-    }
+    let Some(words) = words_of(&KEYS, key) else {
+        let quoted = rest.quoted();
+        return write!(f, "unknown key (iTerm2): {quoted}");
+    };
+    f.write_str(words)?;
     if value.len() == 0 {
         return Ok(());
     }

@@ -1,28 +1,39 @@
 //! Marks of a shell, notifications and progress.
 
-use crate::fields::{Body, halves, number};
+use crate::fields::{Body, halves, number, words_of};
 use crate::shown::{Quoted, Shown};
 use std::fmt;
 
 /// What a mark of a shell means (FinalTerm; iTerm2's and kitty's Shell integration).
-fn mark(letter: &[u8]) -> Option<&'static str> {
-    Some(match letter {
-        b"A" => "start of the prompt",
-        b"B" => "start of the command line",
-        b"C" => "start of the output",
-        b"D" => "end of the command",
-        b"I" => "start of the command line, to the end of the line",
-        b"L" => "to a fresh line",
-        b"N" => "start of the prompt, end of the last command",
-        b"P" => "start of a prompt",
-        _ => return None,
-    })
-}
+static MARKS: [(&[u8], &str); 8] = [
+    (b"A", "start of the prompt"),
+    (b"B", "start of the command line"),
+    (b"C", "start of the output"),
+    (b"D", "end of the command"),
+    (b"I", "start of the command line, to the end of the line"),
+    (b"L", "to a fresh line"),
+    (b"N", "start of the prompt, end of the last command"),
+    (b"P", "start of a prompt"),
+];
+
+/// What the progress of ConEmu's OSC 9;4 is, where it has no percentage.
+static PROGRESS: [(&[u8], &str); 4] = [
+    (b"0", "progress: none"),
+    (b"2", "progress: failed"),
+    (b"3", "progress: going on"),
+    (b"4", "progress: stopped"),
+];
+
+/// What VS Code's marks mean that have a text.
+static EDITOR: [(&[u8], &str); 2] = [
+    (b"E", "command line (VS Code): "),
+    (b"P", "property (VS Code): "),
+];
 
 /// OSC 133: a mark, and behind the last of them the status of the command.
 pub fn prompt_mark<W: fmt::Write>(f: &mut fmt::Formatter<W>, rest: Body<'_>) -> fmt::Result {
     let (letter, options) = rest.cut(b';');
-    let Some(words) = mark(letter) else {
+    let Some(words) = words_of(&MARKS, letter) else {
         let quoted = rest.quoted();
         return write!(f, "unknown mark of a shell: {quoted}");
     };
@@ -42,27 +53,21 @@ pub fn prompt_mark<W: fmt::Write>(f: &mut fmt::Formatter<W>, rest: Body<'_>) -> 
 /// OSC 633: VS Code's marks, which are those of 133, the command line, and properties.
 pub fn editor_mark<W: fmt::Write>(f: &mut fmt::Formatter<W>, rest: Body<'_>) -> fmt::Result {
     let (letter, options) = rest.cut(b';');
-    let words = match letter {
-        b"E" => "command line (VS Code): ",
-        b"P" => "property (VS Code): ",
-        _ => return prompt_mark(f, rest),
+    let Some(words) = words_of(&EDITOR, letter) else {
+        return prompt_mark(f, rest);
     };
     let quoted = options.quoted();
     write!(f, "{words}{quoted}")
 }
 
-/// What the progress of ConEmu's OSC 9;4 is.
+/// The words of ConEmu's OSC 9;4.
 fn progress<W: fmt::Write>(f: &mut fmt::Formatter<W>, fields: &[u8]) -> fmt::Result {
     let (state, percent) = halves(fields, b';');
-    let percent = Shown(percent);
-    match state {
-        b"0" => f.write_str("progress: none"),
-        b"1" => write!(f, "progress: {percent} %"),
-        b"2" => f.write_str("progress: failed"),
-        b"3" => f.write_str("progress: going on"),
-        b"4" => f.write_str("progress: stopped"),
-        _ => f.write_str("progress"),
+    if state == b"1".as_slice() {
+        let percent = Shown(percent);
+        return write!(f, "progress: {percent} %");
     }
+    f.write_str(words_of(&PROGRESS, state).unwrap_or("progress"))
 }
 
 /// OSC 9: iTerm2's notification; ConEmu's progress (9;4) and folder (9;9).

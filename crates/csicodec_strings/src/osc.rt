@@ -1,7 +1,7 @@
 //! Operating system commands (OSC), by the number that they begin with.
 
 use crate::clipboard::clipboard;
-use crate::colors::{dynamic, dynamic_reset, palette, palette_reset, special, special_reset};
+use crate::colors::{dynamic, dynamic_reset, pairs, palette_reset, special_reset};
 use crate::fields::{Body, halves, number};
 use crate::iterm::iterm;
 use crate::marks::{editor_mark, notification, prompt_mark, rxvt};
@@ -62,8 +62,8 @@ pub fn command<W: fmt::Write>(f: &mut fmt::Formatter<W>, body: Body<'_>) -> fmt:
 
 fn numbered<W: fmt::Write>(f: &mut fmt::Formatter<W>, code: u32, rest: Body<'_>) -> fmt::Result {
     match code {
-        4 => palette(f, rest),
-        5 => special(f, rest),
+        4 => pairs(f, rest, false),
+        5 => pairs(f, rest, true),
         8 => link(f, rest),
         9 => notification(f, rest),
         10..=19 => dynamic(f, code, rest),
@@ -97,17 +97,25 @@ fn link<W: fmt::Write>(f: &mut fmt::Formatter<W>, rest: Body<'_>) -> fmt::Result
     }
     let quoted = target.quoted();
     write!(f, "link to {quoted}")?;
-    for param in params.split(|byte| *byte == b':') {
-        let (name, value) = halves(param, b'=');
-        if name == b"id".as_slice() {
-            let id = Quoted {
-                bytes: value,
-                more: false,
-            };
-            write!(f, ", id {id}")?;
-        }
+    for param in params.split(is_colon) {
+        write_id(f, param)?;
     }
     Ok(())
+}
+
+/// Whether a byte is the colon that stands between the parameters of a link.
+fn is_colon(byte: &u8) -> bool {
+    *byte == b':'
+}
+
+/// The id of a link, where the parameter is one.
+fn write_id<W: fmt::Write>(f: &mut fmt::Formatter<W>, param: &[u8]) -> fmt::Result {
+    let (name, bytes) = halves(param, b'=');
+    if name != b"id".as_slice() {
+        return Ok(());
+    }
+    let id = Quoted { bytes, more: false };
+    write!(f, ", id {id}")
 }
 
 /// Commands with a letter: the Linux console's palette (console_codes(4)), dtterm's and Sun's titles.

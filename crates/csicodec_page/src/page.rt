@@ -7,7 +7,7 @@ use crate::style::Style;
 use crate::totals::Totals;
 use csicodec_base::{CsiParam, Esc};
 use csicodec_parser::CSI;
-use csicodec_readings::{EscReading, Reading};
+use csicodec_readings::{EscReading, LongEscReading, Reading};
 use csicodec_spans::{Kind, Mode};
 use csicodec_strings::{ControlString, FRONT};
 use csicodec_words::Described;
@@ -74,6 +74,15 @@ fn escape_of(bytes: &[u8]) -> Esc {
     Esc::parse(between, bytes.last().copied().unwrap_or(0x1b))
 }
 
+/// What went wrong may be an escape sequence with more than one intermediate byte, of which nothing was left out.
+fn long_escape(kind: Kind, front: &[u8], len: u64) -> Option<LongEscReading> {
+    if kind == Kind::Other && front.len() as u64 == len {
+        LongEscReading::of(front)
+    } else {
+        None
+    }
+}
+
 /// The words of a span that is known by its kind alone: a name, and how many bytes it has.
 #[derive(Clone, Copy)]
 struct Counted(&'static str, u64);
@@ -133,11 +142,17 @@ impl<'a> Page<'a> {
 
     /// Tells the span of which more could have come: there is no more.
     pub fn close(&mut self) -> Result<(), AllocError> {
-        let (kind, len) = (self.open.kind, self.open.len);
+        let len = self.open.len;
         if len == 0 {
             return Ok(());
         }
         let front = &self.open.front;
+        let escape = long_escape(self.open.kind, front, len);
+        let kind = if escape.is_some() {
+            Kind::Esc
+        } else {
+            self.open.kind
+        };
         let span = Told {
             kind,
             place: self.open.place,
@@ -159,9 +174,13 @@ impl<'a> Page<'a> {
                 };
                 self.sheet.add(span, &string)?;
             }
-            Kind::Csi | Kind::Esc | Kind::Other => {
-                self.sheet.add(span, &Counted("malformed", len))?;
-            }
+            Kind::Csi | Kind::Esc | Kind::Other => match escape {
+                Some(reading) => {
+                    self.sheet.add(span, &Described(&reading))?;
+                    self.totals.add_long_escape(len);
+                }
+                None => self.sheet.add(span, &Counted("malformed", len))?,
+            },
         }
         self.sheet.end()?;
         self.open.len = 0;

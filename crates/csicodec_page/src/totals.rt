@@ -42,6 +42,13 @@ impl Totals {
         }
     }
 
+    /// A span that counts as malformed, of so many bytes, is an escape sequence.
+    pub fn add_long_escape(&mut self, bytes: u64) {
+        self.malformed.spans = self.malformed.spans.saturating_sub(1);
+        self.malformed.bytes = self.malformed.bytes.saturating_sub(bytes);
+        self.escapes.add(1, bytes);
+    }
+
     /// One action more.
     pub fn add_action(&mut self) {
         self.actions = self.actions.saturating_add(1);

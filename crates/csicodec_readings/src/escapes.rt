@@ -103,6 +103,7 @@ fn designated(intermediate: u8, control: u8) -> Option<&'static str> {
         (b'-', b'A') => "SCS  G1: Latin-1",
         (b'.', b'A') => "SCS  G2: Latin-1",
         (b'/', b'A') => "SCS  G3: Latin-1",
+        (b'$', b'@' | b'A' | b'B') => "SCS  G0: a set of several bytes a character",
         (b'(', _) => "SCS  G0: another set",
         (b')', _) => "SCS  G1: another set",
         (b'*', _) => "SCS  G2: another set",

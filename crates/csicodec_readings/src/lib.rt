@@ -5,6 +5,7 @@
 mod dec;
 mod ecma;
 mod escapes;
+mod intermediates;
 mod keys;
 mod list;
 mod others;
@@ -15,6 +16,7 @@ mod template;
 mod tests;
 
 use crate::escapes::escape_words;
+use crate::intermediates::words_of;
 use crate::keys::key_of;
 use crate::list::{intermediate, marker, number};
 use crate::otherwise::{Otherwise, read_otherwise, status_of};
@@ -68,6 +70,24 @@ impl Describe for EscReading {
             }
         }
         self.0.describe(f)
+    }
+}
+
+/// An escape sequence with more than one intermediate byte, for which the codec has no code.
+#[derive(Clone, Copy)]
+pub struct LongEscReading(&'static str);
+
+impl LongEscReading {
+    /// What these bytes are; none where they aren't such a sequence, whole.
+    pub fn of(bytes: &[u8]) -> Option<LongEscReading> {
+        Some(LongEscReading(words_of(bytes)?))
+    }
+}
+
+impl Describe for LongEscReading {
+    fn describe<W: fmt::Write>(&self, f: &mut fmt::Formatter<W>) -> fmt::Result {
+        f.write_str(self.0)?;
+        f.write_str(NO_ACTION)
     }
 }
 

@@ -1,5 +1,5 @@
 //! Bytes, shown in ASCII.
-ghost use Rattle.std.specs.Prelude.{◌≡◌, ◌++◌, ◌<◌, OnOk};
+ghost use Rattle.std.specs.Prelude.{◌≡◌, ◌++◌, ◌∷◌, ◌≤◌, ◌<◌, [], true, OnOk, drop, length, take};
 ghost use Rattle.std.specs.List.{flat_map};
 ghost use Rattle.csicodec_page.specs.Escaped.{escaped, hex_digit};
 
@@ -28,13 +28,38 @@ fn append_byte(out: &mut Vec<u8>, byte: u8) -> Result<(), AllocError>
     }
 }
 
+/// Whether a byte is shown as itself.
+#[inline(always)]
+fn is_plain(byte: u8) -> bool
+    ensures { result ≡ true → escaped byte ≡ byte ∷ [] }
+{
+    matches!(byte, b' '..=b'[' | b']'..=b'~')
+}
+
+/// How many bytes in front are shown as themselves.
+#[tactic(auto, using(crate::proofs::Plain::plain_more))]
+fn plain_len(bytes: &[u8]) -> usize
+    ensures within { result ≤ length bytes.now }
+    ensures shown { flat_map escaped bytes.now ≡ take result bytes.now ++ flat_map escaped (drop result bytes.now) }
+{
+    let mut len = 0;
+    while len < bytes.len() && is_plain(bytes[len]) {
+        len += 1;
+    }
+    len
+}
+
 /// Appends bytes as they are shown: ESC as `\e`, tab, line feed and carriage return as `\t`, `\n` and `\r`, the backslash
 /// twice, any other byte from `' '` to `'~'` as itself, and the rest by their number, as `\x07`.
 pub fn append_escaped(out: &mut Vec<u8>, bytes: &[u8]) -> Result<(), AllocError>
     ensures { OnOk result (out.new.items ≡ out.old.items ++ flat_map escaped bytes.now) }
 {
-    for byte in bytes {
+    let mut rest = bytes;
+    while let Some((byte, behind)) = rest.split_first() {
         append_byte(out, *byte)?;
+        let (run, behind) = behind.split_at(plain_len(behind));
+        out.extend_from_slice(run)?;
+        rest = behind;
     }
     Ok(())
 }

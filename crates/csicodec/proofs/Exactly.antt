@@ -35,13 +35,13 @@ first_is a [] others some e = absurd (omega (arith, some))
 first_is a (x ∷ []) others some e = (cc, cc)
 first_is a (x ∷ y ∷ ys) others some e = cc
 
-record OneSequence (bytes : List ℕ) (flag : Bool) (a : Action) : Type 0 where
-  list : List CsiParam
-  final : ℕ
-  is : Seq bytes list final
-  read : Actions list flag final (a ∷ [])
+pub record OneSequence (bytes : List ℕ) (flag : Bool) (a : Action) : Type 0 where
+  pub list : List CsiParam
+  pub final : ℕ
+  pub is : Seq bytes list final
+  pub read : Actions list flag final (a ∷ [])
 
-one-sequence : (bytes : List ℕ) (flag : Bool) (a : Action) → Decodes bytes flag (a ∷ []) → OneSequence bytes flag a
+pub one-sequence : (bytes : List ℕ) (flag : Bool) (a : Action) → Decodes bytes flag (a ∷ []) → OneSequence bytes flag a
 one-sequence bytes flag a d = go d.sequences d.join d.each
   where
     go : (ss : List (List CsiParam × ℕ)) → Joins bytes ss → AreActions ss flag (a ∷ []) → OneSequence bytes flag a

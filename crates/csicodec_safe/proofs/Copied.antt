@@ -1,5 +1,5 @@
 -- Characters of ASCII that are no controls are read as they are.
-use Rattle.std.proofs.Common.{◌≡◌, ◌-◌, ◌<◌, ℕ, true, cond, List, [], ◌∷◌, ◌++◌, length, length-append, drop, take, slice_index, encode_utf8_all, refl, sym, ap, ◌∙◌, append_assoc, arith, lt-ltb}
+use Rattle.std.proofs.Common.{◌≡◌, ◌-◌, ◌<◌, ℕ, true, cond, List, [], ◌∷◌, ◌++◌, length, length-append, drop, take, slice_index, encode_utf8_all, refl, ap, ◌∙◌, arith, lt-ltb}
 use Rattle.std.specs.Prelude.{filter}
 use Rattle.std.specs.List.{AllByRecursion}
 use Rattle.std.specs.Char.{encode_utf8}
@@ -8,7 +8,7 @@ use Rattle.bstr.specs.Utf8.{Decoded, decoded, good, or_replacement, lossy_chars}
 use Rattle.bstr.proofs.lemmas.PieceLemmas.{lossy_chars-step, value-1}
 use Rattle.std.proofs.Math.Seq.{take-append_seam}
 use Rattle.csicodec_safe.specs.Shown.{shown, shown_chars, IsRead}
-use Rattle.csicodec_safe.specs.Private.Steps.{plain_byte, IsPlainByte}
+use Rattle.csicodec_safe.specs.Private.Steps.{IsPlainByte}
 
 low : (b : ℕ) → IsPlainByte b → b < 128
 low b h = grind (arith, nat_tests)

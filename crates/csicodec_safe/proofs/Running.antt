@@ -1,6 +1,6 @@
 -- Runs from a reader to a writer, by what is known of both.
-use Rattle.std.proofs.Common.{◌≡◌, ◌⊎◌, ℕ, Option, List, [], ◌++◌, take, subst, sym, ap, ◌∙◌, inl, inr, ⊎_elim, append_assoc, append-nil}
-use Rattle.std.specs.Io.KnownBytes.{Appends, Consumes}
+use Rattle.std.proofs.Common.{◌≡◌, ℕ, Option, List, [], ◌++◌, take, refl, subst, sym, ap, ◌∙◌, inl, inr, ⊎_elim, append_assoc, append-nil}
+use Rattle.std.specs.Io.KnownBytes.{Appends, Consumes, IsAtEnd}
 use Rattle.std.proofs.KnownBytes.{Appends-trans, Consumes-nil, Consumes-trans}
 use Rattle.csicodec_safe.specs.Shown.{shown_text}
 use Rattle.csicodec_safe.specs.Cleaned.{RuleOf, EndOf, Ends, longest}
@@ -16,7 +16,7 @@ none_more read buf count i j k consumed more none =
 module _ {S : Type 0} (Gives : RuleOf S) (Closes : EndOf S) (s : S) where
   -- what went out of a run that read some bytes
   abbrev pub Went : Option (List ℕ) → Option (List ℕ) → Option (List ℕ) → Option (List ℕ) → Type 0
-  Went i k w y = (bytes : List ℕ) × (more : List ℕ) × (sent : List ℕ) × Consumes i k (bytes ++ more) × Begins Gives Closes s bytes sent × Appends w y sent
+  Went i k w y = (bytes : List ℕ) × (more : List ℕ) × (sent : List ℕ) × Consumes i k (bytes ++ more) × Begins Gives Closes s ((more ≡ []) × IsAtEnd k) bytes sent × Appends w y sent
 
   -- all that is sure
   pub went : (read more text : List ℕ) (last : Between S) (i j k w x : Option (List ℕ)) → Consumes i j read → Consumes j k more → Takes Gives (start_of s) read text last → Appends w x text → Went i k w x
@@ -41,15 +41,15 @@ module _ {S : Type 0} (Gives : RuleOf S) (Closes : EndOf S) (s : S) where
 
   -- some of the end
   pub went_end : (read text close sent unsent : List ℕ) (last : Between S) (i k w x y : Option (List ℕ)) → Consumes i k read → Takes Gives (start_of s) read text last → Closes last.rule close → Appends w x text
-      → shown_text last.held ++ close ≡ sent ++ unsent → Appends x y sent → Went i k w y
-  went_end read text close sent unsent last i k w x y consumed takes closes written parts some =
+      → shown_text last.held ++ close ≡ sent ++ unsent → Appends x y sent → IsAtEnd k → Went i k w y
+  went_end read text close sent unsent last i k w x y consumed takes closes written parts some end =
       let split : text ++ (shown_text last.held ++ close) ≡ (text ++ sent) ++ unsent = ap (λ (t : List ℕ). text ++ t) parts ∙ sym (append_assoc text sent unsent) in
       let whole = ends Gives Closes s read text close last takes closes in (
         read,
         [],
         text ++ sent,
         subst (Consumes i k) (sym (append-nil read)) consumed,
-        (unsent, inr (subst (λ (t : List ℕ). Ends Gives Closes longest s read t) split whole)),
+        (unsent, inr ((refl, end), subst (λ (t : List ℕ). Ends Gives Closes longest s read t) split whole)),
         Appends-trans w x y text sent written some,
       )
 
@@ -60,12 +60,12 @@ module _ {S : Type 0} (Gives : RuleOf S) (Closes : EndOf S) (s : S) where
       (read, text ++ (shown_text last.held ++ close), consumed, ends Gives Closes s read text close last takes closes, Appends-trans w x y text (shown_text last.held ++ close) written more)
 
   -- with what a rule writes at any end, the front is one of a whole text
-  pub begins_whole : (bytes sent : List ℕ) → ((after : S) → (close : List ℕ) × Closes after close) → Begins Gives Closes s bytes sent → (unsent : List ℕ) × Ends Gives Closes longest s bytes (sent ++ unsent)
-  begins_whole bytes sent always (unsent, h) = ⊎_elim
+  pub begins_whole : (AreAll : Type 0) (bytes sent : List ℕ) → ((after : S) → (close : List ℕ) × Closes after close) → Begins Gives Closes s AreAll bytes sent → (unsent : List ℕ) × Ends Gives Closes longest s bytes (sent ++ unsent)
+  begins_whole AreAll bytes sent always (unsent, h) = ⊎_elim
       (λ (k : (last : Between S) × Takes Gives (start_of s) bytes (sent ++ unsent) last).
       let (last, takes) = k in
       let (close, closes) = always last.rule in
       let rest = shown_text last.held ++ close in
       (unsent ++ rest, subst (λ (t : List ℕ). Ends Gives Closes longest s bytes t) (append_assoc sent unsent rest) (ends Gives Closes s bytes (sent ++ unsent) close last takes closes)))
-      (λ (whole : Ends Gives Closes longest s bytes (sent ++ unsent)). (unsent, whole))
+      (λ (k : AreAll × Ends Gives Closes longest s bytes (sent ++ unsent)). (unsent, k.1))
       h

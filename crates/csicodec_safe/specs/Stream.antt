@@ -48,7 +48,11 @@ abbrev pub AnyChunks : {S : Type 0} → RuleOf S → EndOf S → Type 0
 AnyChunks {S} Gives Closes = (s : S) (chunks : List (List ℕ)) (text close : List ℕ) (last : Between S) → AreTaken Gives (start_of s) chunks text last → Closes last.rule close
     → Ends Gives Closes longest s (concat chunks) (text ++ (shown_text last.held ++ close))
 
--- what went out is a front of the text of these bytes: as far as it is sure, or with its end
-abbrev pub Begins : {S : Type 0} → RuleOf S → EndOf S → S → List ℕ → List ℕ → Type 0
-Begins {S} Gives Closes s bytes sent =
-    (unsent : List ℕ) × (((last : Between S) × Takes Gives (start_of s) bytes (sent ++ unsent) last) ⊎ Ends Gives Closes longest s bytes (sent ++ unsent))
+-- what went out is a front of the text of these bytes: as far as it is sure, or, where they are all, with its end
+abbrev pub Begins : {S : Type 0} → RuleOf S → EndOf S → S → Type 0 → List ℕ → List ℕ → Type 0
+Begins {S} Gives Closes s AreAll bytes sent =
+    (unsent : List ℕ) × (((last : Between S) × Takes Gives (start_of s) bytes (sent ++ unsent) last) ⊎ (AreAll × Ends Gives Closes longest s bytes (sent ++ unsent)))
+
+-- the text that the bytes have begins with what was sent
+abbrev pub IsFrontOf : (List ℕ → List ℕ → Type 0) → List ℕ → List ℕ → Type 0
+IsFrontOf Out bytes sent = (text : List ℕ) → Out bytes text → (unsent : List ℕ) × (text ≡ sent ++ unsent)

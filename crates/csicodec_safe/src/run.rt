@@ -1,12 +1,13 @@
 //! Runs from a reader to a writer.
-ghost use Rattle.std.specs.Prelude.{◌≡◌, ◌++◌, ℕ, List, OnErr, OnOk, IfErr};
+ghost use Rattle.std.specs.Prelude.{◌≡◌, ◌++◌, [], ℕ, List, OnErr, OnOk, IfErr, IfSome};
 ghost use Rattle.std.specs.Io.KnownBytes.{Appends, Consumes, IsAtEnd};
 ghost use Rattle.csicodec_safe.specs.Shown.{IsPlain};
 ghost use Rattle.csicodec_safe.specs.Cleaned.{Ends, Strips, longest};
-ghost use Rattle.csicodec_safe.specs.Stream.{Begins, Between, Takes, start_of};
-ghost use Rattle.csicodec_safe.specs.Styled.{IsStyled, Styles};
+ghost use Rattle.csicodec_safe.specs.Stream.{Begins, Between, IsFrontOf, Takes, start_of};
+ghost use Rattle.csicodec_safe.specs.Styled.{IsStyled, IsStyledIn, Styles, StylesIn};
 
 use crate::cleaner::Cleaner;
+use crate::colors::Depth;
 use crate::rule::Rule;
 use crate::styles::Kept;
 use crate::whole::Dropped;
@@ -33,9 +34,9 @@ pub fn clean_run<T: Rule + Drop, R: Read, W: Write>(
     ensures failed { IfErr result (λ e. e ≡ RunError.Read → (bytes : List ℕ) × (text : List ℕ) × (last : Between T)
         × Consumes (R.remaining input.old) (R.remaining input.new) bytes × Takes T.gives (start_of rule) bytes text last
         × Appends (W.contents output.old) (W.contents output.new) text) }
-    // After any error, what went out is a front of the text of bytes that were read.
+    // After any error, what went out is a front of the text of bytes that were read, and has of its end only where they are all.
     ensures front { OnErr result ((bytes : List ℕ) × (more : List ℕ) × (sent : List ℕ) × Consumes (R.remaining input.old) (R.remaining input.new) (bytes ++ more)
-        × Begins T.gives T.closes rule bytes sent × Appends (W.contents output.old) (W.contents output.new) sent) }
+        × Begins T.gives T.closes rule ((more ≡ []) × IsAtEnd (R.remaining input.new)) bytes sent × Appends (W.contents output.old) (W.contents output.new) sent) }
 {
     let mut cleaner = Cleaner::new(alloc, rule);
     let mut out = Vec::new(alloc);
@@ -81,6 +82,9 @@ pub fn strip_all<R: Read, W: Write>(
     ensures front { OnErr result ((bytes : List ℕ) × (more : List ℕ) × (sent : List ℕ) × (unsent : List ℕ)
         × Consumes (R.remaining input.old) (R.remaining input.new) (bytes ++ more) × Strips longest bytes (sent ++ unsent) × IsPlain (sent ++ unsent)
         × Appends (W.contents output.old) (W.contents output.new) sent) }
+    // And it is a front of the stripped text of the whole input.
+    ensures whole { OnErr result (IfSome (R.remaining input.old) (λ bytes.
+        (sent : List ℕ) × IsFrontOf (Strips longest) bytes sent × Appends (W.contents output.old) (W.contents output.new) sent)) }
 {
     clean_run(alloc, Dropped, input, output)
 }
@@ -103,6 +107,31 @@ pub fn clean_all<R: Read, W: Write>(
     ensures front { OnErr result ((bytes : List ℕ) × (more : List ℕ) × (sent : List ℕ) × (unsent : List ℕ)
         × Consumes (R.remaining input.old) (R.remaining input.new) (bytes ++ more) × Styles bytes (sent ++ unsent) × IsStyled (sent ++ unsent)
         × Appends (W.contents output.old) (W.contents output.new) sent) }
+    // And it is a front of the text of the whole input.
+    ensures whole { OnErr result (IfSome (R.remaining input.old) (λ bytes.
+        (sent : List ℕ) × IsFrontOf Styles bytes sent × Appends (W.contents output.old) (W.contents output.new) sent)) }
 {
-    clean_run(alloc, Kept::new(alloc), input, output)
+    clean_all_in(alloc, Depth::Full, input, output)
+}
+
+/// The same with fewer colours, as [`clean_in`](crate::clean_in) leaves them.
+pub fn clean_all_in<R: Read, W: Write>(
+    alloc: Global,
+    depth: Depth,
+    input: &mut R,
+    output: &mut W,
+) -> Result<(), RunError>
+    // What was written is the text of all the bytes with their styles.
+    ensures ok { OnOk result ((bytes : List ℕ) × (text : List ℕ) × Consumes (R.remaining input.old) (R.remaining input.new) bytes
+        × StylesIn depth bytes text × IsStyledIn depth text × Appends (W.contents output.old) (W.contents output.new) text) }
+    ensures end { OnOk result (IsAtEnd (R.remaining input.new)) }
+    // After any error, what went out is a front of such a text of bytes that were read.
+    ensures front { OnErr result ((bytes : List ℕ) × (more : List ℕ) × (sent : List ℕ) × (unsent : List ℕ)
+        × Consumes (R.remaining input.old) (R.remaining input.new) (bytes ++ more) × StylesIn depth bytes (sent ++ unsent) × IsStyledIn depth (sent ++ unsent)
+        × Appends (W.contents output.old) (W.contents output.new) sent) }
+    // And it is a front of the text of the whole input.
+    ensures whole { OnErr result (IfSome (R.remaining input.old) (λ bytes.
+        (sent : List ℕ) × IsFrontOf (StylesIn depth) bytes sent × Appends (W.contents output.old) (W.contents output.new) sent)) }
+{
+    clean_run(alloc, Kept::in_depth(alloc, depth), input, output)
 }

@@ -1,4 +1,4 @@
-use Rattle.std.proofs.Common.{◌≡◌, ◌++◌, [], rules, take, sym, ◌∙◌, ap}
+use Rattle.std.proofs.Common.{◌<◌, ◌≡◌, ◌++◌, [], length, rules, take, sym, ◌∙◌, ap, arith}
 use Rattle.std.proofs.KnownBytes.{Appends-trans, Consumes-trans, Consumes-kept}
 use Rattle.std.proofs.lemmas.Result.{on_err_weaker, on_ok_weaker}
 use Rattle.csicodec_safe.specs.Shown.{shown_text}
@@ -51,9 +51,10 @@ returns-then-count-eq0-clause-front g c =
     let (read, text, consumed, takes, appended) = c.loop.invariant.taken in
     let (close, closes, made) = c.in-Ok-finish.ensures in
     let all = none_more read c.receive.new.chunk c.in-Ok.count _ _ _ consumed c.in-Ok.ensures.read.0 c.if-count-eq0.true in
+    let room : 0 < length c.receive.new.chunk = omega (arith, c.receive.auto.chunk) in
     let out = c.deref.ensures.value ∙ made ∙ ap (λ t. t ++ (shown_text c.loop.cleaner.held ++ close)) c.clear.ensures.items in
     on_err_weaker c.send.result
-    (λ some. went_end g.T.Rule.gives g.T.Rule.closes c.args.rule read text close some.0 some.1 c.loop.cleaner _ _ _ _ _ all takes closes appended (sym out ∙ some.2) some.3)
+    (λ some. went_end g.T.Rule.gives g.T.Rule.closes c.args.rule read text close some.0 some.1 c.loop.cleaner _ _ _ _ _ all takes closes appended (sym out ∙ some.2) some.3 (c.in-Ok.ensures.read.1 c.if-count-eq0.true room))
     c.send.ensures.front
 
 pub returns-in_default-send-clause-front : goal.returns-in_default-send-clause-front

@@ -25,7 +25,8 @@ use Rattle.csicodec.proofs.Kept.{Kept}
 use Rattle.csicodec.proofs.Parsed.{parsed-kept}
 use Rattle.csicodec.proofs.RoundTrip.{round_trip_lem}
 use Rattle.csicodec.proofs.Twins.{IsParsedSpecial}
-use Rattle.csicodec_compact.specs.Compacts.{Compacts, ReadsAlike, stays}
+use Rattle.csicodec_filter.specs.Faithful.{stays}
+use Rattle.csicodec_compact.specs.Compacts.{Compacts, ReadsAlike}
 use Rattle.csicodec_compact.specs.Private.Steps.{IsOneNormalised}
 
 -- the byte is none of the text

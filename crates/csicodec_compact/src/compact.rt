@@ -1,22 +1,13 @@
 //! What is written in the place of a control sequence.
 ghost use Rattle.std.specs.Prelude.{◌≡◌, ◌≤◌, ℕ, List, true, length, IfOk};
 ghost use Rattle.csicodec_tokens.specs.Sequence.{Seq};
-ghost use Rattle.csicodec_compact.specs.Compacts.{Compacts, ReadsAlike, stays};
+ghost use Rattle.csicodec_compact.specs.Compacts.{Compacts, ReadsAlike};
 
 use crate::alike::Reader;
 use crate::spell::{may_be_shorter, spell, spell_plainly};
 use csicodec_base::{CsiParam, TextBuffer};
-use csicodec_filter::Rewrite;
+use csicodec_filter::{Rewrite, stays};
 use std::alloc::{AllocError, Global};
-
-/// Whether a list before this final stays as it came.
-pub(crate) fn stays(params: &[CsiParam], control: char) -> bool
-    ensures { result ≡ stays params.now control }
-{
-    matches!(params.first(), Some(CsiParam::P(b'<')))
-        || matches!(params.last(), Some(CsiParam::P(b';')))
-        || matches!(control, 'R' | 'r' | 's' | 'u' | 'x' | 'y')
-}
 
 /// Each control sequence in the shortest of its spellings that is found, and as it came where none is shorter: the attributes (SGR)
 /// of a sequence stay in one, with semicolons where the table allows it, and without what is a default or a zero ahead of a number.

@@ -4,9 +4,9 @@ ghost use Rattle.csicodec_parser.specs.ActionOf.{action_of};
 ghost use Rattle.csicodec_compact.specs.Compacts.{Encodes, ReadsAlike};
 
 use crate::alike::Reader;
-use crate::compact::stays;
 use crate::spell::spell;
 use csicodec_base::{ColorSpec, CsiParam, ReadError, Sgr, TextBuffer, read_csi_into};
+use csicodec_filter::stays;
 use csicodec_parser::CSI;
 use csicodec_streams::encode_all;
 use std::alloc::{AllocError, Global};

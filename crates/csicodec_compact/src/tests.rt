@@ -2,14 +2,14 @@
 
 use crate::{Compact, encode_compact};
 use csicodec::{CSI, ColorSpec, Cursor, Intensity, Sgr, SrgbaTuple};
-use csicodec_filter::Filter;
+use csicodec_filter::{Faithful, Filter, Rewrite};
 use std::alloc::Global;
 use std::test::Fail;
 
 /// What becomes of a stream.
-fn compacted(alloc: Global, compact: Compact, stream: &str) -> Result<Vec<u8>, Fail> {
+fn compacted<T: Rewrite + Drop>(alloc: Global, rule: T, stream: &str) -> Result<Vec<u8>, Fail> {
     let mut out = Vec::new(alloc);
-    let mut filter = Filter::new(alloc, 65536, compact);
+    let mut filter = Filter::new(alloc, 65536, rule);
     filter.push(stream.as_bytes(), &mut out)?;
     filter.finish(&mut out)?;
     Ok(out)
@@ -51,6 +51,7 @@ fn shortens(rt: HostRuntime) -> Result<(), Fail> {
         ("05;0s", "05;0s"),
         ("03r", "03r"),
         ("00x", "00x"),
+        ("08;24;80t", "08;24;80t"),
         ("0 q", "0 q"),
     ] {
         let stream = format!(in alloc; "a\x1b[{list}b")?;
@@ -66,6 +67,25 @@ fn shortens(rt: HostRuntime) -> Result<(), Fail> {
         "\x1b[38:5:9m\x1b[48:2:1:2:3m",
     )?;
     assert!(rt; written.as_slice() == b"\x1b[38;5;9m\x1b[48;2;1;2;3m".as_slice());
+    Ok(())
+}
+
+#[test]
+fn stays_faithful(rt: HostRuntime) -> Result<(), Fail> {
+    let alloc = rt.alloc();
+    for (came, written) in [
+        ("\x1b[01;4mb", "\x1b[1m\x1b[4mb"),
+        ("\x1b[0;0H\x1b[?01;25h", "\x1b[1;1H\x1b[?1h\x1b[?25h"),
+        ("\x1b[01;38;5;9m", "\x1b[01;38;5;9m"),
+        ("\x1b[4:2m\x1b[1;m", "\x1b[4:2m\x1b[1;m"),
+        ("\x1b[<128;1;5M\x1b[>1u", "\x1b[<128;1;5M\x1b[>1u"),
+        ("\x1b[7;2*y\x1b[5;0s", "\x1b[7;2*y\x1b[5;0s"),
+        ("\x1b[3r\x1b[x\x1b[R", "\x1b[3r\x1b[x\x1b[R"),
+        ("\x1b[5;600;800t", "\x1b[5;600;800t"),
+    ] {
+        let text = compacted(alloc, Faithful::new(alloc), came)?;
+        assert_eq!(rt; text.as_slice(), written.as_bytes());
+    }
     Ok(())
 }
 

@@ -1,1 +1,2 @@
+pub mod Faithful
 pub mod Filter

@@ -1,7 +1,23 @@
-use Rattle.std.proofs.Common.{false, sym, ap, ◌∙◌}
+use Rattle.std.proofs.Common.{List, [], ◌≡◌, ℕ, false, inl, inr, refl, sym, ap, ◌∙◌}
+use Rattle.std.proofs.lemmas.Bool.{cases_Bool}
+use Rattle.csicodec_tokens.proofs.Unique.{one_seq}
 use Rattle.csicodec_actions.specs.Table.{texts}
+use Rattle.csicodec_streams.specs.Decoding.{NormalisesTo}
 use Rattle.csicodec_streams.proofs.OneReading.{one_decoding}
+use Rattle.csicodec_filter.specs.Faithful.{is_kept}
 use Rattle.csicodec.proofs.laws.one_normal_form.Goals as goal
 
-pub returns : goal.returns
-returns c = λ bytes one other x y. x.2 ∙ ap texts (one_decoding bytes false x.0 y.0 x.1 y.1) ∙ sym y.2
+one_form : (bytes one other : List ℕ) → NormalisesTo bytes one → NormalisesTo bytes other → one ≡ other
+one_form bytes one other x y = x.2 ∙ ap texts (one_decoding bytes false x.0 y.0 x.1 y.1) ∙ sym y.2
+
+pub returns-clause-normal : goal.returns-clause-normal
+returns-clause-normal c = one_form
+
+pub returns-clause-faithful : goal.returns-clause-faithful
+returns-clause-faithful c = λ bytes one other x y.
+    let same = one_seq bytes bytes [] [] x.0 y.0 x.1 y.1 x.2 y.2 refl in
+    let kept : is_kept y.0 y.1 ≡ is_kept x.0 x.1 = rw (same.1, same.2) refl in
+    elim (cases_Bool (is_kept x.0 x.1)) [
+      | inl stays ↦ x.3 stays ∙ sym (y.3 (kept ∙ stays))
+      | inr free ↦ one_form bytes one other (x.4 free) (y.4 (kept ∙ free))
+    ]

@@ -152,11 +152,11 @@ enum csicodec_kind {
     CSICODEC_DEVICE_ATTRIBUTES_VT320 = 405,
     /* ? 64 and extensions: the service class of the VT420. (place, len: the extensions) */
     CSICODEC_DEVICE_ATTRIBUTES_VT420 = 406,
-    /* DECSTR (DEC VT220): back to the initial state. */
+    /* DECSTR (DEC VT220): modes, margins, attributes and character sets are as at first; what is shown stays. */
     CSICODEC_DEVICE_SOFT_RESET = 407,
     /* DA (ECMA-48, 8.3.24): what the terminal is. */
     CSICODEC_DEVICE_REQUEST_PRIMARY_DEVICE_ATTRIBUTES = 408,
-    /* DA2 (DEC VT220): its version. */
+    /* DA2 (DEC VT220): its type, the version of its firmware, and its options. */
     CSICODEC_DEVICE_REQUEST_SECONDARY_DEVICE_ATTRIBUTES = 409,
     /* DA3 (DEC VT420): its unit. */
     CSICODEC_DEVICE_REQUEST_TERTIARY_DEVICE_ATTRIBUTES = 410,
@@ -194,7 +194,8 @@ enum csicodec_kind {
     CSICODEC_WINDOW_REPORT_CELL_SIZE_PIXELS_RESPONSE = 607,
     /* 7: it is drawn again. */
     CSICODEC_WINDOW_REFRESH_WINDOW = 608,
-    /* 8: the text area gets this size, in cells. (first: width; second: height; either may be absent) */
+    /* 8: the text area gets this size, in cells; 0 is that of the display (xterm). (first: width; second: height; either may be
+     * absent) */
     CSICODEC_WINDOW_RESIZE_WINDOW_CELLS = 609,
     /* 9 and 0: a window that was maximized gets its size back. */
     CSICODEC_WINDOW_RESTORE_MAXIMIZED_WINDOW = 610,
@@ -455,7 +456,7 @@ enum csicodec_dec_private_mode_code {
     CSICODEC_DEC_PRIVATE_MODE_GRAPHEME_CLUSTERING = 2027,
     /* The escape key sends a sequence of its own (mintty). */
     CSICODEC_DEC_PRIVATE_MODE_MIN_TTY_APPLICATION_ESCAPE_KEY_MODE = 7727,
-    /* The cursor stays to the right of an image of sixels (xterm). */
+    /* The cursor stays to the right of an image of sixels (RLogin, xterm). */
     CSICODEC_DEC_PRIVATE_MODE_SIXEL_SCROLLS_RIGHT = 8452,
     /* Keys are reported with all that Windows says of them (Windows Terminal). */
     CSICODEC_DEC_PRIVATE_MODE_WIN32_INPUT_MODE = 9001
@@ -473,7 +474,7 @@ enum csicodec_terminal_mode_code {
     CSICODEC_TERMINAL_MODE_SEND_RECEIVE = 12,
     /* LNM (ECMA-48, 4th edition and before): a line feed goes to the start of the line as well. */
     CSICODEC_TERMINAL_MODE_AUTOMATIC_NEWLINE = 20,
-    /* The cursor is shown (Windows Terminal). */
+    /* The cursor is shown (termwiz, which has it of Windows' terminal). */
     CSICODEC_TERMINAL_MODE_SHOW_CURSOR = 25
 };
 
@@ -608,13 +609,13 @@ enum csicodec_character_path {
 enum csicodec_esc_code {
     /* ESC c, RIS (ECMA-48): puts the terminal into the state that it has when it is switched on. */
     CSICODEC_ESC_FULL_RESET = 99,
-    /* ESC D, IND (DEC VT100): moves the cursor down one line in its column, and scrolls up at the bottom margin. A VT52 takes
-     * it as a move to the left. */
+    /* ESC D, IND (DEC VT100; ECMA-48, 4th edition and before): moves the cursor down one line in its column, and scrolls up at
+     * the bottom margin. A VT52 takes it as a move to the left. */
     CSICODEC_ESC_INDEX = 68,
     /* ESC E, NEL (ECMA-48): moves the cursor to the start of the next line, and scrolls up at the bottom margin. */
     CSICODEC_ESC_NEXT_LINE = 69,
-    /* ESC F (xterm's ctlseqs): moves the cursor to the lower left corner, where the terminal is set to imitate HP's. ECMA-48
-     * has SSA here, the start of a selected area. */
+    /* ESC F (xterm's ctlseqs): moves the cursor to the lower left corner, where xterm is set up for programs that send it to
+     * any terminal (hpLowerleftBugCompat). ECMA-48 has SSA here, the start of a selected area. */
     CSICODEC_ESC_CURSOR_POSITION_LOWER_LEFT = 70,
     /* ESC H, HTS (ECMA-48): sets a tab stop in the cursor's column. */
     CSICODEC_ESC_HORIZONTAL_TAB_SET = 72,
@@ -631,7 +632,8 @@ enum csicodec_esc_code {
     CSICODEC_ESC_END_OF_GUARDED_AREA = 87,
     /* ESC X, SOS (ECMA-48): opens a string of characters, up to StringTerminator. Terminals skip it. */
     CSICODEC_ESC_START_OF_STRING = 88,
-    /* ESC Z, DECID (DEC VT100): asks what terminal this is. The control sequence DA took its place. */
+    /* ESC Z, DECID (DEC VT100): asks what terminal this is. The control sequence DA took its place. ECMA-48 has SCI here, of
+     * which the next byte is a part. */
     CSICODEC_ESC_RETURN_TERMINAL_ID = 90,
     /* ESC \, ST (ECMA-48): closes the string that a control such as OSC, DCS, SOS, PM or APC opened. */
     CSICODEC_ESC_STRING_TERMINATOR = 92,

@@ -276,11 +276,11 @@ pub enum DeviceAttributes {
 pub enum Device {
     /// DA1 (ECMA-48, 8.3.24; DEC VT100 and up): the answer to the primary device attributes.
     DeviceAttributes(DeviceAttributes),
-    /// DECSTR (DEC VT220): back to the initial state.
+    /// DECSTR (DEC VT220): modes, margins, attributes and character sets are as at first; what is shown stays.
     SoftReset,
     /// DA (ECMA-48, 8.3.24): what the terminal is.
     RequestPrimaryDeviceAttributes,
-    /// DA2 (DEC VT220): its version.
+    /// DA2 (DEC VT220): its type, the version of its firmware, and its options.
     RequestSecondaryDeviceAttributes,
     /// DA3 (DEC VT420): its unit.
     RequestTertiaryDeviceAttributes,
@@ -559,7 +559,7 @@ pub enum Window {
     },
     /// 7: it is drawn again.
     RefreshWindow,
-    /// 8: the text area gets this size, in cells.
+    /// 8: the text area gets this size, in cells; 0 is that of the display (xterm).
     ResizeWindowCells {
         /// The columns.
         width: Option<i64>,

@@ -140,8 +140,8 @@ pub struct DeviceAttributeFlags {
 pub struct XtSmGraphics {
     /// What it is about.
     pub item: XtSmGraphicsItem,
-    /// The number of the action, where it is a request, and of the status, where it is an answer. Nothing in the sequence
-    /// tells which of the two it is.
+    /// The number of the action, where it is a request, and of the status, where it is an answer. 0 is a status alone, and
+    /// 4 an action alone; of 1 to 3 nothing in the sequence tells which of the two it is.
     pub action_or_status: i64,
     /// A number of colour registers, or a width and a height in pixels, where they are set or answered.
     pub value: Vec<i64>,

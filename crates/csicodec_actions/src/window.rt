@@ -54,7 +54,7 @@ pub enum Window {
     },
     /// 7: it is drawn again.
     RefreshWindow,
-    /// 8: the text area gets this size, in cells.
+    /// 8: the text area gets this size, in cells; 0 is that of the display (xterm).
     ResizeWindowCells {
         /// The columns.
         width: Option<i64>,

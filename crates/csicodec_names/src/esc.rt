@@ -72,14 +72,15 @@ impl fmt::Display for Esc {
 pub enum EscCode {
     /// `ESC c`, RIS (ECMA-48): puts the terminal into the state that it has when it is switched on.
     FullReset = 0x63,
-    /// `ESC D`, IND (DEC VT100): moves the cursor down one line in its column, and scrolls up at
-    /// the bottom margin. A VT52 takes it as a move to the left.
+    /// `ESC D`, IND (DEC VT100; ECMA-48, 4th edition and before): moves the cursor down one line in
+    /// its column, and scrolls up at the bottom margin. A VT52 takes it as a move to the left.
     Index = 0x44,
     /// `ESC E`, NEL (ECMA-48): moves the cursor to the start of the next line, and scrolls up at
     /// the bottom margin.
     NextLine = 0x45,
-    /// `ESC F` (xterm's ctlseqs): moves the cursor to the lower left corner, where the terminal is
-    /// set to imitate HP's. ECMA-48 has SSA here, the start of a selected area.
+    /// `ESC F` (xterm's ctlseqs): moves the cursor to the lower left corner, where xterm is set up
+    /// for programs that send it to any terminal (hpLowerleftBugCompat). ECMA-48 has SSA here, the
+    /// start of a selected area.
     CursorPositionLowerLeft = 0x46,
     /// `ESC H`, HTS (ECMA-48): sets a tab stop in the cursor's column.
     HorizontalTabSet = 0x48,
@@ -99,7 +100,7 @@ pub enum EscCode {
     /// skip it.
     StartOfString = 0x58,
     /// `ESC Z`, DECID (DEC VT100): asks what terminal this is. The control sequence DA took its
-    /// place.
+    /// place. ECMA-48 has SCI here, of which the next byte is a part.
     ReturnTerminalId = 0x5a,
     /// `ESC \`, ST (ECMA-48): closes the string that a control such as OSC, DCS, SOS, PM or APC
     /// opened.

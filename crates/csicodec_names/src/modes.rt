@@ -70,7 +70,7 @@ pub enum DecPrivateModeCode {
     GraphemeClustering = 2027,
     /// The escape key sends a sequence of its own (mintty).
     MinTTYApplicationEscapeKeyMode = 7727,
-    /// The cursor stays to the right of an image of sixels (xterm).
+    /// The cursor stays to the right of an image of sixels (RLogin, xterm).
     SixelScrollsRight = 8452,
     /// Keys are reported with all that Windows says of them (Windows Terminal).
     Win32InputMode = 9001,
@@ -141,7 +141,7 @@ pub enum TerminalModeCode {
     SendReceive = 12,
     /// LNM (ECMA-48, 4th edition and before): a line feed goes to the start of the line as well.
     AutomaticNewline = 20,
-    /// The cursor is shown (Windows Terminal).
+    /// The cursor is shown (termwiz, which has it of Windows' terminal).
     ShowCursor = 25,
 }
 

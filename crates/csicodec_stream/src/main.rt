@@ -10,7 +10,7 @@ use command::{Command, Run, Task, USAGE, VERSION, Wrong, command_of};
 use csicodec_compact::Compact;
 use csicodec_filter::{NormalForm, filter_all};
 use csicodec_page::{Explainer, LIMIT};
-use csicodec_safe::{clean_all, strip_all};
+use csicodec_safe::{Depth, clean_all_in, strip_all};
 use csicodec_streams::RunError;
 use report::Failure;
 use std::alloc::Global;
@@ -49,7 +49,7 @@ enum Work<'a> {
     Filter,
     Compact { semicolons: bool },
     Strip,
-    Clean,
+    Clean { depth: Depth },
     Explain(Explainer<'a>),
 }
 
@@ -61,7 +61,7 @@ impl<'a> Work<'a> {
                 semicolons: run.semicolons,
             },
             Task::Strip => Work::Strip,
-            Task::Clean => Work::Clean,
+            Task::Clean => Work::Clean { depth: run.depth },
             Task::Explain => Work::Explain(Explainer::new(rt.alloc(), run.style)),
         }
     }
@@ -84,7 +84,7 @@ impl<'a> Work<'a> {
                 filter_all(alloc, LIMIT, rule, input, output)
             }
             Work::Strip => strip_all(alloc, input, output),
-            Work::Clean => clean_all(alloc, input, output),
+            Work::Clean { depth } => clean_all_in(alloc, *depth, input, output),
             Work::Explain(explainer) => explainer.read(input, output),
         }
     }

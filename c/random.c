@@ -52,7 +52,7 @@ static int all_calls(const uint8_t *bytes, size_t len) {
         good &= at <= len && event.bytes >= bytes && event.bytes + event.len <= bytes + len;
     }
     good &= turns < 2 * len || len == 0;
-    good &= at == len || len - at < (stream.limit < 3 ? 3 : stream.limit);
+    good &= at == len || len - at < (stream.limit < 4 ? 4 : stream.limit);
     free(out), free(actions), free(params);
     return good;
 }

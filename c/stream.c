@@ -1,4 +1,5 @@
-/* A stream in every cut has the same events; controls within a sequence are told; null stands for no bytes and no room. */
+/* A stream in every cut has the same events, and no character is cut; controls within a sequence are told; null stands for no bytes
+ * and no room. */
 #include "csicodec.h"
 
 #include <stdio.h>
@@ -11,10 +12,13 @@ static const char wanted[] = "T a|A 2 1|A 11 1|T red|S ] 0;[1m;t.|E 2842|E 37|T 
 static char told[1024];
 static size_t size;
 static char open;
+/* Whether text ended within a character. */
+static int torn;
 
 /* What an event says; text and strings that go on are joined. */
 static void tell(const struct csicodec_stream *stream, const struct csicodec_event *event) {
     char kind = "NTAESO"[event->kind];
+    torn |= kind == 'T' && event->bytes[event->len - 1] >= 0xc0;
     int goes_on = open == kind && (kind == 'T' || kind == 'O' || (kind == 'S' && !event->first));
     if (open && !goes_on) told[size++] = '|';
     open = kind;
@@ -42,11 +46,23 @@ static int cut(size_t first, size_t second) {
     struct csicodec_event event;
     const size_t ends[] = {first, second, sizeof bytes - 1};
     size_t at = 0;
-    size = 0, open = 0;
+    size = 0, open = 0, torn = 0;
     for (int i = 0; i < 3; i++)
         for (; csicodec_next_event(&stream, bytes + at, ends[i] - at, &event); at += event.used) tell(&stream, &event);
     told[size++] = '|';
-    return at == sizeof bytes - 3 && size == sizeof wanted - 1 && !memcmp(told, wanted, size);
+    return !torn && at == sizeof bytes - 3 && size == sizeof wanted - 1 && !memcmp(told, wanted, size);
+}
+
+/* What waits at the end of text: a character that is cut, and nothing that begins none. */
+static int waits(void) {
+    static const struct { const char *text; size_t len, whole; } cases[] = {
+        {"a", 1, 1}, {"a\xc3", 2, 1}, {"\xc3\xa9", 2, 2}, {"ab\xe2\x82", 4, 2}, {"\xe2\x82\xac", 3, 3}, {"a\xf0\x9f\x98", 4, 1},
+        {"\xf0\x9f\x98\x80", 4, 4}, {"\xc3" "a", 2, 2}, {"\xc0", 1, 1}, {"\xe0\x80", 2, 2}, {"\xed\xa0", 2, 2}, {"\xf4\x90", 2, 2},
+        {"\xff", 1, 1}, {"\x82\x82\x82\x82", 4, 4}};
+    int good = 1;
+    for (size_t i = 0; i < sizeof cases / sizeof cases[0]; i++)
+        good &= csicodec_whole_text((const uint8_t *)cases[i].text, cases[i].len) == cases[i].whole;
+    return good;
 }
 
 static int of_nothing(void) {
@@ -73,6 +89,7 @@ static int names(void) {
 int main(void) {
     if (!of_nothing()) return 2;
     if (!names()) return 3;
+    if (!waits()) return 4;
     for (size_t i = 0; i < sizeof bytes; i++)
         for (size_t j = i; j < sizeof bytes; j++)
             if (!cut(i, j)) {

@@ -21,8 +21,9 @@ static void erase(int row, int from, int end) {
     for (int i = from; i < end; i++) page[row][i] = (struct cell){.character = " "};
 }
 
-/* Moves the lines from one on to the bottom margin up by so many, or down. */
+/* Moves the lines from one on to the bottom margin up by so many, or down. Outside of the margins none is moved. */
 static void scroll(int from, int64_t up) {
+    if (from < top || from > bottom) return;
     int size = bottom - from + 1, count = within(up < 0 ? -up : up, size);
     memmove(page[from + (up > 0 ? 0 : count)], page[from + (up > 0 ? count : 0)], (size_t)(size - count) * sizeof page[0]);
     for (int i = 0; i < count; i++) erase(up > 0 ? bottom - i : from + i, 0, COLUMNS);
@@ -81,14 +82,13 @@ static void act(const struct csicodec_action *action) {
     case CSICODEC_CURSOR_LINE_POSITION_ABSOLUTE: line = within(first - 1, LINES - 1); break;
     case CSICODEC_CURSOR_POSITION: line = within(first - 1, LINES - 1), column = within(second - 1, COLUMNS - 1); break;
     case CSICODEC_CURSOR_SET_TOP_AND_BOTTOM_MARGINS:
-        top = within(first - 1, LINES - 1), bottom = within(second - 1, LINES - 1), line = column = 0;
+        if (first < within(second, LINES)) top = within(first - 1, LINES), bottom = within(second, LINES) - 1, line = column = 0;
         break;
     case CSICODEC_EDIT_ERASE_IN_LINE:
     case CSICODEC_EDIT_ERASE_IN_DISPLAY:
-        if (action->kind == CSICODEC_EDIT_ERASE_IN_DISPLAY)
-            for (int i = 0; i < LINES; i++)
-                if (first == 2 || (first == 0 && i > line) || (first == 1 && i < line)) erase(i, 0, COLUMNS);
-        erase(line, first == 0 ? here : 0, first == 1 ? here + 1 : COLUMNS);
+        for (int i = 0; i < LINES && action->kind == CSICODEC_EDIT_ERASE_IN_DISPLAY; i++)
+            if (first == 2 || (first == 0 && i > line) || (first == 1 && i < line)) erase(i, 0, COLUMNS);
+        if (first < 3) erase(line, first == 0 ? here : 0, first == 1 ? here + 1 : COLUMNS);
         break;
     case CSICODEC_EDIT_INSERT_LINE: scroll(line, -first); break;
     case CSICODEC_EDIT_DELETE_LINE: scroll(line, first); break;

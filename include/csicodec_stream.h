@@ -13,17 +13,32 @@
  *         memmove(bytes, bytes + at, held -= at);
  *     }
  *
- * What waits is kept by the caller: fewer bytes than the limit, or than 3. How a stream is cut into pieces changes nothing but
- * where text, strings and what went wrong are cut. */
+ * What waits is kept by the caller: fewer bytes than the limit, or than 4. How a stream is cut into pieces changes nothing but
+ * where text, strings and what went wrong are cut; a character of text is never cut by it. */
 #ifndef CSICODEC_STREAM_H
 #define CSICODEC_STREAM_H
 
 #include <string.h>
 
+/* Whether a step of csicodec_filter, or a call of csicodec_next, may as well wait: of len bytes it found nothing sure, or answered
+ * CSICODEC_TRUNCATED, when the first `looked` of them had come, and of what came behind them nothing ends the control sequence. So one
+ * that comes byte by byte is read once, and not with each byte anew. A limit is that of the filter; else SIZE_MAX.
+ *
+ *     if (csicodec_waits(limit, bytes, len, looked)) { looked = len; continue; }
+ *     filtered = csicodec_filter(mode, limit, bytes, len, out, room);
+ *     looked = len - filtered.used;
+ *     memmove(bytes, bytes + filtered.used, len = looked); */
+static inline int csicodec_waits(size_t limit, const uint8_t *bytes, size_t len, size_t looked) {
+    if (looked < 2 || len >= limit || bytes[0] != 0x1b || bytes[1] != '[') return 0;
+    for (; looked < len; looked++)
+        if (bytes[looked] < 0x20 || bytes[looked] > 0x3f) return 0;
+    return 1;
+}
+
 enum csicodec_event_kind {
     /* Nothing is sure of the bytes yet: they come again, ahead of those that follow. */
     CSICODEC_EVENT_NONE = 0,
-    /* Characters, and controls of C0 but ESC, and DEL. A character in UTF-8 may be cut at the end of the bytes. */
+    /* Characters, and controls of C0 but ESC, and DEL. No character in UTF-8 is cut, but by what stands within it. */
     CSICODEC_EVENT_TEXT = 1,
     /* A control sequence: its actions stand in the room of the stream. */
     CSICODEC_EVENT_ACTIONS = 2,
@@ -41,8 +56,11 @@ struct csicodec_stream {
     uint32_t mode;
     /* Of an open string, the character behind ESC that opened it. */
     uint32_t string;
-    /* How far the controls within a control sequence were told. */
+    /* Of a control sequence with controls in it, what it is a span of, and how far they were told; 0 where none is being told. */
+    struct csicodec_spanned wrong;
     size_t inside;
+    /* Of a control sequence that waits for its end, how many bytes were looked at. */
+    size_t looked;
     /* A control sequence has at most so many bytes. */
     size_t limit;
     struct csicodec_action *actions;
@@ -93,7 +111,7 @@ static inline struct csicodec_stream csicodec_stream_of(size_t limit, struct csi
 static inline int csicodec_event_of(struct csicodec_stream *stream, struct csicodec_event *event, uint32_t kind,
                                     const uint8_t *bytes, size_t used, uint32_t mode) {
     stream->mode = mode;
-    stream->inside = 0;
+    stream->inside = stream->looked = 0;
     event->kind = kind;
     event->bytes = bytes;
     event->len = event->used = used;
@@ -117,6 +135,16 @@ static inline int csicodec_actions_event(struct csicodec_stream *stream, const u
     return csicodec_event_of(stream, event, CSICODEC_EVENT_ACTIONS, bytes, used, CSICODEC_FILTER_TEXT);
 }
 
+/* Whether a control sequence, whole or wrong, isn't over in len bytes, of which so many were looked at: none of the others is a final
+ * byte, cancels it (CAN, SUB), or begins anew (ESC). */
+static inline int csicodec_goes_on(const uint8_t *bytes, size_t len, size_t looked) {
+    for (; looked < len; looked++)
+        if ((bytes[looked] >= 0x40 && bytes[looked] != 0x7f) || bytes[looked] == 0x18 || bytes[looked] == 0x1a ||
+            bytes[looked] == 0x1b)
+            return 0;
+    return 1;
+}
+
 /* What went wrong behind ESC [. Where it is for controls of C0, each is told as text, and then the sequence without them and
  * without DEL is read, as DEC's terminals and xterm do: its final byte is waited for, and it has at most 256 bytes. */
 static inline int csicodec_wrong_event(struct csicodec_stream *stream, const uint8_t *bytes, struct csicodec_spanned span,
@@ -128,6 +156,7 @@ static inline int csicodec_wrong_event(struct csicodec_stream *stream, const uin
         event->kind = CSICODEC_EVENT_TEXT;
         event->bytes = bytes + i;
         event->len = 1;
+        stream->wrong = span;
         stream->inside = i + 1;
         return 1;
     }
@@ -154,15 +183,36 @@ static inline int csicodec_string_event(struct csicodec_stream *stream, const ui
     return 1;
 }
 
+/* How many bytes of text there are ahead of a character in UTF-8 that is cut at its end: all, where none is. Its first byte and the
+ * next one tell how long it is, as the Unicode Standard has it (3.9, table 3-7). */
+static inline size_t csicodec_whole_text(const uint8_t *text, size_t len) {
+    size_t there = 1, size;
+    uint8_t first, low = 0x80, high = 0xbf;
+    while (there < 3 && there < len && (text[len - there] & 0xc0) == 0x80) there++;
+    first = text[len - there];
+    size = first < 0xc2 || first > 0xf4 ? 0 : first < 0xe0 ? 2 : first < 0xf0 ? 3 : 4;
+    if (size <= there) return len;
+    if (first == 0xe0) low = 0xa0;
+    if (first == 0xed) high = 0x9f;
+    if (first == 0xf0) low = 0x90;
+    if (first == 0xf4) high = 0x8f;
+    if (there > 1 && (text[len - there + 1] < low || text[len - there + 1] > high)) return len;
+    return len - there;
+}
+
 /* The next event of a stream at the front of len bytes. Where it answers 0 there is none, and the bytes wait; else go on at
- * bytes + event->used. Where nothing comes any more, what waits is a control that went wrong. */
+ * bytes + event->used. Where nothing comes any more, what waits is a control that went wrong, or a character that is cut. */
 static inline int csicodec_next_event(struct csicodec_stream *stream, const uint8_t *bytes, size_t len,
                                       struct csicodec_event *event) {
     struct csicodec_spanned span;
     int sequence = len > 1 && bytes[0] == 0x1b && bytes[1] == '[';
+    size_t looked = stream->looked;
     memset(event, 0, sizeof *event);
     if (!len) return 0;
-    if (sequence && !stream->inside && stream->limit && csicodec_actions_event(stream, bytes, len, bytes, 0, event)) return 1;
+    if (stream->inside) return csicodec_wrong_event(stream, bytes, stream->wrong, event);
+    stream->looked = sequence ? len : 0;
+    if (sequence && looked && len < stream->limit && csicodec_goes_on(bytes, len, looked)) return 0;
+    if (sequence && stream->limit && csicodec_actions_event(stream, bytes, len, bytes, 0, event)) return 1;
     span = csicodec_span(stream->mode, stream->limit, bytes, len);
     if (span.status != CSICODEC_OK) {
         event->status = CSICODEC_OK;
@@ -182,8 +232,10 @@ static inline int csicodec_next_event(struct csicodec_stream *stream, const uint
         event->code = csicodec_esc(event->intermediate, event->final_byte);
         return csicodec_event_of(stream, event, CSICODEC_EVENT_ESC, bytes, span.used, span.mode);
     }
-    return csicodec_event_of(stream, event, span.kind == CSICODEC_SPAN_TEXT ? CSICODEC_EVENT_TEXT : CSICODEC_EVENT_OTHER, bytes,
-                             span.used, span.mode);
+    if (span.kind == CSICODEC_SPAN_OTHER)
+        return csicodec_event_of(stream, event, CSICODEC_EVENT_OTHER, bytes, span.used, span.mode);
+    if (span.used == len) span.used = csicodec_whole_text(bytes, len);
+    return span.used && csicodec_event_of(stream, event, CSICODEC_EVENT_TEXT, bytes, span.used, span.mode);
 }
 
 #endif

@@ -62,8 +62,11 @@ impl Terminal {
         match action {
             CSI::Sgr(sgr) => self.pen.set(sgr),
             CSI::Cursor(Cursor::SetTopAndBottomMargins { top, bottom }) => {
-                (self.top, self.bottom) = (top.as_index(LINES), bottom.as_index(LINES));
-                (self.line, self.column) = (0, 0);
+                let margins = (top.as_index(LINES), bottom.as_index(LINES));
+                if margins.0 < margins.1 {
+                    (self.top, self.bottom) = margins;
+                    (self.line, self.column) = (0, 0);
+                }
             }
             CSI::Cursor(cursor) => {
                 let here = (self.line, self.column);

@@ -1,5 +1,6 @@
 //! Filtering a whole stream, as it comes.
 
+use crate::stream::goes_on;
 use crate::{Error, raw};
 use std::num::NonZeroUsize;
 
@@ -10,6 +11,8 @@ pub struct Filter {
     limit: usize,
     mode: u32,
     pending: Vec<u8>,
+    /// Of a control sequence that waits for its end, how many bytes were looked at.
+    looked: usize,
 }
 
 impl Filter {
@@ -19,6 +22,7 @@ impl Filter {
             limit: limit.get(),
             mode: 0,
             pending: Vec::new(),
+            looked: 0,
         }
     }
 
@@ -26,6 +30,12 @@ impl Filter {
     /// than 3 where that is less. After an `Err`, which is `Error::Memory`, nothing is appended, and the bytes are held.
     pub fn push(&mut self, bytes: &[u8], out: &mut Vec<u8>) -> Result<(), Error> {
         self.pending.extend_from_slice(bytes);
+        let looked = std::mem::replace(&mut self.looked, self.pending.len());
+        let stays = |byte| matches!(byte, 0x20..=0x3f);
+        if self.pending.len() < self.limit && goes_on(&self.pending, looked, stays) {
+            return Ok(());
+        }
+        self.looked = 0;
         let start = out.len();
         let mut room = self.pending.len() * 2 + 16;
         loop {
@@ -39,6 +49,7 @@ impl Filter {
                 out.truncate(start + answer.needed);
                 self.mode = answer.mode;
                 self.pending.drain(..answer.used);
+                self.looked = self.pending.len();
                 return Ok(());
             }
             room = answer.needed;

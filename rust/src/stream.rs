@@ -120,6 +120,19 @@ const LIMIT: usize = 65536;
 const TEXT: u32 = 0;
 const BAD_CSI: u32 = 4;
 
+/// Whether a control sequence isn't over, of whose bytes so many were looked at: none of the others can end it.
+pub(crate) fn goes_on(bytes: &[u8], looked: usize, stays: impl Fn(u8) -> bool) -> bool {
+    looked >= 2 && bytes.starts_with(b"\x1b[") && bytes[looked..].iter().all(|byte| stays(*byte))
+}
+
+/// A control sequence with controls in it: how far they were told, how many bytes it has, and the mode behind it.
+#[derive(Clone, Copy, Debug)]
+struct Wrong {
+    told: usize,
+    used: usize,
+    mode: u32,
+}
+
 /// What the bytes before a place leave open, and room that is kept.
 #[derive(Clone, Debug)]
 struct Reader {
@@ -129,8 +142,10 @@ struct Reader {
     ends: bool,
     /// Of the string that is open.
     string: StringKind,
-    /// How far the controls within a control sequence were told.
-    inside: usize,
+    /// The control sequence whose controls are being told.
+    wrong: Option<Wrong>,
+    /// Of a control sequence that waits for its end, how many bytes were looked at.
+    looked: usize,
     /// The actions of a sequence that aren't given yet, from `given` to `count`, and how many bytes it has.
     given: usize,
     count: usize,
@@ -145,7 +160,8 @@ impl Reader {
             limit: LIMIT,
             ends,
             string: StringKind::Osc,
-            inside: 0,
+            wrong: None,
+            looked: 0,
             given: 0,
             count: 0,
             used: 0,
@@ -158,23 +174,41 @@ impl Reader {
         if self.given < self.count {
             return Some(self.give());
         }
+        if let Some(wrong) = self.wrong {
+            return Some(self.wrong(bytes, wrong));
+        }
         if bytes.is_empty() {
             return None;
         }
+        let looked = std::mem::take(&mut self.looked);
         let sequence = bytes.starts_with(b"\x1b[");
-        if sequence && self.inside == 0 && self.read(bytes, 0) {
-            return Some(self.give());
-        }
-        let span = raw::span(self.mode, self.limit, bytes);
-        if span.status != 0 {
-            return None;
-        }
         if sequence {
-            let waits = span.mode == BAD_CSI && span.used == bytes.len();
-            if waits && bytes.len() < self.limit {
+            // What ends it is its final byte, CAN, SUB or ESC.
+            let stays = |byte| (byte < b'@' || byte == 0x7f) && !matches!(byte, 0x18 | 0x1a | 0x1b);
+            if bytes.len() < self.limit && !self.ends && goes_on(bytes, looked, stays) {
+                self.looked = bytes.len();
                 return None;
             }
-            return Some(self.wrong(&bytes[..span.used], span.mode));
+            if self.read(bytes, 0) {
+                return Some(self.give());
+            }
+        }
+        let span = raw::span(self.mode, self.limit, bytes);
+        if sequence {
+            let waits = span.mode == BAD_CSI && span.used == bytes.len();
+            if span.status != 0 || waits && bytes.len() < self.limit {
+                self.looked = bytes.len();
+                return None;
+            }
+            let wrong = Wrong {
+                told: 2,
+                used: span.used,
+                mode: span.mode,
+            };
+            return Some(self.wrong(bytes, wrong));
+        }
+        if span.status != 0 {
+            return None;
         }
         let cut = span.kind == 0 && !self.ends && span.used == bytes.len();
         let used = if cut { whole(bytes) } else { span.used };
@@ -193,7 +227,7 @@ impl Reader {
             return false;
         }
         (self.given, self.count, self.used) = (0, front.actions, used);
-        (self.mode, self.inside) = (TEXT, 0);
+        self.mode = TEXT;
         true
     }
 
@@ -211,23 +245,24 @@ impl Reader {
 
     /// What went wrong behind `ESC [`. Where it is for controls of C0, each is told, and then the sequence without them and
     /// without DEL is read, as DEC's terminals and xterm do.
-    fn wrong<'a>(&mut self, bytes: &'a [u8], mode: u32) -> (Event<'a>, usize) {
-        let from = self.inside.max(2);
-        if let Some(place) = bytes[from..].iter().position(|byte| *byte < 0x20) {
-            self.inside = from + place + 1;
-            return (Event::Text(&bytes[from + place..self.inside]), 0);
+    fn wrong<'a>(&mut self, bytes: &'a [u8], wrong: Wrong) -> (Event<'a>, usize) {
+        let Wrong { told, used, mode } = wrong;
+        let bytes = &bytes[..used];
+        if let Some(place) = bytes[told..].iter().position(|byte| *byte < 0x20) {
+            let told = told + place + 1;
+            self.wrong = Some(Wrong { told, ..wrong });
+            return (Event::Text(&bytes[told - 1..told]), 0);
         }
-        self.inside = 0;
-        self.mode = mode;
+        (self.wrong, self.mode) = (None, mode);
         if mode == TEXT {
             let mut text = b"\x1b[".to_vec();
             let kept = |byte: &u8| *byte >= 0x20 && *byte != 0x7f;
             text.extend(bytes[2..].iter().copied().filter(kept));
-            if self.read(&text, bytes.len()) {
+            if self.read(&text, used) {
                 return self.give();
             }
         }
-        (Event::Other(bytes), bytes.len())
+        (Event::Other(bytes), used)
     }
 
     /// The event of a span that is no control sequence.

@@ -1,9 +1,10 @@
 //! A stream in every cut has the same events.
 
 use csicodec::{
-    CSI, Cursor, Esc, EscCode, Event, KittyKeyboardFlags, Modifiers, Parser, SpanKind, characters,
-    encode_to, events, spans,
+    CSI, Cursor, Esc, EscCode, Event, Filter, KittyKeyboardFlags, Modifiers, Parser, SpanKind,
+    characters, encode_to, events, spans,
 };
+use std::num::NonZeroUsize;
 
 const STREAM: &[u8] = b"a\x1b[1;31mred\x1b]0;[1m;t\x07\x1b(B\x1b7\x1b[1\x08;2H\x1b[\x7f5A\x1b[3\x18z\x1b[1\xc3\xa9\x1bPq\x1b\x1b[m\x1b\\\x1b_x\x1b[200~\x1b!";
 
@@ -139,4 +140,30 @@ fn a_reader_to_its_end() {
     let mut wanted = Vec::new();
     events(STREAM).for_each(|event| tell(&mut wanted, event));
     assert_eq!(all, wanted);
+}
+
+/// A hostile sequence that comes byte by byte: read with each byte anew it would cost seconds.
+#[test]
+fn long_sequences_byte_by_byte() {
+    for (part, end, wanted) in [
+        (b"1;".as_slice(), b"m".as_slice(), 30_000),
+        (b"\x08", b"A", 60_001),
+        (b"1", b"m", 1),
+    ] {
+        let bytes = [b"\x1b[", &part.repeat(60_000 / part.len())[..], end].concat();
+        let mut count = 0;
+        let mut parser = Parser::new();
+        for byte in &bytes {
+            parser.advance(&[*byte], &mut |_| count += 1);
+        }
+        assert_eq!((count, parser.held().len()), (wanted, 0), "{part:?}");
+        assert_eq!(events(&bytes).count(), wanted, "{part:?}");
+        let mut filter = Filter::new(NonZeroUsize::new(65_536).expect("not 0"));
+        let (mut whole, mut out) = (filter.clone(), [Vec::new(), Vec::new()]);
+        for byte in &bytes {
+            filter.push(&[*byte], &mut out[0]).expect("memory");
+        }
+        whole.push(&bytes, &mut out[1]).expect("memory");
+        assert_eq!(out[0], out[1], "{part:?}");
+    }
 }

@@ -1,0 +1,90 @@
+/* A hostile control sequence that comes byte by byte is looked at a fixed number of times, however long it is: how many bytes all
+ * calls are passed. Link with -Wl,--wrap=csicodec_next,--wrap=csicodec_span,--wrap=csicodec_filter. */
+#include "csicodec.h"
+
+#include <stdio.h>
+#include <string.h>
+
+enum { LONGEST = 60000, LIMIT = 65536 };
+
+struct csicodec_front __real_csicodec_next(const uint8_t *bytes, size_t len, struct csicodec_action *actions, size_t actions_room,
+                                           struct csicodec_param *params, size_t params_room);
+struct csicodec_spanned __real_csicodec_span(uint32_t mode, size_t limit, const uint8_t *bytes, size_t len);
+struct csicodec_filtered __real_csicodec_filter(uint32_t mode, size_t limit, const uint8_t *bytes, size_t len, uint8_t *out, size_t room);
+
+static size_t passed;
+
+struct csicodec_front __wrap_csicodec_next(const uint8_t *bytes, size_t len, struct csicodec_action *actions, size_t actions_room,
+                                           struct csicodec_param *params, size_t params_room) {
+    passed += len;
+    return __real_csicodec_next(bytes, len, actions, actions_room, params, params_room);
+}
+
+struct csicodec_spanned __wrap_csicodec_span(uint32_t mode, size_t limit, const uint8_t *bytes, size_t len) {
+    passed += len;
+    return __real_csicodec_span(mode, limit, bytes, len);
+}
+
+struct csicodec_filtered __wrap_csicodec_filter(uint32_t mode, size_t limit, const uint8_t *bytes, size_t len, uint8_t *out, size_t room) {
+    passed += len;
+    return __real_csicodec_filter(mode, limit, bytes, len, out, room);
+}
+
+static uint8_t bytes[LONGEST + 16], out[4 * LONGEST];
+static struct csicodec_action actions[64];
+static struct csicodec_param params[64];
+
+/* ESC and '[', this part over and over, and the end. */
+static size_t fill(const char *part, const char *end) {
+    size_t len = 2, size = strlen(part);
+    memcpy(bytes, "\x1b[", 2);
+    for (; len + size <= LONGEST; len += size) memcpy(bytes + len, part, size);
+    memcpy(bytes + len, end, strlen(end));
+    return len + strlen(end);
+}
+
+/* The events of pieces of so many bytes, and whether all is used. */
+static int streamed(size_t len, size_t piece) {
+    struct csicodec_stream stream = csicodec_stream_of(LIMIT, actions, 64, params, 64);
+    struct csicodec_event event;
+    size_t at = 0, end = 0;
+    while (end < len) {
+        end = len - end > piece ? end + piece : len;
+        for (; csicodec_next_event(&stream, bytes + at, end - at, &event); at += event.used) continue;
+    }
+    return at == len;
+}
+
+static int filtered(size_t len) {
+    struct csicodec_filtered step = {0, 0, 0, 0};
+    size_t at = 0, end = 1, looked = 0;
+    for (; end <= len; end++) {
+        if (csicodec_waits(LIMIT, bytes + at, end - at, looked)) {
+            looked = end - at;
+            continue;
+        }
+        step = csicodec_filter(step.mode, LIMIT, bytes + at, end - at, out, sizeof out);
+        at += step.used;
+        looked = end - at;
+    }
+    return at == len;
+}
+
+int main(void) {
+    static const char *const cases[][2] = {{";", "m"}, {"1;", "m"}, {"\x08", "A"}, {"1\x08;", "A"}, {"\x7f", "\x18"}, {"\x07", "\x1b[m"},
+                                           {"1", "m"}, {"?", "\xc3\xa9"}, {" ", "z"}};
+    for (size_t i = 0; i < sizeof cases / sizeof cases[0]; i++) {
+        size_t len = fill(cases[i][0], cases[i][1]);
+        int good = 1;
+        for (int way = 0; way < 3; way++) {
+            passed = 0;
+            good &= way == 2 ? filtered(len) : streamed(len, way == 0 ? 1 : len);
+            good &= passed <= 4 * len;
+            if (good) continue;
+            fprintf(stderr, "linear: case %zu, way %d: %zu bytes for %zu\n", i, way, passed, len);
+            return 1;
+        }
+    }
+    printf("at most four looks at a byte\n");
+    return 0;
+}

@@ -38,15 +38,15 @@ void __wrap_free(void *block) {
 /* An attribute, a colour and an unknown rest; extensions of a terminal; a window; graphics; more tokens than csicodec_next
  * reads without memory. */
 static const char *const texts[] = {"\x1b[1;38:2::1:2:3;0%m", "\x1b[?62;2;7;9;11;13c", "\x1b[4;40;30t", "\x1b[?2;1;9;8S",
-                                    "\x1b[1;3;4;5;7;8;9;53;21;22;0m"};
+                                    "\x1b[1;3;4;5;7;8;9;53;21;22;0;1;3;4;5;7;8;9;53;21m"};
 /* How many allocations csicodec_next makes: none but for a device, a window, or what none of the rules reads. */
 static const struct {
     const char *text;
     long asked;
-} costs[] = {{"\x1b[1;38:2::1:2:3m", 0}, {"\x1b[?2004;25h", 0}, {"\x1b[3;4H", 0}, {"\x1b[<4;3;4M", 0}, {"\x1b[>3;2u", 0},
+} costs[] = {{"\x1b[1;38:2::1:2:3m", 0}, {"\x1b[?2004;25h", 0}, {"\x1b[3;4H", 0}, {"\x1b[<4;3;4M", 0}, {"\x1b[>3;2u", 0}, {"\x1b[1;3;4;5;7;8;9;53;21;22;0;1;3;4;5;7m", 0},
              {"\x1b[c", 1}, {"\x1b[200~", 2}, {"\x1b[1;5A", 2}};
 static uint8_t out[256];
-static struct csicodec_action actions[16];
+static struct csicodec_action actions[32];
 static struct csicodec_param params[64];
 static struct csicodec_front front;
 
@@ -55,7 +55,7 @@ static uint32_t normalise(const uint8_t *text, size_t len) {
 }
 
 static uint32_t next(const uint8_t *text, size_t len) {
-    front = csicodec_next(text, len, actions, 16, params, 64);
+    front = csicodec_next(text, len, actions, 32, params, 64);
     return front.status;
 }
 

@@ -217,6 +217,31 @@ struct csicodec_filtered {
 struct csicodec_filtered csicodec_filter(uint32_t mode, size_t limit, const uint8_t *bytes, size_t len, uint8_t *out,
                                          size_t room);
 
+/* The same step of a filter that writes each control sequence in the shortest of its spellings that is found, and as it came where
+ * none is shorter: it is read as the same actions. */
+struct csicodec_filtered csicodec_compact(uint32_t mode, size_t limit, const uint8_t *bytes, size_t len, uint8_t *out,
+                                          size_t room);
+
+/* As csicodec_encode: a text of the actions that is no longer than its, and is read as them, where each of them is read back from
+ * its own text (csicodec_is_canonical). Attributes side by side go into one sequence. */
+struct csicodec_encoded csicodec_encode_compact(const struct csicodec_action *actions, size_t count,
+                                                const struct csicodec_param *params, size_t params_count, uint8_t *out, size_t room);
+
+struct csicodec_stripped {
+    /* CSICODEC_OK or CSICODEC_MEMORY. */
+    uint32_t status;
+    /* Of CSICODEC_OK, the length of what is left. */
+    size_t needed;
+};
+
+/* What is left of len untrusted bytes, which are a whole text: what a terminal shows of them, and nothing that it acts on but newlines
+ * and tabs. It is UTF-8, and what is none becomes U+FFFD. It is put at out where needed <= room; else nothing is put. */
+struct csicodec_stripped csicodec_strip(const uint8_t *bytes, size_t len, uint8_t *out, size_t room);
+
+/* The same with the attributes of text (SGR) that hide nothing, in their normal form; where the last of them is no reset, a reset
+ * ends the text. */
+struct csicodec_stripped csicodec_clean(const uint8_t *bytes, size_t len, uint8_t *out, size_t room);
+
 enum csicodec_span_kind {
     /* Characters, and controls of C0 but ESC, and DEL. */
     CSICODEC_SPAN_TEXT = 0,

@@ -4,10 +4,11 @@ use crate::stream::goes_on;
 use crate::{Error, raw};
 use std::num::NonZeroUsize;
 
-/// A stream of a terminal that is rewritten as it comes: each control sequence comes in its normal form, and every other byte
-/// as it was. It doesn't matter how the stream is cut into the slices that are pushed.
+/// A stream of a terminal that is rewritten as it comes: each control sequence comes in its normal form, or in the shortest spelling
+/// that is found, and every other byte as it was. It doesn't matter how the stream is cut into the slices that are pushed.
 #[derive(Clone, Debug)]
 pub struct Filter {
+    step: fn(u32, usize, &[u8], &mut [u8]) -> raw::Filtered,
     limit: usize,
     mode: u32,
     pending: Vec<u8>,
@@ -16,13 +17,23 @@ pub struct Filter {
 }
 
 impl Filter {
-    /// A stream of which nothing has come. A control sequence of more bytes than `limit` passes as it is.
+    /// A stream of which nothing has come, to be written in normal form. A control sequence of more bytes than `limit` passes as it
+    /// is.
     pub fn new(limit: NonZeroUsize) -> Self {
         Filter {
+            step: raw::filter,
             limit: limit.get(),
             mode: 0,
             pending: Vec::new(),
             looked: 0,
+        }
+    }
+
+    /// The same, with each control sequence in the shortest of its spellings that is found, which is read as the same actions.
+    pub fn compact(limit: NonZeroUsize) -> Self {
+        Filter {
+            step: raw::compact,
+            ..Filter::new(limit)
         }
     }
 
@@ -40,7 +51,7 @@ impl Filter {
         let mut room = self.pending.len() * 2 + 16;
         loop {
             out.resize(start + room, 0);
-            let answer = raw::filter(self.mode, self.limit, &self.pending, &mut out[start..]);
+            let answer = (self.step)(self.mode, self.limit, &self.pending, &mut out[start..]);
             if answer.status != 0 {
                 out.truncate(start);
                 return Err(Error::Memory);

@@ -20,6 +20,7 @@ mod pen;
 mod room;
 mod rows;
 mod stream;
+mod strip;
 mod text;
 mod types;
 mod values;
@@ -29,6 +30,7 @@ pub use esc::{Esc, EscCode};
 pub use filter::Filter;
 pub use pen::Pen;
 pub use stream::{Event, Events, Parser, Span, SpanKind, Spans, StringKind, events, spans};
+pub use strip::{clean, strip};
 pub use text::characters;
 pub use types::*;
 pub use values::*;
@@ -232,11 +234,36 @@ pub fn encode_to(actions: &[CSI], out: &mut Vec<u8>) -> Result<(), Error> {
         .iter()
         .map(|action| rows::plain_of(action, &mut params))
         .collect();
-    encode_plains(&plains, &params, actions.len() * 12 + 16, out)
+    encode_plains(raw::encode, &plains, &params, actions.len() * 12 + 16, out)
 }
+
+/// The same in fewer bytes: a text that is no longer than that of [`encode_to`], and is read as the actions, where each of them is
+/// read back from its own text ([`CSI::is_canonical`]). Attributes side by side go into one sequence.
+///
+/// ```
+/// use csicodec::{CSI, Cursor, Sgr, encode_compact_to};
+///
+/// let mut out = Vec::new();
+/// encode_compact_to(&[CSI::from(Sgr::Reset), CSI::from(Sgr::Italic(true)), CSI::from(Cursor::Up(1))], &mut out)?;
+/// assert_eq!(out, b"\x1b[;3m\x1b[A");
+/// # Ok::<(), csicodec::Error>(())
+/// ```
+pub fn encode_compact_to(actions: &[CSI], out: &mut Vec<u8>) -> Result<(), Error> {
+    let mut params = Vec::new();
+    let plains: Vec<_> = actions
+        .iter()
+        .map(|action| rows::plain_of(action, &mut params))
+        .collect();
+    let room = actions.len() * 12 + 16;
+    encode_plains(raw::encode_compact, &plains, &params, room, out)
+}
+
+/// A call that writes structs and their tokens.
+type Encoding = fn(&[raw::Plain], &[raw::Param], &mut [u8]) -> raw::Encoded;
 
 /// The same of structs and their tokens, with so much room at first.
 fn encode_plains(
+    call: Encoding,
     plains: &[raw::Plain],
     params: &[raw::Param],
     room: usize,
@@ -246,7 +273,7 @@ fn encode_plains(
     let mut room = room;
     loop {
         out.resize(start + room, 0);
-        let answer = raw::encode(plains, params, &mut out[start..]);
+        let answer = call(plains, params, &mut out[start..]);
         let error = match answer.status {
             0 if answer.needed <= room => {
                 out.truncate(start + answer.needed);
@@ -333,7 +360,8 @@ impl fmt::Display for CSI {
         let text = match answer.status {
             0 if answer.needed <= near.len() => &near[..answer.needed],
             0 => {
-                encode_plains(&plain, &params, answer.needed, &mut far).map_err(|_| fmt::Error)?;
+                encode_plains(raw::encode, &plain, &params, answer.needed, &mut far)
+                    .map_err(|_| fmt::Error)?;
                 &far[..]
             }
             _ => return Err(fmt::Error),

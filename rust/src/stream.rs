@@ -170,10 +170,25 @@ impl Reader {
     }
 
     /// The next event at the front of the bytes, and how many of them it has used; none where it depends on what follows.
+    #[inline]
     fn next<'a>(&mut self, bytes: &'a [u8]) -> Option<(Event<'a>, usize)> {
-        if self.given < self.count {
-            return Some(self.give());
+        if self.given == self.count && !self.begins(bytes) {
+            return self.other(bytes);
         }
+        Some(self.give())
+    }
+
+    /// Whether a control sequence stands at the front, which is read.
+    fn begins(&mut self, bytes: &[u8]) -> bool {
+        self.wrong.is_none()
+            && self.looked == 0
+            && bytes.starts_with(b"\x1b[")
+            && self.read(bytes, 0)
+    }
+
+    /// The next event where it is no action of a control sequence that is read at once.
+    #[inline(never)]
+    fn other<'a>(&mut self, bytes: &'a [u8]) -> Option<(Event<'a>, usize)> {
         if let Some(wrong) = self.wrong {
             return Some(self.wrong(bytes, wrong));
         }
@@ -189,7 +204,7 @@ impl Reader {
                 self.looked = bytes.len();
                 return None;
             }
-            if self.read(bytes, 0) {
+            if looked > 0 && self.read(bytes, 0) {
                 return Some(self.give());
             }
         }

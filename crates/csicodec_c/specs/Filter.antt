@@ -19,7 +19,7 @@ abbrev pub refused : ℕ → Filtered
 refused status = record { status = status; mode = 0; used = 0; needed = 0 }
 
 -- the text of the parts that are sure, which is put where it fits; the bytes behind them are held, in this mode
-pub record IsDone (number limit : ℕ) (bytes old new : List ℕ) (answer : Filtered) : Type 0 where
+pub record IsStep (Writes : List ℕ → List ℕ → Type 0) (number limit : ℕ) (bytes old new : List ℕ) (answer : Filtered) : Type 0 where
   pub before : Mode
   pub after : Mode
   pub text : List ℕ
@@ -27,9 +27,13 @@ pub record IsDone (number limit : ℕ) (bytes old new : List ℕ) (answer : Filt
   pub ok : answer.status ≡ 0
   pub mode : answer.mode ≡ mode_number after
   pub within : answer.used ≤ length bytes
-  pub passes : Passes NormalisesTo limit before bytes text (drop answer.used bytes) after
+  pub passes : Passes Writes limit before bytes text (drop answer.used bytes) after
   pub needed : answer.needed ≡ length text
   pub fills : Fills old new text
+
+-- the same of a filter that writes normal forms
+abbrev pub IsDone : ℕ → ℕ → List ℕ → List ℕ → List ℕ → Filtered → Type 0
+IsDone number limit bytes old new answer = IsStep NormalisesTo number limit bytes old new answer
 
 -- why a state is none
 abbrev pub IsBadState : ℕ → ℕ → Type 0

@@ -7,6 +7,8 @@ pub mod Next
 pub mod Encode
 pub mod Filter
 pub mod Span
+pub mod Strip
+pub mod Compact
 pub mod Version
 pub mod Ranges
 pub mod Named

@@ -1,6 +1,6 @@
 //! The normal form of some bytes.
 ghost use Rattle.std.specs.Prelude.{◌≡◌, ◌⊎◌};
-ghost use Rattle.csicodec_c.specs.Answer.{IsDone, IsRefused, refusal, refused};
+ghost use Rattle.csicodec_c.specs.Answer.{IsDone, IsRefused, normalised, refusal, refused};
 
 use crate::room::fill;
 use csicodec::{DecodeError, ReadError, normal_form};
@@ -19,6 +19,17 @@ pub struct Normalised {
     pub at: usize,
     /// Of 0, the length of the normal form.
     pub needed: usize,
+}
+
+fn done(needed: usize) -> Normalised
+    ensures { result ≡ normalised needed }
+{
+    Normalised {
+        status: 0,
+        start: 0,
+        at: 0,
+        needed,
+    }
 }
 
 fn refused(status: u32, start: usize, at: usize) -> Normalised
@@ -52,15 +63,13 @@ fn refusal(error: DecodeError) -> Normalised
 pub extern "C" fn csicodec_normalise(alloc: Global, bytes: &[u8], out: &mut [u8]) -> Normalised
     ensures { IsDone bytes.now out.old out.new result ⊎ IsRefused bytes.now out.old out.new result }
 {
+    if bytes.is_empty() {
+        return done(0);
+    }
     match normal_form(alloc, bytes) {
         Ok(all) => {
             fill(out, all.as_slice());
-            Normalised {
-                status: 0,
-                start: 0,
-                at: 0,
-                needed: all.len(),
-            }
+            done(all.len())
         }
         Err(error) => refusal(error),
     }

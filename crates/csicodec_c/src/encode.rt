@@ -33,7 +33,7 @@ pub struct Encoded {
     pub needed: usize,
 }
 
-fn refused(status: u32, at: usize) -> Encoded
+pub(crate) fn refused(status: u32, at: usize) -> Encoded
     ensures { result ≡ refused status at }
 {
     Encoded {
@@ -187,14 +187,14 @@ pub(crate) fn action(
     }
 }
 
-/// The joined texts of the actions that the structs stand for, or which of these stands for none.
+/// The actions that the structs stand for, or which of these stands for none.
 #[tactic(auto, using(crate::proofs::Stand::stand_more_mapped))]
-fn texts_of(
+pub(crate) fn actions_of(
     alloc: Global,
     plains: &[Plain],
     params: &[Param],
-) -> Result<Result<Vec<u8>, usize>, AllocError>
-    ensures texts { IfOk result (λ r. IfOk r (λ all. (actions : List Action) × AllStand plains.now params.now actions × (all.items ≡ texts actions))) }
+) -> Result<Result<Vec<CSI>, usize>, AllocError>
+    ensures actions { IfOk result (λ r. IfOk r (λ all. AllStand plains.now params.now (map action_of all.items))) }
     ensures none { IfOk result (λ r. IfErr r (λ at. HasNone plains.now params.now at)) }
 {
     let mut actions = Vec::new(alloc);
@@ -206,7 +206,22 @@ fn texts_of(
         actions.push(csi)?;
         at += 1;
     }
-    Ok(Ok(encode_all(alloc, actions.as_slice())?))
+    Ok(Ok(actions))
+}
+
+/// Their joined texts.
+fn texts_of(
+    alloc: Global,
+    plains: &[Plain],
+    params: &[Param],
+) -> Result<Result<Vec<u8>, usize>, AllocError>
+    ensures texts { IfOk result (λ r. IfOk r (λ all. (actions : List Action) × AllStand plains.now params.now actions × (all.items ≡ texts actions))) }
+    ensures none { IfOk result (λ r. IfErr r (λ at. HasNone plains.now params.now at)) }
+{
+    match actions_of(alloc, plains, params)? {
+        Ok(actions) => Ok(Ok(encode_all(alloc, actions.as_slice())?)),
+        Err(at) => Ok(Err(at)),
+    }
 }
 
 /// Puts the texts of the actions that the structs stand for, where they fit.

@@ -2,11 +2,10 @@
 ghost use Rattle.std.specs.Prelude.{◌≡◌, ◌≤◌, ◌<◌, ◌⊎◌, ◌↔◌, List, ℕ, length, drop, Some, IfOk};
 ghost use Rattle.csicodec_spans.specs.declared.table.Mode.{Mode};
 ghost use Rattle.csicodec_filter.specs.Filter.{Passes};
-ghost use Rattle.csicodec_streams.specs.Decoding.{NormalisesTo};
-ghost use Rattle.csicodec_c.specs.Filter.{IsDone, IsRefused, mode_number, refused};
+ghost use Rattle.csicodec_c.specs.Filter.{IsDone, IsRefused, IsStep, mode_number, refused};
 
 use crate::room::fill;
-use csicodec::{NormalForm, append_spans};
+use csicodec::{NormalForm, Rewrite, append_spans};
 use csicodec_spans::Mode;
 use std::alloc::{AllocError, Global};
 
@@ -72,16 +71,53 @@ pub(crate) fn number_of(mode: Mode) -> u32
 }
 
 /// What the spans of the bytes that are sure become.
-fn pass(alloc: Global, mode: Mode, limit: usize, bytes: &[u8]) -> Result<Passed, AllocError>
+fn pass<T: Rewrite + Drop>(
+    alloc: Global,
+    rewrite: T,
+    mode: Mode,
+    limit: usize,
+    bytes: &[u8],
+) -> Result<Passed, AllocError>
     requires { 0 < limit }
     ensures within { IfOk result (λ p. p.used ≤ length bytes.now) }
-    ensures passes { IfOk result (λ p. (text : List ℕ) × Passes NormalisesTo limit mode bytes.now text (drop p.used bytes.now) p.mode × (p.text.items ≡ text)) }
+    ensures passes { IfOk result (λ p. (text : List ℕ) × Passes (T.writes rewrite) limit mode bytes.now text (drop p.used bytes.now) p.mode × (p.text.items ≡ text)) }
 {
-    let mut rewrite = NormalForm::new(alloc);
+    let mut rewrite = rewrite;
     let mut params = Vec::new(alloc);
     let mut text = Vec::new(alloc);
     let (used, mode) = append_spans(&mut rewrite, &mut params, limit, mode, bytes, &mut text)?;
     Ok(Passed { text, used, mode })
+}
+
+/// Puts what the spans of the bytes that are sure become, where it fits.
+pub(crate) fn step<T: Rewrite + Drop>(
+    alloc: Global,
+    rewrite: T,
+    mode: u32,
+    limit: usize,
+    bytes: &[u8],
+    out: &mut [u8],
+) -> Filtered
+    ensures { IsStep (T.writes rewrite) mode limit bytes.now out.old out.new result ⊎ IsRefused mode limit out.old out.new result }
+{
+    let Some(mode) = mode_at(mode) else {
+        return refused(7);
+    };
+    if limit == 0 {
+        return refused(7);
+    }
+    match pass(alloc, rewrite, mode, limit, bytes) {
+        Ok(passed) => {
+            fill(out, passed.text.as_slice());
+            Filtered {
+                status: 0,
+                mode: number_of(passed.mode),
+                used: passed.used,
+                needed: passed.text.len(),
+            }
+        }
+        Err(_) => refused(5),
+    }
 }
 
 /// Puts what the spans of the bytes that are sure become, where it fits: each control sequence in its normal form, and every
@@ -96,22 +132,5 @@ pub extern "C" fn csicodec_filter(
 ) -> Filtered
     ensures { IsDone mode limit bytes.now out.old out.new result ⊎ IsRefused mode limit out.old out.new result }
 {
-    let Some(mode) = mode_at(mode) else {
-        return refused(7);
-    };
-    if limit == 0 {
-        return refused(7);
-    }
-    match pass(alloc, mode, limit, bytes) {
-        Ok(passed) => {
-            fill(out, passed.text.as_slice());
-            Filtered {
-                status: 0,
-                mode: number_of(passed.mode),
-                used: passed.used,
-                needed: passed.text.len(),
-            }
-        }
-        Err(_) => refused(5),
-    }
+    step(alloc, NormalForm::new(alloc), mode, limit, bytes, out)
 }

@@ -76,6 +76,13 @@ pub struct Filtered {
 
 #[repr(C)]
 #[derive(Clone, Copy, Debug, PartialEq, Eq)]
+pub struct Stripped {
+    pub status: u32,
+    pub needed: usize,
+}
+
+#[repr(C)]
+#[derive(Clone, Copy, Debug, PartialEq, Eq)]
 pub struct Spanned {
     pub status: u32,
     pub kind: u32,
@@ -116,6 +123,24 @@ unsafe extern "C" {
         out: *mut u8,
         room: usize,
     ) -> Filtered;
+    fn csicodec_compact(
+        mode: u32,
+        limit: usize,
+        bytes: *const u8,
+        len: usize,
+        out: *mut u8,
+        room: usize,
+    ) -> Filtered;
+    fn csicodec_encode_compact(
+        actions: *const Plain,
+        count: usize,
+        params: *const Param,
+        params_count: usize,
+        out: *mut u8,
+        room: usize,
+    ) -> Encoded;
+    fn csicodec_strip(bytes: *const u8, len: usize, out: *mut u8, room: usize) -> Stripped;
+    fn csicodec_clean(bytes: *const u8, len: usize, out: *mut u8, room: usize) -> Stripped;
     fn csicodec_span(mode: u32, limit: usize, bytes: *const u8, len: usize) -> Spanned;
     safe fn csicodec_esc(intermediate: u8, final_byte: u8) -> u32;
     safe fn csicodec_version() -> u32;
@@ -174,6 +199,44 @@ pub fn filter(mode: u32, limit: usize, bytes: &[u8], out: &mut [u8]) -> Filtered
             out.len(),
         )
     }
+}
+
+pub fn compact(mode: u32, limit: usize, bytes: &[u8], out: &mut [u8]) -> Filtered {
+    // SAFETY: as above.
+    unsafe {
+        csicodec_compact(
+            mode,
+            limit,
+            bytes.as_ptr(),
+            bytes.len(),
+            out.as_mut_ptr(),
+            out.len(),
+        )
+    }
+}
+
+pub fn encode_compact(actions: &[Plain], params: &[Param], out: &mut [u8]) -> Encoded {
+    // SAFETY: as above.
+    unsafe {
+        csicodec_encode_compact(
+            actions.as_ptr(),
+            actions.len(),
+            params.as_ptr(),
+            params.len(),
+            out.as_mut_ptr(),
+            out.len(),
+        )
+    }
+}
+
+pub fn strip(bytes: &[u8], out: &mut [u8]) -> Stripped {
+    // SAFETY: as above.
+    unsafe { csicodec_strip(bytes.as_ptr(), bytes.len(), out.as_mut_ptr(), out.len()) }
+}
+
+pub fn clean(bytes: &[u8], out: &mut [u8]) -> Stripped {
+    // SAFETY: as above.
+    unsafe { csicodec_clean(bytes.as_ptr(), bytes.len(), out.as_mut_ptr(), out.len()) }
 }
 
 pub fn span(mode: u32, limit: usize, bytes: &[u8]) -> Spanned {

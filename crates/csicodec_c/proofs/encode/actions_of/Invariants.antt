@@ -1,7 +1,7 @@
 use Rattle.std.proofs.Common.{◌≡◌, map, take}
 use Rattle.csicodec_parser.specs.ActionOf.{action_of}
 use Rattle.csicodec_c.specs.Encode.{AllStand}
-use Rattle.csicodec_c.proofs.encode.texts_of.Given as goal
+use Rattle.csicodec_c.proofs.encode.actions_of.Given as goal
 
 -- the actions up to here
 abbrev pub invariant-loop-plain : goal.invariant-loop-plain

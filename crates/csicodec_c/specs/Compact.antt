@@ -1,0 +1,25 @@
+-- What the calls for fewer bytes answer a C program.
+use Rattle.std.specs.Prelude.{ℕ, ◌≡◌, List, length}
+use Rattle.csicodec_actions.specs.Actions.{Action}
+use Rattle.csicodec_compact.specs.Compacts.{Compacts, Encodes}
+use Rattle.csicodec_c.specs.declared.encode.Encoded.{Encoded}
+use Rattle.csicodec_c.specs.declared.filter.Filtered.{Filtered}
+use Rattle.csicodec_c.specs.declared.plain.Param.{Param}
+use Rattle.csicodec_c.specs.declared.plain.Plain.{Plain}
+use Rattle.csicodec_c.specs.Encode.{AllStand}
+use Rattle.csicodec_c.specs.Filter.{IsStep}
+use Rattle.csicodec_c.specs.Room.{Fills}
+
+-- a step of a filter that writes spellings that are read alike, and no longer
+abbrev pub IsCompacted : ℕ → ℕ → List ℕ → List ℕ → List ℕ → Filtered → Type 0
+IsCompacted number limit bytes old new answer = IsStep Compacts number limit bytes old new answer
+
+-- the length of a text of these actions, which is put where it fits
+pub record IsCompact (plains : List Plain) (params : List Param) (old new : List ℕ) (answer : Encoded) : Type 0 where
+  pub actions : List Action
+  pub stand : AllStand plains params actions
+  pub text : List ℕ
+  pub encodes : Encodes actions text
+  pub ok : answer.status ≡ 0
+  pub needed : answer.needed ≡ length text
+  pub fills : Fills old new text

@@ -1,0 +1,69 @@
+//! Streams and actions in fewer bytes.
+ghost use Rattle.std.specs.Prelude.{◌≡◌, ◌⊎◌, List, IfOk, IfErr};
+ghost use Rattle.csicodec_actions.specs.Actions.{Action};
+ghost use Rattle.csicodec_compact.specs.Compacts.{Encodes};
+ghost use Rattle.csicodec_c.specs.Compact.{IsCompact, IsCompacted};
+ghost use Rattle.csicodec_c.specs.Encode.{AllStand, HasNone};
+ghost use Rattle.csicodec_c.specs.Encode.{IsRefused as RefusesActions};
+ghost use Rattle.csicodec_c.specs.Filter.{IsRefused};
+
+use crate::encode::{Encoded, actions_of, refused};
+use crate::filter::{Filtered, step};
+use crate::plain::{Param, Plain};
+use crate::room::fill;
+use csicodec_compact::{Compact, encode_compact};
+use std::alloc::{AllocError, Global};
+
+/// Puts what the spans of the bytes that are sure become, where it fits: each control sequence in the shortest of its spellings that
+/// is found, and every other byte as it is.
+#[unsafe(no_mangle)]
+pub extern "C" fn csicodec_compact(
+    alloc: Global,
+    mode: u32,
+    limit: usize,
+    bytes: &[u8],
+    out: &mut [u8],
+) -> Filtered
+    ensures { IsCompacted mode limit bytes.now out.old out.new result ⊎ IsRefused mode limit out.old out.new result }
+{
+    step(alloc, Compact::new(alloc), mode, limit, bytes, out)
+}
+
+/// A short text of the actions that the structs stand for, or which of these stands for none.
+fn text_of(
+    alloc: Global,
+    plains: &[Plain],
+    params: &[Param],
+) -> Result<Result<Vec<u8>, usize>, AllocError>
+    ensures text { IfOk result (λ r. IfOk r (λ text. (actions : List Action) × AllStand plains.now params.now actions × Encodes actions text.items)) }
+    ensures none { IfOk result (λ r. IfErr r (λ at. HasNone plains.now params.now at)) }
+{
+    match actions_of(alloc, plains, params)? {
+        Ok(actions) => Ok(Ok(encode_compact(alloc, actions.as_slice())?)),
+        Err(at) => Ok(Err(at)),
+    }
+}
+
+/// Puts a text of the actions that the structs stand for, where it fits: no longer than that of [`csicodec_encode`](crate::csicodec_encode).
+#[unsafe(no_mangle)]
+pub extern "C" fn csicodec_encode_compact(
+    alloc: Global,
+    actions: &[Plain],
+    params: &[Param],
+    out: &mut [u8],
+) -> Encoded
+    ensures { IsCompact actions.now params.now out.old out.new result ⊎ RefusesActions actions.now params.now out.old out.new result }
+{
+    match text_of(alloc, actions, params) {
+        Ok(Ok(all)) => {
+            fill(out, all.as_slice());
+            Encoded {
+                status: 0,
+                at: 0,
+                needed: all.len(),
+            }
+        }
+        Ok(Err(at)) => refused(6, at),
+        Err(_) => refused(5, 0),
+    }
+}

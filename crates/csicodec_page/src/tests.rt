@@ -134,11 +134,11 @@ fn tells_what_is_asked_for(rt: HostRuntime) -> Result<(), Fail> {
         (
             PLAIN,
             b"\x1b$(B\x1b(%5\x1b$(\x07B\x1b$B\x1b%/G\x1b(( 0".as_slice(),
-            r#"       0  \e$(B                     SCS  G0: a set of several bytes a character (no action)
+            r#"       0  \e$(B                     SCS  G0: JIS X 0208 (no action)
        4  \e(%5                     SCS  G0: DEC supplemental (no action)
        8  \e$(\x07B                 malformed  5 bytes
-      13  \e$B                      SCS  G0: a set of several bytes a character (no action)
-      16  \e%/G                     DOCS  another coding system, without return (no action)
+      13  \e$B                      SCS  G0: JIS X 0208 (no action)
+      16  \e%/G                     DOCS  UTF-8 on, without return (no action)
       20  \e(( 0                    SCS  G0: another set (no action)
 "#,
         ),
@@ -148,7 +148,7 @@ fn tells_what_is_asked_for(rt: HostRuntime) -> Result<(), Fail> {
                 ..PLAIN
             },
             b"\x1b$(B".as_slice(),
-            r#"{"at":0,"kind":"escape","text":"\u001b$(B","actions":[{"name":"SCS","words":"G0: a set of several bytes a character (no action)"}]}
+            r#"{"at":0,"kind":"escape","text":"\u001b$(B","actions":[{"name":"SCS","words":"G0: JIS X 0208 (no action)"}]}
 "#,
         ),
         (

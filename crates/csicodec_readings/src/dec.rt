@@ -3,7 +3,7 @@
 use crate::table::Row;
 
 /// DEC: the manuals of VT100 to VT525.
-pub static DEC: [Row; 105] = [
+pub static DEC: [Row; 118] = [
     (
         b'?',
         0,
@@ -68,7 +68,13 @@ pub static DEC: [Row; 105] = [
         Some(2),
         "DECSCA  protection of characters off",
     ),
-    (0, b'"', 'p', Some(61), "DECSCL  VT100 level"),
+    (
+        0,
+        b'"',
+        'p',
+        Some(61),
+        "DECSCL  conformance level 61 (VT100)",
+    ),
     (
         0,
         b'"',
@@ -93,14 +99,56 @@ pub static DEC: [Row; 105] = [
     ),
     (0, b'\'', '}', None, "DECIC  insert {1#column}"),
     (0, b'\'', '~', None, "DECDC  delete {1#column}"),
+    (0, b'\'', 'z', Some(0), "DECELR  locator reports off"),
     (
         0,
         b'\'',
         'z',
-        None,
-        "DECELR  locator reports: {1:0}, in {2:0}",
+        Some(1),
+        "DECELR  locator reports on, unit {2:0}",
     ),
-    (0, b'\'', '{', None, "DECSLE  events of the locator: {1:0}"),
+    (
+        0,
+        b'\'',
+        'z',
+        Some(2),
+        "DECELR  locator reports on for one report, unit {2:0}",
+    ),
+    (
+        0,
+        b'\'',
+        '{',
+        Some(0),
+        "DECSLE  locator reports only where they are asked for",
+    ),
+    (
+        0,
+        b'\'',
+        '{',
+        Some(1),
+        "DECSLE  reports of locator buttons pressed on",
+    ),
+    (
+        0,
+        b'\'',
+        '{',
+        Some(2),
+        "DECSLE  reports of locator buttons pressed off",
+    ),
+    (
+        0,
+        b'\'',
+        '{',
+        Some(3),
+        "DECSLE  reports of locator buttons released on",
+    ),
+    (
+        0,
+        b'\'',
+        '{',
+        Some(4),
+        "DECSLE  reports of locator buttons released off",
+    ),
     (
         0,
         b'\'',
@@ -113,7 +161,7 @@ pub static DEC: [Row; 105] = [
         b'\'',
         'w',
         None,
-        "DECEFR  filter area of the locator: {1:0}, {2:0}, {3:0}, {4:0}",
+        "DECEFR  filter area of the locator: lines {1:here} to {3:here}, columns {2:here} to {4:here}",
     ),
     (
         0,
@@ -434,7 +482,14 @@ pub static DEC: [Row; 105] = [
         None,
         "DECXCPR  answer: cursor at line {1}, column {2}, page {3}",
     ),
-    (0, 0, 'q', None, "DECLL  keyboard lights {1:0}"),
+    (0, 0, 'q', Some(0), "DECLL  keyboard lights off"),
+    (0, 0, 'q', Some(1), "DECLL  num lock light on"),
+    (0, 0, 'q', Some(2), "DECLL  caps lock light on"),
+    (0, 0, 'q', Some(3), "DECLL  scroll lock light on"),
+    (0, 0, 'q', Some(21), "DECLL  num lock light off"),
+    (0, 0, 'q', Some(22), "DECLL  caps lock light off"),
+    (0, 0, 'q', Some(23), "DECLL  scroll lock light off"),
+    (0, 0, 'q', None, "DECLL  keyboard light {1:0}"),
     (
         0,
         0,

@@ -1,13 +1,14 @@
 //! Names of escape sequences that the codec has no code for.
 
-/// The words of an escape sequence by its intermediate byte, 0 where there is none, and its last byte.
-pub fn escape_words(intermediate: u8, control: u8) -> Option<&'static str> {
+use crate::sets::{Escape, designated, designated_of_several};
+
+/// What an escape sequence is by its intermediate byte, 0 where there is none, and its last byte.
+pub fn escape_of(intermediate: u8, control: u8) -> Option<Escape> {
     match intermediate {
-        0 => alone(control),
-        b' ' => announced(control),
-        b'%' => coding(control),
-        b'#' => lines(control),
-        _ => designated(intermediate, control),
+        b'$' => designated_of_several(b"", control),
+        0 => Some(Escape::Named(alone(control)?)),
+        b' '..=b'#' | b'%' | b'&' => Some(Escape::Named(between(intermediate, control)?)),
+        _ => designated(intermediate, b"", control),
     }
 }
 
@@ -48,69 +49,43 @@ fn alone(control: u8) -> Option<&'static str> {
     })
 }
 
-/// ECMA-35's announcements, as DEC's terminals take them.
-fn announced(control: u8) -> Option<&'static str> {
-    Some(match control {
+/// With an intermediate byte that designates no character set.
+fn between(intermediate: u8, control: u8) -> Option<&'static str> {
+    match intermediate {
+        b' ' => Some(announced(control)),
+        b'!' => Some("CZD  controls of C0 from another set"),
+        b'"' => Some("C1D  controls of C1 from another set"),
+        b'#' => lines(control),
+        b'%' => Some(coding(control)),
+        _ => Some("IRR  revision of the set that follows"),
+    }
+}
+
+/// ECMA-35's announcements (15.2), as DEC's terminals take them.
+fn announced(control: u8) -> &'static str {
+    match control {
         b'F' => "S7C1T  C1 controls as 7-bit sequences",
         b'G' => "S8C1T  C1 controls as single bytes",
         b'L' => "ACS  ANSI conformance level 1",
         b'M' => "ACS  ANSI conformance level 2",
         b'N' => "ACS  ANSI conformance level 3",
-        _ => return None,
-    })
+        _ => "ACS  announce a code structure",
+    }
 }
 
-/// ECMA-35's other coding systems.
-fn coding(control: u8) -> Option<&'static str> {
-    Some(match control {
+/// ECMA-35's other coding systems (15.4), which come back.
+fn coding(control: u8) -> &'static str {
+    match control {
         b'@' => "DOCS  UTF-8 off",
         b'G' | b'8' => "DOCS  UTF-8 on",
-        _ => return None,
-    })
+        _ => "DOCS  another coding system",
+    }
 }
 
-/// DEC's sizes of lines that have no code.
+/// DEC's sequences with `#` that have no code.
 fn lines(control: u8) -> Option<&'static str> {
-    Some(match control {
-        b'7' => "DECHCP  print the screen",
-        _ => return None,
-    })
-}
-
-/// Character sets as G0 to G3: sets of 94 characters behind `( ) * +`, of 96 behind `- . /`.
-fn designated(intermediate: u8, control: u8) -> Option<&'static str> {
-    Some(match (intermediate, control) {
-        (b'(', b'1') => "SCS  G0: DEC alternate character ROM",
-        (b'(', b'2') => "SCS  G0: DEC alternate character ROM, special graphics",
-        (b'(', b'<') => "SCS  G0: the user's supplemental set",
-        (b'(', b'>') => "SCS  G0: DEC technical",
-        (b'(', b'U') => "SCS  G0: null mapping (Linux)",
-        (b'(', b'K') => "SCS  G0: German (Linux: the user's mapping)",
-        (b')', b'U') => "SCS  G1: null mapping (Linux)",
-        (b')', b'K') => "SCS  G1: German (Linux: the user's mapping)",
-        (b')', b'<') => "SCS  G1: the user's supplemental set",
-        (b')', b'>') => "SCS  G1: DEC technical",
-        (b'*', b'0') => "SCS  G2: DEC special graphics (line drawing)",
-        (b'+', b'0') => "SCS  G3: DEC special graphics (line drawing)",
-        (b'*', b'A') => "SCS  G2: British",
-        (b'+', b'A') => "SCS  G3: British",
-        (b'*', b'B') => "SCS  G2: ASCII",
-        (b'+', b'B') => "SCS  G3: ASCII",
-        (b'*', b'<') => "SCS  G2: the user's supplemental set",
-        (b'+', b'<') => "SCS  G3: the user's supplemental set",
-        (b'*', b'>') => "SCS  G2: DEC technical",
-        (b'+', b'>') => "SCS  G3: DEC technical",
-        (b'-', b'A') => "SCS  G1: Latin-1",
-        (b'.', b'A') => "SCS  G2: Latin-1",
-        (b'/', b'A') => "SCS  G3: Latin-1",
-        (b'$', b'@' | b'A' | b'B') => "SCS  G0: a set of several bytes a character",
-        (b'(', _) => "SCS  G0: another set",
-        (b')', _) => "SCS  G1: another set",
-        (b'*', _) => "SCS  G2: another set",
-        (b'+', _) => "SCS  G3: another set",
-        (b'-', _) => "SCS  G1: another set of 96",
-        (b'.', _) => "SCS  G2: another set of 96",
-        (b'/', _) => "SCS  G3: another set of 96",
-        _ => return None,
-    })
+    match control {
+        b'7' => Some("DECHCP  print the screen"),
+        _ => None,
+    }
 }

@@ -10,16 +10,18 @@ mod keys;
 mod list;
 mod others;
 mod otherwise;
+mod sets;
 mod table;
 mod template;
 #[cfg(test)]
 mod tests;
 
-use crate::escapes::escape_words;
-use crate::intermediates::words_of;
+use crate::escapes::escape_of;
+use crate::intermediates::escape_of_bytes;
 use crate::keys::key_of;
 use crate::list::{intermediate, marker, number};
-use crate::otherwise::{Otherwise, read_otherwise, status_of};
+use crate::otherwise::{Otherwise, read_otherwise, status_of, turned};
+use crate::sets::Escape;
 use crate::table::{Form, words};
 use crate::template::fill;
 use csicodec_base::{CsiParam, Esc};
@@ -64,8 +66,8 @@ impl Describe for EscReading {
             control,
         } = self.0
         {
-            if let Some(words) = escape_words(intermediate.unwrap_or(0), control) {
-                f.write_str(words)?;
+            if let Some(escape) = escape_of(intermediate.unwrap_or(0), control) {
+                write!(f, "{escape}")?;
                 return f.write_str(NO_ACTION);
             }
         }
@@ -75,18 +77,19 @@ impl Describe for EscReading {
 
 /// An escape sequence with more than one intermediate byte, for which the codec has no code.
 #[derive(Clone, Copy)]
-pub struct LongEscReading(&'static str);
+pub struct LongEscReading(Escape);
 
 impl LongEscReading {
     /// What these bytes are; none where they aren't such a sequence, whole.
     pub fn of(bytes: &[u8]) -> Option<LongEscReading> {
-        Some(LongEscReading(words_of(bytes)?))
+        Some(LongEscReading(escape_of_bytes(bytes)?))
     }
 }
 
 impl Describe for LongEscReading {
     fn describe<W: fmt::Write>(&self, f: &mut fmt::Formatter<W>) -> fmt::Result {
-        f.write_str(self.0)?;
+        let escape = self.0;
+        write!(f, "{escape}")?;
         f.write_str(NO_ACTION)
     }
 }
@@ -140,7 +143,12 @@ fn unread<W: fmt::Write>(f: &mut fmt::Formatter<W>, unknown: &Unspecified) -> fm
 /// The answer to DECRQM.
 fn mode_told<W: fmt::Write>(f: &mut fmt::Formatter<W>, params: &[CsiParam]) -> fmt::Result {
     let mode = number(params, 0).unwrap_or(0);
-    let state = status_of(number(params, 1).unwrap_or(0));
+    let state = number(params, 1).unwrap_or(0);
+    let state = if mode == 12 && marker(params) == 0 {
+        status_of(turned(state))
+    } else {
+        status_of(state)
+    };
     let name = match u16::try_from(mode) {
         Ok(mode) if marker(params) == b'?' => private_mode_name(mode),
         Ok(mode) => terminal_mode_name(mode),

@@ -71,7 +71,7 @@ pub static XTERM: [Row; 30] = [
         0,
         'n',
         None,
-        "XTMODKEYS  no modifiers of keys, resource {1:2}",
+        "XTMODKEYS  modifiers of keys off, resource {1:2}",
     ),
     (b'>', 0, 'p', Some(0), "XTSMPOINTER  never hide the pointer"),
     (
@@ -129,14 +129,14 @@ pub static XTERM: [Row; 30] = [
         0,
         't',
         Some(22),
-        "XTWINOPS  push the icon's label and the window's title",
+        "XTWINOPS  push the icon name and the window title",
     ),
     (
         0,
         0,
         't',
         Some(23),
-        "XTWINOPS  pop the icon's label and the window's title",
+        "XTWINOPS  pop the icon name and the window title",
     ),
     (
         0,

@@ -51,6 +51,18 @@ pub fn read_otherwise(params: &[CsiParam], control: char) -> Option<Otherwise> {
             Some(Otherwise::Or(" (or answer: the display's size in pixels)"))
         }
         (0, 0, 'I') if params.is_empty() => Some(Otherwise::Or(" (or focus gained)")),
+        (0, 0, 'R') if params.is_empty() => Some(Otherwise::Or(" (or the key F3)")),
+        (0, 0, 'm') => behind_semicolon(params),
+        _ => None,
+    }
+}
+
+/// A style and a `;`, behind which a terminal reads 0 (ECMA-48, 5.4.2).
+fn behind_semicolon(params: &[CsiParam]) -> Option<Otherwise> {
+    match params {
+        [CsiParam::Integer(1..), CsiParam::P(b';')] => {
+            Some(Otherwise::Or(" (and then all attributes off)"))
+        }
         _ => None,
     }
 }
@@ -167,5 +179,16 @@ pub fn status_of(state: i64) -> &'static str {
         3 => "always on",
         4 => "always off",
         _ => "isn't known to the terminal",
+    }
+}
+
+/// The state of what is on where the mode is reset, as local echo is (SRM).
+pub fn turned(state: i64) -> i64 {
+    match state {
+        1 => 2,
+        2 => 1,
+        3 => 4,
+        4 => 3,
+        _ => state,
     }
 }

@@ -1,6 +1,6 @@
 //! Sequences from the standards and from terminals' documents, each with what is told of it.
 
-use crate::{EscReading, Reading};
+use crate::{EscReading, LongEscReading, Reading};
 use csicodec_base::{Esc, read_csi};
 use csicodec_parser::CSI;
 use csicodec_words::Described;
@@ -58,7 +58,7 @@ static KEYS: [Row; 42] = [
 ];
 
 /// DEC (VT510 and VT420 Programmer Reference; VT100 and VT220 manuals). The codec has no action for them.
-static DEC: [Row; 60] = [
+static DEC: [Row; 61] = [
     (
         "?J",
         "DECSED  erase what isn't protected to the end of the screen",
@@ -79,7 +79,7 @@ static DEC: [Row; 60] = [
     ("?2K", "DECSEL  erase what isn't protected in the line"),
     ("1\"q", "DECSCA  protection of characters on"),
     ("0\"q", "DECSCA  protection of characters off"),
-    ("61\"p", "DECSCL  VT100 level"),
+    ("61\"p", "DECSCL  conformance level 61 (VT100)"),
     ("64;1\"p", "DECSCL  conformance level 64, controls 1"),
     ("3'}", "DECIC  insert 3 columns"),
     ("'~", "DECDC  delete 1 column"),
@@ -134,7 +134,7 @@ static DEC: [Row; 60] = [
         "?5;7;1R",
         "DECXCPR  answer: cursor at line 5, column 7, page 1",
     ),
-    ("2q", "DECLL  keyboard lights 2"),
+    ("2q", "DECLL  caps lock light on"),
     ("4;1y", "DECTST  self-test 4, 1"),
     (
         "2;1;1;128;128;1;0x",
@@ -152,6 +152,7 @@ static DEC: [Row; 60] = [
     ("?2026;2$y", "DECRPM 2026  answer: synchronized output off"),
     ("?2004;1$y", "DECRPM 2004  answer: bracketed paste on"),
     ("4;2$y", "DECRPM 4  answer: insert mode (IRM) off"),
+    ("12;1$y", "DECRPM 12  answer: local echo (SRM) off"),
     (
         "?9999;0$y",
         "DECRPM 9999  answer: unnamed private mode isn't known to the terminal",
@@ -159,8 +160,8 @@ static DEC: [Row; 60] = [
     ("?47;3$y", "DECRPM 47  answer: alternate screen always on"),
     (" q", "DECSCUSR  cursor: as set up (DEC: blinking block)"),
     ("4 t", "DECSWBV  volume of the warning bell: 4"),
-    ("1;0'z", "DECELR  locator reports: 1, in 0"),
-    ("1'{", "DECSLE  events of the locator: 1"),
+    ("1;0'z", "DECELR  locator reports on, unit 0"),
+    ("1'{", "DECSLE  reports of locator buttons pressed on"),
     ("'|", "DECRQLP  ask for the locator's position"),
     ("&u", "DECRQUPSS  ask for the user's supplemental set"),
     ("1;7;0,|", "DECAC  colours of text: item 1, 7 on 0"),
@@ -187,7 +188,7 @@ static XTERM: [Row; 24] = [
         "XTFMTKEYS  set the format of keys, resource 2, to 3",
     ),
     ("?4g", "XTQFMTKEYS  ask for the format of keys, resource 4"),
-    (">4n", "XTMODKEYS  no modifiers of keys, resource 4"),
+    (">4n", "XTMODKEYS  modifiers of keys off, resource 4"),
     (
         ">2p",
         "XTSMPOINTER  hide the pointer always but when it leaves",
@@ -199,14 +200,8 @@ static XTERM: [Row; 24] = [
         "1;2;3;4;5T",
         "XTHIMOUSE  highlight from line 3, column 2, within lines 4 to 5 (or SD)",
     ),
-    (
-        "22t",
-        "XTWINOPS  push the icon's label and the window's title",
-    ),
-    (
-        "23t",
-        "XTWINOPS  pop the icon's label and the window's title",
-    ),
+    ("22t", "XTWINOPS  push the icon name and the window title"),
+    ("23t", "XTWINOPS  pop the icon name and the window title"),
     (
         "9;50;200t",
         "XTWINOPS  answer: the display's size in cells: width 200, height 50",
@@ -264,7 +259,7 @@ static ECMA: [Row; 18] = [
 ];
 
 /// Where the codec has an action, and terminals may read it otherwise.
-static ACTIONS: [Row; 35] = [
+static ACTIONS: [Row; 37] = [
     ("<128;1;5M", "mouse  button 8 pressed at line 5, column 1"),
     ("<129;1;5m", "mouse  button 9 released at line 5, column 1"),
     ("<131;7;5M", "mouse  button 11 pressed at line 5, column 7"),
@@ -297,15 +292,23 @@ static ACTIONS: [Row; 35] = [
         "CPR  answer: cursor at line 1, column 2 (or the key F3 with modifiers)",
     ),
     ("5;2R", "CPR  answer: cursor at line 5, column 2"),
+    (
+        "R",
+        "CPR  answer: cursor at line 1, column 1 (or the key F3)",
+    ),
+    ("1;m", "SGR  bold on (and then all attributes off)"),
     (">1u", "kitty keyboard  push flags 1, unambiguous keys"),
     ("?34h", "DECSET 34  right to left (DECRLM) on"),
     (
         "?1007h",
-        "DECSET 1007  cursor keys from the wheel on the alternate screen on",
+        "DECSET 1007  wheel as cursor keys in the alternate screen on",
     ),
-    ("?1015h", "DECSET 1015  mouse reports in urxvt's form on"),
-    ("?1034l", "DECRST 1034  eighth bit from meta off"),
-    ("?1035h", "DECSET 1035  modifiers for alt and num lock on"),
+    ("?1015h", "DECSET 1015  mouse reports in urxvt form on"),
+    ("?1034l", "DECRST 1034  meta sets the eighth bit off"),
+    (
+        "?1035h",
+        "DECSET 1035  special modifiers for alt and num lock on",
+    ),
     ("?1042h", "DECSET 1042  urgency hint at BEL on"),
     (
         "?1046h",
@@ -330,7 +333,7 @@ static ACTIONS: [Row; 35] = [
         "?1049l",
         "DECRST 1049  alternate screen off, restore the cursor",
     ),
-    ("12l", "RM 12  local echo on (SRM)"),
+    ("12l", "RM 12  local echo (SRM) on"),
     (
         "5;900;1600t",
         "XTWINOPS  raise the window (or answer: the display's size in pixels)",
@@ -339,7 +342,7 @@ static ACTIONS: [Row; 35] = [
 ];
 
 /// Escape sequences behind ESC (ECMA-35, ECMA-48, DEC, xterm's ctlseqs, the Linux console).
-static ESCAPES: [Row; 21] = [
+static ESCAPES: [Row; 30] = [
     ("9", "DECFI  cursor right 1 column, scrolling (no action)"),
     ("<", "DECANM  ANSI mode on (out of VT52 mode) (no action)"),
     ("g", "ESC g  visual bell (screen, tmux, rxvt) (no action)"),
@@ -355,8 +358,20 @@ static ESCAPES: [Row; 21] = [
         "SCS  G3: DEC special graphics (line drawing) (no action)",
     ),
     ("-A", "SCS  G1: Latin-1 (no action)"),
+    (".b", "SCS  G2: Latin-9 (no action)"),
+    (
+        ")K",
+        "SCS  G1: German (Linux: the user's mapping) (no action)",
+    ),
+    ("+>", "SCS  G3: DEC technical (no action)"),
+    ("(J", "SCS  G0: JIS X 0201 Roman (no action)"),
+    ("$B", "SCS  G0: JIS X 0208 (no action)"),
+    ("%0", "DOCS  another coding system (no action)"),
+    (" A", "ACS  announce a code structure (no action)"),
+    ("\"C", "C1D  controls of C1 from another set (no action)"),
     ("(U", "SCS  G0: null mapping (Linux) (no action)"),
-    ("(4", "SCS  G0: another set (no action)"),
+    ("(4", "SCS  G0: Dutch (no action)"),
+    ("(t", "SCS  G0: another set (no action)"),
     (
         "l",
         "ESC l  lock lines above the cursor (HP; xterm) (no action)",
@@ -407,6 +422,40 @@ fn tells_what_has_no_action(rt: HostRuntime) -> Result<(), Fail> {
 #[test]
 fn tells_actions(rt: HostRuntime) -> Result<(), Fail> {
     check(&rt, rt.alloc(), &ACTIONS, "")
+}
+
+/// Escape sequences with more than one intermediate byte, behind ESC.
+static LONG_ESCAPES: [Row; 10] = [
+    ("$)C", "SCS  G1: KS X 1001 (no action)"),
+    ("$*H", "SCS  G2: CNS 11643, plane 2 (no action)"),
+    (
+        "$(!A",
+        "SCS  G0: a set of several bytes a character (no action)",
+    ),
+    ("(%5", "SCS  G0: DEC supplemental (no action)"),
+    ("+\"?", "SCS  G3: DEC Greek (no action)"),
+    ("( @", "SCS  G0: downloaded set (DRCS) (no action)"),
+    ("-!A", "SCS  G1: another set of 96 (no action)"),
+    ("%/G", "DOCS  UTF-8 on, without return (no action)"),
+    (
+        "%/Z",
+        "DOCS  another coding system, without return (no action)",
+    ),
+    ("##8", "unknown  escape sequence (no action)"),
+];
+
+#[test]
+fn tells_long_escapes(rt: HostRuntime) -> Result<(), Fail> {
+    for (text, words) in &LONG_ESCAPES {
+        let bytes = format!(in rt.alloc(); "\x1b{text}")?;
+        if let Some(reading) = LongEscReading::of(bytes.as_bytes()) {
+            let told = Described(&reading).to_string(rt.alloc())?;
+            assert_eq!(rt; told.as_str(), *words, "{text}");
+        } else {
+            assert!(rt; false, "{text}");
+        }
+    }
+    Ok(())
 }
 
 #[test]

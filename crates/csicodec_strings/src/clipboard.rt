@@ -53,11 +53,11 @@ fn decoded(text: Body<'_>) -> u64 {
 pub fn clipboard<W: fmt::Write>(f: &mut fmt::Formatter<W>, rest: Body<'_>) -> fmt::Result {
     let (letters, text) = rest.cut(b';');
     if text.bytes == b"?".as_slice() {
-        f.write_str("ask for: ")?;
+        f.write_str("ask for the ")?;
         return write_selections(f, letters);
     }
     if text.len() == 0 || !text.bytes.iter().all(|byte| is_base64(*byte)) {
-        f.write_str("clear: ")?;
+        f.write_str("clear the ")?;
         return write_selections(f, letters);
     }
     write_selections(f, letters)?;

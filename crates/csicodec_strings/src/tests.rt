@@ -77,9 +77,9 @@ static COMMANDS: [Row; 66] = [
         "52;pc;YWI=",
         "OSC 52  primary selection, clipboard: 2 bytes",
     ),
-    ("52;s0;?", "OSC 52  ask for: selection, cut buffer 0"),
-    ("52;c;", "OSC 52  clear: clipboard"),
-    ("52;c;!", "OSC 52  clear: clipboard"),
+    ("52;s0;?", "OSC 52  ask for the selection, cut buffer 0"),
+    ("52;c;", "OSC 52  clear the clipboard"),
+    ("52;c;!", "OSC 52  clear the clipboard"),
     ("52;;YQ==", "OSC 52  selection and cut buffer 0: 1 byte"),
     (
         "66;s=2;big",

@@ -85,7 +85,7 @@ impl Describe for DeviceAttribute {
                 f.write_str("rectangular editing")
             }
             DeviceAttribute::Unspecified(CsiParam::Integer(52)) => f.write_str("clipboard"),
-            DeviceAttribute::Unspecified(token) => write!(f, "{token}"),
+            DeviceAttribute::Unspecified(token) => write!(f, "extension {token}"),
         }
     }
 }
@@ -147,62 +147,4 @@ fn values<W: fmt::Write>(f: &mut fmt::Formatter<W>, values: &[i64]) -> fmt::Resu
         ahead = ", ";
     }
     Ok(())
-}
-
-#[cfg(test)]
-mod tests {
-    use super::*;
-    use crate::describe::Described;
-    use std::test::Fail;
-
-    #[test]
-    fn tells_devices(rt: HostRuntime) -> Result<(), Fail> {
-        for (device, words) in [
-            (Device::SoftReset, "DECSTR  soft reset"),
-            (Device::StatusReport, "DSR  ask for the terminal's status"),
-            (
-                Device::RequestTerminalParameters(2),
-                "DECREQTPARM  ask for the serial line's parameters, 2",
-            ),
-            (
-                Device::DeviceAttributes(DeviceAttributes::Vt102),
-                "DA1  answer: VT102",
-            ),
-        ] {
-            let told = Described(&device).to_string(rt.alloc())?;
-            assert_eq!(rt; told.as_str(), words);
-        }
-        Ok(())
-    }
-
-    #[test]
-    fn tells_extensions(rt: HostRuntime) -> Result<(), Fail> {
-        let mut attributes = Vec::new(rt.alloc());
-        attributes.push(DeviceAttribute::Code(DeviceAttributeCodes::SixelGraphics))?;
-        attributes.push(DeviceAttribute::Code(DeviceAttributeCodes::AnsiColor))?;
-        let terminal = DeviceAttributes::Vt220(DeviceAttributeFlags::new(attributes));
-        let told = Described(&terminal).to_string(rt.alloc())?;
-        assert_eq!(rt;
-            told.as_str(),
-            "DA1  answer: VT220 class, with sixel graphics, ANSI colours"
-        );
-        Ok(())
-    }
-
-    #[test]
-    fn tells_graphics(rt: HostRuntime) -> Result<(), Fail> {
-        let mut value = Vec::new(rt.alloc());
-        value.push(256)?;
-        let graphics = XtSmGraphics {
-            item: XtSmGraphicsItem::NumberOfColorRegisters,
-            action_or_status: 3,
-            value,
-        };
-        let told = Described(&graphics).to_string(rt.alloc())?;
-        assert_eq!(rt;
-            told.as_str(),
-            "XTSMGRAPHICS  set the number of colour registers: 256"
-        );
-        Ok(())
-    }
 }

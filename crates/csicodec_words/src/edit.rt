@@ -41,30 +41,3 @@ fn in_line(part: &EraseInLine) -> &'static str {
         EraseInLine::EraseLine => "EL  erase the line",
     }
 }
-
-#[cfg(test)]
-mod tests {
-    use super::*;
-    use crate::describe::Described;
-    use std::test::Fail;
-
-    #[test]
-    fn tells_edits(rt: HostRuntime) -> Result<(), Fail> {
-        for (edit, words) in [
-            (Edit::InsertLine(1), "IL  insert 1 blank line"),
-            (Edit::ScrollUp(5), "SU  scroll up 5 lines"),
-            (
-                Edit::EraseInDisplay(EraseInDisplay::EraseDisplay),
-                "ED  erase the screen",
-            ),
-            (
-                Edit::EraseInLine(EraseInLine::EraseToEndOfLine),
-                "EL  erase to the end of the line",
-            ),
-        ] {
-            let told = Described(&edit).to_string(rt.alloc())?;
-            assert_eq!(rt; told.as_str(), words);
-        }
-        Ok(())
-    }
-}

@@ -88,35 +88,3 @@ pub(crate) fn path(to: &CharacterPath) -> &'static str {
         CharacterPath::RightToLeftOrBottomToTop => "from right to left",
     }
 }
-
-#[cfg(test)]
-mod tests {
-    use super::*;
-    use crate::describe::Described;
-    use std::test::Fail;
-
-    #[test]
-    fn tells_keyboards(rt: HostRuntime) -> Result<(), Fail> {
-        let flags = KittyKeyboardFlags::DISAMBIGUATE_ESCAPE_CODES;
-        let mode = KittyKeyboardMode::AssignAll;
-        for (keyboard, words) in [
-            (
-                Keyboard::SetKittyState { flags, mode },
-                "kitty keyboard  set flags 1, unambiguous keys",
-            ),
-            (
-                Keyboard::PushKittyState { flags, mode },
-                "kitty keyboard  push flags 1, unambiguous keys",
-            ),
-            (Keyboard::PopKittyState(2), "kitty keyboard  pop 2 times"),
-            (
-                Keyboard::ReportKittyState(KittyKeyboardFlags::NONE),
-                "kitty keyboard  answer: flags 0",
-            ),
-        ] {
-            let told = Described(&keyboard).to_string(rt.alloc())?;
-            assert_eq!(rt; told.as_str(), words);
-        }
-        Ok(())
-    }
-}

@@ -55,6 +55,7 @@ fn private<W: fmt::Write>(
     done(f, name, number, words, deed)
 }
 
+/// Local echo (SRM) is on where the mode is reset.
 fn terminal<W: fmt::Write>(
     f: &mut fmt::Formatter<W>,
     name: &'static str,
@@ -62,15 +63,14 @@ fn terminal<W: fmt::Write>(
     deed: Deed,
 ) -> fmt::Result {
     let number = mode.number();
-    let words = match (mode, deed) {
-        (TerminalMode::Code(TerminalModeCode::SendReceive), Deed::Set) => {
-            return write!(f, "{name} {number}  local echo off (SRM)");
-        }
-        (TerminalMode::Code(TerminalModeCode::SendReceive), Deed::Reset) => {
-            return write!(f, "{name} {number}  local echo on (SRM)");
-        }
-        (TerminalMode::Code(code), _) => terminal_mode(code),
-        (TerminalMode::Unspecified(number), _) => other_terminal_mode(*number),
+    let words = match mode {
+        TerminalMode::Code(code) => terminal_mode(code),
+        TerminalMode::Unspecified(number) => other_terminal_mode(*number),
+    };
+    let deed = match (mode, deed) {
+        (TerminalMode::Code(TerminalModeCode::SendReceive), Deed::Set) => Deed::Reset,
+        (TerminalMode::Code(TerminalModeCode::SendReceive), Deed::Reset) => Deed::Set,
+        _ => deed,
     };
     done(f, name, number, words, deed)
 }
@@ -152,8 +152,8 @@ fn private_mode(code: &DecPrivateModeCode) -> &'static str {
         DecPrivateModeCode::AnyEventMouse => "reports of mouse motions",
         DecPrivateModeCode::FocusTracking => "reports of focus",
         DecPrivateModeCode::Utf8Mouse => "mouse reports in UTF-8",
-        DecPrivateModeCode::SGRMouse => "mouse reports in SGR's form, in cells",
-        DecPrivateModeCode::SGRPixelsMouse => "mouse reports in SGR's form, in pixels",
+        DecPrivateModeCode::SGRMouse => "mouse reports in SGR form (cells)",
+        DecPrivateModeCode::SGRPixelsMouse => "mouse reports in SGR form (pixels)",
         DecPrivateModeCode::XTermMetaSendsEscape => "meta sends ESC",
         DecPrivateModeCode::XTermAltSendsEscape => "alt sends ESC",
         DecPrivateModeCode::OptEnableAlternateScreen => "alternate screen",
@@ -175,7 +175,7 @@ fn terminal_mode(code: &TerminalModeCode) -> &'static str {
         TerminalModeCode::KeyboardAction => "keyboard lock (KAM)",
         TerminalModeCode::Insert => "insert mode (IRM)",
         TerminalModeCode::BiDirectionalSupportMode => "bidirectional support (BDSM)",
-        TerminalModeCode::SendReceive => "no local echo (SRM)",
+        TerminalModeCode::SendReceive => "local echo (SRM)",
         TerminalModeCode::AutomaticNewline => "newline at line feed (LNM)",
         TerminalModeCode::ShowCursor => "visible cursor",
     }
@@ -187,56 +187,5 @@ fn keys(resource: &XtermKeyModifierResource) -> &'static str {
         XtermKeyModifierResource::CursorKeys => "modifyCursorKeys",
         XtermKeyModifierResource::FunctionKeys => "modifyFunctionKeys",
         XtermKeyModifierResource::OtherKeys => "modifyOtherKeys",
-    }
-}
-
-#[cfg(test)]
-mod tests {
-    use super::*;
-    use crate::describe::Described;
-    use std::test::Fail;
-
-    #[test]
-    fn tells_modes(rt: HostRuntime) -> Result<(), Fail> {
-        let paste = DecPrivateMode::Code(DecPrivateModeCode::BracketedPaste);
-        let insert = TerminalMode::Code(TerminalModeCode::Insert);
-        let resource = XtermKeyModifierResource::OtherKeys;
-        for (mode, words) in [
-            (
-                Mode::SetDecPrivateMode(paste),
-                "DECSET 2004  bracketed paste on",
-            ),
-            (
-                Mode::ResetDecPrivateMode(paste),
-                "DECRST 2004  bracketed paste off",
-            ),
-            (
-                Mode::QueryDecPrivateMode(paste),
-                "DECRQM 2004  ask for the mode: bracketed paste",
-            ),
-            (
-                Mode::SaveDecPrivateMode(DecPrivateMode::Unspecified(77)),
-                "XTSAVE 77  save the mode: unnamed private mode",
-            ),
-            (Mode::SetMode(insert), "SM 4  insert mode (IRM) on"),
-            (
-                Mode::XtermKeyMode {
-                    resource,
-                    value: Some(2),
-                },
-                "XTMODKEYS  set modifyOtherKeys to 2",
-            ),
-            (
-                Mode::XtermKeyMode {
-                    resource,
-                    value: None,
-                },
-                "XTMODKEYS  set modifyOtherKeys back to its initial value",
-            ),
-        ] {
-            let told = Described(&mode).to_string(rt.alloc())?;
-            assert_eq!(rt; told.as_str(), words);
-        }
-        Ok(())
     }
 }

@@ -71,38 +71,3 @@ fn event(button: &MouseButton) -> &'static str {
         MouseButton::None => "moved to",
     }
 }
-
-#[cfg(test)]
-mod tests {
-    use super::*;
-    use crate::describe::Described;
-    use std::test::Fail;
-
-    #[test]
-    fn tells_reports(rt: HostRuntime) -> Result<(), Fail> {
-        for (report, words) in [
-            (
-                MouseReport::SGR1006 {
-                    x: 7,
-                    y: 5,
-                    button: MouseButton::Button1Press,
-                    modifiers: Modifiers::NONE,
-                },
-                "mouse  button 1 pressed at line 5, column 7",
-            ),
-            (
-                MouseReport::SGR1016 {
-                    x_pixels: 70,
-                    y_pixels: 50,
-                    button: MouseButton::None,
-                    modifiers: Modifiers::CTRL,
-                },
-                "mouse  moved to pixel 70, 50, with control",
-            ),
-        ] {
-            let told = Described(&report).to_string(rt.alloc())?;
-            assert_eq!(rt; told.as_str(), words);
-        }
-        Ok(())
-    }
-}

@@ -1,8 +1,8 @@
 //! The words of each action, a line for each variant, by the text that the action has.
 
 use crate::describe::Described;
-use csicodec_actions::{CharacterPath, Cursor, Edit};
-use csicodec_base::{CsiParam, Sgr};
+use csicodec_actions::{CharacterPath, Device, MouseButton, MouseReport};
+use csicodec_base::{CsiParam, Modifiers};
 use csicodec_parser::CSI;
 use csicodec_streams::{decode_all, parse_all};
 use std::alloc::Global;
@@ -192,13 +192,13 @@ static DEVICES: [Row; 31] = [
     ),
     ("?62;22c", "DA1  answer: VT220 class, with ANSI colours"),
     ("?62;29c", "DA1  answer: VT220 class, with text locator"),
-    ("?62;99c", "DA1  answer: VT220 class, with 99"),
+    ("?62;99c", "DA1  answer: VT220 class, with extension 99"),
     ("?62c", "DA1  answer: VT220 class"),
     (
         "?63;1;22c",
         "DA1  answer: VT320 class, with 132 columns, ANSI colours",
     ),
-    ("?64;$c", "DA1  answer: VT420 class, with $"),
+    ("?64;$c", "DA1  answer: VT420 class, with extension $"),
     (
         "?1;1;0S",
         "XTSMGRAPHICS  ask for the number of colour registers (or answer: no such item)",
@@ -287,11 +287,11 @@ static PRIVATE_MODES: [Row; 35] = [
     ("?1005h", "DECSET 1005  mouse reports in UTF-8 on"),
     (
         "?1006h",
-        "DECSET 1006  mouse reports in SGR's form, in cells on",
+        "DECSET 1006  mouse reports in SGR form (cells) on",
     ),
     (
         "?1016h",
-        "DECSET 1016  mouse reports in SGR's form, in pixels on",
+        "DECSET 1016  mouse reports in SGR form (pixels) on",
     ),
     ("?1036h", "DECSET 1036  meta sends ESC on"),
     ("?1039h", "DECSET 1039  alt sends ESC on"),
@@ -313,7 +313,7 @@ static PRIVATE_MODES: [Row; 35] = [
 ];
 
 /// Other changes of modes, and modes of the standard.
-static MODES: [Row; 22] = [
+static MODES: [Row; 25] = [
     ("?2004l", "DECRST 2004  bracketed paste off"),
     ("?2004s", "XTSAVE 2004  save the mode: bracketed paste"),
     (
@@ -356,10 +356,13 @@ static MODES: [Row; 22] = [
     (">4;0m", "XTMODKEYS  set modifyOtherKeys to 0"),
     ("2h", "SM 2  keyboard lock (KAM) on"),
     ("8h", "SM 8  bidirectional support (BDSM) on"),
-    ("12h", "SM 12  local echo off (SRM)"),
+    ("12h", "SM 12  local echo (SRM) off"),
     ("20h", "SM 20  newline at line feed (LNM) on"),
     ("25h", "SM 25  visible cursor on"),
     (">4;2m", "XTMODKEYS  set modifyOtherKeys to 2"),
+    ("?77s", "XTSAVE 77  save the mode: unnamed private mode"),
+    ("12l", "RM 12  local echo (SRM) on"),
+    ("12$p", "DECRQM 12  ask for the mode: local echo (SRM)"),
 ];
 
 /// Reports of the mouse.
@@ -427,23 +430,23 @@ static WINDOWS: [Row; 31] = [
     ("10;0t", "XTWINOPS  full screen off"),
     ("10;1t", "XTWINOPS  full screen on"),
     ("10;2t", "XTWINOPS  toggle full screen"),
-    ("22;0t", "XTWINOPS  push the icon's label and the title"),
-    ("22;1t", "XTWINOPS  push the icon's label"),
-    ("22;2t", "XTWINOPS  push the window's title"),
-    ("23;0t", "XTWINOPS  pop the icon's label and the title"),
-    ("23;1t", "XTWINOPS  pop the icon's label"),
-    ("23;2t", "XTWINOPS  pop the window's title"),
+    ("22;0t", "XTWINOPS  push the icon name and the window title"),
+    ("22;1t", "XTWINOPS  push the icon name"),
+    ("22;2t", "XTWINOPS  push the window title"),
+    ("23;0t", "XTWINOPS  pop the icon name and the window title"),
+    ("23;1t", "XTWINOPS  pop the icon name"),
+    ("23;2t", "XTWINOPS  pop the window title"),
     (
         "4;;7t",
-        "XTWINOPS  resize the window, in pixels: width 7, height as it is (or answer: the text area's size)",
+        "XTWINOPS  resize the window, in pixels: width 7, height as it is (or answer: its size, or the text area's)",
     ),
     (
         "4;15;t",
-        "XTWINOPS  resize the window, in pixels: width as it is, height 15 (or answer: the text area's size)",
+        "XTWINOPS  resize the window, in pixels: width as it is, height 15 (or answer: its size, or the text area's)",
     ),
     (
         "4;;t",
-        "XTWINOPS  resize the window, in pixels: width as it is, height as it is (or answer: the text area's size)",
+        "XTWINOPS  resize the window, in pixels: width as it is, height as it is (or answer: its size, or the text area's)",
     ),
     (
         "6;;7t",
@@ -475,7 +478,7 @@ static WINDOWS: [Row; 31] = [
     ),
     (
         "4;15;7t",
-        "XTWINOPS  resize the window, in pixels: width 7, height 15 (or answer: the text area's size)",
+        "XTWINOPS  resize the window, in pixels: width 7, height 15 (or answer: its size, or the text area's)",
     ),
     (
         "6;15;7t",
@@ -498,8 +501,8 @@ static QUESTIONS: [Row; 12] = [
     ("16t", "XTWINOPS  ask for a cell's size in pixels"),
     ("18t", "XTWINOPS  ask for the text area's size in cells"),
     ("19t", "XTWINOPS  ask for the display's size in cells"),
-    ("20t", "XTWINOPS  ask for the icon's label"),
-    ("21t", "XTWINOPS  ask for the window's title"),
+    ("20t", "XTWINOPS  ask for the icon name"),
+    ("21t", "XTWINOPS  ask for the window title"),
     (
         "7;2;1;5;3;4*y",
         "DECRQCRA  ask for the checksum of lines 1 to 3, columns 5 to 4 of page 2, request 7",
@@ -543,16 +546,25 @@ fn tells_each(rt: HostRuntime) -> Result<(), Fail> {
 
 #[test]
 fn tells_actions(rt: HostRuntime) -> Result<(), Fail> {
+    let parameters = Device::RequestTerminalParameters(2);
+    let in_pixels = MouseReport::SGR1016 {
+        x_pixels: 70,
+        y_pixels: 50,
+        button: MouseButton::None,
+        modifiers: Modifiers::CTRL,
+    };
     for (action, words) in [
-        (CSI::Sgr(Sgr::Reset), "SGR  all attributes off"),
-        (CSI::Cursor(Cursor::Up(1)), "CUU  cursor up 1 line"),
-        (
-            CSI::Edit(Edit::Repeat(2)),
-            "REP  repeat the last character 2 more times",
-        ),
         (
             CSI::SelectCharacterPath(CharacterPath::RightToLeftOrBottomToTop, 1),
             "SCP  character path from right to left, effect 1",
+        ),
+        (
+            CSI::Mouse(in_pixels),
+            "mouse  moved to pixel 70, 50, with control",
+        ),
+        (
+            CSI::from_device(rt.alloc(), parameters)?,
+            "DECREQTPARM  ask for the serial line's parameters, 2",
         ),
     ] {
         let told = Described(&action).to_string(rt.alloc())?;

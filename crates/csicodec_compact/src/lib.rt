@@ -6,8 +6,6 @@ mod alike;
 mod compact;
 mod encode;
 mod spell;
-#[cfg(test)]
-mod tests;
 
 pub use compact::Compact;
 pub use encode::encode_compact;

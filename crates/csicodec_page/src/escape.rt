@@ -63,18 +63,3 @@ pub fn append_escaped(out: &mut Vec<u8>, bytes: &[u8]) -> Result<(), AllocError>
     }
     Ok(())
 }
-
-#[cfg(test)]
-mod tests {
-    use super::*;
-    use std::test::Fail;
-
-    #[test]
-    fn shows_bytes(rt: HostRuntime) -> Result<(), Fail> {
-        let mut out = Vec::new(rt.alloc());
-        append_escaped(&mut out, b"\x1b[1m a\\\t\r\n\x07\x7f\xc3")?;
-        let shown = "\\e[1m a\\\\\\t\\r\\n\\x07\\x7f\\xc3";
-        assert_eq!(rt; out.as_slice(), shown.as_bytes());
-        Ok(())
-    }
-}

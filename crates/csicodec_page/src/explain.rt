@@ -56,7 +56,7 @@ impl<'a> Explainer<'a> {
     }
 
     /// The next bytes.
-    pub(crate) fn push(&mut self, bytes: &[u8]) -> Result<(), AllocError> {
+    fn push(&mut self, bytes: &[u8]) -> Result<(), AllocError> {
         self.pending.extend_from_slice(bytes)?;
         let (used, mode) = add_spans(&mut self.page, &mut self.params, self.mode, &self.pending)?;
         self.mode = mode;
@@ -65,17 +65,12 @@ impl<'a> Explainer<'a> {
     }
 
     /// Nothing comes any more: what isn't over is malformed.
-    pub(crate) fn finish(&mut self) -> Result<(), AllocError> {
+    fn finish(&mut self) -> Result<(), AllocError> {
         if !self.pending.is_empty() {
             self.page
                 .add(self.mode, Kind::Other, &self.pending, self.mode)?;
         }
         self.page.close()
-    }
-
-    /// The lines so far.
-    pub(crate) fn lines(&self) -> &[u8] {
-        self.page.lines()
     }
 
     /// Reads to the end of an input. After each read the lines of all spans that are over are written and flushed. A read that a

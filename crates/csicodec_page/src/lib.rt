@@ -9,8 +9,6 @@ mod line;
 mod page;
 mod sheet;
 mod style;
-#[cfg(test)]
-mod tests;
 mod totals;
 
 pub use explain::Explainer;

@@ -13,8 +13,6 @@ mod otherwise;
 mod sets;
 mod table;
 mod template;
-#[cfg(test)]
-mod tests;
 
 use crate::escapes::escape_of;
 use crate::intermediates::escape_of_bytes;

@@ -11,8 +11,6 @@ mod iterm;
 mod marks;
 mod osc;
 mod shown;
-#[cfg(test)]
-mod tests;
 
 use crate::device::device_control;
 use crate::fields::Body;

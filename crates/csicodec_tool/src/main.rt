@@ -2,9 +2,6 @@
 //! of its own to standard output. Arguments are not looked at.
 #![tactic(auto)]
 
-#[cfg(test)]
-mod tests;
-
 use csicodec_streams::normalise;
 use std::process::ExitCode;
 

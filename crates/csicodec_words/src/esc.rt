@@ -75,30 +75,3 @@ fn words(code: &EscCode) -> &'static str {
         EscCode::F4Press => "key  F4",
     }
 }
-
-#[cfg(test)]
-mod tests {
-    use super::*;
-    use crate::describe::Described;
-    use std::test::Fail;
-
-    #[test]
-    fn tells_escapes(rt: HostRuntime) -> Result<(), Fail> {
-        for (intermediate, control, words) in [
-            (None, b'c', "RIS  full reset"),
-            (None, b'7', "DECSC  save the cursor"),
-            (
-                Some(b'('),
-                b'0',
-                "SCS  G0: DEC special graphics (line drawing)",
-            ),
-            (Some(b'#'), b'8', "DECALN  fill the screen with E"),
-            (None, b'l', "unknown  ESC l"),
-            (Some(b'%'), b'G', "unknown  ESC % G"),
-        ] {
-            let told = Described(&Esc::parse(intermediate, control)).to_string(rt.alloc())?;
-            assert_eq!(rt; told.as_str(), words);
-        }
-        Ok(())
-    }
-}

@@ -13,8 +13,6 @@ mod mode;
 mod mouse;
 mod other_modes;
 mod sgr;
-#[cfg(test)]
-mod tests;
 mod window;
 
 use crate::keyboard::path;

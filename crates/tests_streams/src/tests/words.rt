@@ -1,10 +1,10 @@
 //! The words of each action, a line for each variant, by the text that the action has.
 
-use crate::describe::Described;
-use csicodec_actions::{CharacterPath, Device, MouseButton, MouseReport};
-use csicodec_base::{CsiParam, Modifiers};
+use csicodec_actions::{Device, MouseButton, MouseReport, Window};
+use csicodec_base::{CsiParam, Esc, Modifiers};
 use csicodec_parser::CSI;
 use csicodec_streams::{decode_all, parse_all};
+use csicodec_words::Described;
 use std::alloc::Global;
 use std::process::Abort;
 use std::test::Fail;
@@ -13,7 +13,7 @@ use std::test::Fail;
 type Row = (&'static str, &'static str);
 
 /// Attributes.
-static ATTRIBUTES: [Row; 29] = [
+static ATTRIBUTES: [Row; 30] = [
     ("0m", "SGR  all attributes off"),
     ("1m", "SGR  bold on"),
     ("2m", "SGR  faint on"),
@@ -39,6 +39,7 @@ static ATTRIBUTES: [Row; 29] = [
     ("55m", "SGR  overline off"),
     ("10m", "SGR  primary font"),
     ("11m", "SGR  alternative font 1"),
+    ("13m", "SGR  alternative font 3"),
     ("19m", "SGR  alternative font 9"),
     ("73m", "SGR  superscript on"),
     ("74m", "SGR  subscript on"),
@@ -46,15 +47,18 @@ static ATTRIBUTES: [Row; 29] = [
 ];
 
 /// Colours.
-static COLORS: [Row; 23] = [
+static COLORS: [Row; 26] = [
     ("39m", "SGR  foreground default"),
     ("30m", "SGR  foreground black"),
+    ("31m", "SGR  foreground red"),
     ("37m", "SGR  foreground white"),
     ("90m", "SGR  foreground bright black"),
     ("97m", "SGR  foreground bright white"),
     ("38:5:16m", "SGR  foreground palette 16"),
     ("38:5:255m", "SGR  foreground palette 255"),
     ("38:2::1:2:3m", "SGR  foreground rgb 1,2,3"),
+    ("38:2::1:20:255m", "SGR  foreground rgb 1,20,255"),
+    ("38:6::1:20:255:7m", "SGR  foreground rgb 1,20,255, alpha 7"),
     (
         "38:6::0:255:3:254m",
         "SGR  foreground rgb 0,255,3, alpha 254",
@@ -79,7 +83,7 @@ static COLORS: [Row; 23] = [
 ];
 
 /// The cursor and margins.
-static CURSOR: [Row; 26] = [
+static CURSOR: [Row; 31] = [
     ("A", "CUU  cursor up 1 line"),
     ("B", "CUD  cursor down 1 line"),
     ("C", "CUF  cursor right 1 column"),
@@ -106,6 +110,11 @@ static CURSOR: [Row; 26] = [
     ("5;7H", "CUP  cursor to line 5, column 7"),
     ("3;9r", "DECSTBM  scrolling region: lines 3 to 9"),
     ("2;9s", "DECSLRM  left and right margins: columns 2 to 9"),
+    ("2I", "CHT  cursor forward 2 tab stops"),
+    ("9d", "VPA  cursor to line 9"),
+    ("7G", "CHA  cursor to column 7"),
+    ("5r", "DECSTBM  scrolling region: line 5 to the last"),
+    ("5;7s", "DECSLRM  left and right margins: columns 5 to 7"),
 ];
 
 /// Tab stops, and how the cursor looks.
@@ -133,13 +142,14 @@ static STOPS_AND_STYLES: [Row; 20] = [
 ];
 
 /// Editing.
-static EDITS: [Row; 16] = [
+static EDITS: [Row; 17] = [
     ("@", "ICH  insert 1 blank"),
     ("L", "IL  insert 1 blank line"),
     ("P", "DCH  delete 1 character"),
     ("M", "DL  delete 1 line"),
     ("X", "ECH  erase 1 character"),
     ("S", "SU  scroll up 1 line"),
+    ("5S", "SU  scroll up 5 lines"),
     ("T", "SD  scroll down 1 line"),
     ("b", "REP  repeat the last character 1 more time"),
     ("J", "ED  erase to the end of the screen"),
@@ -153,7 +163,7 @@ static EDITS: [Row; 16] = [
 ];
 
 /// What a terminal is.
-static DEVICES: [Row; 31] = [
+static DEVICES: [Row; 33] = [
     ("?1;2c", "DA1  answer: VT100 with advanced video"),
     ("?1;0c", "DA1  answer: VT101"),
     ("?6c", "DA1  answer: VT102"),
@@ -198,10 +208,18 @@ static DEVICES: [Row; 31] = [
         "?63;1;22c",
         "DA1  answer: VT320 class, with 132 columns, ANSI colours",
     ),
+    (
+        "?62;4;22c",
+        "DA1  answer: VT220 class, with sixel graphics, ANSI colours",
+    ),
     ("?64;$c", "DA1  answer: VT420 class, with extension $"),
     (
         "?1;1;0S",
         "XTSMGRAPHICS  ask for the number of colour registers (or answer: no such item)",
+    ),
+    (
+        "?1;3;256S",
+        "XTSMGRAPHICS  set the number of colour registers: 256",
     ),
     (
         "?2;3;800;600S",
@@ -215,7 +233,7 @@ static DEVICES: [Row; 31] = [
 ];
 
 /// The keyboard, and paths of characters.
-static KEYBOARD: [Row; 16] = [
+static KEYBOARD: [Row; 21] = [
     (
         "=31;1u",
         "kitty keyboard  set flags 31, unambiguous keys, event types, alternate keys, all keys as escape codes, associated text",
@@ -238,6 +256,10 @@ static KEYBOARD: [Row; 16] = [
         "kitty keyboard  push flags 0 (with a second number, which isn't kitty's)",
     ),
     ("=32;1u", "kitty keyboard  set flags 0"),
+    ("=1;1u", "kitty keyboard  set flags 1, unambiguous keys"),
+    (">1;1u", "kitty keyboard  push flags 1, unambiguous keys"),
+    ("<2u", "kitty keyboard  pop 2 times"),
+    ("?0u", "kitty keyboard  answer: flags 0"),
     (
         ">65535;1u",
         "kitty keyboard  push flags 31, unambiguous keys, event types, alternate keys, all keys as escape codes, associated text",
@@ -259,6 +281,7 @@ static KEYBOARD: [Row; 16] = [
         "0;5 k",
         "SCP  character path as the terminal is set up, effect 5",
     ),
+    ("2;1 k", "SCP  character path from right to left, effect 1"),
 ];
 
 /// Private modes that are set.
@@ -313,9 +336,10 @@ static PRIVATE_MODES: [Row; 35] = [
 ];
 
 /// Other changes of modes, and modes of the standard.
-static MODES: [Row; 25] = [
+static MODES: [Row; 27] = [
     ("?2004l", "DECRST 2004  bracketed paste off"),
     ("?2004s", "XTSAVE 2004  save the mode: bracketed paste"),
+    ("?77s", "XTSAVE 77  save the mode: unnamed private mode"),
     (
         "?2004r",
         "XTRESTORE 2004  restore the mode: bracketed paste",
@@ -328,6 +352,7 @@ static MODES: [Row; 25] = [
         "?1$p",
         "DECRQM 1  ask for the mode: application cursor keys (DECCKM)",
     ),
+    ("?2004$p", "DECRQM 2004  ask for the mode: bracketed paste"),
     ("4h", "SM 4  insert mode (IRM) on"),
     ("5h", "SM 5  status reports unasked (SRTM) on"),
     ("4l", "RM 4  insert mode (IRM) off"),
@@ -366,7 +391,7 @@ static MODES: [Row; 25] = [
 ];
 
 /// Reports of the mouse.
-static MOUSE: [Row; 23] = [
+static MOUSE: [Row; 24] = [
     ("<0;1;5M", "mouse  button 1 pressed at line 5, column 1"),
     ("<1;1;5M", "mouse  button 2 pressed at line 5, column 1"),
     ("<2;1;5M", "mouse  button 3 pressed at line 5, column 1"),
@@ -374,6 +399,7 @@ static MOUSE: [Row; 23] = [
     ("<65;1;5M", "mouse  wheel turned down at line 5, column 1"),
     ("<66;1;5M", "mouse  wheel turned left at line 5, column 1"),
     ("<67;1;5M", "mouse  wheel turned right at line 5, column 1"),
+    ("<0;7;5M", "mouse  button 1 pressed at line 5, column 7"),
     ("<0;1;5m", "mouse  button 1 released at line 5, column 1"),
     ("<1;1;5m", "mouse  button 2 released at line 5, column 1"),
     ("<2;1;5m", "mouse  button 3 released at line 5, column 1"),
@@ -411,7 +437,7 @@ static MOUSE: [Row; 23] = [
 ];
 
 /// Windows that are changed.
-static WINDOWS: [Row; 31] = [
+static WINDOWS: [Row; 32] = [
     (
         "1t",
         "XTWINOPS  restore the window from its icon (or answer: it is no icon)",
@@ -465,6 +491,10 @@ static WINDOWS: [Row; 31] = [
         "XTWINOPS  resize the text area, in cells: width 7, height as it is (or answer: its size)",
     ),
     (
+        "8;;80t",
+        "XTWINOPS  resize the text area, in cells: width 80, height as it is (or answer: its size)",
+    ),
+    (
         "8;15;t",
         "XTWINOPS  resize the text area, in cells: width as it is, height 15 (or answer: its size)",
     ),
@@ -491,7 +521,7 @@ static WINDOWS: [Row; 31] = [
 ];
 
 /// What is asked of windows and areas.
-static QUESTIONS: [Row; 12] = [
+static QUESTIONS: [Row; 13] = [
     ("11t", "XTWINOPS  ask whether the window is an icon"),
     ("13t", "XTWINOPS  ask for the window's position"),
     ("13;2t", "XTWINOPS  ask for the text area's position"),
@@ -504,6 +534,10 @@ static QUESTIONS: [Row; 12] = [
     ("20t", "XTWINOPS  ask for the icon name"),
     ("21t", "XTWINOPS  ask for the window title"),
     (
+        "9;1;1;1;24;80*y",
+        "DECRQCRA  ask for the checksum of lines 1 to 24, columns 1 to 80 of page 1, request 9",
+    ),
+    (
         "7;2;1;5;3;4*y",
         "DECRQCRA  ask for the checksum of lines 1 to 3, columns 5 to 4 of page 2, request 7",
     ),
@@ -514,10 +548,10 @@ fn check(rt: &impl Abort, alloc: Global, rows: &[Row]) -> Result<(), Fail> {
     for (text, words) in rows {
         let bytes = format!(in alloc; "\x1b[{text}")?;
         let actions = decode_all(alloc, bytes.as_bytes(), false)?;
-        assert_eq!(rt; actions.len(), 1, "{text}");
+        assert!(rt; actions.len() == 1, "{text}");
         for action in &actions {
             let told = Described(action).to_string(alloc)?;
-            assert_eq!(rt; told.as_str(), *words, "{text}");
+            assert!(rt; told.as_str() == *words, "{text}");
         }
     }
     Ok(())
@@ -544,31 +578,33 @@ fn tells_each(rt: HostRuntime) -> Result<(), Fail> {
     Ok(())
 }
 
+/// Values that no text gives.
 #[test]
-fn tells_actions(rt: HostRuntime) -> Result<(), Fail> {
-    let parameters = Device::RequestTerminalParameters(2);
-    let in_pixels = MouseReport::SGR1016 {
+fn tells_values(rt: HostRuntime) -> Result<(), Fail> {
+    let alloc = rt.alloc();
+    let report = MouseReport::SGR1016 {
         x_pixels: 70,
         y_pixels: 50,
         button: MouseButton::None,
         modifiers: Modifiers::CTRL,
     };
+    let window = Window::MoveWindow { x: 3, y: -4 };
     for (action, words) in [
         (
-            CSI::SelectCharacterPath(CharacterPath::RightToLeftOrBottomToTop, 1),
-            "SCP  character path from right to left, effect 1",
-        ),
-        (
-            CSI::Mouse(in_pixels),
+            CSI::Mouse(report),
             "mouse  moved to pixel 70, 50, with control",
         ),
         (
-            CSI::from_device(rt.alloc(), parameters)?,
+            CSI::from_window(alloc, window)?,
+            "XTWINOPS  move the window to pixel 3, -4 (or answer: it stands there)",
+        ),
+        (
+            CSI::from_device(alloc, Device::RequestTerminalParameters(2))?,
             "DECREQTPARM  ask for the serial line's parameters, 2",
         ),
     ] {
-        let told = Described(&action).to_string(rt.alloc())?;
-        assert_eq!(rt; told.as_str(), words);
+        let told = Described(&action).to_string(alloc)?;
+        assert!(rt; told.as_str() == words, "{words}");
     }
     Ok(())
 }
@@ -578,7 +614,30 @@ fn tells_what_is_unknown(rt: HostRuntime) -> Result<(), Fail> {
     let params = [CsiParam::P(b'?'), CsiParam::Integer(5)];
     for action in parse_all(rt.alloc(), &params, false, 'S')? {
         let told = Described(&action).to_string(rt.alloc())?;
-        assert_eq!(rt; told.as_str(), "unknown  CSI ?5S");
+        assert!(rt; told.as_str() == "unknown  CSI ?5S");
+    }
+    Ok(())
+}
+
+/// An intermediate character and the last one of an escape sequence, and its words.
+static ESCAPES: [(Option<u8>, u8, &str); 6] = [
+    (None, b'c', "RIS  full reset"),
+    (None, b'7', "DECSC  save the cursor"),
+    (
+        Some(b'('),
+        b'0',
+        "SCS  G0: DEC special graphics (line drawing)",
+    ),
+    (Some(b'#'), b'8', "DECALN  fill the screen with E"),
+    (None, b'l', "unknown  ESC l"),
+    (Some(b'%'), b'G', "unknown  ESC % G"),
+];
+
+#[test]
+fn tells_escapes(rt: HostRuntime) -> Result<(), Fail> {
+    for (intermediate, control, words) in &ESCAPES {
+        let told = Described(&Esc::parse(*intermediate, *control)).to_string(rt.alloc())?;
+        assert!(rt; told.as_str() == *words);
     }
     Ok(())
 }

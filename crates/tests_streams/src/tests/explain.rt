@@ -1,8 +1,8 @@
 //! A stream with all kinds of spans, told in lines and in JSON.
 
-use crate::explain::Explainer;
-use crate::style::Style;
-use std::alloc::{AllocError, Global};
+use csicodec_page::{Explainer, Style};
+use csicodec_streams::RunError;
+use std::alloc::Global;
 use std::test::Fail;
 
 const STREAM: &[u8] =
@@ -52,17 +52,20 @@ const PLAIN: Style<'static> = Style {
 };
 
 /// What is told of a stream that comes in these two pieces.
-fn told_of<'a>(
+fn told_of(
     alloc: Global,
-    style: Style<'a>,
+    style: Style<'_>,
     front: &[u8],
     behind: &[u8],
-) -> Result<Explainer<'a>, AllocError> {
+) -> Result<Vec<u8>, RunError> {
     let mut explainer = Explainer::new(alloc, style);
-    explainer.push(front)?;
-    explainer.push(behind)?;
-    explainer.finish()?;
-    Ok(explainer)
+    let mut output = Vec::new(alloc);
+    for piece in [front, behind] {
+        let mut input = piece;
+        explainer.read(&mut input, &mut output)?;
+    }
+    explainer.end(&mut output)?;
+    Ok(output)
 }
 
 #[test]
@@ -73,53 +76,52 @@ fn explains_any_chunks(rt: HostRuntime) -> Result<(), Fail> {
     };
     for len in 0..=STREAM.len() {
         let (front, behind) = STREAM.split_at(len);
-        let explainer = told_of(rt.alloc(), PLAIN, front, behind)?;
-        assert_eq!(rt; explainer.lines(), LINES.as_bytes(), "cut at {len}");
-        let explainer = told_of(rt.alloc(), json, front, behind)?;
-        assert_eq!(rt; explainer.lines(), JSON.as_bytes(), "cut at {len}");
+        let told = told_of(rt.alloc(), PLAIN, front, behind)?;
+        assert!(rt; told.as_slice() == LINES.as_bytes(), "cut at {len}");
+        let told = told_of(rt.alloc(), json, front, behind)?;
+        assert!(rt; told.as_slice() == JSON.as_bytes(), "cut at {len}");
     }
     Ok(())
 }
 
-#[test]
-fn tells_what_is_asked_for(rt: HostRuntime) -> Result<(), Fail> {
-    for (style, stream, lines) in [
-        (
-            Style {
-                only: Some("osc 1,BEL"),
-                ..PLAIN
-            },
-            STREAM,
-            r#"      10  \x07                      BEL  ring the bell
+/// How a stream is told, the stream, and what is told of it.
+static ASKED: [(Style<'static>, &[u8], &str); 8] = [
+    (
+        Style {
+            only: Some("osc 1,BEL"),
+            ..PLAIN
+        },
+        STREAM,
+        r#"      10  \x07                      BEL  ring the bell
       18  \e]1;u\e\\                OSC 1  icon name: "u"
 "#,
-        ),
-        (
-            Style {
-                unknown: true,
-                ..PLAIN
-            },
-            b"\x1b[1;5Aa\x1b[1~\x1b[1m\x1b[Q\x1b[?".as_slice(),
-            r#"       0  \e[1;5A                   key  Ctrl-Up (no action)
+    ),
+    (
+        Style {
+            unknown: true,
+            ..PLAIN
+        },
+        b"\x1b[1;5Aa\x1b[1~\x1b[1m\x1b[Q\x1b[?",
+        r#"       0  \e[1;5A                   key  Ctrl-Up (no action)
        7  \e[1~                     key  Home (no action)
       15  \e[Q                      SEE  select the extent of editing (no action)
       18  \e[?                      malformed  3 bytes
 "#,
-        ),
-        (
-            Style {
-                only: Some("SGR"),
-                json: true,
-                ..PLAIN
-            },
-            b"a\x1b[1m\x1b7".as_slice(),
-            r#"{"at":1,"kind":"csi","text":"\u001b[1m","actions":[{"name":"SGR","words":"bold on"}]}
+    ),
+    (
+        Style {
+            only: Some("SGR"),
+            json: true,
+            ..PLAIN
+        },
+        b"a\x1b[1m\x1b7",
+        r#"{"at":1,"kind":"csi","text":"\u001b[1m","actions":[{"name":"SGR","words":"bold on"}]}
 "#,
-        ),
-        (
-            PLAIN,
-            b"\x1b[1;2;3;4;5;6;7;8;9mx".as_slice(),
-            r#"       0  \e[1;2;3;4;5;6;7;8;9m     SGR  bold on
+    ),
+    (
+        PLAIN,
+        b"\x1b[1;2;3;4;5;6;7;8;9mx",
+        r#"       0  \e[1;2;3;4;5;6;7;8;9m     SGR  bold on
                                     SGR  faint on
                                     SGR  italic on
                                     SGR  underline on
@@ -130,37 +132,50 @@ fn tells_what_is_asked_for(rt: HostRuntime) -> Result<(), Fail> {
                                     SGR  crossed out on
       20  "x"                       text  1 byte
 "#,
-        ),
-        (
-            PLAIN,
-            b"\x1b$(B\x1b(%5\x1b$(\x07B\x1b$B\x1b%/G\x1b(( 0".as_slice(),
-            r#"       0  \e$(B                     SCS  G0: JIS X 0208 (no action)
+    ),
+    (
+        PLAIN,
+        b"\x1b$(B\x1b(%5\x1b$(\x07B\x1b$B\x1b%/G\x1b(( 0",
+        r#"       0  \e$(B                     SCS  G0: JIS X 0208 (no action)
        4  \e(%5                     SCS  G0: DEC supplemental (no action)
        8  \e$(\x07B                 malformed  5 bytes
       13  \e$B                      SCS  G0: JIS X 0208 (no action)
       16  \e%/G                     DOCS  UTF-8 on, without return (no action)
       20  \e(( 0                    SCS  G0: another set (no action)
 "#,
-        ),
-        (
-            Style {
-                json: true,
-                ..PLAIN
-            },
-            b"\x1b$(B".as_slice(),
-            r#"{"at":0,"kind":"escape","text":"\u001b$(B","actions":[{"name":"SCS","words":"G0: JIS X 0208 (no action)"}]}
+    ),
+    (
+        Style {
+            json: true,
+            ..PLAIN
+        },
+        b"\x1b$(B",
+        r#"{"at":0,"kind":"escape","text":"\u001b$(B","actions":[{"name":"SCS","words":"G0: JIS X 0208 (no action)"}]}
 "#,
-        ),
-        (
-            PLAIN,
-            b"this is a text that is too long for its column".as_slice(),
-            r#"       0  "this is a text that is too long for its column"
+    ),
+    (
+        PLAIN,
+        b"this is a text that is too long for its column",
+        r#"       0  "this is a text that is too long for its column"
                                     text  46 bytes
 "#,
-        ),
-    ] {
-        let explainer = told_of(rt.alloc(), style, stream, b"")?;
-        assert_eq!(rt; explainer.lines(), lines.as_bytes());
+    ),
+    (
+        PLAIN,
+        b"a\\\t\r\x7f",
+        r#"       0  "a\\"                     text  2 bytes
+       2  \t                        HT  cursor to the next tab stop
+       3  \r                        CR  cursor to column 1
+       4  \x7f                      DEL  nothing
+"#,
+    ),
+];
+
+#[test]
+fn tells_what_is_asked_for(rt: HostRuntime) -> Result<(), Fail> {
+    for (style, stream, lines) in &ASKED {
+        let told = told_of(rt.alloc(), *style, stream, b"")?;
+        assert!(rt; told.as_slice() == lines.as_bytes(), "{lines}");
     }
     Ok(())
 }
@@ -187,6 +202,6 @@ escape sequences           0            0 bytes
 strings                    0            0 bytes
 malformed                  0            0 bytes
 "#;
-    assert_eq!(rt; output.as_slice(), lines.as_bytes());
+    assert!(rt; output.as_slice() == lines.as_bytes());
     Ok(())
 }

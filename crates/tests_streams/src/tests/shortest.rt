@@ -1,7 +1,7 @@
-//! Worked sequences.
+//! Sequences in their shortest spelling.
 
-use crate::{Compact, encode_compact};
 use csicodec::{CSI, ColorSpec, Cursor, Intensity, Sgr, SrgbaTuple};
+use csicodec_compact::{Compact, encode_compact};
 use csicodec_filter::{Faithful, Filter, Rewrite};
 use std::alloc::Global;
 use std::test::Fail;
@@ -15,51 +15,54 @@ fn compacted<T: Rewrite + Drop>(alloc: Global, rule: T, stream: &str) -> Result<
     Ok(out)
 }
 
+/// Lists with their final characters, and what becomes of them.
+static LISTS: [(&str, &str); 31] = [
+    // Defaults, and zeros ahead of a number.
+    ("0m", "m"),
+    ("00;01;31m", ";1;31m"),
+    ("1;0;31m", "1;;31m"),
+    ("1;0m", "1;0m"),
+    ("1;1H", "H"),
+    ("05;1H", "5H"),
+    ("1;5f", ";5f"),
+    ("0K", "K"),
+    ("1A", "A"),
+    ("0000000004;0000000010H", "4;10H"),
+    ("?0025h", "?25h"),
+    (">0c", ">c"),
+    // Colours.
+    ("1;38:2::255:0:0m", "1;38;2;255;0;0m"),
+    ("48:2:1:255:0:0;3m", "48;2;255;0;0;3m"),
+    ("38:5:9m", "38:5:9m"),
+    ("0;38;2;0;0;0;0;1m", ";38;2;0;0;0;;1m"),
+    ("58:2::1:2:3m", "58:2::1:2:3m"),
+    ("4:0m", "24m"),
+    ("4:1;4:3;4:2m", "4;4:3;4:2m"),
+    // What is read otherwise, and what stays.
+    ("1;m", "1;m"),
+    ("2;H", "2;H"),
+    ("1;1R", "1;1R"),
+    ("<0128;1;1M", "<0128;1;1M"),
+    ("<00;1;1m", "<00;1;1m"),
+    (">01u", ">01u"),
+    ("07;2*y", "07;2*y"),
+    ("05;0s", "05;0s"),
+    ("03r", "03r"),
+    ("00x", "00x"),
+    ("08;24;80t", "08;24;80t"),
+    ("0 q", "0 q"),
+];
+
 #[test]
 fn shortens(rt: HostRuntime) -> Result<(), Fail> {
     let alloc = rt.alloc();
-    for (list, short) in [
-        // Defaults, and zeros ahead of a number.
-        ("0m", "m"),
-        ("00;01;31m", ";1;31m"),
-        ("1;0;31m", "1;;31m"),
-        ("1;0m", "1;0m"),
-        ("1;1H", "H"),
-        ("05;1H", "5H"),
-        ("1;5f", ";5f"),
-        ("0K", "K"),
-        ("1A", "A"),
-        ("0000000004;0000000010H", "4;10H"),
-        ("?0025h", "?25h"),
-        (">0c", ">c"),
-        // Colours.
-        ("1;38:2::255:0:0m", "1;38;2;255;0;0m"),
-        ("48:2:1:255:0:0;3m", "48;2;255;0;0;3m"),
-        ("38:5:9m", "38:5:9m"),
-        ("0;38;2;0;0;0;0;1m", ";38;2;0;0;0;;1m"),
-        ("58:2::1:2:3m", "58:2::1:2:3m"),
-        ("4:0m", "24m"),
-        ("4:1;4:3;4:2m", "4;4:3;4:2m"),
-        // What is read otherwise, and what stays.
-        ("1;m", "1;m"),
-        ("2;H", "2;H"),
-        ("1;1R", "1;1R"),
-        ("<0128;1;1M", "<0128;1;1M"),
-        ("<00;1;1m", "<00;1;1m"),
-        (">01u", ">01u"),
-        ("07;2*y", "07;2*y"),
-        ("05;0s", "05;0s"),
-        ("03r", "03r"),
-        ("00x", "00x"),
-        ("08;24;80t", "08;24;80t"),
-        ("0 q", "0 q"),
-    ] {
+    for (list, short) in &LISTS {
         let stream = format!(in alloc; "a\x1b[{list}b")?;
         let wanted = format!(in alloc; "a\x1b[{short}b")?;
         let written = compacted(alloc, Compact::new(alloc), stream.as_str())?;
-        assert!(rt; written.as_slice() == wanted.as_bytes());
+        assert!(rt; written.as_slice() == wanted.as_bytes(), "{list}");
         let again = compacted(alloc, Compact::new(alloc), wanted.as_str())?;
-        assert!(rt; again.as_slice() == wanted.as_bytes());
+        assert!(rt; again.as_slice() == wanted.as_bytes(), "{list}");
     }
     let written = compacted(
         alloc,

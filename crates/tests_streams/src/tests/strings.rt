@@ -1,6 +1,6 @@
 //! Strings from terminals' documents, each with what is told of it.
 
-use super::*;
+use csicodec_strings::ControlString;
 use std::alloc::Global;
 use std::process::Abort;
 use std::test::Fail;
@@ -191,7 +191,7 @@ static OTHERS: [Row; 34] = [
 ];
 
 /// Wants these words of `ESC`, a text and what closes it.
-fn says(rt: &impl Abort, alloc: Global, opener: &str, row: Row, closer: &str) -> Result<(), Fail> {
+fn says(rt: &impl Abort, alloc: Global, opener: &str, row: &Row, closer: &str) -> Result<(), Fail> {
     let (text, words) = row;
     let bytes = format!(in alloc; "\x1b{opener}{text}{closer}")?;
     let string = ControlString {
@@ -200,53 +200,56 @@ fn says(rt: &impl Abort, alloc: Global, opener: &str, row: Row, closer: &str) ->
         closed: true,
     };
     let told = string.to_string(alloc)?;
-    assert_eq!(rt; told.as_str(), words);
+    assert!(rt; told.as_str() == *words, "{text}");
     Ok(())
 }
 
 #[test]
 fn tells_strings(rt: HostRuntime) -> Result<(), Fail> {
-    for row in COMMANDS {
+    for row in &COMMANDS {
         says(&rt, rt.alloc(), "]", row, "\x07")?;
         says(&rt, rt.alloc(), "]", row, "\x1b\\")?;
     }
-    for row in OTHERS {
+    for row in &OTHERS {
         says(&rt, rt.alloc(), "", row, "\x1b\\")?;
     }
     Ok(())
 }
 
+/// The first bytes of a string, how many it has, whether it was closed, and the words.
+static PARTS: [(&str, u64, bool, &str); 5] = [
+    (
+        "\x1b]0;tit",
+        7,
+        false,
+        "OSC 0  window title and icon name: \"tit\" (not closed)",
+    ),
+    (
+        "\x1b]0;tit",
+        5000,
+        true,
+        "OSC 0  window title and icon name: \"tit\"..",
+    ),
+    (
+        "\x1b]52;c;YWJj",
+        4107,
+        true,
+        "OSC 52  clipboard: about 3073 bytes",
+    ),
+    ("\x1bPq#0", 4107, true, "sixel  picture, 4102 bytes"),
+    ("\x1b", 1, false, "SOS  string: \"\\e\" (not closed)"),
+];
+
 #[test]
 fn tells_what_is_there(rt: HostRuntime) -> Result<(), Fail> {
-    for (front, len, closed, words) in [
-        (
-            "\x1b]0;tit",
-            7,
-            false,
-            "OSC 0  window title and icon name: \"tit\" (not closed)",
-        ),
-        (
-            "\x1b]0;tit",
-            5000,
-            true,
-            "OSC 0  window title and icon name: \"tit\"..",
-        ),
-        (
-            "\x1b]52;c;YWJj",
-            4107,
-            true,
-            "OSC 52  clipboard: about 3073 bytes",
-        ),
-        ("\x1bPq#0", 4107, true, "sixel  picture, 4102 bytes"),
-        ("\x1b", 1, false, "SOS  string: \"\\e\" (not closed)"),
-    ] {
+    for (front, len, closed, words) in &PARTS {
         let string = ControlString {
             front: front.as_bytes(),
-            len,
-            closed,
+            len: *len,
+            closed: *closed,
         };
         let told = string.to_string(rt.alloc())?;
-        assert_eq!(rt; told.as_str(), words);
+        assert!(rt; told.as_str() == *words, "{front:?}");
     }
     Ok(())
 }

@@ -1,4 +1,4 @@
-//! What the program writes of worked sequences, and of its own output.
+//! What `normalise` writes of worked sequences, and of its own output; and the lines of its errors.
 
 use csicodec_base::ReadError;
 use csicodec_streams::{DecodeError, RunError, normalise};
@@ -63,7 +63,7 @@ static ROWS: [(&str, &str); 43] = [
     ("\x1b[+z", "\x1b[+z"),
 ];
 
-/// What the program writes of the bytes.
+/// What is written of the bytes.
 fn normal(alloc: Global, bytes: &[u8]) -> Result<Vec<u8>, Fail> {
     let mut input = bytes;
     let mut output = Vec::new(alloc);
@@ -76,7 +76,7 @@ fn twice_is_once(rt: HostRuntime) -> Result<(), Fail> {
     let mut all = Vec::new(rt.alloc());
     for (bytes, text) in &ROWS {
         let once = normal(rt.alloc(), bytes.as_bytes())?;
-        assert_eq!(rt; once.as_slice(), text.as_bytes(), "{bytes:?}");
+        assert!(rt; once.as_slice() == text.as_bytes(), "{bytes:?}");
         all.extend_from_slice(bytes.as_bytes())?;
     }
     let once = normal(rt.alloc(), &all)?;
@@ -85,45 +85,68 @@ fn twice_is_once(rt: HostRuntime) -> Result<(), Fail> {
     Ok(())
 }
 
-/// What the program writes of each error behind its name, and its status.
+/// Each error, what the program writes of it behind its name, and the status that it ends with.
+static ERRORS: [(RunError, &str, u8); 10] = [
+    (
+        RunError::Decode(DecodeError::Read {
+            start: 0,
+            error: ReadError::NotCsi { at: 1 },
+        }),
+        "byte 1: not a sequence",
+        1,
+    ),
+    (
+        RunError::Decode(DecodeError::Read {
+            start: 2,
+            error: ReadError::BadByte { at: 3 },
+        }),
+        "byte 5: bad byte",
+        1,
+    ),
+    (
+        RunError::Decode(DecodeError::Read {
+            start: 0,
+            error: ReadError::NumberTooLarge { at: 20 },
+        }),
+        "byte 20: number too large",
+        1,
+    ),
+    (
+        RunError::Decode(DecodeError::Read {
+            start: 3,
+            error: ReadError::Truncated { at: 3 },
+        }),
+        "byte 6: truncated",
+        1,
+    ),
+    (
+        RunError::Decode(DecodeError::Read {
+            start: usize::MAX,
+            error: ReadError::Truncated { at: usize::MAX },
+        }),
+        "byte 36893488147419103230: truncated",
+        1,
+    ),
+    (
+        RunError::Decode(DecodeError::Read {
+            start: 0,
+            error: ReadError::Memory,
+        }),
+        "no memory",
+        3,
+    ),
+    (RunError::Decode(DecodeError::Memory), "no memory", 3),
+    (RunError::Memory, "no memory", 3),
+    (RunError::Read, "read fault", 2),
+    (RunError::Write, "write fault", 2),
+];
+
 #[test]
 fn tells_each_error(rt: HostRuntime) -> Result<(), Fail> {
-    let refused = |start, error| RunError::Decode(DecodeError::Read { start, error });
-    for (error, line, status) in [
-        (
-            refused(0, ReadError::NotCsi { at: 1 }),
-            "byte 1: not a sequence",
-            1,
-        ),
-        (
-            refused(2, ReadError::BadByte { at: 3 }),
-            "byte 5: bad byte",
-            1,
-        ),
-        (
-            refused(0, ReadError::NumberTooLarge { at: 20 }),
-            "byte 20: number too large",
-            1,
-        ),
-        (
-            refused(3, ReadError::Truncated { at: 3 }),
-            "byte 6: truncated",
-            1,
-        ),
-        (
-            refused(usize::MAX, ReadError::Truncated { at: usize::MAX }),
-            "byte 36893488147419103230: truncated",
-            1,
-        ),
-        (RunError::Read, "read fault", 2),
-        (RunError::Write, "write fault", 2),
-        (RunError::Memory, "no memory", 3),
-        (RunError::Decode(DecodeError::Memory), "no memory", 3),
-        (refused(0, ReadError::Memory), "no memory", 3),
-    ] {
+    for (error, line, status) in &ERRORS {
         let told = error.to_string(rt.alloc())?;
-        assert_eq!(rt; told.as_str(), line);
-        assert_eq!(rt; error.status(), status, "at {line}");
+        assert!(rt; told.as_str() == *line, "{line}");
+        assert!(rt; error.status() == *status, "{line}");
     }
     Ok(())
 }

@@ -1,0 +1,9 @@
+//! One module a library.
+
+mod explain;
+mod normal_forms;
+mod readings;
+mod shortest;
+mod strings;
+mod untrusted;
+mod words;

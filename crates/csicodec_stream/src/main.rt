@@ -8,7 +8,7 @@ mod report;
 
 use command::{Command, Run, Task, USAGE, VERSION, Wrong, command_of};
 use csicodec_compact::Compact;
-use csicodec_filter::{NormalForm, filter_all};
+use csicodec_filter::{Faithful, NormalForm, filter_all};
 use csicodec_page::{Explainer, LIMIT};
 use csicodec_safe::{Depth, clean_all_in, strip_all};
 use csicodec_streams::RunError;
@@ -46,7 +46,7 @@ impl Write for Output {
 /// What is made of one input after the other.
 #[derive(Drop)]
 enum Work<'a> {
-    Filter,
+    Filter { faithful: bool },
     Compact { semicolons: bool },
     Strip,
     Clean { depth: Depth },
@@ -56,7 +56,9 @@ enum Work<'a> {
 impl<'a> Work<'a> {
     fn new(rt: &HostRuntime, run: &Run<'a>) -> Work<'a> {
         match run.task {
-            Task::Filter => Work::Filter,
+            Task::Filter => Work::Filter {
+                faithful: run.faithful,
+            },
             Task::Compact => Work::Compact {
                 semicolons: run.semicolons,
             },
@@ -74,7 +76,12 @@ impl<'a> Work<'a> {
         output: &mut Output,
     ) -> Result<(), RunError> {
         match self {
-            Work::Filter => filter_all(alloc, LIMIT, NormalForm::new(alloc), input, output),
+            Work::Filter { faithful: true } => {
+                filter_all(alloc, LIMIT, Faithful::new(alloc), input, output)
+            }
+            Work::Filter { .. } => {
+                filter_all(alloc, LIMIT, NormalForm::new(alloc), input, output)
+            }
             Work::Compact { semicolons } => {
                 let rule = if *semicolons {
                     Compact::with_semicolons(alloc)

@@ -73,6 +73,21 @@ impl<'a> Explainer<'a> {
         self.page.close()
     }
 
+    /// The next bytes, which came at this time, in microseconds from the begin. The lines of all spans that are over are written
+    /// and flushed. `RunError::Decode` never comes, nor `RunError::Read`.
+    pub fn take<W: Write>(
+        &mut self,
+        time: u64,
+        bytes: &[u8],
+        output: &mut W,
+    ) -> Result<(), RunError> {
+        self.page.come_at(time, self.pending.is_empty());
+        self.push(bytes).map_err(|_| RunError::Memory)?;
+        send(output, self.page.lines())?;
+        self.page.clear();
+        Ok(())
+    }
+
     /// Reads to the end of an input. After each read the lines of all spans that are over are written and flushed. A read that a
     /// signal interrupted is tried again. `RunError::Decode` never comes.
     pub fn read<R: Read, W: Write>(
@@ -86,9 +101,7 @@ impl<'a> Explainer<'a> {
             if len == 0 {
                 return Ok(());
             }
-            self.push(&chunk[..len]).map_err(|_| RunError::Memory)?;
-            send(output, self.page.lines())?;
-            self.page.clear();
+            self.take(0, &chunk[..len], output)?;
         }
         Err(RunError::Read)
     }
@@ -97,9 +110,9 @@ impl<'a> Explainer<'a> {
     pub fn end<W: Write>(&mut self, output: &mut W) -> Result<(), RunError> {
         self.finish().map_err(|_| RunError::Memory)?;
         send(output, self.page.lines())?;
-        match self.page.totals() {
-            Some(totals) => {
-                let told = totals.to_string(self.alloc).map_err(|_| RunError::Memory)?;
+        match self.page.counts() {
+            Some(counts) => {
+                let told = counts.to_string(self.alloc).map_err(|_| RunError::Memory)?;
                 send(output, told.as_bytes())
             }
             None => Ok(()),

@@ -1,7 +1,7 @@
 //! Spans as objects of JSON (RFC 8259), a line each.
 
-use crate::line::Told;
-use crate::style::name_of;
+use crate::line::{Told, append_time};
+use crate::style::{Style, name_of};
 use csicodec_spans::Kind;
 use csicodec_strings::is_seen;
 use std::alloc::AllocError;
@@ -64,34 +64,63 @@ fn write_hex(out: &mut String, bytes: &[u8]) -> Result<(), AllocError> {
     out.push('"')
 }
 
-/// The begin of an object: where the span stands, what it is, and its bytes.
+/// The begin of an object: where the span stands, and when it came, if that is told.
+pub fn append_begin_object(
+    text: &mut Vec<u8>,
+    buffer: &mut String,
+    style: &Style<'_>,
+    time: u64,
+    place: u64,
+) -> Result<(), AllocError> {
+    buffer.clear();
+    write!(buffer, "{{\"at\":{place}")?;
+    text.extend_from_slice(buffer.as_bytes())?;
+    if style.timed {
+        text.extend_from_slice(b",\"time\":")?;
+        append_time(text, buffer, time, 0)?;
+    }
+    Ok(())
+}
+
+/// Bytes, as text where they are UTF-8; the names of both members.
+fn write_bytes(
+    out: &mut String,
+    bytes: &[u8],
+    text: &'static str,
+    hex: &'static str,
+) -> Result<(), AllocError> {
+    match std::str::from_utf8(bytes) {
+        Ok(bytes) => {
+            out.push_str(text)?;
+            write_string(out, bytes)
+        }
+        Err(_) => {
+            out.push_str(hex)?;
+            write_hex(out, bytes)
+        }
+    }
+}
+
+/// What a span is, and its bytes.
 pub fn append_object(
     text: &mut Vec<u8>,
     buffer: &mut String,
     span: Told<'_>,
     control: bool,
 ) -> Result<(), AllocError> {
-    let (place, kind) = (span.place, kind_name(span.kind, control));
+    let kind = kind_name(span.kind, control);
     buffer.clear();
-    write!(buffer, "{{\"at\":{place},\"kind\":\"{kind}\",")?;
-    match std::str::from_utf8(span.bytes) {
-        Ok(bytes) => {
-            buffer.push_str("\"text\":")?;
-            write_string(buffer, bytes)?;
-        }
-        Err(_) => {
-            buffer.push_str("\"hex\":")?;
-            write_hex(buffer, span.bytes)?;
-        }
-    }
+    write!(buffer, ",\"kind\":\"{kind}\",")?;
+    write_bytes(buffer, span.bytes, "\"text\":", "\"hex\":")?;
     text.extend_from_slice(buffer.as_bytes())
 }
 
-/// An action of an object: its name and its words.
+/// An action of an object: its name, its words, and its fields.
 pub fn append_action(
     text: &mut Vec<u8>,
     buffer: &mut String,
     words: &str,
+    fields: &[u8],
     first: bool,
 ) -> Result<(), AllocError> {
     let (name, words) = name_of(words);
@@ -104,8 +133,22 @@ pub fn append_action(
     write_string(buffer, name)?;
     buffer.push_str(",\"words\":")?;
     write_string(buffer, words)?;
-    buffer.push('}')?;
-    text.extend_from_slice(buffer.as_bytes())
+    text.extend_from_slice(buffer.as_bytes())?;
+    text.extend_from_slice(fields)?;
+    Ok(text.push(b'}')?)
+}
+
+/// What stands in the only action of a span, decoded: a member of that action.
+pub fn append_decoded(
+    text: &mut Vec<u8>,
+    buffer: &mut String,
+    bytes: &[u8],
+) -> Result<(), AllocError> {
+    buffer.clear();
+    write_bytes(buffer, bytes, ",\"decoded\":", ",\"decoded_hex\":")?;
+    text.truncate(text.len().saturating_sub(1));
+    text.extend_from_slice(buffer.as_bytes())?;
+    Ok(text.push(b'}')?)
 }
 
 /// The end of an object.

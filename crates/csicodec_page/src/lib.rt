@@ -2,10 +2,14 @@
 #![tactic(auto)]
 
 mod controls;
+mod decoded;
 mod escape;
 mod explain;
+mod fields;
 mod json;
+mod known;
 mod line;
+mod names;
 mod page;
 mod sheet;
 mod style;

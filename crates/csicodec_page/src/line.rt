@@ -1,19 +1,39 @@
-//! The begin of a line: where a span stands, and its bytes.
+//! The begin of a line: when and where a span came, and its bytes.
 
 use crate::escape::append_escaped;
+use crate::style::Style;
 use csicodec_spans::Kind;
 use csicodec_strings::Quoted;
+use itoa::write_digits;
 use std::alloc::AllocError;
 use std::fmt::Write;
 
 /// How many bytes of a span are shown at most.
-pub const SHOWN: usize = 60;
+const SHOWN: usize = 60;
 
-/// Where the words of a line begin, counted from 0: behind ten columns for the place, and those for the bytes.
-const WORDS: usize = 36;
+/// How many columns the bytes have, behind those of the time and the place.
+const BYTES: usize = 26;
 
-/// So many blanks as stand ahead of the words.
-const BLANKS: &[u8; 36] = b"                                    ";
+/// How many columns the place has.
+const PLACE: usize = 10;
+
+/// How many columns the time has, where it is told.
+const TIME: usize = 14;
+
+/// As many blanks as stand ahead of the words of a line.
+const BLANKS: &[u8; 50] = b"                                                  ";
+
+/// The colour of a time and a place: bright black.
+pub const GREY: &[u8; 5] = b"\x1b[90m";
+
+/// The colour of bytes.
+pub const GREEN: &[u8; 5] = b"\x1b[32m";
+
+/// The colour of a name.
+pub const CYAN: &[u8; 5] = b"\x1b[36m";
+
+/// No colour.
+pub const PLAIN: &[u8; 3] = b"\x1b[m";
 
 /// A span of which the first bytes are there.
 #[derive(Clone, Copy)]
@@ -22,15 +42,64 @@ pub struct Told<'a> {
     pub kind: Kind,
     /// The place of its first byte in the stream, counted from 0.
     pub place: u64,
+    /// When that byte came, in microseconds.
+    pub time: u64,
     /// Its bytes, or the first of them.
     pub bytes: &'a [u8],
     /// How many bytes it has.
     pub len: u64,
 }
 
-/// Blanks up to the words of a line of so many columns.
-pub fn pad(text: &mut Vec<u8>, columns: usize) -> Result<(), AllocError> {
-    text.extend_from_slice(BLANKS.get(columns..).unwrap_or(&[]))
+/// So many blanks, 50 at most.
+fn append_blanks(text: &mut Vec<u8>, count: usize) -> Result<(), AllocError> {
+    text.extend_from_slice(BLANKS.get(..count).unwrap_or(BLANKS))
+}
+
+/// Begins a colour, where lines have colours.
+pub fn paint(text: &mut Vec<u8>, style: &Style<'_>, color: &[u8]) -> Result<(), AllocError> {
+    if style.color {
+        text.extend_from_slice(color)
+    } else {
+        Ok(())
+    }
+}
+
+/// A number in decimal digits, with blanks ahead of it where it has fewer than eight, and two blanks behind it.
+fn append_place(text: &mut Vec<u8>, place: u64) -> Result<(), AllocError> {
+    let mut line = [b' '; 22];
+    let begin = write_digits(place, &mut line, 20);
+    text.extend_from_slice(&line[begin.min(12)..])
+}
+
+/// A time in seconds, to the microsecond.
+pub fn append_time(
+    text: &mut Vec<u8>,
+    buffer: &mut String,
+    time: u64,
+    columns: usize,
+) -> Result<(), AllocError> {
+    let (seconds, fraction) = (time / 1_000_000, time % 1_000_000);
+    buffer.clear();
+    write!(buffer, "{seconds}.{fraction:06}")?;
+    append_blanks(text, columns.saturating_sub(buffer.len()))?;
+    text.extend_from_slice(buffer.as_bytes())
+}
+
+/// When a span came, if that is told, and where it begins: `    1.500000        7  `.
+pub fn append_begin(
+    text: &mut Vec<u8>,
+    buffer: &mut String,
+    style: &Style<'_>,
+    time: u64,
+    place: u64,
+) -> Result<(), AllocError> {
+    paint(text, style, GREY)?;
+    if style.timed {
+        append_time(text, buffer, time, TIME.saturating_sub(2))?;
+        append_blanks(text, 2)?;
+    }
+    append_place(text, place)?;
+    paint(text, style, GREEN)
 }
 
 /// The bytes without a character at the end that isn't whole.
@@ -56,11 +125,11 @@ fn append_shown(
     let near = span.bytes.get(..most);
     let front = near.unwrap_or(span.bytes);
     let more = (front.len() as u64) < span.len;
-    quoted.clear();
     let begin = text.len();
     let columns = if span.kind == Kind::Text {
         let bytes = if more { whole_characters(front) } else { front };
         let shown = Quoted { bytes, more: false };
+        quoted.clear();
         write!(quoted, "{shown}")?;
         text.extend_from_slice(quoted.as_bytes())?;
         quoted.chars().count()
@@ -78,23 +147,33 @@ fn append_shown(
     Ok(columns.saturating_add(quoted.len()))
 }
 
-/// The begin of a line, up to its words: the place, and the bytes, with `..` where more follow and how many there are. Where they
-/// leave no room for two blanks, the words have a line of their own.
-pub fn append_head(
+/// The blanks ahead of the words of a line that begins with no span.
+pub fn append_margin(text: &mut Vec<u8>, style: &Style<'_>) -> Result<(), AllocError> {
+    let front = PLACE.saturating_add(BYTES);
+    append_blanks(
+        text,
+        if style.timed {
+            front.saturating_add(TIME)
+        } else {
+            front
+        },
+    )
+}
+
+/// The bytes of a span, up to the words: with `..` where more follow and how many there are. Where they leave no room for two
+/// blanks, the words have a line of their own.
+pub fn append_bytes(
     text: &mut Vec<u8>,
     quoted: &mut String,
+    style: &Style<'_>,
     span: Told<'_>,
-    most: usize,
 ) -> Result<(), AllocError> {
-    let place = span.place;
-    quoted.clear();
-    write!(quoted, "{place:>8}  ")?;
-    text.extend_from_slice(quoted.as_bytes())?;
-    let place_columns = quoted.len();
-    let columns = append_shown(text, quoted, span, most)?.saturating_add(place_columns);
-    if columns.saturating_add(2) > WORDS {
+    let most = if style.full { usize::MAX } else { SHOWN };
+    let columns = append_shown(text, quoted, span, most)?;
+    paint(text, style, PLAIN)?;
+    if columns.saturating_add(2) > BYTES {
         text.push(b'\n')?;
-        return pad(text, 0);
+        return append_margin(text, style);
     }
-    pad(text, columns)
+    append_blanks(text, BYTES.saturating_sub(columns))
 }

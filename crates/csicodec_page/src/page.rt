@@ -1,10 +1,11 @@
 //! The spans of a stream, each told when it is over.
 
 use crate::controls::{control_words, is_control};
+use crate::decoded::clipboard_bytes;
 use crate::line::Told;
 use crate::sheet::Sheet;
 use crate::style::Style;
-use crate::totals::Totals;
+use crate::totals::{Counts, Totals};
 use csicodec_base::{CsiParam, Esc};
 use csicodec_parser::CSI;
 use csicodec_readings::{EscReading, LongEscReading, Reading};
@@ -18,8 +19,9 @@ use std::fmt;
 #[derive(Drop)]
 struct Open {
     kind: Kind,
-    /// Its first byte, counted from 0.
+    /// Its first byte, counted from 0, and when that came.
     place: u64,
+    time: u64,
     /// How many bytes there are; 0 where no span is open.
     len: u64,
     /// Whether a string is closed.
@@ -35,6 +37,9 @@ pub struct Page<'a> {
     alloc: Global,
     sheet: Sheet<'a>,
     place: u64,
+    /// When the byte at the place came, and when those that are read now did, in microseconds.
+    time: u64,
+    now: u64,
     open: Open,
     /// Whether the last span was text.
     text: bool,
@@ -95,6 +100,17 @@ impl fmt::Display for Counted {
     }
 }
 
+/// An escape sequence by the names of its types: `Esc(Code(DecSaveCursorPosition))`.
+#[derive(Clone, Copy)]
+struct Named(Esc);
+
+impl fmt::Debug for Named {
+    fn fmt<W: fmt::Write>(&self, f: &mut fmt::Formatter<W>) -> fmt::Result {
+        let esc = self.0;
+        write!(f, "Esc({esc:?})")
+    }
+}
+
 impl<'a> Page<'a> {
     /// No line.
     pub fn new(alloc: Global, style: Style<'a>) -> Page<'a> {
@@ -102,9 +118,12 @@ impl<'a> Page<'a> {
             alloc,
             sheet: Sheet::new(alloc, style),
             place: 0,
+            time: 0,
+            now: 0,
             open: Open {
                 kind: Kind::Text,
                 place: 0,
+                time: 0,
                 len: 0,
                 closed: false,
                 front: Vec::new(alloc),
@@ -125,18 +144,23 @@ impl<'a> Page<'a> {
     }
 
     /// How much came, if that is asked for.
-    pub fn totals(&self) -> Option<Totals> {
-        if self.sheet.style().count {
-            Some(self.totals)
-        } else {
-            None
+    pub fn counts(&self) -> Option<Counts<'_>> {
+        let style = self.sheet.style();
+        if !style.count {
+            return None;
         }
+        Some(Counts {
+            totals: self.totals,
+            names: self.sheet.names(),
+            json: style.json,
+        })
     }
 
     /// So many bytes came.
     fn advance(&mut self, kind: Kind, spans: u64, len: usize) {
         let len = len as u64;
         self.place = self.place.saturating_add(len);
+        self.time = self.now;
         self.totals.add(kind, spans, len);
     }
 
@@ -156,6 +180,7 @@ impl<'a> Page<'a> {
         let span = Told {
             kind,
             place: self.open.place,
+            time: self.open.time,
             bytes: front,
             len,
         };
@@ -173,6 +198,11 @@ impl<'a> Page<'a> {
                     closed: self.open.closed,
                 };
                 self.sheet.add(span, &string)?;
+                if self.sheet.style().decode {
+                    if let Some(bytes) = clipboard_bytes(self.alloc, front)? {
+                        self.sheet.add_decoded(span, &bytes)?;
+                    }
+                }
             }
             Kind::Csi | Kind::Esc | Kind::Other => match escape {
                 Some(reading) => {
@@ -187,21 +217,31 @@ impl<'a> Page<'a> {
         Ok(())
     }
 
-    /// A control sequence of these tokens before this final character: a line for each of its actions.
-    pub fn add_sequence(
+    /// The bytes that come now came at this time, in microseconds, and the first of those that are not told yet too, if none of
+    /// them came before.
+    pub fn come_at(&mut self, time: u64, first: bool) {
+        self.now = time;
+        if first {
+            self.time = time;
+        }
+    }
+
+    /// A line for each action of a control sequence; how many they are.
+    fn tell_sequence(
         &mut self,
         bytes: &[u8],
         params: &[CsiParam],
         control: char,
-    ) -> Result<(), AllocError> {
-        self.close()?;
+    ) -> Result<u64, AllocError> {
         let span = Told {
             kind: Kind::Csi,
             place: self.place,
+            time: self.time,
             bytes,
             len: bytes.len() as u64,
         };
         self.sheet.begin(span, false)?;
+        let mut count = 0u64;
         for action in CSI::parse(self.alloc, params, false, control) {
             let action = action?;
             let reading = Reading {
@@ -209,10 +249,27 @@ impl<'a> Page<'a> {
                 params,
                 control,
             };
-            self.sheet.add(span, &Described(&reading))?;
-            self.totals.add_action();
+            self.sheet.add_action(span, &Described(&reading), &action)?;
+            count = count.saturating_add(1);
         }
         self.sheet.end()?;
+        self.sheet.keep(bytes, count)?;
+        Ok(count)
+    }
+
+    /// A control sequence of these tokens before this final character.
+    pub fn add_sequence(
+        &mut self,
+        bytes: &[u8],
+        params: &[CsiParam],
+        control: char,
+    ) -> Result<(), AllocError> {
+        self.close()?;
+        let actions = match self.sheet.recall(self.time, self.place, bytes)? {
+            Some(actions) => actions,
+            None => self.tell_sequence(bytes, params, control)?,
+        };
+        self.totals.add_actions(actions);
         self.text = false;
         self.advance(Kind::Csi, 1, bytes.len());
         Ok(())
@@ -224,12 +281,14 @@ impl<'a> Page<'a> {
         let span = Told {
             kind: Kind::Esc,
             place: self.place,
+            time: self.time,
             bytes,
             len: bytes.len() as u64,
         };
         self.sheet.begin(span, false)?;
-        let reading = EscReading(escape_of(bytes));
-        self.sheet.add(span, &Described(&reading))?;
+        let esc = escape_of(bytes);
+        self.sheet
+            .add_action(span, &Described(&EscReading(esc)), &Named(esc))?;
         self.sheet.end()?;
         self.text = false;
         self.advance(Kind::Esc, 1, bytes.len());
@@ -243,6 +302,7 @@ impl<'a> Page<'a> {
         let span = Told {
             kind: Kind::Other,
             place: self.place,
+            time: self.time,
             bytes: &bytes,
             len: 1,
         };
@@ -261,10 +321,10 @@ impl<'a> Page<'a> {
             self.close()?;
             self.open.kind = kind;
             self.open.place = self.place;
+            self.open.time = self.time;
             self.open.front.clear();
         }
-        let style = self.sheet.style();
-        let most = if style.full || style.json {
+        let most = if self.sheet.style().holds_all() {
             usize::MAX
         } else {
             FRONT

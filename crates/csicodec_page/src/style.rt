@@ -11,6 +11,12 @@ pub struct Style<'a> {
     pub count: bool,
     /// Only what isn't known, and what is malformed.
     pub unknown: bool,
+    /// Text in base64 is decoded; a string is held until it is over.
+    pub decode: bool,
+    /// Lines have colours.
+    pub color: bool,
+    /// When each span came is told.
+    pub timed: bool,
     /// Only what has one of these names, with commas between them.
     pub only: Option<&'a str>,
 }
@@ -31,6 +37,11 @@ impl<'a> Style<'a> {
     /// Whether all spans are told.
     pub fn tells_all(&self) -> bool {
         !self.unknown && self.only.is_none()
+    }
+
+    /// Whether a span is held until it is over, so that all its bytes are there.
+    pub fn holds_all(&self) -> bool {
+        self.full || self.json || self.decode
     }
 
     /// Whether this is told.

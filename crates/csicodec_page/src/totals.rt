@@ -1,5 +1,6 @@
 //! How much of a stream is what.
 
+use crate::names::Names;
 use csicodec_spans::Kind;
 use std::fmt;
 
@@ -49,9 +50,44 @@ impl Totals {
         self.escapes.add(1, bytes);
     }
 
-    /// One action more.
-    pub fn add_action(&mut self) {
-        self.actions = self.actions.saturating_add(1);
+    /// So many actions more.
+    pub fn add_actions(&mut self, count: u64) {
+        self.actions = self.actions.saturating_add(count);
+    }
+}
+
+/// All that is counted, as an object of JSON where that is asked for.
+#[derive(Clone, Copy)]
+pub struct Counts<'a> {
+    /// The kinds of spans.
+    pub totals: Totals,
+    /// The names of what they do.
+    pub names: &'a Names,
+    /// Whether it is JSON.
+    pub json: bool,
+}
+
+impl<'a> fmt::Display for Counts<'a> {
+    fn fmt<W: fmt::Write>(&self, f: &mut fmt::Formatter<W>) -> fmt::Result {
+        let (totals, names) = (self.totals, self.names);
+        if !self.json {
+            return write!(f, "{totals}{names}");
+        }
+        f.write_str("{\"kind\":\"totals\"")?;
+        for (name, total) in [
+            ("text", totals.text),
+            ("csi", totals.sequences),
+            ("escape", totals.escapes),
+            ("string", totals.strings),
+            ("malformed", totals.malformed),
+        ] {
+            let (spans, bytes) = (total.spans, total.bytes);
+            write!(f, ",\"{name}\":{{\"spans\":{spans},\"bytes\":{bytes}}}")?;
+        }
+        let actions = totals.actions;
+        write!(f, ",\"actions\":{actions},\"names\":{{")?;
+        names.write_members(f)?;
+        f.write_str("}}\n")
     }
 }
 

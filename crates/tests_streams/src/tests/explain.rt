@@ -27,7 +27,7 @@ const LINES: &str = r#"       0  "a\xc3"                   text  2 bytes
 "#;
 
 const JSON: &str = r#"{"at":0,"kind":"text","hex":"61c3"}
-{"at":2,"kind":"csi","text":"\u001b[1;31m","actions":[{"name":"SGR","words":"bold on"},{"name":"SGR","words":"foreground red"}]}
+{"at":2,"kind":"csi","text":"\u001b[1;31m","actions":[{"name":"SGR","words":"bold on","action":"Sgr::Intensity","value":"Bold"},{"name":"SGR","words":"foreground red","action":"Sgr::Foreground","value":{"PaletteIndex":1}}]}
 {"at":9,"kind":"text","text":"b"}
 {"at":10,"kind":"control","text":"\u0007","actions":[{"name":"BEL","words":"ring the bell"}]}
 {"at":11,"kind":"control","text":"\n","actions":[{"name":"LF","words":"cursor down 1 line, scrolling"}]}
@@ -39,7 +39,7 @@ const JSON: &str = r#"{"at":0,"kind":"text","hex":"61c3"}
 {"at":36,"kind":"text","text":"c"}
 {"at":37,"kind":"malformed","text":"\u001b[\u0007;","actions":[{"name":"malformed","words":"4 bytes"}]}
 {"at":41,"kind":"text","hex":"80"}
-{"at":42,"kind":"escape","text":"\u001b7","actions":[{"name":"DECSC","words":"save the cursor"}]}
+{"at":42,"kind":"escape","text":"\u001b7","actions":[{"name":"DECSC","words":"save the cursor","action":"Esc::Code","value":"DecSaveCursorPosition"}]}
 {"at":44,"kind":"malformed","text":"\u001b[3","actions":[{"name":"malformed","words":"3 bytes"}]}
 "#;
 
@@ -48,6 +48,9 @@ const PLAIN: Style<'static> = Style {
     json: false,
     count: false,
     unknown: false,
+    decode: false,
+    color: false,
+    timed: false,
     only: None,
 };
 
@@ -85,7 +88,7 @@ fn explains_any_chunks(rt: HostRuntime) -> Result<(), Fail> {
 }
 
 /// How a stream is told, the stream, and what is told of it.
-static ASKED: [(Style<'static>, &[u8], &str); 8] = [
+static ASKED: [(Style<'static>, &[u8], &str); 12] = [
     (
         Style {
             only: Some("osc 1,BEL"),
@@ -115,7 +118,7 @@ static ASKED: [(Style<'static>, &[u8], &str); 8] = [
             ..PLAIN
         },
         b"a\x1b[1m\x1b7",
-        r#"{"at":1,"kind":"csi","text":"\u001b[1m","actions":[{"name":"SGR","words":"bold on"}]}
+        r#"{"at":1,"kind":"csi","text":"\u001b[1m","actions":[{"name":"SGR","words":"bold on","action":"Sgr::Intensity","value":"Bold"}]}
 "#,
     ),
     (
@@ -152,6 +155,47 @@ static ASKED: [(Style<'static>, &[u8], &str); 8] = [
         b"\x1b$(B",
         r#"{"at":0,"kind":"escape","text":"\u001b$(B","actions":[{"name":"SCS","words":"G0: JIS X 0208 (no action)"}]}
 "#,
+    ),
+    (
+        Style {
+            json: true,
+            ..PLAIN
+        },
+        b"\x1b[3;5H\x1b[8;24t\x1b[58:2::1:2:3m\x1b[0 \\",
+        r#"{"at":0,"kind":"csi","text":"\u001b[3;5H","actions":[{"name":"CUP","words":"cursor to line 3, column 5","action":"Cursor::Position","line":3,"col":5}]}
+{"at":6,"kind":"csi","text":"\u001b[8;24t","actions":[{"name":"XTWINOPS","words":"resize the text area, in cells: width as it is, height 24 (or answer: its size)","action":"Window::ResizeWindowCells","width":null,"height":24}]}
+{"at":13,"kind":"csi","text":"\u001b[58:2::1:2:3m","actions":[{"name":"SGR","words":"underline colour rgb 1,2,3","action":"Sgr::UnderlineColor","value":{"TrueColor":{"SrgbaTuple":[1,2,3,255]}}}]}
+{"at":27,"kind":"csi","text":"\u001b[0 \\","actions":[{"name":"SACS","words":"additional character separation: 0 (no action)","action":"Unspecified","params":[{"Integer":0},{"P":32}],"parameters_truncated":false,"control":"\\"}]}
+"#,
+    ),
+    (
+        Style {
+            decode: true,
+            ..PLAIN
+        },
+        b"\x1b]52;c;aGVsbG8=\x07",
+        r#"       0  \e]52;c;aGVsbG8=\x07      OSC 52  clipboard: 5 bytes
+                                    OSC 52  text: "hello"
+"#,
+    ),
+    (
+        Style {
+            decode: true,
+            json: true,
+            ..PLAIN
+        },
+        b"\x1b]52;c;aGVsbG8=\x1b\\\x1b]52;c;?\x07",
+        r#"{"at":0,"kind":"string","text":"\u001b]52;c;aGVsbG8=\u001b\\","actions":[{"name":"OSC 52","words":"clipboard: 5 bytes","decoded":"hello"}]}
+{"at":17,"kind":"string","text":"\u001b]52;c;?\u0007","actions":[{"name":"OSC 52","words":"ask for the clipboard"}]}
+"#,
+    ),
+    (
+        Style {
+            color: true,
+            ..PLAIN
+        },
+        b"\x1b[1m\x1b[1m",
+        "\x1b[90m       0  \x1b[32m\\e[1m\x1b[m                     \x1b[36mSGR\x1b[m  bold on\n\x1b[90m       4  \x1b[32m\\e[1m\x1b[m                     \x1b[36mSGR\x1b[m  bold on\n",
     ),
     (
         PLAIN,
@@ -201,7 +245,46 @@ control sequences          0            0 bytes
 escape sequences           0            0 bytes
 strings                    0            0 bytes
 malformed                  0            0 bytes
+  text                     1
 "#;
     assert!(rt; output.as_slice() == lines.as_bytes());
+    Ok(())
+}
+
+#[test]
+fn tells_when_and_how_often(rt: HostRuntime) -> Result<(), Fail> {
+    let style = Style {
+        timed: true,
+        ..PLAIN
+    };
+    let mut output = Vec::new(rt.alloc());
+    let mut explainer = Explainer::new(rt.alloc(), style);
+    for (time, bytes) in [
+        (1_500_000, b"a\x1b[".as_slice()),
+        (62_000_007, b"1m\x1b[1m".as_slice()),
+    ] {
+        assert!(rt; explainer.take(time, bytes, &mut output).is_ok());
+    }
+    assert!(rt; explainer.end(&mut output).is_ok());
+    let lines = r#"    1.500000         0  "a"                       text  1 byte
+    1.500000         1  \e[1m                     SGR  bold on
+   62.000007         5  \e[1m                     SGR  bold on
+"#;
+    assert_eq!(rt; output.as_slice(), lines.as_bytes());
+    let style = Style {
+        json: true,
+        count: true,
+        only: Some("SGR"),
+        ..PLAIN
+    };
+    output.clear();
+    let mut explainer = Explainer::new(rt.alloc(), style);
+    assert!(rt; explainer.take(0, b"a\x1b[1;3m", &mut output).is_ok());
+    output.clear();
+    assert!(rt; explainer.end(&mut output).is_ok());
+    let totals =
+        r#"{"kind":"totals","text":{"spans":1,"bytes":1},"csi":{"spans":1,"bytes":6},"escape":{"spans":0,"bytes":0},"string":{"spans":0,"bytes":0},"malformed":{"spans":0,"bytes":0},"actions":2,"names":{"other names":0,"SGR":2}}
+"#;
+    assert_eq!(rt; output.as_slice(), totals.as_bytes());
     Ok(())
 }

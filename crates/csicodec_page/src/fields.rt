@@ -1,0 +1,246 @@
+//! The name and the fields of an action as members of an object of JSON, under the names of the Rust types: from its `Debug`
+//! text, which has them all.
+//!
+//! ```text
+//! Cursor(Position { line: OneBased { value: 3 }, col: OneBased { value: 5 } })    "action":"Cursor::Position","line":3,"col":5
+//! Sgr(Foreground(PaletteIndex(9)))                                                "action":"Sgr::Foreground","value":{"PaletteIndex":9}
+//! Cursor(SaveCursor)                                                              "action":"Cursor::SaveCursor"
+//! ```
+//!
+//! A struct of one field stands as that field's value, `Some(x)` as `x`, `None` as `null`, a name alone and a character as a text.
+
+use std::alloc::{AllocError, Global};
+
+/// What closes something.
+#[derive(Clone, Copy)]
+enum Closer {
+    Nothing,
+    Brace,
+    Bracket,
+    Both,
+}
+
+impl Closer {
+    fn append_to(self, out: &mut Vec<u8>) -> Result<(), AllocError> {
+        match self {
+            Closer::Nothing => Ok(()),
+            Closer::Brace => Ok(out.push(b'}')?),
+            Closer::Bracket => Ok(out.push(b']')?),
+            Closer::Both => out.extend_from_slice(b"]}"),
+        }
+    }
+}
+
+/// A `Debug` text that is written as JSON, byte by byte.
+#[derive(Drop)]
+pub struct Fields {
+    out: Vec<u8>,
+    /// The word that is read: a name, a number or a character between its marks.
+    word: Vec<u8>,
+    /// What closes all that is open, the innermost last.
+    closers: Vec<Closer>,
+    /// Whether a character's mark was opened.
+    marked: bool,
+    /// Whether the name of the next field is left out.
+    bare: bool,
+}
+
+/// Whether a byte is of a name or a number.
+fn is_word(byte: u8) -> bool {
+    byte.is_ascii_alphanumeric() || byte == b'_' || byte == b'-'
+}
+
+/// The name in front, and what is behind it.
+fn name_front(text: &[u8]) -> (&[u8], &[u8]) {
+    match text.iter().position(|byte| !is_word(*byte)) {
+        Some(at) => text.split_at(at),
+        None => (text, &[]),
+    }
+}
+
+/// Whether a comma stands in what is open in front of these bytes, and not deeper.
+fn has_comma(text: &[u8]) -> bool {
+    let mut depth = 0u32;
+    let mut marked = false;
+    for byte in text {
+        match *byte {
+            b'\'' => marked = !marked,
+            _ if marked => {}
+            b'(' | b'[' | b'{' => depth = depth.saturating_add(1),
+            b')' | b']' | b'}' => {
+                if depth == 0 {
+                    return false;
+                }
+                depth = depth.saturating_sub(1);
+            }
+            b',' if depth == 0 => return true,
+            _ => {}
+        }
+    }
+    false
+}
+
+/// The names of an action, the second nothing where it has one, and what stands behind them.
+fn names_front(text: &[u8]) -> (&[u8], &[u8], &[u8]) {
+    let (first, behind) = name_front(text);
+    let Some(inner) = behind.strip_prefix(b"(".as_slice()) else {
+        return (first, &[], behind);
+    };
+    let (second, rest) = name_front(inner);
+    if second.is_empty() || rest.first().copied() == Some(b',') {
+        return (first, &[], behind);
+    }
+    let rest = rest.strip_suffix(b")".as_slice()).unwrap_or(rest);
+    if second == first {
+        (first, &[], rest)
+    } else {
+        (first, second, rest)
+    }
+}
+
+impl Fields {
+    /// Nothing is written.
+    pub fn new(alloc: Global) -> Fields {
+        Fields {
+            out: Vec::new(alloc),
+            word: Vec::new(alloc),
+            closers: Vec::new(alloc),
+            marked: false,
+            bare: false,
+        }
+    }
+
+    /// What is written: members of an object, each with a comma ahead of it.
+    pub fn as_slice(&self) -> &[u8] {
+        &self.out
+    }
+
+    /// Takes away what was written.
+    pub fn clear(&mut self) {
+        self.out.clear();
+        self.word.clear();
+        self.closers.clear();
+        self.marked = false;
+        self.bare = false;
+    }
+
+    /// Writes the members of the action that has this `Debug` text.
+    pub fn write(&mut self, text: &[u8]) -> Result<(), AllocError> {
+        self.clear();
+        let (first, second, rest) = names_front(text);
+        self.out.extend_from_slice(b",\"action\":\"")?;
+        self.out.extend_from_slice(first)?;
+        if !second.is_empty() {
+            self.out.extend_from_slice(b"::")?;
+            self.out.extend_from_slice(second)?;
+        }
+        self.out.push(b'"')?;
+        if let Some(items) = rest.strip_prefix(b"(".as_slice()) {
+            self.out.extend_from_slice(b",\"value\":")?;
+            self.open(has_comma(items), b'[', Closer::Bracket)?;
+            return self.write_all(items);
+        }
+        match rest.strip_prefix(b" { ".as_slice()) {
+            Some(members) => {
+                self.out.push(b',')?;
+                self.closers.push(Closer::Nothing)?;
+                self.write_all(members)
+            }
+            None => Ok(()),
+        }
+    }
+
+    fn write_all(&mut self, text: &[u8]) -> Result<(), AllocError> {
+        for (at, byte) in text.iter().enumerate() {
+            let behind = text.get(at.saturating_add(1)..).unwrap_or(&[]);
+            self.step(*byte, behind)?;
+        }
+        Ok(())
+    }
+
+    /// Opens a list or an object, and remembers what closes it; if it isn't wanted, neither is written.
+    fn open(&mut self, wanted: bool, opener: u8, closer: Closer) -> Result<(), AllocError> {
+        if wanted {
+            self.out.push(opener)?;
+            Ok(self.closers.push(closer)?)
+        } else {
+            Ok(self.closers.push(Closer::Nothing)?)
+        }
+    }
+
+    /// The next byte of the text, and what is behind it.
+    fn step(&mut self, byte: u8, behind: &[u8]) -> Result<(), AllocError> {
+        if self.marked || byte == b'\'' || is_word(byte) {
+            if byte == b'\'' {
+                self.marked = !self.marked;
+            }
+            return Ok(self.word.push(byte)?);
+        }
+        match byte {
+            b'(' => self.open_tuple(has_comma(behind)),
+            b'{' => {
+                let several = has_comma(behind);
+                self.word.clear();
+                self.bare = !several;
+                self.open(several, b'{', Closer::Brace)
+            }
+            b'[' => self.open(true, b'[', Closer::Bracket),
+            b':' => self.write_key(),
+            b',' => {
+                self.write_word()?;
+                Ok(self.out.push(b',')?)
+            }
+            b')' | b'}' | b']' => {
+                self.write_word()?;
+                let closer = self.closers.pop().unwrap_or(Closer::Nothing);
+                closer.append_to(&mut self.out)
+            }
+            _ => Ok(()),
+        }
+    }
+
+    /// A variant with values: an object of its name, unless it is `Some`.
+    fn open_tuple(&mut self, several: bool) -> Result<(), AllocError> {
+        if self.word.as_slice() == b"Some".as_slice() {
+            self.word.clear();
+            return self.open(false, b'(', Closer::Nothing);
+        }
+        self.out.push(b'{')?;
+        self.write_word()?;
+        self.out.push(b':')?;
+        if several {
+            self.open(true, b'[', Closer::Both)
+        } else {
+            Ok(self.closers.push(Closer::Brace)?)
+        }
+    }
+
+    /// The name of a field.
+    fn write_key(&mut self) -> Result<(), AllocError> {
+        if self.bare {
+            self.bare = false;
+            self.word.clear();
+            return Ok(());
+        }
+        self.write_word()?;
+        Ok(self.out.push(b':')?)
+    }
+
+    /// The word that is read, as a value.
+    fn write_word(&mut self) -> Result<(), AllocError> {
+        let word = self.word.as_slice();
+        match word {
+            b"None" => self.out.extend_from_slice(b"null")?,
+            b"true" | b"false" | [b'0'..=b'9' | b'-', ..] => self.out.extend_from_slice(word)?,
+            [b'\'', inner @ .., b'\''] | inner => {
+                if !inner.is_empty() {
+                    self.out.push(b'"')?;
+                    self.out.extend_from_slice(inner)?;
+                    self.out.push(b'"')?;
+                }
+            }
+        }
+        self.word.clear();
+        Ok(())
+    }
+}

@@ -27,6 +27,17 @@ fn any_cut() {
 }
 
 #[test]
+fn fewer_bytes() {
+    let mut filter = Filter::compact(NonZeroUsize::new(65536).unwrap());
+    let mut out = Vec::new();
+    for part in [b"a\x1b[01;38:2::255:0:0m".as_slice(), b"b\x1b[1;", b"1H"] {
+        filter.push(part, &mut out).expect("memory");
+    }
+    filter.finish(&mut out);
+    assert_eq!(out, b"a\x1b[1;38;2;255;0;0mb\x1b[H");
+}
+
+#[test]
 fn long_sequences_pass() {
     assert_eq!(filtered(5, &[b"\x1b[0001A\x1b[01A"]), b"\x1b[0001A\x1b[A");
     // More than the first guess has room for.

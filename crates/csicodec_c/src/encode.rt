@@ -188,6 +188,7 @@ pub(crate) fn action(
 }
 
 /// The actions that the structs stand for, or which of these stands for none.
+#[inline(always)]
 #[tactic(auto, using(crate::proofs::Stand::stand_more_mapped))]
 pub(crate) fn actions_of(
     alloc: Global,
@@ -210,6 +211,7 @@ pub(crate) fn actions_of(
 }
 
 /// Their joined texts.
+#[inline(always)]
 fn texts_of(
     alloc: Global,
     plains: &[Plain],

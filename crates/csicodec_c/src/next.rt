@@ -201,7 +201,7 @@ pub extern "C" fn csicodec_next(
 ) -> Front
     ensures { IsDone bytes.now actions.old actions.new params.old params.new result ⊎ IsRefused bytes.now actions.old actions.new params.old params.new result }
 {
-    let mut room = [CsiParam::P(0); 32];
+    let mut room = [CsiParam::Integer(0); 32];
     let read = match read_csi_within(&mut room, bytes) {
         Ok(read) => read,
         Err(ReadError::Memory) => return next_long(alloc, bytes, actions, params),

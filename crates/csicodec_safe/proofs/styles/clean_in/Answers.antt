@@ -1,11 +1,11 @@
 use Rattle.std.proofs.Common.{ap}
 use Rattle.std.proofs.lemmas.Result.{IfOk-weaker}
-use Rattle.csicodec_safe.specs.declared.styles.Kept.{Kept}
-use Rattle.csicodec_safe.proofs.Styled.{keeping, styled, styles}
+use Rattle.csicodec_safe.specs.Styled.{Keeping}
+use Rattle.csicodec_safe.proofs.Styled.{styled, styles}
 use Rattle.csicodec_safe.proofs.styles.clean_in.Goals as goal
 
 pub returns-clause-exact : goal.returns-clause-exact
-returns-clause-exact c = IfOk-weaker c.clean_whole.result _ _ (λ out h. styles (λ (k : Kept). keeping k.depth k.styled) c.args.depth c.in_depth.result c.args.bytes.now out.items (ap (λ (k : Kept). keeping k.depth k.styled) c.in_depth.ensures) h) c.clean_whole.ensures
+returns-clause-exact c = IfOk-weaker c.clean_whole.result _ _ (λ out h. styles (λ (k : Keeping). k) c.args.depth c.in_depth.result c.args.bytes.now out.items (ap (λ (k : Keeping). k) c.in_depth.ensures) h) c.clean_whole.ensures
 
 pub returns-clause-safe : goal.returns-clause-safe
-returns-clause-safe c = IfOk-weaker c.clean_whole.result _ _ (λ out h. styled c.args.depth c.args.bytes.now out.items (styles (λ (k : Kept). keeping k.depth k.styled) c.args.depth c.in_depth.result c.args.bytes.now out.items (ap (λ (k : Kept). keeping k.depth k.styled) c.in_depth.ensures) h)) c.clean_whole.ensures
+returns-clause-safe c = IfOk-weaker c.clean_whole.result _ _ (λ out h. styled c.args.depth c.args.bytes.now out.items (styles (λ (k : Keeping). k) c.args.depth c.in_depth.result c.args.bytes.now out.items (ap (λ (k : Keeping). k) c.in_depth.ensures) h)) c.clean_whole.ensures

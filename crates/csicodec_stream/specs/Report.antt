@@ -1,5 +1,6 @@
 -- What the program tells of a run that failed.
 use Rattle.std.specs.Prelude.{ℕ, List, ◌++◌, codes}
+use Rattle.std.specs.Fmt.{decimal}
 use Rattle.csicodec_streams.specs.Words.{run_error_text, run_status}
 use Rattle.csicodec_stream.specs.declared.report.Failure.{Failure}
 use Rattle.csicodec_stream.specs.declared.report.Failure.TheVariants as failure
@@ -8,10 +9,12 @@ use Rattle.csicodec_stream.specs.declared.report.Failure.TheVariants as failure
 abbrev pub line : Failure → List ℕ
 line failure.Usage = codes "csicodec: not a command"
 line failure.Open = codes "csicodec: the file can't be opened"
+line (failure.Recording n) = codes "csicodec: line " ++ decimal n ++ codes ": not an asciicast of version 2 or 3"
 line (failure.Run error) = codes "csicodec: " ++ run_error_text error
 
 -- the status of each failure
 abbrev pub status : Failure → ℕ
 status failure.Usage = 64
 status failure.Open = 2
+status (failure.Recording _) = 1
 status (failure.Run error) = run_status error

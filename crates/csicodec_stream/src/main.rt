@@ -3,21 +3,25 @@
 //! with `explain` it tells in words what stands in a stream.
 #![tactic(auto)]
 
+mod cast;
 mod command;
 mod report;
+mod timing;
 
-use command::{Command, Run, Task, USAGE, VERSION, Wrong, command_of};
+use cast::{Stage, explain_cast, rewrite_cast};
+use command::{Color, Command, Run, Task, USAGE, VERSION, Wrong, command_of};
 use csicodec_compact::Compact;
-use csicodec_filter::{Faithful, NormalForm, filter_all};
-use csicodec_page::{Explainer, LIMIT};
-use csicodec_safe::{Depth, clean_all_in, strip_all};
+use csicodec_filter::{Faithful, Filter, NormalForm, filter_all};
+use csicodec_page::{Explainer, LIMIT, Style};
+use csicodec_safe::{Cleaner, Depth, Dropped, Kept, clean_all_in, strip_all};
 use csicodec_streams::RunError;
 use report::Failure;
 use std::alloc::Global;
 use std::env;
 use std::fs::File;
-use std::io::{self, ErrorKind, Read, Stdout, Write};
+use std::io::{self, BufReader, ErrorKind, IsTerminal, Read, Stdout, Write};
 use std::process::ExitCode;
+use timing::Timing;
 
 /// The name of standard input.
 const INPUT: &str = "-";
@@ -50,11 +54,57 @@ enum Work<'a> {
     Compact { semicolons: bool },
     Strip,
     Clean { depth: Depth },
-    Explain(Explainer<'a>),
+    Explain(Explained<'a>),
+}
+
+/// A stream in words, and the times of its pieces, where they are given.
+#[derive(Drop)]
+struct Explained<'a> {
+    explainer: Explainer<'a>,
+    timing: Option<Timing>,
+}
+
+impl<'a> Explained<'a> {
+    fn read<R: Read>(&mut self, input: &mut R, output: &mut Output) -> Result<(), Failure> {
+        match &mut self.timing {
+            Some(timing) => timing.explain_all(&mut self.explainer, input, output),
+            None => Ok(self.explainer.read(input, output)?),
+        }
+    }
+}
+
+/// The rule of `compact`.
+fn compact(alloc: Global, semicolons: bool) -> Compact {
+    if semicolons {
+        Compact::with_semicolons(alloc)
+    } else {
+        Compact::new(alloc)
+    }
+}
+
+/// How the streams of a run are explained: in colours if that is asked for, or where a terminal shows them to someone who didn't
+/// say by NO_COLOR that they aren't wanted.
+fn style_of<'a>(rt: &HostRuntime, run: &Run<'a>) -> Style<'a> {
+    let color = match run.color {
+        Color::Always => true,
+        Color::Never => false,
+        Color::Auto => rt.stdout().is_terminal() && env::var(rt, "NO_COLOR").is_err(),
+    };
+    let timed = run.timing.is_some() || run.files.iter().any(|name| is_cast(name));
+    Style {
+        color: color && !run.style.json,
+        timed,
+        ..run.style
+    }
+}
+
+/// Whether a file is a recording of asciinema, by its name.
+fn is_cast(name: &str) -> bool {
+    name.ends_with(".cast")
 }
 
 impl<'a> Work<'a> {
-    fn new(rt: &HostRuntime, run: &Run<'a>) -> Work<'a> {
+    fn new(rt: &HostRuntime, run: &Run<'a>, timing: Option<Timing>) -> Work<'a> {
         match run.task {
             Task::Filter => Work::Filter {
                 faithful: run.faithful,
@@ -64,7 +114,10 @@ impl<'a> Work<'a> {
             },
             Task::Strip => Work::Strip,
             Task::Clean => Work::Clean { depth: run.depth },
-            Task::Explain => Work::Explain(Explainer::new(rt.alloc(), run.style)),
+            Task::Explain => {
+                let explainer = Explainer::new(rt.alloc(), style_of(rt, run));
+                Work::Explain(Explained { explainer, timing })
+            }
         }
     }
 
@@ -74,32 +127,69 @@ impl<'a> Work<'a> {
         alloc: Global,
         input: &mut R,
         output: &mut Output,
-    ) -> Result<(), RunError> {
+    ) -> Result<(), Failure> {
         match self {
             Work::Filter { faithful: true } => {
-                filter_all(alloc, LIMIT, Faithful::new(alloc), input, output)
+                filter_all(alloc, LIMIT, Faithful::new(alloc), input, output)?;
+            }
+            Work::Filter { .. } => filter_all(alloc, LIMIT, NormalForm::new(alloc), input, output)?,
+            Work::Compact { semicolons } => {
+                filter_all(alloc, LIMIT, compact(alloc, *semicolons), input, output)?;
+            }
+            Work::Strip => strip_all(alloc, input, output)?,
+            Work::Clean { depth } => clean_all_in(alloc, *depth, input, output)?,
+            Work::Explain(explained) => explained.read(input, output)?,
+        }
+        Ok(())
+    }
+
+    /// What the data of a recording go through, unless they are explained.
+    fn stage(&self, alloc: Global) -> Option<Stage> {
+        match self {
+            Work::Filter { faithful: true } => {
+                let rule = Faithful::new(alloc);
+                Some(Stage::Faithful(Filter::new(alloc, LIMIT, rule)))
             }
             Work::Filter { .. } => {
-                filter_all(alloc, LIMIT, NormalForm::new(alloc), input, output)
+                let rule = NormalForm::new(alloc);
+                Some(Stage::Normal(Filter::new(alloc, LIMIT, rule)))
             }
             Work::Compact { semicolons } => {
-                let rule = if *semicolons {
-                    Compact::with_semicolons(alloc)
-                } else {
-                    Compact::new(alloc)
-                };
-                filter_all(alloc, LIMIT, rule, input, output)
+                let rule = compact(alloc, *semicolons);
+                Some(Stage::Short(Filter::new(alloc, LIMIT, rule)))
             }
-            Work::Strip => strip_all(alloc, input, output),
-            Work::Clean { depth } => clean_all_in(alloc, *depth, input, output),
-            Work::Explain(explainer) => explainer.read(input, output),
+            Work::Strip => Some(Stage::Plain(Cleaner::new(alloc, Dropped))),
+            Work::Clean { depth } => {
+                let rule = Kept::in_depth(alloc, *depth);
+                Some(Stage::Styled(Cleaner::new(alloc, rule)))
+            }
+            Work::Explain(_) => None,
+        }
+    }
+
+    /// Works on this recording of asciinema.
+    fn read_cast(
+        &mut self,
+        alloc: Global,
+        input: File,
+        output: &mut Output,
+    ) -> Result<(), Failure> {
+        let Ok(mut input) = BufReader::new(alloc, input) else {
+            return Err(Failure::Run(RunError::Memory));
+        };
+        if let Some(mut stage) = self.stage(alloc) {
+            return rewrite_cast(alloc, &mut stage, &mut input, output);
+        }
+        match self {
+            Work::Explain(it) => explain_cast(alloc, &mut it.explainer, &mut input, output),
+            _ => Ok(()),
         }
     }
 
     /// There are no more inputs.
     fn end(&mut self, output: &mut Output) -> Result<(), RunError> {
         match self {
-            Work::Explain(explainer) => explainer.end(output),
+            Work::Explain(explained) => explained.explainer.end(output),
             _ => Ok(()),
         }
     }
@@ -117,12 +207,23 @@ fn failed(rt: &HostRuntime, failure: Failure, name: &str) -> u8 {
 }
 
 /// Says what failed, unless who read the output went away: then there is nobody to tell.
-fn stopped(rt: &HostRuntime, error: RunError, name: &str, output: &Output) -> u8 {
-    let failure = Failure::Run(error);
+fn stopped(rt: &HostRuntime, failure: Failure, name: &str, output: &Output) -> u8 {
     if output.gone {
         failure.status()
     } else {
         failed(rt, failure, name)
+    }
+}
+
+/// Opens a file; the status, if that failed.
+fn opened(rt: &HostRuntime, name: &str) -> Result<File, u8> {
+    match File::open(rt, name) {
+        Ok(file) => Ok(file),
+        Err(error) => {
+            let failure = Failure::Open;
+            let _told = eprintln!(rt; "{failure}: {name}: {error}");
+            Err(failure.status())
+        }
     }
 }
 
@@ -136,23 +237,38 @@ fn work_on(
     let done = if name == INPUT {
         work.read(rt.alloc(), &mut rt.stdin(), output)
     } else {
-        match File::open(rt, name) {
-            Ok(mut input) => work.read(rt.alloc(), &mut input, output),
-            Err(error) => {
-                let failure = Failure::Open;
-                let _told = eprintln!(rt; "{failure}: {name}: {error}");
-                return Err(failure.status());
-            }
+        let mut input = opened(rt, name)?;
+        if is_cast(name) {
+            work.read_cast(rt.alloc(), input, output)
+        } else {
+            work.read(rt.alloc(), &mut input, output)
         }
     };
     match done {
         Ok(()) => Ok(()),
-        Err(error) => Err(stopped(rt, error, name, output)),
+        Err(failure) => Err(stopped(rt, failure, name, output)),
+    }
+}
+
+/// The times of a file that `script` wrote; the status, if it can't be read.
+fn times_of(rt: &HostRuntime, name: &str) -> Result<Timing, u8> {
+    let mut text = String::new(rt.alloc());
+    let mut file = opened(rt, name)?;
+    if file.read_to_string(&mut text).is_err() {
+        return Err(failed(rt, Failure::Run(RunError::Read), name));
+    }
+    match Timing::of(rt.alloc(), &text) {
+        Ok(timing) => Ok(timing),
+        Err(_) => Err(failed(rt, Failure::Run(RunError::Memory), name)),
     }
 }
 
 fn run(rt: &HostRuntime, run: &Run<'_>) -> Result<(), u8> {
-    let mut work = Work::new(rt, run);
+    let timing = match run.timing {
+        Some(name) => Some(times_of(rt, name)?),
+        None => None,
+    };
+    let mut work = Work::new(rt, run, timing);
     let mut output = Output {
         out: rt.stdout(),
         gone: false,
@@ -165,7 +281,7 @@ fn run(rt: &HostRuntime, run: &Run<'_>) -> Result<(), u8> {
     }
     match work.end(&mut output) {
         Ok(()) => Ok(()),
-        Err(error) => Err(stopped(rt, error, INPUT, &output)),
+        Err(error) => Err(stopped(rt, Failure::Run(error), INPUT, &output)),
     }
 }
 

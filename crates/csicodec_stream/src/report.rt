@@ -13,6 +13,8 @@ pub enum Failure {
     Usage,
     /// The file can't be opened.
     Open,
+    /// The line of this number, counted from 1, isn't one of an asciicast; 0 where there is none.
+    Recording(u64),
     /// The stream wasn't read or written to its end.
     Run(RunError),
 }
@@ -34,6 +36,7 @@ impl Failure {
         match self {
             Failure::Usage => 64,
             Failure::Open => 2,
+            Failure::Recording(_) => 1,
             Failure::Run(error) => error.status(),
         }
     }
@@ -47,6 +50,10 @@ impl fmt::Display for Failure {
         match self {
             Failure::Usage => f.write_str("csicodec: not a command"),
             Failure::Open => f.write_str("csicodec: the file can't be opened"),
+            Failure::Recording(line) => write!(
+                f,
+                "csicodec: line {line}: not an asciicast of version 2 or 3"
+            ),
             Failure::Run(error) => write!(f, "csicodec: {error}"),
         }
     }

@@ -1,2 +1,4 @@
 pub mod Told
 pub mod Joined
+pub mod Beside
+pub mod Running

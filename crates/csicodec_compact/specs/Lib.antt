@@ -1,2 +1,3 @@
 pub mod Compacts
+pub mod Runs
 pub mod Private

@@ -12,7 +12,7 @@ use csicodec_streams::encode_all;
 use std::alloc::{AllocError, Global};
 
 /// How many numbers a sequence has at most that several are joined to: the Linux console keeps no more.
-const NUMBERS: usize = 16;
+pub(crate) const NUMBERS: usize = 16;
 
 /// How many numbers an attribute is written with at most.
 fn numbers(style: &Sgr) -> usize {

@@ -3,9 +3,14 @@
 #![tactic(auto)]
 
 mod alike;
+mod all;
 mod compact;
 mod encode;
+mod runs;
 mod spell;
+mod stream;
 
+pub use all::compact_all;
 pub use compact::Compact;
 pub use encode::encode_compact;
+pub use stream::{Compactor, compact_bytes};

@@ -2,7 +2,7 @@
 //! "data"]` for what a program wrote. Times are seconds: in version 2 from the begin, in version 3 from the event before.
 
 use crate::report::Failure;
-use csicodec_compact::Compact;
+use csicodec_compact::Compactor;
 use csicodec_filter::{Faithful, Filter, NormalForm};
 use csicodec_page::Explainer;
 use csicodec_safe::{Cleaner, Dropped, Kept};
@@ -18,8 +18,8 @@ pub enum Stage {
     Normal(Filter<NormalForm>),
     /// The same, but of what terminals read otherwise.
     Faithful(Filter<Faithful>),
-    /// Each in its shortest spelling.
-    Short(Filter<Compact>),
+    /// Each in its shortest spelling, runs of attributes as one.
+    Short(Compactor),
     /// Plain text.
     Plain(Cleaner<Dropped>),
     /// The same with its styles.

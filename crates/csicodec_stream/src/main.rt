@@ -10,7 +10,7 @@ mod timing;
 
 use cast::{Stage, explain_cast, rewrite_cast};
 use command::{Color, Command, Run, Task, USAGE, VERSION, Wrong, command_of};
-use csicodec_compact::Compact;
+use csicodec_compact::{Compact, Compactor, compact_all};
 use csicodec_filter::{Faithful, Filter, NormalForm, filter_all};
 use csicodec_page::{Explainer, LIMIT, Style};
 use csicodec_safe::{Cleaner, Depth, Dropped, Kept, clean_all_in, strip_all};
@@ -134,7 +134,7 @@ impl<'a> Work<'a> {
             }
             Work::Filter { .. } => filter_all(alloc, LIMIT, NormalForm::new(alloc), input, output)?,
             Work::Compact { semicolons } => {
-                filter_all(alloc, LIMIT, compact(alloc, *semicolons), input, output)?;
+                compact_all(alloc, LIMIT, compact(alloc, *semicolons), input, output)?;
             }
             Work::Strip => strip_all(alloc, input, output)?,
             Work::Clean { depth } => clean_all_in(alloc, *depth, input, output)?,
@@ -156,7 +156,7 @@ impl<'a> Work<'a> {
             }
             Work::Compact { semicolons } => {
                 let rule = compact(alloc, *semicolons);
-                Some(Stage::Short(Filter::new(alloc, LIMIT, rule)))
+                Some(Stage::Short(Compactor::new(alloc, LIMIT, rule)))
             }
             Work::Strip => Some(Stage::Plain(Cleaner::new(alloc, Dropped))),
             Work::Clean { depth } => {

@@ -1,7 +1,7 @@
 //! Sequences in their shortest spelling.
 
 use csicodec::{CSI, ColorSpec, Cursor, Intensity, Sgr, SrgbaTuple};
-use csicodec_compact::{Compact, encode_compact};
+use csicodec_compact::{Compact, Compactor, compact_bytes, encode_compact};
 use csicodec_filter::{Faithful, Filter, Rewrite};
 use std::alloc::Global;
 use std::test::Fail;
@@ -70,6 +70,49 @@ fn shortens(rt: HostRuntime) -> Result<(), Fail> {
         "\x1b[38:5:9m\x1b[48:2:1:2:3m",
     )?;
     assert!(rt; written.as_slice() == b"\x1b[38;5;9m\x1b[48;2;1;2;3m".as_slice());
+    Ok(())
+}
+
+/// Streams, and what becomes of them.
+static STREAMS: [(&str, &str); 12] = [
+    // Attributes side by side.
+    ("a\x1b[0m\x1b[01;31mb", "a\x1b[;1;31mb"),
+    ("\x1b[1m\x1b[0m\x1b[m", "\x1b[1;0;0m"),
+    ("\x1b[1m\x1b[38:2::255:0:0m", "\x1b[1;38;2;255;0;0m"),
+    ("\x1b[1m\x1b[58:2::1:2:3m", "\x1b[1m\x1b[58:2::1:2:3m"),
+    ("\x1b[1m\x1b[4:3m\x1b[3m", "\x1b[1m\x1b[4:3m\x1b[3m"),
+    // Something between them, or no attributes.
+    ("\x1b[1m \x1b[3m", "\x1b[1m \x1b[3m"),
+    ("\x1b[1m\x1b[2;2H\x1b[3m", "\x1b[1m\x1b[2;2H\x1b[3m"),
+    ("\x1b[1m\x1b[>4m\x1b[3m", "\x1b[1m\x1b[>4m\x1b[3m"),
+    ("\x1b[1m\x1b[1;m\x1b[3m", "\x1b[1m\x1b[1;m\x1b[3m"),
+    // Behind an unknown one nothing is joined.
+    ("\x1b[1m\x1b[99m\x1b[3m", "\x1b[1;99m\x1b[3m"),
+    // At most 16 numbers.
+    (
+        "\x1b[38;2;1;2;3m\x1b[48;2;1;2;3m\x1b[38;2;1;2;3m\x1b[1m\x1b[3m",
+        "\x1b[38;2;1;2;3;48;2;1;2;3;38;2;1;2;3;1m\x1b[3m",
+    ),
+    ("\x1b[1m\x1b[", "\x1b[1m\x1b["),
+];
+
+#[test]
+fn joins(rt: HostRuntime) -> Result<(), Fail> {
+    let alloc = rt.alloc();
+    for (stream, short) in &STREAMS {
+        let written = compact_bytes(alloc, 65536, Compact::new(alloc), stream.as_bytes())?;
+        assert!(rt; written.as_slice() == short.as_bytes());
+        let again = compact_bytes(alloc, 65536, Compact::new(alloc), short.as_bytes())?;
+        assert!(rt; again.as_slice() == short.as_bytes());
+    }
+    // A push ends a run.
+    let mut compactor = Compactor::new(alloc, 65536, Compact::new(alloc));
+    let mut out = Vec::new(alloc);
+    for slice in ["\x1b[1m\x1b[3", "m\x1b[4m", "a\x1b["] {
+        compactor.push(slice.as_bytes(), &mut out)?;
+    }
+    compactor.finish(&mut out)?;
+    assert!(rt; out.as_slice() == b"\x1b[1m\x1b[3;4ma\x1b[".as_slice());
     Ok(())
 }
 

@@ -1,0 +1,60 @@
+-- What `compact` makes of a stream: control sequences side by side may go into one.
+use Rattle.std.specs.Prelude.{ℕ, ◌≡◌, ◌≢◌, ◌≤◌, ◌⊎◌, List, [], ◌∷◌, ◌++◌, true, false, length}
+use Rattle.std.specs.List.{AllByRecursion, flat_map}
+use Rattle.csicodec_tokens.specs.declared.param.CsiParam.{CsiParam}
+use Rattle.csicodec_tokens.specs.Sequence.{Seq}
+use Rattle.csicodec_actions.specs.Actions.{Action}
+use Rattle.csicodec_streams.specs.Decoding.{Decodes}
+use Rattle.csicodec_spans.specs.declared.table.Kind.TheVariants as kind
+use Rattle.csicodec_spans.specs.declared.table.Mode.{Mode}
+use Rattle.csicodec_spans.specs.Parts.{Part, bytes_of, AreFirstParts, IsUnsure, IsWhole}
+use Rattle.csicodec_filter.specs.Faithful.{stays}
+
+-- a control sequence that stays as it came
+abbrev pub IsStaying : List ℕ → Type 0
+IsStaying bytes = (list : List CsiParam) × (final : ℕ) × Seq bytes list final × (stays list final ≡ true)
+
+abbrev pub NoneStays : List Part → Type 0
+NoneStays run = AllByRecursion (λ (p : Part). ¬ IsStaying p.bytes) run
+
+-- Control sequences side by side, and a text in their place: it is read as exactly their actions, in order, and is no longer. One that stays
+-- stands alone, as it came.
+pub record Shortens (run : List Part) (text : List ℕ) : Type 0 where
+  pub all : AllByRecursion (λ (p : Part). p.kind ≡ kind.Csi) run
+  pub actions : List Action
+  pub came : Decodes (flat_map bytes_of run) false actions
+  pub written : Decodes text false actions
+  pub short : length text ≤ length (flat_map bytes_of run)
+  pub kept : NoneStays run ⊎ ((p : Part) × (run ≡ p ∷ []) × (text ≡ p.bytes))
+
+-- such a run, or one part that is no control sequence, as it came
+abbrev pub IsRun : List Part → List ℕ → Type 0
+IsRun run text = Shortens run text ⊎ ((p : Part) × (run ≡ p ∷ []) × (p.kind ≢ kind.Csi) × (text ≡ p.bytes))
+
+-- the parts are these runs in turn, and the text is theirs
+abbrev pub AreRuns : List (List Part) → List Part → List ℕ → Type 0
+AreRuns [] parts text = (parts ≡ []) × (text ≡ [])
+AreRuns (run ∷ runs) parts text =
+    (behind : List Part) × (first : List ℕ) × (others : List ℕ) × (parts ≡ run ++ behind) × (text ≡ first ++ others) × IsRun run first × AreRuns runs behind others
+
+abbrev pub IsShortened : List Part → List ℕ → Type 0
+IsShortened parts text = (runs : List (List Part)) × AreRuns runs parts text
+
+-- between two pushes: what is open, and the bytes of which nothing is sure yet
+pub record Open : Type 0 where
+  pub limit : ℕ
+  pub mode : Mode
+  pub bytes : List ℕ
+
+-- behind these bytes, the parts that are sure make this text, and the others are held
+pub record PassesShort (limit : ℕ) (m : Mode) (bytes text held : List ℕ) (after : Mode) : Type 0 where
+  pub parts : List Part
+  pub first : AreFirstParts limit m bytes parts held after
+  pub unsure : IsUnsure limit after held
+  pub shortened : IsShortened parts text
+
+-- a whole stream makes this text
+pub record CompactsAll (limit : ℕ) (m : Mode) (bytes text : List ℕ) : Type 0 where
+  pub parts : List Part
+  pub whole : IsWhole limit m bytes parts
+  pub shortened : IsShortened parts text

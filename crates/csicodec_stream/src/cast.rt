@@ -5,7 +5,7 @@ use crate::report::Failure;
 use csicodec_compact::Compactor;
 use csicodec_filter::{Faithful, Filter, NormalForm};
 use csicodec_page::Explainer;
-use csicodec_safe::{Cleaner, Dropped, Kept};
+use csicodec_safe::{Cleaner, Dropped, Kept, Rule};
 use csicodec_streams::{RunError, send};
 use serde_json::{Error, Value};
 use std::alloc::{AllocError, Global};
@@ -26,6 +26,27 @@ pub enum Stage {
     Styled(Cleaner<Kept>),
 }
 
+/// The next data, with a carriage return ahead of each newline that stays: they were dropped, and where a recording is played a
+/// newline alone leads down, and not to the begin of the line.
+fn push_lines<T: Rule + Drop>(
+    cleaner: &mut Cleaner<T>,
+    bytes: &[u8],
+    out: &mut Vec<u8>,
+) -> Result<(), AllocError> {
+    let mut text = Vec::new(*out.allocator());
+    cleaner.push(bytes, &mut text)?;
+    for line in text.split_inclusive(|byte| *byte == b'\n') {
+        match line.strip_suffix(b"\n".as_slice()) {
+            Some(line) => {
+                out.extend_from_slice(line)?;
+                out.extend_from_slice(b"\r\n")?;
+            }
+            None => out.extend_from_slice(line)?,
+        }
+    }
+    Ok(())
+}
+
 impl Stage {
     /// The next data; what is sure is appended.
     fn push(&mut self, bytes: &[u8], out: &mut Vec<u8>) -> Result<(), AllocError> {
@@ -33,8 +54,8 @@ impl Stage {
             Stage::Normal(filter) => filter.push(bytes, out),
             Stage::Faithful(filter) => filter.push(bytes, out),
             Stage::Short(filter) => filter.push(bytes, out),
-            Stage::Plain(cleaner) => cleaner.push(bytes, out),
-            Stage::Styled(cleaner) => cleaner.push(bytes, out),
+            Stage::Plain(cleaner) => push_lines(cleaner, bytes, out),
+            Stage::Styled(cleaner) => push_lines(cleaner, bytes, out),
         }
     }
 
@@ -306,6 +327,23 @@ mod tests {
             assert!(rt; explainer.end(&mut output).is_ok());
             assert_eq!(rt; output.as_slice(), told.as_bytes());
         }
+        Ok(())
+    }
+
+    #[test]
+    fn keeps_lines(rt: HostRuntime) -> Result<(), Fail> {
+        let alloc = rt.alloc();
+        let mut output = Vec::new(alloc);
+        let mut stage = Stage::Styled(Cleaner::new(alloc, Kept::new(alloc)));
+        let mut input: &[u8] =
+            b"{\"version\":3}\n[1.0,\"o\",\"a\\u001b[1mb\\r\\n\"]\n[0.5,\"o\",\"\\u001b[K\"]";
+        assert!(rt; rewrite_cast(alloc, &mut stage, &mut input, &mut output).is_ok());
+        let written = r#"{"version":3}
+[1.0, "o", "a\u001b[1mb\r\n"]
+[0.5, "o", ""]
+[0, "o", "\u001b[0m"]
+"#;
+        assert_eq!(rt; output.as_slice(), written.as_bytes());
         Ok(())
     }
 

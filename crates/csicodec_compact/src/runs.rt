@@ -44,13 +44,12 @@ fn may_join(first: &[u8], second: &[u8]) -> bool {
     }
 }
 
-/// Writes two sequences of attributes as one: `;` in the place of `m`, ESC and `[` between them, and 0 where the second has no number.
+/// Writes two sequences of attributes as one: `;` in the place of `m`, ESC and `[` between them, without a 0 that is no longer the
+/// last number, and with 0 where the second has none.
 fn join(first: &[u8], second: &[u8], out: &mut Vec<u8>) -> Result<(), AllocError> {
+    let end = if first.ends_with(b";0m") { 2 } else { 1 };
     out.clear();
-    let Some((_, front)) = first.split_last() else {
-        return Ok(());
-    };
-    out.extend_from_slice(front)?;
+    out.extend_from_slice(&first[..first.len().saturating_sub(end)])?;
     out.push(b';')?;
     if second.len() == 3 {
         out.push(b'0')?;

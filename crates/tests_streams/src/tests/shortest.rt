@@ -77,7 +77,7 @@ fn shortens(rt: HostRuntime) -> Result<(), Fail> {
 static STREAMS: [(&str, &str); 12] = [
     // Attributes side by side.
     ("a\x1b[0m\x1b[01;31mb", "a\x1b[;1;31mb"),
-    ("\x1b[1m\x1b[0m\x1b[m", "\x1b[1;0;0m"),
+    ("\x1b[1m\x1b[0m\x1b[m", "\x1b[1;;0m"),
     ("\x1b[1m\x1b[38:2::255:0:0m", "\x1b[1;38;2;255;0;0m"),
     ("\x1b[1m\x1b[58:2::1:2:3m", "\x1b[1m\x1b[58:2::1:2:3m"),
     ("\x1b[1m\x1b[4:3m\x1b[3m", "\x1b[1m\x1b[4:3m\x1b[3m"),

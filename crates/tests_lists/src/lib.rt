@@ -1,4 +1,4 @@
-//! Tests of worked lists: the actions that each stands for, and their texts. The lists of one number stand in `csicodec_rows`.
+//! Tests of worked bytes, pieces and lists: the actions that each stands for, and their texts.
 #![tactic(auto)]
 
 #[cfg(test)]

@@ -79,87 +79,89 @@ fn terminal(alloc: Global, class: u8, attributes: &[DeviceAttribute]) -> Result<
     Ok(CSI::Device(Box::new(alloc, Device::DeviceAttributes(attributes))?))
 }
 
+/// Extensions, their texts, and whether these are read back.
+static EXTENSIONS: [(DeviceAttribute, &str, bool); 19] = [
+    (
+        DeviceAttribute::Code(DeviceAttributeCodes::Columns132),
+        "1",
+        true,
+    ),
+    (
+        DeviceAttribute::Code(DeviceAttributeCodes::Printer),
+        "2",
+        true,
+    ),
+    (
+        DeviceAttribute::Code(DeviceAttributeCodes::RegisGraphics),
+        "3",
+        true,
+    ),
+    (
+        DeviceAttribute::Code(DeviceAttributeCodes::SixelGraphics),
+        "4",
+        true,
+    ),
+    (
+        DeviceAttribute::Code(DeviceAttributeCodes::SelectiveErase),
+        "6",
+        true,
+    ),
+    (
+        DeviceAttribute::Code(DeviceAttributeCodes::UserDefinedKeys),
+        "8",
+        true,
+    ),
+    (
+        DeviceAttribute::Code(DeviceAttributeCodes::NationalReplacementCharsets),
+        "9",
+        true,
+    ),
+    (
+        DeviceAttribute::Code(DeviceAttributeCodes::TechnicalCharacters),
+        "15",
+        true,
+    ),
+    (
+        DeviceAttribute::Code(DeviceAttributeCodes::UserWindows),
+        "18",
+        true,
+    ),
+    (
+        DeviceAttribute::Code(DeviceAttributeCodes::HorizontalScrolling),
+        "21",
+        true,
+    ),
+    (
+        DeviceAttribute::Code(DeviceAttributeCodes::AnsiColor),
+        "22",
+        true,
+    ),
+    (
+        DeviceAttribute::Code(DeviceAttributeCodes::AnsiTextLocator),
+        "29",
+        true,
+    ),
+    (DeviceAttribute::Unspecified(P(b'$')), "$", true),
+    (DeviceAttribute::Unspecified(P(b';')), ";", false),
+    (DeviceAttribute::Unspecified(P(b'A')), "A", false),
+    (DeviceAttribute::Unspecified(Integer(1)), "1", false),
+    (DeviceAttribute::Unspecified(Integer(99)), "99", true),
+    (DeviceAttribute::Unspecified(Integer(-1)), "-1", false),
+    (DeviceAttribute::Unspecified(P(0xff)), "ÿ", false),
+];
+
 /// Each extension alone, and behind another one, of each service class.
 #[test]
 fn extensions(rt: HostRuntime) -> Result<(), Fail> {
-    let rows: [(DeviceAttribute, &str, bool); 19] = [
-        (
-            DeviceAttribute::Code(DeviceAttributeCodes::Columns132),
-            "1",
-            true,
-        ),
-        (
-            DeviceAttribute::Code(DeviceAttributeCodes::Printer),
-            "2",
-            true,
-        ),
-        (
-            DeviceAttribute::Code(DeviceAttributeCodes::RegisGraphics),
-            "3",
-            true,
-        ),
-        (
-            DeviceAttribute::Code(DeviceAttributeCodes::SixelGraphics),
-            "4",
-            true,
-        ),
-        (
-            DeviceAttribute::Code(DeviceAttributeCodes::SelectiveErase),
-            "6",
-            true,
-        ),
-        (
-            DeviceAttribute::Code(DeviceAttributeCodes::UserDefinedKeys),
-            "8",
-            true,
-        ),
-        (
-            DeviceAttribute::Code(DeviceAttributeCodes::NationalReplacementCharsets),
-            "9",
-            true,
-        ),
-        (
-            DeviceAttribute::Code(DeviceAttributeCodes::TechnicalCharacters),
-            "15",
-            true,
-        ),
-        (
-            DeviceAttribute::Code(DeviceAttributeCodes::UserWindows),
-            "18",
-            true,
-        ),
-        (
-            DeviceAttribute::Code(DeviceAttributeCodes::HorizontalScrolling),
-            "21",
-            true,
-        ),
-        (
-            DeviceAttribute::Code(DeviceAttributeCodes::AnsiColor),
-            "22",
-            true,
-        ),
-        (
-            DeviceAttribute::Code(DeviceAttributeCodes::AnsiTextLocator),
-            "29",
-            true,
-        ),
-        (DeviceAttribute::Unspecified(P(b'$')), "$", true),
-        (DeviceAttribute::Unspecified(P(b';')), ";", false),
-        (DeviceAttribute::Unspecified(P(b'A')), "A", false),
-        (DeviceAttribute::Unspecified(Integer(1)), "1", false),
-        (DeviceAttribute::Unspecified(Integer(99)), "99", true),
-        (DeviceAttribute::Unspecified(Integer(-1)), "-1", false),
-        (DeviceAttribute::Unspecified(P(0xff)), "ÿ", false),
-    ];
     let first = DeviceAttribute::Code(DeviceAttributeCodes::AnsiColor);
-    for (attribute, text, canonical) in rows {
+    for (attribute, text, canonical) in &EXTENSIONS {
         for class in 62..65 {
-            let alone = terminal(rt.alloc(), class, &[attribute])?;
+            let alone = terminal(rt.alloc(), class, &[*attribute])?;
             let said = format!(in rt.alloc(); "\x1b[?{class};{text}c")?;
-            check(&rt, rt.alloc(), alone, false, said.as_str(), canonical)?;
-            let second = terminal(rt.alloc(), class, &[first, attribute])?;
+            check(&rt, rt.alloc(), alone, false, said.as_str(), *canonical)?;
+            let second = terminal(rt.alloc(), class, &[first, *attribute])?;
             let said = format!(in rt.alloc(); "\x1b[?{class};22;{text}c")?;
-            check(&rt, rt.alloc(), second, false, said.as_str(), canonical)?;
+            check(&rt, rt.alloc(), second, false, said.as_str(), *canonical)?;
         }
     }
     for class in 62..65 {
@@ -170,94 +172,107 @@ fn extensions(rt: HostRuntime) -> Result<(), Fail> {
     Ok(())
 }
 
+/// Graphics without values, their texts, and whether these are read back.
+static GRAPHICS: [(XtSmGraphicsItem, i64, &str, bool); 8] = [
+    (
+        XtSmGraphicsItem::NumberOfColorRegisters,
+        0,
+        "\x1b[?1;0",
+        true,
+    ),
+    (
+        XtSmGraphicsItem::SixelGraphicsGeometry,
+        4,
+        "\x1b[?2;4",
+        true,
+    ),
+    (
+        XtSmGraphicsItem::RegisGraphicsGeometry,
+        i64::MAX,
+        "\x1b[?3;9223372036854775807",
+        true,
+    ),
+    (XtSmGraphicsItem::Unspecified(0), 1, "\x1b[?0;1", true),
+    (XtSmGraphicsItem::Unspecified(9), 1, "\x1b[?9;1", true),
+    (XtSmGraphicsItem::Unspecified(2), 1, "\x1b[?2;1", false),
+    (XtSmGraphicsItem::Unspecified(-1), 1, "\x1b[?-1;1", false),
+    (
+        XtSmGraphicsItem::RegisGraphicsGeometry,
+        i64::MIN,
+        "\x1b[?3;-9223372036854775808",
+        false,
+    ),
+];
+
+/// Values, their texts, and whether these are read back.
+static VALUES: [(&[i64], &str, bool); 3] = [
+    (&[], "S", true),
+    (&[0, i64::MAX], ";0;9223372036854775807S", true),
+    (&[5, -1], ";5;-1S", false),
+];
+
 /// Graphics without values, with values that a sequence can have, and with one that it can't.
 #[test]
 fn graphics(rt: HostRuntime) -> Result<(), Fail> {
-    let rows: [(XtSmGraphicsItem, i64, &str, bool); 8] = [
-        (
-            XtSmGraphicsItem::NumberOfColorRegisters,
-            0,
-            "\x1b[?1;0",
-            true,
-        ),
-        (
-            XtSmGraphicsItem::SixelGraphicsGeometry,
-            4,
-            "\x1b[?2;4",
-            true,
-        ),
-        (
-            XtSmGraphicsItem::RegisGraphicsGeometry,
-            i64::MAX,
-            "\x1b[?3;9223372036854775807",
-            true,
-        ),
-        (XtSmGraphicsItem::Unspecified(0), 1, "\x1b[?0;1", true),
-        (XtSmGraphicsItem::Unspecified(9), 1, "\x1b[?9;1", true),
-        (XtSmGraphicsItem::Unspecified(2), 1, "\x1b[?2;1", false),
-        (XtSmGraphicsItem::Unspecified(-1), 1, "\x1b[?-1;1", false),
-        (
-            XtSmGraphicsItem::RegisGraphicsGeometry,
-            i64::MIN,
-            "\x1b[?3;-9223372036854775808",
-            false,
-        ),
-    ];
-    let values: [(&[i64], &str, bool); 3] = [
-        (&[], "S", true),
-        (&[0, i64::MAX], ";0;9223372036854775807S", true),
-        (&[5, -1], ";5;-1S", false),
-    ];
-    for (item, action_or_status, front, named) in rows {
-        for (value, end, said) in values {
+    for (item, action_or_status, front, named) in &GRAPHICS {
+        for (value, end, said) in &VALUES {
             let graphics = XtSmGraphics {
-                item,
-                action_or_status,
+                item: *item,
+                action_or_status: *action_or_status,
                 value: value.to_vec(rt.alloc())?,
             };
             let device = CSI::Device(Box::new(rt.alloc(), Device::XtSmGraphics(graphics))?);
             let text = format!(in rt.alloc(); "{front}{end}")?;
-            check(&rt, rt.alloc(), device, false, text.as_str(), named && said)?;
+            check(
+                &rt,
+                rt.alloc(),
+                device,
+                false,
+                text.as_str(),
+                *named && *said,
+            )?;
         }
     }
     Ok(())
 }
 
+/// Lists, and the texts of the actions that they are read as behind any first token.
+static BEHIND_A_TOKEN: [(&[CsiParam], Option<&str>); 6] = [
+    (
+        &[P(b'?'), Integer(2), P(b';'), Integer(1)],
+        Some("\x1b[?2;1S"),
+    ),
+    (
+        &[Integer(7), Integer(1), P(b';'), Integer(2)],
+        Some("\x1b[?1;2S"),
+    ),
+    (
+        &[
+            P(b'?'),
+            Integer(1),
+            P(b';'),
+            Integer(3),
+            P(b';'),
+            P(b';'),
+            Integer(5),
+        ],
+        Some("\x1b[?1;3;5S"),
+    ),
+    (&[P(b'?'), Integer(2)], None),
+    (&[P(b'?')], None),
+    (&[], None),
+];
+
 /// Lists that `XtSmGraphics::parse` reads behind any first token, as the action with this text, and those that it doesn't.
 #[test]
 fn graphics_behind_a_token(rt: HostRuntime) -> Result<(), Fail> {
-    let rows: [(&[CsiParam], Option<&str>); 6] = [
-        (
-            &[P(b'?'), Integer(2), P(b';'), Integer(1)],
-            Some("\x1b[?2;1S"),
-        ),
-        (
-            &[Integer(7), Integer(1), P(b';'), Integer(2)],
-            Some("\x1b[?1;2S"),
-        ),
-        (
-            &[
-                P(b'?'),
-                Integer(1),
-                P(b';'),
-                Integer(3),
-                P(b';'),
-                P(b';'),
-                Integer(5),
-            ],
-            Some("\x1b[?1;3;5S"),
-        ),
-        (&[P(b'?'), Integer(2)], None),
-        (&[P(b'?')], None),
-        (&[], None),
-    ];
-    for (list, text) in rows {
+    for (list, text) in &BEHIND_A_TOKEN {
         match XtSmGraphics::parse(rt.alloc(), list) {
             Ok(action) => {
                 let said = format!(in rt.alloc(); "{action}")?;
-                assert_eq!(rt; Some(said.as_str()), text);
+                assert!(rt; Some(said.as_str()) == *text);
             }
-            Err(error) => assert_eq!(rt; (error, text), (ParseRefusal::NotSpelled, None)),
+            Err(error) => assert!(rt; (error, *text) == (ParseRefusal::NotSpelled, None)),
         }
     }
     Ok(())

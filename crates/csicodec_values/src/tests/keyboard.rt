@@ -96,50 +96,52 @@ fn keyboard(rt: HostRuntime) -> Result<(), Fail> {
     Ok(())
 }
 
+/// Paths of characters, their texts, and whether these are read back.
+static PATHS: [((CharacterPath, i64), &str, bool); 7] = [
+    ((CharacterPath::ImplementationDefault, 0), "\x1b[ k", true),
+    (
+        (CharacterPath::LeftToRightOrTopToBottom, 0),
+        "\x1b[1 k",
+        true,
+    ),
+    (
+        (CharacterPath::RightToLeftOrBottomToTop, 0),
+        "\x1b[2 k",
+        true,
+    ),
+    (
+        (CharacterPath::ImplementationDefault, 5),
+        "\x1b[0;5 k",
+        true,
+    ),
+    (
+        (CharacterPath::LeftToRightOrTopToBottom, i64::MAX),
+        "\x1b[1;9223372036854775807 k",
+        true,
+    ),
+    (
+        (CharacterPath::ImplementationDefault, -1),
+        "\x1b[0;-1 k",
+        false,
+    ),
+    (
+        (CharacterPath::RightToLeftOrBottomToTop, i64::MIN),
+        "\x1b[2;-9223372036854775808 k",
+        false,
+    ),
+];
+
 /// Paths of characters.
 #[test]
 fn paths(rt: HostRuntime) -> Result<(), Fail> {
-    let rows: [((CharacterPath, i64), &str, bool); 7] = [
-        ((CharacterPath::ImplementationDefault, 0), "\x1b[ k", true),
-        (
-            (CharacterPath::LeftToRightOrTopToBottom, 0),
-            "\x1b[1 k",
-            true,
-        ),
-        (
-            (CharacterPath::RightToLeftOrBottomToTop, 0),
-            "\x1b[2 k",
-            true,
-        ),
-        (
-            (CharacterPath::ImplementationDefault, 5),
-            "\x1b[0;5 k",
-            true,
-        ),
-        (
-            (CharacterPath::LeftToRightOrTopToBottom, i64::MAX),
-            "\x1b[1;9223372036854775807 k",
-            true,
-        ),
-        (
-            (CharacterPath::ImplementationDefault, -1),
-            "\x1b[0;-1 k",
-            false,
-        ),
-        (
-            (CharacterPath::RightToLeftOrBottomToTop, i64::MIN),
-            "\x1b[2;-9223372036854775808 k",
-            false,
-        ),
-    ];
-    for (value, text, canonical) in rows {
+    for ((path, effect), text, canonical) in &PATHS {
         check(
             &rt,
             rt.alloc(),
-            CSI::SelectCharacterPath(value.0, value.1),
+            CSI::SelectCharacterPath(*path, *effect),
             false,
             text,
-            canonical,
+            *canonical,
         )?;
     }
     Ok(())

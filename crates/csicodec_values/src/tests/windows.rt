@@ -5,168 +5,125 @@ use super::{MOST, check, place};
 use csicodec::{CSI, Window};
 use std::test::Fail;
 
-/// Windows and areas.
+/// Windows without numbers.
 #[test]
 fn windows(rt: HostRuntime) -> Result<(), Fail> {
-    let rows: [(Window, &str, bool); 49] = [
-        (Window::DeIconify, "\x1b[1t", true),
-        (Window::Iconify, "\x1b[2t", true),
-        (Window::RaiseWindow, "\x1b[5t", true),
-        (Window::LowerWindow, "\x1b[6t", true),
-        (Window::RefreshWindow, "\x1b[7t", true),
-        (Window::RestoreMaximizedWindow, "\x1b[9;0t", true),
-        (Window::MaximizeWindow, "\x1b[9;1t", true),
-        (Window::MaximizeWindowVertically, "\x1b[9;2t", true),
-        (Window::MaximizeWindowHorizontally, "\x1b[9;3t", true),
-        (Window::UndoFullScreenMode, "\x1b[10;0t", true),
-        (Window::ChangeToFullScreenMode, "\x1b[10;1t", true),
-        (Window::ToggleFullScreen, "\x1b[10;2t", true),
-        (Window::ReportWindowState, "\x1b[11t", true),
-        (Window::ReportWindowPosition, "\x1b[13t", true),
-        (Window::ReportTextAreaPosition, "\x1b[13;2t", true),
-        (Window::ReportTextAreaSizePixels, "\x1b[14t", true),
-        (Window::ReportWindowSizePixels, "\x1b[14;2t", true),
-        (Window::ReportScreenSizePixels, "\x1b[15t", true),
-        (Window::ReportCellSizePixels, "\x1b[16t", true),
-        (Window::ReportTextAreaSizeCells, "\x1b[18t", true),
-        (Window::ReportScreenSizeCells, "\x1b[19t", true),
-        (Window::ReportIconLabel, "\x1b[20t", true),
-        (Window::ReportWindowTitle, "\x1b[21t", true),
-        (Window::PushIconAndWindowTitle, "\x1b[22;0t", true),
-        (Window::PushIconTitle, "\x1b[22;1t", true),
-        (Window::PushWindowTitle, "\x1b[22;2t", true),
-        (Window::PopIconAndWindowTitle, "\x1b[23;0t", true),
-        (Window::PopIconTitle, "\x1b[23;1t", true),
-        (Window::PopWindowTitle, "\x1b[23;2t", true),
+    let rows: [(Window, &str); 29] = [
+        (Window::DeIconify, "\x1b[1t"),
+        (Window::Iconify, "\x1b[2t"),
+        (Window::RaiseWindow, "\x1b[5t"),
+        (Window::LowerWindow, "\x1b[6t"),
+        (Window::RefreshWindow, "\x1b[7t"),
+        (Window::RestoreMaximizedWindow, "\x1b[9;0t"),
+        (Window::MaximizeWindow, "\x1b[9;1t"),
+        (Window::MaximizeWindowVertically, "\x1b[9;2t"),
+        (Window::MaximizeWindowHorizontally, "\x1b[9;3t"),
+        (Window::UndoFullScreenMode, "\x1b[10;0t"),
+        (Window::ChangeToFullScreenMode, "\x1b[10;1t"),
+        (Window::ToggleFullScreen, "\x1b[10;2t"),
+        (Window::ReportWindowState, "\x1b[11t"),
+        (Window::ReportWindowPosition, "\x1b[13t"),
+        (Window::ReportTextAreaPosition, "\x1b[13;2t"),
+        (Window::ReportTextAreaSizePixels, "\x1b[14t"),
+        (Window::ReportWindowSizePixels, "\x1b[14;2t"),
+        (Window::ReportScreenSizePixels, "\x1b[15t"),
+        (Window::ReportCellSizePixels, "\x1b[16t"),
+        (Window::ReportTextAreaSizeCells, "\x1b[18t"),
+        (Window::ReportScreenSizeCells, "\x1b[19t"),
+        (Window::ReportIconLabel, "\x1b[20t"),
+        (Window::ReportWindowTitle, "\x1b[21t"),
+        (Window::PushIconAndWindowTitle, "\x1b[22;0t"),
+        (Window::PushIconTitle, "\x1b[22;1t"),
+        (Window::PushWindowTitle, "\x1b[22;2t"),
+        (Window::PopIconAndWindowTitle, "\x1b[23;0t"),
+        (Window::PopIconTitle, "\x1b[23;1t"),
+        (Window::PopWindowTitle, "\x1b[23;2t"),
+    ];
+    for (value, text) in &rows {
+        let window = CSI::from_window(rt.alloc(), *value)?;
+        check(&rt, rt.alloc(), window, false, text, true)?;
+    }
+    Ok(())
+}
+
+/// Places, the texts, and whether these are read back.
+static PLACES: [(i64, i64, &str, bool); 4] = [
+    (
+        i64::MIN,
+        i64::MAX,
+        "\x1b[3;-9223372036854775808;9223372036854775807t",
+        false,
+    ),
+    (0, i64::MAX, "\x1b[3;0;9223372036854775807t", true),
+    (-1, 0, "\x1b[3;-1;0t", false),
+    (0, i64::MIN, "\x1b[3;0;-9223372036854775808t", false),
+];
+
+#[test]
+fn moved(rt: HostRuntime) -> Result<(), Fail> {
+    for (x, y, text, canonical) in &PLACES {
+        let window = CSI::from_window(rt.alloc(), Window::MoveWindow { x: *x, y: *y })?;
+        check(&rt, rt.alloc(), window, false, text, *canonical)?;
+    }
+    Ok(())
+}
+
+/// A width and a height, what stands for them in a text, and whether that is read back.
+static SIZES: [(Option<i64>, Option<i64>, &str, bool); 8] = [
+    (Some(7), Some(15), "15;7", true),
+    (Some(-1), None, ";-1", false),
+    (
+        Some(i64::MIN),
+        Some(i64::MIN),
+        "-9223372036854775808;-9223372036854775808",
+        false,
+    ),
+    (Some(7), None, ";7", true),
+    (None, Some(15), "15;", true),
+    (None, None, ";", true),
+    (Some(-1), Some(2), "2;-1", false),
+    (
+        Some(i64::MAX),
+        Some(i64::MIN),
+        "-9223372036854775808;9223372036854775807",
+        false,
+    ),
+];
+
+/// What the operation of this number does with a size.
+fn sized(operation: u8, width: Option<i64>, height: Option<i64>) -> Window {
+    match operation {
+        4 => Window::ResizeWindowPixels { width, height },
+        6 => Window::ReportCellSizePixelsResponse { width, height },
+        _ => Window::ResizeWindowCells { width, height },
+    }
+}
+
+#[test]
+fn sizes(rt: HostRuntime) -> Result<(), Fail> {
+    for (width, height, numbers, canonical) in &SIZES {
+        for operation in [4, 6, 8] {
+            let window = CSI::from_window(rt.alloc(), sized(operation, *width, *height))?;
+            let text = format!(in rt.alloc(); "\x1b[{operation};{numbers}t")?;
+            check(&rt, rt.alloc(), window, false, text.as_str(), *canonical)?;
+        }
+    }
+    Ok(())
+}
+
+#[test]
+fn areas(rt: HostRuntime) -> Result<(), Fail> {
+    let rows: [(Window, &str, bool); 3] = [
         (
-            Window::MoveWindow { x: 0, y: i64::MAX },
-            "\x1b[3;0;9223372036854775807t",
-            true,
-        ),
-        (Window::MoveWindow { x: -1, y: 0 }, "\x1b[3;-1;0t", false),
-        (
-            Window::MoveWindow { x: 0, y: i64::MIN },
-            "\x1b[3;0;-9223372036854775808t",
-            false,
-        ),
-        (
-            Window::ResizeWindowPixels {
-                width: Some(7),
-                height: None,
+            Window::ChecksumRectangularArea {
+                request_id: i64::MIN,
+                page_number: i64::MIN,
+                top: place(MOST),
+                left: place(MOST),
+                bottom: place(MOST),
+                right: place(MOST),
             },
-            "\x1b[4;;7t",
-            true,
-        ),
-        (
-            Window::ResizeWindowPixels {
-                width: None,
-                height: Some(15),
-            },
-            "\x1b[4;15;t",
-            true,
-        ),
-        (
-            Window::ResizeWindowPixels {
-                width: None,
-                height: None,
-            },
-            "\x1b[4;;t",
-            true,
-        ),
-        (
-            Window::ResizeWindowPixels {
-                width: Some(-1),
-                height: Some(2),
-            },
-            "\x1b[4;2;-1t",
-            false,
-        ),
-        (
-            Window::ResizeWindowPixels {
-                width: Some(i64::MAX),
-                height: Some(i64::MIN),
-            },
-            "\x1b[4;-9223372036854775808;9223372036854775807t",
-            false,
-        ),
-        (
-            Window::ReportCellSizePixelsResponse {
-                width: Some(7),
-                height: None,
-            },
-            "\x1b[6;;7t",
-            true,
-        ),
-        (
-            Window::ReportCellSizePixelsResponse {
-                width: None,
-                height: Some(15),
-            },
-            "\x1b[6;15;t",
-            true,
-        ),
-        (
-            Window::ReportCellSizePixelsResponse {
-                width: None,
-                height: None,
-            },
-            "\x1b[6;;t",
-            true,
-        ),
-        (
-            Window::ReportCellSizePixelsResponse {
-                width: Some(-1),
-                height: Some(2),
-            },
-            "\x1b[6;2;-1t",
-            false,
-        ),
-        (
-            Window::ReportCellSizePixelsResponse {
-                width: Some(i64::MAX),
-                height: Some(i64::MIN),
-            },
-            "\x1b[6;-9223372036854775808;9223372036854775807t",
-            false,
-        ),
-        (
-            Window::ResizeWindowCells {
-                width: Some(7),
-                height: None,
-            },
-            "\x1b[8;;7t",
-            true,
-        ),
-        (
-            Window::ResizeWindowCells {
-                width: None,
-                height: Some(15),
-            },
-            "\x1b[8;15;t",
-            true,
-        ),
-        (
-            Window::ResizeWindowCells {
-                width: None,
-                height: None,
-            },
-            "\x1b[8;;t",
-            true,
-        ),
-        (
-            Window::ResizeWindowCells {
-                width: Some(-1),
-                height: Some(2),
-            },
-            "\x1b[8;2;-1t",
-            false,
-        ),
-        (
-            Window::ResizeWindowCells {
-                width: Some(i64::MAX),
-                height: Some(i64::MIN),
-            },
-            "\x1b[8;-9223372036854775808;9223372036854775807t",
+            "\x1b[-9223372036854775808;-9223372036854775808;4294967295;4294967295;4294967295;4294967295*y",
             false,
         ),
         (
@@ -195,14 +152,8 @@ fn windows(rt: HostRuntime) -> Result<(), Fail> {
         ),
     ];
     for (value, text, canonical) in rows {
-        check(
-            &rt,
-            rt.alloc(),
-            CSI::Window(Box::new(rt.alloc(), value)?),
-            false,
-            text,
-            canonical,
-        )?;
+        let window = CSI::from_window(rt.alloc(), value)?;
+        check(&rt, rt.alloc(), window, false, text, canonical)?;
     }
     Ok(())
 }

@@ -141,23 +141,23 @@ static ATTRIBUTES: [(&str, Class, &[DeviceAttribute], &str); 8] = [
 
 #[test]
 fn attributes(rt: HostRuntime) -> Result<(), Fail> {
-    for (sequence, class, attributes, text) in ATTRIBUTES {
+    for (sequence, class, attributes, text) in &ATTRIBUTES {
         check_read(
             &rt,
             rt.alloc(),
             sequence,
-            answer(rt.alloc(), class, attributes)?,
+            answer(rt.alloc(), *class, attributes)?,
         )?;
         check_read(
             &rt,
             rt.alloc(),
             text,
-            answer(rt.alloc(), class, attributes)?,
+            answer(rt.alloc(), *class, attributes)?,
         )?;
         check_text(
             &rt,
             rt.alloc(),
-            answer(rt.alloc(), class, attributes)?,
+            answer(rt.alloc(), *class, attributes)?,
             text,
         )?;
     }
@@ -179,6 +179,21 @@ fn unknown(rt: HostRuntime) -> Result<(), Fail> {
     )
 }
 
+/// Requests for the terminal's parameters, and their texts.
+static PARAMETERS: [(i64, &str); 8] = [
+    (0, "\x1b[2;1;1;128;128;1;0x"),
+    (1, "\x1b[3;1;1;128;128;1;0x"),
+    (-1, "\x1b[1;1;1;128;128;1;0x"),
+    (-2, "\x1b[0;1;1;128;128;1;0x"),
+    (-3, "\x1b[-1;1;1;128;128;1;0x"),
+    (i64::MAX, "\x1b[9223372036854775809;1;1;128;128;1;0x"),
+    (
+        9223372036854775805,
+        "\x1b[9223372036854775807;1;1;128;128;1;0x",
+    ),
+    (i64::MIN, "\x1b[-9223372036854775806;1;1;128;128;1;0x"),
+];
+
 /// A request is written as the report, which is read as unknown.
 #[test]
 fn parameters(rt: HostRuntime) -> Result<(), Fail> {
@@ -186,21 +201,8 @@ fn parameters(rt: HostRuntime) -> Result<(), Fail> {
         let device = Device::RequestTerminalParameters(number);
         check_read(&rt, rt.alloc(), sequence, device)?;
     }
-    let rows: [(i64, &str); 8] = [
-        (0, "\x1b[2;1;1;128;128;1;0x"),
-        (1, "\x1b[3;1;1;128;128;1;0x"),
-        (-1, "\x1b[1;1;1;128;128;1;0x"),
-        (-2, "\x1b[0;1;1;128;128;1;0x"),
-        (-3, "\x1b[-1;1;1;128;128;1;0x"),
-        (i64::MAX, "\x1b[9223372036854775809;1;1;128;128;1;0x"),
-        (
-            9223372036854775805,
-            "\x1b[9223372036854775807;1;1;128;128;1;0x",
-        ),
-        (i64::MIN, "\x1b[-9223372036854775806;1;1;128;128;1;0x"),
-    ];
-    for (number, text) in rows {
-        let device = Device::RequestTerminalParameters(number);
+    for (number, text) in &PARAMETERS {
+        let device = Device::RequestTerminalParameters(*number);
         check_text(&rt, rt.alloc(), device, text)?;
     }
     Ok(())
@@ -241,8 +243,8 @@ static GRAPHICS: [(XtSmGraphicsItem, i64, &[i64], &str); 5] = [
 
 #[test]
 fn graphics_texts(rt: HostRuntime) -> Result<(), Fail> {
-    for (item, action_or_status, value, text) in GRAPHICS {
-        let device = graphics(rt.alloc(), item, action_or_status, value)?;
+    for (item, action_or_status, value, text) in &GRAPHICS {
+        let device = graphics(rt.alloc(), *item, *action_or_status, value)?;
         check_text(&rt, rt.alloc(), device, text)?;
     }
     let item = XtSmGraphicsItem::Unspecified(-7);
@@ -250,74 +252,77 @@ fn graphics_texts(rt: HostRuntime) -> Result<(), Fail> {
     Ok(())
 }
 
+/// A second number of graphics, as an action and as a status.
+static NUMBERS: [(i64, Option<XtSmGraphicsAction>, Option<XtSmGraphicsStatus>); 6] = [
+    (-1, None, None),
+    (0, None, Some(XtSmGraphicsStatus::Success)),
+    (
+        1,
+        Some(XtSmGraphicsAction::ReadAttribute),
+        Some(XtSmGraphicsStatus::InvalidItem),
+    ),
+    (
+        2,
+        Some(XtSmGraphicsAction::ResetToDefault),
+        Some(XtSmGraphicsStatus::InvalidAction),
+    ),
+    (
+        3,
+        Some(XtSmGraphicsAction::SetToValue),
+        Some(XtSmGraphicsStatus::Failure),
+    ),
+    (4, Some(XtSmGraphicsAction::ReadMaximumAllowedValue), None),
+];
+
 /// What its second number says.
 #[test]
 fn graphics_numbers(rt: HostRuntime) -> Result<(), Fail> {
-    let rows: [(i64, Option<XtSmGraphicsAction>, Option<XtSmGraphicsStatus>); 6] = [
-        (-1, None, None),
-        (0, None, Some(XtSmGraphicsStatus::Success)),
-        (
-            1,
-            Some(XtSmGraphicsAction::ReadAttribute),
-            Some(XtSmGraphicsStatus::InvalidItem),
-        ),
-        (
-            2,
-            Some(XtSmGraphicsAction::ResetToDefault),
-            Some(XtSmGraphicsStatus::InvalidAction),
-        ),
-        (
-            3,
-            Some(XtSmGraphicsAction::SetToValue),
-            Some(XtSmGraphicsStatus::Failure),
-        ),
-        (4, Some(XtSmGraphicsAction::ReadMaximumAllowedValue), None),
-    ];
-    for (number, action, status) in rows {
+    for (number, action, status) in &NUMBERS {
         let graphics = XtSmGraphics {
             item: XtSmGraphicsItem::NumberOfColorRegisters,
-            action_or_status: number,
+            action_or_status: *number,
             value: Vec::new(rt.alloc()),
         };
-        assert_eq!(rt; graphics.action(), action);
-        assert_eq!(rt; graphics.status(), status);
+        assert!(rt; graphics.action() == *action, "{number}");
+        assert!(rt; graphics.status() == *status, "{number}");
         if let Some(action) = action {
-            assert_eq!(rt; action.to_i64(), number);
+            assert!(rt; action.to_i64() == *number, "{number}");
         }
         if let Some(status) = status {
-            assert_eq!(rt; status.to_i64(), number);
+            assert!(rt; status.to_i64() == *number, "{number}");
         }
         assert!(rt; graphics.clone(rt.alloc())? == graphics);
     }
     Ok(())
 }
 
+/// Extensions, whether they are read as themselves, and their texts.
+static BUILT: [(DeviceAttribute, bool, &str); 11] = [
+    (Code(DeviceAttributeCodes::AnsiColor), true, "22"),
+    (Unspecified(P(b'$')), true, "$"),
+    (Unspecified(P(b' ')), true, " "),
+    (Unspecified(P(b'?')), true, "?"),
+    (Unspecified(P(b';')), false, ";"),
+    (Unspecified(P(b'A')), false, "A"),
+    (Unspecified(P(b'1')), false, "1"),
+    (Unspecified(P(0xe9)), false, "é"),
+    (Unspecified(Integer(1)), false, "1"),
+    (Unspecified(Integer(5)), true, "5"),
+    (Unspecified(Integer(-1)), false, "-1"),
+];
+
 /// Which extensions are read as themselves, and what each is written as.
 #[test]
 fn built_attributes(rt: HostRuntime) -> Result<(), Fail> {
-    let rows: [(DeviceAttribute, bool, &str); 11] = [
-        (Code(DeviceAttributeCodes::AnsiColor), true, "22"),
-        (Unspecified(P(b'$')), true, "$"),
-        (Unspecified(P(b' ')), true, " "),
-        (Unspecified(P(b'?')), true, "?"),
-        (Unspecified(P(b';')), false, ";"),
-        (Unspecified(P(b'A')), false, "A"),
-        (Unspecified(P(b'1')), false, "1"),
-        (Unspecified(P(0xe9)), false, "é"),
-        (Unspecified(Integer(1)), false, "1"),
-        (Unspecified(Integer(5)), true, "5"),
-        (Unspecified(Integer(-1)), false, "-1"),
-    ];
-    for (attribute, canonical, token) in rows {
-        let attributes = [Unspecified(Integer(7)), attribute];
+    for (attribute, canonical, token) in &BUILT {
+        let attributes = [Unspecified(Integer(7)), *attribute];
         let text = format!(in rt.alloc(); "\x1b[?63;7;{token}c")?;
         let device = answer(rt.alloc(), Class::Vt320, &attributes)?;
         check_text(&rt, rt.alloc(), device, text.as_str())?;
         let device = answer(rt.alloc(), Class::Vt320, &attributes)?;
         let action = CSI::Device(Box::new(rt.alloc(), device)?);
-        assert_eq!(rt;
-            action.is_canonical(rt.alloc(), false)?,
-            canonical,
+        assert!(rt;
+            action.is_canonical(rt.alloc(), false)? == *canonical,
             "{token:?}"
         );
     }

@@ -51,11 +51,11 @@ static READ: [(&str, XtSmGraphicsItem, i64, &[i64], &str); 6] = [
 
 #[test]
 fn graphics(rt: HostRuntime) -> Result<(), Fail> {
-    for (list, item, action_or_status, value, text) in READ {
+    for (list, item, action_or_status, value, text) in &READ {
         let params = tokens_of(rt.alloc(), list)?;
         let graphics = XtSmGraphics {
-            item,
-            action_or_status,
+            item: *item,
+            action_or_status: *action_or_status,
             value: value.to_vec(rt.alloc())?,
         };
         let device = Device::XtSmGraphics(graphics);
@@ -77,60 +77,62 @@ fn graphics(rt: HostRuntime) -> Result<(), Fail> {
     )
 }
 
+/// Values that are built by hand, whether their texts are read back, and these.
+static BUILT: [(XtSmGraphicsItem, i64, &[i64], bool, &str); 6] = [
+    (
+        XtSmGraphicsItem::Unspecified(i64::MIN),
+        1,
+        &[],
+        false,
+        "\x1b[?-9223372036854775808;1S",
+    ),
+    (
+        XtSmGraphicsItem::Unspecified(3),
+        1,
+        &[],
+        false,
+        "\x1b[?3;1S",
+    ),
+    (XtSmGraphicsItem::Unspecified(4), 0, &[], true, "\x1b[?4;0S"),
+    (
+        XtSmGraphicsItem::RegisGraphicsGeometry,
+        -1,
+        &[],
+        false,
+        "\x1b[?3;-1S",
+    ),
+    (
+        XtSmGraphicsItem::RegisGraphicsGeometry,
+        3,
+        &[1, i64::MIN],
+        false,
+        "\x1b[?3;3;1;-9223372036854775808S",
+    ),
+    (
+        XtSmGraphicsItem::RegisGraphicsGeometry,
+        3,
+        &[0, i64::MAX],
+        true,
+        "\x1b[?3;3;0;9223372036854775807S",
+    ),
+];
+
 /// Which values that are built by hand are read back.
 #[test]
 fn built_graphics(rt: HostRuntime) -> Result<(), Fail> {
-    let rows: [(XtSmGraphicsItem, i64, &[i64], bool, &str); 6] = [
-        (
-            XtSmGraphicsItem::Unspecified(i64::MIN),
-            1,
-            &[],
-            false,
-            "\x1b[?-9223372036854775808;1S",
-        ),
-        (
-            XtSmGraphicsItem::Unspecified(3),
-            1,
-            &[],
-            false,
-            "\x1b[?3;1S",
-        ),
-        (XtSmGraphicsItem::Unspecified(4), 0, &[], true, "\x1b[?4;0S"),
-        (
-            XtSmGraphicsItem::RegisGraphicsGeometry,
-            -1,
-            &[],
-            false,
-            "\x1b[?3;-1S",
-        ),
-        (
-            XtSmGraphicsItem::RegisGraphicsGeometry,
-            3,
-            &[1, i64::MIN],
-            false,
-            "\x1b[?3;3;1;-9223372036854775808S",
-        ),
-        (
-            XtSmGraphicsItem::RegisGraphicsGeometry,
-            3,
-            &[0, i64::MAX],
-            true,
-            "\x1b[?3;3;0;9223372036854775807S",
-        ),
-    ];
-    for (item, action_or_status, value, canonical, text) in rows {
+    for (item, action_or_status, value, canonical, text) in &BUILT {
         let device = Device::XtSmGraphics(XtSmGraphics {
-            item,
-            action_or_status,
+            item: *item,
+            action_or_status: *action_or_status,
             value: value.to_vec(rt.alloc())?,
         });
         let action = CSI::Device(Box::new(rt.alloc(), device)?);
         assert!(rt;
-            format!(in rt.alloc(); "{action}")?.as_str() == text,
+            format!(in rt.alloc(); "{action}")?.as_str() == *text,
             "{text:?}"
         );
         assert!(rt;
-            action.is_canonical(rt.alloc(), false)? == canonical,
+            action.is_canonical(rt.alloc(), false)? == *canonical,
             "{text:?}"
         );
     }

@@ -253,19 +253,28 @@ fn texts(rt: HostRuntime) -> Result<(), Fail> {
 
 #[test]
 fn numbers(rt: HostRuntime) {
-    for (number, code) in PRIVATE_CODES {
-        assert_eq!(rt; DecPrivateModeCode::from_i64(number), Some(code));
-        assert_eq!(rt; code.to_i64(), number);
+    for (number, code) in &PRIVATE_CODES {
+        assert!(rt;
+            DecPrivateModeCode::from_i64(*number) == Some(*code),
+            "{number}"
+        );
+        assert!(rt; code.to_i64() == *number, "{number}");
     }
-    for (number, code) in PLAIN_CODES {
-        assert_eq!(rt; TerminalModeCode::from_i64(number), Some(code));
-        assert_eq!(rt; code.to_i64(), number);
+    for (number, code) in &PLAIN_CODES {
+        assert!(rt;
+            TerminalModeCode::from_i64(*number) == Some(*code),
+            "{number}"
+        );
+        assert!(rt; code.to_i64() == *number, "{number}");
     }
     for number in [0, 9, 10, 65536, -1, i64::MIN] {
         assert_eq!(rt; DecPrivateModeCode::from_i64(number), None);
         assert_eq!(rt; TerminalModeCode::from_i64(number), None);
     }
-    for (number, resource) in RESOURCES {
-        assert_eq!(rt; XtermKeyModifierResource::parse(number), resource);
+    for (number, resource) in &RESOURCES {
+        assert!(rt;
+            XtermKeyModifierResource::parse(*number) == *resource,
+            "{number}"
+        );
     }
 }

@@ -41,64 +41,66 @@ fn check(
     Ok(())
 }
 
+/// Lists with their final characters, the place and the button of the report, and its text.
+static REPORTS: [(&str, char, u16, u16, MouseButton, &str); 9] = [
+    (
+        "<64;1;1",
+        'm',
+        1,
+        1,
+        MouseButton::Button4Release,
+        "\x1b[<64;1;1m",
+    ),
+    ("<3;5;6", 'M', 5, 6, MouseButton::None, "\x1b[<35;5;6M"),
+    ("<35;5;6", 'm', 5, 6, MouseButton::None, "\x1b[<35;5;6M"),
+    ("<131;5;6", 'M', 5, 6, MouseButton::None, "\x1b[<35;5;6M"),
+    (
+        "<66;1;1",
+        'M',
+        1,
+        1,
+        MouseButton::Button6Press,
+        "\x1b[<66;1;1M",
+    ),
+    (
+        "<67;1;1",
+        'M',
+        1,
+        1,
+        MouseButton::Button7Press,
+        "\x1b[<67;1;1M",
+    ),
+    (
+        "<3;65535;65535",
+        'M',
+        65535,
+        65535,
+        MouseButton::None,
+        "\x1b[<35;65535;65535M",
+    ),
+    (
+        "<0;12;300",
+        'M',
+        12,
+        300,
+        MouseButton::Button1Press,
+        "\x1b[<0;12;300M",
+    ),
+    (
+        "<32;0;7",
+        'M',
+        0,
+        7,
+        MouseButton::Button1Drag,
+        "\x1b[<32;0;7M",
+    ),
+];
+
 #[test]
 fn reports(rt: HostRuntime) -> Result<(), Fail> {
-    let rows: [(&str, char, u16, u16, MouseButton, &str); 9] = [
-        (
-            "<64;1;1",
-            'm',
-            1,
-            1,
-            MouseButton::Button4Release,
-            "\x1b[<64;1;1m",
-        ),
-        ("<3;5;6", 'M', 5, 6, MouseButton::None, "\x1b[<35;5;6M"),
-        ("<35;5;6", 'm', 5, 6, MouseButton::None, "\x1b[<35;5;6M"),
-        ("<131;5;6", 'M', 5, 6, MouseButton::None, "\x1b[<35;5;6M"),
-        (
-            "<66;1;1",
-            'M',
-            1,
-            1,
-            MouseButton::Button6Press,
-            "\x1b[<66;1;1M",
-        ),
-        (
-            "<67;1;1",
-            'M',
-            1,
-            1,
-            MouseButton::Button7Press,
-            "\x1b[<67;1;1M",
-        ),
-        (
-            "<3;65535;65535",
-            'M',
-            65535,
-            65535,
-            MouseButton::None,
-            "\x1b[<35;65535;65535M",
-        ),
-        (
-            "<0;12;300",
-            'M',
-            12,
-            300,
-            MouseButton::Button1Press,
-            "\x1b[<0;12;300M",
-        ),
-        (
-            "<32;0;7",
-            'M',
-            0,
-            7,
-            MouseButton::Button1Drag,
-            "\x1b[<32;0;7M",
-        ),
-    ];
-    for (list, control, x, y, button, text) in rows {
-        let action = report(x, y, button, Modifiers::NONE);
-        check(&rt, rt.alloc(), list, control, action, text)?;
+    for (list, control, x, y, button, text) in &REPORTS {
+        let action = report(*x, *y, *button, Modifiers::NONE);
+        check(&rt, rt.alloc(), list, *control, action, text)?;
     }
     let all = Modifiers::SHIFT
         .union(Modifiers::ALT)

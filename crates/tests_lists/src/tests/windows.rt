@@ -3,7 +3,7 @@ ghost use Rattle.std.specs.Prelude.{◌<◌};
 
 use super::worked::{check, check_unknown, tokens_of};
 use csicodec::CsiParam::{Integer, P};
-use csicodec::{CSI, CsiParam, OneBased, Window, decode_all, encode_all, parse_all};
+use csicodec::{CSI, CsiParam, OneBased, Window, encode_all, parse_all};
 use std::alloc::Global;
 use std::test::Fail;
 
@@ -25,149 +25,6 @@ fn area(request_id: i64, page_number: i64, top: u32, left: u32, end: u32) -> Win
 
 fn action(alloc: Global, window: Window) -> Result<CSI, Fail> {
     Ok(CSI::Window(Box::new(alloc, window)?))
-}
-
-/// Each operation in its normal form, which is read as it and written as it came.
-#[test]
-fn operations(rt: HostRuntime) -> Result<(), Fail> {
-    let rows: [(Window, &str); 42] = [
-        (Window::DeIconify, "1"),
-        (Window::Iconify, "2"),
-        (
-            Window::MoveWindow {
-                x: 0,
-                y: 9223372036854775807,
-            },
-            "3;0;9223372036854775807",
-        ),
-        (
-            Window::ResizeWindowPixels {
-                width: Some(7),
-                height: Some(15),
-            },
-            "4;15;7",
-        ),
-        (Window::RaiseWindow, "5"),
-        (Window::LowerWindow, "6"),
-        (
-            Window::ReportCellSizePixelsResponse {
-                width: Some(7),
-                height: Some(15),
-            },
-            "6;15;7",
-        ),
-        (Window::RefreshWindow, "7"),
-        (
-            Window::ResizeWindowCells {
-                width: Some(7),
-                height: Some(15),
-            },
-            "8;15;7",
-        ),
-        (Window::RestoreMaximizedWindow, "9;0"),
-        (Window::MaximizeWindow, "9;1"),
-        (Window::MaximizeWindowVertically, "9;2"),
-        (Window::MaximizeWindowHorizontally, "9;3"),
-        (Window::UndoFullScreenMode, "10;0"),
-        (Window::ChangeToFullScreenMode, "10;1"),
-        (Window::ToggleFullScreen, "10;2"),
-        (Window::ReportWindowState, "11"),
-        (Window::ReportWindowPosition, "13"),
-        (Window::ReportTextAreaPosition, "13;2"),
-        (Window::ReportTextAreaSizePixels, "14"),
-        (Window::ReportWindowSizePixels, "14;2"),
-        (Window::ReportScreenSizePixels, "15"),
-        (Window::ReportCellSizePixels, "16"),
-        (Window::ReportTextAreaSizeCells, "18"),
-        (Window::ReportScreenSizeCells, "19"),
-        (Window::ReportIconLabel, "20"),
-        (Window::ReportWindowTitle, "21"),
-        (Window::PushIconAndWindowTitle, "22;0"),
-        (Window::PushIconTitle, "22;1"),
-        (Window::PushWindowTitle, "22;2"),
-        (Window::PopIconAndWindowTitle, "23;0"),
-        (Window::PopIconTitle, "23;1"),
-        (Window::PopWindowTitle, "23;2"),
-        (
-            Window::ResizeWindowPixels {
-                width: Some(7),
-                height: None,
-            },
-            "4;;7",
-        ),
-        (
-            Window::ResizeWindowPixels {
-                width: None,
-                height: Some(15),
-            },
-            "4;15;",
-        ),
-        (
-            Window::ResizeWindowPixels {
-                width: None,
-                height: None,
-            },
-            "4;;",
-        ),
-        (
-            Window::ReportCellSizePixelsResponse {
-                width: Some(7),
-                height: None,
-            },
-            "6;;7",
-        ),
-        (
-            Window::ReportCellSizePixelsResponse {
-                width: None,
-                height: Some(15),
-            },
-            "6;15;",
-        ),
-        (
-            Window::ReportCellSizePixelsResponse {
-                width: None,
-                height: None,
-            },
-            "6;;",
-        ),
-        (
-            Window::ResizeWindowCells {
-                width: Some(7),
-                height: None,
-            },
-            "8;;7",
-        ),
-        (
-            Window::ResizeWindowCells {
-                width: None,
-                height: Some(15),
-            },
-            "8;15;",
-        ),
-        (
-            Window::ResizeWindowCells {
-                width: None,
-                height: None,
-            },
-            "8;;",
-        ),
-    ];
-    for (window, list) in rows {
-        let params = tokens_of(rt.alloc(), list)?;
-        let text = format!(in rt.alloc(); "\x1b[{list}t")?;
-        let actions = vec![in rt.alloc(); action(rt.alloc(), window)?]?;
-        check(&rt, rt.alloc(), &params, 't', &actions, text.as_bytes())?;
-        assert_eq!(rt;
-            actions[0].is_canonical(rt.alloc(), false)?,
-            true,
-            "{list:?}"
-        );
-        assert!(rt; actions[0].clone(rt.alloc())? == actions[0], "{list:?}");
-        let shown = format!(in rt.alloc(); "{window}")?;
-        let wanted = format!(in rt.alloc(); "{list}t")?;
-        assert_eq!(rt; shown.as_str(), wanted.as_str());
-    }
-    Ok(())
 }
 
 /// Other lists before `t`. Fields behind those of the row are dropped; recorded of real programs are `22;0`, `23;0;0` and,
@@ -236,11 +93,7 @@ fn areas(rt: HostRuntime) -> Result<(), Fail> {
         let params = tokens_of(rt.alloc(), list)?;
         let actions = vec![in rt.alloc(); action(rt.alloc(), window)?]?;
         check(&rt, rt.alloc(), &params, 'y', &actions, text.as_bytes())?;
-        assert_eq!(rt;
-            actions[0].is_canonical(rt.alloc(), false)?,
-            true,
-            "{list:?}"
-        );
+        assert!(rt; actions[0].is_canonical(rt.alloc(), false)?, "{list:?}");
     }
     let unknown = [
         "",
@@ -306,50 +159,5 @@ fn many_fields(rt: HostRuntime) -> Result<(), Fail> {
         matches!(actions.as_slice(), [CSI::Unspecified(unknown)] if unknown.params.len() == 10_000)
     );
     assert_eq!(rt; encode_all(rt.alloc(), &actions)?.len(), 10_003);
-    Ok(())
-}
-
-/// Values that are built by hand: no number is cut, and none below 0 is read back.
-#[test]
-fn built_values(rt: HostRuntime) -> Result<(), Fail> {
-    let rows: [(Window, &str); 4] = [
-        (
-            Window::MoveWindow {
-                x: i64::MIN,
-                y: i64::MAX,
-            },
-            "\x1b[3;-9223372036854775808;9223372036854775807t",
-        ),
-        (
-            Window::ResizeWindowCells {
-                width: Some(i64::MIN),
-                height: Some(i64::MIN),
-            },
-            "\x1b[8;-9223372036854775808;-9223372036854775808t",
-        ),
-        (
-            Window::ReportCellSizePixelsResponse {
-                width: Some(-1),
-                height: None,
-            },
-            "\x1b[6;;-1t",
-        ),
-        (
-            area(i64::MIN, i64::MIN, u32::MAX, u32::MAX, u32::MAX),
-            "\x1b[-9223372036854775808;-9223372036854775808;4294967295;4294967295;4294967295;4294967295*y",
-        ),
-    ];
-    for (window, text) in rows {
-        let actions = vec![in rt.alloc(); action(rt.alloc(), window)?]?;
-        let csi = &actions[0];
-        assert_eq!(rt; format!(in rt.alloc(); "{csi}")?.as_str(), text);
-        let bytes = encode_all(rt.alloc(), &actions)?;
-        assert!(rt; bytes.as_slice() == text.as_bytes(), "{window:?}");
-        assert_eq!(rt; csi.is_canonical(rt.alloc(), false)?, false, "{window:?}");
-        assert!(rt;
-            !matches!(decode_all(rt.alloc(), &bytes, false), Ok(read) if read.as_slice() == actions.as_slice()),
-            "{window:?}"
-        );
-    }
     Ok(())
 }

@@ -65,7 +65,7 @@ fn check(
 
 #[test]
 fn moves(rt: HostRuntime) -> Result<(), Fail> {
-    let rows: [(&str, Cursor, &str); 34] = [
+    let rows: [(&str, Cursor, &str); 24] = [
         ("\x1b[2H", position(2, 1), "\x1b[2;1H"),
         ("\x1b[;3H", position(1, 3), "\x1b[1;3H"),
         ("\x1b[0;0H", position(1, 1), "\x1b[1;1H"),
@@ -77,19 +77,13 @@ fn moves(rt: HostRuntime) -> Result<(), Fail> {
         ),
         ("\x1b[5;0r", rows(5, MOST), "\x1b[5;4294967295r"),
         ("\x1b[0;0r", rows(1, MOST), "\x1b[r"),
-        ("\x1b[r", rows(1, MOST), "\x1b[r"),
         ("\x1b[3r", rows(3, MOST), "\x1b[3;4294967295r"),
         ("\x1b[;9r", rows(1, 9), "\x1b[1;9r"),
         ("\x1b[5;0s", columns(5, 1), "\x1b[5;1s"),
         ("\x1b[1s", columns(1, MOST), "\x1b[s"),
         ("\x1b[;9s", columns(1, 9), "\x1b[1;9s"),
-        ("\x1b[s", Cursor::SaveCursor, "\x1b[s"),
-        ("\x1b[u", Cursor::RestoreCursor, "\x1b[u"),
-        ("\x1b[6n", Cursor::RequestActivePositionReport, "\x1b[6n"),
-        ("\x1b[4294967295A", Cursor::Up(MOST), "\x1b[4294967295A"),
         ("\x1b[0B", Cursor::Down(1), "\x1b[B"),
         ("\x1b[0C", Cursor::Right(1), "\x1b[C"),
-        ("\x1b[C", Cursor::Right(1), "\x1b[C"),
         ("\x1b[4C", Cursor::Right(4), "\x1b[4C"),
         ("\x1b[0004D", Cursor::Left(4), "\x1b[4D"),
         (
@@ -103,29 +97,9 @@ fn moves(rt: HostRuntime) -> Result<(), Fail> {
             "\x1b[7`",
         ),
         (
-            "\x1b[6W",
-            Cursor::TabulationControl(CursorTabulationControl::ClearAllLineTabStops),
-            "\x1b[6W",
-        ),
-        (
-            "\x1b[W",
-            Cursor::TabulationControl(CursorTabulationControl::SetCharacterTabStopAtActivePosition),
-            "\x1b[W",
-        ),
-        (
             "\x1b[0g",
             Cursor::TabulationClear(TabulationClear::ClearCharacterTabStopAtActivePosition),
             "\x1b[g",
-        ),
-        (
-            "\x1b[3g",
-            Cursor::TabulationClear(TabulationClear::ClearAllCharacterTabStops),
-            "\x1b[3g",
-        ),
-        (
-            "\x1b[2 q",
-            Cursor::CursorStyle(CursorStyle::SteadyBlock),
-            "\x1b[2 q",
         ),
         (
             "\x1b[0 q",
@@ -143,40 +117,42 @@ fn moves(rt: HostRuntime) -> Result<(), Fail> {
     Ok(())
 }
 
+/// Sequences, the edit that each stands for, and its text.
+static EDITS: [(&str, Edit, &str); 8] = [
+    (
+        "\x1b[0J",
+        Edit::EraseInDisplay(EraseInDisplay::EraseToEndOfDisplay),
+        "\x1b[J",
+    ),
+    (
+        "\x1b[1J",
+        Edit::EraseInDisplay(EraseInDisplay::EraseToStartOfDisplay),
+        "\x1b[1J",
+    ),
+    (
+        "\x1b[J",
+        Edit::EraseInDisplay(EraseInDisplay::EraseToEndOfDisplay),
+        "\x1b[J",
+    ),
+    (
+        "\x1b[3J",
+        Edit::EraseInDisplay(EraseInDisplay::EraseScrollback),
+        "\x1b[3J",
+    ),
+    (
+        "\x1b[2K",
+        Edit::EraseInLine(EraseInLine::EraseLine),
+        "\x1b[2K",
+    ),
+    ("\x1b[0@", Edit::InsertCharacter(1), "\x1b[@"),
+    ("\x1b[80X", Edit::EraseCharacter(80), "\x1b[80X"),
+    ("\x1b[3b", Edit::Repeat(3), "\x1b[3b"),
+];
+
 #[test]
 fn edits(rt: HostRuntime) -> Result<(), Fail> {
-    let rows: [(&str, Edit, &str); 8] = [
-        (
-            "\x1b[0J",
-            Edit::EraseInDisplay(EraseInDisplay::EraseToEndOfDisplay),
-            "\x1b[J",
-        ),
-        (
-            "\x1b[1J",
-            Edit::EraseInDisplay(EraseInDisplay::EraseToStartOfDisplay),
-            "\x1b[1J",
-        ),
-        (
-            "\x1b[J",
-            Edit::EraseInDisplay(EraseInDisplay::EraseToEndOfDisplay),
-            "\x1b[J",
-        ),
-        (
-            "\x1b[3J",
-            Edit::EraseInDisplay(EraseInDisplay::EraseScrollback),
-            "\x1b[3J",
-        ),
-        (
-            "\x1b[2K",
-            Edit::EraseInLine(EraseInLine::EraseLine),
-            "\x1b[2K",
-        ),
-        ("\x1b[0@", Edit::InsertCharacter(1), "\x1b[@"),
-        ("\x1b[80X", Edit::EraseCharacter(80), "\x1b[80X"),
-        ("\x1b[3b", Edit::Repeat(3), "\x1b[3b"),
-    ];
-    for (sequence, edit, text) in rows {
-        check(&rt, rt.alloc(), sequence, CSI::Edit(edit), text)?;
+    for (sequence, edit, text) in &EDITS {
+        check(&rt, rt.alloc(), sequence, CSI::Edit(*edit), text)?;
     }
     Ok(())
 }
@@ -184,31 +160,15 @@ fn edits(rt: HostRuntime) -> Result<(), Fail> {
 /// Devices take memory: the parser makes them apart from the others, and so does what goes over bytes.
 #[test]
 fn devices(rt: HostRuntime) -> Result<(), Fail> {
-    let rows: [(&str, Device, &str); 9] = [
+    let rows: [(&str, Device, &str); 5] = [
         ("\x1b[!p", Device::SoftReset, "\x1b[!p"),
         ("\x1b[0c", Device::RequestPrimaryDeviceAttributes, "\x1b[c"),
-        (
-            "\x1b[>c",
-            Device::RequestSecondaryDeviceAttributes,
-            "\x1b[>c",
-        ),
         (
             "\x1b[=0c",
             Device::RequestTertiaryDeviceAttributes,
             "\x1b[=c",
         ),
         ("\x1b[>0q", Device::RequestTerminalNameAndVersion, "\x1b[>q"),
-        ("\x1b[5n", Device::StatusReport, "\x1b[5n"),
-        (
-            "\x1b[?1;2c",
-            Device::DeviceAttributes(DeviceAttributes::Vt100WithAdvancedVideoOption),
-            "\x1b[?1;2c",
-        ),
-        (
-            "\x1b[?1;0c",
-            Device::DeviceAttributes(DeviceAttributes::Vt101WithNoOptions),
-            "\x1b[?1;0c",
-        ),
         (
             "\x1b[?6c",
             Device::DeviceAttributes(DeviceAttributes::Vt102),
@@ -230,37 +190,39 @@ fn devices(rt: HostRuntime) -> Result<(), Fail> {
     Ok(())
 }
 
+/// Lists with their final characters that no row reads, and their texts.
+static UNREAD: [(&[CsiParam], char, &str); 17] = [
+    (&[Integer(2), P(b';')], 'H', "\x1b[2;H"),
+    (&[P(b';')], 'H', "\x1b[;H"),
+    (&[Integer(1), P(b':'), Integer(2)], 'H', "\x1b[1:2H"),
+    (&[Integer(1), P(b';')], 'A', "\x1b[1;A"),
+    (&[Integer(4294967296)], 'A', "\x1b[4294967296A"),
+    (&[Integer(-1)], 'A', "\x1b[-1A"),
+    (&[P(b'?')], 'A', "\x1b[?A"),
+    (&[P(b';'), Integer(-1)], 's', "\x1b[;-1s"),
+    (
+        &[Integer(1), P(b';'), Integer(4294967296)],
+        'r',
+        "\x1b[1;4294967296r",
+    ),
+    (&[Integer(7)], 'W', "\x1b[7W"),
+    (&[Integer(6)], 'g', "\x1b[6g"),
+    (&[Integer(3)], 'K', "\x1b[3K"),
+    (&[Integer(7), P(b' ')], 'q', "\x1b[7 q"),
+    (&[Integer(2)], 'q', "\x1b[2q"),
+    (&[Integer(6), P(b';')], 'n', "\x1b[6;n"),
+    (&[Integer(7)], 'n', "\x1b[7n"),
+    (&[Integer(0)], 'u', "\x1b[0u"),
+];
+
 /// What no row reads comes as it is, and is written as it came.
 #[test]
 fn unread(rt: HostRuntime) -> Result<(), Fail> {
-    let rows: [(&[CsiParam], char, &str); 17] = [
-        (&[Integer(2), P(b';')], 'H', "\x1b[2;H"),
-        (&[P(b';')], 'H', "\x1b[;H"),
-        (&[Integer(1), P(b':'), Integer(2)], 'H', "\x1b[1:2H"),
-        (&[Integer(1), P(b';')], 'A', "\x1b[1;A"),
-        (&[Integer(4294967296)], 'A', "\x1b[4294967296A"),
-        (&[Integer(-1)], 'A', "\x1b[-1A"),
-        (&[P(b'?')], 'A', "\x1b[?A"),
-        (&[P(b';'), Integer(-1)], 's', "\x1b[;-1s"),
-        (
-            &[Integer(1), P(b';'), Integer(4294967296)],
-            'r',
-            "\x1b[1;4294967296r",
-        ),
-        (&[Integer(7)], 'W', "\x1b[7W"),
-        (&[Integer(6)], 'g', "\x1b[6g"),
-        (&[Integer(3)], 'K', "\x1b[3K"),
-        (&[Integer(7), P(b' ')], 'q', "\x1b[7 q"),
-        (&[Integer(2)], 'q', "\x1b[2q"),
-        (&[Integer(6), P(b';')], 'n', "\x1b[6;n"),
-        (&[Integer(7)], 'n', "\x1b[7n"),
-        (&[Integer(0)], 'u', "\x1b[0u"),
-    ];
-    for (params, control, text) in rows {
-        let actions = parse_all(rt.alloc(), params, false, control)?;
+    for (params, control, text) in &UNREAD {
+        let actions = parse_all(rt.alloc(), params, false, *control)?;
         assert!(rt;
             matches!(actions.as_slice(), [CSI::Unspecified(unknown)]
-                if unknown.params.as_slice() == params && unknown.control == control),
+                if unknown.params.as_slice() == *params && unknown.control == *control),
             "{text:?}"
         );
         assert!(rt;
@@ -271,23 +233,25 @@ fn unread(rt: HostRuntime) -> Result<(), Fail> {
     Ok(())
 }
 
+/// Tokens, the numbers that they are, and those with the large default.
+static ONE_BASED: [(CsiParam, Option<u32>, Option<u32>); 6] = [
+    (Integer(0), Some(1), Some(MOST)),
+    (Integer(1), Some(1), Some(1)),
+    (Integer(4294967295), Some(MOST), Some(MOST)),
+    (Integer(4294967296), None, None),
+    (Integer(-1), None, None),
+    (P(b'1'), None, None),
+];
+
 #[test]
 fn one_based(rt: HostRuntime) -> Result<(), Fail> {
-    let rows: [(CsiParam, Option<u32>, Option<u32>); 6] = [
-        (Integer(0), Some(1), Some(MOST)),
-        (Integer(1), Some(1), Some(1)),
-        (Integer(4294967295), Some(MOST), Some(MOST)),
-        (Integer(4294967296), None, None),
-        (Integer(-1), None, None),
-        (P(b'1'), None, None),
-    ];
-    for (param, number, big) in rows {
-        let read = OneBased::from_esc_param(&param).map(|n| n.as_one_based());
-        assert_eq!(rt; read, number.ok_or(NotSpelled));
-        let read = OneBased::from_optional_esc_param(Some(&param)).map(|n| n.as_one_based());
-        assert_eq!(rt; read, number.ok_or(NotSpelled));
-        let read = OneBased::from_esc_param_with_big_default(&param).map(|n| n.as_one_based());
-        assert_eq!(rt; read, big.ok_or(NotSpelled));
+    for (param, number, big) in &ONE_BASED {
+        let read = OneBased::from_esc_param(param).map(|n| n.as_one_based());
+        assert!(rt; read == number.ok_or(NotSpelled), "{param}");
+        let read = OneBased::from_optional_esc_param(Some(param)).map(|n| n.as_one_based());
+        assert!(rt; read == number.ok_or(NotSpelled), "{param}");
+        let read = OneBased::from_esc_param_with_big_default(param).map(|n| n.as_one_based());
+        assert!(rt; read == big.ok_or(NotSpelled), "{param}");
     }
     assert_eq!(rt;
         OneBased::from_optional_esc_param(None),

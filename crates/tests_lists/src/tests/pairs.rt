@@ -1,6 +1,6 @@
 //! Lists that have equal actions, and lists that have equal texts.
 
-use super::tokens_of;
+use super::worked::tokens_of;
 use csicodec::{encode_all, parse_all};
 use std::test::Fail;
 

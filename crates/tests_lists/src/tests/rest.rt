@@ -1,6 +1,6 @@
 //! What is left of a list, and what a run over it costs.
 
-use super::tokens_of;
+use super::worked::tokens_of;
 use csicodec::{CSI, CsiParam, Look, Run, Tokens, encode_all, parse_all};
 use std::alloc::{AllocError, Global};
 use std::test::Fail;

@@ -177,7 +177,7 @@ impl Runs {
     }
 
     /// Takes a span, and appends what is sure then. One that is no control sequence ends the run before it.
-    pub fn take(
+    pub(crate) fn take(
         &mut self,
         bytes: &[u8],
         params: &[CsiParam],

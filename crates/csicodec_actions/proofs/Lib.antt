@@ -5,3 +5,4 @@ pub mod DeviceTexts
 pub mod FieldsAt
 pub mod AllFieldRows
 pub mod GraphicsBehind
+pub mod OwnNumbers

@@ -1,10 +1,13 @@
 //! Moving the cursor, tab stops and margins.
-ghost use Rattle.std.specs.Prelude.{◌≡◌, ◌==◌, ◌&&◌, ◌≤◌, ◌<◌, ◌++◌, [], ◌∷◌, Some, if◌then◌else◌, length};
+ghost use Rattle.std.specs.Prelude.{◌≡◌, ◌↔◌, ◌==◌, ◌&&◌, ◌≤◌, ◌<◌, ◌++◌, [], ◌∷◌, Some, if◌then◌else◌, length, IsTrue};
 ghost use Rattle.csicodec_tokens.specs.OneBased.{most};
+ghost use Rattle.csicodec_actions.specs.Actions.{Cursor as Moves};
 ghost use Rattle.csicodec_actions.specs.Kinds.{Count};
+ghost use Rattle.csicodec_actions.specs.Special.{IsSpecial};
 ghost use Rattle.csicodec_actions.specs.Table.Cursor.{written_cursor};
-ghost use Rattle.csicodec_actions.specs.Written.{shown, two, written_text};
+ghost use Rattle.csicodec_actions.specs.Written.{AllGood, shown, two, written_text};
 
+use crate::canonical::{is_count, is_one_based};
 use crate::encode::{EncodeCSIParam, write_pair};
 use csicodec_base::{CursorStyle, CursorTabulationControl, OneBased, TabulationClear, Text};
 use std::fmt;
@@ -149,6 +152,69 @@ impl Cursor {
                 text.push_u8(style.to_i64() as u8);
                 text.push_str(" q");
             }
+        }
+    }
+
+    /// Whether each number of an action of the cursor is read as itself.
+    pub fn is_canonical(&self) -> bool
+        ensures { IsTrue result ↔ AllGood (written_cursor self.now).items }
+    {
+        match self {
+            Cursor::Up(count)
+            | Cursor::Down(count)
+            | Cursor::Right(count)
+            | Cursor::Left(count)
+            | Cursor::NextLine(count)
+            | Cursor::PrecedingLine(count)
+            | Cursor::ForwardTabulation(count)
+            | Cursor::BackwardTabulation(count)
+            | Cursor::LineTabulation(count)
+            | Cursor::CharacterPositionForward(count)
+            | Cursor::CharacterPositionBackward(count)
+            | Cursor::LinePositionAbsolute(count)
+            | Cursor::LinePositionForward(count)
+            | Cursor::LinePositionBackward(count) => is_count(*count),
+            Cursor::CharacterAbsolute(place) | Cursor::CharacterPositionAbsolute(place) => {
+                is_one_based(*place)
+            }
+            Cursor::Position {
+                line: first,
+                col: second,
+            }
+            | Cursor::ActivePositionReport {
+                line: first,
+                col: second,
+            }
+            | Cursor::CharacterAndLinePosition {
+                line: first,
+                col: second,
+            }
+            | Cursor::SetTopAndBottomMargins {
+                top: first,
+                bottom: second,
+            }
+            | Cursor::SetLeftAndRightMargins {
+                left: first,
+                right: second,
+            } => is_one_based(*first) && is_one_based(*second),
+            Cursor::TabulationControl(_)
+            | Cursor::TabulationClear(_)
+            | Cursor::SaveCursor
+            | Cursor::RestoreCursor
+            | Cursor::RequestActivePositionReport
+            | Cursor::CursorStyle(_) => true,
+        }
+    }
+
+    /// Margins all around, which are written as the cursor that is saved.
+    pub fn is_special(&self) -> bool
+        ensures { IsTrue result ↔ IsSpecial (Moves self.now) }
+    {
+        match self {
+            Cursor::SetLeftAndRightMargins { left, right } => {
+                left.as_one_based() == 1 && right.as_one_based() == u32::MAX
+            }
+            _ => false,
         }
     }
 }

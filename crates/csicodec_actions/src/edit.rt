@@ -1,8 +1,9 @@
 //! Inserting, deleting, erasing and scrolling.
-ghost use Rattle.std.specs.Prelude.{◌≡◌, ◌≤◌, ◌++◌, Some, length};
+ghost use Rattle.std.specs.Prelude.{◌≡◌, ◌↔◌, ◌≤◌, ◌++◌, Some, length, IsTrue};
 ghost use Rattle.csicodec_actions.specs.Table.Edit.{written_edit};
-ghost use Rattle.csicodec_actions.specs.Written.{written_text};
+ghost use Rattle.csicodec_actions.specs.Written.{AllGood, written_text};
 
+use crate::canonical::is_count;
 use crate::encode::EncodeCSIParam;
 use csicodec_base::{EraseInDisplay, EraseInLine, Text};
 use std::fmt;
@@ -58,6 +59,23 @@ impl Edit {
             Edit::Repeat(count) => count.write_csi(text, b'b'),
             Edit::EraseInDisplay(part) => part.write_csi(text, b'J'),
             Edit::EraseInLine(part) => part.write_csi(text, b'K'),
+        }
+    }
+
+    /// Whether each number of an edit is read as itself.
+    pub fn is_canonical(&self) -> bool
+        ensures { IsTrue result ↔ AllGood (written_edit self.now).items }
+    {
+        match self {
+            Edit::InsertCharacter(count)
+            | Edit::InsertLine(count)
+            | Edit::DeleteCharacter(count)
+            | Edit::DeleteLine(count)
+            | Edit::EraseCharacter(count)
+            | Edit::ScrollUp(count)
+            | Edit::ScrollDown(count)
+            | Edit::Repeat(count) => is_count(*count),
+            Edit::EraseInDisplay(_) | Edit::EraseInLine(_) => true,
         }
     }
 }

@@ -1,5 +1,5 @@
 //! Graphics of a terminal, asked for and answered, and their row.
-ghost use Rattle.std.specs.Prelude.{◌≡◌, ◌↔◌, IfOk, Some, pos, ◌<◌, IfErr, OnErr, length};
+ghost use Rattle.std.specs.Prelude.{◌≡◌, ◌↔◌, IfOk, IsTrue, Some, pos, ◌<◌, IfErr, OnErr, length};
 ghost use Rattle.std.specs.Fmt.{signed_decimal};
 ghost use Rattle.csicodec_actions.specs.Devices.{HoldsMemory, graphics_of};
 ghost use Rattle.csicodec_actions.specs.Graphics.{action_number, item_number, item_of, status_number};
@@ -7,9 +7,12 @@ ghost use Rattle.csicodec_actions.specs.declared.graphics.XtSmGraphicsAction.{Xt
 ghost use Rattle.csicodec_actions.specs.declared.graphics.XtSmGraphicsStatus.{XtSmGraphicsStatus};
 ghost use Rattle.std.specs.Option.{option_map};
 ghost use Rattle.csicodec_actions.specs.Actions.{Device as Devices};
+ghost use Rattle.csicodec_actions.specs.Kinds.{Good, GraphicsItem};
+ghost use Rattle.csicodec_actions.specs.Written.{AllGood, any_number, listed};
 ghost use Rattle.csicodec_actions.specs.FieldRows.{TakesFields, given};
-ghost use Rattle.csicodec_actions.specs.Table.Graphics.{RefusesGraphics, as_graphics, graphics_behind, graphics_fields, graphics_rows};
+ghost use Rattle.csicodec_actions.specs.Table.Graphics.{RefusesGraphics, as_graphics, graphics_behind, graphics_fields, graphics_rows, written_graphics};
 
+use crate::canonical::is_said;
 use crate::fields::{fields_in, number, numbers_behind};
 use csicodec_base::{Cracked, CsiParam, ParseRefusal};
 use std::alloc::{AllocError, Global};
@@ -175,6 +178,36 @@ impl XtSmGraphics {
             value,
         })
     }
+
+    /// Whether each number of graphics is read as itself.
+    pub fn is_canonical(&self) -> bool
+        ensures { IsTrue result ↔ AllGood (written_graphics self.now.item self.now.action_or_status self.now.value.items).items }
+    {
+        is_item(self.item) && is_said(self.action_or_status) && are_said(&self.value)
+    }
+}
+
+/// An item is read as itself by its name, or by a number from 0 on that none has.
+fn is_item(item: XtSmGraphicsItem) -> bool
+    ensures { IsTrue result ↔ Good GraphicsItem item }
+{
+    match item {
+        XtSmGraphicsItem::Unspecified(number) => is_said(number) && !matches!(number, 1..=3),
+        _ => true,
+    }
+}
+
+fn are_said(numbers: &[i64]) -> bool
+    ensures { IsTrue result ↔ AllGood (listed any_number numbers.now) }
+{
+    let mut rest = numbers;
+    while let [first, others @ ..] = rest {
+        if !is_said(*first) {
+            return false;
+        }
+        rest = others;
+    }
+    true
 }
 
 /// What is asked or said of graphics before this final character, if a row reads the list. An `Err` comes only before

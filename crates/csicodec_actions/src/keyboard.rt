@@ -1,8 +1,8 @@
 //! The keyboard, and paths of characters.
-ghost use Rattle.std.specs.Prelude.{◌≤◌, ◌++◌, [], ◌∷◌, length, ◌≡◌, ◌↔◌, ◌<◌, Some, pos};
-ghost use Rattle.csicodec_actions.specs.Kinds.{Flags as FlagsKind, Path, Way, read, kitty_mode_number, path_number};
+ghost use Rattle.std.specs.Prelude.{◌≤◌, ◌++◌, [], ◌∷◌, length, ◌≡◌, ◌↔◌, ◌<◌, Some, pos, IsTrue};
+ghost use Rattle.csicodec_actions.specs.Kinds.{Good, Flags as FlagsKind, Path, Way, read, kitty_mode_number, path_number};
 ghost use Rattle.csicodec_actions.specs.Table.Keyboard.{written_keyboard};
-ghost use Rattle.csicodec_actions.specs.Written.{Byte, The, shown, written_text};
+ghost use Rattle.csicodec_actions.specs.Written.{AllGood, Byte, The, shown, written_text};
 ghost use Rattle.csicodec_actions.specs.declared.keyboard.KittyKeyboardMode.{KittyKeyboardMode};
 
 use bitflags::Flags;
@@ -102,6 +102,30 @@ impl Keyboard {
             }
         }
     }
+
+    /// Whether each number of what the keyboard reports is read as itself.
+    pub fn is_canonical(&self) -> bool
+        ensures { IsTrue result ↔ AllGood (written_keyboard self.now).items }
+    {
+        match self {
+            Keyboard::SetKittyState { flags, .. }
+            | Keyboard::PushKittyState { flags, .. }
+            | Keyboard::ReportKittyState(flags) => are_flags(*flags),
+            Keyboard::PopKittyState(pops) => {
+                // each number of 32 bits
+                let _pops = *pops;
+                true
+            }
+            Keyboard::QueryKittySupport => true,
+        }
+    }
+}
+
+/// The five flags that have a name.
+fn are_flags(flags: KittyKeyboardFlags) -> bool
+    ensures { IsTrue result ↔ Good FlagsKind flags }
+{
+    flags.bits() < 32
 }
 
 /// This mark, flags and the way that they are set.

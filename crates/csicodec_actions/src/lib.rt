@@ -1,6 +1,8 @@
-//! The actions of control sequences, subject by subject, the table of the lists that stand for them, and how they are written.
+//! The actions of control sequences, subject by subject: the table of the lists that stand for them, how they are written, and
+//! which of them are read back from their own texts.
 #![tactic(auto)]
 
+mod canonical;
 mod cursor;
 mod device;
 mod edit;
@@ -13,6 +15,7 @@ mod mouse;
 mod path;
 mod window;
 
+pub use canonical::{is_said, is_spellable_token};
 pub use cursor::Cursor;
 pub use device::{Device, DeviceAttribute, DeviceAttributeFlags, DeviceAttributes};
 pub use edit::Edit;

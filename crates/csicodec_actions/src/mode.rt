@@ -1,11 +1,12 @@
 //! Modes: what is set, reset, saved, restored or asked for.
-ghost use Rattle.std.specs.Prelude.{◌≤◌, ◌++◌, [], ◌∷◌, IsAscii, length, ◌≡◌, ◌↔◌, ◌<◌, Some, pos};
+ghost use Rattle.std.specs.Prelude.{◌≤◌, ◌++◌, [], ◌∷◌, IsAscii, length, ◌≡◌, ◌↔◌, ◌<◌, Some, pos, IsTrue};
 ghost use Rattle.csicodec_actions.specs.Table.Mode.{written_mode};
-ghost use Rattle.csicodec_actions.specs.Written.{Byte, The, shown, written_text};
+ghost use Rattle.csicodec_actions.specs.Written.{AllGood, Byte, The, shown, written_text};
 ghost use Rattle.csicodec_actions.specs.Modes.{changed, dec_number, resource_number, switched, terminal_number};
-ghost use Rattle.csicodec_actions.specs.Kinds.{Dec, Resource, Terminal, read};
+ghost use Rattle.csicodec_actions.specs.Kinds.{Good, Dec, Resource, Terminal, read};
 ghost use Rattle.csicodec_actions.specs.declared.mode.XtermKeyModifierResource.{XtermKeyModifierResource};
 
+use crate::canonical::is_said;
 use csicodec_base::{DecPrivateModeCode, TerminalModeCode, Text};
 use std::fmt;
 
@@ -298,6 +299,51 @@ impl Mode {
                 }
                 text.push(b'm');
             }
+        }
+    }
+
+    /// Whether each number of a mode is read as itself.
+    pub fn is_canonical(&self) -> bool
+        ensures { IsTrue result ↔ AllGood (written_mode self.now).items }
+    {
+        match self {
+            Mode::SetDecPrivateMode(mode)
+            | Mode::ResetDecPrivateMode(mode)
+            | Mode::SaveDecPrivateMode(mode)
+            | Mode::RestoreDecPrivateMode(mode)
+            | Mode::QueryDecPrivateMode(mode) => is_dec_mode(*mode),
+            Mode::SetMode(mode) | Mode::ResetMode(mode) | Mode::QueryMode(mode) => {
+                is_terminal_mode(*mode)
+            }
+            Mode::XtermKeyMode { value: None, .. } => true,
+            Mode::XtermKeyMode {
+                value: Some(value),
+                ..
+            } => is_said(*value),
+        }
+    }
+}
+
+/// A private mode is read as itself by its code, or by a number that has none.
+fn is_dec_mode(mode: DecPrivateMode) -> bool
+    ensures { IsTrue result ↔ Good Dec mode }
+{
+    match mode {
+        DecPrivateMode::Code(_) => true,
+        DecPrivateMode::Unspecified(number) => {
+            DecPrivateModeCode::from_i64(i64::from(number)).is_none()
+        }
+    }
+}
+
+/// The same of a mode of the standard.
+fn is_terminal_mode(mode: TerminalMode) -> bool
+    ensures { IsTrue result ↔ Good Terminal mode }
+{
+    match mode {
+        TerminalMode::Code(_) => true,
+        TerminalMode::Unspecified(number) => {
+            TerminalModeCode::from_i64(i64::from(number)).is_none()
         }
     }
 }

@@ -1,9 +1,12 @@
 //! Reports of the mouse.
-ghost use Rattle.std.specs.Prelude.{◌≡◌, ◌<◌, ◌≤◌, ◌++◌, Some, length};
+ghost use Rattle.std.specs.Prelude.{◌≡◌, ◌↔◌, ◌<◌, ◌≤◌, ◌++◌, Some, length, IsTrue};
+ghost use Rattle.csicodec_actions.specs.Actions.{Mouse as Reports};
+ghost use Rattle.csicodec_actions.specs.Kinds.{AreHeld};
+ghost use Rattle.csicodec_actions.specs.Special.{IsNeverRead};
 ghost use Rattle.csicodec_actions.specs.Mouse.{button_code, held_buttons, is_release, modifiers_code};
 ghost use Rattle.csicodec_names.specs.FlagBits.{button_bits};
 ghost use Rattle.csicodec_actions.specs.Table.Mouse.{written_mouse};
-ghost use Rattle.csicodec_actions.specs.Written.{written_text};
+ghost use Rattle.csicodec_actions.specs.Written.{AllGood, written_text};
 
 use bitflags::Flags;
 use csicodec_base::{Modifiers, MouseButtons, Text};
@@ -183,6 +186,32 @@ impl MouseReport {
         text.push_u16(*y);
         text.push(if button.is_release() { b'm' } else { b'M' });
     }
+
+    /// A report in pixels is read as one in cells.
+    pub fn is_canonical(&self) -> bool
+        ensures { IsTrue result ↔ (AllGood (written_mouse self.now).items × ¬ IsNeverRead (Reports self.now)) }
+    {
+        match self {
+            MouseReport::SGR1006 {
+                x,
+                y,
+                button,
+                modifiers,
+            } => {
+                // each number of 16 bits
+                let _place = (*x, *y);
+                are_held(*modifiers)
+            }
+            MouseReport::SGR1016 { .. } => false,
+        }
+    }
+}
+
+/// Shift, alt and control.
+fn are_held(modifiers: Modifiers) -> bool
+    ensures { IsTrue result ↔ AreHeld modifiers }
+{
+    modifiers.bits() & 14 == modifiers.bits()
 }
 
 /// Writes the parameters and the final character, without `ESC [`.

@@ -1,9 +1,10 @@
 //! Operations on the terminal's window and its title, and the checksum of an area of the page.
-ghost use Rattle.std.specs.Prelude.{◌≡◌, [], Some};
+ghost use Rattle.std.specs.Prelude.{◌≡◌, ◌↔◌, [], Some, IsTrue};
 ghost use Rattle.csicodec_actions.specs.Table.Window.{maybe, written_window};
 ghost use Rattle.csicodec_actions.specs.Private.WindowTexts.{written_numbers};
-ghost use Rattle.csicodec_actions.specs.Written.{shown, written_text};
+ghost use Rattle.csicodec_actions.specs.Written.{AllGood, shown, written_text};
 
+use crate::canonical::{is_one_based, is_said};
 use csicodec_base::OneBased;
 use std::fmt;
 
@@ -220,6 +221,48 @@ fn numbers_of(window: &Window) -> Numbers
             bottom,
             right,
         } => Numbers::Area(*request_id, *page_number, *top, *left, *bottom, *right),
+    }
+}
+
+impl Window {
+    /// Whether each number of a window or an area is read as itself.
+    pub fn is_canonical(&self) -> bool
+        ensures { IsTrue result ↔ AllGood (written_window self.now).items }
+    {
+        match self {
+            Window::MoveWindow { x, y } => is_said(*x) && is_said(*y),
+            Window::ResizeWindowPixels { width, height }
+            | Window::ReportCellSizePixelsResponse { width, height }
+            | Window::ResizeWindowCells { width, height } => {
+                is_said_or_absent(*width) && is_said_or_absent(*height)
+            }
+            Window::ChecksumRectangularArea {
+                request_id,
+                page_number,
+                top,
+                left,
+                bottom,
+                right,
+            } => {
+                is_said(*request_id)
+                    && is_said(*page_number)
+                    && is_one_based(*top)
+                    && is_one_based(*left)
+                    && is_one_based(*bottom)
+                    && is_one_based(*right)
+            }
+            _ => true,
+        }
+    }
+}
+
+/// An absent number is read as itself, and so is one from 0 on.
+fn is_said_or_absent(number: Option<i64>) -> bool
+    ensures { IsTrue result ↔ AllGood (maybe number) }
+{
+    match number {
+        Some(number) => is_said(number),
+        None => true,
     }
 }
 

@@ -4,4 +4,3 @@ pub mod Disjoint
 pub mod FieldsApart
 pub mod Items
 pub mod Back
-pub mod OwnNumbers

@@ -1,12 +1,9 @@
-//! The rows of the cursor, and which of its actions are read back from their own texts.
-ghost use Rattle.std.specs.Prelude.{◌≡◌, ◌↔◌, IsTrue};
+//! The rows of the cursor.
+ghost use Rattle.std.specs.Prelude.{◌≡◌};
 ghost use Rattle.std.specs.Option.{option_map};
 ghost use Rattle.csicodec_actions.specs.Actions.{Cursor as Moves};
-ghost use Rattle.csicodec_actions.specs.Written.{AllGood};
-ghost use Rattle.csicodec_actions.specs.Special.{IsSpecial};
-ghost use Rattle.csicodec_actions.specs.Table.Cursor.{as_cursor, written_cursor};
+ghost use Rattle.csicodec_actions.specs.Table.Cursor.{as_cursor};
 
-use crate::canonical::{is_count, is_one_based};
 use crate::params::{choice, count, place, places};
 use csicodec_actions::Cursor;
 use csicodec_base::{CsiParam, CursorStyle, CursorTabulationControl, OneBased, TabulationClear};
@@ -136,68 +133,5 @@ fn style(params: &[CsiParam]) -> Option<Cursor>
             Some(Cursor::CursorStyle(CursorStyle::from_i64(*number)?))
         }
         _ => None,
-    }
-}
-
-/// Whether each number of an action of the cursor is read as itself.
-pub fn is_canonical_cursor(cursor: &Cursor) -> bool
-    ensures { IsTrue result ↔ AllGood (written_cursor cursor.now).items }
-{
-    match cursor {
-        Cursor::Up(count)
-        | Cursor::Down(count)
-        | Cursor::Right(count)
-        | Cursor::Left(count)
-        | Cursor::NextLine(count)
-        | Cursor::PrecedingLine(count)
-        | Cursor::ForwardTabulation(count)
-        | Cursor::BackwardTabulation(count)
-        | Cursor::LineTabulation(count)
-        | Cursor::CharacterPositionForward(count)
-        | Cursor::CharacterPositionBackward(count)
-        | Cursor::LinePositionAbsolute(count)
-        | Cursor::LinePositionForward(count)
-        | Cursor::LinePositionBackward(count) => is_count(*count),
-        Cursor::CharacterAbsolute(place) | Cursor::CharacterPositionAbsolute(place) => {
-            is_one_based(*place)
-        }
-        Cursor::Position {
-            line: first,
-            col: second,
-        }
-        | Cursor::ActivePositionReport {
-            line: first,
-            col: second,
-        }
-        | Cursor::CharacterAndLinePosition {
-            line: first,
-            col: second,
-        }
-        | Cursor::SetTopAndBottomMargins {
-            top: first,
-            bottom: second,
-        }
-        | Cursor::SetLeftAndRightMargins {
-            left: first,
-            right: second,
-        } => is_one_based(*first) && is_one_based(*second),
-        Cursor::TabulationControl(_)
-        | Cursor::TabulationClear(_)
-        | Cursor::SaveCursor
-        | Cursor::RestoreCursor
-        | Cursor::RequestActivePositionReport
-        | Cursor::CursorStyle(_) => true,
-    }
-}
-
-/// Margins all around, which are written as the cursor that is saved.
-pub fn is_special(cursor: &Cursor) -> bool
-    ensures { IsTrue result ↔ IsSpecial (Moves cursor.now) }
-{
-    match cursor {
-        Cursor::SetLeftAndRightMargins { left, right } => {
-            left.as_one_based() == 1 && right.as_one_based() == u32::MAX
-        }
-        _ => false,
     }
 }

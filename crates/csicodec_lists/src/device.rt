@@ -1,21 +1,13 @@
-//! The rows of devices, and which of their actions are read back from their own texts.
-ghost use Rattle.std.specs.Prelude.{◌≡◌, ◌↔◌, IfOk, IsSome, IsTrue, OnErr};
+//! The rows of devices.
+ghost use Rattle.std.specs.Prelude.{◌≡◌, IfOk, IsSome, OnErr};
 ghost use Rattle.std.specs.Option.{option_map};
 ghost use Rattle.csicodec_actions.specs.Actions.{Device as Devices};
-ghost use Rattle.csicodec_actions.specs.Devices.{attributes_of, device_of, listed_attributes};
-ghost use Rattle.csicodec_actions.specs.Written.{AllGood, GoodAttribute, IsUnnamed, Attribute, any_number, listed};
-ghost use Rattle.csicodec_actions.specs.Kinds.{Good, GraphicsItem};
+ghost use Rattle.csicodec_actions.specs.Devices.{device_of, listed_attributes};
 ghost use Rattle.csicodec_actions.specs.Rows.{given};
-ghost use Rattle.csicodec_actions.specs.Special.{IsNeverRead};
-ghost use Rattle.csicodec_actions.specs.Table.Device.{as_device, classes, requests, terminals, written_attributes, written_device};
-ghost use Rattle.csicodec_actions.specs.Table.Graphics.{written_graphics};
+ghost use Rattle.csicodec_actions.specs.Table.Device.{as_device, classes, requests, terminals};
 
-use crate::canonical::{is_said, is_spellable_token};
-use csicodec_actions::{
-    Device, DeviceAttribute, DeviceAttributeFlags, DeviceAttributes, XtSmGraphics, XtSmGraphicsItem,
-};
+use csicodec_actions::{Device, DeviceAttribute, DeviceAttributeFlags, DeviceAttributes};
 use csicodec_base::CsiParam::{self, Integer, P};
-use csicodec_base::DeviceAttributeCodes;
 use std::alloc::{AllocError, Global};
 
 /// What is asked or said of a device before this final character, if a row reads the list. An `Err` comes only where one
@@ -151,91 +143,5 @@ fn parameters(params: &[CsiParam]) -> Option<Device>
         [] | [Integer(0)] => Some(Device::RequestTerminalParameters(0)),
         [Integer(1)] => Some(Device::RequestTerminalParameters(1)),
         _ => None,
-    }
-}
-
-/// An extension is read as itself by its code, or by any other token than `;` and the number of a code.
-fn is_attribute(attribute: &DeviceAttribute) -> bool
-    ensures { IsTrue result ↔ GoodAttribute attribute.now }
-{
-    match attribute {
-        DeviceAttribute::Code(_) => true,
-        DeviceAttribute::Unspecified(token) => is_spellable_token(token) && is_unnamed(token),
-    }
-}
-
-/// No `;`, and no number of a code.
-fn is_unnamed(token: &CsiParam) -> bool
-    ensures { IsTrue result ↔ IsUnnamed token.now }
-{
-    match token {
-        CsiParam::Integer(number) => DeviceAttributeCodes::from_i64(*number).is_none(),
-        CsiParam::P(byte) => *byte != b';',
-    }
-}
-
-fn are_attributes(attributes: &[DeviceAttribute]) -> bool
-    ensures { IsTrue result ↔ AllGood (listed Attribute attributes.now) }
-{
-    let mut rest = attributes;
-    while let [first, others @ ..] = rest {
-        if !is_attribute(first) {
-            return false;
-        }
-        rest = others;
-    }
-    true
-}
-
-fn is_canonical_answer(attributes: &DeviceAttributes) -> bool
-    ensures { IsTrue result ↔ AllGood (written_attributes (attributes_of attributes.now)).items }
-{
-    match attributes {
-        DeviceAttributes::Vt220(flags)
-        | DeviceAttributes::Vt320(flags)
-        | DeviceAttributes::Vt420(flags) => are_attributes(&flags.attributes),
-        _ => true,
-    }
-}
-
-/// An item is read as itself by its name, or by a number from 0 on that none has.
-fn is_item(item: XtSmGraphicsItem) -> bool
-    ensures { IsTrue result ↔ Good GraphicsItem item }
-{
-    match item {
-        XtSmGraphicsItem::Unspecified(number) => is_said(number) && !matches!(number, 1..=3),
-        _ => true,
-    }
-}
-
-fn are_said(numbers: &[i64]) -> bool
-    ensures { IsTrue result ↔ AllGood (listed any_number numbers.now) }
-{
-    let mut rest = numbers;
-    while let [first, others @ ..] = rest {
-        if !is_said(*first) {
-            return false;
-        }
-        rest = others;
-    }
-    true
-}
-
-/// Whether each number of graphics is read as itself.
-fn is_canonical_graphics(graphics: &XtSmGraphics) -> bool
-    ensures { IsTrue result ↔ AllGood (written_graphics graphics.now.item graphics.now.action_or_status graphics.now.value.items).items }
-{
-    is_item(graphics.item) && is_said(graphics.action_or_status) && are_said(&graphics.value)
-}
-
-/// A request for the terminal's parameters is written as the report.
-pub fn is_canonical_device(device: &Device) -> bool
-    ensures { IsTrue result ↔ (AllGood (written_device (device_of device.now)).items × ¬ IsNeverRead (Devices (device_of device.now))) }
-{
-    match device {
-        Device::DeviceAttributes(attributes) => is_canonical_answer(attributes),
-        Device::RequestTerminalParameters(_) => false,
-        Device::XtSmGraphics(graphics) => is_canonical_graphics(graphics),
-        _ => true,
     }
 }

@@ -1,11 +1,9 @@
-//! The rows that edit, and which edits are read back from their own texts.
-ghost use Rattle.std.specs.Prelude.{◌≡◌, ◌↔◌, IsTrue};
+//! The rows that edit.
+ghost use Rattle.std.specs.Prelude.{◌≡◌};
 ghost use Rattle.std.specs.Option.{option_map};
 ghost use Rattle.csicodec_actions.specs.Actions.{Edit as Edits};
-ghost use Rattle.csicodec_actions.specs.Written.{AllGood};
-ghost use Rattle.csicodec_actions.specs.Table.Edit.{as_edit, written_edit};
+ghost use Rattle.csicodec_actions.specs.Table.Edit.{as_edit};
 
-use crate::canonical::is_count;
 use crate::params::{choice, count};
 use csicodec_actions::Edit;
 use csicodec_base::{CsiParam, EraseInDisplay, EraseInLine};
@@ -27,22 +25,5 @@ pub fn edit_action(params: &[CsiParam], control: char) -> Option<Edit>
         'J' => Some(Edit::EraseInDisplay(EraseInDisplay::from_i64(choice(params)?)?)),
         'K' => Some(Edit::EraseInLine(EraseInLine::from_i64(choice(params)?)?)),
         _ => None,
-    }
-}
-
-/// Whether each number of an edit is read as itself.
-pub fn is_canonical_edit(edit: &Edit) -> bool
-    ensures { IsTrue result ↔ AllGood (written_edit edit.now).items }
-{
-    match edit {
-        Edit::InsertCharacter(count)
-        | Edit::InsertLine(count)
-        | Edit::DeleteCharacter(count)
-        | Edit::DeleteLine(count)
-        | Edit::EraseCharacter(count)
-        | Edit::ScrollUp(count)
-        | Edit::ScrollDown(count)
-        | Edit::Repeat(count) => is_count(*count),
-        Edit::EraseInDisplay(_) | Edit::EraseInLine(_) => true,
     }
 }

@@ -1,11 +1,10 @@
-//! The rows of the keyboard, and which of its actions are read back from their own texts.
-ghost use Rattle.std.specs.Prelude.{◌≡◌, ◌↔◌, IsTrue};
+//! The rows of the keyboard.
+ghost use Rattle.std.specs.Prelude.{◌≡◌};
 ghost use Rattle.std.specs.Int.RustNames.{bit_and};
 ghost use Rattle.std.specs.Option.{option_map};
 ghost use Rattle.csicodec_actions.specs.Actions.{Keyboard as Keys};
-ghost use Rattle.csicodec_actions.specs.Written.{AllGood};
-ghost use Rattle.csicodec_actions.specs.Kinds.{Good, Flags as FlagsKind, Pops, read};
-ghost use Rattle.csicodec_actions.specs.Table.Keyboard.{as_keyboard, written_keyboard};
+ghost use Rattle.csicodec_actions.specs.Kinds.{Flags as FlagsKind, Pops, read};
+ghost use Rattle.csicodec_actions.specs.Table.Keyboard.{as_keyboard};
 
 use bitflags::Flags;
 use csicodec_actions::{Keyboard, KittyKeyboardMode};
@@ -75,28 +74,4 @@ fn known(bits: u16) -> KittyKeyboardFlags
     ensures { result ≡ record { bits = bit_and bits 31 } }
 {
     KittyKeyboardFlags::from_bits_truncate(bits)
-}
-
-/// The five flags that have a name.
-fn are_flags(flags: KittyKeyboardFlags) -> bool
-    ensures { IsTrue result ↔ Good FlagsKind flags }
-{
-    flags.bits() < 32
-}
-
-/// Whether each number of what the keyboard reports is read as itself.
-pub fn is_canonical_keyboard(keyboard: &Keyboard) -> bool
-    ensures { IsTrue result ↔ AllGood (written_keyboard keyboard.now).items }
-{
-    match keyboard {
-        Keyboard::SetKittyState { flags, .. }
-        | Keyboard::PushKittyState { flags, .. }
-        | Keyboard::ReportKittyState(flags) => are_flags(*flags),
-        Keyboard::PopKittyState(pops) => {
-            // each number of 32 bits
-            let _pops = *pops;
-            true
-        }
-        Keyboard::QueryKittySupport => true,
-    }
 }

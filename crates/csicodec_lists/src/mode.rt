@@ -1,15 +1,11 @@
-//! The rows of modes: those that are asked for, and modified keys. Which modes are read back from their own texts.
-ghost use Rattle.std.specs.Prelude.{◌≡◌, ◌↔◌, IsTrue};
+//! The rows of modes: those that are asked for, and modified keys.
+ghost use Rattle.std.specs.Prelude.{◌≡◌};
 ghost use Rattle.std.specs.Option.{option_map};
 ghost use Rattle.csicodec_actions.specs.Actions.{Mode as Modes};
-ghost use Rattle.csicodec_actions.specs.Written.{AllGood};
-ghost use Rattle.csicodec_actions.specs.Kinds.{Good, Dec, Terminal};
-ghost use Rattle.csicodec_actions.specs.Table.Mode.{as_mode, written_mode};
+ghost use Rattle.csicodec_actions.specs.Table.Mode.{as_mode};
 
-use crate::canonical::is_said;
 use csicodec_actions::{DecPrivateMode, Mode, TerminalMode, XtermKeyModifierResource};
 use csicodec_base::CsiParam::{self, Integer, P};
-use csicodec_base::{DecPrivateModeCode, TerminalModeCode};
 
 /// What is asked or said of a mode before this final character, if a row reads the list.
 #[tactic(auto, unfolding(csicodec_actions::specs::Table::Mode::as_mode))]
@@ -62,50 +58,5 @@ fn key_mode(params: &[CsiParam]) -> Option<Mode>
             Some(Mode::XtermKeyMode { resource, value })
         }
         _ => None,
-    }
-}
-
-/// A private mode is read as itself by its code, or by a number that has none.
-fn is_dec_mode(mode: DecPrivateMode) -> bool
-    ensures { IsTrue result ↔ Good Dec mode }
-{
-    match mode {
-        DecPrivateMode::Code(_) => true,
-        DecPrivateMode::Unspecified(number) => {
-            DecPrivateModeCode::from_i64(i64::from(number)).is_none()
-        }
-    }
-}
-
-/// The same of a mode of the standard.
-fn is_terminal_mode(mode: TerminalMode) -> bool
-    ensures { IsTrue result ↔ Good Terminal mode }
-{
-    match mode {
-        TerminalMode::Code(_) => true,
-        TerminalMode::Unspecified(number) => {
-            TerminalModeCode::from_i64(i64::from(number)).is_none()
-        }
-    }
-}
-
-/// Whether each number of a mode is read as itself.
-pub fn is_canonical_mode(mode: &Mode) -> bool
-    ensures { IsTrue result ↔ AllGood (written_mode mode.now).items }
-{
-    match mode {
-        Mode::SetDecPrivateMode(mode)
-        | Mode::ResetDecPrivateMode(mode)
-        | Mode::SaveDecPrivateMode(mode)
-        | Mode::RestoreDecPrivateMode(mode)
-        | Mode::QueryDecPrivateMode(mode) => is_dec_mode(*mode),
-        Mode::SetMode(mode) | Mode::ResetMode(mode) | Mode::QueryMode(mode) => {
-            is_terminal_mode(*mode)
-        }
-        Mode::XtermKeyMode { value: None, .. } => true,
-        Mode::XtermKeyMode {
-            value: Some(value),
-            ..
-        } => is_said(*value),
     }
 }

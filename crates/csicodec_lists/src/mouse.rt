@@ -1,14 +1,12 @@
-//! The rows of the mouse, and which reports are read back from their own texts.
-ghost use Rattle.std.specs.Prelude.{◌≡◌, ◌↔◌, ◌/◌, IsTrue, pos};
+//! The rows of the mouse.
+ghost use Rattle.std.specs.Prelude.{◌≡◌, ◌/◌, pos};
 ghost use Rattle.std.specs.Int.RustNames.{bit_and};
 ghost use Rattle.std.specs.Option.{option_map};
 ghost use Rattle.csicodec_actions.specs.Actions.{Mouse as Reports};
-ghost use Rattle.csicodec_actions.specs.Written.{AllGood};
-ghost use Rattle.csicodec_actions.specs.Kinds.{AreHeld, Pressed, Released, Word, read};
+ghost use Rattle.csicodec_actions.specs.Kinds.{Pressed, Released, Word, read};
 ghost use Rattle.csicodec_actions.specs.Mouse.{button_bits, button_code, pressed, released};
-ghost use Rattle.csicodec_actions.specs.Special.{IsNeverRead};
 ghost use Rattle.csicodec_names.specs.Numbered.{with_number};
-ghost use Rattle.csicodec_actions.specs.Table.Mouse.{as_mouse, written_mouse};
+ghost use Rattle.csicodec_actions.specs.Table.Mouse.{as_mouse};
 
 use bitflags::Flags;
 use csicodec_actions::{MouseButton, MouseReport};
@@ -114,30 +112,4 @@ fn held(bits: u64) -> Modifiers
 {
     let bits = (bits & 28) / 2;
     Modifiers::from_bits_retain(bits as u16)
-}
-
-/// Shift, alt and control.
-fn are_held(modifiers: Modifiers) -> bool
-    ensures { IsTrue result ↔ AreHeld modifiers }
-{
-    modifiers.bits() & 14 == modifiers.bits()
-}
-
-/// A report in pixels is read as one in cells.
-pub fn is_canonical_mouse(report: &MouseReport) -> bool
-    ensures { IsTrue result ↔ (AllGood (written_mouse report.now).items × ¬ IsNeverRead (Reports report.now)) }
-{
-    match report {
-        MouseReport::SGR1006 {
-            x,
-            y,
-            button,
-            modifiers,
-        } => {
-            // each number of 16 bits
-            let _place = (*x, *y);
-            are_held(*modifiers)
-        }
-        MouseReport::SGR1016 { .. } => false,
-    }
 }

@@ -1,12 +1,10 @@
-//! The rows of windows and areas, and which of them are read back from their own texts.
-ghost use Rattle.std.specs.Prelude.{◌≡◌, ◌↔◌, IfOk, IsTrue, OnErr};
+//! The rows of windows and areas.
+ghost use Rattle.std.specs.Prelude.{◌≡◌, IfOk, OnErr};
 ghost use Rattle.std.specs.Option.{option_map};
 ghost use Rattle.csicodec_actions.specs.Actions.{Window as Windows};
 ghost use Rattle.csicodec_actions.specs.FieldRows.{TakesFields, given};
-ghost use Rattle.csicodec_actions.specs.Written.{AllGood};
-ghost use Rattle.csicodec_actions.specs.Table.Window.{alone_rows, areas, as_window, maybe, two_rows, which_rows, window_fields, windows, written_window};
+ghost use Rattle.csicodec_actions.specs.Table.Window.{alone_rows, areas, as_window, two_rows, which_rows, window_fields, windows};
 
-use crate::canonical::{is_one_based, is_said};
 use csicodec_actions::Window;
 use csicodec_actions::fields::{ahead_of, fields_in, is_there, number, place};
 use csicodec_base::{Cracked, CsiParam};
@@ -154,44 +152,4 @@ fn area_of(fields: &Cracked) -> Option<Window>
         bottom: place(fields, 4)?,
         right: place(fields, 5)?,
     })
-}
-
-/// An absent number is read as itself, and so is one from 0 on.
-fn is_said_or_absent(number: Option<i64>) -> bool
-    ensures { IsTrue result ↔ AllGood (maybe number) }
-{
-    match number {
-        Some(number) => is_said(number),
-        None => true,
-    }
-}
-
-/// Whether each number of a window or an area is read as itself.
-pub fn is_canonical_window(window: &Window) -> bool
-    ensures { IsTrue result ↔ AllGood (written_window window.now).items }
-{
-    match window {
-        Window::MoveWindow { x, y } => is_said(*x) && is_said(*y),
-        Window::ResizeWindowPixels { width, height }
-        | Window::ReportCellSizePixelsResponse { width, height }
-        | Window::ResizeWindowCells { width, height } => {
-            is_said_or_absent(*width) && is_said_or_absent(*height)
-        }
-        Window::ChecksumRectangularArea {
-            request_id,
-            page_number,
-            top,
-            left,
-            bottom,
-            right,
-        } => {
-            is_said(*request_id)
-                && is_said(*page_number)
-                && is_one_based(*top)
-                && is_one_based(*left)
-                && is_one_based(*bottom)
-                && is_one_based(*right)
-        }
-        _ => true,
-    }
 }

@@ -14,13 +14,11 @@ ghost use Rattle.csicodec_parser.specs.Canonical.{Canonical, IsUnspecified};
 use crate::canonical::{is_canonical_sgr, is_canonical_unknown};
 use crate::sink::{append_displayed, append_unspecified};
 use csicodec_actions::{
-    CharacterPath, Cursor, Device, Edit, Keyboard, Mode, MouseReport, Window, write_path,
+    CharacterPath, Cursor, Device, Edit, Keyboard, Mode, MouseReport, Window, is_said, write_path,
 };
 use csicodec_base::{CsiParam, Sgr, Text, TextBuffer};
 use csicodec_lists::{
-    cursor_action, device_action, edit_action, graphics_action, is_canonical_cursor,
-    is_canonical_device, is_canonical_edit, is_canonical_keyboard, is_canonical_mode,
-    is_canonical_mouse, is_canonical_window, is_said, is_special, keyboard_action, mode_action,
+    cursor_action, device_action, edit_action, graphics_action, keyboard_action, mode_action,
     mouse_action, path_action, window_action,
 };
 use std::alloc::{AllocError, Global};
@@ -169,14 +167,14 @@ impl CSI {
     {
         match self {
             CSI::Sgr(sgr) => Ok(is_canonical_sgr(sgr)),
-            CSI::Cursor(cursor) => Ok(is_canonical_cursor(cursor) && !is_special(cursor)),
-            CSI::Edit(edit) => Ok(is_canonical_edit(edit)),
-            CSI::Mode(mode) => Ok(is_canonical_mode(mode)),
-            CSI::Device(device) => Ok(is_canonical_device(device)),
-            CSI::Window(window) => Ok(is_canonical_window(window)),
-            CSI::Keyboard(keyboard) => Ok(is_canonical_keyboard(keyboard)),
+            CSI::Cursor(cursor) => Ok(cursor.is_canonical() && !cursor.is_special()),
+            CSI::Edit(edit) => Ok(edit.is_canonical()),
+            CSI::Mode(mode) => Ok(mode.is_canonical()),
+            CSI::Device(device) => Ok(device.is_canonical()),
+            CSI::Window(window) => Ok(window.is_canonical()),
+            CSI::Keyboard(keyboard) => Ok(keyboard.is_canonical()),
             CSI::SelectCharacterPath(_, effect) => Ok(is_said(*effect)),
-            CSI::Mouse(report) => Ok(is_canonical_mouse(report)),
+            CSI::Mouse(report) => Ok(report.is_canonical()),
             CSI::Unspecified(unknown) => is_canonical_unknown(alloc, unknown, parameters_truncated),
         }
     }

@@ -8,8 +8,8 @@ ghost use Rattle.csicodec_parser.specs.Segments.{IsUnread};
 use crate::actions::{Unspecified, boxed_action, plain_action};
 use crate::group::{Group, front};
 use crate::list::{group_of, is_odd};
+use csicodec_actions::is_spellable_token;
 use csicodec_base::{CsiParam, Font, Sgr};
-use csicodec_lists::is_spellable_token;
 use std::alloc::{AllocError, Global};
 
 /// Of the alternative fonts nine have a code.

@@ -2,8 +2,8 @@ use Rattle.std.proofs.Common.{rules}
 use mir.Syntax.{w64}
 use mir.Val.{SFits}
 use Rattle.csicodec_names.specs.DeviceNumbers.{device_attribute_number}
-use Rattle.csicodec_lists.proofs.OwnNumbers.{unnamed-told}
-use Rattle.csicodec_lists.proofs.device.is_unnamed.Goals as goal
+use Rattle.csicodec_actions.proofs.OwnNumbers.{unnamed-told}
+use Rattle.csicodec_actions.proofs.device.is_unnamed.Goals as goal
 
 pub returns-in-Integer : goal.returns-in-Integer
 returns-in-Integer c =

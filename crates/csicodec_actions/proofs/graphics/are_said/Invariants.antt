@@ -1,7 +1,7 @@
 use Rattle.std.specs.Prelude.{◌↔◌}
 use Rattle.std.proofs.Common.{length}
 use Rattle.csicodec_actions.specs.Written.{AllGood, any_number, listed}
-use Rattle.csicodec_lists.proofs.device.are_said.Given as goal
+use Rattle.csicodec_actions.proofs.graphics.are_said.Given as goal
 
 -- what decides is left
 abbrev pub invariant-loop-rest : goal.invariant-loop-rest

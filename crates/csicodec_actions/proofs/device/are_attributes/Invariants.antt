@@ -1,7 +1,7 @@
 use Rattle.std.specs.Prelude.{◌↔◌}
 use Rattle.std.proofs.Common.{length}
 use Rattle.csicodec_actions.specs.Written.{AllGood, Attribute, listed}
-use Rattle.csicodec_lists.proofs.device.are_attributes.Given as goal
+use Rattle.csicodec_actions.proofs.device.are_attributes.Given as goal
 
 -- what decides is left
 abbrev pub invariant-loop-rest : goal.invariant-loop-rest

@@ -8,7 +8,7 @@ ghost use Rattle.csicodec_actions.specs.Table.Cursor.{written_cursor};
 ghost use Rattle.csicodec_actions.specs.Written.{AllGood, shown, two, written_text};
 
 use crate::canonical::{is_count, is_one_based};
-use crate::encode::{EncodeCSIParam, write_pair};
+use crate::encode::{EncodeCSIParam, write_choice, write_pair};
 use csicodec_base::{CursorStyle, CursorTabulationControl, OneBased, TabulationClear, Text};
 use std::fmt;
 
@@ -134,8 +134,8 @@ impl Cursor {
             Cursor::LinePositionAbsolute(count) => count.write_csi(text, b'd'),
             Cursor::LinePositionForward(count) => count.write_csi(text, b'e'),
             Cursor::LinePositionBackward(count) => count.write_csi(text, b'k'),
-            Cursor::TabulationControl(control) => control.write_csi(text, b'W'),
-            Cursor::TabulationClear(clear) => clear.write_csi(text, b'g'),
+            Cursor::TabulationControl(control) => write_choice(text, control.to_i64() as u8, b'W'),
+            Cursor::TabulationClear(clear) => write_choice(text, clear.to_i64() as u8, b'g'),
             Cursor::SetTopAndBottomMargins { top, bottom } => {
                 write_margins(text, *top, *bottom, b'r');
             }

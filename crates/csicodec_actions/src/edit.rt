@@ -4,7 +4,7 @@ ghost use Rattle.csicodec_actions.specs.Table.Edit.{written_edit};
 ghost use Rattle.csicodec_actions.specs.Written.{AllGood, written_text};
 
 use crate::canonical::is_count;
-use crate::encode::EncodeCSIParam;
+use crate::encode::{EncodeCSIParam, write_choice};
 use csicodec_base::{EraseInDisplay, EraseInLine, Text};
 use std::fmt;
 
@@ -57,8 +57,8 @@ impl Edit {
             Edit::ScrollUp(count) => count.write_csi(text, b'S'),
             Edit::ScrollDown(count) => count.write_csi(text, b'T'),
             Edit::Repeat(count) => count.write_csi(text, b'b'),
-            Edit::EraseInDisplay(part) => part.write_csi(text, b'J'),
-            Edit::EraseInLine(part) => part.write_csi(text, b'K'),
+            Edit::EraseInDisplay(part) => write_choice(text, part.to_i64() as u8, b'J'),
+            Edit::EraseInLine(part) => write_choice(text, part.to_i64() as u8, b'K'),
         }
     }
 

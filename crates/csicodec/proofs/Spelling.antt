@@ -1,8 +1,6 @@
 -- The list that an action is written as, and that is read as this action alone.
 use Rattle.std.proofs.Common.{ℕ, ◌≡◌, ◌≤◌, List, [], ◌∷◌, ◌++◌, Bool, length, refl, sym, ap, ◌∙◌, subst, Some, inl, inr, pos, arith, append-nil}
-use Rattle.std.specs.Prelude.{encode_utf8}
 use Rattle.std.proofs.lemmas.Int.{ints}
-use Rattle.std.proofs.lemmas.Str.{encode_ascii}
 use Rattle.csicodec_tokens.specs.declared.param.CsiParam.{CsiParam}
 use Rattle.csicodec_tokens.specs.declared.param.CsiParam.TheVariants.{Integer, P}
 use Rattle.csicodec_tokens.specs.Digits.{largest}
@@ -48,37 +46,8 @@ number-spellable n fits = (omega (arith, ints), omega (arith, ints))
 pub colon-spellable : IsSpellable (P 58)
 colon-spellable = ((omega arith, omega arith), λ digit. omega (arith, digit))
 
-pub semicolon-spellable : IsSpellable (P 59)
-semicolon-spellable = ((omega arith, omega arith), λ digit. omega (arith, digit))
-
 pub question-spellable : IsSpellable (P 63)
 question-spellable = ((omega arith, omega arith), λ digit. omega (arith, digit))
-
-pub space-spellable : IsSpellable (P 32)
-space-spellable = ((omega arith, omega arith), λ digit. omega (arith, digit))
-
-pub dollar-spellable : IsSpellable (P 36)
-dollar-spellable = ((omega arith, omega arith), λ digit. omega (arith, digit))
-
-pub greater-spellable : IsSpellable (P 62)
-greater-spellable = ((omega arith, omega arith), λ digit. omega (arith, digit))
-
--- ---- their texts
-
-pub text-32 : encode_utf8 32 ≡ 32 ∷ []
-text-32 = encode_ascii 32 (omega arith)
-
-pub text-36 : encode_utf8 36 ≡ 36 ∷ []
-text-36 = encode_ascii 36 (omega arith)
-
-pub text-59 : encode_utf8 59 ≡ 59 ∷ []
-text-59 = encode_ascii 59 (omega arith)
-
-pub text-62 : encode_utf8 62 ≡ 62 ∷ []
-text-62 = encode_ascii 62 (omega arith)
-
-pub text-63 : encode_utf8 63 ≡ 63 ∷ []
-text-63 = encode_ascii 63 (omega arith)
 
 -- ---- a list that is read whole
 

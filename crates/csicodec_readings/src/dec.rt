@@ -3,7 +3,7 @@
 use crate::table::Row;
 
 /// DEC: the manuals of VT100 to VT525.
-pub static DEC: [Row; 118] = [
+pub static DEC: [Row; 127] = [
     (
         b'?',
         0,
@@ -72,17 +72,17 @@ pub static DEC: [Row; 118] = [
         0,
         b'"',
         'p',
-        Some(61),
-        "DECSCL  conformance level 61 (VT100)",
-    ),
-    (
-        0,
-        b'"',
-        'p',
         None,
         "DECSCL  conformance level {1:0}, controls {2:0}",
     ),
     (0, b'"', 't', None, "DECSRFR  refresh rate: {1:0}"),
+    (
+        0,
+        b'"',
+        'u',
+        None,
+        "DECSTRL  limit of the transmit rate: {1:0}",
+    ),
     (
         0,
         b'"',
@@ -179,6 +179,7 @@ pub static DEC: [Row; 118] = [
         None,
         "DECCARA  change attributes in lines {1} to {3:the last}, columns {2} to {4:the last}",
     ),
+    (0, b'$', 's', None, "DECSPRTT  type of the printer: {1:0}"),
     (
         0,
         b'$',
@@ -262,7 +263,13 @@ pub static DEC: [Row; 118] = [
         "DECRQUPSS  ask for the user's supplemental set",
     ),
     (0, b'&', 'x', None, "DECES  enable the session"),
-    (0, b'*', 'p', None, "DECSPP  port of the printer: {1:0}"),
+    (
+        0,
+        b'*',
+        'p',
+        None,
+        "DECSPPCS  character set of the ProPrinter: {1:0}",
+    ),
     (
         0,
         b'*',
@@ -272,6 +279,7 @@ pub static DEC: [Row; 118] = [
     ),
     (0, b'*', 'r', None, "DECSCS  speed {2:0} of line {1:0}"),
     (0, b'*', 's', None, "DECSFC  flow control: {1:0}"),
+    (0, b'*', 'u', None, "DECSCP  communication port {1:0}"),
     (
         0,
         b'*',
@@ -296,7 +304,37 @@ pub static DEC: [Row; 118] = [
         None,
         "DECSR  secure reset, confirmation {1:0}",
     ),
+    (
+        0,
+        b'+',
+        'q',
+        None,
+        "DECELF  local functions: function {1:0}, control {2:0}",
+    ),
+    (
+        0,
+        b'+',
+        'r',
+        None,
+        "DECSMKR  reports of modifier keys: key {1:0}, report {2:0}",
+    ),
+    (
+        0,
+        b'+',
+        'w',
+        None,
+        "DECSPP  port parameters: port {1:0}, {2:0}, {3:0}, {4:0}",
+    ),
+    (0, b')', '{', None, "DECSTGLT  colour look-up table {1:0}"),
+    (
+        0,
+        b',',
+        'p',
+        None,
+        "DECLTOD  time of day: hour {1:0}, minute {2:0}",
+    ),
     (0, b',', 'q', None, "DECTID  terminal ID {1:0}"),
+    (0, b',', 'y', None, "DECUS  update session {1:0}"),
     (0, b',', '{', None, "DECSZS  zero is written: {1:0}"),
     (
         0,
@@ -311,6 +349,13 @@ pub static DEC: [Row; 118] = [
         '}',
         None,
         "DECATC  colours of attributes {1:0}: {2:0} on {3:0}",
+    ),
+    (
+        0,
+        b',',
+        '~',
+        None,
+        "DECPS  play note {3:0}, volume {1:0}, duration {2:0}",
     ),
     (
         0,

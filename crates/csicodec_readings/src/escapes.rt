@@ -15,7 +15,8 @@ pub fn escape_of(intermediate: u8, control: u8) -> Option<Escape> {
 /// ECMA-48's controls of the set C1 and ECMA-35's single ones, and DEC's and other terminals' own.
 fn alone(control: u8) -> Option<&'static str> {
     Some(match control {
-        b'1' => "ESC 1  switch to 132 columns (Linux and others)",
+        b'1' => "DECGON  waveform graphics on (VT105)",
+        b'2' => "DECGOFF  waveform graphics off (VT105)",
         b'9' => "DECFI  cursor right 1 column, scrolling",
         b'<' => "DECANM  ANSI mode on (out of VT52 mode)",
         b'@' => "PAD  padding",

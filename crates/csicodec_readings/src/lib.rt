@@ -13,18 +13,20 @@ mod otherwise;
 mod sets;
 mod table;
 mod template;
+mod told;
 
 use crate::escapes::escape_of;
 use crate::intermediates::escape_of_bytes;
 use crate::keys::key_of;
 use crate::list::{intermediate, marker, number};
-use crate::otherwise::{Otherwise, read_otherwise, status_of, turned};
+use crate::otherwise::{Otherwise, read_otherwise};
 use crate::sets::Escape;
 use crate::table::{Form, words};
 use crate::template::fill;
+use crate::told::tell_numbers;
 use csicodec_base::{CsiParam, Esc};
 use csicodec_parser::{CSI, Unspecified};
-use csicodec_words::{Describe, private_mode_name, terminal_mode_name};
+use csicodec_words::Describe;
 use std::fmt;
 
 /// What stands behind the words of a sequence that is unknown to the codec.
@@ -120,8 +122,10 @@ fn unread<W: fmt::Write>(f: &mut fmt::Formatter<W>, unknown: &Unspecified) -> fm
         between: intermediate(params),
         control,
     };
+    if tell_numbers(f, form, params)? {
+        return f.write_str(NO_ACTION);
+    }
     match (form.marker, form.between, control) {
-        (0 | b'?', b'$', 'y') => mode_told(f, params)?,
         (0, 0, 't') if first >= 24 && params.len() == 1 => fill(
             f,
             params,
@@ -136,21 +140,4 @@ fn unread<W: fmt::Write>(f: &mut fmt::Formatter<W>, unknown: &Unspecified) -> fm
         },
     }
     f.write_str(NO_ACTION)
-}
-
-/// The answer to DECRQM.
-fn mode_told<W: fmt::Write>(f: &mut fmt::Formatter<W>, params: &[CsiParam]) -> fmt::Result {
-    let mode = number(params, 0).unwrap_or(0);
-    let state = number(params, 1).unwrap_or(0);
-    let state = if mode == 12 && marker(params) == 0 {
-        status_of(turned(state))
-    } else {
-        status_of(state)
-    };
-    let name = match u16::try_from(mode) {
-        Ok(mode) if marker(params) == b'?' => private_mode_name(mode),
-        Ok(mode) => terminal_mode_name(mode),
-        Err(_) => "unnamed mode",
-    };
-    write!(f, "DECRPM {mode}  answer: {name} {state}")
 }

@@ -3,7 +3,18 @@
 use crate::table::Row;
 
 /// xterm's ctlseqs, but for what the rows name themselves.
-pub static XTERM: [Row; 30] = [
+pub static XTERM: [Row; 37] = [
+    (
+        b'?',
+        0,
+        'c',
+        Some(4),
+        "DA1  answer: VT132 with advanced video and graphics",
+    ),
+    (b'?', 0, 'c', Some(7), "DA1  answer: VT131"),
+    (b'?', 0, 'c', Some(12), "DA1  answer: VT125"),
+    (0, 0, 'i', Some(10), "MC  HTML copy of the screen (xterm)"),
+    (0, 0, 'i', Some(11), "MC  SVG copy of the screen (xterm)"),
     (0, b'#', '{', None, "XTPUSHSGR  push the attributes"),
     (0, b'#', '}', None, "XTPOPSGR  pop the attributes"),
     (0, b'#', 'p', None, "XTPUSHSGR  push the attributes"),
@@ -95,7 +106,27 @@ pub static XTERM: [Row; 30] = [
         Some(3),
         "XTSMPOINTER  hide the pointer always",
     ),
-    (b'>', 0, 's', None, "XTSHIFTESCAPE  shift and escape: {1:0}"),
+    (
+        b'>',
+        0,
+        's',
+        Some(0),
+        "XTSHIFTESCAPE  shift overrides mouse reports",
+    ),
+    (
+        b'>',
+        0,
+        's',
+        Some(1),
+        "XTSHIFTESCAPE  shift may be a modifier in mouse reports",
+    ),
+    (
+        b'>',
+        0,
+        's',
+        None,
+        "XTSHIFTESCAPE  shift in mouse reports: {1:0}",
+    ),
     (
         b'>',
         0,
@@ -162,8 +193,8 @@ pub static XTERM: [Row; 30] = [
     (0, 0, 't', None, "XTWINOPS  operation {1:0}"),
 ];
 
-/// kitty's and contour's protocols; bracketed paste is xterm's.
-pub static KITTY: [Row; 4] = [
+/// kitty's, contour's and foot's protocols; bracketed paste is xterm's.
+pub static KITTY: [Row; 7] = [
     (
         b'?',
         0,
@@ -172,26 +203,45 @@ pub static KITTY: [Row; 4] = [
         "colour scheme  ask for it (contour, kitty)",
     ),
     (
+        0,
+        b'+',
+        'T',
+        None,
+        "unscroll  scroll down {1#line}, out of the scrollback",
+    ),
+    (
         b'?',
         0,
-        'n',
-        Some(997),
-        "colour scheme  answer: {2:unknown}, where 1 is dark and 2 light (contour, kitty)",
+        'h',
+        Some(737769),
+        "DECSET 737769  input method (foot) on",
+    ),
+    (
+        b'?',
+        0,
+        'l',
+        Some(737769),
+        "DECRST 737769  input method (foot) off",
+    ),
+    (
+        b'?',
+        b'$',
+        'p',
+        Some(737769),
+        "DECRQM 737769  ask for the mode: input method (foot)",
     ),
     (0, 0, '~', Some(200), "paste  start of pasted text"),
     (0, 0, '~', Some(201), "paste  end of pasted text"),
 ];
 
-/// The Linux console (console_codes(4)); ECMA-48 at the same forms.
-pub static LINUX: [Row; 15] = [
-    (b'?', 0, 'c', Some(61), "DA1  answer: VT100 class"),
-    (b'?', 0, 'c', Some(65), "DA1  answer: VT500 class"),
+/// The Linux console (console_codes(4); of the cursor's look Linux' VGA softcursor); ECMA-48 at the same forms.
+pub static LINUX: [Row; 13] = [
     (
         b'?',
         0,
         'c',
         None,
-        "DA1  answer: {1:0} (or Linux: the cursor's look)",
+        "Linux  look of the cursor: {1:0}, bits turned {2:0}, bits set {3:0}",
     ),
     (0, 0, ']', Some(1), "Linux  colour {2:0} for underline"),
     (0, 0, ']', Some(2), "Linux  colour {2:0} for faint"),

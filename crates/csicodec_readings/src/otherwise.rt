@@ -52,6 +52,9 @@ pub fn read_otherwise(params: &[CsiParam], control: char) -> Option<Otherwise> {
         }
         (0, 0, 'I') if params.is_empty() => Some(Otherwise::Or(" (or focus gained)")),
         (0, 0, 'R') if params.is_empty() => Some(Otherwise::Or(" (or the key F3)")),
+        (0, 0, 'M') if params.is_empty() => {
+            Some(Otherwise::Or(" (or a mouse report, by the next 3 characters)"))
+        }
         (0, 0, 'm') => behind_semicolon(params),
         _ => None,
     }
@@ -160,7 +163,7 @@ impl fmt::Display for Instead {
 }
 
 /// The keys that are held down, by the bits of a mouse's code.
-fn held<W: fmt::Write>(f: &mut fmt::Formatter<W>, code: i64) -> fmt::Result {
+pub fn held<W: fmt::Write>(f: &mut fmt::Formatter<W>, code: i64) -> fmt::Result {
     let mut ahead = ", with ";
     for (bit, name) in [(4, "shift"), (8, "alt"), (16, "control")] {
         if code & bit != 0 {
@@ -169,26 +172,4 @@ fn held<W: fmt::Write>(f: &mut fmt::Formatter<W>, code: i64) -> fmt::Result {
         }
     }
     Ok(())
-}
-
-/// What the second number of DECRPM says of a mode.
-pub fn status_of(state: i64) -> &'static str {
-    match state {
-        1 => "on",
-        2 => "off",
-        3 => "always on",
-        4 => "always off",
-        _ => "isn't known to the terminal",
-    }
-}
-
-/// The state of what is on where the mode is reset, as local echo is (SRM).
-pub fn turned(state: i64) -> i64 {
-    match state {
-        1 => 2,
-        2 => 1,
-        3 => 4,
-        4 => 3,
-        _ => state,
-    }
 }

@@ -51,7 +51,9 @@ static ALONE: [(&[u8], u8, &str); 3] = [
 ];
 
 /// DEC's states, by the parameters and final byte of a string with `$` between.
-static STATES: [(&[u8], u8, &str); 4] = [
+static STATES: [(&[u8], u8, &str); 6] = [
+    (b"2", b'p', "DECRSTS  restore the colour table"),
+    (b"2", b's', "DECCTR  answer: the colour table"),
     (b"1", b't', "DECRSPS  restore the cursor's state"),
     (b"2", b't', "DECRSPS  restore the tab stops"),
     (b"1", b'u', "DECCIR  answer: the cursor's state"),
@@ -73,17 +75,21 @@ fn with_params(
 }
 
 /// DEC's strings that are told by their name (VT510 and VT420 Programmer Reference): intermediate byte, final byte, words.
-static NAMES: [(u8, u8, &str); 16] = [
+static NAMES: [(u8, u8, &str); 20] = [
     (0, b'p', "ReGIS  drawing"),
+    (0, b'r', "DECLBAN  banner message"),
+    (0, b'v', "DECLANS  answerback message"),
     (0, b'{', "DECDLD  characters of a font"),
     (0, b'|', "DECUDK  user-defined keys"),
     (b'!', b'u', "DECAUPSS  the user's supplemental set"),
     (b'!', b'z', "DECDMAC  define a macro"),
+    (b'!', b'{', "DECSTUI  set the unit's ID"),
     (b'!', b'|', "DECRPTUI  answer: the unit's ID"),
     (b'!', b'~', "DECCKSR  answer: checksum"),
     (b'"', b'x', "DECPFK  program a function key"),
+    (b'"', b'y', "DECPAK  program an alphanumeric key"),
     (b'"', b'}', "DECPFKR  answer: function key"),
-    (b'"', b'~', "DECPAK  program an alphanumeric key"),
+    (b'"', b'~', "DECPAKR  answer: alphanumeric key"),
     (b'$', b'p', "DECRSTS  restore the terminal's state"),
     (b'$', b's', "DECTSR  answer: the terminal's state"),
     (b'+', b'p', "XTSETTCAP  set the terminfo entry"),

@@ -37,29 +37,31 @@ static OTHERS: [(&[u8], &str); 4] = [
     (b"m", "more to come"),
 ];
 
-/// Words ahead of the value of a key, and behind it.
-static AROUND: [(&[u8], &str, &str); 13] = [
-    (b"i", "picture ", ""),
-    (b"I", "picture number ", ""),
-    (b"p", "placement ", ""),
-    (b"s", "", " pixels wide"),
-    (b"v", "", " pixels high"),
-    (b"S", "", " bytes of the data"),
-    (b"O", "from byte ", " of the data"),
-    (b"c", "", " columns"),
-    (b"r", "", " lines"),
-    (b"w", "part of ", " pixels wide"),
-    (b"h", "part of ", " pixels high"),
-    (b"z", "layer ", ""),
-    (b"d", "what: ", ""),
+/// Words ahead of the value of a key, what it counts, and words behind that.
+static AROUND: [(&[u8], &str, &str, &str); 13] = [
+    (b"i", "picture ", "", ""),
+    (b"I", "picture number ", "", ""),
+    (b"p", "placement ", "", ""),
+    (b"s", "", " pixel", " wide"),
+    (b"v", "", " pixel", " high"),
+    (b"S", "", " byte", " of the data"),
+    (b"O", "from byte ", "", " of the data"),
+    (b"c", "", " column", ""),
+    (b"r", "", " line", ""),
+    (b"w", "part of ", " pixel", " wide"),
+    (b"h", "part of ", " pixel", " high"),
+    (b"z", "layer ", "", ""),
+    (b"d", "what: ", "", ""),
 ];
 
 /// A value with the words around it; of a key with none, the key ahead of it.
 fn write_value<W: fmt::Write>(f: &mut fmt::Formatter<W>, key: &[u8], value: &[u8]) -> fmt::Result {
+    let plural = value != b"1".as_slice();
     let value = Shown(value);
-    for (name, ahead, behind) in &AROUND {
+    for (name, ahead, unit, behind) in &AROUND {
         if *name == key {
-            return write!(f, "{ahead}{value}{behind}");
+            let ending = if plural && !unit.is_empty() { "s" } else { "" };
+            return write!(f, "{ahead}{value}{unit}{ending}{behind}");
         }
     }
     let key = Shown(key);

@@ -24,6 +24,26 @@ static PROGRESS: [(&[u8], &str); 4] = [
     (b"4", "progress: stopped"),
 ];
 
+/// ConEmu's commands that are a number alone (ANSI and xterm codes, ConEmu specific OSC).
+static CONEMU: [(&[u8], &str); 3] = [
+    (b"5", "wait for a key (ConEmu)"),
+    (b"10", "keys and output as xterm has them (ConEmu)"),
+    (b"12", "start of the prompt (ConEmu)"),
+];
+
+/// Those that have a text.
+static CONEMU_TEXTS: [(&[u8], &str); 9] = [
+    (b"1;", "sleep, in milliseconds"),
+    (b"2;", "message box"),
+    (b"3;", "title of the tab"),
+    (b"6;", "macro"),
+    (b"7;", "run a program"),
+    (b"8;", "show the environment's variable"),
+    (b"9;", "current folder"),
+    (b"10;", "keys and output as xterm has them"),
+    (b"11;", "comment"),
+];
+
 /// What VS Code's marks mean that have a text.
 static EDITOR: [(&[u8], &str); 2] = [
     (b"E", "command line (VS Code): "),
@@ -70,14 +90,21 @@ fn progress<W: fmt::Write>(f: &mut fmt::Formatter<W>, fields: &[u8]) -> fmt::Res
     f.write_str(words_of(&PROGRESS, state).unwrap_or("progress"))
 }
 
-/// OSC 9: iTerm2's notification; ConEmu's progress (9;4) and folder (9;9).
+/// OSC 9: ConEmu's commands, among them progress (9;4); any other text is iTerm2's notification.
 pub fn notification<W: fmt::Write>(f: &mut fmt::Formatter<W>, rest: Body<'_>) -> fmt::Result {
     if let Some(fields) = rest.behind(b"4;") {
         return progress(f, fields.bytes);
     }
-    if let Some(folder) = rest.behind(b"9;") {
-        let quoted = folder.quoted();
-        return write!(f, "current folder (ConEmu): {quoted}");
+    if rest.more == 0
+        && let Some(words) = words_of(&CONEMU, rest.bytes)
+    {
+        return f.write_str(words);
+    }
+    for (front, words) in &CONEMU_TEXTS {
+        if let Some(text) = rest.behind(*front) {
+            let quoted = text.quoted();
+            return write!(f, "{words} (ConEmu): {quoted}");
+        }
     }
     let quoted = rest.quoted();
     write!(f, "notification: {quoted}")

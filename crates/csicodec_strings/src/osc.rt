@@ -11,17 +11,21 @@ use std::fmt;
 /// Commands that have one text: their numbers and what they do.
 ///
 /// xterm's ctlseqs, Operating System Commands: 0 to 3, 6, 22, 46, 50, 51, 60 and 61, 106; 7 is Apple's Terminal's, and most
-/// terminals'; 21, 66, 99, 5113, 5522, 30001 and 30101 are kitty's; 440 and 701 are mintty's; 3008 is systemd's.
-static TEXTS: [(u32, &str); 23] = [
+/// terminals'; 21 is DEC's (VT520, DECSWT) and kitty's; 66, 99, 5113, 5522, 30001 and 30101 are kitty's; 20, 39, 49 and those
+/// from 702 to 776 are rxvt's (urxvt(7)), 701 is its and mintty's, 440 mintty's; 176 and 555 are foot's; 3008 is systemd's.
+static TEXTS: [(u32, &str); 41] = [
     (0, "window title and icon name"),
     (1, "icon name"),
     (2, "window title"),
     (3, "property of the window"),
     (6, "whether a special colour is used"),
     (7, "current folder"),
-    (21, "colours (kitty)"),
+    (20, "image of the background (rxvt)"),
+    (21, "window title (DEC), or colours (kitty)"),
     (22, "shape of the mouse pointer"),
+    (39, "foreground colour (rxvt)"),
     (46, "log file"),
+    (49, "background colour (rxvt)"),
     (50, "font"),
     (51, "for Emacs' shell"),
     (60, "ask which features are allowed"),
@@ -29,8 +33,23 @@ static TEXTS: [(u32, &str); 23] = [
     (66, "text of another size (kitty)"),
     (99, "notification (kitty)"),
     (106, "whether a special colour is used"),
+    (176, "application ID (foot)"),
     (440, "play a sound (mintty)"),
-    (701, "locale (mintty)"),
+    (555, "flash the terminal (foot)"),
+    (701, "locale (rxvt, mintty)"),
+    (702, "ask for the version (rxvt)"),
+    (704, "colour of italic text (rxvt)"),
+    (705, "tint of the background (rxvt)"),
+    (706, "colour of bold text (rxvt)"),
+    (707, "colour of underlined text (rxvt)"),
+    (708, "colour of the border (rxvt)"),
+    (710, "font (rxvt)"),
+    (711, "font of bold text (rxvt)"),
+    (712, "font of italic text (rxvt)"),
+    (713, "font of bold italic text (rxvt)"),
+    (720, "scroll back by lines (rxvt)"),
+    (721, "scroll forward by lines (rxvt)"),
+    (776, "ask for a cell's size (rxvt)"),
     (3008, "context (systemd)"),
     (5113, "file transfer (kitty)"),
     (5522, "clipboard (kitty)"),
@@ -43,6 +62,24 @@ fn text_of(code: u32) -> Option<&'static str> {
     for (number, words) in &TEXTS {
         if *number == code {
             return Some(*words);
+        }
+    }
+    None
+}
+
+/// Commands whose text says something else where it begins so: iTerm2's Proprietary Escape Codes, and Konsole.
+static FRONTS: [(u32, &[u8], &str); 2] = [
+    (6, b"1;bg;", "colour of the tab (iTerm2)"),
+    (50, b"CursorShape=", "shape of the cursor (Konsole)"),
+];
+
+/// What such a command does, and the rest of its text.
+fn with_front(code: u32, rest: Body<'_>) -> Option<(&'static str, Body<'_>)> {
+    for (number, front, words) in &FRONTS {
+        if *number == code
+            && let Some(behind) = rest.behind(*front)
+        {
+            return Some((*words, behind));
         }
     }
     None
@@ -75,7 +112,10 @@ fn numbered<W: fmt::Write>(f: &mut fmt::Formatter<W>, code: u32, rest: Body<'_>)
         633 => editor_mark(f, rest),
         777 => rxvt(f, rest),
         1337 => iterm(f, rest),
-        _ => plain(f, text_of(code).unwrap_or("unknown"), rest),
+        _ => match with_front(code, rest) {
+            Some((words, behind)) => plain(f, words, behind),
+            None => plain(f, text_of(code).unwrap_or("unknown"), rest),
+        },
     }
 }
 

@@ -74,20 +74,45 @@ impl Describe for DeviceAttribute {
     fn describe<W: fmt::Write>(&self, f: &mut fmt::Formatter<W>) -> fmt::Result {
         match self {
             DeviceAttribute::Code(code) => f.write_str(extension(code)),
-            DeviceAttribute::Unspecified(CsiParam::Integer(7)) => {
-                f.write_str("soft character set (DRCS)")
+            DeviceAttribute::Unspecified(CsiParam::Integer(number)) => {
+                tell_extension(f, *number)
             }
-            DeviceAttribute::Unspecified(CsiParam::Integer(16)) => f.write_str("locator port"),
-            DeviceAttribute::Unspecified(CsiParam::Integer(17)) => {
-                f.write_str("terminal state interrogation")
-            }
-            DeviceAttribute::Unspecified(CsiParam::Integer(28)) => {
-                f.write_str("rectangular editing")
-            }
-            DeviceAttribute::Unspecified(CsiParam::Integer(52)) => f.write_str("clipboard"),
             DeviceAttribute::Unspecified(token) => write!(f, "extension {token}"),
         }
     }
+}
+
+/// The extension of this number, as a terminal tells it (DA1): by its name, where the codec, DEC or xterm has one.
+pub fn tell_extension<W: fmt::Write>(f: &mut fmt::Formatter<W>, number: i64) -> fmt::Result {
+    match DeviceAttributeCodes::from_i64(number) {
+        Some(code) => f.write_str(extension(&code)),
+        None => match other_extension(number) {
+            Some(name) => f.write_str(name),
+            None => write!(f, "extension {number}"),
+        },
+    }
+}
+
+/// Extensions that the codec has no code for (DEC's manuals of VT420 to VT525; xterm's ctlseqs; 52 of foot and others).
+fn other_extension(number: i64) -> Option<&'static str> {
+    Some(match number {
+        7 => "soft character set (DRCS)",
+        12 => "Serbo-Croatian characters",
+        14 => "8-bit interface",
+        16 => "locator port",
+        17 => "terminal state interrogation",
+        19 => "sessions",
+        23 => "Greek",
+        24 => "Turkish",
+        28 => "rectangular editing",
+        32 => "text macros",
+        42 => "Latin-2",
+        44 => "PCTerm",
+        45 => "soft key map",
+        46 => "ASCII emulation",
+        52 => "clipboard",
+        _ => return None,
+    })
 }
 
 fn extension(code: &DeviceAttributeCodes) -> &'static str {

@@ -34,7 +34,7 @@ fn words(code: &EscCode) -> &'static str {
         EscCode::Index => "IND  cursor down 1 line, scrolling",
         EscCode::NextLine => "NEL  cursor to column 1, down 1 line, scrolling",
         EscCode::CursorPositionLowerLeft =>
-            "ESC F  cursor to the lower left corner (xterm, where it is set up so)",
+            "SSA  start of a selected area (or xterm, where it is set up so: cursor to the lower left corner)",
         EscCode::HorizontalTabSet => "HTS  set a tab stop at the cursor",
         EscCode::ReverseIndex => "RI  cursor up 1 line, scrolling",
         EscCode::SingleShiftG2 => "SS2  next character from G2",

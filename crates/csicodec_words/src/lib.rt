@@ -19,6 +19,7 @@ use crate::keyboard::path;
 use csicodec_base::CsiParam;
 use csicodec_parser::{CSI, Unspecified};
 pub use describe::{Describe, Described};
+pub use device::tell_extension;
 pub use mode::{private_mode_name, terminal_mode_name};
 use std::fmt;
 

@@ -79,8 +79,11 @@ static DEC: [Row; 61] = [
     ("?2K", "DECSEL  erase what isn't protected in the line"),
     ("1\"q", "DECSCA  protection of characters on"),
     ("0\"q", "DECSCA  protection of characters off"),
-    ("61\"p", "DECSCL  conformance level 61 (VT100)"),
-    ("64;1\"p", "DECSCL  conformance level 64, controls 1"),
+    ("61\"p", "DECSCL  conformance level 1 (VT100)"),
+    (
+        "64;1\"p",
+        "DECSCL  conformance level 4 (VT400), C1 controls as 7-bit sequences",
+    ),
     ("3'}", "DECIC  insert 3 columns"),
     ("'~", "DECDC  delete 1 column"),
     (
@@ -148,7 +151,10 @@ static DEC: [Row; 61] = [
         ">41;354;0c",
         "DA2  answer: terminal type 41, firmware 354, options 0",
     ),
-    ("?65;1;9c", "DA1  answer: VT500 class"),
+    (
+        "?65;1;9;32c",
+        "DA1  answer: VT500 class, with 132 columns, national replacement character sets, text macros",
+    ),
     ("?2026;2$y", "DECRPM 2026  answer: synchronized output off"),
     ("?2004;1$y", "DECRPM 2004  answer: bracketed paste on"),
     ("4;2$y", "DECRPM 4  answer: insert mode (IRM) off"),
@@ -195,7 +201,10 @@ static XTERM: [Row; 24] = [
     ),
     (">2t", "XTSMTITLE  set the form of titles: 2"),
     (">2T", "XTRMTITLE  reset the form of titles: 2"),
-    (">1s", "XTSHIFTESCAPE  shift and escape: 1"),
+    (
+        ">1s",
+        "XTSHIFTESCAPE  shift may be a modifier in mouse reports",
+    ),
     (
         "1;2;3;4;5T",
         "XTHIMOUSE  highlight from line 3, column 2, within lines 4 to 5 (or SD)",
@@ -216,16 +225,19 @@ static XTERM: [Row; 24] = [
         "in-band resize  answer: 24 lines, 80 columns, 800 by 480 pixels",
     ),
     ("?996n", "colour scheme  ask for it (contour, kitty)"),
-    (
-        "?997;1n",
-        "colour scheme  answer: 1, where 1 is dark and 2 light (contour, kitty)",
-    ),
+    ("?997;1n", "colour scheme  answer: dark (contour, kitty)"),
 ];
 
 /// The Linux console (console_codes(4)). The codec has no action for them.
 static LINUX: [Row; 7] = [
-    ("?16;0;16c", "DA1  answer: 16 (or Linux: the cursor's look)"),
-    ("?2c", "DA1  answer: 2 (or Linux: the cursor's look)"),
+    (
+        "?16;0;16c",
+        "Linux  look of the cursor: 16, bits turned 0, bits set 16",
+    ),
+    (
+        "?2c",
+        "Linux  look of the cursor: 2, bits turned 0, bits set 0",
+    ),
     ("9;15]", "Linux  screen blanks after 15 minutes"),
     ("14;0]", "Linux  screen powers down after 0 minutes"),
     ("10;750]", "Linux  bell's pitch: 750 Hz"),

@@ -1,5 +1,6 @@
 //! One module a library.
 
+mod commands;
 mod explain;
 mod normal_forms;
 mod readings;

@@ -1,8 +1,7 @@
 //! The times that `script` wrote beside a recording: a line for each piece, with the seconds since the piece before and how many
 //! bytes it has; in the newer form a letter stands ahead of both, `O` for what was written.
 
-use crate::cast::micros;
-use crate::report::Failure;
+use csicodec_command::{Failure, micros};
 use csicodec_page::Explainer;
 use csicodec_streams::{CHUNK, RunError, receive};
 use std::alloc::{AllocError, Global};
@@ -117,39 +116,5 @@ impl Timing {
             self.explain(explainer, &chunk[..len], output)?;
         }
         Err(Failure::Run(RunError::Read))
-    }
-}
-
-#[cfg(test)]
-mod tests {
-    use super::*;
-    use csicodec_page::Style;
-    use std::test::Fail;
-
-    #[test]
-    fn tells_times(rt: HostRuntime) -> Result<(), Fail> {
-        for times in [
-            "0.5 2\n1.25 3\n",
-            "H 0.0 START_TIME now\nO 0.5 2\nI 0.25 9\nO 1.0 3\n",
-        ] {
-            let style = Style {
-                timed: true,
-                ..Style::default()
-            };
-            let mut timing = Timing::of(rt.alloc(), times)?;
-            let mut explainer = Explainer::new(rt.alloc(), style);
-            let mut output = Vec::new(rt.alloc());
-            let mut input: &[u8] = b"Script started on x\n\x1b[m\x1bMb";
-            let done = timing.explain_all(&mut explainer, &mut input, &mut output);
-            assert!(rt; done.is_ok() && explainer.end(&mut output).is_ok());
-            let lines = r#"    0.000000         0  "Script started on x"     text  19 bytes
-    0.000000        19  \n                        LF  cursor down 1 line, scrolling
-    0.500000        20  \e[m                      SGR  all attributes off
-    1.750000        23  \eM                       RI  cursor up 1 line, scrolling
-    1.750000        25  "b"                       text  1 byte
-"#;
-            assert_eq!(rt; output.as_slice(), lines.as_bytes());
-        }
-        Ok(())
     }
 }

@@ -1,13 +1,13 @@
-//! What the program tells of a run that failed.
+//! What a program tells of a run that failed.
 ghost use Rattle.std.specs.Prelude.{◌≡◌, Some};
-ghost use Rattle.csicodec_stream.specs.Report.{line, status};
-ghost use Rattle.csicodec_stream.specs.declared.report.Failure.TheVariants.{Run as Ran};
+ghost use Rattle.csicodec_command.specs.Report.{line, status};
+ghost use Rattle.csicodec_command.specs.declared.report.Failure.TheVariants.{Run as Ran};
 
 use csicodec_streams::RunError;
 use std::fmt;
 
 /// Why a run failed.
-#[derive(Clone, Copy, Debug, PartialEq, Eq)]
+#[derive(Clone, Copy)]
 pub enum Failure {
     /// The words of the command line are no command, or aren't text.
     Usage,

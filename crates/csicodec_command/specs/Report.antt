@@ -1,9 +1,9 @@
--- What the program tells of a run that failed.
+-- What a program tells of a run that failed.
 use Rattle.std.specs.Prelude.{ℕ, List, ◌++◌, codes}
 use Rattle.std.specs.Fmt.{decimal}
 use Rattle.csicodec_streams.specs.Words.{run_error_text, run_status}
-use Rattle.csicodec_stream.specs.declared.report.Failure.{Failure}
-use Rattle.csicodec_stream.specs.declared.report.Failure.TheVariants as failure
+use Rattle.csicodec_command.specs.declared.report.Failure.{Failure}
+use Rattle.csicodec_command.specs.declared.report.Failure.TheVariants as failure
 
 -- the text of each failure, without the line's end
 abbrev pub line : Failure → List ℕ

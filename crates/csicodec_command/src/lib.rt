@@ -1,0 +1,13 @@
+//! What the programs share: the words of a command line, inputs one after the other, recordings of asciinema, and what is told
+//! of a run that failed.
+#![tactic(auto)]
+
+mod command;
+mod recording;
+mod report;
+mod run;
+
+pub use command::{Color, Command, Depth, Run, Task, USAGE, VERSION, Wanted, Wrong, command_of};
+pub use recording::{Recording, micros, time_of};
+pub use report::Failure;
+pub use run::{Job, asked, failed, refused, text_of, words_of, work_through};

@@ -1,0 +1,148 @@
+//! Recordings of asciinema (asciicast, versions 2 and 3): a line of JSON with the version, and one for each event, `[time, "o",
+//! "data"]` for what a program wrote. Times are seconds: in version 2 from the begin, in version 3 from the event before.
+
+use crate::report::Failure;
+use csicodec_streams::RunError;
+use serde_json::Value;
+use std::alloc::Global;
+use std::io::BufRead;
+
+/// A recording of which some lines were read.
+#[derive(Drop)]
+pub struct Recording {
+    alloc: Global,
+    /// 2 or 3; 0 ahead of the first line.
+    version: u64,
+    /// The lines so far.
+    lines: u64,
+    /// When the last event was, in microseconds.
+    time: u64,
+}
+
+/// Seconds in decimal digits with at most one point, in microseconds; 0 where they are written otherwise.
+pub fn micros(text: &str) -> u64 {
+    let (whole, part) = text.split_once('.').unwrap_or((text, ""));
+    let mut fraction = 0u64;
+    let mut unit = 100_000u64;
+    for digit in part.bytes() {
+        fraction = fraction.saturating_add(u64::from(digit.saturating_sub(b'0')).saturating_mul(
+            unit,
+        ));
+        unit /= 10;
+    }
+    match whole.parse::<u64>() {
+        Ok(seconds) => seconds.saturating_mul(1_000_000).saturating_add(fraction),
+        Err(_) => 0,
+    }
+}
+
+/// The time of an event, as its line has it: what stands between the bracket and the first comma.
+pub fn time_of(line: &str) -> &str {
+    let (front, _behind) = line.split_once(',').unwrap_or((line, ""));
+    front.trim_start_matches('[').trim()
+}
+
+impl Recording {
+    /// Of which nothing was read.
+    pub fn new(alloc: Global) -> Recording {
+        Recording {
+            alloc,
+            version: 0,
+            lines: 0,
+            time: 0,
+        }
+    }
+
+    /// When the last event was, in microseconds from the begin.
+    pub fn time(&self) -> u64 {
+        self.time
+    }
+
+    /// Whether events have their times from the begin, as version 2 has them, and not from the event before.
+    pub fn counts_from_begin(&self) -> bool {
+        self.version == 2
+    }
+
+    /// There are no more lines; one at least must have been there.
+    pub fn end(&self) -> Result<(), Failure> {
+        if self.version == 0 {
+            Err(self.refusal())
+        } else {
+            Ok(())
+        }
+    }
+
+    /// What refuses a line.
+    fn refusal(&self) -> Failure {
+        Failure::Recording(self.lines)
+    }
+
+    /// The next line, with its end; none at the end of the input.
+    pub fn next_line<'b, R: BufRead>(
+        &self,
+        input: &mut R,
+        line: &'b mut Vec<u8>,
+    ) -> Result<Option<&'b str>, Failure> {
+        line.clear();
+        match input.read_until(b'\n', line) {
+            Ok(0) => Ok(None),
+            Ok(_) => match std::str::from_utf8(line.as_slice()) {
+                Ok(text) => Ok(Some(text)),
+                Err(_) => Err(self.refusal()),
+            },
+            Err(_) => Err(Failure::Run(RunError::Read)),
+        }
+    }
+
+    fn value_of(&self, line: &str) -> Result<Value, Failure> {
+        match Value::from_str(self.alloc, line) {
+            Ok(value) => Ok(value),
+            Err(error) => Err(if error.is_memory() {
+                Failure::Run(RunError::Memory)
+            } else {
+                self.refusal()
+            }),
+        }
+    }
+
+    /// The next line; the data of its event, where a program wrote them.
+    pub fn take(&mut self, line: &str) -> Result<Option<String>, Failure> {
+        self.lines = self.lines.saturating_add(1);
+        let line = line.trim();
+        if self.version == 0 {
+            let header = self.value_of(line)?;
+            self.version = header.get("version").and_then(Value::as_u64).unwrap_or(0);
+            return if self.version == 2 || self.version == 3 {
+                Ok(None)
+            } else {
+                Err(self.refusal())
+            };
+        }
+        if line.is_empty() || line.starts_with('#') {
+            return Ok(None);
+        }
+        self.take_event(line)
+    }
+
+    fn take_event(&mut self, line: &str) -> Result<Option<String>, Failure> {
+        let event = self.value_of(line)?;
+        let code = event.get(1usize).and_then(Value::as_str);
+        let data = event.get(2usize).and_then(Value::as_str);
+        let (Some(code), Some(data)) = (code, data) else {
+            return Err(self.refusal());
+        };
+        let time = micros(time_of(line));
+        self.time = if self.version == 2 {
+            time
+        } else {
+            self.time.saturating_add(time)
+        };
+        if code != "o" {
+            return Ok(None);
+        }
+        match String::from_str(self.alloc, data) {
+            Ok(data) => Ok(Some(data)),
+            Err(_) => Err(Failure::Run(RunError::Memory)),
+        }
+    }
+}

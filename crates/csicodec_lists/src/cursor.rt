@@ -14,7 +14,7 @@ use csicodec_base::{CsiParam, CursorStyle, CursorTabulationControl, OneBased, Ta
 /// cursor_action(&[CsiParam::Integer(2)], 'A')        // Some(Cursor::Up(2))
 /// cursor_action(&[CsiParam::Integer(2)], 'm')        // None
 /// ```
-#[tactic(auto, unfolding(csicodec_actions::specs::Kinds::read, csicodec_actions::specs::Table::Cursor::as_cursor))]
+#[tactic(auto, using(crate::proofs::Finals::finals))]
 pub fn cursor_action(params: &[CsiParam], control: char) -> Option<Cursor>
     ensures { option_map (λ c. Moves c) result ≡ as_cursor params.now control }
 {
@@ -47,8 +47,8 @@ pub fn cursor_action(params: &[CsiParam], control: char) -> Option<Cursor>
         'd' => Some(Cursor::LinePositionAbsolute(count(params)?)),
         'e' => Some(Cursor::LinePositionForward(count(params)?)),
         'k' => Some(Cursor::LinePositionBackward(count(params)?)),
-        'W' => Some(Cursor::TabulationControl(CursorTabulationControl::from_i64(choice(params)?)?)),
-        'g' => Some(Cursor::TabulationClear(TabulationClear::from_i64(choice(params)?)?)),
+        'W' => tabulation_control(params),
+        'g' => tabulation_clear(params),
         'r' => top_and_bottom(params),
         's' => left_and_right(params),
         'u' => restore(params),
@@ -56,6 +56,26 @@ pub fn cursor_action(params: &[CsiParam], control: char) -> Option<Cursor>
         'q' => style(params),
         _ => None,
     }
+}
+
+/// A control of tabulation, by its number.
+#[tactic(auto, unfolding(csicodec_actions::specs::Kinds::read, csicodec_actions::specs::Table::Cursor::as_cursor))]
+#[inline(always)]
+fn tabulation_control(params: &[CsiParam]) -> Option<Cursor>
+    ensures { option_map (λ c. Moves c) result ≡ as_cursor params.now 87 }
+{
+    let control = CursorTabulationControl::from_i64(choice(params)?)?;
+    Some(Cursor::TabulationControl(control))
+}
+
+/// Which stops are cleared, by its number.
+#[tactic(auto, unfolding(csicodec_actions::specs::Kinds::read, csicodec_actions::specs::Table::Cursor::as_cursor))]
+#[inline(always)]
+fn tabulation_clear(params: &[CsiParam]) -> Option<Cursor>
+    ensures { option_map (λ c. Moves c) result ≡ as_cursor params.now 103 }
+{
+    let clear = TabulationClear::from_i64(choice(params)?)?;
+    Some(Cursor::TabulationClear(clear))
 }
 
 /// A top and a bottom margin. A bottom of 0, or that is left out, is 4294967295.

@@ -1,0 +1,167 @@
+-- What the rows before each final character of the cursor read, by what one parameter, or two places, stand for.
+use Rattle.std.proofs.Common.{◌≡◌, ℕ, List, [], ◌∷◌, None, Some, refl}
+use Rattle.std.specs.Prelude.{⊤, Bool, true, false, Option, option_and_then, if◌then◌else◌}
+use Rattle.std.specs.Option.{option_map, option_or}
+use Rattle.std.proofs.lemmas.Bool.{ne_eqb}
+use Rattle.csicodec_tokens.specs.declared.param.CsiParam.{CsiParam}
+use Rattle.csicodec_tokens.specs.declared.param.CsiParam.TheVariants.{Integer, P}
+use Rattle.csicodec_actions.specs.declared.cursor.Cursor as cursor_type
+use Rattle.csicodec_actions.specs.declared.cursor.Cursor.TheVariants as cursor
+use Rattle.csicodec_actions.specs.Actions.{Cursor}
+use Rattle.csicodec_actions.specs.Kinds.{Count, Kind, Value, read}
+use Rattle.csicodec_actions.specs.Rows.{Slot, Byte, Number, One, Makes, mark, has_shape, made, Row, row, gives, given, Before, read_by, counted, paired}
+use Rattle.csicodec_actions.specs.Table.Cursor.{as_cursor}
+
+-- ---- what is made of what rows give
+
+abbrev after : {A B : Type 0} (f : A → B) (shape : List Slot) → Makes A shape → Makes B shape
+after f [] whole = f whole
+after f (Byte b ∷ shape) make = after f shape make
+after f (Number n ∷ shape) make = after f shape make
+after f (One k ∷ shape) make = λ v. after f shape (make v)
+
+made-after : {A B : Type 0} (f : A → B) (shape : List Slot) (make : Makes A shape) (list : List CsiParam)
+    → made false shape (after f shape make) list ≡ option_map f (made false shape make list)
+made-after f [] whole list = refl
+made-after f (Byte b ∷ shape) make [] = refl
+made-after f (Number n ∷ shape) make [] = refl
+made-after f (One k ∷ shape) make [] = refl
+made-after f (Byte b ∷ shape) make (t ∷ ts) = made-after f shape make ts
+made-after f (Number n ∷ shape) make (t ∷ ts) = made-after f shape make ts
+made-after f (One k ∷ shape) make (P c ∷ ts) = refl
+made-after {A} {B} f (One k ∷ shape) make (Integer z ∷ ts) = go (λ v. made-after f shape (make v) ts) (read k z)
+  where
+    go : ((v : Value k) → made {R = B} false shape (after f shape (make v)) ts ≡ option_map f (made {R = A} false shape (make v) ts))
+        → (o : Option (Value k)) → option_and_then (λ v. made {R = B} false shape (after f shape (make v)) ts) o ≡ option_map f (option_and_then (λ v. made {R = A} false shape (make v) ts) o)
+    go each None = refl
+    go each (Some v) = each v
+
+gives-after : {A B : Type 0} (f : A → B) (shape : List Slot) (make : Makes A shape) (list : List CsiParam)
+    → gives (row shape (after f shape make)) list ≡ option_map f (gives (row shape make) list)
+gives-after {A} {B} f shape make list = go (has_shape false shape list)
+  where
+    go : (b : Bool) → (if b then made {R = B} false shape (after f shape make) list else None) ≡ option_map f (if b then made {R = A} false shape make list else None)
+    go true = made-after f shape make list
+    go false = refl
+
+or-map : {A B : Type 0} (f : A → B) (o p : Option A) → option_or (option_map f o) (option_map f p) ≡ option_map f (option_or o p)
+or-map f (Some a) p = refl
+or-map f None p = refl
+
+-- rows as pairs of a shape and what is made of its values
+abbrev Pairs : Type 0 → Type 0
+Pairs R = List ((shape : List Slot) × Makes R shape)
+
+abbrev rows-of : {R : Type 0} → Pairs R → List (Row R)
+rows-of [] = []
+rows-of (r ∷ rows) = row r.0 r.1 ∷ rows-of rows
+
+abbrev all-after : {A B : Type 0} (f : A → B) → Pairs A → Pairs B
+all-after f [] = []
+all-after f (r ∷ rows) = (r.0, after f r.0 r.1) ∷ all-after f rows
+
+given-after : {A B : Type 0} (f : A → B) (rows : Pairs A) (list : List CsiParam) → given (rows-of (all-after f rows)) list ≡ option_map f (given (rows-of rows) list)
+given-after f [] list = refl
+given-after f (r ∷ rows) list = rw (gives-after f r.0 r.1 list, given-after f rows list) (or-map f (gives (row r.0 r.1) list) (given (rows-of rows) list))
+
+one-count : {R : Type 0} (make : ℕ → R) (list : List CsiParam) → given (counted make) list ≡ option_map make (given (counted (λ n. n)) list)
+one-count make list = given-after make (([], 1) ∷ (One Count ∷ [], λ n. n) ∷ []) list
+
+two-counts : {R : Type 0} (make : ℕ → ℕ → R) (list : List CsiParam) → given (paired make) list ≡ option_map (λ (p : ℕ × ℕ). make p.0 p.1) (given (paired (λ a b. (a, b))) list)
+two-counts make list = given-after (λ (p : ℕ × ℕ). make p.0 p.1)
+    (([], (1, 1)) ∷ (One Count ∷ [], λ a. (a, 1)) ∷ (One Count ∷ mark ";" ∷ One Count ∷ [], λ a b. (a, b)) ∷ (mark ";" ∷ One Count ∷ [], λ b. (1, b)) ∷ []) list
+
+-- no row stands before a final that is none of the table's
+abbrev pub Lacks : {R : Type 0} → List (Before R) → ℕ → Type 0
+Lacks [] final = ⊤
+Lacks (b ∷ others) final = (final ≡ b.final → ⊥) × Lacks others final
+
+pub no-rows : {R : Type 0} (table : List (Before R)) (list : List CsiParam) (final : ℕ) → Lacks table final → read_by table list final ≡ None
+no-rows [] list final none = refl
+no-rows (b ∷ others) list final none = rw (ne_eqb final b.final none.0) (no-rows others list final none.1)
+
+-- ---- the cursor, a line for each final character
+
+abbrev pub Counts : ℕ → (ℕ → cursor_type.Cursor) → Type 0
+Counts final make = (list : List CsiParam) → as_cursor list final ≡ option_map (λ n. Cursor (make n)) (given (counted (λ n. n)) list)
+
+abbrev pub TwoCounts : ℕ → (ℕ → ℕ → cursor_type.Cursor) → Type 0
+TwoCounts final make = (list : List CsiParam) → as_cursor list final ≡ option_map (λ (p : ℕ × ℕ). Cursor (make p.0 p.1)) (given (paired (λ a b. (a, b))) list)
+
+pub up : Counts 65 cursor.Up
+unfolding as_cursor
+up = one-count (λ n. Cursor (cursor.Up n))
+
+pub down : Counts 66 cursor.Down
+unfolding as_cursor
+down = one-count (λ n. Cursor (cursor.Down n))
+
+pub right : Counts 67 cursor.Right
+unfolding as_cursor
+right = one-count (λ n. Cursor (cursor.Right n))
+
+pub left : Counts 68 cursor.Left
+unfolding as_cursor
+left = one-count (λ n. Cursor (cursor.Left n))
+
+pub next-line : Counts 69 cursor.NextLine
+unfolding as_cursor
+next-line = one-count (λ n. Cursor (cursor.NextLine n))
+
+pub preceding-line : Counts 70 cursor.PrecedingLine
+unfolding as_cursor
+preceding-line = one-count (λ n. Cursor (cursor.PrecedingLine n))
+
+pub character-absolute : Counts 71 cursor.CharacterAbsolute
+unfolding as_cursor
+character-absolute = one-count (λ n. Cursor (cursor.CharacterAbsolute n))
+
+pub character-position-absolute : Counts 96 cursor.CharacterPositionAbsolute
+unfolding as_cursor
+character-position-absolute = one-count (λ n. Cursor (cursor.CharacterPositionAbsolute n))
+
+pub forward-tabulation : Counts 73 cursor.ForwardTabulation
+unfolding as_cursor
+forward-tabulation = one-count (λ n. Cursor (cursor.ForwardTabulation n))
+
+pub backward-tabulation : Counts 90 cursor.BackwardTabulation
+unfolding as_cursor
+backward-tabulation = one-count (λ n. Cursor (cursor.BackwardTabulation n))
+
+pub line-tabulation : Counts 89 cursor.LineTabulation
+unfolding as_cursor
+line-tabulation = one-count (λ n. Cursor (cursor.LineTabulation n))
+
+pub character-position-forward : Counts 97 cursor.CharacterPositionForward
+unfolding as_cursor
+character-position-forward = one-count (λ n. Cursor (cursor.CharacterPositionForward n))
+
+pub character-position-backward : Counts 106 cursor.CharacterPositionBackward
+unfolding as_cursor
+character-position-backward = one-count (λ n. Cursor (cursor.CharacterPositionBackward n))
+
+pub line-position-absolute : Counts 100 cursor.LinePositionAbsolute
+unfolding as_cursor
+line-position-absolute = one-count (λ n. Cursor (cursor.LinePositionAbsolute n))
+
+pub line-position-forward : Counts 101 cursor.LinePositionForward
+unfolding as_cursor
+line-position-forward = one-count (λ n. Cursor (cursor.LinePositionForward n))
+
+pub line-position-backward : Counts 107 cursor.LinePositionBackward
+unfolding as_cursor
+line-position-backward = one-count (λ n. Cursor (cursor.LinePositionBackward n))
+
+pub position : TwoCounts 72 cursor.Position
+unfolding as_cursor
+position = two-counts (λ a b. Cursor (cursor.Position a b))
+
+pub active-position-report : TwoCounts 82 cursor.ActivePositionReport
+unfolding as_cursor
+active-position-report = two-counts (λ a b. Cursor (cursor.ActivePositionReport a b))
+
+pub character-and-line-position : TwoCounts 102 cursor.CharacterAndLinePosition
+unfolding as_cursor
+character-and-line-position = two-counts (λ a b. Cursor (cursor.CharacterAndLinePosition a b))
+
+pub ruleset finals = (up, down, right, left, next-line, preceding-line, character-absolute, character-position-absolute, forward-tabulation, backward-tabulation, line-tabulation, character-position-forward, character-position-backward, line-position-absolute, line-position-forward, line-position-backward, position, active-position-report, character-and-line-position)

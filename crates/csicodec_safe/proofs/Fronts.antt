@@ -1,28 +1,26 @@
 -- What went out is a front of the text of the whole stream, whatever comes behind.
 use Rattle.std.proofs.Common.{◌≡◌, ℕ, Bool, true, false, cond, Option, None, Some, IfSome, List, [], ◌∷◌, ◌++◌, map, refl, sym, ap, subst, ◌∙◌, ⊎_elim, append_assoc, append-nil}
-use Rattle.std.specs.Prelude.{filter, if◌then◌else◌}
+use Rattle.std.specs.Prelude.{filter}
 use Rattle.std.specs.Io.KnownBytes.{Appends, Consumes, IsAtEnd}
 use Rattle.bstr.specs.Utf8.{lossy_chars}
-use Rattle.csicodec_base.specs.declared.sgr.Sgr.{Sgr}
-use Rattle.csicodec_base.specs.declared.sgr.Sgr.TheVariants as sgr
-use Rattle.csicodec_actions.specs.Actions as action
-use Rattle.csicodec_actions.specs.Table.{texts}
+use Rattle.csicodec_actions.specs.Actions.{Action}
 use Rattle.csicodec_spans.specs.declared.table.Kind.{Kind}
 use Rattle.csicodec_spans.specs.declared.table.Kind.TheVariants as kind
 use Rattle.csicodec_spans.specs.declared.table.Mode.TheVariants as mode
 use Rattle.csicodec_spans.specs.Parts.{Part, IsWhole, left_over}
 use Rattle.csicodec_spans.proofs.Kept.{parts_more}
 use Rattle.csicodec_spans.proofs.Once.{parts_front}
-use Rattle.csicodec_safe.specs.declared.colors.Depth.{Depth}
+use Rattle.csicodec_safe.specs.declared.styles.Passing.{Passing}
+use Rattle.csicodec_safe.specs.Links.{Begun, is_linked, links_in, start}
 use Rattle.csicodec_safe.specs.Shown.{shown, shown_chars, shown_text, IsRead}
 use Rattle.csicodec_safe.specs.Titles.{title_open, with_titles}
 use Rattle.csicodec_safe.specs.Cleaned.{RuleOf, EndOf, IsStep, AreSteps, Ends, Strips, stripped, drops, ends_bare, is_text, longest}
 use Rattle.csicodec_safe.specs.Stream.{Begins, Between, Goes, IsFrontOf, Takes, start_of}
-use Rattle.csicodec_safe.specs.Styled.{kept, Item, Style, item_texts, shown_items, Leaves, run_behind, items_behind, AreLeft, is_open, styles_of, StylesIn, Keeping, stays, resets}
+use Rattle.csicodec_safe.specs.Styled.{kept, Item, Style, item_texts, shown_items, Leaves, begun_behind, run_behind, items_behind, AreLeft, is_open, styles_of, links_of, ends_of, StylesIn, Keeping, first_kept, stays, resets}
 use Rattle.csicodec_safe.proofs.Again.{of_once, one_styled}
 use Rattle.csicodec_safe.proofs.Plain.{steps_stripped, strips}
 use Rattle.csicodec_safe.proofs.Shows.{shown_read}
-use Rattle.csicodec_safe.proofs.Styled.{keeping, part_texts, styles, texts_both, texts_chars}
+use Rattle.csicodec_safe.proofs.Styled.{given_string, part_texts, styles, texts_both, texts_chars, texts_links, texts_styles}
 use Rattle.csicodec_safe.proofs.Sure.{read_more, read_none}
 use Rattle.csicodec_safe.proofs.Titles.{titles_on}
 use Rattle.csicodec_safe.proofs.Twice.{one_text}
@@ -87,74 +85,85 @@ module _ {S : Type 0} where
 
 -- ---- with styles
 
-ended_begins : (run chars rest : List ℕ) (ss : List Sgr) (others : List Item) → IsRead run chars rest → GoesOnFrom (item_texts (shown_items run ++ (map Style ss ++ others))) (shown_chars chars)
-ended_begins run chars rest ss others h =
-    subst (λ (t : List ℕ). GoesOnFrom t (shown_chars chars)) (sym (part_texts run ss others))
-    (further (shown_text run) (shown_chars chars) (texts (map action.Sgr ss) ++ item_texts others) (run_begins run chars rest h))
+ended_begins : (run chars rest : List ℕ) (own others : List Item) → IsRead run chars rest → GoesOnFrom (item_texts (shown_items run ++ (own ++ others))) (shown_chars chars)
+ended_begins run chars rest own others h =
+    subst (λ (t : List ℕ). GoesOnFrom t (shown_chars chars)) (sym (part_texts run own others)) (further (shown_text run) (shown_chars chars) (item_texts own ++ item_texts others) (run_begins run chars rest h))
 
-part_begins : (d : Depth) (k : Kind) (run bytes chars rest : List ℕ) (ss : List Sgr) (others : List Item) → Leaves d k bytes ss → IsRead run chars rest
-    → ((cs r : List ℕ) → IsRead (run_behind k run bytes) cs r → GoesOnFrom (item_texts others) (shown_chars cs)) → GoesOnFrom (item_texts (items_behind k run ++ (map Style ss ++ others))) (shown_chars chars)
-part_begins d kind.Text run bytes chars rest ss others none h later = rw none (later chars (rest ++ bytes) (read_longer run chars rest bytes h))
-part_begins d kind.Csi run bytes chars rest ss others l h later = ended_begins run chars rest ss others h
-part_begins d kind.Esc run bytes chars rest ss others l h later = ended_begins run chars rest ss others h
-part_begins d kind.Str run bytes chars rest ss others l h later = ended_begins run chars rest ss others h
-part_begins d kind.Other run bytes chars rest ss others l h later = ended_begins run chars rest ss others h
+part_begins : (d : Passing) (b : Begun) (k : Kind) (run bytes chars rest : List ℕ) (own others : List Item) → Leaves d b k bytes own → IsRead run chars rest
+    → ((cs r : List ℕ) → IsRead (run_behind k run bytes) cs r → GoesOnFrom (item_texts others) (shown_chars cs)) → GoesOnFrom (item_texts (items_behind k run ++ (own ++ others))) (shown_chars chars)
+part_begins d b kind.Text run bytes chars rest own others none h later = rw none (later chars (rest ++ bytes) (read_longer run chars rest bytes h))
+part_begins d b kind.Csi run bytes chars rest own others l h later = ended_begins run chars rest own others h
+part_begins d b kind.Esc run bytes chars rest own others l h later = ended_begins run chars rest own others h
+part_begins d b kind.Str run bytes chars rest own others l h later = ended_begins run chars rest own others h
+part_begins d b kind.Other run bytes chars rest own others l h later = ended_begins run chars rest own others h
 
-left_begins : (d : Depth) (ps : List Part) (run chars rest : List ℕ) (items : List Item) → IsRead run chars rest → AreLeft d run ps items → GoesOnFrom (item_texts items) (shown_chars chars)
-left_begins d [] run chars rest items h e =
+left_begins : (d : Passing) (b : Begun) (ps : List Part) (run chars rest : List ℕ) (items : List Item) → IsRead run chars rest → AreLeft d b run ps items → GoesOnFrom (item_texts items) (shown_chars chars)
+left_begins d b [] run chars rest items h e =
     subst (λ (t : List ℕ). GoesOnFrom t (shown_chars chars)) (sym (ap item_texts e ∙ texts_chars (filter shown (lossy_chars run)))) (run_begins run chars rest h)
-left_begins d (p ∷ ps) run chars rest items h (ss, others, leaves, e, left) =
+left_begins d b (p ∷ ps) run chars rest items h (own, others, leaves, e, left) =
     subst (λ (x : List Item). GoesOnFrom (item_texts x) (shown_chars chars)) (sym e)
-    (part_begins d p.kind run p.bytes chars rest ss others leaves h (λ cs r i. left_begins d ps (run_behind p.kind run p.bytes) cs r others i left))
+    (part_begins d b p.kind run p.bytes chars rest own others leaves h (λ cs r i. left_begins d (begun_behind d b p.kind p.bytes) ps (run_behind p.kind run p.bytes) cs r others i left))
 
 module _ {S : Type 0} (of : S → Keeping) where
   -- what a step gave is the text of what the part leaves
-  step_left : (k : Kind) (s mid : S) (run bytes first next : List ℕ) (ss : List Sgr) (others : List Item) → IsStep (stays of) k s run bytes first mid next → Leaves (of s).depth k bytes ss
-      → (item_texts (items_behind k run ++ (map Style ss ++ others)) ≡ first ++ item_texts others) × (next ≡ run_behind k run bytes)
-  step_left kind.Text s mid run bytes first next ss others (none, same, on) l = (rw (none, l) refl, on)
-  step_left kind.Csi s mid run bytes first next ss others (own, (actions, one, same, state), e, left) (more, other, l) =
-      let text : texts (map action.Sgr ss) ≡ own = ap (λ (x : List Sgr). texts (map action.Sgr x)) (l ∙ ap (kept (of s).depth) (of_once bytes more actions other one)) ∙ sym same in (
-        part_texts run ss others ∙ ap (λ (t : List ℕ). shown_text run ++ (t ++ item_texts others)) text ∙ sym (append_assoc (shown_text run) own (item_texts others)) ∙ ap (λ (t : List ℕ). t ++ item_texts others) (sym e),
-        left,
-      )
-  step_left kind.Esc s mid run bytes first next ss others (e, same, left) l = (rw l (part_texts run [] others ∙ ap (λ (t : List ℕ). t ++ item_texts others) (sym e)), left)
-  step_left kind.Str s mid run bytes first next ss others (e, same, left) l = (rw l (part_texts run [] others ∙ ap (λ (t : List ℕ). t ++ item_texts others) (sym e)), left)
-  step_left kind.Other s mid run bytes first next ss others (e, same, left) l = (rw l (part_texts run [] others ∙ ap (λ (t : List ℕ). t ++ item_texts others) (sym e)), left)
+  record OneStep (k : Kind) (s mid : S) (run bytes first next : List ℕ) (own others : List Item) : Type 0 where
+    text : item_texts (items_behind k run ++ (own ++ others)) ≡ first ++ item_texts others
+    next_run : next ≡ run_behind k run bytes
+    passing : (of mid).passing ≡ (of s).passing
+    begun : (of mid).begun ≡ begun_behind (of s).passing (of s).begun k bytes
 
-  step_depth : (k : Kind) (s mid : S) (run bytes first next : List ℕ) → IsStep (stays of) k s run bytes first mid next → (of mid).depth ≡ (of s).depth
-  step_depth kind.Text s mid run bytes first next (none, same, on) = ap (λ (x : S). (of x).depth) same
-  step_depth kind.Csi s mid run bytes first next (own, (actions, one, text, state), e, left) = ap (λ (x : Keeping). x.depth) state
-  step_depth kind.Esc s mid run bytes first next (e, same, left) = ap (λ (x : S). (of x).depth) same
-  step_depth kind.Str s mid run bytes first next (e, same, left) = ap (λ (x : S). (of x).depth) same
-  step_depth kind.Other s mid run bytes first next (e, same, left) = ap (λ (x : S). (of x).depth) same
+  -- where a part ends the run
+  ended : (run first own_text : List ℕ) (own others : List Item) → first ≡ shown_text run ++ own_text → item_texts own ≡ own_text → item_texts (shown_items run ++ (own ++ others)) ≡ first ++ item_texts others
+  ended run first own_text own others e same =
+      part_texts run own others ∙ ap (λ (t : List ℕ). shown_text run ++ (t ++ item_texts others)) same ∙ sym (append_assoc (shown_text run) own_text (item_texts others)) ∙ ap (λ (t : List ℕ). t ++ item_texts others) (sym e)
 
-  record Later (d : Depth) (qs : List Part) (last text : List ℕ) (items : List Item) : Type 0 where
+  bare : (run first : List ℕ) (own others : List Item) → first ≡ shown_text run → own ≡ [] → item_texts (shown_items run ++ (own ++ others)) ≡ first ++ item_texts others
+  bare run first own others e none = ended run first [] own others (e ∙ sym (append-nil (shown_text run))) (ap item_texts none)
+
+  step_left : (k : Kind) (s mid : S) (run bytes first next : List ℕ) (own others : List Item) → IsStep (stays of) k s run bytes first mid next → Leaves (of s).passing (of s).begun k bytes own → OneStep k s mid run bytes first next own others
+  step_left kind.Text s mid run bytes first next own others (none, same, on) l =
+      record { text = rw (none, l) refl; next_run = on; passing = ap (λ (x : S). (of x).passing) same; begun = ap (λ (x : S). (of x).begun) same }
+  step_left kind.Csi s mid run bytes first next own others (given, (actions, one, same, state), e, left) (more, other, l) =
+      let d = (of s).passing.depth in
+      let text : item_texts own ≡ given = ap item_texts (l ∙ ap (λ (x : List Action). map Style (kept d x)) (of_once bytes more actions other one)) ∙ texts_styles (kept d actions) ∙ sym same in
+      record { text = ended run first given own others e text; next_run = left; passing = ap (λ (x : Keeping). x.passing) state; begun = ap (λ (x : Keeping). x.begun) state }
+  step_left kind.Str s mid run bytes first next own others (given, steps, e, left) l =
+      let g = given_string of bytes s mid given steps in
+      let text : item_texts own ≡ given = ap item_texts l ∙ texts_links (links_in (of s).passing.links (of s).begun bytes) ∙ sym g.told in
+      record { text = ended run first given own others e text; next_run = left; passing = ap (λ (x : Keeping). x.passing) g.state; begun = ap (λ (x : Keeping). x.begun) g.state }
+  step_left kind.Esc s mid run bytes first next own others (e, same, left) l =
+      record { text = bare run first own others e l; next_run = left; passing = ap (λ (x : S). (of x).passing) same; begun = ap (λ (x : S). (of x).begun) same }
+  step_left kind.Other s mid run bytes first next own others (e, same, left) l =
+      record { text = bare run first own others e l; next_run = left; passing = ap (λ (x : S). (of x).passing) same; begun = ap (λ (x : S). (of x).begun) same }
+
+  record Later (d : Passing) (qs : List Part) (last text : List ℕ) (items : List Item) : Type 0 where
     others : List Item
-    left : AreLeft d last qs others
+    begun : Begun
+    left : AreLeft d begun last qs others
     all : item_texts items ≡ text ++ item_texts others
 
-  steps_left : (ps qs : List Part) (s after : S) (run text last : List ℕ) (items : List Item) → AreSteps (stays of) s run ps text after last → AreLeft (of s).depth run (ps ++ qs) items → Later (of s).depth qs last text items
-  steps_left [] qs s after run text last items (none, same, e) l = record { others = items; left = rw e l; all = rw none refl }
-  steps_left (p ∷ ps) qs s after run text last items (first, mid, next, more, step, e, rest) (ss, others, leaves, f, l) =
-      let (one, is_next) = step_left p.kind s mid run p.bytes first next ss others step leaves in
-      let kept_depth : (of mid).depth ≡ (of s).depth = step_depth p.kind s mid run p.bytes first next step in
-      let r = steps_left ps qs mid after next more last others rest (rw (kept_depth, is_next) l) in
+  steps_left : (ps qs : List Part) (s after : S) (run text last : List ℕ) (items : List Item) → AreSteps (stays of) s run ps text after last → AreLeft (of s).passing (of s).begun run (ps ++ qs) items → Later (of s).passing qs last text items
+  steps_left [] qs s after run text last items (none, same, e) l = record { others = items; begun = (of s).begun; left = rw e l; all = rw none refl }
+  steps_left (p ∷ ps) qs s after run text last items (first, mid, next, more, step, e, rest) (own, others, leaves, f, l) =
+      let one = step_left p.kind s mid run p.bytes first next own others step leaves in
+      let r = steps_left ps qs mid after next more last others rest (rw (one.passing, one.begun, one.next_run) l) in
       record {
         others = r.others;
-        left = subst (λ (d : Depth). AreLeft d last qs r.others) kept_depth r.left;
-        all = ap item_texts f ∙ one ∙ ap (λ (t : List ℕ). first ++ t) r.all ∙ sym (append_assoc first more (item_texts r.others)) ∙ ap (λ (t : List ℕ). t ++ item_texts r.others) (sym e);
+        begun = r.begun;
+        left = subst (λ (d : Passing). AreLeft d r.begun last qs r.others) one.passing r.left;
+        all = ap item_texts f ∙ one.text ∙ ap (λ (t : List ℕ). first ++ t) r.all ∙ sym (append_assoc first more (item_texts r.others)) ∙ ap (λ (t : List ℕ). t ++ item_texts r.others) (sym e);
       }
 
-  pub clean_front : (s : S) (read more text : List ℕ) (last : Between S) → Takes (stays of) (start_of s) read text last → IsFrontOf (StylesIn (of s).depth) (read ++ more) text
-  clean_front s read more text last h whole k =
+  pub clean_front : (s : S) (read more text : List ℕ) (last : Between S) → (of s).begun ≡ start → Takes (stays of) (start_of s) read text last → IsFrontOf (StylesIn (of s).passing) (read ++ more) text
+  clean_front s read more text last first h whole k =
       let g = h.goes [] [] (read_none []) in
       let b = behind (stays of) s read more text last k.parts g k.whole in
-      let left : AreLeft (of s).depth [] (with_titles false g.parts ++ b.later) k.items = subst (λ (ps : List Part). AreLeft (of s).depth [] ps k.items) b.whole k.left in
-      let r = steps_left (with_titles false g.parts) b.later s last.rule [] g.text g.left k.items g.steps left in
-      let end : List Item = if is_open false (styles_of k.items) then Style sgr.Reset ∷ [] else [] in
+      let left : AreLeft (of s).passing start [] (with_titles false g.parts ++ b.later) k.items = subst (λ (ps : List Part). AreLeft (of s).passing start [] ps k.items) b.whole k.left in
+      let r = steps_left (with_titles false g.parts) b.later s last.rule [] g.text g.left k.items g.steps (rw first left) in
+      let end : List Item = ends_of (is_linked false (links_of k.items)) (is_open false (styles_of k.items)) in
       let parts : whole ≡ g.text ++ (item_texts r.others ++ item_texts end) = k.all ∙ texts_both k.items end ∙ ap (λ (t : List ℕ). t ++ item_texts end) r.all ∙ append_assoc g.text (item_texts r.others) (item_texts end) in
       goes_front (stays of) s read text last (item_texts r.others ++ item_texts end) whole g parts
-      (further (item_texts r.others) (shown_chars g.read) (item_texts end) (left_begins (of s).depth b.later g.left g.read last.held r.others g.is_read r.left))
+      (further (item_texts r.others) (shown_chars g.read) (item_texts end) (left_begins (of s).passing r.begun b.later g.left g.read last.held r.others g.is_read r.left))
 
 -- ---- from a reader to a writer
 
@@ -190,9 +199,10 @@ pub strip_sent : {S : Type 0} (s : S) (bytes more sent : List ℕ) (i k w y : Op
     → SentFront (Strips longest) i w y
 strip_sent s = sent_front drops ends_bare s (Strips longest) (strip_front s) (λ bytes text e. same_front (Strips longest) bytes text (λ other k. one_text longest bytes other text k (strips longest s bytes text e)))
 
-pub clean_sent : {S : Type 0} (of : S → Keeping) (d : Depth) (s : S) → of s ≡ keeping d false → (bytes more sent : List ℕ) (i k w y : Option (List ℕ)) → Consumes i k (bytes ++ more)
+pub clean_sent : {S : Type 0} (of : S → Keeping) (d : Passing) (s : S) → of s ≡ first_kept d → (bytes more sent : List ℕ) (i k w y : Option (List ℕ)) → Consumes i k (bytes ++ more)
     → Begins (stays of) (resets of) s ((more ≡ []) × IsAtEnd k) bytes sent → Appends w y sent → SentFront (StylesIn d) i w y
 clean_sent of d s begins =
-    let same_depth : (of s).depth ≡ d = ap (λ (x : Keeping). x.depth) begins in
-    sent_front (stays of) (resets of) s (StylesIn d) (λ read more text last h. subst (λ (x : Depth). IsFrontOf (StylesIn x) (read ++ more) text) same_depth (clean_front of s read more text last h))
+    let same : (of s).passing ≡ d = ap (λ (x : Keeping). x.passing) begins in
+    let first : (of s).begun ≡ start = ap (λ (x : Keeping). x.begun) begins in
+    sent_front (stays of) (resets of) s (StylesIn d) (λ read more text last h. subst (λ (x : Passing). IsFrontOf (StylesIn x) (read ++ more) text) same (clean_front of s read more text last first h))
     (λ bytes text e. same_front (StylesIn d) bytes text (λ other k. one_styled d bytes other text k (styles of d s bytes text begins e)))

@@ -9,7 +9,7 @@ use Rattle.csicodec_spans.specs.Parts.{Part, part, bytes_of, AreAll, IsSpan, Cut
 use Rattle.csicodec_spans.proofs.Kept.{parts_on}
 use Rattle.csicodec_safe.specs.Shown.{shown_chars, shown_text}
 use Rattle.csicodec_safe.specs.Titles.{title_behind, title_open, read_as, with_titles}
-use Rattle.csicodec_safe.specs.Cleaned.{RuleOf, IsStep, AreSteps, Cleans}
+use Rattle.csicodec_safe.specs.Cleaned.{RuleOf, AreGiven, IsStep, AreSteps, Cleans}
 use Rattle.csicodec_safe.specs.Shown.{IsRead}
 use Rattle.csicodec_safe.specs.Private.Steps.{IsAppended}
 use Rattle.csicodec_safe.specs.Stream.{Goes}
@@ -45,6 +45,45 @@ module _ {S : Type 0} (Gives : RuleOf S) where
 
   only : (k : Kind) (bytes text : List ℕ) (ps : List Part) (s after : S) (run : List ℕ) → ps ≡ part k bytes ∷ [] → IsStep Gives k s run bytes text after [] → AreSteps Gives s run ps text after []
   only k bytes text ps s after run e h = rw e (text, after, [], [], h, sym (append-nil text), (refl, refl, refl))
+
+  -- bytes of a control string, and then more of it
+  record Parted (s : S) (xs ys text : List ℕ) (after : S) : Type 0 where
+    first : List ℕ
+    mid : S
+    others : List ℕ
+    one : AreGiven Gives s xs first mid
+    two : AreGiven Gives mid ys others after
+    all : text ≡ first ++ others
+
+  parted : (xs ys : List ℕ) (s after : S) (text : List ℕ) → AreGiven Gives s (xs ++ ys) text after → Parted s xs ys text after
+  parted [] ys s after text h = record { first = []; mid = s; others = text; one = (refl, refl); two = h; all = refl }
+  parted (x ∷ xs) ys s after text (head, mid, others, here, e, rest) =
+      let r = parted xs ys mid after others rest in
+      record {
+        first = head ++ r.first;
+        mid = r.mid;
+        others = r.others;
+        one = (head, mid, r.first, here, refl, r.one);
+        two = r.two;
+        all = e ∙ ap (λ (t : List ℕ). head ++ t) r.all ∙ sym (append_assoc head r.first r.others);
+      }
+
+  later_strings : (ps : List Part) (s after : S) (own : List ℕ) → AllByRecursion (λ (p : Part). p.kind ≡ kind.Str) ps → AreGiven Gives s (flat_map bytes_of ps) own after → AreSteps Gives s [] ps own after []
+  later_strings [] s after own h g = (g.0, g.1, refl)
+  later_strings (p ∷ ps) s after own h g =
+      let r = parted p.bytes (flat_map bytes_of ps) s after own g in
+      let step : IsStep Gives p.kind s [] p.bytes (shown_text [] ++ r.first) r.mid [] = rw h.0 (r.first, r.one, refl, refl) in
+      let all : own ≡ (shown_text [] ++ r.first) ++ r.others = r.all ∙ ap (λ (t : List ℕ). (t ++ r.first) ++ r.others) (sym shown_none) in
+      (shown_text [] ++ r.first, r.mid, [], r.others, step, all, later_strings ps r.mid after r.others h.1 r.two)
+
+  -- parts of a control string
+  strings : (ps : List Part) (s after : S) (run bytes own : List ℕ) → AreAll kind.Str bytes ps → AreGiven Gives s bytes own after → AreSteps Gives s run ps (shown_text run ++ own) after []
+  strings [] s after run bytes own a g = absurd (omega (arith, a.some))
+  strings (p ∷ ps) s after run bytes own a g =
+      let r = parted p.bytes (flat_map bytes_of ps) s after own (subst (λ (x : List ℕ). AreGiven Gives s x own after) (sym a.joined) g) in
+      let step : IsStep Gives p.kind s run p.bytes (shown_text run ++ r.first) r.mid [] = rw a.all.0 (r.first, r.one, refl, refl) in
+      let all : shown_text run ++ own ≡ (shown_text run ++ r.first) ++ r.others = ap (λ (t : List ℕ). shown_text run ++ t) r.all ∙ sym (append_assoc (shown_text run) r.first r.others) in
+      (shown_text run ++ r.first, r.mid, [], r.others, step, all, later_strings ps r.mid after r.others a.all.1 r.two)
 
   pub record Spanned (s : S) (run chars : List ℕ) (ps : List Part) (more : List ℕ) (after : S) (held : List ℕ) : Type 0 where
     pub text : List ℕ
@@ -85,8 +124,7 @@ module _ {S : Type 0} (Gives : RuleOf S) where
       ended s run chars held ps own more after left read e none (only kind.Csi bytes (shown_text run ++ own) ps s after run span (own, gives, refl, refl))
   spanned kind.Esc s run chars held bytes more ps after left span read h =
       no_own s run chars held ps more after left read h (only kind.Esc bytes (shown_text run) ps s s run span (refl, refl, refl))
-  spanned kind.Str s run chars held bytes more ps after left span read h =
-      no_own s run chars held ps more after left read h (drops kind.Str bytes ps s run (λ r b. (refl, refl, refl)) span)
+  spanned kind.Str s run chars held bytes more ps after left span read (own, given, e, none) = ended s run chars held ps own more after left read e none (strings ps s after run bytes own span given)
   spanned kind.Other s run chars held bytes more ps after left span read h =
       no_own s run chars held ps more after left read h (drops kind.Other bytes ps s run (λ r b. (refl, refl, refl)) span)
 

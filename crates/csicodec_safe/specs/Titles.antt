@@ -17,15 +17,15 @@ abbrev pub title_open : Bool → List Part → Bool
 title_open titled [] = titled
 title_open titled (p ∷ parts) = title_open (title_behind titled p.kind p.bytes) parts
 
--- the text of a title is a string
+-- the text of a title is none, and no control string either
 abbrev pub read_as : Kind → Bool → Kind
-read_as kind.Text titled = if titled then kind.Str else kind.Text
+read_as kind.Text titled = if titled then kind.Other else kind.Text
 read_as kind.Esc titled = kind.Esc
 read_as kind.Csi titled = kind.Csi
 read_as kind.Str titled = kind.Str
 read_as kind.Other titled = kind.Other
 
--- the same parts, with titles as strings
+-- the same parts, with titles as what is dropped
 abbrev pub with_titles : Bool → List Part → List Part
 with_titles titled [] = []
 with_titles titled (p ∷ parts) = part (read_as p.kind titled) p.bytes ∷ with_titles (title_behind titled p.kind p.bytes) parts

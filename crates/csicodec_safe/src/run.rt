@@ -4,12 +4,12 @@ ghost use Rattle.std.specs.Io.KnownBytes.{Appends, Consumes, IsAtEnd};
 ghost use Rattle.csicodec_safe.specs.Shown.{IsPlain};
 ghost use Rattle.csicodec_safe.specs.Cleaned.{Ends, Strips, longest};
 ghost use Rattle.csicodec_safe.specs.Stream.{Begins, Between, IsFrontOf, Takes, start_of};
-ghost use Rattle.csicodec_safe.specs.Styled.{IsStyled, IsStyledIn, Styles, StylesIn};
+ghost use Rattle.csicodec_safe.specs.Styled.{IsStyled, IsStyledIn, Styles, StylesIn, without_links};
 
 use crate::cleaner::Cleaner;
 use crate::colors::Depth;
 use crate::rule::Rule;
-use crate::styles::Kept;
+use crate::styles::{Kept, Passing};
 use crate::whole::Dropped;
 use csicodec_streams::{CHUNK, RunError, receive, send};
 use std::alloc::Global;
@@ -123,15 +123,38 @@ pub fn clean_all_in<R: Read, W: Write>(
 ) -> Result<(), RunError>
     // What was written is the text of all the bytes with their styles.
     ensures ok { OnOk result ((bytes : List ℕ) × (text : List ℕ) × Consumes (R.remaining input.old) (R.remaining input.new) bytes
-        × StylesIn depth bytes text × IsStyledIn depth text × Appends (W.contents output.old) (W.contents output.new) text) }
+        × StylesIn (without_links depth) bytes text × IsStyledIn (without_links depth) text × Appends (W.contents output.old) (W.contents output.new) text) }
     ensures end { OnOk result (IsAtEnd (R.remaining input.new)) }
     // After any error, what went out is a front of such a text of bytes that were read.
     ensures front { OnErr result ((bytes : List ℕ) × (more : List ℕ) × (sent : List ℕ) × (unsent : List ℕ)
-        × Consumes (R.remaining input.old) (R.remaining input.new) (bytes ++ more) × StylesIn depth bytes (sent ++ unsent) × IsStyledIn depth (sent ++ unsent)
+        × Consumes (R.remaining input.old) (R.remaining input.new) (bytes ++ more) × StylesIn (without_links depth) bytes (sent ++ unsent) × IsStyledIn (without_links depth) (sent ++ unsent)
         × Appends (W.contents output.old) (W.contents output.new) sent) }
     // And it is a front of the text of the whole input.
     ensures whole { OnErr result (IfSome (R.remaining input.old) (λ bytes.
-        (sent : List ℕ) × IsFrontOf (StylesIn depth) bytes sent × Appends (W.contents output.old) (W.contents output.new) sent)) }
+        (sent : List ℕ) × IsFrontOf (StylesIn (without_links depth)) bytes sent × Appends (W.contents output.old) (W.contents output.new) sent)) }
 {
-    clean_run(alloc, Kept::in_depth(alloc, depth), input, output)
+    let links = false;
+    clean_all_with(alloc, Passing { depth, links }, input, output)
+}
+
+/// The same with what passes, as [`clean_with`](crate::clean_with) leaves it.
+pub fn clean_all_with<R: Read, W: Write>(
+    alloc: Global,
+    passing: Passing,
+    input: &mut R,
+    output: &mut W,
+) -> Result<(), RunError>
+    // What was written is the text of all the bytes with what passes.
+    ensures ok { OnOk result ((bytes : List ℕ) × (text : List ℕ) × Consumes (R.remaining input.old) (R.remaining input.new) bytes
+        × StylesIn passing bytes text × IsStyledIn passing text × Appends (W.contents output.old) (W.contents output.new) text) }
+    ensures end { OnOk result (IsAtEnd (R.remaining input.new)) }
+    // After any error, what went out is a front of such a text of bytes that were read.
+    ensures front { OnErr result ((bytes : List ℕ) × (more : List ℕ) × (sent : List ℕ) × (unsent : List ℕ)
+        × Consumes (R.remaining input.old) (R.remaining input.new) (bytes ++ more) × StylesIn passing bytes (sent ++ unsent) × IsStyledIn passing (sent ++ unsent)
+        × Appends (W.contents output.old) (W.contents output.new) sent) }
+    // And it is a front of the text of the whole input.
+    ensures whole { OnErr result (IfSome (R.remaining input.old) (λ bytes.
+        (sent : List ℕ) × IsFrontOf (StylesIn passing) bytes sent × Appends (W.contents output.old) (W.contents output.new) sent)) }
+{
+    clean_run(alloc, Kept::letting(alloc, passing), input, output)
 }

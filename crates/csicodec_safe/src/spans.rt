@@ -55,6 +55,7 @@ fn append_span<T: Rule>(
     held.clear();
     match control {
         Some(control) => rule.rewrite(bytes, params, control, out),
+        None if kind == Kind::Str => rule.string(bytes, out),
         None => Ok(()),
     }
 }

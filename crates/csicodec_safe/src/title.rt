@@ -4,12 +4,12 @@ ghost use Rattle.csicodec_safe.specs.Titles.{read_as, title_behind};
 
 use csicodec_spans::Kind;
 
-/// What a span is, where a title may be open: the text of one is a string.
+/// What a span is, where a title may be open: the text of one is dropped.
 pub(crate) fn read_as(kind: Kind, titled: bool) -> Kind
     ensures { result ≡ read_as kind titled }
 {
     match kind {
-        Kind::Text => { if titled { Kind::Str } else { Kind::Text } }
+        Kind::Text => { if titled { Kind::Other } else { Kind::Text } }
         Kind::Csi | Kind::Esc | Kind::Str | Kind::Other => kind,
     }
 }

@@ -11,7 +11,7 @@ use csicodec_command::{
 };
 use csicodec_compact::{Compact, Compactor, compact_all};
 use csicodec_filter::{Faithful, Filter, NormalForm, filter_all};
-use csicodec_safe::{Cleaner, Depth, Dropped, Kept, clean_all_in, strip_all};
+use csicodec_safe::{Cleaner, Depth, Dropped, Kept, Passing, clean_all_with, strip_all};
 use csicodec_streams::RunError;
 use std::alloc::Global;
 use std::io::{BufRead, Read, Write};
@@ -26,7 +26,7 @@ enum Work {
     Filter { faithful: bool },
     Compact { semicolons: bool },
     Strip,
-    Clean { depth: Depth },
+    Clean { passing: Passing },
 }
 
 /// The rule of `compact`.
@@ -58,9 +58,11 @@ impl Work {
                 semicolons: run.semicolons,
             }),
             Task::Strip => Some(Work::Strip),
-            Task::Clean => Some(Work::Clean {
-                depth: depth_of(run.depth),
-            }),
+            Task::Clean => {
+                let (depth, links) = (depth_of(run.depth), run.links);
+                let passing = Passing { depth, links };
+                Some(Work::Clean { passing })
+            }
             Task::Explain => None,
         }
     }
@@ -81,8 +83,8 @@ impl Work {
                 Stage::Short(Compactor::new(alloc, LIMIT, rule))
             }
             Work::Strip => Stage::Plain(Cleaner::new(alloc, Dropped)),
-            Work::Clean { depth } => {
-                let rule = Kept::in_depth(alloc, *depth);
+            Work::Clean { passing } => {
+                let rule = Kept::letting(alloc, *passing);
                 Stage::Styled(Cleaner::new(alloc, rule))
             }
         }
@@ -105,7 +107,7 @@ impl Job for Work {
                 compact_all(alloc, LIMIT, compact(alloc, *semicolons), input, output)?;
             }
             Work::Strip => strip_all(alloc, input, output)?,
-            Work::Clean { depth } => clean_all_in(alloc, *depth, input, output)?,
+            Work::Clean { passing } => clean_all_with(alloc, *passing, input, output)?,
         }
         Ok(())
     }

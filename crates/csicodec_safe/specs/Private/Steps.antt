@@ -5,7 +5,7 @@ use Rattle.bstr.specs.Utf8.{decoded}
 use Rattle.csicodec_spans.specs.declared.table.Kind.{Kind}
 use Rattle.csicodec_spans.specs.declared.table.Kind.TheVariants as kind
 use Rattle.csicodec_safe.specs.Shown.{IsRead, shown_chars, shown_text}
-use Rattle.csicodec_safe.specs.Cleaned.{RuleOf}
+use Rattle.csicodec_safe.specs.Cleaned.{RuleOf, AreGiven}
 
 -- a newline, a tab or a character of ASCII that is no control
 abbrev pub plain_byte : ℕ → Bool
@@ -25,7 +25,7 @@ IsCut bytes = 0 < length bytes → ((decoded bytes).char ≡ None) × ((decoded 
 -- a span behind a run of which some bytes are held: what is appended, and what is held then
 abbrev pub IsAppended : {S : Type 0} → RuleOf S → Kind → S → List ℕ → List ℕ → List ℕ → S → List ℕ → Type 0
 IsAppended Gives kind.Text s held bytes text after left = (chars : List ℕ) × IsRead (held ++ bytes) chars left × (text ≡ shown_chars chars) × (after ≡ s)
-IsAppended Gives kind.Csi s held bytes text after left = (own : List ℕ) × Gives s bytes own after × (text ≡ shown_text held ++ own) × (left ≡ [])
+IsAppended Gives kind.Csi s held bytes text after left = (own : List ℕ) × Gives.sequence s bytes own after × (text ≡ shown_text held ++ own) × (left ≡ [])
 IsAppended Gives kind.Esc s held bytes text after left = (text ≡ shown_text held) × (after ≡ s) × (left ≡ [])
-IsAppended Gives kind.Str s held bytes text after left = (text ≡ shown_text held) × (after ≡ s) × (left ≡ [])
+IsAppended Gives kind.Str s held bytes text after left = (own : List ℕ) × AreGiven Gives s bytes own after × (text ≡ shown_text held ++ own) × (left ≡ [])
 IsAppended Gives kind.Other s held bytes text after left = (text ≡ shown_text held) × (after ≡ s) × (left ≡ [])

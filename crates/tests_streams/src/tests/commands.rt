@@ -5,7 +5,7 @@ use std::alloc::{AllocError, Global};
 use std::test::Fail;
 
 /// Command lines, and what they ask for.
-static COMMANDS: [(&str, &str); 33] = [
+static COMMANDS: [(&str, &str); 35] = [
     ("filter", "Filter [] false false false false all"),
     (
         "filter a -",
@@ -18,6 +18,8 @@ static COMMANDS: [(&str, &str); 33] = [
     ("clean", "Clean [] false false false false all"),
     ("clean --colors=16 a", "Clean [\"a\"] Ansi"),
     ("clean --colors=256", "Clean [] Palette"),
+    ("clean --links a", "Clean [\"a\"] with links"),
+    ("strip --links", "Misplaced(\"--links\")"),
     ("strip --colors=256", "Misplaced(\"--colors=256\")"),
     ("compact", "Compact [] false false false false all"),
     ("compact a --semicolons", "Compact [\"a\"] with semicolons"),
@@ -83,6 +85,9 @@ fn told(alloc: Global, line: &str) -> Result<String, AllocError> {
             if run.depth != Depth::Full {
                 let depth = run.depth;
                 return format!(in alloc; "{task:?} {files:?} {depth:?}");
+            }
+            if run.links {
+                return format!(in alloc; "{task:?} {files:?} with links");
             }
             if run.faithful {
                 return format!(in alloc; "{task:?} {files:?} faithful");

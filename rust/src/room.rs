@@ -18,28 +18,38 @@ impl Room {
     }
 
     /// Reads the sequence at the front of the bytes. Where it isn't refused, all its actions stand here.
+    #[inline]
     pub(crate) fn next(&mut self, bytes: &[u8]) -> raw::Front {
-        loop {
-            let front = raw::next(bytes, &mut self.actions, &mut self.params);
-            let fits = front.actions <= self.actions.len() && front.params <= self.params.len();
-            if front.status != 0 || fits {
-                return front;
-            }
-            let actions = front.actions.max(self.actions.len());
-            self.actions.resize(actions, raw::Plain::default());
-            let params = front.params.max(self.params.len());
-            self.params.resize(params, raw::Param::default());
+        let mut front = raw::next(bytes, &mut self.actions, &mut self.params);
+        if front.actions > self.actions.len() || front.params > self.params.len() {
+            self.grow(&front);
+            front = raw::next(bytes, &mut self.actions, &mut self.params);
         }
+        front
+    }
+
+    /// Makes as much room as a sequence needs.
+    #[cold]
+    fn grow(&mut self, front: &raw::Front) {
+        let actions = front.actions.max(self.actions.len());
+        self.actions.resize(actions, raw::Plain::default());
+        let params = front.params.max(self.params.len());
+        self.params.resize(params, raw::Param::default());
     }
 
     /// The action at a place, of those that were read last.
+    #[inline]
     pub(crate) fn action(&self, place: usize) -> CSI {
         action(&self.actions[place], &self.params)
     }
 }
 
 /// The action of a struct that the library made, with the tokens that were put beside it.
+#[inline]
 pub(crate) fn action(plain: &raw::Plain, params: &[raw::Param]) -> CSI {
-    let params = &params[plain.place..plain.place + plain.len];
+    let params = match plain.len {
+        0 => &[],
+        len => &params[plain.place..][..len],
+    };
     rows::action_of(plain, params).expect("the library makes no other struct")
 }

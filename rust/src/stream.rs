@@ -169,16 +169,24 @@ impl Reader {
         }
     }
 
-    /// The next event at the front of the bytes, and how many of them it has used; none where it depends on what follows.
+    /// The next event at the front of the bytes, which go on behind it; none where it depends on what follows.
     #[inline]
-    fn next<'a>(&mut self, bytes: &'a [u8]) -> Option<(Event<'a>, usize)> {
-        if self.given == self.count && !self.begins(bytes) {
-            return self.other(bytes);
+    fn next<'a>(&mut self, rest: &mut &'a [u8]) -> Option<Event<'a>> {
+        if self.given == self.count && !self.begins(rest) {
+            let (event, used) = self.other(rest)?;
+            *rest = &rest[used..];
+            return Some(event);
         }
-        Some(self.give())
+        let action = self.room.action(self.given);
+        self.given += 1;
+        if self.given == self.count {
+            *rest = &rest[self.used..];
+        }
+        Some(Event::Csi(action))
     }
 
     /// Whether a control sequence stands at the front, which is read.
+    #[inline]
     fn begins(&mut self, bytes: &[u8]) -> bool {
         self.wrong.is_none()
             && self.looked == 0
@@ -235,6 +243,7 @@ impl Reader {
     }
 
     /// Reads the sequence at the front, of which `used` bytes are in the stream, or as many as it has where that is 0.
+    #[inline]
     fn read(&mut self, bytes: &[u8], used: usize) -> bool {
         let front = self.room.next(bytes);
         let used = if used == 0 { front.used } else { used };
@@ -345,12 +354,11 @@ impl<'a> Iterator for Events<'a> {
     type Item = Event<'a>;
 
     fn next(&mut self) -> Option<Event<'a>> {
-        if let Some((event, used)) = self.reader.next(self.rest) {
-            self.rest = &self.rest[used..];
-            return Some(event);
+        let event = self.reader.next(&mut self.rest);
+        if event.is_none() && !self.rest.is_empty() {
+            return Some(Event::Other(std::mem::take(&mut self.rest)));
         }
-        let rest = std::mem::take(&mut self.rest);
-        (!rest.is_empty()).then_some(Event::Other(rest))
+        event
     }
 }
 
@@ -437,9 +445,8 @@ impl Parser {
 
 fn run<F: FnMut(Event<'_>)>(reader: &mut Reader, bytes: &[u8], tell: &mut F) -> usize {
     let mut rest = bytes;
-    while let Some((event, used)) = reader.next(rest) {
+    while let Some(event) = reader.next(&mut rest) {
         tell(event);
-        rest = &rest[used..];
     }
     bytes.len() - rest.len()
 }

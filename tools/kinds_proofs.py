@@ -1,4 +1,4 @@
-"""The proof of csicodec_c that has lines for each kind: a struct and its tokens are those of one action by its name, and of one. See kinds."""
+"""The proof of csicodec_plain that has lines for each kind: a struct and its tokens are those of one action by its name, and of one. See kinds."""
 import re
 
 from kinds_library import BY_NUMBER, NAMED, acting, declared, has_tokens, kinds, low, module, number_of, of, text_of, type_of, used, variants
@@ -158,7 +158,7 @@ same-action place a b in_a named_a in_b named_b plain params =
     types = ""
     for name, _ in enumerations():
         types += f"use {module(name)}.{{{name}}}\nuse {module(name)}.TheVariants as {low(name)}\n"
-    values = re.findall(r"^(?:abbrev )?pub (?:record )?([\w-]+) ", text_of("crates/csicodec_c/proofs/OneValue.antt"), re.M)
+    values = re.findall(r"^(?:abbrev )?pub (?:record )?([\w-]+) ", text_of("crates/csicodec_plain/proofs/OneValue.antt"), re.M)
     return f"""-- A struct and its tokens are those of one action by its name, whatever action has them. Written by tools/kinds.
 use Rattle.std.proofs.Common.{{◌≡◌, ◌<◌, ℕ, List, [], ◌∷◌, Option, None, Some, length, map, refl, sym, subst, ap, ◌∙◌, pos}}
 use Rattle.std.specs.Prelude.{{false, nat_abs, ◌==◌, if◌then◌else◌}}
@@ -169,8 +169,8 @@ use Rattle.csicodec_names.specs.Numbered.{{with_number}}
 use Rattle.csicodec_names.specs.declared.color.ColorSpec.TheVariants as color
 {types}{spec_use("csicodec_names", "EnumNumbers", body)}{type_uses(body)}\
 {spec_use("csicodec_actions", "Graphics", body)}{spec_use("csicodec_actions", "Kinds", body)}{spec_use("csicodec_actions", "Modes", body)}\
-use Rattle.csicodec_c.specs.declared.plain.Param.{{Param}}
-use Rattle.csicodec_c.specs.declared.plain.Plain.{{Plain}}
-{own_use("Named", body)}{spec_use("csicodec_c", "Plain", body)}{own_use("Ranges", body)}{own_use("Rows", body)}{spec_use("csicodec_c", "Values", body)}\
-use Rattle.csicodec_c.proofs.OneValue.{{{used(values, body)}}}
+use Rattle.csicodec_plain.specs.declared.plain.Param.{{Param}}
+use Rattle.csicodec_plain.specs.declared.plain.Plain.{{Plain}}
+{own_use("Named", body)}{spec_use("csicodec_plain", "Plain", body)}{own_use("Ranges", body)}{own_use("Rows", body)}{spec_use("csicodec_plain", "Values", body)}\
+use Rattle.csicodec_plain.proofs.OneValue.{{{used(values, body)}}}
 """ + body

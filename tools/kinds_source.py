@@ -1,4 +1,4 @@
-"""The source of csicodec_c that has a line for each kind: the struct of an action, and what a struct without tokens may stand for. See
+"""The source of csicodec_plain that has a line for each kind: the struct of an action, and what a struct without tokens may stand for. See
 kinds."""
 import re
 
@@ -14,7 +14,7 @@ def source_use(text):
 
 def numbers_use(text):
     """The `use` line of the functions between numbers and values that it calls."""
-    names = re.findall(r"^pub\(crate\) fn (\w+)", text_of("crates/csicodec_c/src/numbers.rt"), re.M)
+    names = re.findall(r"^pub\(crate\) fn (\w+)", text_of("crates/csicodec_plain/src/numbers.rt"), re.M)
     return f"use crate::numbers::{{{used([name for name in names if f'{name}(' in text], text)}}};\n"
 
 
@@ -76,7 +76,7 @@ pub(crate) fn plain_of(place: usize, action: &CSI) -> Plain
 ghost use Rattle.std.specs.Prelude.{{◌≡◌}};
 ghost use Rattle.csicodec_actions.specs.Devices.{{device_of}};
 ghost use Rattle.csicodec_parser.specs.ActionOf.{{action_of}};
-ghost use Rattle.csicodec_c.specs.Rows.{{{", ".join(sorted([f"{low(group)}_plain" for group in IN_TURN] + ["plain_of"]))}}};
+ghost use Rattle.csicodec_plain.specs.Rows.{{{", ".join(sorted([f"{low(group)}_plain" for group in IN_TURN] + ["plain_of"]))}}};
 
 {numbers_use(body)}use crate::plain::{{Plain, color_row, list_row, report_row, row, sized_row, unknown_row}};
 use bitflags::Flags;
@@ -177,7 +177,7 @@ ghost use Rattle.std.specs.Prelude.{{◌≡◌, [], IfOk, IfSome}};
 ghost use Rattle.std.specs.Option.{{option_map}};
 ghost use Rattle.csicodec_actions.specs.Devices.{{device_of}};
 ghost use Rattle.csicodec_parser.specs.ActionOf.{{action_of}};
-ghost use Rattle.csicodec_c.specs.Private.Candidates.{{Finds, HasNoList, IsBare, IsSmall}};
+ghost use Rattle.csicodec_plain.specs.Private.Candidates.{{Finds, HasNoList, IsBare, IsSmall}};
 ghost {own_use("Named", body).strip()};
 ghost {own_use("Ranges", body).strip()};
 ghost {own_use("Rows", body).strip()};

@@ -1,4 +1,4 @@
-"""The specs of csicodec_c that have a line for each kind: which struct an action is, which actions are in range, and which are by their
+"""The specs of csicodec_plain that have a line for each kind: which struct an action is, which actions are in range, and which are by their
 name. See kinds."""
 import re
 
@@ -20,7 +20,7 @@ def own_use(file, text):
         "Ranges": ["InRange"] + [f"{group}InRange" for group in IN_TURN],
         "Named": ["IsNamed"] + [f"IsNamed{group}" for group in IN_TURN],
     }[file]
-    return f"use Rattle.csicodec_c.specs.{file}.{{{used(names, text)}}}\n"
+    return f"use Rattle.csicodec_plain.specs.{file}.{{{used(names, text)}}}\n"
 
 
 def type_use(group, text):
@@ -118,9 +118,9 @@ plain_of place (action.Unspecified params flag final) = unknown_row final place 
 use Rattle.std.specs.Prelude.{{ℕ, List, [], map, length, pos, Some}}
 {spec_use("csicodec_names", "EnumNumbers", body)}{spec_use("csicodec_names", "FlagBits", body)}{type_uses(body)}\
 {spec_use("csicodec_actions", "Graphics", body)}{spec_use("csicodec_actions", "Kinds", body)}{spec_use("csicodec_actions", "Modes", body)}\
-use Rattle.csicodec_c.specs.declared.plain.Param.{{Param}}
-use Rattle.csicodec_c.specs.declared.plain.Plain.{{Plain}}
-{spec_use("csicodec_c", "Plain", body)}""" + body
+use Rattle.csicodec_plain.specs.declared.plain.Param.{{Param}}
+use Rattle.csicodec_plain.specs.declared.plain.Plain.{{Plain}}
+{spec_use("csicodec_plain", "Plain", body)}""" + body
 
 
 # ---- what is in range
@@ -166,7 +166,7 @@ use Rattle.std.specs.Char.{{IsScalar}}
 use Rattle.std.specs.List.{{All}}
 {spec_use("csicodec_names", "FlagBits", body)}{type_uses(body)}{spec_use("csicodec_actions", "Kinds", body)}{spec_use("csicodec_actions", "Modes", body)}\
 use Rattle.csicodec_actions.specs.Ranges as typed
-{spec_use("csicodec_c", "Values", body)}""" + body
+{spec_use("csicodec_plain", "Values", body)}""" + body
 
 
 # ---- what is by its name
@@ -202,4 +202,4 @@ IsNamed other = Unit {0}
 -- where they have one, and the flag of an unknown action isn't set. Any other action has no like. Written by tools/kinds.
 use Rattle.std.specs.Prelude.{{◌≡◌, false}}
 use Rattle.std.specs.List.{{All}}
-{type_uses(body)}{spec_use("csicodec_c", "Values", body)}""" + body
+{type_uses(body)}{spec_use("csicodec_plain", "Values", body)}""" + body

@@ -2,13 +2,13 @@
 use Rattle.std.specs.Prelude.{ℕ, ◌≡◌, List, length}
 use Rattle.csicodec_actions.specs.Actions.{Action}
 use Rattle.csicodec_compact.specs.Compacts.{Compacts, Encodes}
-use Rattle.csicodec_c.specs.declared.encode.Encoded.{Encoded}
+use Rattle.csicodec_plain.specs.declared.encode.Encoded.{Encoded}
 use Rattle.csicodec_c.specs.declared.filter.Filtered.{Filtered}
-use Rattle.csicodec_c.specs.declared.plain.Param.{Param}
-use Rattle.csicodec_c.specs.declared.plain.Plain.{Plain}
-use Rattle.csicodec_c.specs.Encode.{AllStand}
+use Rattle.csicodec_plain.specs.declared.plain.Param.{Param}
+use Rattle.csicodec_plain.specs.declared.plain.Plain.{Plain}
+use Rattle.csicodec_plain.specs.Encode.{AllStand}
 use Rattle.csicodec_c.specs.Filter.{IsStep}
-use Rattle.csicodec_c.specs.Room.{Fills}
+use Rattle.csicodec_plain.specs.Room.{Fills}
 
 -- a step of a filter that writes spellings that are read alike, and no longer
 abbrev pub IsCompacted : ℕ → ℕ → List ℕ → List ℕ → List ℕ → Filtered → Type 0

@@ -5,7 +5,7 @@ use Rattle.csicodec_spans.specs.declared.table.Mode.TheVariants as modes
 use Rattle.csicodec_filter.specs.Filter.{Passes}
 use Rattle.csicodec_streams.specs.Decoding.{NormalisesTo}
 use Rattle.csicodec_c.specs.declared.filter.Filtered.{Filtered}
-use Rattle.csicodec_c.specs.Room.{Fills}
+use Rattle.csicodec_plain.specs.Room.{Fills}
 
 abbrev pub mode_number : Mode → ℕ
 mode_number modes.Text = 0

@@ -1,15 +1,5 @@
-pub mod Answer
-pub mod Room
-pub mod Plain
-pub mod Values
-pub mod Rows
-pub mod Next
-pub mod Encode
 pub mod Filter
 pub mod Span
 pub mod Strip
 pub mod Compact
 pub mod Version
-pub mod Ranges
-pub mod Named
-pub mod Private

@@ -5,7 +5,7 @@ use Rattle.csicodec_safe.specs.Cleaned.{Strips, longest}
 use Rattle.csicodec_safe.specs.Shown.{IsPlain}
 use Rattle.csicodec_safe.specs.Styled.{IsStyled, Styles}
 use Rattle.csicodec_c.specs.declared.strip.Stripped.{Stripped}
-use Rattle.csicodec_c.specs.Room.{Fills}
+use Rattle.csicodec_plain.specs.Room.{Fills}
 
 abbrev pub stripped : ℕ → Stripped
 stripped needed = record { status = 0; needed = needed }

@@ -3,15 +3,13 @@ ghost use Rattle.std.specs.Prelude.{◌≡◌, ◌⊎◌, List, IfOk, IfErr};
 ghost use Rattle.csicodec_actions.specs.Actions.{Action};
 ghost use Rattle.csicodec_compact.specs.Compacts.{Encodes};
 ghost use Rattle.csicodec_c.specs.Compact.{IsCompact, IsCompacted};
-ghost use Rattle.csicodec_c.specs.Encode.{AllStand, HasNone};
-ghost use Rattle.csicodec_c.specs.Encode.{IsRefused as RefusesActions};
+ghost use Rattle.csicodec_plain.specs.Encode.{AllStand, HasNone};
+ghost use Rattle.csicodec_plain.specs.Encode.{IsRefused as RefusesActions};
 ghost use Rattle.csicodec_c.specs.Filter.{IsRefused};
 
-use crate::encode::{Encoded, actions_of, refused};
 use crate::filter::{Filtered, step};
-use crate::plain::{Param, Plain};
-use crate::room::fill;
 use csicodec_compact::{Compact, encode_compact};
+use csicodec_plain::{Encoded, Param, Plain, actions_of, fill, refused};
 use std::alloc::{AllocError, Global};
 
 /// Puts what the spans of the bytes that are sure become, where it fits: each control sequence in the shortest of its spellings that

@@ -4,8 +4,8 @@ ghost use Rattle.csicodec_spans.specs.declared.table.Mode.{Mode};
 ghost use Rattle.csicodec_filter.specs.Filter.{Passes};
 ghost use Rattle.csicodec_c.specs.Filter.{IsDone, IsRefused, IsStep, mode_number, refused};
 
-use crate::room::fill;
 use csicodec::{NormalForm, Rewrite, append_spans};
+use csicodec_plain::fill;
 use csicodec_spans::Mode;
 use std::alloc::{AllocError, Global};
 

@@ -2,7 +2,7 @@
 ghost use Rattle.std.specs.Prelude.{◌⊎◌};
 ghost use Rattle.csicodec_c.specs.Strip.{IsCleaned, IsRefused, IsStripped};
 
-use crate::room::fill;
+use csicodec_plain::fill;
 use csicodec_safe::{clean, strip};
 use std::alloc::Global;
 

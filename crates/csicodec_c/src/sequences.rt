@@ -1,0 +1,52 @@
+//! Sequences and their actions, which are plain structs.
+ghost use Rattle.std.specs.Prelude.{◌≡◌, ◌⊎◌};
+ghost use Rattle.csicodec_plain.specs.Answer.{IsDone as IsNormalised, IsRefused as RefusesToNormalise};
+ghost use Rattle.csicodec_plain.specs.Encode.{IsDone as IsEncoded, IsRefused as RefusesToEncode, IsJudged, StandsForNone, judgement};
+ghost use Rattle.csicodec_plain.specs.Next.{IsDone as IsLaid, IsRefused as RefusesToLay};
+
+use csicodec_plain::{
+    Encoded, Front, Judged, Normalised, Param, Plain, judge, lay_front, put_normal_form, put_texts,
+};
+use std::alloc::Global;
+
+/// Puts the normal form of the bytes, where it fits.
+#[unsafe(no_mangle)]
+pub extern "C" fn csicodec_normalise(alloc: Global, bytes: &[u8], out: &mut [u8]) -> Normalised
+    ensures { IsNormalised bytes.now out.old out.new result ⊎ RefusesToNormalise bytes.now out.old out.new result }
+{
+    put_normal_form(alloc, bytes, out)
+}
+
+/// Puts the actions of the sequence at the front, and their tokens, as many as there is room for.
+#[unsafe(no_mangle)]
+pub extern "C" fn csicodec_next(
+    alloc: Global,
+    bytes: &[u8],
+    actions: &mut [Plain],
+    params: &mut [Param],
+) -> Front
+    ensures { IsLaid bytes.now actions.old actions.new params.old params.new result ⊎ RefusesToLay bytes.now actions.old actions.new params.old params.new result }
+{
+    lay_front(alloc, bytes, actions, params)
+}
+
+/// Puts the texts of the actions that the structs stand for, where they fit.
+#[unsafe(no_mangle)]
+pub extern "C" fn csicodec_encode(
+    alloc: Global,
+    actions: &[Plain],
+    params: &[Param],
+    out: &mut [u8],
+) -> Encoded
+    ensures { IsEncoded actions.now params.now out.old out.new result ⊎ RefusesToEncode actions.now params.now out.old out.new result }
+{
+    put_texts(alloc, actions, params, out)
+}
+
+/// Whether the text of the action that the struct stands for is read as this one action.
+#[unsafe(no_mangle)]
+pub extern "C" fn csicodec_is_canonical(alloc: Global, plain: &Plain, params: &[Param]) -> Judged
+    ensures { IsJudged plain.now params.now result ⊎ ((result ≡ judgement 5 0) ⊎ ((result ≡ judgement 6 0) × StandsForNone plain.now params.now)) }
+{
+    judge(alloc, plain, params)
+}

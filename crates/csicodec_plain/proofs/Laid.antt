@@ -1,0 +1,107 @@
+-- Room with one item more, and with one action more.
+use Rattle.std.proofs.Common.{◌≡◌, ◌<◌, ◌≤◌, ◌+◌, ℕ, suc, List, [], ◌∷◌, ◌++◌, length, map, take, slice_index_or, slice_set, Some, ap, sym, refl, ◌∙◌, arith, append_assoc, length-append}
+use Rattle.std.specs.List.{slice_get}
+use Rattle.std.proofs.lemmas.List.{flat_map_more, map_more, take_more}
+use Rattle.std.proofs.lemmas.Option.{get_or_from_slice_get, slice_get_within}
+use Rattle.csicodec_actions.specs.Actions.{Action}
+use Rattle.csicodec_plain.specs.declared.next.Counts.{Counts}
+use Rattle.csicodec_plain.specs.declared.plain.Param.{Param}
+use Rattle.csicodec_plain.specs.declared.plain.Plain.{Plain}
+use Rattle.csicodec_plain.specs.Next.{Lays, all_params, plains}
+use Rattle.csicodec_plain.specs.Room.{laid}
+use Rattle.csicodec_plain.specs.Rows.{params_of, plain_of}
+
+-- ---- items
+
+laid_length : {A : Type 0} (old items : List A) → length (laid old items) ≡ length old
+laid_length [] items = refl
+laid_length (x ∷ old) [] = refl
+laid_length (x ∷ old) (y ∷ items) = ap suc (laid_length old items)
+
+laid_none : {A : Type 0} (old : List A) → laid old [] ≡ old
+laid_none [] = refl
+laid_none (x ∷ old) = refl
+
+laid_more : {A : Type 0} (old items : List A) (x : A) → length items < length old → slice_set (laid old items) (length items) x ≡ laid old (items ++ x ∷ [])
+laid_more [] items x low = absurd (omega (arith, low))
+laid_more (o ∷ old) [] x low = ap (λ l. x ∷ l) (sym (laid_none old))
+laid_more (o ∷ old) (y ∷ items) x low = ap (λ l. y ∷ l) (laid_more old items x (omega (arith, low)))
+
+laid_full : {A : Type 0} (old items : List A) (x : A) → length old ≤ length items → laid old items ≡ laid old (items ++ x ∷ [])
+laid_full [] items x high = refl
+laid_full (o ∷ old) [] x high = absurd (omega (arith, high))
+laid_full (o ∷ old) (y ∷ items) x high = ap (λ l. y ∷ l) (laid_full old items x (omega (arith, high)))
+
+-- where there is room for it
+pub put_more : {A : Type 0} (room old items : List A) (place : ℕ) (x : A) → room ≡ laid old items → place ≡ length items → place < length room →
+    slice_set room place x ≡ laid old (items ++ x ∷ [])
+put_more room old items place x is at low =
+    let long : length room ≡ length old = ap length is ∙ laid_length old items in
+    ap (λ l. slice_set l place x) is ∙ (ap (λ n. slice_set (laid old items) n x) at ∙ laid_more old items x (omega (arith, long, at, low)))
+
+-- and where there is none
+pub put_full : {A : Type 0} (room old items : List A) (place : ℕ) (x : A) → room ≡ laid old items → place ≡ length items → length room ≤ place →
+    room ≡ laid old (items ++ x ∷ [])
+put_full room old items place x is at high =
+    let long : length room ≡ length old = ap length is ∙ laid_length old items in
+    is ∙ laid_full old items x (omega (arith, long, at, high))
+
+-- behind others, of which some are there
+pub put_mapped : {T : Type 0} (f : T → Param) (tokens : List T) (i : ℕ) (t : T) (old before : List Param) (now new : List Param) (place : ℕ) (p : Param)
+    → i < length tokens → t ≡ slice_index_or tokens i t → p ≡ f t → place ≡ length before
+    → now ≡ laid old (before ++ map f (take i tokens))
+    → ((o items : List Param) → now ≡ laid o items → place + i ≡ length items → new ≡ laid o (items ++ p ∷ []))
+    → length (map f (take i tokens)) ≡ i
+    → new ≡ laid old (before ++ map f (take (i + 1) tokens))
+put_mapped f tokens i t old before now new place p low is made at here puts count =
+    let front = map f (take i tokens) in
+    let e = length-append before front in
+    puts old (before ++ front) here (omega (arith, e, at, count))
+    ∙ ap (laid old) (append_assoc before front (p ∷ []) ∙ ap (λ l. before ++ l) (ap (λ q. front ++ q ∷ []) (made ∙ ap f is) ∙ sym (map_more f tokens i t low)))
+
+-- ---- actions
+
+length_plains : (place : ℕ) (xs : List Action) → length (plains place xs) ≡ length xs
+length_plains place [] = refl
+length_plains place (x ∷ xs) = ap suc (length_plains (place + length (params_of x)) xs)
+
+places : (place : ℕ) (xs ys : List Param) → place + length xs + length ys ≡ place + length (xs ++ ys)
+places place xs ys = let e : length (xs ++ ys) ≡ length xs + length ys = length-append xs ys in omega (arith, e)
+
+-- the last action's tokens stand behind those of the actions before
+plains_snoc : (place : ℕ) (xs : List Action) (a : Action) → plains place (xs ++ a ∷ []) ≡ plains place xs ++ plain_of (place + length (all_params xs)) a ∷ []
+plains_snoc place [] a = ap (λ n. plain_of n a ∷ []) (omega arith)
+plains_snoc place (x ∷ xs) a =
+    ap (λ l. plain_of place x ∷ l) (plains_snoc (place + length (params_of x)) xs a ∙ ap (λ n. plains (place + length (params_of x)) xs ++ plain_of n a ∷ []) (places place (params_of x) (all_params xs)))
+
+from_zero : (n : ℕ) → 0 + n ≡ n
+from_zero n = omega arith
+
+length_snoc : {A : Type 0} (xs : List A) (x : A) → length (xs ++ x ∷ []) ≡ length xs + 1
+length_snoc xs x = length-append xs (x ∷ [])
+
+params_snoc : (before : List Action) (a : Action) → all_params (before ++ a ∷ []) ≡ all_params before ++ params_of a
+params_snoc before a = sym (flat_map_more params_of [] before a)
+
+pub lays_more : (oa ma na : List Plain) (op mp np : List Param) (count : Counts) (next end : ℕ) (p : Plain) (before : List Action) (a : Action)
+    → Lays oa ma op mp count before
+    → p ≡ plain_of count.params a
+    → ((old items : List Plain) → ma ≡ laid old items → count.actions ≡ length items → na ≡ laid old (items ++ p ∷ []))
+    → ((old items : List Param) → mp ≡ laid old items → count.params ≡ length items → (np ≡ laid old (items ++ params_of a)) × (end ≡ length (items ++ params_of a)))
+    → next ≡ count.actions + 1
+    → Lays oa na op np (record { actions = next; params = end }) (before ++ a ∷ [])
+lays_more oa ma na op mp np count next end p before a lays made puts_action puts_params more =
+    let action = puts_action oa (plains 0 before) lays.lays_actions (lays.actions ∙ sym (length_plains 0 before)) in
+    let params = puts_params op (all_params before) lays.lays_params lays.params in
+    record {
+      actions = more ∙ (ap (λ n. n + 1) lays.actions ∙ sym (length_snoc before a));
+      params = params.1 ∙ ap length (sym (params_snoc before a));
+      lays_actions = action ∙ ap (laid oa) (ap (λ q. plains 0 before ++ q ∷ []) (made ∙ ap (λ n. plain_of n a) (lays.params ∙ sym (from_zero (length (all_params before))))) ∙ sym (plains_snoc 0 before a));
+      lays_params = params.0 ∙ ap (laid op) (sym (params_snoc before a));
+    }
+
+pub lays_none : (actions : List Plain) (params : List Param) → Lays actions actions params params (record { actions = 0; params = 0 }) []
+lays_none actions params = record { actions = refl; params = refl; lays_actions = sym (laid_none actions); lays_params = sym (laid_none params) }
+
+pub take_got : (all : List Action) (i : ℕ) (a : Action) → slice_get all i ≡ Some a → take (i + 1) all ≡ take i all ++ a ∷ []
+take_got all i a e = take_more all i a (slice_get_within all i a e) ∙ ap (λ x. take i all ++ x ∷ []) (get_or_from_slice_get all i a a e)

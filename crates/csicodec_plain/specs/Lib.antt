@@ -1,0 +1,10 @@
+pub mod Answer
+pub mod Room
+pub mod Plain
+pub mod Values
+pub mod Rows
+pub mod Next
+pub mod Encode
+pub mod Ranges
+pub mod Named
+pub mod Private

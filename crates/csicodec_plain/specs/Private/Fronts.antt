@@ -1,0 +1,22 @@
+-- What is answered of a list that was read.
+use Rattle.std.specs.Prelude.{ℕ, ◌≡◌, ◌⊎◌, false, List}
+use Rattle.csicodec_tokens.specs.declared.param.CsiParam.{CsiParam}
+use Rattle.csicodec_actions.specs.Actions.{Action}
+use Rattle.csicodec_parser.specs.Segments.{Actions}
+use Rattle.csicodec_plain.specs.Next.{Lays, refused}
+use Rattle.csicodec_plain.specs.declared.next.Front.{Front}
+use Rattle.csicodec_plain.specs.declared.plain.Param.{Param}
+use Rattle.csicodec_plain.specs.declared.plain.Plain.{Plain}
+
+-- its actions are put
+pub record IsLaid (list : List CsiParam) (final used : ℕ) (actions_old actions_new : List Plain) (params_old params_new : List Param) (answer : Front) : Type 0 where
+  pub all : List Action
+  pub are : Actions list false final all
+  pub ok : answer.status ≡ 0
+  pub used_all : answer.used ≡ used
+  pub lays : Lays actions_old actions_new params_old params_new (record { actions = answer.actions; params = answer.params }) all
+
+-- so, or out of memory
+abbrev pub IsAnswer : List CsiParam → ℕ → ℕ → List Plain → List Plain → List Param → List Param → Front → Type 0
+IsAnswer list final used actions_old actions_new params_old params_new answer =
+    IsLaid list final used actions_old actions_new params_old params_new answer ⊎ (answer ≡ refused 5 0)

@@ -1,7 +1,9 @@
 -- Links: `ESC ] 8 ; PARAMS ; URL`, up to ST or BEL (OSC 8, https://gist.github.com/egmontkob/eb114294efbcd5adb1944c9f3cb5feda). What
 -- is printed behind one leads to the URL, up to the next one, and one without a URL ends it.
-use Rattle.std.specs.Prelude.{ℕ, ◌≡◌, ◌≤◌, ◌==◌, Bool, true, false, not, ◌&&◌, nat_le, nat_lt, List, [], ◌∷◌, ◌++◌, length, if◌then◌else◌}
+use Rattle.std.specs.Prelude.{ℕ, ◌≡◌, ◌≤◌, ◌⊎◌, ◌==◌, Bool, true, false, not, ◌&&◌, nat_le, nat_lt, List, [], ◌∷◌, ◌++◌, length, if◌then◌else◌}
 use Rattle.std.specs.List.{AllByRecursion, flat_map}
+use Rattle.csicodec_spans.specs.declared.table.Kind.TheVariants as kind
+use Rattle.csicodec_spans.specs.Parts.{Part, IsSpan}
 use Rattle.csicodec_safe.specs.declared.links.Place.{Place}
 use Rattle.csicodec_safe.specs.declared.links.Place.TheVariants as place
 
@@ -34,6 +36,28 @@ pub record IsLink (a : Address) : Type 0 where
 -- what stands between `ESC ]` and the end
 abbrev pub link_body : Address → List ℕ
 link_body a = 56 ∷ 59 ∷ (a.params ++ 59 ∷ a.url)
+
+-- the bytes are the link: `ESC ]`, what it says, and BEL or ST
+abbrev pub Spells : List ℕ → Address → Type 0
+Spells bytes a = (bytes ≡ 27 ∷ 93 ∷ (link_body a ++ 7 ∷ [])) ⊎ (bytes ≡ 27 ∷ 93 ∷ (link_body a ++ 27 ∷ 92 ∷ []))
+
+-- among the bytes stands the link
+pub record Stood (bytes : List ℕ) (a : Address) : Type 0 where
+  pub before : List ℕ
+  pub own : List ℕ
+  pub rest : List ℕ
+  pub whole : bytes ≡ before ++ (own ++ rest)
+  pub link : Spells own a
+
+-- among the parts of a stream stands the link, as a control string
+pub record StoodIn (parts : List Part) (a : Address) : Type 0 where
+  pub before : List Part
+  pub own : List Part
+  pub rest : List Part
+  pub whole : parts ≡ before ++ (own ++ rest)
+  pub text : List ℕ
+  pub string : IsSpan kind.Str text own
+  pub link : Spells text a
 
 -- its normal form, which ST ends
 abbrev pub link_text : Address → List ℕ

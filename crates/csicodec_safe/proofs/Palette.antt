@@ -1,6 +1,7 @@
 -- The place of the palette that is found stays among the places.
-use Rattle.std.proofs.Common.{◌≡◌, ◌<◌, ◌≤◌, ◌+◌, ℕ, zero, suc, Bool, true, false, cond, refl, sym, ap, arith, lt-ltb, le-ltb}
+use Rattle.std.proofs.Common.{◌≡◌, ◌<◌, ◌≤◌, ◌+◌, ℕ, zero, suc, Bool, true, false, cond, refl, sym, ap, subst, inl, inr, arith, lt-ltb, le-ltb}
 use Rattle.std.specs.Prelude.{nat_lt, if◌then◌else◌}
+use Rattle.std.proofs.lemmas.Bool.{cases_lt, ltb-true, ltb-false}
 use Rattle.std.proofs.lemmas.Bool.Decides.{nat_tests}
 use Rattle.csicodec_names.specs.declared.color.ColorSpec.{ColorSpec}
 use Rattle.csicodec_names.specs.declared.color.ColorSpec.TheVariants.{Default, PaletteIndex, TrueColor}
@@ -14,7 +15,7 @@ use Rattle.csicodec.proofs.Alone.{canonical-alone}
 use Rattle.csicodec.proofs.RoundTrip.{alone-only}
 use Rattle.csicodec_safe.specs.declared.colors.Depth.{Depth}
 use Rattle.csicodec_safe.specs.declared.colors.Depth.TheVariants as depth
-use Rattle.csicodec_safe.specs.Palette.{distance, nearer, nearest_among, nearest_of_16, nearest_of_256, palette, reduced, reduced_color}
+use Rattle.csicodec_safe.specs.Palette.{IsNearest, distance, nearer, nearest_among, nearest_of_16, nearest_of_256, palette, reduced, reduced_color}
 use Rattle.csicodec_safe.specs.Styled.{hides}
 use Rattle.csicodec_safe.proofs.Pieces.{style_range}
 
@@ -48,6 +49,63 @@ further_step c i j k n m least here e f h a b = step_on c i j k n m i a b (is_fu
 
 pub none_more : (c : SrgbaTuple) (i j n : ℕ) → n ≡ 0 → nearest_among c i j n ≡ i
 none_more c i j n e = rw e (none_left c i j)
+
+-- ---- it is the nearest
+
+-- the nearer of two places is the nearest of one place more
+nearest_more : (c : SrgbaTuple) (first i j : ℕ) → IsNearest c first j i → IsNearest c first (suc j) (nearer c i j)
+nearest_more c first i j h = by (nat_lt (distance c (palette j)) (distance c (palette i))) refl
+  where
+    here : (n : ℕ) → n < suc j → (n < j → distance c (palette j) ≤ distance c (palette n)) → distance c (palette j) ≤ distance c (palette n)
+    here n k f = elim (cases_lt n j) [
+      | inl less ↦ f less
+      | inr more ↦ let same : j ≡ n = omega (arith, k, more) in subst (λ (x : ℕ). distance c (palette j) ≤ distance c (palette x)) same (omega arith)
+    ]
+
+    there : (n : ℕ) → n < suc j → distance c (palette i) ≤ distance c (palette j) → (n < j → distance c (palette i) ≤ distance c (palette n)) → distance c (palette i) ≤ distance c (palette n)
+    there n k least f = elim (cases_lt n j) [
+      | inl less ↦ f less
+      | inr more ↦ let same : j ≡ n = omega (arith, k, more) in subst (λ (x : ℕ). distance c (palette i) ≤ distance c (palette x)) same least
+    ]
+
+    by : (b : Bool) → nat_lt (distance c (palette j)) (distance c (palette i)) ≡ b → IsNearest c first (suc j) (cond b j i)
+    by true e =
+        let less : distance c (palette j) < distance c (palette i) = ltb-true (distance c (palette j)) (distance c (palette i)) e in
+        record {
+          from = omega (arith, h.from, h.below);
+          below = omega arith;
+          nearest = λ n a b. here n b (λ k. omega (arith, less, h.nearest n a k));
+          earlier = λ n a b. omega (arith, less, h.nearest n a b);
+        }
+    by false e =
+        let least : distance c (palette i) ≤ distance c (palette j) = ltb-false (distance c (palette j)) (distance c (palette i)) e in
+        record {
+          from = h.from;
+          below = omega (arith, h.below);
+          nearest = λ n a b. there n b least (λ k. h.nearest n a k);
+          earlier = h.earlier;
+        }
+
+nearest_of : (n : ℕ) (c : SrgbaTuple) (first i j end : ℕ) → j + n ≡ end → IsNearest c first j i → IsNearest c first end (nearest_among c i j n)
+nearest_of zero c first i j end e h =
+    let same : j ≡ end = omega (arith, e) in
+    rw (none_left c i j) (subst (λ (x : ℕ). IsNearest c first x i) same h)
+nearest_of (suc n) c first i j end e h = rw (one_on c i j n) (nearest_of n c first (nearer c i j) (suc j) end (omega (arith, e)) (nearest_more c first i j h))
+
+-- one place alone
+nearest_alone : (c : SrgbaTuple) (first : ℕ) → IsNearest c first (suc first) first
+nearest_alone c first = record {
+  from = omega arith;
+  below = omega arith;
+  nearest = λ n a b. let same : first ≡ n = omega (arith, a, b) in subst (λ (x : ℕ). distance c (palette first) ≤ distance c (palette x)) same (omega arith);
+  earlier = λ n a b. absurd (omega (arith, a, b));
+}
+
+pub nearest_256 : (c : SrgbaTuple) → IsNearest c 16 256 (nearest_of_256 c)
+nearest_256 c = nearest_of 239 c 16 16 17 256 refl (nearest_alone c 16)
+
+pub nearest_16 : (c : SrgbaTuple) → IsNearest c 0 16 (nearest_of_16 c)
+nearest_16 c = nearest_of 15 c 0 0 1 16 refl (nearest_alone c 0)
 
 -- ---- within
 

@@ -1,5 +1,5 @@
 -- Colours of fewer kinds: xterm's palette as data, and the place of it that is nearest to a colour.
-use Rattle.std.specs.Prelude.{ℕ, zero, suc, ◌+◌, ◌-◌, ◌*◌, ◌/◌, ◌%◌, ◌==◌, nat_lt, List, [], ◌∷◌, get_or, if◌then◌else◌}
+use Rattle.std.specs.Prelude.{ℕ, zero, suc, ◌<◌, ◌≤◌, ◌+◌, ◌-◌, ◌*◌, ◌/◌, ◌%◌, ◌==◌, nat_lt, List, [], ◌∷◌, get_or, if◌then◌else◌}
 use Rattle.csicodec_names.specs.declared.color.ColorSpec.{ColorSpec}
 use Rattle.csicodec_names.specs.declared.color.ColorSpec.TheVariants.{Default, PaletteIndex, TrueColor}
 use Rattle.csicodec_names.specs.declared.color.SrgbaTuple.{SrgbaTuple}
@@ -59,6 +59,13 @@ nearest_of_256 c = nearest_among c 16 17 239
 -- the nearest of the first 16
 abbrev pub nearest_of_16 : SrgbaTuple → ℕ
 nearest_of_16 c = nearest_among c 0 1 15
+
+-- of the places from the first on up to the end, without it, the place is the nearest to the colour, and the first that is as near
+pub record IsNearest (c : SrgbaTuple) (first end place : ℕ) : Type 0 where
+  pub from : first ≤ place
+  pub below : place < end
+  pub nearest : (n : ℕ) → first ≤ n → n < end → distance c (palette place) ≤ distance c (palette n)
+  pub earlier : (n : ℕ) → first ≤ n → n < place → distance c (palette place) < distance c (palette n)
 
 -- a colour by its parts becomes a place of the palette, and where 16 are left, a place from 16 on becomes one of them
 abbrev pub reduced_color : Depth → ColorSpec → ColorSpec

@@ -61,13 +61,17 @@ module _ {S : Type 0} (Gives : RuleOf S) where
     all = sym (append_assoc text (shown_text last.held) close);
   }
 
-  taken : (s : S) (bytes text : List ℕ) (old new : Between S) (chunks : List (List ℕ)) (more : List ℕ) → Takes Gives (start_of s) bytes text old → AreTaken Gives old chunks more new
+  taken_on : (s : S) (bytes text : List ℕ) (old new : Between S) (chunks : List (List ℕ)) (more : List ℕ) → Takes Gives (start_of s) bytes text old → AreTaken Gives old chunks more new
       → Takes Gives (start_of s) (bytes ++ concat chunks) (text ++ more) new
-  taken s bytes text old new [] more h (none, same) = rw (none, same, append-nil bytes, append-nil text) h
-  taken s bytes text old new (chunk ∷ chunks) more h (mid, first, others, takes, e, rest) =
-      let all = taken s (bytes ++ chunk) (text ++ first) mid new chunks others (takes_on (start_of s) old mid bytes chunk text first h takes) rest in
+  taken_on s bytes text old new [] more h (none, same) = rw (none, same, append-nil bytes, append-nil text) h
+  taken_on s bytes text old new (chunk ∷ chunks) more h (mid, first, others, takes, e, rest) =
+      let all = taken_on s (bytes ++ chunk) (text ++ first) mid new chunks others (takes_on (start_of s) old mid bytes chunk text first h takes) rest in
       rw (← append_assoc bytes chunk (concat chunks), e, ← append_assoc text first others) all
+
+  -- chunks in turn are one of them all
+  pub taken : (s : S) (chunks : List (List ℕ)) (text : List ℕ) (last : Between S) → AreTaken Gives (start_of s) chunks text last → Takes Gives (start_of s) (concat chunks) text last
+  taken s chunks text last h = taken_on s [] [] (start_of s) last chunks text (takes_none s) h
 
   pub any_chunks : (Closes : EndOf S) (s : S) (chunks : List (List ℕ)) (text close : List ℕ) (last : Between S) → AreTaken Gives (start_of s) chunks text last → Closes last.rule close
       → Ends Gives Closes longest s (concat chunks) (text ++ (shown_text last.held ++ close))
-  any_chunks Closes s chunks text close last h k = ends Closes s (concat chunks) text close last (taken s [] [] (start_of s) last chunks text (takes_none s) h) k
+  any_chunks Closes s chunks text close last h k = ends Closes s (concat chunks) text close last (taken s chunks text last h) k

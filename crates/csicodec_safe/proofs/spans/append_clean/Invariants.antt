@@ -9,6 +9,7 @@ invariant-loop-read g l = record {
   parts : (front : List ℕ) × (l.bytes ≡ front ++ l.rest);
   goes : (appended : List ℕ) × (l.out.items ≡ l.initial.out.items ++ appended)
       × ((run chars : List ℕ) → IsRead run chars l.initial.held.items → Goes g.T.Rule.gives l.limit l.fn.mode l.initial.titled l.initial.rule run chars l.bytes appended l.rest l.mode l.titled l.rule l.held.items);
+  last : (front : List ℕ) × (l.initial.held.items ++ l.bytes ≡ front ++ (l.held.items ++ l.rest));
   short : length l.initial.held.items ≤ 3 → length l.held.items ≤ 3;
 }
 

@@ -70,15 +70,33 @@ static int filtered(size_t len) {
     return at == len;
 }
 
+/* The same of what is stripped. */
+static int stripped(size_t len) {
+    struct csicodec_cleaned step = {0, {0, 0, 0, 0}, 0, 0};
+    size_t at = 0, end = 1, looked = 0, held = 0;
+    for (; end <= len; end++) {
+        if (csicodec_waits(LIMIT, bytes + at + held, end - at - held, looked)) {
+            looked = end - at - held;
+            continue;
+        }
+        passed += end - at;
+        step = csicodec_strip_step(&step.state, bytes + at, end - at, out, sizeof out);
+        at += step.used;
+        held = step.state.held;
+        looked = end - at - held;
+    }
+    return at == len;
+}
+
 int main(void) {
     static const char *const cases[][2] = {{";", "m"}, {"1;", "m"}, {"\x08", "A"}, {"1\x08;", "A"}, {"\x7f", "\x18"}, {"\x07", "\x1b[m"},
                                            {"1", "m"}, {"?", "\xc3\xa9"}, {" ", "z"}};
     for (size_t i = 0; i < sizeof cases / sizeof cases[0]; i++) {
         size_t len = fill(cases[i][0], cases[i][1]);
         int good = 1;
-        for (int way = 0; way < 3; way++) {
+        for (int way = 0; way < 4; way++) {
             passed = 0;
-            good &= way == 2 ? filtered(len) : streamed(len, way == 0 ? 1 : len);
+            good &= way == 3 ? stripped(len) : way == 2 ? filtered(len) : streamed(len, way == 0 ? 1 : len);
             good &= passed <= 4 * len;
             if (good) continue;
             fprintf(stderr, "linear: case %zu, way %d: %zu bytes for %zu\n", i, way, passed, len);

@@ -41,6 +41,15 @@ static int all_calls(const uint8_t *bytes, size_t len) {
     good &= csicodec_encode(actions, actions_room, params, 0, out, room).status != CSICODEC_MEMORY;
     struct csicodec_filtered passed = csicodec_filter(any(7), any(20), bytes, len, out, room);
     struct csicodec_spanned span = csicodec_span(any(7), any(20), bytes, len);
+    struct csicodec_filtered compacted = csicodec_compact_semicolons(any(7), any(20), bytes, len, out, room);
+    struct csicodec_cleaning state = {any(7), any(3), any(3), any(5)};
+    struct csicodec_cleaned step = any(2) ? csicodec_strip_step(&state, bytes, len, out, room)
+                                          : csicodec_clean_step(any(4), &state, bytes, len, out, room);
+    int is_state = state.mode < 6 && state.titled < 2 && state.styled < 2 && state.held <= 3 && state.held <= len;
+    good &= step.used + step.state.held <= len && step.state.held <= 3 && (is_state || step.status == CSICODEC_BAD_STATE);
+    good &= csicodec_clean_end(&state, bytes, len, out, room).status == (is_state ? CSICODEC_OK : CSICODEC_BAD_STATE);
+    good &= csicodec_clean_with(any(3), any(2), bytes, len, out, room).status == CSICODEC_OK;
+    good &= csicodec_strip(bytes, len, out, room).status == CSICODEC_OK && compacted.used <= len;
     good &= passed.used <= len && span.used <= len && (span.status != CSICODEC_OK || span.used > 0);
     good &= csicodec_esc(any_byte(), any_byte()) < 65536;
     /* Of a stream every byte is told, or waits. */

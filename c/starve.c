@@ -73,6 +73,39 @@ static uint32_t filter(const uint8_t *text, size_t len) {
     return csicodec_filter(CSICODEC_FILTER_TEXT, 64, text, len, out, sizeof out).status;
 }
 
+static uint32_t compact(const uint8_t *text, size_t len) {
+    return csicodec_compact_semicolons(CSICODEC_FILTER_TEXT, 64, text, len, out, sizeof out).status;
+}
+
+static uint32_t encode_compact(const uint8_t *text, size_t len) {
+    (void)text, (void)len;
+    return csicodec_encode_compact(actions, front.actions, params, front.params, out, sizeof out).status;
+}
+
+/* Untrusted text: the beginning of a character that comes again, a style, a link, and the beginning of a character. */
+static const struct csicodec_cleaning state = {CSICODEC_FILTER_TEXT, 0, 1, 2};
+static const char untrusted[] = "\xe2\x82\xac\x1b[1;4;38;2;1;2;3m\x1b]8;id=1;http://a.example\x07" "a\x1b[31mb\xe2\x82";
+
+static uint32_t strip(const uint8_t *text, size_t len) {
+    return csicodec_strip(text, len, out, sizeof out).status;
+}
+
+static uint32_t clean(const uint8_t *text, size_t len) {
+    return csicodec_clean_with(CSICODEC_DEPTH_ANSI, 1, text, len, out, sizeof out).status;
+}
+
+static uint32_t strip_step(const uint8_t *text, size_t len) {
+    return csicodec_strip_step(&state, text, len, out, sizeof out).status;
+}
+
+static uint32_t clean_step(const uint8_t *text, size_t len) {
+    return csicodec_clean_step(CSICODEC_DEPTH_ANSI, &state, text, len, out, sizeof out).status;
+}
+
+static uint32_t clean_end(const uint8_t *text, size_t len) {
+    return csicodec_clean_end(&state, text, len, out, sizeof out).status;
+}
+
 /* Whether the call answers that memory ran out exactly where it was refused, with nothing put, until none is refused. */
 static int starves(uint32_t (*call)(const uint8_t *, size_t), const uint8_t *text, size_t len) {
     for (long nth = 0; nth < 1000; nth++) {
@@ -91,12 +124,18 @@ int main(void) {
     for (size_t i = 0; i < sizeof texts / sizeof texts[0]; i++) {
         const uint8_t *text = (const uint8_t *)texts[i];
         size_t len = strlen(texts[i]);
-        uint32_t (*const calls[])(const uint8_t *, size_t) = {normalise, next, encode, judge, filter};
+        uint32_t (*const calls[])(const uint8_t *, size_t) = {normalise, next, encode, judge, filter, compact, encode_compact};
         for (size_t call = 0; call < sizeof calls / sizeof calls[0]; call++) {
             if (starves(calls[call], text, len)) continue;
             fprintf(stderr, "starve: call %zu of ESC %s isn't as promised\n", call, texts[i] + 1);
             return 1;
         }
+    }
+    uint32_t (*const cleaning[])(const uint8_t *, size_t) = {strip, clean, strip_step, clean_step, clean_end};
+    for (size_t call = 0; call < sizeof cleaning / sizeof cleaning[0]; call++) {
+        if (starves(cleaning[call], (const uint8_t *)untrusted, sizeof untrusted - 1)) continue;
+        fprintf(stderr, "starve: call %zu of untrusted text isn't as promised\n", call);
+        return 3;
     }
     for (size_t i = 0; i < sizeof costs / sizeof costs[0]; i++) {
         asked = 0;

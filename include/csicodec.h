@@ -42,7 +42,8 @@ enum csicodec_status {
     CSICODEC_MEMORY = 5,
     /* A struct stands for no action: its kind is none, a number of it is out of its range, or a field without use isn't 0. */
     CSICODEC_NO_ACTION = 6,
-    /* The mode of a filter is none of enum csicodec_filter_mode, or its limit is 0. */
+    /* A number that is passed beside the bytes stands for nothing: a mode that is none of enum csicodec_filter_mode, a limit of 0, a depth
+     * that is none of enum csicodec_depth, a struct csicodec_cleaning that no step answers. */
     CSICODEC_BAD_STATE = 7
 };
 
@@ -222,13 +223,18 @@ struct csicodec_filtered csicodec_filter(uint32_t mode, size_t limit, const uint
 struct csicodec_filtered csicodec_compact(uint32_t mode, size_t limit, const uint8_t *bytes, size_t len, uint8_t *out,
                                           size_t room);
 
+/* The same with semicolons in the colours of the character and the ground (38;2;R;G;B), also where that is no shorter: for terminals and
+ * tools that know no colons. A colour with an alpha has no such spelling, and stays as it came. */
+struct csicodec_filtered csicodec_compact_semicolons(uint32_t mode, size_t limit, const uint8_t *bytes, size_t len, uint8_t *out,
+                                                     size_t room);
+
 /* As csicodec_encode: a text of the actions that is no longer than its, and is read as them, where each of them is read back from
  * its own text (csicodec_is_canonical). Attributes side by side go into one sequence. */
 struct csicodec_encoded csicodec_encode_compact(const struct csicodec_action *actions, size_t count,
                                                 const struct csicodec_param *params, size_t params_count, uint8_t *out, size_t room);
 
 struct csicodec_stripped {
-    /* CSICODEC_OK or CSICODEC_MEMORY. */
+    /* CSICODEC_OK or CSICODEC_MEMORY; of csicodec_clean_with and csicodec_clean_end CSICODEC_BAD_STATE, too. */
     uint32_t status;
     /* Of CSICODEC_OK, the length of what is left. */
     size_t needed;
@@ -241,6 +247,82 @@ struct csicodec_stripped csicodec_strip(const uint8_t *bytes, size_t len, uint8_
 /* The same with the attributes of text (SGR) that hide nothing, in their normal form; where the last of them is no reset, a reset
  * ends the text. */
 struct csicodec_stripped csicodec_clean(const uint8_t *bytes, size_t len, uint8_t *out, size_t room);
+
+/* Which colours stay. */
+enum csicodec_depth {
+    /* All, as they are. */
+    CSICODEC_DEPTH_FULL = 0,
+    /* The 256 places of the palette; a colour by its red, green and blue becomes the nearest place from 16 on, in xterm's palette. */
+    CSICODEC_DEPTH_PALETTE = 1,
+    /* The first 16 places; every other colour becomes the nearest of them. */
+    CSICODEC_DEPTH_ANSI = 2
+};
+
+/* The same with the colours of a depth, of enum csicodec_depth, and with links where `links` is 1, and without where it is 0: an OSC 8
+ * whose address is at most 2,083 visible characters of ASCII, and its parameters at most 256. Where the last of them has an address, one
+ * without ends the text. CSICODEC_BAD_STATE comes of another depth, and of links above 1. */
+struct csicodec_stripped csicodec_clean_with(uint32_t depth, uint32_t links, const uint8_t *bytes, size_t len, uint8_t *out,
+                                             size_t room);
+
+/* What untrusted text leaves open between two steps, in 16 bytes without gaps. At the beginning all is 0. */
+struct csicodec_cleaning {
+    /* enum csicodec_filter_mode. */
+    uint32_t mode;
+    /* 1 where a title is open, of tmux and screen (ESC k), else 0. */
+    uint32_t titled;
+    /* 1 where a style is open, which a reset is to end, else 0. */
+    uint32_t styled;
+    /* How many of the bytes that come again, at their front, are the beginning of a character: 0 to 3. */
+    uint32_t held;
+};
+
+struct csicodec_cleaned {
+    /* CSICODEC_OK, CSICODEC_MEMORY or CSICODEC_BAD_STATE. */
+    uint32_t status;
+    /* Of CSICODEC_OK, the state of the next step, or of the end. */
+    struct csicodec_cleaning state;
+    /* Of CSICODEC_OK, how many of the bytes were used. */
+    size_t used;
+    /* Of CSICODEC_OK, the length of what is left of them. */
+    size_t needed;
+};
+
+/* A step of csicodec_strip over a stream as it comes. The state is the caller's: a struct, and the bytes that no step has used.
+ *
+ *     struct csicodec_cleaning state = {0};
+ *     uint8_t bytes[65536 + 4096], out[4 * sizeof bytes];
+ *     size_t held = 0;
+ *     ssize_t got;
+ *     while ((got = read(0, bytes + held, sizeof bytes - held)) > 0) {
+ *         held += (size_t)got;
+ *         struct csicodec_cleaned step = csicodec_strip_step(&state, bytes, held, out, sizeof out);
+ *         if (step.status != CSICODEC_OK) return 3;
+ *         fwrite(out, 1, step.needed, stdout), fflush(stdout);
+ *         state = step.state;
+ *         memmove(bytes, bytes + step.used, held -= step.used);
+ *     }
+ *     fwrite(out, 1, csicodec_clean_end(&state, bytes, held, out, sizeof out).needed, stdout);
+ *
+ * What is left of all bytes that are sure is put at out where needed <= room; else nothing is put, and the same step with that much room
+ * gives it. It is at most three times as long as the bytes. Bytes from answer.used on depend on what follows: they are at most 3 of a
+ * character and fewer than 65536 of a control sequence, and are passed again, ahead of those that come, with answer.state.
+ * CSICODEC_BAD_STATE comes of a state with a number out of its range, or more bytes held than there are; of answer.state and the bytes
+ * from answer.used on it never does.
+ *
+ * What the steps and the end put is what csicodec_strip puts of the whole stream, however it is cut into steps. A sequence that comes
+ * byte by byte is read anew with each step, where csicodec_waits doesn't tell that it may wait. */
+struct csicodec_cleaned csicodec_strip_step(const struct csicodec_cleaning *state, const uint8_t *bytes, size_t len, uint8_t *out,
+                                            size_t room);
+
+/* The same step of csicodec_clean_with without links, in a depth, which is the same in each step: CSICODEC_BAD_STATE for one that is
+ * none. There are no steps with links, which would hold their addresses between two steps. */
+struct csicodec_cleaned csicodec_clean_step(uint32_t depth, const struct csicodec_cleaning *state, const uint8_t *bytes, size_t len,
+                                            uint8_t *out, size_t room);
+
+/* What ends a stream behind its last step, of which len bytes were not used: U+FFFD for the beginning of a character, nothing for that of
+ * a sequence, and a reset where a style is open. It is put where needed <= room, and behind a step it is at most 7 bytes long. */
+struct csicodec_stripped csicodec_clean_end(const struct csicodec_cleaning *state, const uint8_t *bytes, size_t len, uint8_t *out,
+                                            size_t room);
 
 enum csicodec_span_kind {
     /* Characters, and controls of C0 but ESC, and DEL. */
@@ -298,9 +380,11 @@ static inline const char *csicodec_status_text(uint32_t status) {
 #if defined(__cplusplus) && __cplusplus >= 201103L
 static_assert(sizeof(struct csicodec_action) == 64, "csicodec_action has 64 bytes");
 static_assert(sizeof(struct csicodec_param) == 16, "csicodec_param has 16 bytes");
+static_assert(sizeof(struct csicodec_cleaning) == 16, "csicodec_cleaning has 16 bytes");
 #else
 typedef char csicodec_action_has_64_bytes[sizeof(struct csicodec_action) == 64 ? 1 : -1];
 typedef char csicodec_param_has_16_bytes[sizeof(struct csicodec_param) == 16 ? 1 : -1];
+typedef char csicodec_cleaning_has_16_bytes[sizeof(struct csicodec_cleaning) == 16 ? 1 : -1];
 #endif
 
 #include "csicodec_stream.h"

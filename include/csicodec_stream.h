@@ -27,7 +27,9 @@
  *     if (csicodec_waits(limit, bytes, len, looked)) { looked = len; continue; }
  *     filtered = csicodec_filter(mode, limit, bytes, len, out, room);
  *     looked = len - filtered.used;
- *     memmove(bytes, bytes + filtered.used, len = looked); */
+ *     memmove(bytes, bytes + filtered.used, len = looked);
+ *
+ * So of a step of csicodec_strip_step or csicodec_clean_step, whose limit is 65536, without the bytes that are held (state.held). */
 static inline int csicodec_waits(size_t limit, const uint8_t *bytes, size_t len, size_t looked) {
     if (looked < 2 || len >= limit || bytes[0] != 0x1b || bytes[1] != '[') return 0;
     for (; looked < len; looked++)

@@ -1,6 +1,6 @@
 //! Filtering a whole stream, as it comes.
 
-use crate::stream::goes_on;
+use crate::pending::{Pending, Step};
 use crate::{Error, raw};
 use std::num::NonZeroUsize;
 
@@ -11,9 +11,7 @@ pub struct Filter {
     step: fn(u32, usize, &[u8], &mut [u8]) -> raw::Filtered,
     limit: usize,
     mode: u32,
-    pending: Vec<u8>,
-    /// Of a control sequence that waits for its end, how many bytes were looked at.
-    looked: usize,
+    pending: Pending,
 }
 
 impl Filter {
@@ -24,8 +22,7 @@ impl Filter {
             step: raw::filter,
             limit: limit.get(),
             mode: 0,
-            pending: Vec::new(),
-            looked: 0,
+            pending: Pending::default(),
         }
     }
 
@@ -37,38 +34,36 @@ impl Filter {
         }
     }
 
+    /// The same, with semicolons in the colours of the character and the ground (`38;2;R;G;B`), also where that is no shorter: for terminals
+    /// and tools that know no colons. A colour with an alpha has no such spelling.
+    pub fn compact_semicolons(limit: NonZeroUsize) -> Self {
+        Filter {
+            step: raw::compact_semicolons,
+            ..Filter::new(limit)
+        }
+    }
+
     /// Takes the next bytes, and appends the texts of all that is sure now. What isn't is held: fewer bytes than the limit, or
     /// than 3 where that is less. After an `Err`, which is `Error::Memory`, nothing is appended, and the bytes are held.
     pub fn push(&mut self, bytes: &[u8], out: &mut Vec<u8>) -> Result<(), Error> {
-        self.pending.extend_from_slice(bytes);
-        let looked = std::mem::replace(&mut self.looked, self.pending.len());
-        let stays = |byte| matches!(byte, 0x20..=0x3f);
-        if self.pending.len() < self.limit && goes_on(&self.pending, looked, stays) {
-            return Ok(());
-        }
-        self.looked = 0;
-        let start = out.len();
-        let mut room = self.pending.len() * 2 + 16;
-        loop {
-            out.resize(start + room, 0);
-            let answer = (self.step)(self.mode, self.limit, &self.pending, &mut out[start..]);
-            if answer.status != 0 {
-                out.truncate(start);
-                return Err(Error::Memory);
+        let step = |bytes: &[u8], out: &mut [u8]| {
+            let answer = (self.step)(self.mode, self.limit, bytes, out);
+            Step {
+                status: answer.status,
+                used: answer.used,
+                held: 0,
+                needed: answer.needed,
+                state: answer.mode,
             }
-            if answer.needed <= room {
-                out.truncate(start + answer.needed);
-                self.mode = answer.mode;
-                self.pending.drain(..answer.used);
-                self.looked = self.pending.len();
-                return Ok(());
-            }
-            room = answer.needed;
+        };
+        if let Some(mode) = self.pending.step(bytes, self.limit, out, step)? {
+            self.mode = mode;
         }
+        Ok(())
     }
 
     /// Appends what is held: nothing comes any more.
     pub fn finish(self, out: &mut Vec<u8>) {
-        out.extend_from_slice(&self.pending);
+        out.extend_from_slice(self.pending.bytes());
     }
 }

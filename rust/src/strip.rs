@@ -1,6 +1,8 @@
 //! What is left of untrusted text.
 
+use crate::pending::{Pending, Step};
 use crate::{Error, raw};
+use std::io::{self, ErrorKind, Read, Write};
 
 /// The plain text of untrusted bytes: what a terminal would show, and nothing that it would act on but newlines and tabs. What is no
 /// UTF-8 becomes U+FFFD. `Err` is [`Error::Memory`].
@@ -24,7 +26,58 @@ pub fn clean(bytes: &[u8]) -> Result<String, Error> {
     left(raw::clean, bytes)
 }
 
-fn left(call: fn(&[u8], &mut [u8]) -> raw::Stripped, bytes: &[u8]) -> Result<String, Error> {
+/// Which colours stay.
+#[derive(Clone, Copy, Debug, Default, PartialEq, Eq, Hash)]
+#[non_exhaustive]
+pub enum Depth {
+    /// All, as they are.
+    #[default]
+    Full,
+    /// The 256 places of the palette; a colour by its red, green and blue becomes the nearest place from 16 on, in xterm's palette.
+    Palette,
+    /// The first 16 places; every other colour becomes the nearest of them.
+    Ansi,
+}
+
+impl Depth {
+    fn number(self) -> u32 {
+        match self {
+            Depth::Full => 0,
+            Depth::Palette => 1,
+            Depth::Ansi => 2,
+        }
+    }
+}
+
+/// What passes beside text and styles.
+#[derive(Clone, Copy, Debug, Default, PartialEq, Eq, Hash)]
+pub struct Passing {
+    /// Which colours stay.
+    pub depth: Depth,
+    /// Whether links pass (OSC 8) whose address is visible ASCII, of at most 2,083 bytes, with at most 256 bytes of parameters.
+    pub links: bool,
+}
+
+/// As [`clean`], with what passes. Where the last link has an address, one without ends the text.
+///
+/// ```
+/// use csicodec::{Depth, Passing, clean_with};
+///
+/// let few = Passing { depth: Depth::Ansi, links: false };
+/// assert_eq!(clean_with(few, b"\x1b[38;2;250;5;5mred")?, "\x1b[91mred\x1b[0m");
+/// let linked = Passing { links: true, ..Passing::default() };
+/// assert_eq!(clean_with(linked, b"\x1b]8;;http://a.example\x07text")?, "\x1b]8;;http://a.example\x1b\\text\x1b]8;;\x1b\\");
+/// # Ok::<(), csicodec::Error>(())
+/// ```
+pub fn clean_with(passing: Passing, bytes: &[u8]) -> Result<String, Error> {
+    let (depth, links) = (passing.depth.number(), passing.links.into());
+    left(
+        |bytes, out| raw::clean_with(depth, links, bytes, out),
+        bytes,
+    )
+}
+
+fn left(call: impl Fn(&[u8], &mut [u8]) -> raw::Stripped, bytes: &[u8]) -> Result<String, Error> {
     let mut out = vec![0; bytes.len() + 16];
     loop {
         let answer = call(bytes, &mut out);
@@ -36,5 +89,108 @@ fn left(call: fn(&[u8], &mut [u8]) -> raw::Stripped, bytes: &[u8]) -> Result<Str
         if fits {
             return Ok(String::from_utf8(out).expect("what is left is UTF-8"));
         }
+    }
+}
+
+/// A control sequence has at most so many bytes.
+const LIMIT: usize = 65536;
+
+/// Untrusted text that is stripped or cleaned as it comes, in bounded memory: it holds fewer than 65,536 bytes of a control sequence, and 3 of
+/// a character. In however many slices it is pushed, what these and the end append is what [`strip`] makes of all of it, or [`clean`].
+/// Links don't pass, since an address would be held, too.
+///
+/// ```
+/// use csicodec::{Cleaner, Depth};
+///
+/// let mut cleaner = Cleaner::clean(Depth::Full);
+/// let mut out = Vec::new();
+/// cleaner.push(b"a\x1b[01;3", &mut out)?;
+/// assert_eq!(out, b"a");
+/// cleaner.push(b"1mred\xc3", &mut out)?;
+/// assert_eq!(out, b"a\x1b[1m\x1b[31mred");
+/// cleaner.finish(&mut out)?;
+/// assert_eq!(out, "a\x1b[1m\x1b[31mred\u{fffd}\x1b[0m".as_bytes());
+/// # Ok::<(), csicodec::Error>(())
+/// ```
+#[derive(Clone, Debug)]
+pub struct Cleaner {
+    /// Of styles that stay, the colours.
+    depth: Option<Depth>,
+    state: raw::Cleaning,
+    pending: Pending,
+}
+
+impl Cleaner {
+    /// A stream of which nothing has come, to be plain text.
+    pub fn strip() -> Self {
+        Cleaner {
+            depth: None,
+            state: raw::Cleaning::default(),
+            pending: Pending::default(),
+        }
+    }
+
+    /// The same, with the styles that stay, in these colours.
+    pub fn clean(depth: Depth) -> Self {
+        Cleaner {
+            depth: Some(depth),
+            ..Cleaner::strip()
+        }
+    }
+
+    /// Takes the next bytes, and appends what is left of all that is sure now, which is UTF-8 of whole characters. After an `Err`, which
+    /// is [`Error::Memory`], nothing is appended, and the bytes are held.
+    pub fn push(&mut self, bytes: &[u8], out: &mut Vec<u8>) -> Result<(), Error> {
+        let step = |bytes: &[u8], out: &mut [u8]| {
+            let answer = match self.depth {
+                None => raw::strip_step(&self.state, bytes, out),
+                Some(depth) => raw::clean_step(depth.number(), &self.state, bytes, out),
+            };
+            Step {
+                status: answer.status,
+                used: answer.used,
+                held: answer.state.held as usize,
+                needed: answer.needed,
+                state: answer.state,
+            }
+        };
+        if let Some(state) = self.pending.step(bytes, LIMIT, out, step)? {
+            self.state = state;
+        }
+        Ok(())
+    }
+
+    /// Appends U+FFFD for a character that isn't over, and a reset where a style is open: nothing comes any more. After an `Err`, which is
+    /// [`Error::Memory`], nothing is appended.
+    pub fn finish(self, out: &mut Vec<u8>) -> Result<(), Error> {
+        let mut end = [0; 16];
+        let answer = raw::clean_end(&self.state, self.pending.bytes(), &mut end);
+        if answer.status != 0 {
+            return Err(Error::Memory);
+        }
+        out.extend_from_slice(&end[..answer.needed]);
+        Ok(())
+    }
+
+    /// Reads to the end, and writes and flushes what is left as it comes, and then the end. An `Err` is the reader's or the writer's, or
+    /// [`ErrorKind::OutOfMemory`]: what was written is then the beginning of what is left, where a style may be open.
+    pub fn copy(mut self, mut from: impl Read, mut to: impl Write) -> io::Result<()> {
+        let no_memory = |_| io::Error::from(ErrorKind::OutOfMemory);
+        let mut piece = [0; 4096];
+        let mut out = Vec::new();
+        loop {
+            match from.read(&mut piece) {
+                Ok(0) => break,
+                Ok(count) => self.push(&piece[..count], &mut out).map_err(no_memory)?,
+                Err(error) if error.kind() == ErrorKind::Interrupted => continue,
+                Err(error) => return Err(error),
+            }
+            to.write_all(&out)?;
+            to.flush()?;
+            out.clear();
+        }
+        self.finish(&mut out).map_err(no_memory)?;
+        to.write_all(&out)?;
+        to.flush()
     }
 }

@@ -27,6 +27,27 @@ pub extern "C" fn csicodec_compact(
     step(alloc, Compact::new(alloc), mode, limit, bytes, out)
 }
 
+/// The same, with semicolons in the colours of the character and the ground, also where that is no shorter.
+#[unsafe(no_mangle)]
+pub extern "C" fn csicodec_compact_semicolons(
+    alloc: Global,
+    mode: u32,
+    limit: usize,
+    bytes: &[u8],
+    out: &mut [u8],
+) -> Filtered
+    ensures { IsCompacted mode limit bytes.now out.old out.new result ⊎ IsRefused mode limit out.old out.new result }
+{
+    step(
+        alloc,
+        Compact::with_semicolons(alloc),
+        mode,
+        limit,
+        bytes,
+        out,
+    )
+}
+
 /// A short text of the actions that the structs stand for, or which of these stands for none.
 fn text_of(
     alloc: Global,

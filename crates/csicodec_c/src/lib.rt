@@ -3,14 +3,16 @@
 
 mod compact;
 mod filter;
+mod live;
 mod sequences;
 mod span;
 mod strip;
 mod version;
 
-pub use compact::{csicodec_compact, csicodec_encode_compact};
+pub use compact::{csicodec_compact, csicodec_compact_semicolons, csicodec_encode_compact};
 pub use filter::{Filtered, csicodec_filter};
+pub use live::{Cleaned, Cleaning, csicodec_clean_end, csicodec_clean_step, csicodec_strip_step};
 pub use sequences::{csicodec_encode, csicodec_is_canonical, csicodec_next, csicodec_normalise};
 pub use span::{Spanned, csicodec_esc, csicodec_span};
-pub use strip::{Stripped, csicodec_clean, csicodec_strip};
+pub use strip::{Stripped, csicodec_clean, csicodec_clean_with, csicodec_strip};
 pub use version::csicodec_version;

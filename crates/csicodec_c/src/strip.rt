@@ -1,25 +1,51 @@
 //! What is left of untrusted text.
-ghost use Rattle.std.specs.Prelude.{◌⊎◌};
-ghost use Rattle.csicodec_c.specs.Strip.{IsCleaned, IsRefused, IsStripped};
+ghost use Rattle.std.specs.Prelude.{◌≡◌, ◌⊎◌, ◌↔◌, Bool, Some, IfSome, IfNone};
+ghost use Rattle.csicodec_safe.specs.declared.colors.Depth.{Depth};
+ghost use Rattle.csicodec_safe.specs.declared.styles.Passing.{Passing};
+ghost use Rattle.csicodec_c.specs.Strip.{IsCleaned, IsCleanedIn, IsCleanedWith, IsPassing, IsRefused, IsRefusedWith, IsStripped, bit, depth_number, refused};
 
 use csicodec_plain::fill;
-use csicodec_safe::{clean, strip};
+use csicodec_safe::{Depth, Passing, clean_with, strip};
 use std::alloc::Global;
 
 /// How much is left of a text.
 #[repr(C)]
 #[derive(Clone, Copy, Debug, PartialEq, Eq)]
 pub struct Stripped {
-    /// 0 where it is done, 5 where memory ran out.
+    /// 0 where it is done, 5 where memory ran out, 7 where a number stands for nothing.
     pub status: u32,
     /// Of 0, the length of what is left.
     pub needed: usize,
 }
 
-const NO_MEMORY: Stripped = Stripped {
-    status: 5,
-    needed: 0,
-};
+pub(crate) fn refused(status: u32) -> Stripped
+    ensures { result ≡ refused status }
+{
+    Stripped { status, needed: 0 }
+}
+
+/// The truth of a number.
+pub(crate) fn bit_at(number: u32) -> Option<bool>
+    ensures { (b : Bool) → (result ≡ Some b) ↔ (number ≡ bit b) }
+{
+    match number {
+        0 => Some(false),
+        1 => Some(true),
+        _ => None,
+    }
+}
+
+/// The depth of a number.
+pub(crate) fn depth_at(number: u32) -> Option<Depth>
+    ensures { (depth : Depth) → (result ≡ Some depth) ↔ (number ≡ depth_number depth) }
+{
+    match number {
+        0 => Some(Depth::Full),
+        1 => Some(Depth::Palette),
+        2 => Some(Depth::Ansi),
+        _ => None,
+    }
+}
 
 /// Puts the plain text of the bytes, where it fits.
 #[unsafe(no_mangle)]
@@ -27,7 +53,21 @@ pub extern "C" fn csicodec_strip(alloc: Global, bytes: &[u8], out: &mut [u8]) ->
     ensures { IsStripped bytes.now out.old out.new result ⊎ IsRefused out.old out.new result }
 {
     let Ok(text) = strip(alloc, bytes) else {
-        return NO_MEMORY;
+        return refused(5);
+    };
+    fill(out, text.as_slice());
+    Stripped {
+        status: 0,
+        needed: text.len(),
+    }
+}
+
+/// Puts the text of the bytes with what passes, where it fits.
+fn put_cleaned(alloc: Global, passing: Passing, bytes: &[u8], out: &mut [u8]) -> Stripped
+    ensures { IsCleanedIn passing bytes.now out.old out.new result ⊎ IsRefused out.old out.new result }
+{
+    let Ok(text) = clean_with(alloc, passing, bytes) else {
+        return refused(5);
     };
     fill(out, text.as_slice());
     Stripped {
@@ -41,12 +81,38 @@ pub extern "C" fn csicodec_strip(alloc: Global, bytes: &[u8], out: &mut [u8]) ->
 pub extern "C" fn csicodec_clean(alloc: Global, bytes: &[u8], out: &mut [u8]) -> Stripped
     ensures { IsCleaned bytes.now out.old out.new result ⊎ IsRefused out.old out.new result }
 {
-    let Ok(text) = clean(alloc, bytes) else {
-        return NO_MEMORY;
+    let depth = Depth::Full;
+    let links = false;
+    put_cleaned(alloc, Passing { depth, links }, bytes, out)
+}
+
+/// What passes, by its numbers.
+fn passing_at(depth: u32, links: u32) -> Option<Passing>
+    ensures some { IfSome result (λ passing. IsPassing depth links passing) }
+    ensures none { IfNone result ((passing : Passing) → IsPassing depth links passing → ⊥) }
+{
+    let Some(depth) = depth_at(depth) else {
+        return None;
     };
-    fill(out, text.as_slice());
-    Stripped {
-        status: 0,
-        needed: text.len(),
-    }
+    let Some(links) = bit_at(links) else {
+        return None;
+    };
+    Some(Passing { depth, links })
+}
+
+/// Puts the text of the bytes with its styles, in the colours of a depth, and with its links where they are wanted, where it fits.
+#[unsafe(no_mangle)]
+pub extern "C" fn csicodec_clean_with(
+    alloc: Global,
+    depth: u32,
+    links: u32,
+    bytes: &[u8],
+    out: &mut [u8],
+) -> Stripped
+    ensures { IsCleanedWith depth links bytes.now out.old out.new result ⊎ IsRefusedWith depth links out.old out.new result }
+{
+    let Some(passing) = passing_at(depth, links) else {
+        return refused(7);
+    };
+    put_cleaned(alloc, passing, bytes, out)
 }

@@ -82,6 +82,24 @@ pub struct Stripped {
 }
 
 #[repr(C)]
+#[derive(Clone, Copy, Debug, Default, PartialEq, Eq)]
+pub struct Cleaning {
+    pub mode: u32,
+    pub titled: u32,
+    pub styled: u32,
+    pub held: u32,
+}
+
+#[repr(C)]
+#[derive(Clone, Copy, Debug, PartialEq, Eq)]
+pub struct Cleaned {
+    pub status: u32,
+    pub state: Cleaning,
+    pub used: usize,
+    pub needed: usize,
+}
+
+#[repr(C)]
 #[derive(Clone, Copy, Debug, PartialEq, Eq)]
 pub struct Spanned {
     pub status: u32,
@@ -91,6 +109,7 @@ pub struct Spanned {
 }
 
 const _: () = assert!(size_of::<Plain>() == 64 && size_of::<Param>() == 16);
+const _: () = assert!(size_of::<Cleaning>() == 16 && size_of::<Cleaned>() == 40);
 
 unsafe extern "C" {
     fn csicodec_normalise(bytes: *const u8, len: usize, out: *mut u8, room: usize) -> Normalised;
@@ -131,6 +150,14 @@ unsafe extern "C" {
         out: *mut u8,
         room: usize,
     ) -> Filtered;
+    fn csicodec_compact_semicolons(
+        mode: u32,
+        limit: usize,
+        bytes: *const u8,
+        len: usize,
+        out: *mut u8,
+        room: usize,
+    ) -> Filtered;
     fn csicodec_encode_compact(
         actions: *const Plain,
         count: usize,
@@ -141,6 +168,36 @@ unsafe extern "C" {
     ) -> Encoded;
     fn csicodec_strip(bytes: *const u8, len: usize, out: *mut u8, room: usize) -> Stripped;
     fn csicodec_clean(bytes: *const u8, len: usize, out: *mut u8, room: usize) -> Stripped;
+    fn csicodec_clean_with(
+        depth: u32,
+        links: u32,
+        bytes: *const u8,
+        len: usize,
+        out: *mut u8,
+        room: usize,
+    ) -> Stripped;
+    fn csicodec_strip_step(
+        state: *const Cleaning,
+        bytes: *const u8,
+        len: usize,
+        out: *mut u8,
+        room: usize,
+    ) -> Cleaned;
+    fn csicodec_clean_step(
+        depth: u32,
+        state: *const Cleaning,
+        bytes: *const u8,
+        len: usize,
+        out: *mut u8,
+        room: usize,
+    ) -> Cleaned;
+    fn csicodec_clean_end(
+        state: *const Cleaning,
+        bytes: *const u8,
+        len: usize,
+        out: *mut u8,
+        room: usize,
+    ) -> Stripped;
     fn csicodec_span(mode: u32, limit: usize, bytes: *const u8, len: usize) -> Spanned;
     safe fn csicodec_esc(intermediate: u8, final_byte: u8) -> u32;
     safe fn csicodec_version() -> u32;
@@ -215,6 +272,20 @@ pub fn compact(mode: u32, limit: usize, bytes: &[u8], out: &mut [u8]) -> Filtere
     }
 }
 
+pub fn compact_semicolons(mode: u32, limit: usize, bytes: &[u8], out: &mut [u8]) -> Filtered {
+    // SAFETY: as above.
+    unsafe {
+        csicodec_compact_semicolons(
+            mode,
+            limit,
+            bytes.as_ptr(),
+            bytes.len(),
+            out.as_mut_ptr(),
+            out.len(),
+        )
+    }
+}
+
 pub fn encode_compact(actions: &[Plain], params: &[Param], out: &mut [u8]) -> Encoded {
     // SAFETY: as above.
     unsafe {
@@ -237,6 +308,60 @@ pub fn strip(bytes: &[u8], out: &mut [u8]) -> Stripped {
 pub fn clean(bytes: &[u8], out: &mut [u8]) -> Stripped {
     // SAFETY: as above.
     unsafe { csicodec_clean(bytes.as_ptr(), bytes.len(), out.as_mut_ptr(), out.len()) }
+}
+
+pub fn clean_with(depth: u32, links: u32, bytes: &[u8], out: &mut [u8]) -> Stripped {
+    // SAFETY: as above.
+    unsafe {
+        csicodec_clean_with(
+            depth,
+            links,
+            bytes.as_ptr(),
+            bytes.len(),
+            out.as_mut_ptr(),
+            out.len(),
+        )
+    }
+}
+
+pub fn strip_step(state: &Cleaning, bytes: &[u8], out: &mut [u8]) -> Cleaned {
+    // SAFETY: as above.
+    unsafe {
+        csicodec_strip_step(
+            state,
+            bytes.as_ptr(),
+            bytes.len(),
+            out.as_mut_ptr(),
+            out.len(),
+        )
+    }
+}
+
+pub fn clean_step(depth: u32, state: &Cleaning, bytes: &[u8], out: &mut [u8]) -> Cleaned {
+    // SAFETY: as above.
+    unsafe {
+        csicodec_clean_step(
+            depth,
+            state,
+            bytes.as_ptr(),
+            bytes.len(),
+            out.as_mut_ptr(),
+            out.len(),
+        )
+    }
+}
+
+pub fn clean_end(state: &Cleaning, bytes: &[u8], out: &mut [u8]) -> Stripped {
+    // SAFETY: as above.
+    unsafe {
+        csicodec_clean_end(
+            state,
+            bytes.as_ptr(),
+            bytes.len(),
+            out.as_mut_ptr(),
+            out.len(),
+        )
+    }
 }
 
 pub fn span(mode: u32, limit: usize, bytes: &[u8]) -> Spanned {

@@ -1,0 +1,80 @@
+-- What the calls that clean untrusted text step by step answer a C program.
+use Rattle.std.specs.Prelude.{ℕ, ◌≡◌, ◌≤◌, ◌⊎◌, Bool, List, length, drop}
+use Rattle.csicodec_safe.specs.declared.colors.Depth.{Depth}
+use Rattle.csicodec_safe.specs.declared.pause.Pause.{Pause}
+use Rattle.csicodec_safe.specs.Cleaned.{RuleOf, drops}
+use Rattle.csicodec_safe.specs.Steps.{Steps, bare, ending}
+use Rattle.csicodec_safe.specs.Styled.{Keeping, resumed, stays}
+use Rattle.csicodec_c.specs.declared.live.Cleaned.{Cleaned}
+use Rattle.csicodec_c.specs.declared.live.Cleaning.{Cleaning}
+use Rattle.csicodec_c.specs.declared.strip.Stripped.{Stripped}
+use Rattle.csicodec_c.specs.Filter.{mode_number}
+use Rattle.csicodec_plain.specs.Room.{Fills}
+use Rattle.csicodec_c.specs.Strip.{bit, depth_number, stripped}
+use Rattle.csicodec_c.specs.Strip.{refused as nothing}
+
+-- the numbers of a state
+abbrev pub numbers : Pause → Cleaning
+numbers p = record { mode = mode_number p.mode; titled = bit p.titled; styled = bit p.styled; held = p.held }
+
+-- the numbers are of a state that these bytes can go on from: so many are there as are held, and those are 3 at most
+abbrev pub IsState : Cleaning → ℕ → Pause → Type 0
+IsState state len p = (state ≡ numbers p) × (p.held ≤ 3) × (p.held ≤ len)
+
+-- they are of none
+abbrev pub IsBadState : Cleaning → ℕ → Type 0
+IsBadState state len = (p : Pause) → IsState state len p → ⊥
+
+abbrev pub cleaned : Pause → ℕ → ℕ → Cleaned
+cleaned p used needed = record { status = 0; state = numbers p; used = used; needed = needed }
+
+abbrev pub refused : ℕ → Cleaned
+refused status = record { status = status; state = record { mode = 0; titled = 0; styled = 0; held = 0 }; used = 0; needed = 0 }
+
+-- a step by a rule, whose state is told by whether a style is open: the text of what is sure, which is put where it fits, how many bytes
+-- were used, and the state behind them, which the others can go on from
+pub record IsStep {S : Type 0} (Gives : RuleOf S) (rule : Bool → S) (state : Cleaning) (bytes old new : List ℕ) (answer : Cleaned) : Type 0 where
+  pub before : Pause
+  pub after : Pause
+  pub text : List ℕ
+  pub used : ℕ
+  pub began : state ≡ numbers before
+  pub within : used ≤ length bytes
+  pub steps : Steps Gives (rule before.styled) before bytes text (rule after.styled) after (drop used bytes)
+  pub few : after.held ≤ 3
+  pub tells : answer ≡ cleaned after used (length text)
+  pub fills : Fills old new text
+
+-- a step of strip, which opens no style
+abbrev pub IsStripStep : Cleaning → List ℕ → List ℕ → List ℕ → Cleaned → Type 0
+IsStripStep state bytes old new answer = IsStep drops (λ _. bare) state bytes old new answer × (answer.state.styled ≡ state.styled)
+
+-- a step of clean, with the colours that stay
+abbrev pub IsCleanStep : ℕ → Cleaning → List ℕ → List ℕ → List ℕ → Cleaned → Type 0
+IsCleanStep number state bytes old new answer =
+    (d : Depth) × (number ≡ depth_number d) × IsStep (stays (λ (k : Keeping). k)) (resumed d) state bytes old new answer
+
+-- what ends a stream behind its steps, which is put where it fits
+pub record IsEnd (state : Cleaning) (bytes old new : List ℕ) (answer : Stripped) : Type 0 where
+  pub pause : Pause
+  pub is : state ≡ numbers pause
+  pub tells : answer ≡ stripped (length (ending pause bytes))
+  pub fills : Fills old new (ending pause bytes)
+
+-- or memory ran out, or the state is none, and then nothing is put
+pub record IsStripRefused (state : Cleaning) (len : ℕ) (old new : List ℕ) (answer : Cleaned) : Type 0 where
+  pub why : (answer ≡ refused 5) ⊎ ((answer ≡ refused 7) × IsBadState state len)
+  pub stays : new ≡ old
+
+-- or the depth is none
+abbrev pub IsBadDepth : ℕ → Type 0
+IsBadDepth number = (d : Depth) → number ≡ depth_number d → ⊥
+
+pub record IsCleanRefused (number : ℕ) (state : Cleaning) (len : ℕ) (old new : List ℕ) (answer : Cleaned) : Type 0 where
+  pub why : (answer ≡ refused 5) ⊎ ((answer ≡ refused 7) × (IsBadDepth number ⊎ IsBadState state len))
+  pub stays : new ≡ old
+
+-- so at the end
+pub record IsEndRefused (state : Cleaning) (len : ℕ) (old new : List ℕ) (answer : Stripped) : Type 0 where
+  pub why : (answer ≡ nothing 5) ⊎ ((answer ≡ nothing 7) × IsBadState state len)
+  pub stays : new ≡ old

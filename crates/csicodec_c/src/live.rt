@@ -1,0 +1,169 @@
+//! Untrusted text as it comes, by a state that the caller keeps.
+ghost use Rattle.std.specs.Prelude.{◌≡◌, ◌≤◌, ◌⊎◌, Bool, length, IfSome, IfNone};
+ghost use Rattle.csicodec_safe.specs.declared.pause.Pause.{Pause};
+ghost use Rattle.csicodec_c.specs.Live.{IsCleanRefused, IsCleanStep, IsEnd, IsEndRefused, IsState, IsStripRefused, IsStripStep, numbers, refused};
+ghost use Rattle.csicodec_c.specs.Strip.{bit};
+
+use crate::filter::{mode_at, number_of};
+use crate::strip::{Stripped, bit_at, depth_at, refused as nothing};
+use csicodec_plain::fill;
+use csicodec_safe::{Pause, append_ending, clean_step, strip_step};
+use std::alloc::Global;
+
+/// What a stream leaves open between two steps. At its beginning each number is 0.
+#[repr(C)]
+#[derive(Clone, Copy, Debug, PartialEq, Eq)]
+pub struct Cleaning {
+    /// What is open: the mode of a filter.
+    pub mode: u32,
+    /// 1 where a title is open, of tmux and screen.
+    pub titled: u32,
+    /// 1 where a style is open.
+    pub styled: u32,
+    /// How many of the bytes that come again, at their front, are the beginning of a character: 0 to 3.
+    pub held: u32,
+}
+
+/// How a step ended.
+#[repr(C)]
+#[derive(Clone, Copy, Debug, PartialEq, Eq)]
+pub struct Cleaned {
+    /// 0 where it is done, 5 where memory ran out, 7 where the state is none, or the depth.
+    pub status: u32,
+    /// Of 0, the state behind the bytes that were used.
+    pub state: Cleaning,
+    /// Of 0, how many bytes were used; those behind them are to come again ahead of the next ones.
+    pub used: usize,
+    /// Of 0, the length of the text.
+    pub needed: usize,
+}
+
+fn refused(status: u32) -> Cleaned
+    ensures { result ≡ refused status }
+{
+    let state = Cleaning {
+        mode: 0,
+        titled: 0,
+        styled: 0,
+        held: 0,
+    };
+    Cleaned {
+        status,
+        state,
+        used: 0,
+        needed: 0,
+    }
+}
+
+/// The state of some numbers, where so many bytes come.
+fn pause_at(state: &Cleaning, len: usize) -> Option<Pause>
+    ensures some { IfSome result (λ pause. IsState state.now len pause) }
+    ensures none { IfNone result ((pause : Pause) → IsState state.now len pause → ⊥) }
+{
+    let (Some(mode), Some(titled), Some(styled)) = (
+        mode_at(state.mode),
+        bit_at(state.titled),
+        bit_at(state.styled),
+    ) else {
+        return None;
+    };
+    let held = state.held as usize;
+    if held > 3 || held > len {
+        return None;
+    }
+    Some(Pause {
+        mode,
+        titled,
+        styled,
+        held,
+    })
+}
+
+fn numbers(pause: Pause) -> Cleaning
+    requires { pause.held ≤ 3 }
+    ensures { result ≡ numbers pause }
+{
+    Cleaning {
+        mode: number_of(pause.mode),
+        titled: u32::from(pause.titled),
+        styled: u32::from(pause.styled),
+        held: pause.held as u32,
+    }
+}
+
+/// Puts what is left of the bytes that are sure, as plain text, where it fits.
+#[unsafe(no_mangle)]
+pub extern "C" fn csicodec_strip_step(
+    alloc: Global,
+    state: &Cleaning,
+    bytes: &[u8],
+    out: &mut [u8],
+) -> Cleaned
+    ensures { IsStripStep state.now bytes.now out.old out.new result ⊎ IsStripRefused state.now (length bytes.now) out.old out.new result }
+{
+    let Some(pause) = pause_at(state, bytes.len()) else {
+        return refused(7);
+    };
+    let mut text = Vec::new(alloc);
+    let Ok((used, after)) = strip_step(alloc, pause, bytes, &mut text) else {
+        return refused(5);
+    };
+    fill(out, text.as_slice());
+    Cleaned {
+        status: 0,
+        state: numbers(after),
+        used,
+        needed: text.len(),
+    }
+}
+
+/// The same with the styles that stay, in the colours of a depth.
+#[unsafe(no_mangle)]
+pub extern "C" fn csicodec_clean_step(
+    alloc: Global,
+    depth: u32,
+    state: &Cleaning,
+    bytes: &[u8],
+    out: &mut [u8],
+) -> Cleaned
+    ensures { IsCleanStep depth state.now bytes.now out.old out.new result ⊎ IsCleanRefused depth state.now (length bytes.now) out.old out.new result }
+{
+    let (Some(depth), Some(pause)) = (depth_at(depth), pause_at(state, bytes.len())) else {
+        return refused(7);
+    };
+    let mut text = Vec::new(alloc);
+    let Ok((used, after)) = clean_step(alloc, depth, pause, bytes, &mut text) else {
+        return refused(5);
+    };
+    fill(out, text.as_slice());
+    Cleaned {
+        status: 0,
+        state: numbers(after),
+        used,
+        needed: text.len(),
+    }
+}
+
+/// Puts what ends a stream behind its last step, where it fits: `bytes` are those that no step used.
+#[unsafe(no_mangle)]
+pub extern "C" fn csicodec_clean_end(
+    alloc: Global,
+    state: &Cleaning,
+    bytes: &[u8],
+    out: &mut [u8],
+) -> Stripped
+    ensures { IsEnd state.now bytes.now out.old out.new result ⊎ IsEndRefused state.now (length bytes.now) out.old out.new result }
+{
+    let Some(pause) = pause_at(state, bytes.len()) else {
+        return nothing(7);
+    };
+    let mut text = Vec::new(alloc);
+    let Ok(()) = append_ending(pause, bytes, &mut text) else {
+        return nothing(5);
+    };
+    fill(out, text.as_slice());
+    Stripped {
+        status: 0,
+        needed: text.len(),
+    }
+}

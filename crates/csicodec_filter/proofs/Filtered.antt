@@ -34,6 +34,16 @@ weaker V W (p ∷ ps) t f h = (h.0, h.1, h.2, weaker_part V W p.kind p.bytes h.0
 pub passes_weaker : (V W : List ℕ → List ℕ → Type 0) (limit : ℕ) (m : Mode) (bytes text held : List ℕ) (a : Mode) → ((b t : List ℕ) → V b t → W b t) → Passes V limit m bytes text held a → Passes W limit m bytes text held a
 passes_weaker V W limit m bytes text held a f h = record { parts = h.parts; first = h.first; unsure = h.unsure; written = weaker V W h.parts text f h.written }
 
+-- a sequence in front is a part, in any mode
+pub one_first : (limit : ℕ) (n : Mode) (rest : List ℕ) (len : ℕ) → IsOne (take len rest) → len ≤ limit → len ≤ length rest → AreFirstParts limit n rest (part kind.Csi (take len rest) ∷ []) (drop len rest) mode.Text
+one_first limit n rest len one short within =
+    let front = take len rest in
+    let long : length front ≤ limit = omega (arith, length-take len rest, short) in
+    let whole : rest ≡ 27 ∷ 91 ∷ ((one.2.body ++ one.1 ∷ []) ++ drop len rest) = sym (take-append-drop len rest) ∙ ap (λ (t : List ℕ). t ++ drop len rest) one.2.whole in
+    let csi : ahead n rest ≡ Sequence = ap (ahead n) whole ∙ opens n ((one.2.body ++ one.1 ∷ []) ++ drop len rest) in
+    let allowed : Allows (ahead n rest) limit rest kind.Csi front mode.Text = rw csi (one, long, refl) in
+    (drop len rest, mode.Text, (sym (take-append-drop len rest), allowed), (refl, refl))
+
 -- ---- what is written for each sequence
 
 module _ (Writes : List ℕ → List ℕ → Type 0) where
@@ -78,15 +88,10 @@ module _ (Writes : List ℕ → List ℕ → Type 0) where
   pub passed_one : (limit : ℕ) (m n : Mode) (bytes rest text more : List ℕ) (parts : List Part) (len : ℕ) → AreFirstParts limit m bytes parts rest n → AreWritten Writes parts text
       → IsOne (take len rest) → len ≤ limit → len ≤ length rest → Writes (take len rest) more
       → AreFirstParts limit m bytes (parts ++ part kind.Csi (take len rest) ∷ []) (drop len rest) mode.Text × AreWritten Writes (parts ++ part kind.Csi (take len rest) ∷ []) (text ++ more)
-  passed_one limit m n bytes rest text more parts len first written one short within w =
-      let front = take len rest in
-      let long : length front ≤ limit = omega (arith, length-take len rest, short) in
-      let whole : rest ≡ 27 ∷ 91 ∷ ((one.2.body ++ one.1 ∷ []) ++ drop len rest) = sym (take-append-drop len rest) ∙ ap (λ (t : List ℕ). t ++ drop len rest) one.2.whole in
-      let csi : ahead n rest ≡ Sequence = ap (ahead n) whole ∙ opens n ((one.2.body ++ one.1 ∷ []) ++ drop len rest) in
-      let allowed : Allows (ahead n rest) limit rest kind.Csi front mode.Text = rw csi (one, long, refl) in (
-        parts_on limit parts (part kind.Csi front ∷ []) m bytes rest (drop len rest) n mode.Text first (drop len rest, mode.Text, (sym (take-append-drop len rest), allowed), (refl, refl)),
-        written_on parts (part kind.Csi front ∷ []) text more written (more, [], sym (append-nil more), w, refl),
-      )
+  passed_one limit m n bytes rest text more parts len first written one short within w = (
+    parts_on limit parts (part kind.Csi (take len rest) ∷ []) m bytes rest (drop len rest) n mode.Text first (one_first limit n rest len one short within),
+    written_on parts (part kind.Csi (take len rest) ∷ []) text more written (more, [], sym (append-nil more), w, refl),
+  )
 
   -- what is kept of a span, where normal forms are written
   pub kept_span : (control : Option ℕ) (k : Kind) (bytes text back : List ℕ) (list : List CsiParam) → MatchOption control (k ≢ kind.Csi) (λ final. (k ≡ kind.Csi) × Seq bytes list final)

@@ -3,15 +3,14 @@ ghost use Rattle.std.specs.Prelude.{◌≡◌, ◌<◌, ◌≤◌, ◌⊎◌, �
 ghost use Rattle.csicodec_tokens.specs.Sequence.{Seq};
 ghost use Rattle.csicodec_spans.specs.declared.table.Mode.{Mode};
 ghost use Rattle.csicodec_spans.specs.declared.table.Mode.TheVariants.{Text as Plain};
-ghost use Rattle.csicodec_streams.specs.Decoding.{NormalisesTo};
-ghost use Rattle.csicodec_streams.specs.Known.{AreKnown, IsOne};
+ghost use Rattle.csicodec_streams.specs.Known.{AreKnown, IsNormal};
 ghost use Rattle.csicodec_filter.specs.Filter.{Passes};
 
-use crate::known::Known;
+use crate::known::{Known, recall};
 use crate::rewrite::Rewrite;
 use csicodec_base::CsiParam;
 use csicodec_spans::{Mode, next_span_into};
-use csicodec_streams::keep_from;
+use csicodec_streams::{Normal, keep_from};
 use std::alloc::{AllocError, Global};
 use std::marker::Model;
 
@@ -37,17 +36,17 @@ fn append_span<T: Rewrite>(
 /// Keeps a span that is a control sequence, and its normal form, if that is wanted.
 #[inline(always)]
 fn keep_span(
-    known: &mut Known,
+    known: &mut Known<Normal>,
     wanted: bool,
     control: Option<char>,
     bytes: &[u8],
     span: &[u8],
     text: &[u8],
 )
-    requires known { AreKnown known.old.memo.slots.items }
+    requires known { AreKnown IsNormal known.old.memo.slots.items }
     requires front { span.now ≡ take (length span.now) bytes.now }
-    requires normal { wanted ≡ true → IfSome control (λ _. NormalisesTo span.now text.now × IsOne span.now) }
-    ensures { AreKnown known.new.memo.slots.items }
+    requires normal { wanted ≡ true → IfSome control (λ _. IsNormal span.now text.now) }
+    ensures { AreKnown IsNormal known.new.memo.slots.items }
 {
     if wanted && control.is_some() {
         known.keep(bytes, span.len(), text);
@@ -59,24 +58,24 @@ fn keep_span(
 pub(crate) fn append_known<T: Rewrite>(
     rewrite: &mut T,
     params: &mut Vec<CsiParam>,
-    known: &mut Known,
+    known: &mut Known<Normal>,
     limit: usize,
     mode: Mode,
     bytes: &[u8],
     out: &mut Vec<u8>,
 ) -> Result<(usize, Mode), AllocError>
     requires limit { 0 < limit }
-    requires known { AreKnown known.old.memo.slots.items }
+    requires known { AreKnown IsNormal known.old.memo.slots.items }
     ensures passes { IfOk result (λ (used, after). (used ≤ length bytes.now) × (text : List ℕ)
         × Passes (T.writes rewrite.old) limit mode bytes.now text (drop used bytes.now) after × (out.new.items ≡ out.old.items ++ text)) }
     ensures same { OnOk result ((bytes text : List ℕ) → T.writes rewrite.new bytes text → T.writes rewrite.old bytes text) }
-    ensures known { OnOk result (AreKnown known.new.memo.slots.items) }
+    ensures known { OnOk result (AreKnown IsNormal known.new.memo.slots.items) }
 {
     let normal = rewrite.writes_normal_forms();
     let mut rest = bytes;
     let mut mode = mode;
     loop {
-        let len = known.recall(normal, limit, rest, out)?;
+        let len = recall(known, normal, limit, rest, out)?;
         if len > 0 {
             rest = rest.split_at(len).1;
             mode = Mode::Text;
@@ -118,7 +117,7 @@ pub fn append_spans<T: Rewrite>(
         × Passes (T.writes rewrite.old) limit mode bytes.now text (drop used bytes.now) after × (out.new.items ≡ out.old.items ++ text)) }
     ensures same { OnOk result ((bytes text : List ℕ) → T.writes rewrite.new bytes text → T.writes rewrite.old bytes text) }
 {
-    let mut known = Known::new(*params.allocator());
+    let mut known: Known<Normal> = Known::new(*params.allocator());
     append_known(rewrite, params, &mut known, limit, mode, bytes, out)
 }
 
@@ -172,17 +171,17 @@ impl<R: Rewrite + Drop> Filter<R> {
     /// The same with what is known from the bytes before.
     pub(crate) fn push_known(
         &mut self,
-        known: &mut Known,
+        known: &mut Known<Normal>,
         bytes: &[u8],
         out: &mut Vec<u8>,
     ) -> Result<(), AllocError>
-        requires { AreKnown known.old.memo.slots.items }
+        requires { AreKnown IsNormal known.old.memo.slots.items }
         ensures passes { OnOk result ((text : List ℕ) × Passes (R.writes self.old.rewrite) self.old.limit self.old.mode (self.old.bytes ++ bytes.now) text self.new.bytes self.new.mode
             × (out.new.items ≡ out.old.items ++ text)) }
         ensures limit { OnOk result (self.new.limit ≡ self.old.limit) }
         ensures same { OnOk result ((bytes text : List ℕ) → R.writes self.new.rewrite bytes text → R.writes self.old.rewrite bytes text) }
         ensures short { OnOk result ((length self.new.bytes < self.new.limit) ⊎ (length self.new.bytes < 3)) }
-        ensures known { OnOk result (AreKnown known.new.memo.slots.items) }
+        ensures known { OnOk result (AreKnown IsNormal known.new.memo.slots.items) }
     {
         self.pending.extend_from_slice(bytes)?;
         let (used, mode) = append_known(
@@ -208,7 +207,7 @@ impl<R: Rewrite + Drop> Filter<R> {
         ensures same { OnOk result ((bytes text : List ℕ) → R.writes self.new.rewrite bytes text → R.writes self.old.rewrite bytes text) }
         ensures short { OnOk result ((length self.new.bytes < self.new.limit) ⊎ (length self.new.bytes < 3)) }
     {
-        let mut known = Known::new(*self.params.allocator());
+        let mut known: Known<Normal> = Known::new(*self.params.allocator());
         self.push_known(&mut known, bytes, out)
     }
 

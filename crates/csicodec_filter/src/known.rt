@@ -1,72 +1,93 @@
-//! What is looked up in a stream: control sequences that came before, and their normal forms.
-ghost use Rattle.std.specs.Prelude.{◌≡◌, ◌++◌, ◌<◌, ◌≤◌, ℕ, List, true, length, take, IfOk, OnOk};
-ghost use Rattle.csicodec_streams.specs.Decoding.{NormalisesTo};
-ghost use Rattle.csicodec_streams.specs.Known.{AreKnown, IsOne};
+//! What is looked up in a stream: control sequences that came before, and what was noted of them.
+ghost use Rattle.std.specs.Prelude.{◌≡◌, ◌++◌, ◌<◌, ◌≤◌, ℕ, List, true, length, take, IfOk};
+ghost use Rattle.csicodec_streams.specs.Known.{AreKnown, IsNormal};
 
 use csicodec_base::TextBuffer;
-use csicodec_streams::Memo;
+use csicodec_streams::{Memo, Normal, Note};
 use std::alloc::{AllocError, Global};
 
 /// A table of control sequences that came before, and where the last one that was looked for would be.
 #[derive(Drop)]
-pub(crate) struct Known {
-    memo: Memo,
-    texts: TextBuffer,
+pub struct Known<N> {
+    memo: Memo<N>,
+    text: TextBuffer,
     place: usize,
 }
 
-impl Known {
+impl<N: Note> Known<N> {
     /// With nothing known.
-    pub fn new(alloc: Global) -> Known
-        ensures { AreKnown result.memo.slots.items }
+    pub fn new(alloc: Global) -> Known<N>
+        ensures { AreKnown N.notes result.memo.slots.items }
     {
         Known {
             memo: Memo::new(alloc),
-            texts: TextBuffer::new(alloc),
+            text: TextBuffer::new(alloc),
             place: usize::MAX,
         }
     }
 
-    /// Appends the normal form of the control sequence in front, if that is wanted and known, and answers how many bytes it has,
-    /// at most `limit`.
+    /// Looks for the control sequence in front, and answers how many bytes it has, at most `limit`; 0 where it isn't known.
+    /// Its note is [`noted`](Known::noted) then.
     #[inline(always)]
-    pub fn recall(
-        &mut self,
-        wanted: bool,
-        limit: usize,
-        bytes: &[u8],
-        out: &mut Vec<u8>,
-    ) -> Result<usize, AllocError>
-        requires { AreKnown self.old.memo.slots.items }
-        ensures text { IfOk result (λ len. 0 < len → (text : List ℕ) × NormalisesTo (take len bytes.now) text × (out.new.items ≡ out.old.items ++ text)) }
-        ensures one { IfOk result (λ len. 0 < len → IsOne (take len bytes.now) × (len ≤ limit) × (len ≤ length bytes.now) × (wanted ≡ true)) }
-        ensures none { IfOk result (λ len. len ≡ 0 → out.new.items ≡ out.old.items) }
-        ensures known { AreKnown self.new.memo.slots.items }
+    pub fn look(&mut self, limit: usize, bytes: &[u8]) -> usize
+        requires { AreKnown N.notes self.old.memo.slots.items }
+        ensures noted { 0 < result → N.notes (take result bytes.now) self.new.text }
+        ensures short { 0 < result → (result ≤ limit) × (result ≤ length bytes.now) }
+        ensures known { AreKnown N.notes self.new.memo.slots.items }
     {
         self.place = usize::MAX;
-        if !wanted || bytes.first() != Some(&0x1b) {
-            return Ok(0);
+        if bytes.first() != Some(&0x1b) {
+            return 0;
         }
         let front = near(limit, bytes);
-        self.texts.clear();
+        self.text.clear();
         self.place = self.memo.place(front);
-        let len = self.memo.recall(self.place, front, &mut self.texts);
-        if len > 0 {
-            out.extend_from_slice(self.texts.as_slice())?;
-        }
-        Ok(len)
+        self.memo.recall(self.place, front, &mut self.text)
     }
 
-    /// Keeps the control sequence in front, which was looked for, and its normal form.
+    /// What is noted of the sequence that was found last.
+    #[inline(always)]
+    pub fn noted(&self) -> &[u8]
+        ensures { result.now ≡ self.now.text }
+    {
+        self.text.as_slice()
+    }
+
+    /// Keeps the control sequence in front, which was looked for, and its note.
     #[inline(always)]
     pub fn keep(&mut self, bytes: &[u8], len: usize, text: &[u8])
-        requires known { AreKnown self.old.memo.slots.items }
-        requires normal { NormalisesTo (take len bytes.now) text.now }
-        requires one { IsOne (take len bytes.now) }
-        ensures { AreKnown self.new.memo.slots.items }
+        requires known { AreKnown N.notes self.old.memo.slots.items }
+        requires noted { N.notes (take len bytes.now) text.now }
+        ensures { AreKnown N.notes self.new.memo.slots.items }
     {
         self.memo.keep(self.place, bytes, len, text);
     }
+}
+
+/// Appends the normal form of the control sequence in front, if that is wanted and known, and answers how many bytes it has,
+/// at most `limit`.
+#[inline(always)]
+pub(crate) fn recall(
+    known: &mut Known<Normal>,
+    wanted: bool,
+    limit: usize,
+    bytes: &[u8],
+    out: &mut Vec<u8>,
+) -> Result<usize, AllocError>
+    requires { AreKnown IsNormal known.old.memo.slots.items }
+    ensures text { IfOk result (λ len. 0 < len → (text : List ℕ) × IsNormal (take len bytes.now) text × (out.new.items ≡ out.old.items ++ text)) }
+    ensures short { IfOk result (λ len. 0 < len → (len ≤ limit) × (len ≤ length bytes.now) × (wanted ≡ true)) }
+    ensures none { IfOk result (λ len. len ≡ 0 → out.new.items ≡ out.old.items) }
+    ensures known { AreKnown IsNormal known.new.memo.slots.items }
+{
+    if !wanted {
+        return Ok(0);
+    }
+    let len = known.look(limit, bytes);
+    if len > 0 {
+        out.extend_from_slice(known.noted())?;
+    }
+    Ok(len)
 }
 
 /// As many of the first bytes as a sequence may have.

@@ -9,5 +9,6 @@ mod run;
 
 pub use faithful::{Faithful, stays};
 pub use filter::{Filter, append_spans};
+pub use known::Known;
 pub use rewrite::{NormalForm, Rewrite};
 pub use run::filter_all;

@@ -9,7 +9,7 @@ use crate::filter::Filter;
 use crate::known::Known;
 use crate::rewrite::Rewrite;
 use csicodec_spans::Mode;
-use csicodec_streams::{CHUNK, RunError, receive, send};
+use csicodec_streams::{CHUNK, Normal, RunError, receive, send};
 use std::alloc::Global;
 use std::io::{Read, Write};
 
@@ -44,7 +44,7 @@ pub fn filter_all<T: Rewrite + Drop, R: Read, W: Write>(
         (sent : List ℕ) × IsFrontOf (T.writes rewrite) limit Plain bytes sent × Appends (W.contents output.old) (W.contents output.new) sent)) }
 {
     let mut filter = Filter::new(alloc, limit, rewrite);
-    let mut known = Known::new(alloc);
+    let mut known: Known<Normal> = Known::new(alloc);
     let mut out = Vec::new(alloc);
     let mut chunk = [0u8; CHUNK];
     for _ in 0..u64::MAX {

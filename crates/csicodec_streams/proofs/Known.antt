@@ -13,7 +13,6 @@ use Rattle.csicodec_actions.specs.Actions.{Action}
 use Rattle.csicodec_actions.specs.Table.{text, texts}
 use Rattle.csicodec_parser.specs.Segments.{Actions}
 use Rattle.csicodec_streams.specs.Decoding.{Decodes}
-use Rattle.csicodec_streams.specs.Decoding.{NormalisesTo}
 use Rattle.csicodec_streams.specs.Known.{IsOne}
 use Rattle.csicodec_streams.proofs.OneReading.{one_sequence}
 use Rattle.csicodec_streams.proofs.Splits.{IsSplit}
@@ -32,13 +31,10 @@ split_known bytes rest len xs ys s d =
 same_shorter : (bytes known : List ℕ) (len n : ℕ) → len ≤ n → take n bytes ≡ take n known → take len bytes ≡ take len known
 same_shorter bytes known len n within same = sym (take-take len n bytes within) ∙ ap (λ (l : List ℕ). take len l) same ∙ take-take len n known within
 
--- bytes that begin as others have the normal form of those, and are one sequence as they are
-pub same_known : (bytes known text : List ℕ) (len n : ℕ) → len ≤ n → take n bytes ≡ take n known → NormalisesTo (take len known) text → NormalisesTo (take len bytes) text
-same_known bytes known text len n within same k =
-    subst (λ (l : List ℕ). NormalisesTo l text) (sym (same_shorter bytes known len n within same)) k
-
-pub same_one : (bytes known : List ℕ) (len n : ℕ) → len ≤ n → take n bytes ≡ take n known → IsOne (take len known) → IsOne (take len bytes)
-same_one bytes known len n within same k = subst IsOne (sym (same_shorter bytes known len n within same)) k
+-- of bytes that begin as others the same is noted
+pub same_noted : (Notes : List ℕ → List ℕ → Type 0) (bytes known text : List ℕ) (len n : ℕ) → len ≤ n → take n bytes ≡ take n known → Notes (take len known) text → Notes (take len bytes) text
+same_noted Notes bytes known text len n within same k =
+    subst (λ (l : List ℕ). Notes l text) (sym (same_shorter bytes known len n within same)) k
 
 -- so many bytes are the same, where as many and more are in parts of them
 pub same_in_front : (xs ys : List ℕ) (w n len : ℕ) → len ≤ n → len ≤ w → take n (take w xs) ≡ take n (take w ys) → take len xs ≡ take len ys
@@ -128,13 +124,13 @@ differing_mask xs ys w few long short =
     ap (λ (ms : List Bool). count_trailing_zeros 64 (mask_l ms % 2 ^ 64)) (tops_compared w8 differ xs ys)
     ∙ ap (count_trailing_zeros 64) (mask_l-mod (zip2 differ xs ys) 64 (omega (arith, length-zip2 differ xs ys (long ∙ sym short), long, few)))
 
--- what is kept of bytes and their normal form
-pub slot_known : (bytes front text copied zs : List ℕ) (len : ℕ) → front ≡ take 48 bytes → copied ≡ text → len ≤ 48 → length text ≤ 48 → NormalisesTo (take len bytes) text → IsOne (take len bytes)
-    → (len ≤ 48) × (length text ≤ 48) × NormalisesTo (take len front) (take (length text) (copied ++ zs)) × (0 < len → IsOne (take len front))
-slot_known bytes front text copied zs len is same short small k one =
+-- what is kept of a sequence and its note
+pub slot_known : (Notes : List ℕ → List ℕ → Type 0) (bytes front text copied zs : List ℕ) (len : ℕ) → front ≡ take 48 bytes → copied ≡ text → len ≤ 48 → length text ≤ 48 → Notes (take len bytes) text
+    → (len ≤ 48) × (length text ≤ 48) × (0 < len → Notes (take len front) (take (length text) (copied ++ zs)))
+slot_known Notes bytes front text copied zs len is same short small k =
     let begin : take len front ≡ take len bytes = ap (λ (l : List ℕ). take len l) is ∙ take-take len 48 bytes short in
     let all : take (length text) (copied ++ zs) ≡ text = ap (λ (l : List ℕ). take (length text) (l ++ zs)) same ∙ take-append_seam text zs in
-    (short, small, subst (λ (l : List ℕ). NormalisesTo l (take (length text) (copied ++ zs))) (sym begin) (subst (λ (l : List ℕ). NormalisesTo (take len bytes) l) (sym all) k), λ some. subst IsOne (sym begin) one)
+    (short, small, λ some. subst (λ (l : List ℕ). Notes l (take (length text) (copied ++ zs))) (sym begin) (subst (λ (l : List ℕ). Notes (take len bytes) l) (sym all) k))
 
 -- texts that are known, behind those of the actions before
 pub texts_more : (before told ys : List Action) (old new text : List ℕ) → old ≡ texts (before ++ told) → new ≡ old ++ text → text ≡ texts ys → new ≡ texts (before ++ (told ++ ys))
@@ -144,10 +140,6 @@ texts_more before told ys old new text o n t =
 -- all bytes from a place on
 pub slice_from : (n : ℕ) (xs : List ℕ) → take (length xs - n) (drop n xs) ≡ drop n xs
 slice_from n xs = take_all (length xs - n) (drop n xs) (omega (arith, length-drop n xs))
-
--- where nothing was known
-pub split_none_known : (bytes rest : List ℕ) (len : ℕ) (xs ys : List Action) → len ≡ 0 → IsSplit bytes false rest xs → Decodes (take len rest) false ys → IsSplit bytes false rest (xs ++ ys)
-split_none_known bytes rest len xs ys none s d = subst (λ (n : ℕ). IsSplit bytes false (drop n rest) (xs ++ ys)) none (split_known bytes rest len xs ys s d)
 
 -- texts that are joined are no shorter
 pub texts_longer : (xs ys : List Action) (old new : List ℕ) → old ≡ texts xs → new ≡ texts (xs ++ ys) → length old ≤ length new

@@ -1,4 +1,4 @@
--- What a table of known normal forms holds.
+-- What a table of sequences that came before holds.
 use Rattle.std.specs.Prelude.{ℕ, ◌<◌, ◌≤◌, List, take}
 use Rattle.std.specs.List.{All}
 use Rattle.csicodec_tokens.specs.declared.param.CsiParam.{CsiParam}
@@ -10,10 +10,14 @@ use Rattle.csicodec_streams.specs.Decoding.{NormalisesTo}
 abbrev pub IsOne : List ℕ → Type 0
 IsOne bytes = (list : List CsiParam) × (final : ℕ) × Seq bytes list final
 
--- a slot holds bytes and their normal form, and the bytes are one control sequence unless there are none
-abbrev pub IsKnown : Slot → Type 0
-IsKnown s = (s.len ≤ 48) × (s.text_len ≤ 48) × NormalisesTo (take s.len s.bytes) (take s.text_len s.text) × (0 < s.len → IsOne (take s.len s.bytes))
+-- a sequence and its normal form
+abbrev pub IsNormal : List ℕ → List ℕ → Type 0
+IsNormal bytes text = NormalisesTo bytes text × IsOne bytes
+
+-- a slot holds a sequence and what is noted of it, unless it holds no bytes
+abbrev pub IsKnown : (List ℕ → List ℕ → Type 0) → Slot → Type 0
+IsKnown Notes s = (s.len ≤ 48) × (s.text_len ≤ 48) × (0 < s.len → Notes (take s.len s.bytes) (take s.text_len s.text))
 
 -- each slot does
-abbrev pub AreKnown : List Slot → Type 0
-AreKnown slots = All IsKnown slots
+abbrev pub AreKnown : (List ℕ → List ℕ → Type 0) → List Slot → Type 0
+AreKnown Notes slots = All (IsKnown Notes) slots

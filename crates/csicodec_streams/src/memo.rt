@@ -1,13 +1,13 @@
-//! Short sequences that came before, and their normal forms: one that comes again is looked up, and not read again.
+//! Short sequences that came before, and what was noted of them: one that comes again is looked up, and not read again.
 ghost use Rattle.std.specs.Prelude.{◌≡◌, ◌+◌, ◌<◌, ◌≤◌, ◌++◌, ℕ, List, length, take};
-ghost use Rattle.csicodec_streams.specs.Decoding.{NormalisesTo};
-ghost use Rattle.csicodec_streams.specs.Known.{AreKnown, IsOne};
+ghost use Rattle.csicodec_streams.specs.Known.{AreKnown};
 
 use csicodec_base::TextBuffer;
 use std::alloc::Global;
+use std::marker::PhantomData;
 use std::simd::prelude::*;
 
-/// How many bytes a slot has for a sequence, and how many for its normal form.
+/// How many bytes a slot has for a sequence, and how many for its note.
 const WIDE: usize = 48;
 
 /// How many new sequences come before a table is made.
@@ -29,7 +29,23 @@ const WORTH: u8 = 4;
 /// A number without a pattern, by which a hash is multiplied.
 const SPREAD: u64 = 0x9e37_79b9_7f4a_7c15;
 
-/// Some bytes and their normal form; at first none, whose normal form is empty.
+/// What is noted of sequences: some bytes for each.
+pub trait Note {
+    /// Of the sequence of these bytes this is noted.
+    ghost notes: { List ℕ → List ℕ → Type 0 };
+}
+
+/// The note that is the normal form of a sequence.
+#[derive(Drop)]
+pub struct Normal;
+
+impl Note for Normal {
+    ghost use Rattle.csicodec_streams.specs.Known.{IsNormal};
+
+    ghost notes = { λ bytes text. IsNormal bytes text };
+}
+
+/// A sequence and its note; at first no bytes.
 #[derive(Clone, Copy)]
 pub(crate) struct Slot {
     bytes: [u8; 48],
@@ -38,13 +54,13 @@ pub(crate) struct Slot {
     text_len: u8,
 }
 
-/// A table of control sequences whose normal forms are known. It takes no memory at first, and grows while much of what comes is
-/// new; without memory it stays as it is. Each sequence may stand in one of two slots, which are neighbours.
+/// A table of control sequences that came before, each with its note. It takes no memory at first, and grows while much of what
+/// comes is new; without memory it stays as it is. Each sequence may stand in one of two slots, which are neighbours.
 ///
 /// A caller asks for the [`place`](Memo::place) of what stands in front, then whether it is known there
-/// ([`recall`](Memo::recall)), and if not, tells its normal form once that was found ([`keep`](Memo::keep)).
+/// ([`recall`](Memo::recall)), and if not, tells its note once that was found ([`keep`](Memo::keep)).
 #[derive(Drop)]
-pub struct Memo {
+pub struct Memo<N> {
     slots: Vec<Slot>,
     /// How often others have to want each slot before one has it.
     worth: Vec<u8>,
@@ -54,12 +70,13 @@ pub struct Memo {
     missed: u32,
     /// How many are passed over before one is looked for.
     passed: u32,
+    of: PhantomData<N>,
 }
 
-impl Memo {
+impl<N: Note> Memo<N> {
     /// With nothing known.
-    pub fn new(alloc: Global) -> Memo
-        ensures { AreKnown result.slots.items }
+    pub fn new(alloc: Global) -> Memo<N>
+        ensures { AreKnown N.notes result.slots.items }
     {
         Memo {
             slots: Vec::new(alloc),
@@ -67,14 +84,15 @@ impl Memo {
             spare: FIRST,
             missed: 0,
             passed: 0,
+            of: PhantomData,
         }
     }
 
     /// Where the sequence in front of the bytes would be. Beyond the table where it isn't short, or isn't to be looked for.
     #[inline(always)]
     pub fn place(&mut self, bytes: &[u8]) -> usize
-        requires { AreKnown self.old.slots.items }
-        ensures { AreKnown self.new.slots.items }
+        requires { AreKnown N.notes self.old.slots.items }
+        ensures { AreKnown N.notes self.new.slots.items }
     {
         if self.passed > 0 {
             self.passed -= 1;
@@ -86,14 +104,14 @@ impl Memo {
         }
     }
 
-    /// Appends the normal form of some bytes in front, if it is known, and answers how many they are.
+    /// Appends the note of the sequence in front, if it is known, and answers how many bytes that has; 0 where it isn't.
     #[inline(always)]
     pub fn recall(&mut self, place: usize, bytes: &[u8], out: &mut TextBuffer) -> usize
-        requires { AreKnown self.old.slots.items }
+        requires { AreKnown N.notes self.old.slots.items }
         ensures within { result ≤ length bytes.now }
-        ensures text { (text : List ℕ) × NormalisesTo (take result bytes.now) text × (out.new ≡ out.old ++ text) }
-        ensures one { 0 < result → IsOne (take result bytes.now) }
-        ensures known { AreKnown self.new.slots.items }
+        ensures noted { 0 < result → (text : List ℕ) × N.notes (take result bytes.now) text × (out.new ≡ out.old ++ text) }
+        ensures none { result ≡ 0 → out.new ≡ out.old }
+        ensures known { AreKnown N.notes self.new.slots.items }
     {
         let first = self.told(place, bytes, out);
         if first > 0 {
@@ -111,8 +129,8 @@ impl Memo {
     /// Notes that a sequence came again.
     #[inline(always)]
     fn hit(&mut self, place: usize)
-        requires { AreKnown self.old.slots.items }
-        ensures { AreKnown self.new.slots.items }
+        requires { AreKnown N.notes self.old.slots.items }
+        ensures { AreKnown N.notes self.new.slots.items }
     {
         self.missed /= 2;
         if let Some(worth) = self.worth.get_mut(place) {
@@ -123,10 +141,9 @@ impl Memo {
     /// The same of one slot.
     #[inline(always)]
     fn told(&self, place: usize, bytes: &[u8], out: &mut TextBuffer) -> usize
-        requires known { AreKnown self.now.slots.items }
+        requires known { AreKnown N.notes self.now.slots.items }
         ensures within { result ≤ length bytes.now }
-        ensures text { (text : List ℕ) × NormalisesTo (take result bytes.now) text × (out.new ≡ out.old ++ text) }
-        ensures one { 0 < result → IsOne (take result bytes.now) }
+        ensures noted { 0 < result → (text : List ℕ) × N.notes (take result bytes.now) text × (out.new ≡ out.old ++ text) }
         ensures none { result ≡ 0 → out.new ≡ out.old }
     {
         if place >= self.slots.len() || bytes.len() < WIDE {
@@ -143,13 +160,12 @@ impl Memo {
         }
     }
 
-    /// Keeps the first bytes and their normal form, unless one of them is long, or they were not looked for.
+    /// Keeps the sequence in front, of so many bytes, and its note, unless one of them is long, or it was not looked for.
     #[inline(always)]
     pub fn keep(&mut self, place: usize, bytes: &[u8], len: usize, text: &[u8])
-        requires known { AreKnown self.old.slots.items }
-        requires normal { NormalisesTo (take len bytes.now) text.now }
-        requires one { IsOne (take len bytes.now) }
-        ensures { AreKnown self.new.slots.items }
+        requires known { AreKnown N.notes self.old.slots.items }
+        requires noted { N.notes (take len bytes.now) text.now }
+        ensures { AreKnown N.notes self.new.slots.items }
     {
         if place < MOST {
             self.put(place, bytes, len, text);
@@ -159,10 +175,9 @@ impl Memo {
     /// Keeps them where one of the two slots is free.
     #[inline(never)]
     fn put(&mut self, place: usize, bytes: &[u8], len: usize, text: &[u8])
-        requires known { AreKnown self.old.slots.items }
-        requires normal { NormalisesTo (take len bytes.now) text.now }
-        requires one { IsOne (take len bytes.now) }
-        ensures { AreKnown self.new.slots.items }
+        requires known { AreKnown N.notes self.old.slots.items }
+        requires noted { N.notes (take len bytes.now) text.now }
+        ensures { AreKnown N.notes self.new.slots.items }
     {
         if self.spare == 0 {
             return self.grow();
@@ -186,8 +201,8 @@ impl Memo {
 
     /// Notes that a sequence is new.
     fn miss(&mut self)
-        requires { AreKnown self.old.slots.items }
-        ensures { AreKnown self.new.slots.items }
+        requires { AreKnown N.notes self.old.slots.items }
+        ensures { AreKnown N.notes self.new.slots.items }
     {
         self.spare = self.spare.saturating_sub(1);
         if self.missed < PATIENCE {
@@ -199,8 +214,8 @@ impl Memo {
 
     /// The one of two slots that another sequence has from now on. Beyond the table where both are worth more.
     fn free(&mut self, place: usize) -> usize
-        requires { AreKnown self.old.slots.items }
-        ensures { AreKnown self.new.slots.items }
+        requires { AreKnown N.notes self.old.slots.items }
+        ensures { AreKnown N.notes self.new.slots.items }
     {
         if self.is_free(place) {
             return place;
@@ -213,8 +228,8 @@ impl Memo {
 
     /// Whether another sequence has the slot from now on. If not, the slot is worth less.
     fn is_free(&mut self, place: usize) -> bool
-        requires { AreKnown self.old.slots.items }
-        ensures { AreKnown self.new.slots.items }
+        requires { AreKnown N.notes self.old.slots.items }
+        ensures { AreKnown N.notes self.new.slots.items }
     {
         match self.worth.get_mut(place) {
             Some(worth) => {
@@ -230,8 +245,8 @@ impl Memo {
     #[cold]
     #[inline(never)]
     fn grow(&mut self)
-        requires { AreKnown self.old.slots.items }
-        ensures { AreKnown self.new.slots.items }
+        requires { AreKnown N.notes self.old.slots.items }
+        ensures { AreKnown N.notes self.new.slots.items }
     {
         self.spare = usize::MAX;
         let len = self.slots.len();

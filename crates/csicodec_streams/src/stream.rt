@@ -4,7 +4,7 @@ ghost use Rattle.std.specs.Io.KnownBytes.{Appends, Consumes, IsAtEnd};
 ghost use Rattle.csicodec_streams.specs.declared.error.DecodeError.TheVariants.{Memory};
 ghost use Rattle.csicodec_actions.specs.Actions.{Action};
 ghost use Rattle.csicodec_streams.specs.Decoding.{Decodes};
-ghost use Rattle.csicodec_streams.specs.Known.{AreKnown};
+ghost use Rattle.csicodec_streams.specs.Known.{AreKnown, IsNormal};
 ghost use Rattle.csicodec_streams.specs.Private.Steps.{DecodesFront, StopsAt, stays};
 ghost use Rattle.csicodec_streams.specs.Refusals.{RefusesDecode, RefusesRun};
 ghost use Rattle.csicodec_actions.specs.Table.{text, texts};
@@ -12,7 +12,7 @@ ghost use Rattle.csicodec_actions.specs.Table.{text, texts};
 use crate::decode::{Behind, refusal_at};
 use crate::error::{DecodeError, RunError};
 use crate::io::{CHUNK, MOST, keep_from, read_out, read_some, write_out};
-use crate::memo::Memo;
+use crate::memo::{Memo, Normal};
 use csicodec_base::{CsiParam, ReadError, read_csi_into};
 use csicodec_parser::{Texts, Tokens, list_into};
 use std::alloc::{AllocError, Global};
@@ -23,18 +23,18 @@ use std::io::{Read, Write};
 fn texts_into<'a>(
     alloc: Global,
     params: &mut Vec<CsiParam>,
-    memo: &mut Memo,
+    memo: &mut Memo<Normal>,
     bytes: &'a [u8],
     sink: &mut Texts,
 ) -> Result<Behind<'a>, AllocError>
-    requires known { AreKnown memo.old.slots.items }
+    requires known { AreKnown IsNormal memo.old.slots.items }
     requires texts { (before : List Action) × (sink.old.bytes ≡ texts before) }
     ensures front { IfOk result (λ behind. (actions : List Action) × DecodesFront bytes.now false behind.rest.now actions
         × ((before : List Action) → sink.old.bytes ≡ texts before → sink.new.bytes ≡ texts (before ++ actions))) }
     ensures behind { IfOk result (λ behind. StopsAt behind.rest.now behind.error) }
     ensures within { IfOk result (λ behind. length behind.rest.now ≤ length bytes.now) }
     ensures err { OnErr result (RefusesDecode bytes.now false Memory) }
-    ensures known { AreKnown memo.new.slots.items }
+    ensures known { AreKnown IsNormal memo.new.slots.items }
 {
     let mut rest = bytes;
     while !rest.is_empty() {
@@ -108,7 +108,7 @@ fn stream_into<R: Read>(
 {
     let mut held = read;
     let mut params = Vec::new(alloc);
-    let mut memo = Memo::new(alloc);
+    let mut memo: Memo<Normal> = Memo::new(alloc);
     let mut chunk = [0u8; CHUNK];
     let (mut start, mut enough) = (0usize, CHUNK);
     'chunks: while start.saturating_add(held.len()) <= MOST {

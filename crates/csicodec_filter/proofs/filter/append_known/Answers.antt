@@ -9,7 +9,7 @@ use Rattle.csicodec_filter.proofs.filter.append_known.Goals as goal
 
 pub split_at-requires : goal.split_at-requires
 split_at-requires g c =
-    let (one, short, within, wanted) = c.in_ok-len.ensures.one c.if-len-gt0.true in
+    let (short, within, wanted) = c.in_ok-len.ensures.short c.if-len-gt0.true in
     within
 
 pub loop-len-preserved-then-len-gt0 : goal.loop-len-preserved-then-len-gt0
@@ -19,8 +19,8 @@ loop-len-preserved-then-len-gt0 g c =
     let (parts, text, first, written, out) = c.loop-len.invariant.passed in
     let rest = c.loop-len.rest.now in
     let len = c.in_ok-len.len in
-    let (more, normal, longer) = c.in_ok-len.ensures.text c.if-len-gt0.true in
-    let (one, short, within, wanted) = c.in_ok-len.ensures.one c.if-len-gt0.true in
+    let (more, (normal, one), longer) = c.in_ok-len.ensures.text c.if-len-gt0.true in
+    let (short, within, wanted) = c.in_ok-len.ensures.short c.if-len-gt0.true in
     let writes = (c.writes_normal_forms-normal.ensures wanted (take len rest) more).0 normal in
     let (next, made) = passed_one First c.args.limit c.args.mode c.loop-len.mode c.args.bytes.now rest text more parts len first written one short within writes in
     rw c.split_at.ensures.back (record {

@@ -1,6 +1,6 @@
 use Rattle.std.proofs.Common.{◌≡◌, ℕ, List, ◌++◌, length}
 use Rattle.csicodec_spans.specs.Parts.{Part, AreFirstParts}
-use Rattle.csicodec_streams.specs.Known.{AreKnown}
+use Rattle.csicodec_streams.specs.Known.{AreKnown, IsNormal}
 use Rattle.csicodec_filter.specs.Filter.{AreWritten}
 use Rattle.csicodec_filter.proofs.filter.append_known.Given as goal
 
@@ -11,7 +11,7 @@ invariant-loop-len g l = record {
   passed : (parts : List Part) × (text : List ℕ) × AreFirstParts l.limit l.fn.mode l.bytes parts l.rest l.mode
       × AreWritten (g.T.Rewrite.writes l.initial.rewrite) parts text × (l.out.items ≡ l.initial.out.items ++ text);
   same : (bytes text : List ℕ) → g.T.Rewrite.writes l.rewrite bytes text → g.T.Rewrite.writes l.initial.rewrite bytes text;
-  known : AreKnown l.known.memo.slots.items;
+  known : AreKnown IsNormal l.known.memo.slots.items;
 }
 
 abbrev pub decreases-loop-len : goal.decreases-loop-len

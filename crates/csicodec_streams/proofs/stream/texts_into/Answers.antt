@@ -1,6 +1,6 @@
-use Rattle.std.proofs.Common.{◌≡◌, ℕ, false, [], ◌++◌, List, length, refl, sym, ap, subst, ◌∙◌, append_assoc, append-nil, arith}
+use Rattle.std.proofs.Common.{ℕ, false, [], ◌++◌, List, length, refl, sym, ap, subst, ◌∙◌, append_assoc, append-nil, arith}
 use Rattle.csicodec_actions.specs.Table.{texts}
-use Rattle.csicodec_streams.proofs.Known.{read_known, read_one, slice_from, split_known, split_none_known, texts_behind, texts_longer, texts_more}
+use Rattle.csicodec_streams.proofs.Known.{read_known, read_one, slice_from, split_known, texts_behind, texts_longer, texts_more}
 use Rattle.csicodec_streams.proofs.Splits.{IsSplit, split_none, split_more, begins}
 use Rattle.csicodec_streams.proofs.Streamed.{errs, front_of}
 use Rattle.csicodec_streams.proofs.stream.texts_into.Goals as goal
@@ -11,7 +11,8 @@ loop-alloc-init c = ([], split_none c.args.bytes.now false, λ before h. h ∙ a
 pub loop-alloc-preserved-then-known-gt0 : goal.loop-alloc-preserved-then-known-gt0
 loop-alloc-preserved-then-known-gt0 c =
     let (told, split, held, known) = c.loop-alloc.invariant in
-    let (text, (ys, decodes, is), out) = c.recall-known.ensures.text in
+    let (text, normal, out) = c.recall-known.ensures.noted c.if-known-gt0.true in
+    let (ys, decodes, is) = normal.0 in
     let bytes = c.args.bytes.now in
     let rest = c.loop-alloc.rest.now in
     let len = c.recall-known.result in (
@@ -30,55 +31,51 @@ returns-in_err-list_into-in-Ok-clause-err c =
 pub split_at-requires : goal.split_at-requires
 split_at-requires c =
     let (told, split, held, known) = c.loop-alloc.invariant in
-    let (text, (none, decodes, is), out) = c.recall-known.ensures.text in
+    let same = c.recall-known.ensures.none (omega (arith, c.if-known-gt0.false)) in
     let (before, h) = c.requires.texts in
-    let xs = before ++ (told ++ none) in
+    let xs = before ++ told in
     let (ys, are, put) = c.in_ok-list_into-in-Ok.ensures.taken in
-    let mid = texts_more before told none _ _ text (held before h) out is in
+    let mid = same ∙ held before h in
     texts_longer xs ys c.as_slice-before.result.now c.as_slice.result.now (c.as_slice-before.ensures ∙ mid) (c.as_slice.ensures ∙ put xs mid)
 
-pub keep-requires-clause-normal : goal.keep-requires-clause-normal
-keep-requires-clause-normal c =
+pub keep-requires-clause-noted : goal.keep-requires-clause-noted
+keep-requires-clause-noted c =
     let (told, split, held, known) = c.loop-alloc.invariant in
-    let (text, (none, decodes, is), out) = c.recall-known.ensures.text in
+    let same = c.recall-known.ensures.none (omega (arith, c.if-known-gt0.false)) in
     let (before, h) = c.requires.texts in
     let tail = c.in-Ok.tail in
-    let xs = before ++ (told ++ none) in
+    let xs = before ++ told in
     let (ys, are, put) = rw (c.new-tokens.ensures, c.deref.ensures.value) at c.in_ok-list_into-in-Ok.ensures.taken in
-    let mid = texts_more before told none _ _ text (held before h) out is in
+    let mid = same ∙ held before h in
     let old = c.as_slice-before.result.now in
     let new = c.as_slice.result.now in (
-      ys,
-      read_known c.loop-alloc.rest.now tail.rest.now _ tail.control ys _ c.in-Ok.ensures.found are refl,
-      c.split_at.ensures.back ∙ texts_behind xs ys old new (length old) (c.as_slice-before.ensures ∙ mid) (c.as_slice.ensures ∙ put xs mid) refl,
+      (
+        ys,
+        read_known c.loop-alloc.rest.now tail.rest.now _ tail.control ys _ c.in-Ok.ensures.found are refl,
+        c.split_at.ensures.back ∙ texts_behind xs ys old new (length old) (c.as_slice-before.ensures ∙ mid) (c.as_slice.ensures ∙ put xs mid) refl,
+      ),
+      read_one c.loop-alloc.rest.now tail.rest.now _ tail.control _ c.in-Ok.ensures.found refl,
     )
-
-pub keep-requires-clause-one : goal.keep-requires-clause-one
-keep-requires-clause-one c =
-    let tail = c.in-Ok.tail in
-    read_one c.loop-alloc.rest.now tail.rest.now _ tail.control _ c.in-Ok.ensures.found refl
 
 pub loop-alloc-preserved : goal.loop-alloc-preserved
 loop-alloc-preserved c =
     let (told, split, held, known) = c.loop-alloc.invariant in
-    let (text, (none, decodes, is), out) = c.recall-known.ensures.text in
+    let same = c.recall-known.ensures.none (omega (arith, c.if-known-gt0.false)) in
     let tail = c.in-Ok.tail in
     let bytes = c.args.bytes.now in
     let rest = c.loop-alloc.rest.now in
-    let (ys, are, put) = rw (c.new-tokens.ensures, c.deref.ensures.value) at c.in_ok-list_into-in-Ok.ensures.taken in
-    let passed : c.recall-known.result ≡ 0 = omega (arith, c.if-known-gt0.false) in (
-      (told ++ none) ++ ys,
-      split_more bytes rest tail.rest.now false (told ++ none) ys _ tail.control (split_none_known bytes rest c.recall-known.result told none passed split decodes) c.in-Ok.ensures.found are,
-      λ before h. rw (← append_assoc) (put (before ++ (told ++ none)) (texts_more before told none _ _ text (held before h) out is)),
+    let (ys, are, put) = rw (c.new-tokens.ensures, c.deref.ensures.value) at c.in_ok-list_into-in-Ok.ensures.taken in (
+      told ++ ys,
+      split_more bytes rest tail.rest.now false told ys _ tail.control split c.in-Ok.ensures.found are,
+      λ before h. rw (← append_assoc) (put (before ++ told) (same ∙ held before h)),
       c.keep.ensures,
     )
 
 pub returns-in-Err-clause-front : goal.returns-in-Err-clause-front
 returns-in-Err-clause-front c =
     let (told, split, held, known) = c.loop-alloc.invariant in
-    let (text, (none, decodes, is), out) = c.recall-known.ensures.text in
-    let passed : c.recall-known.result ≡ 0 = omega (arith, c.if-known-gt0.false) in (
-      told ++ none,
-      front_of c.args.bytes.now false c.loop-alloc.rest.now (told ++ none) (split_none_known c.args.bytes.now c.loop-alloc.rest.now c.recall-known.result told none passed split decodes),
-      λ before h. texts_more before told none _ _ text (held before h) out is,
+    let same = c.recall-known.ensures.none (omega (arith, c.if-known-gt0.false)) in (
+      told,
+      front_of c.args.bytes.now false c.loop-alloc.rest.now told split,
+      λ before h. same ∙ held before h,
     )

@@ -1,7 +1,9 @@
 -- Runs of parts, one after the other.
-use Rattle.std.proofs.Common.{◌≡◌, ◌≢◌, ◌≤◌, ℕ, Bool, true, false, Option, None, Some, IfSome, List, [], ◌∷◌, ◌++◌, MatchOption, inl, inr, length, refl, sym, ap, subst, ◌∙◌, append_assoc, append-nil, arith}
+use Rattle.std.proofs.Common.{◌≡◌, ◌≢◌, ◌≤◌, ◌+◌, ◌-◌, ℕ, Bool, true, false, not, Option, None, Some, IfSome, List, [], ◌∷◌, ◌++◌, MatchOption, inl, inr, length, take, drop, refl, sym, ap, subst, ◌∙◌, append_assoc, append-nil, arith}
+use Rattle.std.specs.Prelude.{◌&&◌, slice_get}
 use Rattle.std.proofs.lemmas.Bool.{cases_Bool, true≢false}
 use Rattle.std.proofs.lemmas.Grind.{flat_map-append}
+use Rattle.std.proofs.Math.Seq.{take-append_seam}
 use Rattle.std.proofs.lemmas.List.{length-append}
 use Rattle.std.specs.List.{AllByRecursion, flat_map}
 use Rattle.csicodec_tokens.specs.declared.param.CsiParam.{CsiParam}
@@ -10,18 +12,24 @@ use Rattle.csicodec_tokens.proofs.Unique.{one_seq}
 use Rattle.csicodec_parser.specs.Private.Steps.{actions}
 use Rattle.csicodec_parser.proofs.Cuts.{actions_are}
 use Rattle.csicodec_streams.specs.Decoding.{Decodes}
-use Rattle.csicodec_streams.proofs.OneReading.{decodes-append, one_sequence}
+use Rattle.csicodec_actions.specs.Actions.{Action}
+use Rattle.csicodec_streams.specs.Known.{IsOne}
+use Rattle.csicodec_streams.proofs.OneReading.{decodes-append, one_decoding, one_sequence}
 use Rattle.csicodec_spans.specs.declared.table.Kind.{Kind}
 use Rattle.csicodec_spans.specs.declared.table.Kind.TheVariants as kind
 use Rattle.csicodec_spans.specs.declared.table.Mode.{Mode}
 use Rattle.csicodec_spans.specs.declared.table.Mode.TheVariants as mode
-use Rattle.csicodec_spans.specs.Parts.{Part, part, bytes_of, left_over, AreAll, AreFirstParts, IsSpan, IsUnsure, Cuts}
+use Rattle.csicodec_spans.specs.Parts.{Part, part, bytes_of, left_over, AreAll, AreFirstParts, IsSpan, IsUnsure}
 use Rattle.csicodec_spans.proofs.OneSpan.{none_unsure}
 use Rattle.csicodec_spans.proofs.Kept.{parts_more, parts_on}
 use Rattle.csicodec_filter.specs.Faithful.{stays}
+use Rattle.csicodec_filter.proofs.Filtered.{one_first}
 use Rattle.csicodec_compact.specs.Compacts.{Compacts, ReadsAlike}
 use Rattle.csicodec_compact.specs.Runs.{IsStaying, NoneStays, Shortens, AreRuns, IsShortened, PassesShort, CompactsAll}
-use Rattle.csicodec_compact.specs.Private.Steps.{IsHeld, Follows, GoesOn}
+use Rattle.csicodec_compact.specs.declared.form.Form.{Form}
+use Rattle.csicodec_compact.specs.declared.form.Form.TheVariants as forms
+use Rattle.csicodec_compact.specs.Private.Steps.{form_of, closing, is_semicolon, joint, behind, is_joined, may_join, opened, list_of, IsTail, IsListed, IsOwn, IsNotedList, IsNoted, IsNote, GoesOnFrom, IsHeld, Follows, GoesOn}
+use Rattle.csicodec_compact.proofs.JoinedLists.{tail_joined, tail_decodes, joint_short}
 
 -- ---- runs
 
@@ -116,65 +124,196 @@ joined_short run more held own joined h k free others short alike =
       kept = inl (all_on (λ (p : Part). ¬ IsStaying p.bytes) run more free others);
     }
 
--- ---- what follows a run
+-- ---- what is held
 
-pub none_held : (joins : Bool) → IsHeld [] [] joins
-none_held joins = record {
-  shorter = record { all = tt; actions = []; came = record { sequences = []; join = refl; each = refl }; written = record { sequences = []; join = refl; each = refl }; short = omega arith; kept = inl tt };
-  free = λ _. tt;
-}
+-- nothing
+pub none_held : IsHeld [] [] forms.Whole
+none_held = record { front = []; left = []; text = []; tail = []; parts = refl; whole = refl; written = shortened_none; end = (refl, refl) }
 
--- the sequence is joined to what is held
-pub follows_joined : (run : List Part) (bytes held own joined : List ℕ) (list : List CsiParam) (final : ℕ) → IsHeld run held true → Seq bytes list final → stays list final ≡ false → Compacts bytes own
-    → length joined ≤ length (held ++ own) → ReadsAlike (held ++ own) joined → Follows run (part kind.Csi bytes ∷ []) [] joined true
-follows_joined run bytes held own joined list final h s free made short alike =
-    let none : NoneStays run = h.free refl in
-    let others : NoneStays (part kind.Csi bytes ∷ []) = (free_by bytes list final s free, tt) in
+-- nothing goes on
+held_whole : (run : List Part) (held : List ℕ) → IsShortened run held → IsHeld run held forms.Whole
+held_whole run held h = record { front = run; left = []; text = held; tail = []; parts = sym (append-nil run); whole = sym (append-nil held); written = h; end = (refl, refl) }
+
+module _ (run front left : List Part) (held text list : List ℕ) (xs : List Action) (parts : run ≡ front ++ left) (whole : held ≡ text ++ 27 ∷ 91 ∷ list) (written : IsShortened front text) where
+  goes_from : (form : Form) → IsTail form list xs → Shortens left (27 ∷ 91 ∷ (list ++ closing form)) → NoneStays left → GoesOnFrom form left (27 ∷ 91 ∷ list)
+  goes_from form tail short free = record { list = list; actions = xs; whole = refl; tail = tail; shorter = short; free = free }
+
+  held_last : Shortens left (27 ∷ 91 ∷ (list ++ [])) → IsHeld run held forms.Last
+  held_last short =
+      let all : IsShortened (front ++ left) (text ++ 27 ∷ 91 ∷ (list ++ [])) = shortened_on front left text (27 ∷ 91 ∷ (list ++ [])) written (shortened_run left (27 ∷ 91 ∷ (list ++ [])) short) in
+      let same : text ++ 27 ∷ 91 ∷ (list ++ []) ≡ held = ap (λ (l : List ℕ). text ++ 27 ∷ 91 ∷ l) (append-nil list) ∙ sym whole in
+      record {
+        front = run;
+        left = [];
+        text = held;
+        tail = [];
+        parts = sym (append-nil run);
+        whole = sym (append-nil held);
+        written = subst (λ (l : List ℕ). IsShortened run l) same (subst (λ (ps : List Part). IsShortened ps (text ++ 27 ∷ 91 ∷ (list ++ []))) (sym parts) all);
+        end = (refl, refl);
+      }
+
+  -- a list that is held behind others
+  held_list : (form : Form) → IsTail form list xs → Shortens left (27 ∷ 91 ∷ (list ++ closing form)) → NoneStays left → IsHeld run held form
+  held_list forms.Whole tail short free = absurd tail
+  held_list forms.Last tail short free = held_last short
+  held_list forms.Open tail short free = record { front = front; left = left; text = text; tail = 27 ∷ 91 ∷ list; parts = parts; whole = whole; written = written; end = goes_from forms.Open tail short free }
+  held_list forms.Blank tail short free = record { front = front; left = left; text = text; tail = 27 ∷ 91 ∷ list; parts = parts; whole = whole; written = written; end = goes_from forms.Blank tail short free }
+  held_list forms.Bare tail short free = record { front = front; left = left; text = text; tail = 27 ∷ 91 ∷ list; parts = parts; whole = whole; written = written; end = goes_from forms.Bare tail short free }
+
+closed_whole : (run : List Part) (held : List ℕ) (form : Form) → (h : IsHeld run held form) → (h.left ≡ []) × (h.tail ≡ []) → closing form ≡ [] → IsShortened run (held ++ closing form)
+closed_whole run held form h none empty =
+    let ps : h.front ≡ run = sym (append-nil h.front) ∙ ap (λ (l : List Part). h.front ++ l) (sym none.0) ∙ sym h.parts in
+    let text : h.text ≡ held ++ closing form =
+    sym (append-nil h.text) ∙ ap (λ (l : List ℕ). h.text ++ l) (sym none.1) ∙ sym h.whole ∙ sym (append-nil held) ∙ ap (λ (l : List ℕ). held ++ l) (sym empty) in
+    subst (λ (l : List ℕ). IsShortened run l) text (subst (λ (l : List Part). IsShortened l h.text) ps h.written)
+
+closed_list : (run : List Part) (held : List ℕ) (form : Form) → (h : IsHeld run held form) → GoesOnFrom form h.left h.tail → IsShortened run (held ++ closing form)
+closed_list run held form h g =
+    let shut = 27 ∷ 91 ∷ (g.list ++ closing form) in
+    let all : IsShortened (h.front ++ h.left) (h.text ++ shut) = shortened_on h.front h.left h.text shut h.written (shortened_run h.left shut g.shorter) in
+    let text : h.text ++ shut ≡ held ++ closing form =
+    sym (append_assoc h.text (27 ∷ 91 ∷ g.list) (closing form)) ∙ ap (λ (l : List ℕ). (h.text ++ l) ++ closing form) (sym g.whole) ∙ ap (λ (l : List ℕ). l ++ closing form) (sym h.whole) in
+    subst (λ (l : List ℕ). IsShortened run l) text (subst (λ (l : List Part). IsShortened l (h.text ++ shut)) (sym h.parts) all)
+
+-- what is held, closed
+pub closed : (run : List Part) (held : List ℕ) (form : Form) → IsHeld run held form → IsShortened run (held ++ closing form)
+closed run held forms.Whole h = closed_whole run held forms.Whole h h.end refl
+closed run held forms.Last h = closed_whole run held forms.Last h h.end refl
+closed run held forms.Open h = closed_list run held forms.Open h h.end
+closed run held forms.Blank h = closed_list run held forms.Blank h h.end
+closed run held forms.Bare h = closed_list run held forms.Bare h h.end
+
+one_of : (bytes own : List ℕ) → IsOne bytes → Compacts bytes own → Shortens (part kind.Csi bytes ∷ []) own
+one_of bytes own one h = one_short bytes own one.0 one.1 one.2 h
+
+module _ (run : List Part) (bytes held text : List ℕ) (st : Form) (h : IsHeld run held st) (one : IsOne bytes) where
+  -- a list begins behind it
+  begun_list : (form : Form) → (n : IsNotedList form bytes text) → IsHeld (run ++ part kind.Csi bytes ∷ []) ((held ++ closing st) ++ 27 ∷ 91 ∷ drop 1 text) form
+  begun_list form n =
+      let same : 27 ∷ 91 ∷ drop 1 text ≡ 27 ∷ 91 ∷ n.list = ap (λ (l : List ℕ). 27 ∷ 91 ∷ drop 1 l) n.whole in
+      held_list (run ++ part kind.Csi bytes ∷ []) run (part kind.Csi bytes ∷ []) ((held ++ closing st) ++ 27 ∷ 91 ∷ drop 1 text) (held ++ closing st) n.list n.actions refl
+      (ap (λ (l : List ℕ). (held ++ closing st) ++ l) same) (closed run held st h) form n.tail (one_of bytes (27 ∷ 91 ∷ (n.list ++ closing form)) one n.compacts) (n.free, tt)
+
+  -- a sequence that stands by itself
+  pub begun : (form : Form) → IsNoted form bytes text → IsHeld (run ++ part kind.Csi bytes ∷ []) ((held ++ closing st) ++ opened form text) form
+  begun forms.Whole n =
+      held_whole (run ++ part kind.Csi bytes ∷ []) ((held ++ closing st) ++ text)
+      (shortened_on run (part kind.Csi bytes ∷ []) (held ++ closing st) text (closed run held st h) (shortened_run (part kind.Csi bytes ∷ []) text (one_of bytes text one n)))
+  begun forms.Last n = begun_list forms.Last n
+  begun forms.Open n = begun_list forms.Open n
+  begun forms.Blank n = begun_list forms.Blank n
+  begun forms.Bare n = begun_list forms.Bare n
+
+  -- a list in the same sequence
+  list_joined : (form : Form) → (n : IsNotedList form bytes text) → GoesOnFrom st h.left h.tail → may_join st form text ≡ true
+      → IsHeld (run ++ part kind.Csi bytes ∷ []) (held ++ joint st form text) (behind st form)
+  list_joined form n g may =
+      let p = part kind.Csi bytes ∷ [] in
+      let may' : may_join st form (59 ∷ n.list) ≡ true = subst (λ (l : List ℕ). may_join st form l ≡ true) n.whole may in
+      let list = g.list ++ joint st form (59 ∷ n.list) in
+      let first = 27 ∷ 91 ∷ (g.list ++ closing st) in
+      let second = 27 ∷ 91 ∷ (n.list ++ closing form) in
+      let all = 27 ∷ 91 ∷ (list ++ closing (behind st form)) in
+      let tail : IsTail (behind st form) list (g.actions ++ n.actions) = tail_joined st form g.list n.list g.actions n.actions g.tail n.tail may' in
+      let apart : Decodes (first ++ second) false (g.actions ++ n.actions) =
+      decodes-append first second false g.actions n.actions (tail_decodes st g.list g.actions g.tail) (tail_decodes form n.list n.actions n.tail) in
+      let alike : ReadsAlike (first ++ second) all =
+      λ actions d. subst (Decodes all false) (one_decoding (first ++ second) false (g.actions ++ n.actions) actions apart d) (tail_decodes (behind st form) list (g.actions ++ n.actions) tail) in
+      let short = joined_short h.left p first second all g.shorter (one_of bytes second one n.compacts) g.free (n.free, tt) (joint_short st form g.list n.list may') alike in
+      let text' : held ++ joint st form text ≡ h.text ++ 27 ∷ 91 ∷ list =
+      ap (λ (l : List ℕ). held ++ joint st form l) n.whole ∙ ap (λ (l : List ℕ). l ++ joint st form (59 ∷ n.list)) (h.whole ∙ ap (λ (l : List ℕ). h.text ++ l) g.whole) ∙ append_assoc h.text (27 ∷ 91 ∷ g.list) (joint st form (59 ∷ n.list)) in
+      held_list (run ++ p) h.front (h.left ++ p) (held ++ joint st form text) h.text list (g.actions ++ n.actions) (ap (λ (l : List Part). l ++ p) h.parts ∙ append_assoc h.front h.left p) text' h.written
+      (behind st form) tail short (all_on (λ (q : Part). ¬ IsStaying q.bytes) h.left p g.free (n.free, tt))
+
+  joined_by : (form : Form) → IsNoted form bytes text → GoesOnFrom st h.left h.tail → may_join st form text ≡ true → (is_joined form ≡ false → may_join st form text ≡ false)
+      → IsHeld (run ++ part kind.Csi bytes ∷ []) (held ++ joint st form text) (behind st form)
+  joined_by forms.Whole n g may none = absurd (true≢false (sym may ∙ none refl))
+  joined_by forms.Last n g may none = list_joined forms.Last n g may
+  joined_by forms.Open n g may none = list_joined forms.Open n g may
+  joined_by forms.Blank n g may none = list_joined forms.Blank n g may
+  joined_by forms.Bare n g may none = list_joined forms.Bare n g may
+
+pub joined : (run : List Part) (bytes held text : List ℕ) (st form : Form) → IsHeld run held st → IsOne bytes → IsNoted form bytes text → may_join st form text ≡ true
+    → IsHeld (run ++ part kind.Csi bytes ∷ []) (held ++ joint st form text) (behind st form)
+joined run bytes held text forms.Whole form h one n may = absurd (true≢false (sym may))
+joined run bytes held text forms.Last form h one n may = absurd (true≢false (sym may))
+joined run bytes held text forms.Open form h one n may = joined_by run bytes held text forms.Open h one form n h.end may (λ e. e)
+joined run bytes held text forms.Blank form h one n may = joined_by run bytes held text forms.Blank h one form n h.end may (λ e. ap (λ (b : Bool). b && not (is_semicolon (slice_get text 1))) e)
+joined run bytes held text forms.Bare form h one n may = joined_by run bytes held text forms.Bare h one form n h.end may (λ e. ap (λ (b : Bool). b && not (is_semicolon (slice_get text 1))) e)
+
+-- what is noted of a sequence
+pub noted : (bytes text : List ℕ) (form : Form) → ¬ IsStaying bytes → Compacts bytes text → IsListed form text → IsNotedList form bytes (59 ∷ list_of form text)
+noted bytes text form free made h =
+    let long : length (h.bytes ++ closing form) - length (closing form) ≡ length h.bytes = omega (arith, length-append h.bytes (closing form)) in
+    let same : list_of form text ≡ h.bytes = ap (list_of form) h.whole ∙ ap (λ (n : ℕ). take n (h.bytes ++ closing form)) long ∙ take-append_seam h.bytes (closing form) in
     record {
-      done = [];
-      left = run ++ part kind.Csi bytes ∷ [];
-      whole = refl;
-      written = shortened_none;
-      still = record {
-        shorter = joined_short run (part kind.Csi bytes ∷ []) held own joined h.shorter (one_short bytes own list final s made) none others short alike;
-        free = λ _. all_on (λ (p : Part). ¬ IsStaying p.bytes) run (part kind.Csi bytes ∷ []) none others;
-      };
+      list = h.bytes;
+      actions = h.actions;
+      whole = ap (λ (l : List ℕ). 59 ∷ l) same;
+      tail = h.tail;
+      compacts = subst (Compacts bytes) h.whole made;
+      free = free;
     }
 
--- or held in its place
-pub follows_alone : (run : List Part) (bytes held own : List ℕ) (list : List CsiParam) (final : ℕ) (joins next : Bool) → IsHeld run held joins → Seq bytes list final → (next ≡ true → stays list final ≡ false) → Compacts bytes own
-    → Follows run (part kind.Csi bytes ∷ []) held own next
-follows_alone run bytes held own list final joins next h s free made = record {
-  done = run;
-  left = part kind.Csi bytes ∷ [];
-  whole = refl;
-  written = shortened_run run held h.shorter;
-  still = record {
-    shorter = one_short bytes own list final s made;
-    free = λ yes. (free_by bytes list final s (free yes), tt);
-  };
-}
+listed_long : (form : Form) (text : List ℕ) → IsListed form text → 2 + length (closing form) ≤ length text
+listed_long form text h = omega (arith, ap length h.whole, length-append h.bytes (closing form))
 
--- or something else comes
-pub follows_plain : (run parts : List Part) (k : Kind) (bytes held : List ℕ) (joins next : Bool) → IsHeld run held joins → k ≢ kind.Csi → IsSpan k bytes parts → Follows run parts (held ++ bytes) [] next
-follows_plain run parts k bytes held joins next h ne span = record {
+-- a text that is a list is long enough
+pub own_long : (form : Form) (text : List ℕ) → IsOwn form text → is_joined form ≡ true → 2 + length (closing form) ≤ length text
+own_long forms.Whole text own is = absurd (true≢false (sym is))
+own_long forms.Last text own is = listed_long forms.Last text own
+own_long forms.Open text own is = listed_long forms.Open text own
+own_long forms.Blank text own is = listed_long forms.Blank text own
+own_long forms.Bare text own is = listed_long forms.Bare text own
+
+pub note_of : (bytes text note : List ℕ) (form : Form) → IsOne bytes → Compacts bytes text → IsOwn form text → (is_joined form ≡ true → ¬ IsStaying bytes)
+    → (is_joined form ≡ false → (mark : ℕ) × (count : ℕ) × (form_of mark ≡ form) × (note ≡ mark ∷ count ∷ text))
+    → (is_joined form ≡ true → (mark : ℕ) × (count : ℕ) × (form_of mark ≡ form) × (note ≡ mark ∷ count ∷ 59 ∷ list_of form text)) → IsNote bytes note
+note_of bytes text note form one made own free whole list = by_form form own free whole list
+  where
+    by_list : (form : Form) → IsNoted form bytes (59 ∷ list_of form text) → (mark : ℕ) × (count : ℕ) × (form_of mark ≡ form) × (note ≡ mark ∷ count ∷ 59 ∷ list_of form text) → IsNote bytes note
+    by_list form n (mark, count, is, e) = (mark, count, 59 ∷ list_of form text, e, one, subst (λ (f : Form). IsNoted f bytes (59 ∷ list_of form text)) (sym is) n)
+
+    by_whole : (mark : ℕ) × (count : ℕ) × (form_of mark ≡ forms.Whole) × (note ≡ mark ∷ count ∷ text) → IsNote bytes note
+    by_whole (mark, count, is, e) = (mark, count, text, e, one, subst (λ (f : Form). IsNoted f bytes text) (sym is) made)
+
+    by_form : (form : Form) → IsOwn form text → (is_joined form ≡ true → ¬ IsStaying bytes)
+        → (is_joined form ≡ false → (mark : ℕ) × (count : ℕ) × (form_of mark ≡ form) × (note ≡ mark ∷ count ∷ text))
+        → (is_joined form ≡ true → (mark : ℕ) × (count : ℕ) × (form_of mark ≡ form) × (note ≡ mark ∷ count ∷ 59 ∷ list_of form text)) → IsNote bytes note
+    by_form forms.Whole own free whole list = by_whole (whole refl)
+    by_form forms.Last own free whole list = by_list forms.Last (noted bytes text forms.Last (free refl) made own) (list refl)
+    by_form forms.Open own free whole list = by_list forms.Open (noted bytes text forms.Open (free refl) made own) (list refl)
+    by_form forms.Blank own free whole list = by_list forms.Blank (noted bytes text forms.Blank (free refl) made own) (list refl)
+    by_form forms.Bare own free whole list = by_list forms.Bare (noted bytes text forms.Bare (free refl) made own) (list refl)
+
+pub note_long : (bytes note : List ℕ) → IsNote bytes note → 2 ≤ length note
+note_long bytes note n = omega (arith, ap length n.3)
+
+-- ---- a sequence more, or something else
+
+pub follows_one : (run : List Part) (bytes held : List ℕ) (form : Form) → IsHeld (run ++ part kind.Csi bytes ∷ []) held form → Follows run (part kind.Csi bytes ∷ []) [] held form
+follows_one run bytes held form h = record { done = []; left = run ++ part kind.Csi bytes ∷ []; whole = refl; written = shortened_none; still = h }
+
+pub follows_plain : (run parts : List Part) (k : Kind) (bytes held : List ℕ) (form : Form) → IsHeld run held form → k ≢ kind.Csi → IsSpan k bytes parts → Follows run parts ((held ++ closing form) ++ bytes) [] forms.Whole
+follows_plain run parts k bytes held form h ne span = record {
   done = run ++ parts;
   left = [];
   whole = sym (append-nil (run ++ parts));
-  written = shortened_on run parts held bytes (shortened_run run held h.shorter) (shortened_span k bytes parts ne span);
-  still = none_held next;
+  written = shortened_on run parts (held ++ closing form) bytes (closed run held form h) (shortened_span k bytes parts ne span);
+  still = none_held;
 }
 
 -- ---- a piece of a stream
 
-pub goes_none : (limit : ℕ) (m : Mode) (bytes : List ℕ) (joins : Bool) → GoesOn limit m bytes [] [] joins bytes m
-goes_none limit m bytes joins = record { done = []; left = []; first = (refl, refl); written = shortened_none; still = none_held joins }
+pub goes_none : (limit : ℕ) (m : Mode) (bytes : List ℕ) → GoesOn limit m bytes [] [] forms.Whole bytes m
+goes_none limit m bytes = record { done = []; left = []; first = (refl, refl); written = shortened_none; still = none_held }
 
-pub goes_span : (limit : ℕ) (m n a : Mode) (bytes text held rest behind span more later : List ℕ) (k : Kind) (joins after : Bool) → (g : GoesOn limit m bytes text held joins rest n) → (found : Cuts limit n rest k span behind a)
-    → Follows g.left found.parts more later after → GoesOn limit m bytes (text ++ more) later after behind a
-goes_span limit m n a bytes text held rest behind span more later k joins after g found f =
-    let first = parts_on limit (g.done ++ g.left) found.parts m bytes rest behind n a g.first found.first in
-    let whole : (g.done ++ g.left) ++ found.parts ≡ (g.done ++ f.done) ++ f.left = append_assoc g.done g.left found.parts ∙ ap (λ (x : List Part). g.done ++ x) f.whole ∙ sym (append_assoc g.done f.done f.left) in
+pub goes_parts : (limit : ℕ) (m n a : Mode) (bytes text held rest behind more later : List ℕ) (parts : List Part) (form after : Form) → (g : GoesOn limit m bytes text held form rest n) → AreFirstParts limit n rest parts behind a
+    → Follows g.left parts more later after → GoesOn limit m bytes (text ++ more) later after behind a
+goes_parts limit m n a bytes text held rest behind more later parts form after g found f =
+    let first = parts_on limit (g.done ++ g.left) parts m bytes rest behind n a g.first found in
+    let whole : (g.done ++ g.left) ++ parts ≡ (g.done ++ f.done) ++ f.left = append_assoc g.done g.left parts ∙ ap (λ (x : List Part). g.done ++ x) f.whole ∙ sym (append_assoc g.done f.done f.left) in
     record {
       done = g.done ++ f.done;
       left = f.left;
@@ -183,13 +322,20 @@ goes_span limit m n a bytes text held rest behind span more later k joins after 
       still = f.still;
     }
 
+-- a sequence that is known
+pub goes_one : (limit : ℕ) (m n : Mode) (bytes text held rest later : List ℕ) (len : ℕ) (form after : Form) → (g : GoesOn limit m bytes text held form rest n) → IsOne (take len rest) → len ≤ limit → len ≤ length rest
+    → IsHeld (g.left ++ part kind.Csi (take len rest) ∷ []) later after → GoesOn limit m bytes text later after (drop len rest) mode.Text
+goes_one limit m n bytes text held rest later len form after g one short within h =
+    subst (λ (t : List ℕ). GoesOn limit m bytes t later after (drop len rest) mode.Text) (append-nil text)
+    (goes_parts limit m n mode.Text bytes text held rest (drop len rest) [] later (part kind.Csi (take len rest) ∷ []) form after g (one_first limit n rest len one short within) (follows_one g.left (take len rest) later after h))
+
 -- the end of a piece: the run that is held is over
-pub goes_over : (limit : ℕ) (m a : Mode) (bytes text held rest : List ℕ) (joins : Bool) → GoesOn limit m bytes text held joins rest a → IsUnsure limit a rest → PassesShort limit m bytes (text ++ held) rest a
-goes_over limit m a bytes text held rest joins g unsure = record {
+pub goes_over : (limit : ℕ) (m a : Mode) (bytes text held rest : List ℕ) (form : Form) → GoesOn limit m bytes text held form rest a → IsUnsure limit a rest → PassesShort limit m bytes (text ++ (held ++ closing form)) rest a
+goes_over limit m a bytes text held rest form g unsure = record {
   parts = g.done ++ g.left;
   first = g.first;
   unsure = unsure;
-  shortened = shortened_on g.done g.left text held g.written (shortened_run g.left held g.still.shorter);
+  shortened = shortened_on g.done g.left text (held ++ closing form) g.written (closed g.left held form g.still);
 }
 
 -- a piece more

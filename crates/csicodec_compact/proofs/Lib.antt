@@ -1,4 +1,5 @@
 pub mod Told
 pub mod Joined
+pub mod JoinedLists
 pub mod Beside
 pub mod Running

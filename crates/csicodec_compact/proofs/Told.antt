@@ -1,11 +1,10 @@
 -- Equal normal forms are those of equal actions, where none of these is special.
-use Rattle.std.proofs.Common.{ℕ, ◌≡◌, ◌≤◌, length, List, [], ◌∷◌, ◌++◌, Bool, true, false, inl, inr, pos, refl, sym, ap, ◌∙◌}
+use Rattle.std.proofs.Common.{ℕ, ◌≡◌, ◌≤◌, length, List, [], ◌∷◌, ◌++◌, Bool, true, false, inl, inr, pos, refl, sym, ◌∙◌}
 use Rattle.std.specs.Prelude.{ℤ, ◌==◌, ◌&&◌, not}
 use Rattle.std.specs.Fmt.{signed_decimal}
 use Rattle.std.specs.List.{AllByRecursion, list_any}
 use Rattle.std.proofs.lemmas.Bool.{and_parts, cases_Bool, or_parts, or_right, true≢false}
 use Rattle.std.proofs.lemmas.List.Elements.{All-from_recursion}
-use Rattle.std.proofs.lemmas.Grind.{flat_map-append}
 use Rattle.std.proofs.lemmas.List.Folds.{list_any-append}
 use Rattle.csicodec_tokens.specs.declared.param.CsiParam.{CsiParam}
 use Rattle.csicodec_tokens.specs.Sequence.{IsFinal, Seq, Spellable}
@@ -21,8 +20,7 @@ use Rattle.csicodec_names.specs.Numbered.{is_number}
 use Rattle.csicodec_tokens.specs.Param.{token_text}
 use Rattle.csicodec_parser.specs.Canonical.{Canonical}
 use Rattle.csicodec_parser.specs.Segments.{Actions}
-use Rattle.csicodec_streams.proofs.OneReading.{decodes-append, one_decoding, one_sequence}
-use Rattle.csicodec_streams.specs.Decoding.{AreActions, Decodes, Joins}
+use Rattle.csicodec_streams.proofs.OneReading.{one_decoding, one_sequence}
 use Rattle.csicodec.proofs.Kept.{Kept}
 use Rattle.csicodec.proofs.Parsed.{parsed-kept}
 use Rattle.csicodec.proofs.RoundTrip.{round_trip_lem}
@@ -116,24 +114,6 @@ reads-alike bytes other list final xs normal text s read made one told same = λ
     let back = (round_trip_lem list false final s.spellable s.ends xs read).together (none-told list final xs s.spellable s.ends read (rw made at told)) in
     let mine : actions ≡ xs = one_decoding bytes false actions xs d (one_sequence bytes list final xs s read) in
     rw mine (has-normal other normal text one told same xs (rw (sym made) at back.back))
-
--- what is read of sequences whose normal form tells their actions is read of that too
-told-back : (ss : List (List CsiParam × ℕ)) (bytes : List ℕ) (xs : List Action) → Joins bytes ss → AreActions ss false xs → Tells (texts xs) → Decodes (texts xs) false xs
-told-back [] bytes xs j a told = rw a (record { sequences = []; join = refl; each = refl })
-told-back (s ∷ ss) bytes xs j a told =
-    let whole : texts xs ≡ texts a.0 ++ texts a.1 = ap texts a.2 ∙ flat_map-append text a.0 a.1 in
-    let p = lacks-parts 115 (texts a.0) (texts a.1) (rw whole at told.0) in
-    let q = lacks-parts 120 (texts a.0) (texts a.1) (rw whole at told.1) in
-    let back = (round_trip_lem s.0 false s.1 j.3.spellable j.3.ends a.0 a.3).together (none-told s.0 s.1 a.0 j.3.spellable j.3.ends a.3 (p.0, q.0)) in
-    rw (whole, a.2) (decodes-append (texts a.0) (texts a.1) false a.0 a.1 back.back (told-back ss j.1 a.1 j.4 a.4 (p.1, q.1)))
-
--- sequences side by side, and one with their normal form
-pub both-alike : (bytes other : List ℕ) (xs : List Action) (normal form : List ℕ) → Decodes bytes false xs → normal ≡ texts xs → IsOneNormalised other form → Tells normal → normal ≡ form → ReadsAlike bytes other
-both-alike bytes other xs normal form came made one told same = λ actions d.
-    let mine : actions ≡ xs = one_decoding bytes false actions xs d came in
-    let here : Tells (texts xs) = rw made at told in
-    let back : Decodes (texts xs) false xs = told-back came.sequences bytes xs came.join came.each here in
-    rw mine (has-normal other normal form one told same xs (rw (sym made) at back))
 
 -- what stands in the place of a sequence that doesn't stay
 pub compacts : (bytes text : List ℕ) (list : List CsiParam) (final : ℕ) → Seq bytes list final → stays list final ≡ false → ReadsAlike bytes text → length text ≤ length bytes → Compacts bytes text

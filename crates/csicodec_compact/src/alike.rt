@@ -1,5 +1,5 @@
 //! Whether two sequences have the same actions.
-ghost use Rattle.std.specs.Prelude.{◌≡◌, ◌==◌, ◌&&◌, ◌++◌, ℕ, List, true, not, IfOk};
+ghost use Rattle.std.specs.Prelude.{◌≡◌, ◌==◌, ◌&&◌, ℕ, List, true, not, IfOk};
 ghost use Rattle.std.specs.List.{list_any};
 ghost use Rattle.csicodec_tokens.specs.Sequence.{Seq};
 ghost use Rattle.csicodec_compact.specs.Compacts.{ReadsAlike};
@@ -7,7 +7,7 @@ ghost use Rattle.csicodec_compact.specs.Private.Steps.{IsOneNormalised};
 
 use csicodec_base::{CsiParam, ReadError, read_csi_into};
 use csicodec_parser::Texts;
-use csicodec_streams::{DecodeError, normal_form, parse_into};
+use csicodec_streams::parse_into;
 use std::alloc::{AllocError, Global};
 
 /// Reads sequences, and compares what they are read as by their normal forms. Its buffers are kept from call to call.
@@ -84,34 +84,5 @@ impl Reader {
         parse_into(self.alloc, params, false, control, &mut self.came)?;
         let came = self.came.bytes.as_slice();
         Ok(tells(came) && came == self.other.bytes.as_slice())
-    }
-
-    /// Whether this is the normal form of what was read last, and it tells the actions.
-    fn is_form(&self, normal: &[u8]) -> bool
-        ensures { result ≡ true → ((not (list_any (λ b. b == 115) normal.now) && not (list_any (λ b. b == 120) normal.now)) ≡ true) × (normal.now ≡ self.now.other.bytes) }
-    {
-        tells(normal) && normal == self.other.bytes.as_slice()
-    }
-
-    /// Whether `other` is one control sequence that is read as these bytes are, one after the other.
-    pub fn reads_both(
-        &mut self,
-        first: &[u8],
-        second: &[u8],
-        other: &[u8],
-    ) -> Result<bool, AllocError>
-        ensures { IfOk result (λ yes. yes ≡ true → ReadsAlike (first.now ++ second.now) other.now) }
-    {
-        if !self.read(other)? {
-            return Ok(false);
-        }
-        let mut both = Vec::new(self.alloc);
-        both.extend_from_slice(first)?;
-        both.extend_from_slice(second)?;
-        match normal_form(self.alloc, &both) {
-            Ok(came) => Ok(self.is_form(&came)),
-            Err(DecodeError::Memory) => Err(AllocError),
-            Err(_) => Ok(false),
-        }
     }
 }

@@ -6,7 +6,9 @@ ghost use Rattle.csicodec_spans.specs.declared.table.Mode.TheVariants.{Text as P
 ghost use Rattle.csicodec_compact.specs.Runs.{CompactsAll, PassesShort};
 
 use crate::compact::Compact;
+use crate::notes::Short;
 use crate::stream::Compactor;
+use csicodec_filter::Known;
 use csicodec_streams::{CHUNK, RunError, receive, send};
 use std::alloc::Global;
 use std::io::{Read, Write};
@@ -43,6 +45,7 @@ pub fn compact_all<R: Read, W: Write>(
         × Appends (W.contents output.old) (W.contents output.new) sent) }
 {
     let mut compactor = Compactor::new(alloc, limit, compact);
+    let mut known: Known<Short> = Known::new(alloc);
     let mut out = Vec::new(alloc);
     let mut chunk = [0u8; CHUNK];
     for _ in 0..u64::MAX {
@@ -56,7 +59,7 @@ pub fn compact_all<R: Read, W: Write>(
             };
             return send(output, &out);
         }
-        let Ok(()) = compactor.push(&chunk[..count], &mut out) else {
+        let Ok(()) = compactor.push_known(&mut known, &chunk[..count], &mut out) else {
             return Err(RunError::Memory);
         };
         let Ok(()) = send(output, &out) else {

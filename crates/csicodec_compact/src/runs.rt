@@ -1,199 +1,232 @@
 //! Runs of control sequences side by side.
-ghost use Rattle.std.specs.Prelude.{◌≡◌, ◌≢◌, ◌≤◌, ◌++◌, ℕ, List, [], ◌∷◌, true, false, length, MatchOption, OnOk, IfOk, IfSome};
+ghost use Rattle.std.specs.Prelude.{◌≡◌, ◌≢◌, ◌≤◌, ◌++◌, ℕ, List, [], ◌∷◌, true, drop, length, slice_get, take, MatchOption, OnOk, IfSome};
 ghost use Rattle.csicodec_tokens.specs.Sequence.{Seq};
 ghost use Rattle.csicodec_spans.specs.declared.table.Kind.{Kind};
 ghost use Rattle.csicodec_spans.specs.declared.table.Kind.TheVariants.{Csi as Sequence};
 ghost use Rattle.csicodec_spans.specs.Parts.{IsSpan, Part, part};
-ghost use Rattle.csicodec_filter.specs.Faithful.{stays};
-ghost use Rattle.csicodec_compact.specs.Compacts.{Compacts, ReadsAlike};
-ghost use Rattle.csicodec_compact.specs.Private.Steps.{Follows, IsHeld};
+ghost use Rattle.csicodec_streams.specs.Known.{AreKnown};
+ghost use Rattle.csicodec_compact.specs.Private.Steps.{Follows, IsHeld, IsNote, behind, closing, is_semicolon, joint, may_join, opened};
 
-use crate::alike::Reader;
 use crate::compact::Compact;
 use crate::encode::NUMBERS;
-use csicodec_base::CsiParam;
-use csicodec_filter::{Rewrite, stays};
+use crate::form::Form;
+use crate::notes::{Notes, Short};
+use csicodec_base::{CsiParam, TextBuffer};
+use csicodec_filter::Known;
 use std::alloc::{AllocError, Global};
 
-/// Whether a list before this final is one of attributes, which doesn't stay.
-fn are_attributes(params: &[CsiParam], control: char) -> bool
-    ensures { result ≡ true → stays params.now control ≡ false }
+/// Whether a list begins with `;`, which stands ahead of it too.
+#[inline(always)]
+fn begins_blank(text: &[u8]) -> bool
+    ensures { result ≡ is_semicolon (slice_get text.now 1) }
 {
-    control == 'm' && !stays(params, control)
-}
-
-/// How many numbers a sequence of attributes has; none where there is a colon, since terminals that don't know it drop all of the
-/// sequence.
-fn numbers(text: &[u8]) -> Option<usize> {
-    let mut count = 1usize;
-    for byte in text {
-        match *byte {
-            b':' => return None,
-            b';' => count = count.saturating_add(1),
-            _ => {}
-        }
-    }
-    Some(count)
-}
-
-/// Whether two sequences of attributes may go into one.
-fn may_join(first: &[u8], second: &[u8]) -> bool {
-    match (numbers(first), numbers(second)) {
-        (Some(one), Some(other)) => one.saturating_add(other) <= NUMBERS,
-        _ => false,
+    match text.get(1) {
+        Some(byte) => *byte == b';',
+        None => false,
     }
 }
 
-/// Writes two sequences of attributes as one: `;` in the place of `m`, ESC and `[` between them, without a 0 that is no longer the
-/// last number, and with 0 where the second has none.
-fn join(first: &[u8], second: &[u8], out: &mut Vec<u8>) -> Result<(), AllocError> {
-    let end = if first.ends_with(b";0m") { 2 } else { 1 };
-    out.clear();
-    out.extend_from_slice(&first[..first.len().saturating_sub(end)])?;
-    out.push(b';')?;
-    if second.len() == 3 {
-        out.push(b'0')?;
-    }
-    out.extend_from_slice(second.get(2..).unwrap_or(second))
-}
-
-/// Whether there is one sequence, shorter, that is read as these two of attributes are, one after the other. `joined` is that then.
-fn find_joined(
-    reader: &mut Reader,
-    first: &[u8],
-    second: &[u8],
-    joined: &mut Vec<u8>,
-) -> Result<bool, AllocError>
-    ensures { IfOk result (λ yes. yes ≡ true → (length joined.new.items ≤ length (first.now ++ second.now)) × ReadsAlike (first.now ++ second.now) joined.new.items) }
+/// A list without the `;` in front.
+#[inline(always)]
+fn behind_mark(text: &[u8]) -> &[u8]
+    ensures { result.now ≡ drop 1 text.now }
 {
-    if first.is_empty() || !may_join(first, second) {
-        return Ok(false);
-    }
-    join(first, second, joined)?;
-    if joined.len() <= first.len() + second.len() {
-        reader.reads_both(first, second, joined)
-    } else {
-        Ok(false)
+    match text.split_first() {
+        Some((_, list)) => list,
+        None => text,
     }
 }
 
-/// What is to be written for the run of sequences that came last, each shortened, and joined where they are attributes.
+/// Whether a text of this form may be joined to what is held. Behind a list that ends in `;` a further one ahead of a `;` would be no
+/// 0 of its own.
+#[inline(always)]
+fn may_join(held: Form, form: Form, text: &[u8]) -> bool
+    ensures { result ≡ true → may_join held form text.now ≡ true }
+{
+    match held {
+        Form::Whole => false,
+        Form::Last => false,
+        Form::Open => form.is_joined(),
+        Form::Blank => form.is_joined() && !begins_blank(text),
+        Form::Bare => form.is_joined() && !begins_blank(text),
+    }
+}
+
+/// What is to be written for sequences that came: the last of them may be a list of attributes that goes on.
 #[derive(Drop)]
-pub(crate) struct Runs {
-    compact: Compact,
-    reader: Reader,
-    held: Vec<u8>,
-    /// Whether attributes may be joined to what is held.
-    joins: bool,
-    own: Vec<u8>,
-    joined: Vec<u8>,
+pub(crate) struct Held {
+    text: TextBuffer,
+    form: Form,
+    /// How many numbers may still be joined.
+    room: usize,
 }
 
-impl Runs {
+impl Held {
     /// With nothing held.
-    pub fn new(alloc: Global, compact: Compact) -> Runs {
-        Runs {
-            compact,
-            reader: Reader::new(alloc),
-            held: Vec::new(alloc),
-            joins: false,
-            own: Vec::new(alloc),
-            joined: Vec::new(alloc),
+    fn new(alloc: Global) -> Held {
+        Held {
+            text: TextBuffer::new(alloc),
+            form: Form::Whole,
+            room: 0,
         }
     }
 
     /// Holds nothing.
-    pub fn begin(&mut self)
-        ensures { self.new.held.items ≡ [] }
+    pub(crate) fn begin(&mut self)
+        ensures text { self.new.text ≡ [] }
+        ensures form { self.new.form ≡ Form.Whole }
     {
-        self.held.clear();
+        self.text.clear();
+        self.form = Form::Whole;
+    }
+
+    /// Ends the list that goes on.
+    #[inline(always)]
+    fn close(&mut self) -> Result<(), AllocError>
+        ensures { OnOk result (self.new.text ≡ self.old.text ++ closing self.old.form) }
+    {
+        match self.form {
+            Form::Whole => Ok(()),
+            Form::Last => Ok(()),
+            Form::Open => self.text.push_slice(b"m"),
+            Form::Blank => self.text.push_slice(b"0m"),
+            Form::Bare => self.text.push_slice(b"m"),
+        }
     }
 
     /// Appends what is held: the run is over.
-    pub fn flush(&mut self, out: &mut Vec<u8>) -> Result<(), AllocError>
-        ensures out { OnOk result (out.new.items ≡ out.old.items ++ self.old.held.items) }
-        ensures none { OnOk result (self.new.held.items ≡ []) }
+    pub(crate) fn flush(&mut self, out: &mut Vec<u8>) -> Result<(), AllocError>
+        ensures out { OnOk result (out.new.items ≡ out.old.items ++ (self.old.text ++ closing self.old.form)) }
+        ensures text { OnOk result (self.new.text ≡ []) }
+        ensures form { OnOk result (self.new.form ≡ Form.Whole) }
     {
-        out.extend_from_slice(&self.held)?;
+        self.close()?;
+        out.extend_from_slice(self.text.as_slice())?;
         self.begin();
         Ok(())
     }
 
-    /// Finds the text of one control sequence, which is `own` then.
-    fn shorten(
-        &mut self,
-        bytes: &[u8],
-        params: &[CsiParam],
-        control: char,
-    ) -> Result<(), AllocError>
-        requires { Seq bytes.now params.now control }
-        ensures own { OnOk result (Compacts bytes.now self.new.own.items) }
-        ensures held { self.new.held.items ≡ self.old.held.items }
-        ensures joins { self.new.joins ≡ self.old.joins }
+    /// Goes on with a text that stands by itself.
+    #[inline(always)]
+    fn start(&mut self, form: Form, text: &[u8]) -> Result<(), AllocError>
+        ensures text { OnOk result (self.new.text ≡ (self.old.text ++ closing self.old.form) ++ opened form text.now) }
+        ensures form { OnOk result (self.new.form ≡ form) }
     {
-        self.own.clear();
-        self.compact.rewrite(bytes, params, control, &mut self.own)
-    }
-
-    /// Joins `own` to what is held, where both are attributes and go into one sequence.
-    fn join_own(&mut self, joins: bool) -> Result<bool, AllocError>
-        ensures both { IfOk result (λ yes. yes ≡ true → (joins ≡ true) × (self.old.joins ≡ true) × (self.new.joins ≡ true)) }
-        ensures joined { IfOk result (λ yes. yes ≡ true → (length self.new.held.items ≤ length (self.old.held.items ++ self.old.own.items))
-            × ReadsAlike (self.old.held.items ++ self.old.own.items) self.new.held.items) }
-        ensures apart { IfOk result (λ yes. yes ≡ false → (self.new.held.items ≡ self.old.held.items) × (self.new.own.items ≡ self.old.own.items)) }
-    {
-        if !joins || !self.joins {
-            return Ok(false);
-        }
-        if !find_joined(&mut self.reader, &self.held, &self.own, &mut self.joined)? {
-            return Ok(false);
-        }
-        self.held.clear();
-        self.held.extend_from_slice(&self.joined)?;
-        Ok(true)
-    }
-
-    /// Takes one control sequence: it is joined to what is held, or is held in its place.
-    fn take_sequence(
-        &mut self,
-        bytes: &[u8],
-        params: &[CsiParam],
-        control: char,
-        out: &mut Vec<u8>,
-    ) -> Result<(), AllocError>
-        requires { Seq bytes.now params.now control }
-        ensures { OnOk result ((run : List Part) → IsHeld run self.old.held.items self.old.joins → (more : List ℕ) × (out.new.items ≡ out.old.items ++ more)
-            × Follows run (part Sequence bytes.now ∷ []) more self.new.held.items self.new.joins) }
-    {
-        self.shorten(bytes, params, control)?;
-        let joins = are_attributes(params, control);
-        if self.join_own(joins)? {
+        self.close()?;
+        self.form = form;
+        if form.is_joined() {
+            self.text.push_slice(b"\x1b[")?;
+            self.text.push_slice(behind_mark(text))?;
             return Ok(());
         }
-        out.extend_from_slice(&self.held)?;
-        self.joins = joins;
-        self.held.clear();
-        self.held.extend_from_slice(&self.own)
+        self.text.push_slice(text)?;
+        Ok(())
     }
 
-    /// Takes a span, and appends what is sure then. One that is no control sequence ends the run before it.
+    /// Goes on with a text in the same list. Behind a list that ends in `;` an empty one is written as 0.
+    #[inline(always)]
+    fn join(&mut self, form: Form, text: &[u8]) -> Result<(), AllocError>
+        ensures text { OnOk result (self.new.text ≡ self.old.text ++ joint self.old.form form text.now) }
+        ensures form { OnOk result (self.new.form ≡ behind self.old.form form) }
+    {
+        if !form.is_bare() {
+            self.form = form;
+            self.text.push_slice(text)?;
+            return Ok(());
+        }
+        if self.form.is_open() {
+            self.form = Form::Blank;
+            self.text.push_slice(text)?;
+            return Ok(());
+        }
+        self.form = Form::Open;
+        self.text.push_slice(b";0")?;
+        Ok(())
+    }
+
+    /// Takes one control sequence, of which this is noted: it is joined to what is held, or stands behind it.
+    #[inline(always)]
+    pub(crate) fn take(&mut self, note: &[u8]) -> Result<(), AllocError>
+        requires { 2 ≤ length note.now }
+        ensures { OnOk result ((run : List Part) (bytes : List ℕ) → IsHeld run self.old.text self.old.form → IsNote bytes note.now
+            → IsHeld (run ++ part Sequence bytes ∷ []) self.new.text self.new.form) }
+    {
+        let (marks, text) = note.split_at(2);
+        let form = Form::of(marks[0]);
+        let numbers = usize::from(marks[1]);
+        if numbers <= self.room && may_join(self.form, form, text) {
+            self.room -= numbers;
+            self.join(form, text)?;
+            return Ok(());
+        }
+        self.room = NUMBERS.saturating_sub(numbers);
+        self.start(form, text)?;
+        Ok(())
+    }
+}
+
+/// What is held of the sequences that came last, and what finds the texts of new ones.
+#[derive(Drop)]
+pub(crate) struct Runs {
+    pub(crate) held: Held,
+    notes: Notes,
+}
+
+impl Runs {
+    /// With nothing held.
+    pub(crate) fn new(alloc: Global, compact: Compact) -> Runs {
+        Runs {
+            held: Held::new(alloc),
+            notes: Notes::new(alloc, compact),
+        }
+    }
+
+    /// Takes a control sequence that isn't known, the one in front of the bytes, and keeps what is noted of it.
+    fn take_sequence(
+        &mut self,
+        known: &mut Known<Short>,
+        bytes: &[u8],
+        span: &[u8],
+        params: &[CsiParam],
+        control: char,
+    ) -> Result<(), AllocError>
+        requires known { AreKnown IsNote known.old.memo.slots.items }
+        requires front { span.now ≡ take (length span.now) bytes.now }
+        requires seq { Seq span.now params.now control }
+        ensures held { OnOk result ((run : List Part) → IsHeld run self.old.held.text self.old.held.form
+            → IsHeld (run ++ part Sequence span.now ∷ []) self.new.held.text self.new.held.form) }
+        ensures known { OnOk result (AreKnown IsNote known.new.memo.slots.items) }
+    {
+        self.notes.find(span, params, control)?;
+        self.held.take(self.notes.note())?;
+        known.keep(bytes, span.len(), self.notes.note());
+        Ok(())
+    }
+
+    /// Takes a span that isn't known, and appends what is sure then. One that is no control sequence ends the run before it.
+    #[inline(never)]
     pub(crate) fn take(
         &mut self,
+        known: &mut Known<Short>,
         bytes: &[u8],
+        span: &[u8],
         params: &[CsiParam],
         control: Option<char>,
         out: &mut Vec<u8>,
     ) -> Result<(), AllocError>
-        requires { IfSome control (λ final. Seq bytes.now params.now final) }
-        ensures { OnOk result ((run parts : List Part) (kind : Kind) → IsHeld run self.old.held.items self.old.joins → IsSpan kind bytes.now parts
+        requires known { AreKnown IsNote known.old.memo.slots.items }
+        requires front { span.now ≡ take (length span.now) bytes.now }
+        requires seq { IfSome control (λ final. Seq span.now params.now final) }
+        ensures follows { OnOk result ((run parts : List Part) (kind : Kind) → IsHeld run self.old.held.text self.old.held.form → IsSpan kind span.now parts
             → MatchOption control (kind ≢ Sequence) (λ _. kind ≡ Sequence)
-            → (more : List ℕ) × (out.new.items ≡ out.old.items ++ more) × Follows run parts more self.new.held.items self.new.joins) }
+            → (more : List ℕ) × (out.new.items ≡ out.old.items ++ more) × Follows run parts more self.new.held.text self.new.held.form) }
+        ensures known { OnOk result (AreKnown IsNote known.new.memo.slots.items) }
     {
         match control {
-            Some(control) => self.take_sequence(bytes, params, control, out),
+            Some(control) => self.take_sequence(known, bytes, span, params, control),
             None => {
-                self.flush(out)?;
-                out.extend_from_slice(bytes)
+                self.held.flush(out)?;
+                out.extend_from_slice(span)
             }
         }
     }

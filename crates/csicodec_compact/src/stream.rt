@@ -3,11 +3,14 @@ ghost use Rattle.std.specs.Prelude.{◌≡◌, ◌<◌, ◌≤◌, ◌⊎◌, �
 ghost use Rattle.csicodec_spans.specs.declared.table.Mode.TheVariants.{Text as Plain};
 ghost use Rattle.csicodec_spans.specs.Parts.{IsUnsure};
 ghost use Rattle.csicodec_compact.specs.Runs.{CompactsAll, PassesShort};
-ghost use Rattle.csicodec_compact.specs.Private.Steps.{GoesOn};
+ghost use Rattle.csicodec_streams.specs.Known.{AreKnown};
+ghost use Rattle.csicodec_compact.specs.Private.Steps.{GoesOn, IsNote};
 
 use crate::compact::Compact;
+use crate::notes::Short;
 use crate::runs::Runs;
 use csicodec_base::CsiParam;
+use csicodec_filter::Known;
 use csicodec_spans::{Mode, next_span_into};
 use csicodec_streams::keep_from;
 use std::alloc::{AllocError, Global};
@@ -15,29 +18,42 @@ use std::marker::Model;
 
 /// Appends what is made of all spans of the bytes that are sure, but for the run of control sequences at their end, and answers the
 /// bytes that aren't sure, and the mode there.
+#[inline(never)]
 fn append_short<'a>(
     runs: &mut Runs,
+    known: &mut Known<Short>,
     params: &mut Vec<CsiParam>,
     limit: usize,
     mode: Mode,
     bytes: &'a [u8],
     out: &mut Vec<u8>,
 ) -> Result<(&'a [u8], Mode), AllocError>
-    requires { 0 < limit }
+    requires limit { 0 < limit }
+    requires known { AreKnown IsNote known.old.memo.slots.items }
     ensures parts { IfOk result (λ (rest, after). (front : List ℕ) × (bytes.now ≡ front ++ rest.now)) }
     ensures unsure { IfOk result (λ (rest, after). IsUnsure limit after rest.now) }
     ensures goes { IfOk result (λ (rest, after). (text : List ℕ) × (out.new.items ≡ out.old.items ++ text)
-        × GoesOn limit mode bytes.now text runs.new.held.items runs.new.joins rest.now after) }
+        × GoesOn limit mode bytes.now text runs.new.held.text runs.new.held.form rest.now after) }
+    ensures known { OnOk result (AreKnown IsNote known.new.memo.slots.items) }
 {
-    runs.begin();
+    runs.held.begin();
     let mut rest = bytes;
     let mut mode = mode;
-    while let Some(read) = next_span_into(params, limit, mode, rest)? {
-        runs.take(read.cut.span.bytes, params, read.control, out)?;
+    loop {
+        let len = known.look(limit, rest);
+        if len > 0 {
+            runs.held.take(known.noted())?;
+            rest = rest.split_at(len).1;
+            mode = Mode::Text;
+            continue;
+        }
+        let Some(read) = next_span_into(params, limit, mode, rest)? else {
+            return Ok((rest, mode));
+        };
+        runs.take(known, rest, read.cut.span.bytes, params, read.control, out)?;
         rest = read.cut.rest;
         mode = read.cut.mode;
     }
-    Ok((rest, mode))
 }
 
 /// A stream that is made shorter as it comes: each control sequence of at most `limit` bytes in the shortest of its spellings that is
@@ -88,6 +104,37 @@ impl Compactor {
         }
     }
 
+    /// The same with what is known from the bytes before.
+    pub(crate) fn push_known(
+        &mut self,
+        known: &mut Known<Short>,
+        bytes: &[u8],
+        out: &mut Vec<u8>,
+    ) -> Result<(), AllocError>
+        requires { AreKnown IsNote known.old.memo.slots.items }
+        ensures passes { OnOk result ((text : List ℕ) × PassesShort self.old.limit self.old.mode (self.old.bytes ++ bytes.now) text self.new.bytes self.new.mode
+            × (out.new.items ≡ out.old.items ++ text)) }
+        ensures limit { OnOk result (self.new.limit ≡ self.old.limit) }
+        ensures short { OnOk result ((length self.new.bytes < self.new.limit) ⊎ (length self.new.bytes < 3)) }
+        ensures known { OnOk result (AreKnown IsNote known.new.memo.slots.items) }
+    {
+        self.pending.extend_from_slice(bytes)?;
+        let (rest, mode) = append_short(
+            &mut self.runs,
+            known,
+            &mut self.params,
+            self.limit,
+            self.mode,
+            &self.pending,
+            out,
+        )?;
+        let used = self.pending.len() - rest.len();
+        self.runs.held.flush(out)?;
+        self.mode = mode;
+        keep_from(&mut self.pending, used);
+        Ok(())
+    }
+
     /// Takes the next bytes, and appends what is made of all that is sure now. What isn't is held, and is short: fewer bytes than
     /// `limit`, or than 3 where that is less.
     pub fn push(&mut self, bytes: &[u8], out: &mut Vec<u8>) -> Result<(), AllocError>
@@ -96,20 +143,8 @@ impl Compactor {
         ensures limit { OnOk result (self.new.limit ≡ self.old.limit) }
         ensures short { OnOk result ((length self.new.bytes < self.new.limit) ⊎ (length self.new.bytes < 3)) }
     {
-        self.pending.extend_from_slice(bytes)?;
-        let (rest, mode) = append_short(
-            &mut self.runs,
-            &mut self.params,
-            self.limit,
-            self.mode,
-            &self.pending,
-            out,
-        )?;
-        let used = self.pending.len() - rest.len();
-        self.runs.flush(out)?;
-        self.mode = mode;
-        keep_from(&mut self.pending, used);
-        Ok(())
+        let mut known: Known<Short> = Known::new(*self.params.allocator());
+        self.push_known(&mut known, bytes, out)
     }
 
     /// Appends what is held: nothing comes any more.

@@ -1,35 +1,213 @@
 -- What the private steps say to each other.
-use Rattle.std.specs.Prelude.{ℕ, ◌≡◌, Bool, true, List, ◌++◌, false}
+use Rattle.std.specs.Prelude.{ℕ, ◌≡◌, ◌==◌, ◌-◌, ◌&&◌, Bool, true, List, [], ◌∷◌, ◌++◌, false, not, Option, Some, None, if◌then◌else◌, length, drop, map, slice_get, take}
 use Rattle.csicodec_tokens.specs.declared.param.CsiParam.{CsiParam}
-use Rattle.csicodec_tokens.specs.Sequence.{Seq}
-use Rattle.csicodec_actions.specs.Actions.{Action}
+use Rattle.csicodec_tokens.specs.declared.param.CsiParam.TheVariants.{Integer, P}
+use Rattle.csicodec_tokens.specs.Sequence.{Seq, Spellable, Spells}
+use Rattle.csicodec_base.specs.declared.sgr.Sgr as sgr_type
+use Rattle.csicodec_base.specs.declared.sgr.Sgr.TheVariants as sgr
+use Rattle.csicodec_actions.specs.Actions.{Action, Sgr}
 use Rattle.csicodec_actions.specs.Table.{texts}
+use Rattle.csicodec_parser.specs.declared.actions.CSI.{CSI}
+use Rattle.csicodec_parser.specs.declared.actions.CSI.TheVariants as csi
 use Rattle.csicodec_parser.specs.Segments.{Actions}
 use Rattle.csicodec_spans.specs.declared.table.Mode.{Mode}
 use Rattle.csicodec_spans.specs.Parts.{Part, AreFirstParts}
-use Rattle.csicodec_compact.specs.Runs.{NoneStays, Shortens, IsShortened}
+use Rattle.csicodec_streams.specs.Known.{IsOne}
+use Rattle.csicodec.specs.Compose.{EndsInSemicolon, IsStyleList}
+use Rattle.csicodec_compact.specs.declared.form.Form.{Form}
+use Rattle.csicodec_compact.specs.declared.form.Form.TheVariants as forms
+use Rattle.csicodec_compact.specs.Compacts.{Compacts}
+use Rattle.csicodec_compact.specs.Runs.{IsStaying, NoneStays, Shortens, IsShortened}
 
 -- the bytes are one control sequence, and this is its normal form
 abbrev pub IsOneNormalised : List ℕ → List ℕ → Type 0
 IsOneNormalised bytes text = (list : List CsiParam) × (final : ℕ) × (actions : List Action) × Seq bytes list final × Actions list false final actions × (text ≡ texts actions)
 
--- what is held of a run, to which more may be joined
-pub record IsHeld (run : List Part) (held : List ℕ) (joins : Bool) : Type 0 where
-  pub shorter : Shortens run held
-  pub free : joins ≡ true → NoneStays run
+-- ---- tests of tokens, actions and bytes
 
--- behind a run of which some is held come more parts: what is appended, and the run that is held then
-pub record Follows (run parts : List Part) (more held : List ℕ) (joins : Bool) : Type 0 where
+-- the token is neither a number nor `;`
+abbrev pub is_mark : CsiParam → Bool
+is_mark (Integer n) = false
+is_mark (P b) = not (b == 59)
+
+-- the action is no attribute
+abbrev pub is_other : CSI → Bool
+is_other (csi.Sgr s) = false
+is_other (csi.Cursor c) = true
+is_other (csi.Edit e) = true
+is_other (csi.Mode m) = true
+is_other (csi.Mouse m) = true
+is_other (csi.Device d) = true
+is_other (csi.Window w) = true
+is_other (csi.Keyboard k) = true
+is_other (csi.SelectCharacterPath path effect) = true
+is_other (csi.Unspecified u) = true
+
+abbrev pub is_semicolon : Option ℕ → Bool
+is_semicolon None = false
+is_semicolon (Some b) = b == 59
+
+-- ---- forms
+
+abbrev pub form_of : ℕ → Form
+form_of mark = if mark == 1 then forms.Last else if mark == 2 then forms.Open else if mark == 3 then forms.Blank else if mark == 4 then forms.Bare else forms.Whole
+
+abbrev pub is_joined : Form → Bool
+is_joined forms.Whole = false
+is_joined forms.Last = true
+is_joined forms.Open = true
+is_joined forms.Blank = true
+is_joined forms.Bare = true
+
+abbrev pub is_bare : Form → Bool
+is_bare forms.Whole = false
+is_bare forms.Last = false
+is_bare forms.Open = false
+is_bare forms.Blank = false
+is_bare forms.Bare = true
+
+abbrev pub is_open : Form → Bool
+is_open forms.Whole = false
+is_open forms.Last = false
+is_open forms.Open = true
+is_open forms.Blank = false
+is_open forms.Bare = false
+
+-- what closes a text of the form
+abbrev pub closing : Form → List ℕ
+closing forms.Whole = []
+closing forms.Last = []
+closing forms.Open = 109 ∷ []
+closing forms.Blank = 48 ∷ 109 ∷ []
+closing forms.Bare = 109 ∷ []
+
+-- a text of this form may be joined to what is held
+abbrev pub may_join : Form → Form → List ℕ → Bool
+may_join forms.Whole form text = false
+may_join forms.Last form text = false
+may_join forms.Open form text = is_joined form
+may_join forms.Blank form text = is_joined form && not (is_semicolon (slice_get text 1))
+may_join forms.Bare form text = is_joined form && not (is_semicolon (slice_get text 1))
+
+-- what is appended for it then
+abbrev pub joint : Form → Form → List ℕ → List ℕ
+joint held form text = if is_bare form then (if is_open held then text else 59 ∷ 48 ∷ []) else text
+
+-- and how it ends
+abbrev pub behind : Form → Form → Form
+behind held form = if is_bare form then (if is_open held then forms.Blank else forms.Open) else form
+
+-- what is appended for a text that stands by itself
+abbrev pub opened : Form → List ℕ → List ℕ
+opened form text = if is_joined form then 27 ∷ 91 ∷ drop 1 text else text
+
+-- the list of a text
+abbrev pub list_of : Form → List ℕ → List ℕ
+list_of form text = take (length (drop 2 text) - length (closing form)) (drop 2 text)
+
+-- ---- lists of attributes
+
+-- the bytes are a list of numbers and `;`, and these are its actions before `m`
+pub record IsList (bytes : List ℕ) (list : List CsiParam) (actions : List Action) : Type 0 where
+  pub spellable : Spellable list
+  pub spelled : Spells bytes list
+  pub plain : IsStyleList list
+  pub means : Actions list false 109 actions
+
+-- such a list of known attributes that ends in a number
+pub record IsOpenList (bytes : List ℕ) (styles : List sgr_type.Sgr) : Type 0 where
+  pub list : List CsiParam
+  pub is : IsList bytes list (map Sgr styles)
+  pub unclosed : ¬ EndsInSemicolon list
+
+-- what stands behind `ESC [` in a text of this form, and its actions
+abbrev pub IsTail : Form → List ℕ → List Action → Type 0
+IsTail forms.Whole bytes actions = ⊥
+IsTail forms.Last bytes actions = (front : List ℕ) × (list : List CsiParam) × (bytes ≡ front ++ 109 ∷ []) × IsList front list actions
+IsTail forms.Open bytes actions = (styles : List sgr_type.Sgr) × (actions ≡ map Sgr styles) × IsOpenList bytes styles
+IsTail forms.Blank bytes actions =
+    (styles : List sgr_type.Sgr) × (front : List ℕ) × (bytes ≡ front ++ 59 ∷ []) × (actions ≡ map Sgr (styles ++ sgr.Reset ∷ [])) × IsOpenList front styles
+IsTail forms.Bare bytes actions = (bytes ≡ []) × (actions ≡ map Sgr (sgr.Reset ∷ []))
+
+-- a text that is such a list behind `ESC [`, and is closed
+pub record IsListed (form : Form) (text : List ℕ) : Type 0 where
+  pub bytes : List ℕ
+  pub actions : List Action
+  pub whole : text ≡ 27 ∷ 91 ∷ (bytes ++ closing form)
+  pub tail : IsTail form bytes actions
+
+-- the text is of the form
+abbrev pub IsOwn : Form → List ℕ → Type 0
+IsOwn forms.Whole text = Unit {0}
+IsOwn forms.Last text = IsListed forms.Last text
+IsOwn forms.Open text = IsListed forms.Open text
+IsOwn forms.Blank text = IsListed forms.Blank text
+IsOwn forms.Bare text = IsListed forms.Bare text
+
+-- ---- notes
+
+-- the list of a sequence that doesn't stay, behind a `;`
+pub record IsNotedList (form : Form) (bytes text : List ℕ) : Type 0 where
+  pub list : List ℕ
+  pub actions : List Action
+  pub whole : text ≡ 59 ∷ list
+  pub tail : IsTail form list actions
+  pub compacts : Compacts bytes (27 ∷ 91 ∷ (list ++ closing form))
+  pub free : ¬ IsStaying bytes
+
+abbrev pub IsNoted : Form → List ℕ → List ℕ → Type 0
+IsNoted forms.Whole bytes text = Compacts bytes text
+IsNoted forms.Last bytes text = IsNotedList forms.Last bytes text
+IsNoted forms.Open bytes text = IsNotedList forms.Open bytes text
+IsNoted forms.Blank bytes text = IsNotedList forms.Blank bytes text
+IsNoted forms.Bare bytes text = IsNotedList forms.Bare bytes text
+
+-- what is noted of a sequence: a number for the form of its text, how many numbers that has, and the text
+abbrev pub IsNote : List ℕ → List ℕ → Type 0
+IsNote bytes note = (mark : ℕ) × (count : ℕ) × (text : List ℕ) × (note ≡ mark ∷ count ∷ text) × IsOne bytes × IsNoted (form_of mark) bytes text
+
+-- ---- what is held
+
+-- a list that goes on, for some sequences side by side
+pub record GoesOnFrom (form : Form) (run : List Part) (text : List ℕ) : Type 0 where
+  pub list : List ℕ
+  pub actions : List Action
+  pub whole : text ≡ 27 ∷ 91 ∷ list
+  pub tail : IsTail form list actions
+  pub shorter : Shortens run (27 ∷ 91 ∷ (list ++ closing form))
+  pub free : NoneStays run
+
+-- how what is held ends
+abbrev pub IsEnd : Form → List Part → List ℕ → Type 0
+IsEnd forms.Whole run text = (run ≡ []) × (text ≡ [])
+IsEnd forms.Last run text = (run ≡ []) × (text ≡ [])
+IsEnd forms.Open run text = GoesOnFrom forms.Open run text
+IsEnd forms.Blank run text = GoesOnFrom forms.Blank run text
+IsEnd forms.Bare run text = GoesOnFrom forms.Bare run text
+
+-- what is held of some parts: the text of those in front, and of the others a list that goes on
+pub record IsHeld (run : List Part) (held : List ℕ) (form : Form) : Type 0 where
+  pub front : List Part
+  pub left : List Part
+  pub text : List ℕ
+  pub tail : List ℕ
+  pub parts : run ≡ front ++ left
+  pub whole : held ≡ text ++ tail
+  pub written : IsShortened front text
+  pub end : IsEnd form left tail
+
+-- behind parts of which some text is held come more: what is appended, and what is held then
+pub record Follows (run parts : List Part) (more held : List ℕ) (form : Form) : Type 0 where
   pub done : List Part
   pub left : List Part
   pub whole : run ++ parts ≡ done ++ left
   pub written : IsShortened done more
-  pub still : IsHeld left held joins
+  pub still : IsHeld left held form
 
--- The parts in front of the bytes: what was appended for them, and the run at their end that is held.
-pub record GoesOn (limit : ℕ) (m : Mode) (bytes text held : List ℕ) (joins : Bool) (rest : List ℕ) (after : Mode) : Type 0 where
+-- The parts in front of the bytes: what was appended for them, and what is held.
+pub record GoesOn (limit : ℕ) (m : Mode) (bytes text held : List ℕ) (form : Form) (rest : List ℕ) (after : Mode) : Type 0 where
   pub done : List Part
   pub left : List Part
   pub first : AreFirstParts limit m bytes (done ++ left) rest after
   pub written : IsShortened done text
-  pub still : IsHeld left held joins
+  pub still : IsHeld left held form

@@ -7,6 +7,7 @@ use Rattle.csicodec_compact.proofs.all.compact_all.Goals as goal
 
 pub loop-init : goal.loop-init
 loop-init g c = rw c.new-compactor.ensures (record {
+  known = c.new-known.ensures;
   limit = refl;
   passed = ([], [], search rules, passes_none c.args.limit, search rules);
 })
@@ -26,8 +27,8 @@ returns-in_default-finish-clause-front g c =
     let (read, text, consumed, passed, appended) = c.loop.invariant.passed in
     went c.args.limit read _ text c.loop.compactor.bytes c.loop.compactor.mode _ _ _ _ _ consumed c.in-Ok.ensures.read.0 passed appended
 
-pub returns-in_default-push-clause-front : goal.returns-in_default-push-clause-front
-returns-in_default-push-clause-front g c =
+pub returns-in_default-push_known-clause-front : goal.returns-in_default-push_known-clause-front
+returns-in_default-push_known-clause-front g c =
     let (read, text, consumed, passed, appended) = c.loop.invariant.passed in
     went c.args.limit read _ text c.loop.compactor.bytes c.loop.compactor.mode _ _ _ _ _ consumed c.in-Ok.ensures.read.0 passed appended
 
@@ -57,27 +58,28 @@ returns-then-count-eq0-clause-front g c =
 pub returns-in_default-send-clause-front : goal.returns-in_default-send-clause-front
 returns-in_default-send-clause-front g c =
     let (read, text, consumed, passed, appended) = c.loop.invariant.passed in
-    let (more, made, out) = c.in-Ok-push.ensures.passes in
+    let (more, made, out) = c.in-Ok-push_known.ensures.passes in
     let chunk = take c.in-Ok.count c.receive.new.chunk in
     let (sent, unsent, parts, some) = c.in_default-send.ensures.front in
     let split : more ≡ sent ++ unsent = sym (ap (λ t. t ++ more) c.clear.ensures.items) ∙ sym out ∙ sym c.deref-in-loop.ensures.value ∙ parts in
-    let now = passes_on c.args.limit _ c.loop.compactor.mode c.push.new.self.mode read chunk c.loop.compactor.bytes c.push.new.self.bytes text more passed (rw c.loop.invariant.limit at made) in
-    went_some c.args.limit (read ++ chunk) text more c.push.new.self.bytes sent unsent c.push.new.self.mode _ _ _ _ _
+    let now = passes_on c.args.limit _ c.loop.compactor.mode c.push_known.new.self.mode read chunk c.loop.compactor.bytes c.push_known.new.self.bytes text more passed (rw c.loop.invariant.limit at made) in
+    went_some c.args.limit (read ++ chunk) text more c.push_known.new.self.bytes sent unsent c.push_known.new.self.mode _ _ _ _ _
     (Consumes-trans _ _ _ read chunk consumed c.in-Ok.ensures.read.0) now appended split some
 
 pub loop-preserved : goal.loop-preserved
 loop-preserved g c =
     let (read, text, consumed, passed, appended) = c.loop.invariant.passed in
-    let (more, made, out) = c.in-Ok-push.ensures.passes in
+    let (more, made, out) = c.in-Ok-push_known.ensures.passes in
     let chunk = take c.in-Ok.count c.receive.new.chunk in
     let whole = c.deref-in-loop.ensures.value ∙ out ∙ ap (λ t. t ++ more) c.clear.ensures.items in
     record {
-      limit = c.in-Ok-push.ensures.limit ∙ c.loop.invariant.limit;
+      known = c.in-Ok-push_known.ensures.known;
+      limit = c.in-Ok-push_known.ensures.limit ∙ c.loop.invariant.limit;
       passed = (
         read ++ chunk,
         text ++ more,
         Consumes-trans _ _ _ read chunk consumed c.in-Ok.ensures.read.0,
-        passes_on c.args.limit _ c.loop.compactor.mode c.push.new.self.mode read chunk c.loop.compactor.bytes c.push.new.self.bytes text more passed (rw c.loop.invariant.limit at made),
+        passes_on c.args.limit _ c.loop.compactor.mode c.push_known.new.self.mode read chunk c.loop.compactor.bytes c.push_known.new.self.bytes text more passed (rw c.loop.invariant.limit at made),
         Appends-trans _ _ _ text more appended (rw whole at c.in-Ok-send.ensures.ok),
       );
     }

@@ -1,32 +1,65 @@
-use Rattle.std.proofs.Common.{◌++◌, [], refl, ap, sym, ◌∙◌, append_assoc, append-nil}
-use Rattle.csicodec_compact.proofs.Beside.{by_kind, by_seq, goes_none, goes_span}
+use Rattle.std.proofs.Common.{◌++◌, [], length, refl, take, drop, ap, sym, ◌∙◌, append_assoc, append-nil}
+use Rattle.std.proofs.Math.Seq.{take-append_seam}
+use Rattle.std.proofs.lemmas.List.{take-append-drop}
+use Rattle.csicodec_compact.proofs.Beside.{by_kind, by_seq, goes_none, goes_one, goes_parts, note_long}
 use Rattle.csicodec_compact.proofs.stream.append_short.Goals as goal
 
-pub loop-read-init : goal.loop-read-init
-loop-read-init c = record {
+pub loop-mode-init : goal.loop-mode-init
+loop-mode-init c = record {
   parts = ([], refl);
-  goes = ([], sym (append-nil c.args.out.now.items), rw c.begin.ensures (goes_none c.args.limit c.args.mode c.args.bytes.now c.begin.new.self.joins));
+  goes = ([], sym (append-nil c.args.out.now.items), rw (c.begin.ensures.text, c.begin.ensures.form) (goes_none c.args.limit c.args.mode c.args.bytes.now));
+  known = c.requires.known;
 }
 
-pub take-requires : goal.take-requires
-take-requires c = rw c.deref.ensures.value (by_seq c.in-Some.read.control c.in-Some.read.cut.span.kind c.in-Some.read.cut.span.bytes.now c.next_span_into.new.params.items (rw c.in-Some.is at c.in_ok-read.ensures.tokens))
+pub split_at-requires : goal.split_at-requires
+split_at-requires c = (c.look-len.ensures.short c.if-len-gt0.true).1
 
-pub loop-read-preserved : goal.loop-read-preserved
-loop-read-preserved c =
-    let (text, out, goes) = c.loop-read.invariant.goes in
+pub take-requires : goal.take-requires
+take-requires c =
+    let note = c.look-len.ensures.noted c.if-len-gt0.true in
+    note_long (take c.look-len.result c.loop-mode.rest.now) c.noted.result.now (rw (← c.noted.ensures) at note)
+
+pub loop-mode-preserved-then-len-gt0 : goal.loop-mode-preserved-then-len-gt0
+loop-mode-preserved-then-len-gt0 c =
+    let (text, out, goes) = c.loop-mode.invariant.goes in
+    let (before, whole) = c.loop-mode.invariant.parts in
+    let rest = c.loop-mode.rest.now in
+    let len = c.look-len.result in
+    let note = c.look-len.ensures.noted c.if-len-gt0.true in
+    let (short, within) = c.look-len.ensures.short c.if-len-gt0.true in
+    let held = c.in_ok-take.ensures goes.left (take len rest) goes.still (rw (← c.noted.ensures) at note) in
+    rw c.split_at.ensures.back (record {
+      parts = (before ++ take len rest, whole ∙ ap (λ t. before ++ t) (sym (take-append-drop len rest)) ∙ sym (append_assoc before (take len rest) (drop len rest)));
+      goes = (text, out, goes_one c.args.limit c.args.mode c.loop-mode.mode c.args.bytes.now text _ rest _ len _ _ goes note.4 short within held);
+      known = c.look-len.ensures.known;
+    })
+
+pub take-requires-in-loop-mode-clause-front : goal.take-requires-in-loop-mode-clause-front
+take-requires-in-loop-mode-clause-front c =
+    let span = c.in-Some.read.cut.span in
+    let split = rw c.in-Some.is at c.in_ok-read.ensures.parts in
+    sym (take-append_seam span.bytes.now c.in-Some.read.cut.rest.now) ∙ ap (take (length span.bytes.now)) (sym split)
+
+pub take-requires-in-loop-mode-clause-seq : goal.take-requires-in-loop-mode-clause-seq
+take-requires-in-loop-mode-clause-seq c = rw c.deref.ensures.value (by_seq c.in-Some.read.control c.in-Some.read.cut.span.kind c.in-Some.read.cut.span.bytes.now c.next_span_into.new.params.items (rw c.in-Some.is at c.in_ok-read.ensures.tokens))
+
+pub loop-mode-preserved : goal.loop-mode-preserved
+loop-mode-preserved c =
+    let (text, out, goes) = c.loop-mode.invariant.goes in
+    let (before, whole) = c.loop-mode.invariant.parts in
     let read = c.in-Some.read in
     let span = read.cut.span in
     let found = rw c.in-Some.is at c.in_ok-read.ensures.cut in
     let tokens = rw c.in-Some.is at c.in_ok-read.ensures.tokens in
     let split = rw c.in-Some.is at c.in_ok-read.ensures.parts in
     let kinds = by_kind read.control span.kind span.bytes.now c.next_span_into.new.params.items tokens in
-    let (more, longer, follows) = c.in_ok-take.ensures goes.left found.parts span.kind goes.still found.span kinds in
+    let (more, longer, follows) = c.in_ok-take-2.ensures.follows goes.left found.parts span.kind goes.still found.span kinds in
     record {
-      parts = (c.loop-read.invariant.parts.0 ++ span.bytes.now, c.loop-read.invariant.parts.1 ∙ ap (λ t. c.loop-read.invariant.parts.0 ++ t) split ∙ sym (append_assoc c.loop-read.invariant.parts.0 span.bytes.now read.cut.rest.now));
+      parts = (before ++ span.bytes.now, whole ∙ ap (λ t. before ++ t) split ∙ sym (append_assoc before span.bytes.now read.cut.rest.now));
       goes = (
         text ++ more,
         longer ∙ ap (λ t. t ++ more) out ∙ append_assoc c.args.out.now.items text more,
-        goes_span c.args.limit c.args.mode c.loop-read.mode read.cut.mode c.args.bytes.now text c.loop-read.runs.held.items c.loop-read.rest.now read.cut.rest.now span.bytes.now more c.take.new.self.held.items span.kind
-            c.loop-read.runs.joins c.take.new.self.joins goes found follows,
+        goes_parts c.args.limit c.args.mode c.loop-mode.mode read.cut.mode c.args.bytes.now text _ c.loop-mode.rest.now read.cut.rest.now more _ found.parts _ _ goes found.first follows,
       );
+      known = c.in_ok-take-2.ensures.known;
     }

@@ -1,0 +1,8 @@
+use Rattle.std.proofs.Common.{◌<◌, length, rules, sym, ◌∙◌, arith}
+use Rattle.csicodec_compact.proofs.JoinedLists.{plain_by}
+use Rattle.csicodec_compact.proofs.lists.is_plain.Goals as goal
+
+pub returns : goal.returns
+returns c = λ yes.
+    let some : 0 < length c.args.params.now = first_of (omega arith, search rules) in
+    record { some = some; plain = plain_by c.args.params.now (sym c.has_mark.ensures ∙ c.if-has_mark.false) }

@@ -1,0 +1,19 @@
+use Rattle.std.proofs.Common.{◌++◌, subst, ap, sym, ◌∙◌}
+use Rattle.csicodec_compact.specs.Compacts.{Compacts}
+use Rattle.csicodec_compact.specs.Private.Steps.{IsOwn}
+use Rattle.csicodec_compact.proofs.Beside.{free_by, note_of, own_long}
+use Rattle.csicodec_compact.proofs.notes.Notes.find.Goals as goal
+
+pub write_note-requires : goal.write_note-requires
+write_note-requires c = λ joined.
+    let same = c.deref.ensures.value ∙ c.form.ensures.text in
+    own_long c.in_ok-form.form c.deref.result.now (subst (IsOwn c.in_ok-form.form) (sym same) c.in_ok-form.ensures.own) joined
+
+pub returns : goal.returns
+returns c =
+    let same = c.deref.ensures.value ∙ c.form.ensures.text in
+    let (text, made, out) = c.in_ok-rewrite.ensures.text in
+    let all = same ∙ out ∙ ap (λ t. t ++ text) c.clear.ensures.items in
+    note_of c.args.bytes.now c.deref.result.now c.write_note.new.note c.in_ok-form.form (c.args.params.now, c.args.control, c.requires) (subst (Compacts c.args.bytes.now) (sym all) made)
+    (subst (IsOwn c.in_ok-form.form) (sym same) c.in_ok-form.ensures.own)
+    (λ joined. free_by c.args.bytes.now c.args.params.now c.args.control c.requires (c.in_ok-form.ensures.free joined)) c.in_ok-write_note.ensures.whole c.in_ok-write_note.ensures.list

@@ -1,0 +1,198 @@
+//! Which texts are lists of attributes that may be joined.
+ghost use Rattle.std.specs.Prelude.{◌≡◌, ◌++◌, List, true, false, map, IfOk, IfSome};
+ghost use Rattle.std.specs.List.{list_any};
+ghost use Rattle.csicodec_tokens.specs.Sequence.{Seq};
+ghost use Rattle.csicodec_base.specs.declared.sgr.Sgr.{Sgr};
+ghost use Rattle.csicodec_actions.specs.Actions.{Sgr as Style};
+ghost use Rattle.csicodec_parser.specs.Segments.{Actions};
+ghost use Rattle.csicodec.specs.Compose.{EndsInSemicolon, IsStyleList};
+ghost use Rattle.csicodec_compact.specs.Private.Steps.{IsListed, IsOwn, is_mark, is_other};
+
+use crate::encode::NUMBERS;
+use crate::form::Form;
+use csicodec_base::{CsiParam, ReadError, read_csi_into};
+use csicodec_parser::CSI;
+use csicodec_streams::parse_all;
+use std::alloc::{AllocError, Global};
+
+/// Whether a token is neither a number nor `;`.
+fn is_mark(token: &CsiParam) -> bool
+    ensures { result ≡ is_mark token.now }
+{
+    match token {
+        CsiParam::Integer(_) => false,
+        CsiParam::P(byte) => *byte != b';',
+    }
+}
+
+/// Whether one of these stands in a list.
+fn has_mark(params: &[CsiParam]) -> bool
+    ensures { result ≡ list_any is_mark params.now }
+{
+    params.iter().any(is_mark)
+}
+
+/// Whether a list is of numbers and `;`, at least one of them.
+fn is_plain(params: &[CsiParam]) -> bool
+    ensures { result ≡ true → IsStyleList params.now }
+{
+    if params.len() == 0 || has_mark(params) {
+        return false;
+    }
+    true
+}
+
+/// Whether a list ends in a number.
+fn is_open(params: &[CsiParam]) -> bool
+    ensures { result ≡ true → ¬ EndsInSemicolon params.now }
+{
+    match params.split_last() {
+        Some((last, _)) => match last {
+            CsiParam::Integer(_) => true,
+            CsiParam::P(_) => false,
+        },
+        None => false,
+    }
+}
+
+/// Whether an action is no attribute.
+fn is_other(action: &CSI) -> bool
+    ensures { result ≡ is_other action.now }
+{
+    !matches!(action, CSI::Sgr(_))
+}
+
+/// Whether one of the actions is none.
+fn any_other(actions: &[CSI]) -> bool
+    ensures { result ≡ list_any is_other actions.now }
+{
+    actions.iter().any(is_other)
+}
+
+/// How many numbers a list has.
+pub(crate) fn numbers(text: &[u8]) -> u8 {
+    let mut count = 1u8;
+    for byte in text {
+        if *byte == b';' {
+            count = count.saturating_add(1);
+        }
+    }
+    count
+}
+
+/// A text without its end, where it ends so.
+fn without_end<'a>(text: &'a [u8], end: &[u8]) -> Option<&'a [u8]>
+    ensures { IfSome result (λ front. text.now ≡ front.now ++ end.now) }
+{
+    if text.len() < end.len() {
+        return None;
+    }
+    let (front, back) = text.split_at(text.len() - end.len());
+    if back == end { Some(front) } else { None }
+}
+
+/// Reads texts of sequences, to see which are lists of attributes. Its buffer is kept from call to call.
+#[derive(Drop)]
+pub(crate) struct Lists {
+    alloc: Global,
+    params: Vec<CsiParam>,
+}
+
+impl Lists {
+    /// With a buffer that takes no memory yet.
+    pub(crate) fn new(alloc: Global) -> Lists {
+        Lists {
+            alloc,
+            params: Vec::new(alloc),
+        }
+    }
+
+    /// Whether a text is one sequence of numbers with `;` between them before `m`. `params` is its list then.
+    fn is_list(&mut self, text: &[u8]) -> Result<bool, AllocError>
+        ensures { IfOk result (λ yes. yes ≡ true → Seq text.now self.new.params.items 109 × IsStyleList self.new.params.items) }
+    {
+        match read_csi_into(&mut self.params, text) {
+            Ok(tail) => {
+                if tail.control == 'm' && tail.rest.is_empty() {
+                    Ok(is_plain(&self.params))
+                } else {
+                    Ok(false)
+                }
+            }
+            Err(ReadError::Memory) => Err(AllocError),
+            Err(_) => Ok(false),
+        }
+    }
+
+    /// Whether all actions of the list are attributes.
+    fn are_styles(&self) -> Result<bool, AllocError>
+        ensures { IfOk result (λ yes. yes ≡ true → (styles : List Sgr) × Actions self.now.params.items false 109 (map Style styles)) }
+    {
+        let actions = parse_all(self.alloc, &self.params, false, 'm')?;
+        if any_other(&actions) {
+            return Ok(false);
+        }
+        Ok(true)
+    }
+
+    /// Whether a text is a sequence of attributes that are all known, and its list ends in a number.
+    fn opens(&mut self, text: &[u8]) -> Result<bool, AllocError>
+        ensures { IfOk result (λ yes. yes ≡ true → IsListed Form.Open text.now) }
+    {
+        if !self.is_list(text)? {
+            return Ok(false);
+        }
+        if !is_open(&self.params) {
+            return Ok(false);
+        }
+        if !self.are_styles()? {
+            return Ok(false);
+        }
+        Ok(true)
+    }
+
+    /// The same behind which stands a 0.
+    fn is_blank(&mut self, text: &[u8]) -> Result<bool, AllocError>
+        ensures { IfOk result (λ yes. yes ≡ true → IsListed Form.Blank text.now) }
+    {
+        let Some(front) = without_end(text, b";0m") else {
+            return Ok(false);
+        };
+        let mut other = Vec::new(self.alloc);
+        other.extend_from_slice(front)?;
+        other.push(b'm')?;
+        if !self.opens(&other)? {
+            return Ok(false);
+        }
+        Ok(true)
+    }
+
+    /// The form of a text of a sequence of attributes.
+    pub(crate) fn form(&mut self, text: &[u8]) -> Result<Form, AllocError>
+        ensures { IfOk result (λ form. IsOwn form text.now) }
+    {
+        if is_reset(text) {
+            return Ok(Form::Bare);
+        }
+        if usize::from(numbers(text)) > NUMBERS {
+            return Ok(Form::Whole);
+        }
+        if self.is_blank(text)? {
+            return Ok(Form::Blank);
+        }
+        if self.opens(text)? {
+            return Ok(Form::Open);
+        }
+        if self.is_list(text)? {
+            return Ok(Form::Last);
+        }
+        Ok(Form::Whole)
+    }
+}
+
+/// Whether a text is a sequence with an empty list before `m`.
+fn is_reset(text: &[u8]) -> bool
+    ensures { result ≡ true → IsListed Form.Bare text.now }
+{
+    text == b"\x1b[m".as_slice()
+}

@@ -1,0 +1,116 @@
+//! What is noted of a sequence: the text that is written for it, and how that may be joined to others.
+ghost use Rattle.std.specs.Prelude.{◌≡◌, ◌+◌, ◌≤◌, ℕ, List, ◌∷◌, true, false, length, IfOk, OnOk};
+ghost use Rattle.csicodec_tokens.specs.Sequence.{Seq};
+ghost use Rattle.csicodec_filter.specs.Faithful.{stays};
+ghost use Rattle.csicodec_compact.specs.Private.Steps.{IsNote, IsOwn, closing, form_of, is_joined, list_of};
+
+use crate::compact::Compact;
+use crate::form::Form;
+use crate::lists::{Lists, numbers};
+use csicodec_base::{CsiParam, TextBuffer};
+use csicodec_filter::{Rewrite, stays};
+use csicodec_streams::Note;
+use std::alloc::{AllocError, Global};
+
+/// The note of a sequence: the number of its form, how many numbers it has, and its text. Of a list that is `;`, and the list.
+#[derive(Drop)]
+pub(crate) struct Short;
+
+impl Note for Short {
+    ghost use Rattle.csicodec_compact.specs.Private.Steps.{IsNote};
+
+    ghost notes = { λ bytes note. IsNote bytes note };
+}
+
+/// Whether a list before this final is one of attributes, which doesn't stay.
+fn are_attributes(params: &[CsiParam], control: char) -> bool
+    ensures { result ≡ true → stays params.now control ≡ false }
+{
+    control == 'm' && !stays(params, control)
+}
+
+/// The list of a text, without what closes it.
+fn list_of(text: &[u8], form: Form) -> &[u8]
+    requires { 2 + length (closing form) ≤ length text.now }
+    ensures { result.now ≡ list_of form text.now }
+{
+    let (_, rest) = text.split_at(2);
+    let (list, _) = rest.split_at(rest.len() - form.closing_len());
+    list
+}
+
+/// Writes a note.
+fn write_note(note: &mut TextBuffer, form: Form, text: &[u8]) -> Result<(), AllocError>
+    requires { is_joined form ≡ true → 2 + length (closing form) ≤ length text.now }
+    ensures whole { OnOk result (is_joined form ≡ false → (mark : ℕ) × (count : ℕ) × (form_of mark ≡ form) × (note.new ≡ mark ∷ count ∷ text.now)) }
+    ensures list { OnOk result (is_joined form ≡ true → (mark : ℕ) × (count : ℕ) × (form_of mark ≡ form) × (note.new ≡ mark ∷ count ∷ 59 ∷ list_of form text.now)) }
+{
+    note.clear();
+    note.push_slice(&[form.mark(), numbers(text)])?;
+    if form.is_joined() {
+        note.push_slice(b";")?;
+        note.push_slice(list_of(text, form))?;
+        return Ok(());
+    }
+    note.push_slice(text)?;
+    Ok(())
+}
+
+/// Finds what is noted of sequences.
+#[derive(Drop)]
+pub(crate) struct Notes {
+    compact: Compact,
+    lists: Lists,
+    text: Vec<u8>,
+    note: TextBuffer,
+}
+
+impl Notes {
+    /// With nothing noted.
+    pub(crate) fn new(alloc: Global, compact: Compact) -> Notes {
+        Notes {
+            compact,
+            lists: Lists::new(alloc),
+            text: Vec::new(alloc),
+            note: TextBuffer::new(alloc),
+        }
+    }
+
+    /// The form of the text.
+    fn form(&mut self, params: &[CsiParam], control: char) -> Result<Form, AllocError>
+        ensures own { IfOk result (λ form. IsOwn form self.old.text.items) }
+        ensures free { IfOk result (λ form. is_joined form ≡ true → stays params.now control ≡ false) }
+        ensures text { self.new.text.items ≡ self.old.text.items }
+    {
+        if are_attributes(params, control) {
+            self.lists.form(&self.text)
+        } else {
+            Ok(Form::Whole)
+        }
+    }
+
+    /// Finds what is noted of a sequence, and answers it.
+    pub(crate) fn find(
+        &mut self,
+        bytes: &[u8],
+        params: &[CsiParam],
+        control: char,
+    ) -> Result<(), AllocError>
+        requires { Seq bytes.now params.now control }
+        ensures { OnOk result (IsNote bytes.now self.new.note) }
+    {
+        self.text.clear();
+        self.compact
+            .rewrite(bytes, params, control, &mut self.text)?;
+        let form = self.form(params, control)?;
+        write_note(&mut self.note, form, &self.text)?;
+        Ok(())
+    }
+
+    /// What was found last.
+    pub(crate) fn note(&self) -> &[u8]
+        ensures { result.now ≡ self.now.note }
+    {
+        self.note.as_slice()
+    }
+}

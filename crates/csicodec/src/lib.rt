@@ -19,7 +19,9 @@ pub use csicodec_base::{
     read_csi_within, sgr_front,
 };
 pub use csicodec_filter::{Faithful, Filter, NormalForm, Rewrite, append_spans, filter_all};
-pub use csicodec_parser::{CSI, CSIParser, Count, Look, ParseGraphics, Run, Tokens, Unspecified};
+pub use csicodec_parser::{
+    ActionRef, CSI, CSIParser, Count, Look, ParseGraphics, Run, Tokens, Unspecified,
+};
 pub use csicodec_streams::{
     DecodeError, RunError, decode_all, encode, encode_all, normal_form, normalise, parse_all,
     parse_all_over,

@@ -7,6 +7,7 @@ use Rattle.std.proofs.lemmas.Option.{slice_get_within, get_or_from_slice_get}
 use Rattle.std.specs.declared.alloc.AllocError.{AllocError}
 use Rattle.csicodec_tokens.specs.declared.param.CsiParam.{CsiParam}
 use Rattle.csicodec_parser.specs.declared.actions.CSI.{CSI}
+use Rattle.csicodec_parser.specs.declared.parser.ActionRef.{ActionRef}
 use Rattle.csicodec_parser.specs.declared.parser.Stage.{Stage}
 use Rattle.csicodec_parser.specs.declared.parser.Stage.TheVariants.{Fresh, Going, Failed}
 use Rattle.csicodec_parser.specs.declared.group.Group.{Group}
@@ -16,7 +17,7 @@ use Rattle.csicodec_parser.specs.Groups.{group}
 use Rattle.csicodec_parser.specs.Cut.{IsRestAfter}
 use Rattle.csicodec_parser.specs.Segments.{Actions}
 use Rattle.csicodec_parser.specs.Progress.{Progress, ActionsOf, HasEnded, most_left}
-use Rattle.csicodec_parser.specs.Run.{Answers, Nexts}
+use Rattle.csicodec_parser.specs.Run.{Answers, AnswersRef, IsRef, Nexts, NextsRef}
 use Rattle.csicodec_parser.specs.Private.Steps.{rest_action, actions, actions_after, left_at, fresh_cost, from_at, GoesBy, CanGo, CutsOn, all_of, has_failed, Stands, Sound}
 use Rattle.csicodec_parser.proofs.Blocks.{after_some}
 use Rattle.csicodec_parser.proofs.Cuts.{actions_are, actions_only, actions_count, first_rest, more_rest}
@@ -69,11 +70,11 @@ rest_next (Going k) p g q h b on w =
     rw (add-one p.given) (more_rest g p.list p.final p.passed q p.given (b ∙ h.stands.0) h.stands.4 (h.stands.3 (omega arith)) on)
 rest_next Failed p g q h b on w = absurd b
 
-pub sound_ok : (s : Stage) (p q : Progress) (g : Group) (x : CSI) → p.failed ≡ has_failed s → Sound s p → Same p q → GoesBy s p.list p.final g
-    → left_at s p.flag p.final p.list p.passed ≡ action_of x ∷ left_at (Going g) p.flag p.final p.list q.passed
+pub sound_ok : (s : Stage) (p q : Progress) (g : Group) (a : Action) → p.failed ≡ has_failed s → Sound s p → Same p q → GoesBy s p.list p.final g
+    → left_at s p.flag p.final p.list p.passed ≡ a ∷ left_at (Going g) p.flag p.final p.list q.passed
     → q.passed ≤ length q.list → q.looks + 115 * p.passed ≤ p.looks + (1 + length p.list) * fresh_cost s + 115 * q.passed
     → q.given ≡ p.given + 1 → (q.passed < length q.list → CutsOn g p.list (from_at s g p.passed) q.passed) → Sound (Going g) q
-sound_ok s p q g x f h m b e w c i o =
+sound_ok s p q g a f h m b e w c i o =
     let n : p.failed ≡ false = not_failed s p _ _ f e in
     let w' : q.passed ≤ length p.list = rw (sym m.list) w in
     let d : drop (p.given + 1) (all_of p) ≡ left_at (Going g) p.flag p.final p.list q.passed = drop_one (all_of p) p.given _ _ (left_now s p f h n ∙ e) in
@@ -103,6 +104,30 @@ next_ok s p q g x f h m e w c i nf l =
       cheap = rw m.list (omega arith);
     }
 
+pub ref_ok : (s : Stage) (p q : Progress) (g : Group) (r : ActionRef) (a : Action) → p.failed ≡ has_failed s → Sound s p → Same p q
+    → left_at s p.flag p.final p.list p.passed ≡ a ∷ left_at (Going g) p.flag p.final p.list q.passed → IsRef r p.flag p.final a
+    → q.passed ≤ length q.list → q.looks + 115 * p.passed ≤ p.looks + (1 + length p.list) * fresh_cost s + 115 * q.passed
+    → q.given ≡ p.given + 1 → q.failed ≡ false → p.looks ≤ q.looks → NextsRef p (Some r) q
+ref_ok s p q g r a f h m e is w c i nf l =
+    let n : p.failed ≡ false = not_failed s p _ _ f e in
+    let w' : q.passed ≤ length p.list = rw (sym m.list) w in
+    let b : q.looks ≤ 1 + length p.list + 115 * q.passed = budget s p q.passed q.looks h w' c n f in
+    record {
+      list = m.list;
+      flag = m.flag;
+      final = m.final;
+      answers = by_actions p (λ xs. AnswersRef xs p (Some r) q) (n, (a, at_drop (all_of p) p.given _ _ (left_now s p f h n ∙ e), is), i, nf);
+      counted = l;
+      cheap = rw m.list (omega arith);
+    }
+
+-- what is unread is one action, and nothing is left behind it
+pub rest_alone : (g : Group) (flag : Bool) (final : ℕ) (list : List CsiParam) (p q : ℕ) (xs : List Action) → xs ≡ rest_action g (drop p list) flag final ∷ [] → length list ≤ q
+    → xs ≡ rest_action g (drop p list) flag final ∷ actions_after g flag final (drop q list)
+rest_alone g flag final list p q xs is long =
+    let d : drop q list ≡ [] = drop_all q list long in
+    rw d is
+
 pub next_err : (s : Stage) (p q : Progress) (x : AllocError) (g : Group) (rest : List CsiParam) → p.failed ≡ has_failed s → Sound s p → Same p q
     → left_at s p.flag p.final p.list p.passed ≡ rest_action g rest p.flag p.final ∷ []
     → q.looks + 115 * p.passed ≤ p.looks + (1 + length p.list) * fresh_cost s + 115 * length p.list
@@ -131,6 +156,10 @@ within_budget Failed p h = let a = h.stands in omega arith
 
 pub next_none : (s : Stage) (p : Progress) → p.failed ≡ has_failed s → Sound s p → left_at s p.flag p.final p.list p.passed ≡ [] → Nexts p None p
 next_none s p f h e =
+    record { list = refl; flag = refl; final = refl; answers = λ xs is. (ended s p f h e, refl); counted = omega arith; cheap = within_budget s p h }
+
+pub ref_none : (s : Stage) (p : Progress) → p.failed ≡ has_failed s → Sound s p → left_at s p.flag p.final p.list p.passed ≡ [] → NextsRef p None p
+ref_none s p f h e =
     record { list = refl; flag = refl; final = refl; answers = λ xs is. (ended s p f h e, refl); counted = omega arith; cheap = within_budget s p h }
 
 -- ---- one call leaves less

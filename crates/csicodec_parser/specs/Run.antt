@@ -1,8 +1,12 @@
--- One call of `next`.
-use Rattle.std.specs.Prelude.{◌≡◌, ◌+◌, ◌*◌, ◌≤◌, true, false, List, length, slice_get, Option, Some, None, Ok, Err, Result}
+-- One call of `next`, and of `next_ref`.
+use Rattle.std.specs.Prelude.{ℕ, Bool, ◌≡◌, ◌+◌, ◌*◌, ◌≤◌, true, false, List, ◌∷◌, length, slice_get, unwrap_or, Option, Some, None, Ok, Err, Result}
 use Rattle.std.specs.declared.alloc.AllocError.{AllocError}
+use Rattle.csicodec_tokens.specs.declared.param.CsiParam.TheVariants.{P}
 use Rattle.csicodec_parser.specs.declared.actions.CSI.{CSI}
-use Rattle.csicodec_actions.specs.Actions.{Action, TakesMemory}
+use Rattle.csicodec_parser.specs.declared.parser.ActionRef.{ActionRef}
+use Rattle.csicodec_parser.specs.declared.parser.ActionRef.TheVariants as refs
+use Rattle.csicodec_actions.specs.Actions.{Action, TakesMemory, Unspecified}
+use Rattle.csicodec_actions.specs.Table.{boxed}
 use Rattle.csicodec_parser.specs.ActionOf.{action_of}
 use Rattle.csicodec_parser.specs.Progress.{Progress, ActionsOf, HasEnded}
 
@@ -23,5 +27,26 @@ pub record Nexts (old : Progress) (answer : Option (Result CSI AllocError)) (new
   pub flag : new.flag ≡ old.flag
   pub final : new.final ≡ old.final
   pub answers : (actions : List Action) → ActionsOf old actions → Answers actions old answer new
+  pub counted : old.looks ≤ new.looks
+  pub cheap : new.looks ≤ 128 * (length new.list + 1)
+
+-- the action that lends its tokens so, with the flag and the final character of the list
+abbrev pub IsRef : ActionRef → Bool → ℕ → Action → Type 0
+IsRef (refs.Small csi) flag final action = action ≡ action_of csi
+IsRef (refs.Whole list) flag final action = action ≡ unwrap_or (boxed list.now final) (Unspecified list.now flag final)
+IsRef (refs.Unknown list) flag final action = action ≡ Unspecified list.now flag final
+IsRef (refs.UnknownMode list) flag final action = action ≡ Unspecified (P 63 ∷ list.now) flag final
+
+-- What `next_ref` answers, all actions of the list being these.
+abbrev pub AnswersRef : List Action → Progress → Option ActionRef → Progress → Type 0
+AnswersRef actions old None new = HasEnded old × (new ≡ old)
+AnswersRef actions old (Some r) new =
+    (old.failed ≡ false) × ((action : Action) × (slice_get actions old.given ≡ Some action) × IsRef r old.flag old.final action) × (new.given ≡ old.given + 1) × (new.failed ≡ false)
+
+pub record NextsRef (old : Progress) (answer : Option ActionRef) (new : Progress) : Type 0 where
+  pub list : new.list ≡ old.list
+  pub flag : new.flag ≡ old.flag
+  pub final : new.final ≡ old.final
+  pub answers : (actions : List Action) → ActionsOf old actions → AnswersRef actions old answer new
   pub counted : old.looks ≤ new.looks
   pub cheap : new.looks ≤ 128 * (length new.list + 1)

@@ -18,6 +18,6 @@ pub use count::Count;
 pub use graphics::ParseGraphics;
 pub use list::list_into;
 pub use look::Look;
-pub use parser::{CSIParser, Run};
+pub use parser::{ActionRef, CSIParser, Run};
 pub use sink::{Sink, Texts};
 pub use tokens::Tokens;

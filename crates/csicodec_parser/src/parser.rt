@@ -4,6 +4,7 @@ ghost use Rattle.csicodec_tokens.specs.declared.param.CsiParam.{CsiParam};
 ghost use Rattle.csicodec_actions.specs.Actions.{Unspecified as Unknown};
 ghost use Rattle.csicodec_parser.specs.ActionOf.{action_of};
 ghost use Rattle.csicodec_parser.specs.Groups.{group as group_of_list, has_odd, marked, start};
+ghost use Rattle.csicodec_parser.specs.Run.{IsRef};
 ghost use Rattle.csicodec_parser.specs.Segments.{Actions};
 ghost use Rattle.csicodec_actions.specs.Table.{plain, whole};
 ghost use Rattle.csicodec_parser.specs.Private.Steps.{with_semicolon, block, rest_action, left_at, fresh_cost, from_at, GoesBy, CanGo, CutsOn};
@@ -65,6 +66,19 @@ impl<L: Look> Model for Run<L> {
 /// let parser: CSIParser<'_> = CSI::parse(alloc, &params, false, 'm');
 /// ```
 pub type CSIParser<'a> = Run<Tokens<'a>>;
+
+/// An action whose tokens are lent from the list that it was read from, so that it takes no memory.
+pub enum ActionRef<'a> {
+    /// One without tokens, of a list that is cut or read whole: no `Device`, `Window` or `Unspecified`.
+    Small(CSI),
+    /// The one action of this list, which is read whole: a `Device` or a `Window` where a row reads it, and else
+    /// `Unspecified`.
+    Whole(&'a [CsiParam]),
+    /// `Unspecified`, of these tokens.
+    Unknown(&'a [CsiParam]),
+    /// The same with a `?` ahead of them, which stands before the private modes.
+    UnknownMode(&'a [CsiParam]),
+}
 
 /// The group of the list, by one look at its first token.
 pub(crate) fn group_of<L: Look>(look: &mut L, control: char) -> Group
@@ -196,6 +210,24 @@ fn rest_action<L: Look>(
         };
     }
     unspecified(group, look, alloc, truncated, control)
+}
+
+/// The same without memory. The tokens are passed.
+fn rest_ref<'a>(group: Group, look: &mut Tokens<'a>) -> ActionRef<'a>
+    requires { look.old.passed ≤ length look.old.list }
+    ensures is { (flag : Bool) (final : ℕ) → IsRef result flag final (rest_action group (drop look.old.passed look.old.list) flag final) }
+    ensures all { look.new.passed ≡ length look.new.list }
+    ensures list { look.new.list ≡ look.old.list }
+    ensures costs { look.new.looks + look.old.passed ≡ look.old.looks + length look.old.list }
+{
+    let rest = look.rest();
+    let len = look.len();
+    look.pass(len);
+    match group {
+        Group::Whole => ActionRef::Whole(rest),
+        Group::Styles | Group::Modes(_) => ActionRef::Unknown(rest),
+        Group::DecModes(_) => ActionRef::UnknownMode(rest),
+    }
 }
 
 /// The one action of a list that is read whole, where a row reads it and it takes no memory. Then all tokens are passed.
@@ -418,8 +450,9 @@ impl CSI {
 }
 
 impl<'a> Run<Tokens<'a>> {
-    ghost use Rattle.csicodec_parser.specs.Progress.{HasEnded};
+    ghost use Rattle.csicodec_parser.specs.Progress.{HasEnded, most_left};
     ghost use Rattle.csicodec_parser.specs.Cut.{IsRestAfter};
+    ghost use Rattle.csicodec_parser.specs.Run.{NextsRef};
 
     /// The unread end of the caller's list: all of it before the first `next`, and never `Some` of nothing after one. It may be
     /// kept for as long as the list. `None` after the last action, and after an `Err`.
@@ -444,6 +477,36 @@ impl<'a> Run<Tokens<'a>> {
             Stage::Going(_) if self.look.len() > 0 => Some(self.look.rest()),
             Stage::Going(_) => None,
             Stage::Failed => None,
+        }
+    }
+
+    /// What `next` answers, with its tokens lent from the caller's list: it takes no memory, and never fails.
+    ///
+    /// ```text
+    /// let mut run = CSI::parse(alloc, &params, false, '~');     // where params are 200
+    /// run.next_ref()    // Whole, of the same list: no row reads it
+    /// run.next_ref()    // None
+    /// ```
+    #[inline(always)]
+    pub fn next_ref(&mut self) -> Option<ActionRef<'a>>
+        ensures next { NextsRef self.old result self.new }
+        ensures fewer { IfSome result (λ _. most_left self.new < most_left self.old) }
+    {
+        let Some(group) = group_at(self.stage, &mut self.look, self.control) else {
+            return None;
+        };
+        match action_at(self.stage, group, &mut self.look, self.control) {
+            Some(action) => {
+                self.stage = Stage::Going(group);
+                self.given.charge(1, 1);
+                Some(ActionRef::Small(action))
+            }
+            None => {
+                let rest = rest_ref(group, &mut self.look);
+                self.stage = Stage::Going(group);
+                self.given.charge(1, 1);
+                Some(rest)
+            }
         }
     }
 }

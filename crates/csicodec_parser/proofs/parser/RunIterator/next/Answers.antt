@@ -1,4 +1,5 @@
 use Rattle.std.proofs.Common.{true, false, refl, sym, rules, arith, ◌∙◌, ap, length}
+use Rattle.csicodec_parser.specs.ActionOf.{action_of}
 use Rattle.csicodec_parser.specs.Progress.{Progress}
 use Rattle.csicodec_parser.proofs.Blocks.{unknown_left}
 use Rattle.csicodec_parser.proofs.NextLemmas.{sound_ok, next_ok, next_err, next_none, goes_ok, goes_err}
@@ -15,7 +16,7 @@ invariant_of-self-in-Some-action_at g c =
     let told = rw (list, passed) at (c.in-Some-action_at.ensures.some c.self.inside.truncated) in
     let going = rw (list, passed) at c.in-Some-action_at.ensures.going in
     let cut = rw (list, passed) at c.in-Some-action_at.ensures.cut in
-    sound_ok c.self.inside.stage _ _ c.in-Some.group c.in-Some-action_at.action refl c.self.invariant (record { list = c.action_at.ensures.list ∙ list; flag = refl; final = refl })
+    sound_ok c.self.inside.stage _ _ c.in-Some.group (action_of c.in-Some-action_at.action) refl c.self.invariant (record { list = c.action_at.ensures.list ∙ list; flag = refl; final = refl })
     c.in-Some.ensures.group told c.action_at.ensures.within (omega (arith, going, c.group_at.ensures.costs)) c.charge.ensures cut
 
 pub returns-in-Some-action_at-clause-steps : goal.returns-in-Some-action_at-clause-steps
@@ -56,7 +57,7 @@ invariant_of-self-in-Ok g c =
     let all = c.in-Ok.ensures.all in
     let more = unknown_left c.in-Some.group c.self.inside.truncated c.self.inside.control (g.L.Look.tokens c.self.inside.look) (g.L.Look.tokens c.action_at.new.look) (g.L.Look.tokens c.rest_action.new.look)
     (g.L.Look.passed c.action_at.new.look) (g.L.Look.passed c.rest_action.new.look) c.in-Ok.action _ now c.rest_action.ensures.list told c.in-Ok.ensures.ok all in
-    sound_ok c.self.inside.stage _ _ c.in-Some.group c.in-Ok.action refl c.self.invariant (record { list = c.rest_action.ensures.list ∙ now; flag = refl; final = refl })
+    sound_ok c.self.inside.stage _ _ c.in-Some.group (action_of c.in-Ok.action) refl c.self.invariant (record { list = c.rest_action.ensures.list ∙ now; flag = refl; final = refl })
     c.in-Some.ensures.group more c.rest_action.ensures.within (omega (arith, left, c.group_at.ensures.costs, c.rest_action.ensures.costs, all, ap length c.rest_action.ensures.list, ap length now)) c.charge-in-Ok.ensures
     (λ w. absurd (omega (arith, w, all)))
 

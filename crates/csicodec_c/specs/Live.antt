@@ -1,5 +1,5 @@
 -- What the calls that clean untrusted text step by step answer a C program.
-use Rattle.std.specs.Prelude.{ℕ, ◌≡◌, ◌≤◌, ◌⊎◌, Bool, List, length, drop}
+use Rattle.std.specs.Prelude.{ℕ, ◌≡◌, ◌≤◌, ◌⊎◌, Bool, List, [], ◌∷◌, ◌++◌, length, take, drop}
 use Rattle.csicodec_safe.specs.declared.colors.Depth.{Depth}
 use Rattle.csicodec_safe.specs.declared.pause.Pause.{Pause}
 use Rattle.csicodec_safe.specs.Cleaned.{RuleOf, drops}
@@ -25,11 +25,15 @@ IsState state len p = (state ≡ numbers p) × (p.held ≤ 3) × (p.held ≤ len
 abbrev pub IsBadState : Cleaning → ℕ → Type 0
 IsBadState state len = (p : Pause) → IsState state len p → ⊥
 
+-- the state of a stream of which nothing has come
+abbrev pub zeros : Cleaning
+zeros = record { mode = 0; titled = 0; styled = 0; held = 0 }
+
 abbrev pub cleaned : Pause → ℕ → ℕ → Cleaned
 cleaned p used needed = record { status = 0; state = numbers p; used = used; needed = needed }
 
 abbrev pub refused : ℕ → Cleaned
-refused status = record { status = status; state = record { mode = 0; titled = 0; styled = 0; held = 0 }; used = 0; needed = 0 }
+refused status = record { status = status; state = zeros; used = 0; needed = 0 }
 
 -- a step by a rule, whose state is told by whether a style is open: the text of what is sure, which is put where it fits, how many bytes
 -- were used, and the state behind them, which the others can go on from
@@ -60,6 +64,14 @@ pub record IsEnd (state : Cleaning) (bytes old new : List ℕ) (answer : Strippe
   pub is : state ≡ numbers pause
   pub tells : answer ≡ stripped (length (ending pause bytes))
   pub fills : Fills old new (ending pause bytes)
+
+-- calls in turn, each over the bytes that the one before it didn't use and then a chunk, with room enough: all that they put, the state
+-- behind them, and the bytes that are left there
+abbrev pub AreCalls : (Cleaning → List ℕ → List ℕ → List ℕ → Cleaned → Type 0) → Cleaning → List ℕ → List (List ℕ) → List ℕ → Cleaning → List ℕ → Type 0
+AreCalls IsCall state again [] all last left = (all ≡ []) × (last ≡ state) × (left ≡ again)
+AreCalls IsCall state again (chunk ∷ chunks) all last left =
+    (answer : Cleaned) × (old : List ℕ) × (new : List ℕ) × (others : List ℕ) × IsCall state (again ++ chunk) old new answer × (answer.needed ≤ length old)
+    × (all ≡ take answer.needed new ++ others) × AreCalls IsCall answer.state (drop answer.used (again ++ chunk)) chunks others last left
 
 -- or memory ran out, or the state is none, and then nothing is put
 pub record IsStripRefused (state : Cleaning) (len : ℕ) (old new : List ℕ) (answer : Cleaned) : Type 0 where

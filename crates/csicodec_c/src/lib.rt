@@ -3,6 +3,7 @@
 
 mod compact;
 mod filter;
+pub mod laws;
 mod live;
 mod sequences;
 mod span;

@@ -1,0 +1,112 @@
+-- Calls that clean untrusted text step by step, in turn.
+use Rattle.std.proofs.Common.{◌≡◌, ◌≤◌, ◌<◌, ℕ, Bool, true, false, cond, List, [], ◌∷◌, ◌++◌, length, take, drop, refl, sym, ap, subst, ◌∙◌, arith}
+use Rattle.std.specs.Prelude.{◌==◌}
+use Rattle.std.specs.List.{concat}
+use Rattle.std.proofs.Math.Seq.{take-append_seam}
+use Rattle.csicodec_spans.specs.declared.table.Mode.{Mode}
+use Rattle.csicodec_spans.specs.declared.table.Mode.TheVariants as modes
+use Rattle.csicodec_safe.specs.declared.colors.Depth.{Depth}
+use Rattle.csicodec_safe.specs.declared.colors.Depth.TheVariants as depths
+use Rattle.csicodec_safe.specs.declared.pause.Pause.{Pause}
+use Rattle.csicodec_safe.specs.Cleaned.{RuleOf, Strips, drops, longest}
+use Rattle.csicodec_safe.specs.Steps.{AreStepped, Steps, bare, beginning, ending}
+use Rattle.csicodec_safe.specs.Styled.{Keeping, StylesIn, resumed, stays, without_links}
+use Rattle.csicodec_safe.proofs.Paused.{cleaned_steps, stripped_steps}
+use Rattle.csicodec_c.specs.declared.live.Cleaned.{Cleaned}
+use Rattle.csicodec_c.specs.declared.live.Cleaning.{Cleaning}
+use Rattle.csicodec_c.specs.declared.strip.Stripped.{Stripped}
+use Rattle.csicodec_c.specs.Filter.{mode_number}
+use Rattle.csicodec_c.specs.Live.{AreCalls, IsCleanStep, IsEnd, IsStep, IsStripStep, numbers, zeros}
+use Rattle.csicodec_plain.specs.Room.{Fills}
+use Rattle.csicodec_c.specs.Strip.{bit, depth_number}
+
+-- ---- numbers are of one state
+
+abbrev mode_of : ℕ → Mode
+mode_of n = cond (n == 0) modes.Text (cond (n == 1) modes.Osc (cond (n == 2) modes.Dcs (cond (n == 3) modes.Str (cond (n == 4) modes.BadCsi modes.BadEsc))))
+
+mode_back : (m : Mode) → mode_of (mode_number m) ≡ m
+mode_back modes.Text = refl
+mode_back modes.Osc = refl
+mode_back modes.Dcs = refl
+mode_back modes.Str = refl
+mode_back modes.BadCsi = refl
+mode_back modes.BadEsc = refl
+
+bit_back : (b : Bool) → (bit b == 1) ≡ b
+bit_back true = refl
+bit_back false = refl
+
+abbrev depth_of : ℕ → Depth
+depth_of n = cond (n == 0) depths.Full (cond (n == 1) depths.Palette depths.Ansi)
+
+depth_back : (d : Depth) → depth_of (depth_number d) ≡ d
+depth_back depths.Full = refl
+depth_back depths.Palette = refl
+depth_back depths.Ansi = refl
+
+abbrev made : Mode → Bool → Bool → ℕ → Pause
+made m t s n = record { mode = m; titled = t; styled = s; held = n }
+
+abbrev pause_of : Cleaning → Pause
+pause_of c = made (mode_of c.mode) (c.titled == 1) (c.styled == 1) c.held
+
+pause_back : (p : Pause) → pause_of (numbers p) ≡ p
+pause_back p =
+    ap (λ (m : Mode). made m (bit p.titled == 1) (bit p.styled == 1) p.held) (mode_back p.mode) ∙ ap (λ (t : Bool). made p.mode t (bit p.styled == 1) p.held) (bit_back p.titled)
+    ∙ ap (λ (s : Bool). made p.mode p.titled s p.held) (bit_back p.styled)
+
+same_pause : (state : Cleaning) (p q : Pause) → state ≡ numbers p → state ≡ numbers q → p ≡ q
+same_pause state p q e f = sym (pause_back p) ∙ ap pause_of (sym e ∙ f) ∙ pause_back q
+
+-- what room shows of a text that fits
+shows : (old new made : List ℕ) (n : ℕ) → Fills old new made → n ≡ length made → n ≤ length old → take n new ≡ made
+shows old new made n fills e low =
+    let fits : length made ≤ length old = omega (arith, e, low) in
+    ap (λ (i : ℕ). take i new) e ∙ ap (λ (t : List ℕ). take (length made) t) (fills.0 fits) ∙ take-append_seam made (drop (length made) old)
+
+-- ---- calls in turn are steps in turn
+
+module _ {S : Type 0} (Gives : RuleOf S) (rule : Bool → S) (IsCall : Cleaning → List ℕ → List ℕ → List ℕ → Cleaned → Type 0) where
+  calls_stepped : ((s : Cleaning) (b o n : List ℕ) (a : Cleaned) → IsCall s b o n a → IsStep Gives rule s b o n a) → (chunks : List (List ℕ)) (state : Cleaning) (p : Pause) (again all : List ℕ) (last : Cleaning) (left : List ℕ)
+      → state ≡ numbers p → AreCalls IsCall state again chunks all last left → (q : Pause) × (last ≡ numbers q) × AreStepped Gives rule p again chunks all q left
+  calls_stepped f [] state p again all last left is (none, same, e) = (p, same ∙ is, (none, refl, e))
+  calls_stepped f (chunk ∷ chunks) state p again all last left is (answer, old, new, others, call, room, e, rest) =
+      let bytes = again ++ chunk in
+      let s = f state bytes old new answer call in
+      let one : s.before ≡ p = same_pause state s.before p s.began is in
+      let used : s.used ≡ answer.used = sym (ap (λ (a : Cleaned). a.used) s.tells) in
+      let (q, ends, stepped) = calls_stepped f chunks answer.state s.after (drop answer.used bytes) others last left (ap (λ (a : Cleaned). a.state) s.tells) rest in
+      let from : Steps Gives (rule p.styled) p bytes s.text (rule s.after.styled) s.after (drop s.used bytes) =
+      subst (λ (x : Pause). Steps Gives (rule x.styled) x bytes s.text (rule s.after.styled) s.after (drop s.used bytes)) one s.steps in
+      let step : Steps Gives (rule p.styled) p bytes s.text (rule s.after.styled) s.after (drop answer.used bytes) =
+      subst (λ (i : ℕ). Steps Gives (rule p.styled) p bytes s.text (rule s.after.styled) s.after (drop i bytes)) used from in
+      (q, ends, (s.after, drop answer.used bytes, s.text, others, step, e ∙ ap (λ (t : List ℕ). t ++ others) (shows old new s.text answer.needed s.fills (ap (λ (a : Cleaned). a.needed) s.tells) room), stepped))
+
+none_styled : (chunks : List (List ℕ)) (state : Cleaning) (again all : List ℕ) (last : Cleaning) (left : List ℕ) → AreCalls IsStripStep state again chunks all last left → last.styled ≡ state.styled
+none_styled [] state again all last left (none, same, e) = ap (λ (s : Cleaning). s.styled) same
+none_styled (chunk ∷ chunks) state again all last left (answer, old, new, others, call, room, e, rest) =
+    none_styled chunks answer.state (drop answer.used (again ++ chunk)) others last left rest ∙ call.1
+
+-- what is put at the end
+ended : (last : Cleaning) (left old new : List ℕ) (answer : Stripped) (q : Pause) → last ≡ numbers q → IsEnd last left old new answer → answer.needed ≤ length old → take answer.needed new ≡ ending q left
+ended last left old new answer q is end room =
+    shows old new (ending end.pause left) answer.needed end.fills (ap (λ (a : Stripped). a.needed) end.tells) room ∙ ap (λ (p : Pause). ending p left) (same_pause last end.pause q end.is is)
+
+pub stripped_calls : (chunks : List (List ℕ)) (all left old new : List ℕ) (last : Cleaning) (answer : Stripped) → AreCalls IsStripStep zeros [] chunks all last left → IsEnd last left old new answer → answer.needed ≤ length old
+    → Strips longest (concat chunks) (all ++ take answer.needed new)
+stripped_calls chunks all left old new last answer calls end room =
+    let (q, is, stepped) = calls_stepped drops (λ _. bare) IsStripStep (λ s b o n a h. h.0) chunks zeros beginning [] all last left refl calls in
+    let none : q.styled ≡ false = sym (bit_back q.styled) ∙ ap (λ (n : ℕ). n == 1) (sym (ap (λ (s : Cleaning). s.styled) is) ∙ none_styled chunks zeros [] all last left calls) in
+    subst (λ (t : List ℕ). Strips longest (concat chunks) (all ++ t)) (sym (ended last left old new answer q is end room)) (stripped_steps chunks all left q stepped none)
+
+in_depth : (d : Depth) (s : Cleaning) (b o n : List ℕ) (a : Cleaned) → IsCleanStep (depth_number d) s b o n a → IsStep (stays (λ (k : Keeping). k)) (resumed d) s b o n a
+in_depth d s b o n a (other, same, step) =
+    let one : other ≡ d = sym (depth_back other) ∙ ap depth_of (sym same) ∙ depth_back d in
+    subst (λ (x : Depth). IsStep (stays (λ (k : Keeping). k)) (resumed x) s b o n a) one step
+
+pub cleaned_calls : (d : Depth) (chunks : List (List ℕ)) (all left old new : List ℕ) (last : Cleaning) (answer : Stripped) → AreCalls (IsCleanStep (depth_number d)) zeros [] chunks all last left → IsEnd last left old new answer
+    → answer.needed ≤ length old → StylesIn (without_links d) (concat chunks) (all ++ take answer.needed new)
+cleaned_calls d chunks all left old new last answer calls end room =
+    let (q, is, stepped) = calls_stepped (stays (λ (k : Keeping). k)) (resumed d) (IsCleanStep (depth_number d)) (in_depth d) chunks zeros beginning [] all last left refl calls in
+    subst (λ (t : List ℕ). StylesIn (without_links d) (concat chunks) (all ++ t)) (sym (ended last left old new answer q is end room)) (cleaned_steps d chunks all left q stepped)

@@ -1,4 +1,4 @@
-/* Each allocation fails in turn: the call says so, and everything is given back; and how many allocations csicodec_next makes.
+/* Each allocation fails in turn: the call says so, and everything is given back; and how many allocations a call makes.
  * Link with -Wl,--wrap=malloc,--wrap=realloc,--wrap=free. */
 #include "csicodec.h"
 
@@ -39,12 +39,6 @@ void __wrap_free(void *block) {
  * reads without memory. */
 static const char *const texts[] = {"\x1b[1;38:2::1:2:3;0%m", "\x1b[?62;2;7;9;11;13c", "\x1b[4;40;30t", "\x1b[?2;1;9;8S",
                                     "\x1b[1;3;4;5;7;8;9;53;21;22;0;1;3;4;5;7;8;9;53;21m"};
-/* How many allocations csicodec_next makes: none but for a device, a window, or what none of the rules reads. */
-static const struct {
-    const char *text;
-    long asked;
-} costs[] = {{"\x1b[1;38:2::1:2:3m", 0}, {"\x1b[?2004;25h", 0}, {"\x1b[3;4H", 0}, {"\x1b[<4;3;4M", 0}, {"\x1b[>3;2u", 0}, {"\x1b[1;3;4;5;7;8;9;53;21;22;0;1;3;4;5;7m", 0},
-             {"\x1b[c", 1}, {"\x1b[200~", 2}, {"\x1b[1;5A", 2}};
 static uint8_t out[256];
 static struct csicodec_action actions[32];
 static struct csicodec_param params[64];
@@ -72,6 +66,32 @@ static uint32_t judge(const uint8_t *text, size_t len) {
 static uint32_t filter(const uint8_t *text, size_t len) {
     return csicodec_filter(CSICODEC_FILTER_TEXT, 64, text, len, out, sizeof out).status;
 }
+
+/* How many allocations a call makes. csicodec_next: none but for a terminal's extensions, a window or graphics, of up to 32
+ * tokens; csicodec_normalise and csicodec_encode: none for one short sequence with one action that has no tokens. */
+static const struct {
+    uint32_t (*call)(const uint8_t *, size_t);
+    const char *text;
+    long asked;
+} costs[] = {{next, "\x1b[1;38:2::1:2:3m", 0},
+             {next, "\x1b[?2004;25h", 0},
+             {next, "\x1b[3;4H", 0},
+             {next, "\x1b[<4;3;4M", 0},
+             {next, "\x1b[>3;2u", 0},
+             {next, "\x1b[1;3;4;5;7;8;9;53;21;22;0;1;3;4;5;7m", 0},
+             {next, "\x1b[c", 0},
+             {next, "\x1b[200~", 0},
+             {next, "\x1b[1;5A", 0},
+             {next, "\x1b[1;999;3m", 0},
+             {next, "\x1b[?1;99999h", 0},
+             {next, "\x1b[?62;2;7c", 1},
+             {next, "\x1b[8;24;80t", 1},
+             {next, "\x1b[?1;0;256S", 2},
+             {normalise, "\x1b[1m", 0},
+             {normalise, "\x1b[005;7H", 0},
+             {normalise, "\x1b[?2004h", 0},
+             {encode, "\x1b[1m", 0},
+             {encode, "\x1b[5;7H", 0}};
 
 static uint32_t compact(const uint8_t *text, size_t len) {
     return csicodec_compact_semicolons(CSICODEC_FILTER_TEXT, 64, text, len, out, sizeof out).status;
@@ -138,9 +158,12 @@ int main(void) {
         return 3;
     }
     for (size_t i = 0; i < sizeof costs / sizeof costs[0]; i++) {
+        const uint8_t *text = (const uint8_t *)costs[i].text;
+        size_t len = strlen(costs[i].text);
+        next(text, len);
         asked = 0;
-        if (next((const uint8_t *)costs[i].text, strlen(costs[i].text)) == CSICODEC_OK && asked == costs[i].asked) continue;
-        fprintf(stderr, "starve: csicodec_next of ESC %s makes %ld allocations, not %ld\n", costs[i].text + 1, asked, costs[i].asked);
+        if (costs[i].call(text, len) == CSICODEC_OK && asked == costs[i].asked) continue;
+        fprintf(stderr, "starve: cost %zu, of ESC %s: %ld allocations, not %ld\n", i, costs[i].text + 1, asked, costs[i].asked);
         return 2;
     }
     printf("each allocation was refused in turn\n");

@@ -54,7 +54,8 @@ def rows():
     for group in BY_NUMBER:
         value = f"place ({low(group)}_of {low(group)}.now)" if has_tokens(group) else f"{low(group)}.now"
         place = "place: usize, " if has_tokens(group) else ""
-        body += f"\nfn {low(group)}_plain({place}{low(group)}: &{type_of(group)}) -> Plain\n    ensures {{ result ≡ {low(group)}_plain {value} }}\n{{\n    match {low(group)} {{\n"
+        public = "pub(crate) " if is_boxed(group) else ""
+        body += f"\n{public}fn {low(group)}_plain({place}{low(group)}: &{type_of(group)}) -> Plain\n    ensures {{ result ≡ {low(group)}_plain {value} }}\n{{\n    match {low(group)} {{\n"
         for kind in of(group):
             body += code_row(*kind)
         body += "    }\n}\n"
@@ -134,7 +135,7 @@ pub(crate) const UNSPECIFIED: u32 = 0;
         body += "        _ => None,\n    }\n}\n"
     body += """
 /// Of what takes no memory.
-fn small_candidate(plain: &Plain) -> Option<CSI>
+pub(crate) fn small_candidate(plain: &Plain) -> Option<CSI>
     ensures in_range { IfSome result (λ csi. InRange (action_of csi)) }
     ensures named { IfSome result (λ csi. IsNamed (action_of csi)) }
     ensures bare { IfSome result (λ csi. params_of (action_of csi) ≡ []) }

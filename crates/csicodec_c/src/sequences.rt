@@ -1,6 +1,6 @@
 //! Sequences and their actions, which are plain structs.
 ghost use Rattle.std.specs.Prelude.{◌≡◌, ◌⊎◌};
-ghost use Rattle.csicodec_plain.specs.Answer.{IsDone as IsNormalised, IsRefused as RefusesToNormalise};
+ghost use Rattle.csicodec_plain.specs.Normalise.{IsDone as IsNormalised, IsRefused as RefusesToNormalise};
 ghost use Rattle.csicodec_plain.specs.Encode.{IsDone as IsEncoded, IsRefused as RefusesToEncode, IsJudged, StandsForNone, judgement};
 ghost use Rattle.csicodec_plain.specs.Next.{IsDone as IsLaid, IsRefused as RefusesToLay};
 

@@ -1,13 +1,22 @@
 -- Room with one item more, and with one action more.
-use Rattle.std.proofs.Common.{◌≡◌, ◌<◌, ◌≤◌, ◌+◌, ℕ, suc, List, [], ◌∷◌, ◌++◌, length, map, take, slice_index_or, slice_set, Some, ap, sym, refl, ◌∙◌, arith, append_assoc, length-append}
+use Rattle.std.specs.Prelude.{IfOk, IfSome, Ok, Err, Result, unwrap_or}
+use Rattle.std.proofs.Common.{◌≡◌, ◌<◌, ◌≤◌, ◌+◌, ℕ, suc, false, List, [], ◌∷◌, ◌++◌, length, map, take, slice_index_or, slice_set, Option, Some, None, ap, sym, subst, refl, ◌∙◌, arith, append_assoc, length-append}
 use Rattle.std.specs.List.{slice_get}
+use Rattle.std.specs.Option.{ok_or, option_map}
+use Rattle.std.specs.declared.alloc.AllocError.{AllocError}
 use Rattle.std.proofs.lemmas.List.{flat_map_more, map_more, take_more}
 use Rattle.std.proofs.lemmas.Option.{get_or_from_slice_get, slice_get_within}
-use Rattle.csicodec_actions.specs.Actions.{Action}
-use Rattle.csicodec_plain.specs.declared.next.Counts.{Counts}
+use Rattle.csicodec_tokens.specs.declared.param.CsiParam.{CsiParam}
+use Rattle.csicodec_actions.specs.Actions.{Action, Unspecified}
+use Rattle.csicodec_actions.specs.Table.{boxed}
+use Rattle.csicodec_parser.specs.declared.parser.ActionRef.{ActionRef}
+use Rattle.csicodec_parser.specs.Run.{IsRef}
+use Rattle.csicodec_plain.specs.declared.lay.Counts.{Counts}
+use Rattle.csicodec_plain.specs.declared.lay.Large.{Large}
 use Rattle.csicodec_plain.specs.declared.plain.Param.{Param}
 use Rattle.csicodec_plain.specs.declared.plain.Plain.{Plain}
 use Rattle.csicodec_plain.specs.Next.{Lays, all_params, plains}
+use Rattle.csicodec_plain.specs.Private.Fronts.{LaysOne, large_of}
 use Rattle.csicodec_plain.specs.Room.{laid}
 use Rattle.csicodec_plain.specs.Rows.{params_of, plain_of}
 
@@ -105,3 +114,44 @@ lays_none actions params = record { actions = refl; params = refl; lays_actions 
 
 pub take_got : (all : List Action) (i : ℕ) (a : Action) → slice_get all i ≡ Some a → take (i + 1) all ≡ take i all ++ a ∷ []
 take_got all i a e = take_more all i a (slice_get_within all i a e) ∙ ap (λ x. take i all ++ x ∷ []) (get_or_from_slice_get all i a a e)
+
+-- ---- one action more, by where its tokens are
+
+-- what is answered where none may be counted
+pub or_failed : (o : Option Counts) (r : Result Counts AllocError) (e : AllocError) (P Q : Counts → Type 0) → r ≡ ok_or o e → ((n : Counts) → P n → Q n) → IfSome o P → IfOk r Q
+or_failed None r e P Q is more held = subst (λ (x : Result Counts AllocError). IfOk x Q) (sym is) tt
+or_failed (Some n) r e P Q is more held = subst (λ (x : Result Counts AllocError). IfOk x Q) (sym is) (more n held)
+
+lays_same : (count : Counts) (ao an : List Plain) (po pn : List Param) (a b : Action) (n : Counts) → b ≡ a → LaysOne count ao an po pn b n → LaysOne count ao an po pn a n
+lays_same count ao an po pn a b n is = subst (λ (x : Action). LaysOne count ao an po pn x n) is
+
+pub whole_some : (o : Option Counts) (r : Result Counts AllocError) (e : AllocError) (count : Counts) (ao an : List Plain) (po pn : List Param) (found : Option Large) (large : Large) (list : List CsiParam) (final : ℕ)
+    → r ≡ ok_or o e → option_map large_of found ≡ boxed list final → found ≡ Some large → IfSome o (LaysOne count ao an po pn (large_of large))
+    → IfOk r (LaysOne count ao an po pn (unwrap_or (boxed list final) (Unspecified list false final)))
+whole_some o r e count ao an po pn found large list final answers told is =
+    let same : boxed list final ≡ Some (large_of large) = sym told ∙ ap (option_map large_of) is in
+    or_failed o r e _ _ answers (λ n. lays_same count ao an po pn _ (large_of large) n (ap (λ (x : Option Action). unwrap_or x (Unspecified list false final)) (sym same)))
+
+pub whole_none : (o : Option Counts) (r : Result Counts AllocError) (e : AllocError) (count : Counts) (ao an : List Plain) (po pn : List Param) (found : Option Large) (list : List CsiParam) (final : ℕ)
+    → r ≡ ok_or o e → option_map large_of found ≡ boxed list final → found ≡ None → IfSome o (LaysOne count ao an po pn (Unspecified list false final))
+    → IfOk r (LaysOne count ao an po pn (unwrap_or (boxed list final) (Unspecified list false final)))
+whole_none o r e count ao an po pn found list final answers told is =
+    let same : boxed list final ≡ None = sym told ∙ ap (option_map large_of) is in
+    or_failed o r e _ _ answers (λ n. lays_same count ao an po pn _ (Unspecified list false final) n (ap (λ (x : Option Action). unwrap_or x (Unspecified list false final)) (sym same)))
+
+-- the action whose tokens are lent so
+pub ref_laid : (o : Option Counts) (r : Result Counts AllocError) (e : AllocError) (count : Counts) (ao an : List Plain) (po pn : List Param) (b : Action) (lent : ActionRef) (final : ℕ)
+    → r ≡ ok_or o e → ((a : Action) → IsRef lent false final a → b ≡ a) → IfSome o (LaysOne count ao an po pn b)
+    → IfOk r (λ next. (a : Action) → IsRef lent false final a → LaysOne count ao an po pn a next)
+ref_laid o r e count ao an po pn b lent final answers same =
+    or_failed o r e (LaysOne count ao an po pn b) (λ next. (a : Action) → IsRef lent false final a → LaysOne count ao an po pn a next) answers (λ n held a is. lays_same count ao an po pn a b n (same a is) held)
+
+pub ref_whole : (r : Result Counts AllocError) (count : Counts) (ao an : List Plain) (po pn : List Param) (b : Action) (lent : ActionRef) (final : ℕ)
+    → ((a : Action) → IsRef lent false final a → b ≡ a) → IfOk r (LaysOne count ao an po pn b)
+    → IfOk r (λ next. (a : Action) → IsRef lent false final a → LaysOne count ao an po pn a next)
+ref_whole (Ok n) count ao an po pn b lent final same held = λ a is. lays_same count ao an po pn a b n (same a is) held
+ref_whole (Err e) count ao an po pn b lent final same held = tt
+
+-- which action that is
+pub lent_as : (r other : ActionRef) (final : ℕ) (a : Action) → r ≡ other → IsRef r false final a → IsRef other false final a
+lent_as r other final a is lent = subst (λ (x : ActionRef). IsRef x false final a) is lent

@@ -6,5 +6,6 @@ mod OneAction
 mod OneValue
 mod Running
 mod Same
+mod Sole
 mod Stand
 mod Tokens

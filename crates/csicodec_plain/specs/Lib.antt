@@ -1,4 +1,4 @@
-pub mod Answer
+pub mod Normalise
 pub mod Room
 pub mod Plain
 pub mod Values

@@ -8,7 +8,7 @@ use Rattle.csicodec_tokens.specs.Fault.{FaultOf}
 use Rattle.csicodec_tokens.specs.Sequence.{Reads}
 use Rattle.csicodec_actions.specs.Actions.{Action}
 use Rattle.csicodec_parser.specs.Segments.{Actions}
-use Rattle.csicodec_plain.specs.declared.next.Counts.{Counts}
+use Rattle.csicodec_plain.specs.declared.lay.Counts.{Counts}
 use Rattle.csicodec_plain.specs.declared.next.Front.{Front}
 use Rattle.csicodec_plain.specs.declared.plain.Param.{Param}
 use Rattle.csicodec_plain.specs.declared.plain.Plain.{Plain}

@@ -274,7 +274,7 @@ fn keyboard_candidate(plain: &Plain) -> Option<Keyboard>
 }
 
 /// Of what takes no memory.
-fn small_candidate(plain: &Plain) -> Option<CSI>
+pub(crate) fn small_candidate(plain: &Plain) -> Option<CSI>
     ensures in_range { IfSome result (λ csi. InRange (action_of csi)) }
     ensures named { IfSome result (λ csi. IsNamed (action_of csi)) }
     ensures bare { IfSome result (λ csi. params_of (action_of csi) ≡ []) }

@@ -1,24 +1,28 @@
 //! Plain structs as actions, and their texts.
-ghost use Rattle.std.specs.Prelude.{◌≡◌, ◌⊎◌, ◌↔◌, ◌<◌, List, [], drop, take, map, length, true, IfOk, IfErr, IfSome, MatchOption};
-ghost use Rattle.csicodec_actions.specs.Actions.{Action};
-ghost use Rattle.csicodec_actions.specs.Table.{texts};
+ghost use Rattle.std.specs.Prelude.{◌≡◌, ◌⊎◌, ◌↔◌, ◌<◌, List, [], ◌∷◌, drop, take, map, length, true, IfOk, IfErr, IfSome, MatchOption};
 ghost use Rattle.csicodec_parser.specs.ActionOf.{action_of};
 ghost use Rattle.csicodec_plain.specs.Encode.{AllStand, HasNone, IsDone, IsRefused, Stands, StandsForNone, refused};
 ghost use Rattle.std.specs.Option.{option_map};
-ghost use Rattle.csicodec_plain.specs.Private.Candidates.{IsExtended, IsGraphics, IsUnknown, Makes};
+ghost use Rattle.csicodec_plain.specs.Private.Candidates.{AreTexts, IsExtended, IsGraphics, IsUnknown, Makes};
 ghost use Rattle.csicodec_plain.specs.Named.{IsNamed};
 ghost use Rattle.csicodec_plain.specs.Ranges.{InRange};
 ghost use Rattle.csicodec_plain.specs.Rows.{params_of};
+ghost use Rattle.csicodec_plain.specs.declared.plain.Param.{Param};
 
-use crate::candidates::{UNSPECIFIED, VT220, VT320, VT420, XT_SM_GRAPHICS, candidate};
+use crate::candidates::{
+    UNSPECIFIED, VT220, VT320, VT420, XT_SM_GRAPHICS, candidate, small_candidate,
+};
 use crate::numbers::item;
 use crate::plain::{Param, Plain};
 use crate::room::fill;
 use crate::rows::plain_of;
+use crate::short::short_text;
 use crate::token::tokens;
 use csicodec::{
-    CSI, Device, DeviceAttributeFlags, DeviceAttributes, Unspecified, XtSmGraphics, encode_all,
+    CSI, Device, DeviceAttributeFlags, DeviceAttributes, Text, Unspecified, XtSmGraphics,
 };
+use csicodec_base::TextBuffer;
+use csicodec_parser::append_text;
 use std::alloc::{AllocError, Global};
 
 /// How a writing of actions ended.
@@ -210,31 +214,63 @@ pub fn actions_of(
     Ok(Ok(actions))
 }
 
-/// Their joined texts.
+/// The joined texts of the actions that the structs stand for, or which of these stands for none.
 #[inline(always)]
+#[tactic(auto, using(crate::proofs::Stand::texts_more))]
 fn texts_of(
     alloc: Global,
     plains: &[Plain],
     params: &[Param],
 ) -> Result<Result<Vec<u8>, usize>, AllocError>
-    ensures texts { IfOk result (λ r. IfOk r (λ all. (actions : List Action) × AllStand plains.now params.now actions × (all.items ≡ texts actions))) }
+    ensures texts { IfOk result (λ r. IfOk r (λ all. AreTexts plains.now params.now all.items)) }
     ensures none { IfOk result (λ r. IfErr r (λ at. HasNone plains.now params.now at)) }
 {
-    match actions_of(alloc, plains, params)? {
-        Ok(actions) => Ok(Ok(encode_all(alloc, actions.as_slice())?)),
-        Err(at) => Ok(Err(at)),
+    let mut all = TextBuffer::new(alloc);
+    let mut at = 0;
+    for plain in plains {
+        let Some(csi) = action(alloc, params, plain)? else {
+            return Ok(Err(at));
+        };
+        append_text(alloc, &mut all, &csi)?;
+        at += 1;
+    }
+    Ok(Ok(all.into_vec()))
+}
+
+/// The text of the action that a struct stands for, where it has no tokens and takes no memory.
+#[inline(always)]
+#[tactic(auto, using(crate::proofs::Stand::short_stands))]
+fn short_of(plain: &Plain) -> Option<Text>
+    ensures { IfSome result (λ text. (params : List Param) → AreTexts (plain.now ∷ []) params text) }
+{
+    if plain.len > 0 {
+        return None;
+    }
+    let csi = small_candidate(plain)?;
+    if is_same(&plain_of(plain.place, &csi), plain) {
+        let text = short_text(&csi)?;
+        Some(text)
+    } else {
+        None
     }
 }
 
 /// Puts the texts of the actions that the structs stand for, where they fit.
-pub fn put_texts(
-    alloc: Global,
-    actions: &[Plain],
-    params: &[Param],
-    out: &mut [u8],
-) -> Encoded
+#[tactic(auto, using(crate::proofs::Stand::texts_done))]
+pub fn put_texts(alloc: Global, actions: &[Plain], params: &[Param], out: &mut [u8]) -> Encoded
     ensures { IsDone actions.now params.now out.old out.new result ⊎ IsRefused actions.now params.now out.old out.new result }
 {
+    if actions.len() == 1 {
+        let plain = &actions[0];
+        if let Some(text) = short_of(plain) {
+            fill(out, text.as_bytes());
+            return Encoded {
+                status: 0,
+                at: 0,
+                needed: text.as_bytes().len(),
+            };
+        }
+    }
     match texts_of(alloc, actions, params) {
         Ok(Ok(all)) => {
             fill(out, all.as_slice());

@@ -1,21 +1,23 @@
 //! Actions as plain structs, of which other languages' calls are made.
 #![tactic(auto)]
 
-mod answer;
 mod candidates;
 mod canonical;
 mod encode;
 pub mod laws;
+mod lay;
 mod next;
+mod normalise;
 mod numbers;
 mod plain;
 mod room;
 mod rows;
+mod short;
 mod token;
 
-pub use answer::{Normalised, put_normal_form};
 pub use canonical::{Judged, judge};
 pub use encode::{Encoded, actions_of, put_texts, refused};
 pub use next::{Front, lay_front};
+pub use normalise::{Normalised, put_normal_form};
 pub use plain::{Param, Plain};
 pub use room::fill;

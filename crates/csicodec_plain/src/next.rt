@@ -1,25 +1,12 @@
 //! The sequence at the front of some bytes.
-ghost use Rattle.std.specs.Prelude.{◌≡◌, ◌⊎◌, false, List, ◌++◌, [], ◌∷◌, length, IfOk, IfSome};
-ghost use Rattle.csicodec_actions.specs.Actions.{Action};
-ghost use Rattle.csicodec_parser.specs.ActionOf.{action_of};
-ghost use Rattle.csicodec_parser.specs.Segments.{Actions};
+ghost use Rattle.std.specs.Prelude.{◌≡◌, ◌⊎◌};
 ghost use Rattle.csicodec_plain.specs.Private.Fronts.{IsAnswer};
-ghost use Rattle.csicodec_plain.specs.Next.{IsDone, IsRefused, Lays, refusal, refused};
-ghost use Rattle.csicodec_plain.specs.declared.plain.Param.{Param};
-ghost use Rattle.csicodec_plain.specs.declared.plain.Plain.{Plain};
-ghost use Rattle.csicodec_plain.specs.Room.{laid};
-ghost use Rattle.csicodec_plain.specs.Rows.{device_params, params_of};
-ghost use Rattle.csicodec_actions.specs.Devices.{device_of};
+ghost use Rattle.csicodec_plain.specs.Next.{IsDone, IsRefused, refusal, refused};
 
+use crate::lay::lay_list;
 use crate::plain::{Param, Plain};
-use crate::room::put;
-use crate::rows::plain_of;
-use crate::token::put_all;
-use csicodec::laws::segmentation;
-use csicodec::{
-    CSI, CsiParam, Device, DeviceAttributes, ReadError, read_csi_into, read_csi_within,
-};
-use std::alloc::{AllocError, Global};
+use csicodec::{CsiParam, ReadError, read_csi_into, read_csi_within};
+use std::alloc::Global;
 
 /// What stands at the front of some bytes: 0, or why no sequence does.
 #[repr(C)]
@@ -35,13 +22,6 @@ pub struct Front {
     pub actions: usize,
     /// Of 0, how many tokens belong to them.
     pub params: usize,
-}
-
-/// How many actions there are, and how many tokens belong to them.
-#[derive(Clone, Copy)]
-struct Counts {
-    actions: usize,
-    params: usize,
 }
 
 fn refused(status: u32, at: usize) -> Front
@@ -68,90 +48,6 @@ fn refusal(error: ReadError) -> Front
     }
 }
 
-/// Puts the extensions, or the values, that a terminal names behind the tokens that are there.
-fn put_device(room: &mut [Param], place: usize, device: &Device) -> Option<usize>
-    ensures { IfSome result (λ end. (old before : List Param) → room.old ≡ laid old before → place ≡ length before →
-        (room.new ≡ laid old (before ++ device_params (device_of device.now))) × (end ≡ length (before ++ device_params (device_of device.now)))) }
-{
-    match device {
-        Device::DeviceAttributes(
-            DeviceAttributes::Vt220(flags)
-            | DeviceAttributes::Vt320(flags)
-            | DeviceAttributes::Vt420(flags),
-        ) => put_all(room, place, &flags.attributes),
-        Device::XtSmGraphics(graphics) => put_all(room, place, &graphics.value),
-        _ => Some(place),
-    }
-}
-
-/// Puts the tokens of an action behind those that are there.
-fn put_params(room: &mut [Param], place: usize, action: &CSI) -> Option<usize>
-    ensures { IfSome result (λ end. (old before : List Param) → room.old ≡ laid old before → place ≡ length before →
-        (room.new ≡ laid old (before ++ params_of (action_of action.now))) × (end ≡ length (before ++ params_of (action_of action.now)))) }
-{
-    match action {
-        CSI::Device(device) => put_device(room, place, device),
-        CSI::Unspecified(unknown) => put_all(room, place, &unknown.params),
-        _ => Some(place),
-    }
-}
-
-/// Puts an action and its tokens behind those that are there. There is nothing to answer where they can't be counted.
-#[inline(always)]
-fn lay_one(
-    action: &CSI,
-    count: Counts,
-    actions: &mut [Plain],
-    params: &mut [Param],
-) -> Option<Counts>
-    ensures { IfSome result (λ next. (old_actions : List Plain) (old_params : List Param) (before : List Action) →
-        Lays old_actions actions.old old_params params.old count before → Lays old_actions actions.new old_params params.new next (before ++ action_of action.now ∷ [])) }
-{
-    put(actions, count.actions, plain_of(count.params, action));
-    let next = count.actions.checked_add(1)?;
-    let end = put_params(params, count.params, action)?;
-    Some(Counts {
-        actions: next,
-        params: end,
-    })
-}
-
-/// The same with an action that is of no further use.
-#[inline(always)]
-fn take_one(
-    action: CSI,
-    count: Counts,
-    actions: &mut [Plain],
-    params: &mut [Param],
-) -> Result<Counts, AllocError>
-    ensures { IfOk result (λ next. (old_actions : List Plain) (old_params : List Param) (before : List Action) →
-        Lays old_actions actions.old old_params params.old count before → Lays old_actions actions.new old_params params.new next (before ++ action_of action ∷ [])) }
-{
-    lay_one(&action, count, actions, params).ok_or(AllocError)
-}
-
-/// Puts the actions of a list and their tokens, as many as there is room for.
-#[inline(always)]
-fn lay(
-    alloc: Global,
-    list: &[CsiParam],
-    control: char,
-    actions: &mut [Plain],
-    params: &mut [Param],
-) -> Result<Counts, AllocError>
-    ensures { IfOk result (λ count. (all : List Action) × Actions list.now false control all × Lays actions.old actions.new params.old params.new count all) }
-{
-    segmentation(list, false, control);
-    let mut count = Counts {
-        actions: 0,
-        params: 0,
-    };
-    for action in CSI::parse(alloc, list, false, control) {
-        count = take_one(action?, count, actions, params)?;
-    }
-    Ok(count)
-}
-
 /// Puts the actions of this list and their tokens, as many as there is room for: of a sequence of so many bytes.
 #[inline(always)]
 fn answer(
@@ -164,7 +60,7 @@ fn answer(
 ) -> Front
     ensures { IsAnswer list.now control used actions.old actions.new params.old params.new result }
 {
-    match lay(alloc, list, control, actions, params) {
+    match lay_list(alloc, list, control, actions, params) {
         Ok(count) => Front {
             status: 0,
             at: 0,
@@ -192,12 +88,7 @@ fn next_long(alloc: Global, bytes: &[u8], actions: &mut [Plain], params: &mut [P
 }
 
 /// Puts the actions of the sequence at the front, and their tokens, as many as there is room for.
-pub fn lay_front(
-    alloc: Global,
-    bytes: &[u8],
-    actions: &mut [Plain],
-    params: &mut [Param],
-) -> Front
+pub fn lay_front(alloc: Global, bytes: &[u8], actions: &mut [Plain], params: &mut [Param]) -> Front
     ensures { IsDone bytes.now actions.old actions.new params.old params.new result ⊎ IsRefused bytes.now actions.old actions.new params.old params.new result }
 {
     let mut room = [CsiParam::Integer(0); 32];

@@ -126,7 +126,7 @@ fn mode_plain(mode: &Mode) -> Plain
     }
 }
 
-fn device_plain(place: usize, device: &Device) -> Plain
+pub(crate) fn device_plain(place: usize, device: &Device) -> Plain
     ensures { result ≡ device_plain place (device_of device.now) }
 {
     match device {
@@ -190,7 +190,7 @@ fn mouse_plain(mouse: &MouseReport) -> Plain
     }
 }
 
-fn window_plain(window: &Window) -> Plain
+pub(crate) fn window_plain(window: &Window) -> Plain
     ensures { result ≡ window_plain window.now }
 {
     match window {

@@ -10,8 +10,10 @@ use Rattle.csicodec_actions.specs.Actions as action
 use Rattle.csicodec_actions.specs.Devices.{Device}
 use Rattle.csicodec_actions.specs.Devices as device
 use Rattle.csicodec_actions.specs.Kinds.{IsOneBased, below}
+use Rattle.csicodec_actions.specs.Table.{texts}
 use Rattle.csicodec_plain.specs.declared.plain.Param.{Param}
 use Rattle.csicodec_plain.specs.declared.plain.Plain.{Plain}
+use Rattle.csicodec_plain.specs.Encode.{AllStand}
 use Rattle.csicodec_plain.specs.Ranges.{InRange}
 use Rattle.csicodec_plain.specs.Rows.{params_of, plain_of}
 use Rattle.csicodec_plain.specs.Values.{AttributeInRange}
@@ -100,3 +102,11 @@ IsExtended other = ⊥
 abbrev pub IsGraphics : Action → Type 0
 IsGraphics (action.Device (device.XtSmGraphics item action_or_status value)) = Unit {0}
 IsGraphics other = ⊥
+
+-- ---- texts
+
+-- the texts of the actions that these structs stand for
+pub record AreTexts (plains : List Plain) (params : List Param) (all : List ℕ) : Type 0 where
+  pub actions : List Action
+  pub stand : AllStand plains params actions
+  pub joined : all ≡ texts actions

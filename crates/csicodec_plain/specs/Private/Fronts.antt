@@ -1,12 +1,28 @@
--- What is answered of a list that was read.
-use Rattle.std.specs.Prelude.{ℕ, ◌≡◌, ◌⊎◌, false, List}
+-- What is laid of an action, and what is answered of a list that was read.
+use Rattle.std.specs.Prelude.{ℕ, ◌≡◌, ◌⊎◌, ◌++◌, false, List, [], ◌∷◌}
 use Rattle.csicodec_tokens.specs.declared.param.CsiParam.{CsiParam}
 use Rattle.csicodec_actions.specs.Actions.{Action}
+use Rattle.csicodec_actions.specs.Actions as action
+use Rattle.csicodec_actions.specs.Devices.{device_of}
 use Rattle.csicodec_parser.specs.Segments.{Actions}
 use Rattle.csicodec_plain.specs.Next.{Lays, refused}
+use Rattle.csicodec_plain.specs.declared.lay.Counts.{Counts}
+use Rattle.csicodec_plain.specs.declared.lay.Large.{Large}
+use Rattle.csicodec_plain.specs.declared.lay.Large.TheVariants as large
 use Rattle.csicodec_plain.specs.declared.next.Front.{Front}
 use Rattle.csicodec_plain.specs.declared.plain.Param.{Param}
 use Rattle.csicodec_plain.specs.declared.plain.Plain.{Plain}
+
+-- behind what is laid lies one action more, and so many there are then
+abbrev pub LaysOne : Counts → List Plain → List Plain → List Param → List Param → Action → Counts → Type 0
+LaysOne count actions_old actions_new params_old params_new a next =
+    (old_actions : List Plain) (old_params : List Param) (before : List Action) →
+    Lays old_actions actions_old old_params params_old count before → Lays old_actions actions_new old_params params_new next (before ++ a ∷ [])
+
+-- what a row gives that takes memory
+abbrev pub large_of : Large → Action
+large_of (large.Device d) = action.Device (device_of d)
+large_of (large.Window w) = action.Window w
 
 -- its actions are put
 pub record IsLaid (list : List CsiParam) (final used : ℕ) (actions_old actions_new : List Plain) (params_old params_new : List Param) (answer : Front) : Type 0 where

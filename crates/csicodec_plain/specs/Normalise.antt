@@ -5,7 +5,7 @@ use Rattle.csicodec_streams.specs.declared.error.DecodeError.{DecodeError}
 use Rattle.csicodec_streams.specs.declared.error.DecodeError.TheVariants as decoding
 use Rattle.csicodec_streams.specs.Decoding.{NormalisesTo}
 use Rattle.csicodec_streams.specs.Refusals.{RefusesDecode}
-use Rattle.csicodec_plain.specs.declared.answer.Normalised.{Normalised}
+use Rattle.csicodec_plain.specs.declared.normalise.Normalised.{Normalised}
 use Rattle.csicodec_plain.specs.Room.{Fills}
 
 abbrev pub normalised : ℕ → Normalised

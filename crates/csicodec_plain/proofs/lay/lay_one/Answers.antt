@@ -1,6 +1,6 @@
 use Rattle.csicodec_parser.specs.ActionOf.{action_of}
 use Rattle.csicodec_plain.proofs.Laid.{lays_more}
-use Rattle.csicodec_plain.proofs.next.lay_one.Goals as goal
+use Rattle.csicodec_plain.proofs.lay.lay_one.Goals as goal
 
 pub returns : goal.returns
 returns c = λ oa op before lays.

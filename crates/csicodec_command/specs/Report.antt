@@ -8,6 +8,11 @@ use Rattle.csicodec_command.specs.declared.report.Failure.TheVariants as failure
 -- the text of each failure, without the line's end
 abbrev pub line : Failure → List ℕ
 line failure.Usage = codes "csicodec: not a command"
+line failure.NotText = codes "csicodec: a word isn't UTF-8"
+line failure.UnknownOption = codes "csicodec: unknown option"
+line failure.Misplaced = codes "csicodec: an option of another command"
+line failure.NoValue = codes "csicodec: a value is missing"
+line failure.NotValue = codes "csicodec: not a value"
 line failure.Open = codes "csicodec: the file can't be opened"
 line (failure.Recording n) = codes "csicodec: line " ++ decimal n ++ codes ": not an asciicast of version 2 or 3"
 line (failure.Run error) = codes "csicodec: " ++ run_error_text error
@@ -15,6 +20,11 @@ line (failure.Run error) = codes "csicodec: " ++ run_error_text error
 -- the status of each failure
 abbrev pub status : Failure → ℕ
 status failure.Usage = 64
+status failure.NotText = 64
+status failure.UnknownOption = 64
+status failure.Misplaced = 64
+status failure.NoValue = 64
+status failure.NotValue = 64
 status failure.Open = 2
 status (failure.Recording _) = 1
 status (failure.Run error) = run_status error

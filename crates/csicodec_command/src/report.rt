@@ -9,8 +9,18 @@ use std::fmt;
 /// Why a run failed.
 #[derive(Clone, Copy)]
 pub enum Failure {
-    /// The words of the command line are no command, or aren't text.
+    /// The words of the command line are no command.
     Usage,
+    /// One of them isn't text.
+    NotText,
+    /// There is no such option.
+    UnknownOption,
+    /// Another command has this option.
+    Misplaced,
+    /// An option stands without its value.
+    NoValue,
+    /// An option doesn't have this value.
+    NotValue,
     /// The file can't be opened.
     Open,
     /// The line of this number, counted from 1, isn't one of an asciicast; 0 where there is none.
@@ -29,12 +39,17 @@ impl From<RunError> for Failure {
 
 impl Failure {
     /// The status that the program ends with: 1 for input that is refused, 2 for a file, a read or a write that failed, 3
-    /// where memory ran out, and 64 for words that are no command (EX_USAGE of BSD's sysexits.h).
+    /// where memory ran out, and 64 for a command line that is none (EX_USAGE of BSD's sysexits.h).
     pub fn status(&self) -> u8
         ensures { result ≡ status self.now }
     {
         match self {
-            Failure::Usage => 64,
+            Failure::Usage
+            | Failure::NotText
+            | Failure::UnknownOption
+            | Failure::Misplaced
+            | Failure::NoValue
+            | Failure::NotValue => 64,
             Failure::Open => 2,
             Failure::Recording(_) => 1,
             Failure::Run(error) => error.status(),
@@ -49,6 +64,11 @@ impl fmt::Display for Failure {
     fn fmt<W: fmt::Write>(&self, f: &mut fmt::Formatter<W>) -> fmt::Result {
         match self {
             Failure::Usage => f.write_str("csicodec: not a command"),
+            Failure::NotText => f.write_str("csicodec: a word isn't UTF-8"),
+            Failure::UnknownOption => f.write_str("csicodec: unknown option"),
+            Failure::Misplaced => f.write_str("csicodec: an option of another command"),
+            Failure::NoValue => f.write_str("csicodec: a value is missing"),
+            Failure::NotValue => f.write_str("csicodec: not a value"),
             Failure::Open => f.write_str("csicodec: the file can't be opened"),
             Failure::Recording(line) => write!(
                 f,

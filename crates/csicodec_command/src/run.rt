@@ -1,6 +1,6 @@
 //! A run of a program: its words, its inputs one after the other, and what it tells of what failed.
 
-use crate::command::{Command, Run, USAGE, VERSION, Wrong, command_of};
+use crate::command::{Command, HINT, Run, USAGE, VERSION, Wrong, command_of};
 use crate::report::Failure;
 use csicodec_streams::RunError;
 use std::alloc::Global;
@@ -33,24 +33,45 @@ pub trait Job {
     fn end<W: Write>(&mut self, output: &mut W) -> Result<(), RunError>;
 }
 
-/// Standard output, and whether who read it went away.
+/// Standard output, and why its last write failed, if it did.
 #[derive(Drop)]
 struct Output {
     out: Stdout,
-    gone: bool,
+    fault: Option<io::Error>,
+}
+
+impl Output {
+    /// Whether who read it went away.
+    fn is_gone(&self) -> bool {
+        self.fault
+            .is_some_and(|error| error.kind() == ErrorKind::BrokenPipe)
+    }
 }
 
 impl Write for Output {
     fn write(&mut self, bytes: &[u8]) -> io::Result<usize> {
         let done = self.out.write(bytes);
-        if let Err(error) = &done {
-            self.gone = error.kind() == ErrorKind::BrokenPipe;
-        }
+        self.fault = done.err();
         done
     }
 
     fn flush(&mut self) -> io::Result<()> {
         self.out.flush()
+    }
+}
+
+/// An input, and why its last read failed, if it did.
+#[derive(Drop)]
+struct Input<'a, R> {
+    from: &'a mut R,
+    fault: Option<io::Error>,
+}
+
+impl<'a, R: Read> Read for Input<'a, R> {
+    fn read(&mut self, bytes: &mut [u8]) -> io::Result<usize> {
+        let done = self.from.read(bytes);
+        self.fault = done.err();
+        done
     }
 }
 
@@ -66,36 +87,42 @@ impl<'a> Run<'a> {
     }
 }
 
-/// Says what failed, and at which file where it is one that was read; the status that the program ends with.
-pub fn failed(rt: &HostRuntime, failure: Failure, name: &str) -> u8 {
+/// Says what failed, at which file where it is one that was read, and the system's reason, where there is one; the status that the
+/// program ends with.
+pub fn failed(rt: &HostRuntime, failure: Failure, name: &str, reason: Option<io::Error>) -> u8 {
+    let is_of_file = name != INPUT && !matches!(failure, Failure::Run(RunError::Write));
     // Where standard error is gone too, the status is all that can be told.
-    let _told = if name == INPUT || matches!(failure, Failure::Run(RunError::Write)) {
-        eprintln!(rt; "{failure}")
-    } else {
-        eprintln!(rt; "{failure}: {name}")
+    let _told = match (is_of_file, reason) {
+        (true, Some(reason)) => eprintln!(rt; "{failure}: {name}: {reason}"),
+        (true, None) => eprintln!(rt; "{failure}: {name}"),
+        (false, Some(reason)) => eprintln!(rt; "{failure}: {reason}"),
+        (false, None) => eprintln!(rt; "{failure}"),
     };
     failure.status()
 }
 
 /// Says what failed, unless who read the output went away: then there is nobody to tell.
-fn stopped(rt: &HostRuntime, failure: Failure, name: &str, output: &Output) -> u8 {
-    if output.gone {
-        failure.status()
-    } else {
-        failed(rt, failure, name)
+fn stopped(
+    rt: &HostRuntime,
+    failure: Failure,
+    name: &str,
+    read: Option<io::Error>,
+    output: &Output,
+) -> u8 {
+    if output.is_gone() {
+        return failure.status();
     }
+    let reason = match failure {
+        Failure::Run(RunError::Read) => read,
+        Failure::Run(RunError::Write) => output.fault,
+        _ => None,
+    };
+    failed(rt, failure, name, reason)
 }
 
 /// Opens a file; the status, if that failed.
 fn opened(rt: &HostRuntime, name: &str) -> Result<File, u8> {
-    match File::open(rt, name) {
-        Ok(file) => Ok(file),
-        Err(error) => {
-            let failure = Failure::Open;
-            let _told = eprintln!(rt; "{failure}: {name}: {error}");
-            Err(failure.status())
-        }
-    }
+    File::open(rt, name).map_err(|error| failed(rt, Failure::Open, name, Some(error)))
 }
 
 /// The text of a file; the status, if it can't be read.
@@ -104,21 +131,44 @@ pub fn text_of(rt: &HostRuntime, name: &str) -> Result<String, u8> {
     let mut file = opened(rt, name)?;
     match file.read_to_string(&mut text) {
         Ok(_) => Ok(text),
-        Err(_) => Err(failed(rt, Failure::Run(RunError::Read), name)),
+        Err(error) => {
+            let failure = Failure::Run(RunError::Read);
+            Err(failed(rt, failure, name, Some(error)))
+        }
     }
 }
 
 /// Works on this recording of asciinema.
-fn work_on_cast<T: Job>(
+fn work_on_cast<T: Job, R: Read>(
     alloc: Global,
     work: &mut T,
-    input: File,
+    input: &mut R,
     output: &mut Output,
 ) -> Result<(), Failure> {
     let Ok(mut input) = BufReader::new(alloc, input) else {
         return Err(Failure::Run(RunError::Memory));
     };
     work.read_cast(alloc, &mut input, output)
+}
+
+/// Works on the input of this name, which is read from there; the status, if it failed.
+fn work_on_input<T: Job, R: Read>(
+    rt: &HostRuntime,
+    work: &mut T,
+    name: &str,
+    from: &mut R,
+    output: &mut Output,
+) -> Result<(), u8> {
+    let mut input = Input { from, fault: None };
+    let done = if is_cast(name) {
+        work_on_cast(rt.alloc(), work, &mut input, output)
+    } else {
+        work.read(rt.alloc(), &mut input, output)
+    };
+    match done {
+        Ok(()) => Ok(()),
+        Err(failure) => Err(stopped(rt, failure, name, input.fault, output)),
+    }
 }
 
 /// Works on the input of this name; the status, if it failed.
@@ -128,19 +178,11 @@ fn work_on<T: Job>(
     name: &str,
     output: &mut Output,
 ) -> Result<(), u8> {
-    let done = if name == INPUT {
-        work.read(rt.alloc(), &mut rt.stdin(), output)
+    if name == INPUT {
+        work_on_input(rt, work, name, &mut rt.stdin(), output)
     } else {
-        let mut input = opened(rt, name)?;
-        if is_cast(name) {
-            work_on_cast(rt.alloc(), work, input, output)
-        } else {
-            work.read(rt.alloc(), &mut input, output)
-        }
-    };
-    match done {
-        Ok(()) => Ok(()),
-        Err(failure) => Err(stopped(rt, failure, name, output)),
+        let mut file = opened(rt, name)?;
+        work_on_input(rt, work, name, &mut file, output)
     }
 }
 
@@ -148,7 +190,7 @@ fn work_on<T: Job>(
 pub fn work_through<T: Job>(rt: &HostRuntime, work: &mut T, files: &[&str]) -> Result<(), u8> {
     let mut output = Output {
         out: rt.stdout(),
-        gone: false,
+        fault: None,
     };
     if files.is_empty() {
         work_on(rt, work, INPUT, &mut output)?;
@@ -158,37 +200,55 @@ pub fn work_through<T: Job>(rt: &HostRuntime, work: &mut T, files: &[&str]) -> R
     }
     match work.end(&mut output) {
         Ok(()) => Ok(()),
-        Err(error) => Err(stopped(rt, Failure::Run(error), INPUT, &output)),
+        Err(error) => Err(stopped(rt, Failure::Run(error), INPUT, None, &output)),
     }
 }
 
 /// Says what is wrong with the command line, and how the program is used; the status that it ends with.
 pub fn refused(rt: &HostRuntime, wrong: Wrong<'_>) -> u8 {
-    let failure = match wrong {
-        Wrong::Memory => Failure::Run(RunError::Memory),
-        _ => Failure::Usage,
-    };
+    let failure = wrong.failure();
     let _told = match wrong {
-        Wrong::Unknown(word, Some(known)) => {
+        Wrong::Nothing => eprintln!(rt; "{failure}\n{USAGE}"),
+        Wrong::NoCommand(word, Some(known)) => {
             eprintln!(rt; "{failure}: {word} (the nearest is {known})\n{USAGE}")
         }
-        Wrong::Unknown(word, None) => eprintln!(rt; "{failure}: {word}\n{USAGE}"),
-        Wrong::Misplaced(word) => eprintln!(rt; "{failure}: {word}\n{USAGE}"),
-        Wrong::Nothing => eprintln!(rt; "{failure}\n{USAGE}"),
-        Wrong::Memory => eprintln!(rt; "{failure}"),
+        Wrong::NoCommand(word, None) => eprintln!(rt; "{failure}: {word}\n{USAGE}"),
+        Wrong::UnknownOption(word, Some(known)) => {
+            eprintln!(rt; "{failure}: {word} (the nearest is {known})\n{HINT}")
+        }
+        Wrong::UnknownOption(word, None) => eprintln!(rt; "{failure}: {word}\n{HINT}"),
+        Wrong::Misplaced(word, of) => {
+            let of = of.word();
+            eprintln!(rt; "{failure}: {word} (of {of})\n{HINT}")
+        }
+        Wrong::NoValue(word, values) => { eprintln!(rt; "{failure}: {word} ({values})\n{HINT}") }
+        Wrong::NotValue(word, value, values) => {
+            eprintln!(rt; "{failure} of {word}: {value} ({values})\n{HINT}")
+        }
+        Wrong::NotText | Wrong::Memory => eprintln!(rt; "{failure}"),
     };
     failure.status()
 }
 
 /// Writes a text of its own.
 fn say(rt: &HostRuntime, text: &str) -> Result<(), u8> {
-    println!(rt; "{text}").map_err(|_| failed(rt, Failure::Run(RunError::Write), INPUT))
+    let failure = Failure::Run(RunError::Write);
+    println!(rt; "{text}").map_err(|error| failed(rt, failure, INPUT, Some(error)))
 }
 
 /// The words of the command line behind the program's name; the status, if they can't be had.
 pub fn words_of(rt: &HostRuntime) -> Result<Vec<String>, u8> {
-    let Ok(args) = env::args(rt) else {
-        return Err(refused(rt, Wrong::Nothing));
+    let args = match env::args(rt) {
+        Ok(args) => args,
+        Err(error) => {
+            let is_memory = error.kind() == ErrorKind::OutOfMemory;
+            let wrong = if is_memory {
+                Wrong::Memory
+            } else {
+                Wrong::NotText
+            };
+            return Err(refused(rt, wrong));
+        }
     };
     let mut words = Vec::new(rt.alloc());
     for word in args.skip(1) {

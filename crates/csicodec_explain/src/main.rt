@@ -76,7 +76,7 @@ fn times_of(rt: &HostRuntime, name: &str) -> Result<Timing, u8> {
     let text = text_of(rt, name)?;
     match Timing::of(rt.alloc(), &text) {
         Ok(timing) => Ok(timing),
-        Err(_) => Err(failed(rt, Failure::Run(RunError::Memory), name)),
+        Err(_) => Err(failed(rt, Failure::Run(RunError::Memory), name, None)),
     }
 }
 

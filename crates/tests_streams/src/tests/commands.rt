@@ -5,7 +5,7 @@ use std::alloc::{AllocError, Global};
 use std::test::Fail;
 
 /// Command lines, and what they ask for.
-static COMMANDS: [(&str, &str); 35] = [
+static COMMANDS: [(&str, &str); 42] = [
     ("filter", "Filter [] false false false false all"),
     (
         "filter a -",
@@ -19,13 +19,21 @@ static COMMANDS: [(&str, &str); 35] = [
     ("clean --colors=16 a", "Clean [\"a\"] Ansi"),
     ("clean --colors=256", "Clean [] Palette"),
     ("clean --links a", "Clean [\"a\"] with links"),
-    ("strip --links", "Misplaced(\"--links\")"),
-    ("strip --colors=256", "Misplaced(\"--colors=256\")"),
+    ("clean --colors 16 a", "Clean [\"a\"] Ansi"),
+    ("strip --links", "Misplaced(\"--links\", Clean)"),
+    ("strip --colors=256", "Misplaced(\"--colors\", Clean)"),
+    (
+        "clean --colors=8",
+        "NotValue(\"--colors\", \"8\", \"256 or 16\")",
+    ),
     ("compact", "Compact [] false false false false all"),
     ("compact a --semicolons", "Compact [\"a\"] with semicolons"),
-    ("filter --semicolons", "Misplaced(\"--semicolons\")"),
+    (
+        "filter --semicolons",
+        "Misplaced(\"--semicolons\", Compact)",
+    ),
     ("filter --faithful a", "Filter [\"a\"] faithful"),
-    ("strip --faithful", "Misplaced(\"--faithful\")"),
+    ("strip --faithful", "Misplaced(\"--faithful\", Filter)"),
     (
         "filter -- -a",
         "Filter [\"-a\"] false false false false all",
@@ -56,17 +64,40 @@ static COMMANDS: [(&str, &str); 35] = [
         "Always a true",
     ),
     ("explain --color never b", "Never none false"),
-    ("explain --color=red", "Misplaced(\"red\")"),
-    ("explain --timing", "Misplaced(\"--timing\")"),
+    (
+        "explain --color=red",
+        "NotValue(\"--color\", \"red\", \"always, never or auto\")",
+    ),
+    (
+        "explain --color --json",
+        "NoValue(\"--color\", \"always, never or auto\")",
+    ),
+    (
+        "explain --timing",
+        "NoValue(\"--timing\", \"the file of times that script wrote\")",
+    ),
     ("--help", "help"),
     ("-h", "help"),
     ("explain --help", "help of a word"),
     ("--version", "version"),
-    ("expain", "Unknown(\"expain\", Some(\"explain\"))"),
-    ("normalise", "Unknown(\"normalise\", None)"),
-    ("explain --jsom", "Unknown(\"--jsom\", Some(\"--json\"))"),
-    ("filter --count", "Misplaced(\"--count\")"),
-    ("explain --only", "Misplaced(\"--only\")"),
+    ("expain", "NoCommand(\"expain\", Some(\"explain\"))"),
+    ("normalise", "NoCommand(\"normalise\", None)"),
+    (
+        "explain --jsom",
+        "UnknownOption(\"--jsom\", Some(\"--json\"))",
+    ),
+    ("explain --total=1", "UnknownOption(\"--total=1\", None)"),
+    ("filter --count", "Misplaced(\"--count\", Explain)"),
+    (
+        "filter --count --faithful",
+        "Misplaced(\"--count\", Explain)",
+    ),
+    ("--count clean", "Misplaced(\"--count\", Explain)"),
+    ("--links --json clean", "Misplaced(\"--json\", Explain)"),
+    (
+        "explain --only=",
+        "NoValue(\"--only\", \"names, as SGR,CUP\")",
+    ),
     ("--full", "Nothing"),
 ];
 

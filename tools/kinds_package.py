@@ -117,6 +117,7 @@ pub(crate) fn plain_of(action: &CSI, params: &mut Vec<Param>) -> Plain {
 }}
 
 /// The action of a struct that the library made; `params` are its own tokens. It makes no other one.
+#[inline(always)]
 pub(crate) fn action_of(plain: &Plain, params: &[Param]) -> Option<CSI> {{
     Some(match plain.kind {{
         0 => CSI::Unspecified(Box::new(Unspecified::of(plain, params)?)),

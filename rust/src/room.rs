@@ -38,14 +38,14 @@ impl Room {
     }
 
     /// The action at a place, of those that were read last.
-    #[inline]
+    #[inline(always)]
     pub(crate) fn action(&self, place: usize) -> CSI {
         action(&self.actions[place], &self.params)
     }
 }
 
 /// The action of a struct that the library made, with the tokens that were put beside it.
-#[inline]
+#[inline(always)]
 pub(crate) fn action(plain: &raw::Plain, params: &[raw::Param]) -> CSI {
     let params = match plain.len {
         0 => &[],

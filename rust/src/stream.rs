@@ -172,17 +172,29 @@ impl Reader {
     /// The next event at the front of the bytes, which go on behind it; none where it depends on what follows.
     #[inline]
     fn next<'a>(&mut self, rest: &mut &'a [u8]) -> Option<Event<'a>> {
-        if self.given == self.count && !self.begins(rest) {
-            let (event, used) = self.other(rest)?;
-            *rest = &rest[used..];
-            return Some(event);
+        if self.has_action(rest) {
+            return Some(Event::Csi(self.action(rest)));
         }
-        let action = self.room.action(self.given);
+        let (event, used) = self.other(rest)?;
+        *rest = &rest[used..];
+        Some(event)
+    }
+
+    /// Whether the next event is an action of a control sequence that is read at once.
+    #[inline]
+    fn has_action(&mut self, rest: &[u8]) -> bool {
+        self.given < self.count || self.begins(rest)
+    }
+
+    /// This action. The bytes of the sequence are used with the last one.
+    #[inline(always)]
+    fn action(&mut self, rest: &mut &[u8]) -> CSI {
+        let place = self.given;
         self.given += 1;
         if self.given == self.count {
             *rest = &rest[self.used..];
         }
-        Some(Event::Csi(action))
+        self.room.action(place)
     }
 
     /// Whether a control sequence stands at the front, which is read.
@@ -353,12 +365,19 @@ pub fn events(bytes: &[u8]) -> Events<'_> {
 impl<'a> Iterator for Events<'a> {
     type Item = Event<'a>;
 
+    #[inline]
     fn next(&mut self) -> Option<Event<'a>> {
-        let event = self.reader.next(&mut self.rest);
-        if event.is_none() && !self.rest.is_empty() {
-            return Some(Event::Other(std::mem::take(&mut self.rest)));
+        if self.reader.has_action(self.rest) {
+            return Some(Event::Csi(self.reader.action(&mut self.rest)));
         }
-        event
+        match self.reader.other(self.rest) {
+            Some((event, used)) => {
+                self.rest = &self.rest[used..];
+                Some(event)
+            }
+            None if self.rest.is_empty() => None,
+            None => Some(Event::Other(std::mem::take(&mut self.rest))),
+        }
     }
 }
 

@@ -1,11 +1,10 @@
 //! A stream in words, as it comes.
 ghost use Rattle.std.specs.Prelude.{◌≤◌, IfOk, length};
 
-use crate::LIMIT;
 use crate::page::Page;
 use crate::style::Style;
 use csicodec_base::CsiParam;
-use csicodec_spans::{Kind, Mode, next_span_into};
+use csicodec_spans::{Kind, LIMIT, Mode, next_span_into};
 use csicodec_streams::{CHUNK, RunError, keep_from, receive, send};
 use std::alloc::{AllocError, Global};
 use std::io::{Read, Write};

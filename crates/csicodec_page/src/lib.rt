@@ -17,6 +17,3 @@ mod totals;
 
 pub use explain::Explainer;
 pub use style::Style;
-
-/// A control sequence of more bytes isn't read.
-pub const LIMIT: usize = 65536;

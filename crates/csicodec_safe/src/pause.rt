@@ -9,10 +9,10 @@ use crate::rule::Rule;
 use crate::spans::append_clean;
 use crate::styles::Kept;
 use crate::text::append_shown;
-use crate::whole::{Dropped, LONGEST};
+use crate::whole::Dropped;
 use csicodec::{CSI, encode};
 use csicodec_base::Sgr;
-use csicodec_spans::Mode;
+use csicodec_spans::{LIMIT, Mode};
 use std::alloc::{AllocError, Global};
 
 /// What a stream leaves open between two steps, of [`strip_step`] or of [`clean_step`].
@@ -68,7 +68,7 @@ fn append_step<T: Rule>(
         &mut Vec::new(alloc),
         &mut held,
         &mut titled,
-        LONGEST,
+        LIMIT,
         pause.mode,
         behind,
         out,

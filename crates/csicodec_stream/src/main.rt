@@ -12,13 +12,11 @@ use csicodec_command::{
 use csicodec_compact::{Compact, Compactor, compact_all};
 use csicodec_filter::{Faithful, Filter, NormalForm, filter_all};
 use csicodec_safe::{Cleaner, Depth, Dropped, Kept, Passing, clean_all_with, strip_all};
+use csicodec_spans::LIMIT;
 use csicodec_streams::RunError;
 use std::alloc::Global;
 use std::io::{BufRead, Read, Write};
 use std::process::ExitCode;
-
-/// A control sequence of more bytes passes as it is.
-const LIMIT: usize = 65536;
 
 /// What is made of one input after the other.
 #[derive(Drop)]

@@ -68,6 +68,7 @@ impl<L: Look> Model for Run<L> {
 pub type CSIParser<'a> = Run<Tokens<'a>>;
 
 /// An action whose tokens are lent from the list that it was read from, so that it takes no memory.
+#[derive(Drop)]
 pub enum ActionRef<'a> {
     /// One without tokens, of a list that is cut or read whole: no `Device`, `Window` or `Unspecified`.
     Small(CSI),

@@ -1,9 +1,19 @@
 -- Titles: in tmux and screen the text directly behind `ESC k` is the title of a window, and is shown nowhere else. It goes up to
 -- what is no text, mostly ST.
-use Rattle.std.specs.Prelude.{ℕ, ◌==◌, Bool, false, ◌&&◌, if◌then◌else◌, List, [], ◌∷◌, length, slice_index}
+use Rattle.std.specs.Prelude.{ℕ, ◌≡◌, ◌==◌, Bool, false, ◌&&◌, if◌then◌else◌, List, [], ◌∷◌, ◌++◌, length, slice_index}
+use Rattle.std.specs.List.{AllByRecursion}
 use Rattle.csicodec_spans.specs.declared.table.Kind.{Kind}
 use Rattle.csicodec_spans.specs.declared.table.Kind.TheVariants as kind
 use Rattle.csicodec_spans.specs.Parts.{Part, part}
+
+abbrev pub IsText : Part → Type 0
+IsText p = p.kind ≡ kind.Text
+
+-- text behind these parts is a title: the last of them that is no text is the escape sequence `ESC k` (01/11 06/11)
+abbrev pub InTitle : List Part → Type 0
+InTitle before = (earlier : List Part) × (title : List Part) × (before ≡ earlier ++ part kind.Esc (27 ∷ 107 ∷ []) ∷ title) × AllByRecursion IsText title
+
+-- The rest of this file tells it part by part, and the law `titles` says that it tells the same.
 
 -- whether a title is open behind a part: text goes on with it, `ESC k` opens one, and anything else ends it
 abbrev pub title_behind : Bool → Kind → List ℕ → Bool

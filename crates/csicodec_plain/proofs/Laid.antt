@@ -4,19 +4,24 @@ use Rattle.std.proofs.Common.{◌≡◌, ◌<◌, ◌≤◌, ◌+◌, ℕ, suc, 
 use Rattle.std.specs.List.{slice_get}
 use Rattle.std.specs.Option.{ok_or, option_map}
 use Rattle.std.specs.declared.alloc.AllocError.{AllocError}
-use Rattle.std.proofs.lemmas.List.{flat_map_more, map_more, take_more}
+use Rattle.std.proofs.lemmas.List.{flat_map_more, map-append, map_more, take_more}
 use Rattle.std.proofs.lemmas.Option.{get_or_from_slice_get, slice_get_within}
 use Rattle.csicodec_tokens.specs.declared.param.CsiParam.{CsiParam}
 use Rattle.csicodec_actions.specs.Actions.{Action, Unspecified}
+use Rattle.csicodec_actions.specs.Devices.{attribute_at, listed_attributes}
 use Rattle.csicodec_actions.specs.Table.{boxed}
+use Rattle.csicodec_actions.specs.declared.device.DeviceAttribute.{DeviceAttribute}
 use Rattle.csicodec_parser.specs.declared.parser.ActionRef.{ActionRef}
 use Rattle.csicodec_parser.specs.Run.{IsRef}
+use Rattle.csicodec_plain.specs.declared.lay.Class.{Class}
+use Rattle.csicodec_plain.specs.declared.lay.Class.TheVariants as class
 use Rattle.csicodec_plain.specs.declared.lay.Counts.{Counts}
 use Rattle.csicodec_plain.specs.declared.lay.Large.{Large}
 use Rattle.csicodec_plain.specs.declared.plain.Param.{Param}
 use Rattle.csicodec_plain.specs.declared.plain.Plain.{Plain}
 use Rattle.csicodec_plain.specs.Next.{Lays, all_params, plains}
-use Rattle.csicodec_plain.specs.Private.Fronts.{LaysOne, large_of}
+use Rattle.csicodec_plain.specs.Plain.{attribute_param}
+use Rattle.csicodec_plain.specs.Private.Fronts.{LaysOne, large_of, terminal_of}
 use Rattle.csicodec_plain.specs.Room.{laid}
 use Rattle.csicodec_plain.specs.Rows.{params_of, plain_of}
 
@@ -67,6 +72,24 @@ put_mapped f tokens i t old before now new place p low is made at here puts coun
     let e = length-append before front in
     puts old (before ++ front) here (omega (arith, e, at, count))
     ∙ ap (laid old) (append_assoc before front (p ∷ []) ∙ ap (λ l. before ++ l) (ap (λ q. front ++ q ∷ []) (made ∙ ap f is) ∙ sym (map_more f tokens i t low)))
+
+-- ---- extensions
+
+-- those of one token more
+pub extensions_more : (before : List Param) (list : List CsiParam) (i : ℕ) (d : CsiParam) → i < length list
+    → (before ++ map attribute_param (listed_attributes (take i list))) ++ map attribute_param (attribute_at (slice_index_or list i d))
+    ≡ before ++ map attribute_param (listed_attributes (take (i + 1) list))
+extensions_more before list i d low =
+    let front = listed_attributes (take i list) in
+    let next = attribute_at (slice_index_or list i d) in
+    append_assoc before (map attribute_param front) (map attribute_param next)
+    ∙ ap (λ l. before ++ l) (sym (map-append attribute_param front next)
+    ∙ ap (map attribute_param) (flat_map_more attribute_at [] (take i list) (slice_index_or list i d) ∙ ap listed_attributes (sym (take_more list i d low))))
+
+pub terminal_params : (c : Class) (extensions : List DeviceAttribute) → map attribute_param extensions ≡ params_of (terminal_of c extensions)
+terminal_params class.Vt220 extensions = refl
+terminal_params class.Vt320 extensions = refl
+terminal_params class.Vt420 extensions = refl
 
 -- ---- actions
 
@@ -125,12 +148,17 @@ or_failed (Some n) r e P Q is more held = subst (λ (x : Result Counts AllocErro
 lays_same : (count : Counts) (ao an : List Plain) (po pn : List Param) (a b : Action) (n : Counts) → b ≡ a → LaysOne count ao an po pn b n → LaysOne count ao an po pn a n
 lays_same count ao an po pn a b n is = subst (λ (x : Action). LaysOne count ao an po pn x n) is
 
+pub whole_one : (o : Option Counts) (r : Result Counts AllocError) (e : AllocError) (count : Counts) (ao an : List Plain) (po pn : List Param) (a : Action) (list : List CsiParam) (final : ℕ)
+    → r ≡ ok_or o e → boxed list final ≡ Some a → IfSome o (LaysOne count ao an po pn a)
+    → IfOk r (LaysOne count ao an po pn (unwrap_or (boxed list final) (Unspecified list false final)))
+whole_one o r e count ao an po pn a list final answers is =
+    or_failed o r e _ _ answers (λ n. lays_same count ao an po pn _ a n (ap (λ (x : Option Action). unwrap_or x (Unspecified list false final)) (sym is)))
+
 pub whole_some : (o : Option Counts) (r : Result Counts AllocError) (e : AllocError) (count : Counts) (ao an : List Plain) (po pn : List Param) (found : Option Large) (large : Large) (list : List CsiParam) (final : ℕ)
     → r ≡ ok_or o e → option_map large_of found ≡ boxed list final → found ≡ Some large → IfSome o (LaysOne count ao an po pn (large_of large))
     → IfOk r (LaysOne count ao an po pn (unwrap_or (boxed list final) (Unspecified list false final)))
 whole_some o r e count ao an po pn found large list final answers told is =
-    let same : boxed list final ≡ Some (large_of large) = sym told ∙ ap (option_map large_of) is in
-    or_failed o r e _ _ answers (λ n. lays_same count ao an po pn _ (large_of large) n (ap (λ (x : Option Action). unwrap_or x (Unspecified list false final)) (sym same)))
+    whole_one o r e count ao an po pn (large_of large) list final answers (sym told ∙ ap (option_map large_of) is)
 
 pub whole_none : (o : Option Counts) (r : Result Counts AllocError) (e : AllocError) (count : Counts) (ao an : List Plain) (po pn : List Param) (found : Option Large) (list : List CsiParam) (final : ℕ)
     → r ≡ ok_or o e → option_map large_of found ≡ boxed list final → found ≡ None → IfSome o (LaysOne count ao an po pn (Unspecified list false final))

@@ -1,24 +1,28 @@
 //! The actions of a list as structs, and their tokens, put into room that a caller lends: as many as there is room for.
-ghost use Rattle.std.specs.Prelude.{◌≡◌, false, List, ◌++◌, ◌∷◌, length, unwrap_or, IfOk, IfSome};
+ghost use Rattle.std.specs.Prelude.{◌≡◌, false, List, ◌++◌, ◌∷◌, length, map, unwrap_or, Some, IfOk, IfSome};
 ghost use Rattle.std.specs.Option.{option_map};
 ghost use Rattle.csicodec_actions.specs.Actions.{Action, Device as Devices, Unspecified as Unknown, Window as Windows};
-ghost use Rattle.csicodec_actions.specs.Devices.{device_of};
+ghost use Rattle.csicodec_actions.specs.Devices.{attribute_at, device_of, listed_attributes};
 ghost use Rattle.csicodec_actions.specs.Table.{boxed};
 ghost use Rattle.csicodec_parser.specs.ActionOf.{action_of};
 ghost use Rattle.csicodec_parser.specs.Run.{IsRef};
 ghost use Rattle.csicodec_parser.specs.Segments.{Actions};
 ghost use Rattle.csicodec_plain.specs.Next.{Lays};
-ghost use Rattle.csicodec_plain.specs.Private.Fronts.{LaysOne, large_of};
+ghost use Rattle.csicodec_plain.specs.Plain.{attribute_param};
+ghost use Rattle.csicodec_plain.specs.Private.Fronts.{LaysOne, PutsBehind, large_of, terminal_of};
 ghost use Rattle.csicodec_plain.specs.Room.{laid};
-ghost use Rattle.csicodec_plain.specs.Rows.{device_params, params_of};
+ghost use Rattle.csicodec_plain.specs.Rows.{device_params, params_of, plain_of};
 ghost use Rattle.csicodec_plain.specs.declared.plain.Param.{Param};
+ghost use Rattle.csicodec_actions.specs.declared.device.DeviceAttribute.{DeviceAttribute as Attribute};
 
-use crate::plain::{Param, Plain, unknown_row};
+use crate::candidates::{VT220, VT320, VT420};
+use crate::plain::{Param, Plain, list_row, unknown_row};
 use crate::room::put;
 use crate::rows::{device_plain, plain_of, window_plain};
-use crate::token::put_all;
+use crate::token::{Token, put_all};
+use csicodec::CsiParam::{Integer, P};
 use csicodec::laws::segmentation;
-use csicodec::{CSI, CsiParam, Device, DeviceAttributes, Window};
+use csicodec::{CSI, CsiParam, Device, DeviceAttribute, DeviceAttributes, Window};
 use csicodec_lists::{device_action, graphics_action, window_action};
 use csicodec_parser::ActionRef;
 use std::alloc::{AllocError, Global};
@@ -132,6 +136,84 @@ fn lay_unknown(
     })
 }
 
+/// The service class that a terminal answers with, by the first terminal that has it.
+#[derive(Clone, Copy)]
+enum Class {
+    Vt220,
+    Vt320,
+    Vt420,
+}
+
+/// The class that a list names, and the tokens behind it.
+#[tactic(auto, unfolding(csicodec_actions::specs::Table::boxed, csicodec_actions::specs::Table::Device::as_device))]
+fn class_of(list: &[CsiParam], control: char) -> Option<(Class, &[CsiParam])>
+    ensures { IfSome result (λ x. boxed list.now control ≡ Some (terminal_of x.0 (listed_attributes x.1.now))) }
+{
+    match (list, control) {
+        ([P(b'?'), Integer(62), extensions @ ..], 'c') => Some((Class::Vt220, extensions)),
+        ([P(b'?'), Integer(63), extensions @ ..], 'c') => Some((Class::Vt320, extensions)),
+        ([P(b'?'), Integer(64), extensions @ ..], 'c') => Some((Class::Vt420, extensions)),
+        _ => None,
+    }
+}
+
+/// The struct of a terminal that names so many extensions, whose tokens stand from this place on.
+fn class_plain(class: Class, place: usize, len: usize) -> Plain
+    ensures { (extensions : List Attribute) → len ≡ length extensions → result ≡ plain_of place (terminal_of class extensions) }
+{
+    let kind = match class {
+        Class::Vt220 => VT220,
+        Class::Vt320 => VT320,
+        Class::Vt420 => VT420,
+    };
+    list_row(kind, 0, 0, place, len)
+}
+
+/// Puts the extension that a token names behind the tokens that are there: none for `;`.
+fn put_extension(room: &mut [Param], place: usize, token: CsiParam) -> Option<usize>
+    ensures { IfSome result (PutsBehind room.old room.new place (map attribute_param (attribute_at token))) }
+{
+    if token == P(b';') {
+        return Some(place);
+    }
+    put(room, place, DeviceAttribute::of(token).to_param());
+    place.checked_add(1)
+}
+
+/// Puts the extensions that tokens name behind the tokens that are there.
+fn put_extensions(room: &mut [Param], place: usize, list: &[CsiParam]) -> Option<usize>
+    ensures { IfSome result (PutsBehind room.old room.new place (map attribute_param (listed_attributes list.now))) }
+{
+    let mut end = place;
+    for token in list {
+        end = put_extension(room, end, *token)?;
+    }
+    Some(end)
+}
+
+/// The same of a terminal with the extensions that these tokens name.
+fn lay_class(
+    class: Class,
+    extensions: &[CsiParam],
+    count: Counts,
+    actions: &mut [Plain],
+    params: &mut [Param],
+) -> Option<Counts>
+    ensures { IfSome result (LaysOne count actions.old actions.new params.old params.new (terminal_of class (listed_attributes extensions.now))) }
+{
+    let end = put_extensions(params, count.params, extensions)?;
+    let len = end.checked_sub(count.params)?;
+    put(
+        actions,
+        count.actions,
+        class_plain(class, count.params, len),
+    );
+    Some(Counts {
+        actions: count.actions.checked_add(1)?,
+        params: end,
+    })
+}
+
 /// What a row of a list that is read whole gives, where its action takes memory in a `CSI`.
 #[derive(Drop)]
 enum Large {
@@ -175,10 +257,8 @@ fn large_action(
     }
 }
 
-/// Puts the action of a list that is read whole, where no row reads it that takes no memory.
-#[cold]
-#[inline(never)]
-fn lay_whole(
+/// Puts the action of a list that is read whole, made with memory where its row takes it.
+fn lay_with_memory(
     alloc: Global,
     list: &[CsiParam],
     control: char,
@@ -191,6 +271,27 @@ fn lay_whole(
     match large_action(alloc, list, control)? {
         Some(large) => lay_large(&large, count, actions, params).ok_or(AllocError),
         None => lay_unknown(&[], list, control, count, actions, params).ok_or(AllocError),
+    }
+}
+
+/// Puts the action of a list that is read whole, where none is made that takes no memory.
+#[cold]
+#[inline(never)]
+fn lay_whole(
+    alloc: Global,
+    list: &[CsiParam],
+    control: char,
+    count: Counts,
+    actions: &mut [Plain],
+    params: &mut [Param],
+) -> Result<Counts, AllocError>
+    ensures { IfOk result (LaysOne count actions.old actions.new params.old params.new (unwrap_or (boxed list.now control) (Unknown list.now false control))) }
+{
+    match class_of(list, control) {
+        Some((class, extensions)) => {
+            lay_class(class, extensions, count, actions, params).ok_or(AllocError)
+        }
+        None => lay_with_memory(alloc, list, control, count, actions, params),
     }
 }
 

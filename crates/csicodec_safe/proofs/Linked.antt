@@ -30,10 +30,6 @@ pub links_none : (bytes : List ℕ) (b : Begun) → links_in false b bytes ≡ [
 links_none [] b = refl
 links_none (c ∷ bytes) b = links_none bytes b
 
-pub behind_none : (bytes : List ℕ) (b : Begun) → all_behind false b bytes ≡ b
-behind_none [] b = refl
-behind_none (c ∷ bytes) b = behind_none bytes b
-
 -- a byte more
 pub links_more : (b old : Begun) (xs : List ℕ) (c : ℕ) → old ≡ all_behind true b xs → links_in true b (xs ++ c ∷ []) ≡ links_in true b xs ++ links_at true old c
 links_more b old xs c here = links_on true xs (c ∷ []) b ∙ ap (λ (t : List Address). links_in true b xs ++ t) (append-nil (links_at true (all_behind true b xs) c)) ∙ ap (λ (t : Begun). links_in true b xs ++ links_at true t c) (sym here)

@@ -167,9 +167,6 @@ reduced_hides d (sgr.Background c) = refl
 reduced_hides d (sgr.UnderlineColor c) = refl
 reduced_hides d s = refl
 
-pub reset_stays : (d : Depth) → reduced d sgr.Reset ≡ sgr.Reset
-reset_stays d = refl
-
 pub reduced_alone : (d : Depth) (s : Sgr) → ReadsAlone (action.Sgr s) false → ReadsAlone (action.Sgr (reduced d s)) false
 reduced_alone d (sgr.Foreground c) h = alone-only false _ (canonical-alone (action.Sgr (sgr.Foreground (reduced_color d c))) false (in_range d c (style_range (sgr.Foreground c) h)) tt)
 reduced_alone d (sgr.Background c) h = alone-only false _ (canonical-alone (action.Sgr (sgr.Background (reduced_color d c))) false (in_range d c (style_range (sgr.Background c) h)) tt)

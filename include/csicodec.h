@@ -1,12 +1,11 @@
 /* csicodec: a typed codec for the control sequences (CSI) of terminals, for C99 and C++.
  *
- * A control sequence is ESC [, then parameters, then one final byte (ECMA-48, 5.4, in its 7-bit form). It stands for one or
+ * A control sequence is ESC [, then parameters, then one final byte (ECMA-48, 5.4, in its 7-bit form). It has one or
  * more actions; each action has a text, which is a control sequence of its own, its normal form.
  *
- * Every call keeps nothing: what it reads is read during the call, and what it answers is put into room that the caller
- * lends, so there is nothing to free. Room may have a length of 0, and then its pointer may be null. What a call writes to may
- * not overlap what it reads. Calls share nothing, so any threads may make them; no call may be
- * made from a signal handler. Memory is taken with malloc and given back before the call returns.
+ * No call keeps anything. A call writes its results into room that the caller provides, so there is nothing to free. Room may have
+ * a length of 0, and then its pointer may be null. The input and the output of a call must not overlap. Calls share no state, so any
+ * thread may make them, but no signal handler. A call frees the memory that it takes from malloc before it returns.
  *
  * Link with -lcsicodec, as `pkg-config --cflags --libs csicodec` says. */
 #ifndef CSICODEC_H
@@ -18,7 +17,7 @@
 #include "csicodec_kinds.h"
 #include "csicodec_names.h"
 
-/* The version of this header. csicodec_version() answers the library's, which is to be the same number. */
+/* The version of this header. csicodec_version() returns the library's, which must be the same number. */
 #define CSICODEC_VERSION "0.9.0"
 #define CSICODEC_VERSION_NUMBER 900
 
@@ -32,7 +31,7 @@ enum csicodec_status {
     CSICODEC_OK = 0,
     /* The bytes don't begin with ESC [. */
     CSICODEC_NOT_CSI = 1,
-    /* A byte stands there that can't stand in a control sequence. */
+    /* A byte that can't be in a control sequence. */
     CSICODEC_BAD_BYTE = 2,
     /* A number is above 2^63 - 1. */
     CSICODEC_NUMBER_TOO_LARGE = 3,
@@ -40,16 +39,16 @@ enum csicodec_status {
     CSICODEC_TRUNCATED = 4,
     /* malloc or realloc gave no memory. */
     CSICODEC_MEMORY = 5,
-    /* A struct stands for no action: its kind is none, a number of it is out of its range, or a field without use isn't 0. */
+    /* A struct stands for no action: its kind doesn't exist, one of its numbers is out of range, or an unused field isn't 0. */
     CSICODEC_NO_ACTION = 6,
-    /* A number that is passed beside the bytes stands for nothing: a mode that is none of enum csicodec_filter_mode, a limit of 0, a depth
-     * that is none of enum csicodec_depth, a struct csicodec_cleaning that no step answers. */
+    /* An argument is wrong: a mode that isn't in enum csicodec_filter_mode, a limit of 0, a depth that isn't in enum csicodec_depth, links
+     * above 1, a struct csicodec_cleaning that no step returns. */
     CSICODEC_BAD_STATE = 7
 };
 
-/* Of a colour, what `first` is. */
+/* What `first` is for a colour. */
 enum csicodec_color {
-    /* The terminal's own colour. */
+    /* The terminal's default colour. */
     CSICODEC_COLOR_DEFAULT = 0,
     /* second: a place in the palette, 0 to 255. */
     CSICODEC_COLOR_PALETTE = 1,
@@ -57,11 +56,11 @@ enum csicodec_color {
     CSICODEC_COLOR_TRUE = 2
 };
 
-/* What `absent` is: the sum of what is true. A number that is absent is 0. */
+/* `absent` is the sum of these. An absent number is 0. */
 enum csicodec_absent {
-    /* The sequence leaves `first` out. */
+    /* `first` is absent. */
     CSICODEC_ABSENT_FIRST = 1,
-    /* The sequence leaves `second` out. */
+    /* `second` is absent. */
     CSICODEC_ABSENT_SECOND = 2
 };
 
@@ -72,7 +71,7 @@ enum csicodec_modifiers {
     CSICODEC_MODIFIERS_CTRL = 8
 };
 
-/* What a program asks of the reports of keys (kitty's keyboard protocol): the sum of these. */
+/* How a program wants keys reported (kitty's keyboard protocol): the sum of these. */
 enum csicodec_kitty_keyboard_flags {
     CSICODEC_KITTY_KEYBOARD_FLAGS_DISAMBIGUATE_ESCAPE_CODES = 1,
     CSICODEC_KITTY_KEYBOARD_FLAGS_REPORT_EVENT_TYPES = 2,
@@ -81,7 +80,7 @@ enum csicodec_kitty_keyboard_flags {
     CSICODEC_KITTY_KEYBOARD_FLAGS_REPORT_ASSOCIATED_TEXT = 16
 };
 
-/* What graphics are about: `first` of CSICODEC_DEVICE_XT_SM_GRAPHICS. It may be any other number. */
+/* The item of XTSMGRAPHICS: `first` of CSICODEC_DEVICE_XT_SM_GRAPHICS. Other numbers are allowed. */
 enum csicodec_xt_sm_graphics_item {
     CSICODEC_XT_SM_GRAPHICS_ITEM_NUMBER_OF_COLOR_REGISTERS = 1,
     CSICODEC_XT_SM_GRAPHICS_ITEM_SIXEL_GRAPHICS_GEOMETRY = 2,
@@ -90,11 +89,11 @@ enum csicodec_xt_sm_graphics_item {
 
 /* An action, in 64 bytes without gaps. */
 struct csicodec_action {
-    /* enum csicodec_kind: which action. The comment at the kind says what the other fields hold; what it doesn't name is 0. */
+    /* enum csicodec_kind: which action. The comment at the kind says what the other fields hold; fields that it doesn't name are 0. */
     uint32_t kind;
     /* Of CSICODEC_UNSPECIFIED, the final character, such as 'm'. */
     uint32_t final_char;
-    /* A count, a line, a column, a mode, the number of an enumeration: what the kind says. */
+    /* A count, a line, a column, a mode, the number of an enumeration: the kind says what. */
     int64_t first;
     int64_t second;
     /* Of an area, its first and last lines and columns, from 1. */
@@ -104,14 +103,14 @@ struct csicodec_action {
     size_t len;
     /* Of a true colour. */
     uint8_t red, green, blue, alpha;
-    /* Of a report of the mouse, enum csicodec_modifiers and enum csicodec_mouse_button. */
+    /* Of a mouse report, enum csicodec_modifiers and enum csicodec_mouse_button. */
     uint16_t modifiers;
     uint8_t button;
     /* enum csicodec_absent. */
     uint8_t absent;
 };
 
-/* A token of a list, in 16 bytes without gaps. Extensions of a terminal are tokens, too, and so are the values of graphics,
+/* A token of a list, in 16 bytes without gaps. A terminal's extensions are tokens too, and so are the values of graphics,
  * which are numbers. */
 struct csicodec_param {
     /* 0 for a number, 1 for a byte such as ';'. */
@@ -130,9 +129,9 @@ struct csicodec_normalised {
     size_t needed;
 };
 
-/* The normal form of len bytes, which are control sequences one after the other: each action a sequence of its own. It is
- * put at out where needed <= room; else nothing is put, and a second call with that much room gives it. A refusal puts
- * nothing. */
+/* Writes the normal form of len bytes, which are control sequences one after the other: one sequence for each action. It is
+ * written to out if needed <= room; otherwise nothing is written, and a second call with that much room writes it. After a
+ * refusal nothing is written. */
 struct csicodec_normalised csicodec_normalise(const uint8_t *bytes, size_t len, uint8_t *out, size_t room);
 
 struct csicodec_front {
@@ -142,16 +141,16 @@ struct csicodec_front {
     size_t at;
     /* Of CSICODEC_OK, how many bytes the sequence has. */
     size_t used;
-    /* Of CSICODEC_OK, how many actions it stands for: 1 or more. */
+    /* Of CSICODEC_OK, how many actions it has: 1 or more. */
     size_t actions;
     /* Of CSICODEC_OK, how many tokens belong to them. */
     size_t params;
 };
 
-/* The actions of the one control sequence at the front of len bytes. As many of them are put as there is room for, and as
- * many of their tokens; where answer.actions > actions_room or answer.params > params_room, a second call with more room
- * gives all. A sequence has no more actions, and no more tokens, than bytes. Go on at bytes + answer.used. A refusal puts
- * nothing, but after CSICODEC_MEMORY the room may hold the first actions. */
+/* Writes the actions of the control sequence at the front of len bytes, and their tokens, as many as there is room for. If
+ * the answer's actions > actions_room or params > params_room, a second call with more room writes all. A sequence has no more
+ * actions, and no more tokens, than bytes. Continue at bytes + used. After a refusal nothing is written, except that after
+ * CSICODEC_MEMORY the room may hold the first actions. */
 struct csicodec_front csicodec_next(const uint8_t *bytes, size_t len, struct csicodec_action *actions, size_t actions_room,
                                     struct csicodec_param *params, size_t params_room);
 
@@ -164,26 +163,26 @@ struct csicodec_encoded {
     size_t needed;
 };
 
-/* The joined texts of count actions, whose tokens are among params_count params. They are put at out where needed <= room;
- * else, and after a refusal, nothing is put. */
+/* Writes the texts of count actions, joined; their tokens are among params_count params. They are written to out if
+ * needed <= room; otherwise, and after a refusal, nothing is written. */
 struct csicodec_encoded csicodec_encode(const struct csicodec_action *actions, size_t count,
                                         const struct csicodec_param *params, size_t params_count, uint8_t *out, size_t room);
 
 struct csicodec_judged {
     /* CSICODEC_OK, CSICODEC_MEMORY or CSICODEC_NO_ACTION. */
     uint32_t status;
-    /* Of CSICODEC_OK, 1 where the action is read back, and 0 where it isn't. */
+    /* Of CSICODEC_OK, 1 if the action is read back, and 0 if it isn't. */
     uint32_t canonical;
 };
 
-/* Whether the text of an action is read as this action and as nothing else. It is so of each action that csicodec_next
- * gives, but for left and right margins from 1 to 4294967295 and requests for the terminal's parameters. */
+/* Whether the text of an action is read as this action and nothing else. This holds for each action of csicodec_next, except
+ * left and right margins from 1 to 4294967295 (DECSLRM) and requests for the terminal's parameters (DECREQTPARM). */
 struct csicodec_judged csicodec_is_canonical(const struct csicodec_action *action, const struct csicodec_param *params,
                                              size_t params_count);
 
-/* What the bytes before a place of a stream leave open there. */
+/* What the bytes of a stream up to a place have left open. */
 enum csicodec_filter_mode {
-    /* Nothing: characters are shown. A stream begins so. */
+    /* Nothing: characters are shown. A stream begins in this mode. */
     CSICODEC_FILTER_TEXT = 0,
     /* An operating system command, OSC (ECMA-48, 8.3.89). */
     CSICODEC_FILTER_OSC = 1,
@@ -191,9 +190,9 @@ enum csicodec_filter_mode {
     CSICODEC_FILTER_DCS = 2,
     /* SOS, PM or APC (ECMA-48, 5.6). */
     CSICODEC_FILTER_STR = 3,
-    /* A control sequence that went wrong, up to its final byte. */
+    /* A malformed control sequence, up to its final byte. */
     CSICODEC_FILTER_BAD_CSI = 4,
-    /* An escape sequence that went wrong, up to its final byte. */
+    /* A malformed escape sequence, up to its final byte. */
     CSICODEC_FILTER_BAD_ESC = 5
 };
 
@@ -208,71 +207,71 @@ struct csicodec_filtered {
     size_t needed;
 };
 
-/* A step of a filter over any stream of a terminal: each control sequence of at most limit bytes comes in its normal form, and
- * every other byte as it was. The state of the filter is the caller's: the mode, and the bytes that no step has used.
+/* A step of a filter over any terminal stream: each control sequence of at most limit bytes is written in its normal form, and
+ * every other byte as it was. The caller keeps the state of the filter: the mode, and the bytes that no step has used.
  *
- * The text of all spans of len bytes that are sure is put at out where needed <= room; else nothing is put, and the same
- * step with that much room gives it. Bytes from answer.used on depend on what follows: they are fewer than limit, or than 3,
- * and are passed again, ahead of those that come, in answer.mode. Where nothing comes any more they pass as they are.
- * A limit of 65536 is what the program `csicodec filter` takes. How a stream is cut into steps doesn't matter. */
+ * The text of all spans that no later byte can change is written to out if needed <= room; otherwise nothing is written, and the
+ * same step with that much room writes it. The bytes from `used` on depend on what follows: they are fewer than limit, or than 3.
+ * Pass them again, before the bytes that come next, with the answer's mode. At the end of the stream write them unchanged.
+ * The program `csicodec filter` has a limit of 65536. It doesn't matter how a stream is cut into steps. */
 struct csicodec_filtered csicodec_filter(uint32_t mode, size_t limit, const uint8_t *bytes, size_t len, uint8_t *out,
                                          size_t room);
 
-/* The same step of a filter that writes each control sequence in the shortest of its spellings that is found, and as it came where
- * none is shorter: it is read as the same actions. */
+/* The same step of a filter that writes each control sequence in the shortest spelling that it finds, with the same actions, and
+ * as it came if none is shorter. */
 struct csicodec_filtered csicodec_compact(uint32_t mode, size_t limit, const uint8_t *bytes, size_t len, uint8_t *out,
                                           size_t room);
 
-/* The same with semicolons in the colours of the character and the ground (38;2;R;G;B), also where that is no shorter: for terminals and
- * tools that know no colons. A colour with an alpha has no such spelling, and stays as it came. */
+/* The same with semicolons in foreground and background colours (38;2;R;G;B), even if that is no shorter: for terminals and
+ * tools that don't know colons. A colour with an alpha has no such spelling, and stays as it came. */
 struct csicodec_filtered csicodec_compact_semicolons(uint32_t mode, size_t limit, const uint8_t *bytes, size_t len, uint8_t *out,
                                                      size_t room);
 
-/* As csicodec_encode: a text of the actions that is no longer than its, and is read as them, where each of them is read back from
- * its own text (csicodec_is_canonical). Attributes side by side go into one sequence. */
+/* As csicodec_encode, but a text that is no longer, with attributes side by side in one sequence. It has the same actions, if each
+ * of them is read back from its own text (csicodec_is_canonical). */
 struct csicodec_encoded csicodec_encode_compact(const struct csicodec_action *actions, size_t count,
                                                 const struct csicodec_param *params, size_t params_count, uint8_t *out, size_t room);
 
 struct csicodec_stripped {
-    /* CSICODEC_OK or CSICODEC_MEMORY; of csicodec_clean_with and csicodec_clean_end CSICODEC_BAD_STATE, too. */
+    /* CSICODEC_OK or CSICODEC_MEMORY; from csicodec_clean_with and csicodec_clean_end also CSICODEC_BAD_STATE. */
     uint32_t status;
     /* Of CSICODEC_OK, the length of what is left. */
     size_t needed;
 };
 
-/* What is left of len untrusted bytes, which are a whole text: what a terminal shows of them, and nothing that it acts on but newlines
- * and tabs. It is UTF-8, and what is none becomes U+FFFD. It is put at out where needed <= room; else nothing is put. */
+/* Writes the plain text of len untrusted bytes, which are a whole text: no control but newline and tab. It is UTF-8; bytes that aren't
+ * UTF-8 become U+FFFD. It is written to out if needed <= room; otherwise nothing is written. */
 struct csicodec_stripped csicodec_strip(const uint8_t *bytes, size_t len, uint8_t *out, size_t room);
 
-/* The same with the attributes of text (SGR) that hide nothing, in their normal form; where the last of them is no reset, a reset
- * ends the text. */
+/* The same with the attributes (SGR) that hide nothing, in their normal form; if the last of them isn't a reset, a reset ends the
+ * text. */
 struct csicodec_stripped csicodec_clean(const uint8_t *bytes, size_t len, uint8_t *out, size_t room);
 
 /* Which colours stay. */
 enum csicodec_depth {
     /* All, as they are. */
     CSICODEC_DEPTH_FULL = 0,
-    /* The 256 places of the palette; a colour by its red, green and blue becomes the nearest place from 16 on, in xterm's palette. */
+    /* The 256 places of the palette; a true colour becomes the nearest place of xterm's palette from 16 on. */
     CSICODEC_DEPTH_PALETTE = 1,
     /* The first 16 places; every other colour becomes the nearest of them. */
     CSICODEC_DEPTH_ANSI = 2
 };
 
-/* The same with the colours of a depth, of enum csicodec_depth, and with links where `links` is 1, and without where it is 0: an OSC 8
- * whose address is at most 2,083 visible characters of ASCII, and its parameters at most 256. Where the last of them has an address, one
- * without ends the text. CSICODEC_BAD_STATE comes of another depth, and of links above 1. */
+/* The same with the colours of a depth (enum csicodec_depth), and with links if `links` is 1, without if it is 0. A link is an OSC 8
+ * whose address is at most 2,083 visible ASCII characters, and its parameters at most 256. If a link is open at the end, a link without
+ * an address closes it. For another depth, and for links above 1, the status is CSICODEC_BAD_STATE. */
 struct csicodec_stripped csicodec_clean_with(uint32_t depth, uint32_t links, const uint8_t *bytes, size_t len, uint8_t *out,
                                              size_t room);
 
-/* What untrusted text leaves open between two steps, in 16 bytes without gaps. At the beginning all is 0. */
+/* The state between two steps over untrusted text, in 16 bytes without gaps. At the beginning all numbers are 0. */
 struct csicodec_cleaning {
     /* enum csicodec_filter_mode. */
     uint32_t mode;
-    /* 1 where a title is open, of tmux and screen (ESC k), else 0. */
+    /* 1 if a title of tmux or screen (ESC k) is open, otherwise 0. */
     uint32_t titled;
-    /* 1 where a style is open, which a reset is to end, else 0. */
+    /* 1 if a style is open, which needs a reset at the end, otherwise 0. */
     uint32_t styled;
-    /* How many of the bytes that come again, at their front, are the beginning of a character: 0 to 3. */
+    /* How many of the bytes that are passed again are the beginning of a character: the first 0 to 3. */
     uint32_t held;
 };
 
@@ -283,11 +282,11 @@ struct csicodec_cleaned {
     struct csicodec_cleaning state;
     /* Of CSICODEC_OK, how many of the bytes were used. */
     size_t used;
-    /* Of CSICODEC_OK, the length of what is left of them. */
+    /* Of CSICODEC_OK, the length of the text. */
     size_t needed;
 };
 
-/* A step of csicodec_strip over a stream as it comes. The state is the caller's: a struct, and the bytes that no step has used.
+/* A step of csicodec_strip over a stream as it comes. The caller keeps the state: a struct, and the bytes that no step has used.
  *
  *     struct csicodec_cleaning state = {0};
  *     uint8_t bytes[65536 + 4096], out[4 * sizeof bytes];
@@ -303,37 +302,37 @@ struct csicodec_cleaned {
  *     }
  *     fwrite(out, 1, csicodec_clean_end(&state, bytes, held, out, sizeof out).needed, stdout);
  *
- * What is left of all bytes that are sure is put at out where needed <= room; else nothing is put, and the same step with that much room
- * gives it. It is at most three times as long as the bytes. Bytes from answer.used on depend on what follows: they are at most 3 of a
- * character and fewer than 65536 of a control sequence, and are passed again, ahead of those that come, with answer.state.
- * CSICODEC_BAD_STATE comes of a state with a number out of its range, or more bytes held than there are; of answer.state and the bytes
- * from answer.used on it never does.
+ * The text of all bytes that no later byte can change is written to out if needed <= room; otherwise nothing is written, and the same
+ * step with that much room writes it. It is at most three times as long as the bytes. The bytes from `used` on depend on what follows:
+ * they are at most 3 of a character and fewer than 65536 of a control sequence. Pass them again, before the bytes that come next, with
+ * the answer's state. The status is CSICODEC_BAD_STATE for a state with a number out of range, or with more bytes held than there are;
+ * never for the answer's state with the bytes from `used` on.
  *
- * What the steps and the end put is what csicodec_strip puts of the whole stream, however it is cut into steps. A sequence that comes
- * byte by byte is read anew with each step, where csicodec_waits doesn't tell that it may wait. */
+ * The steps and the end write what csicodec_strip writes for the whole stream, however it is cut into steps. A sequence that comes
+ * byte by byte is read again in each step, unless csicodec_waits says that the step can wait. */
 struct csicodec_cleaned csicodec_strip_step(const struct csicodec_cleaning *state, const uint8_t *bytes, size_t len, uint8_t *out,
                                             size_t room);
 
-/* The same step of csicodec_clean_with without links, in a depth, which is the same in each step: CSICODEC_BAD_STATE for one that is
- * none. There are no steps with links, which would hold their addresses between two steps. */
+/* The same step of csicodec_clean_with without links. Pass the same depth in each step; for an unknown depth the status is
+ * CSICODEC_BAD_STATE. There are no steps with links, whose addresses would have to be kept between two steps. */
 struct csicodec_cleaned csicodec_clean_step(uint32_t depth, const struct csicodec_cleaning *state, const uint8_t *bytes, size_t len,
                                             uint8_t *out, size_t room);
 
-/* What ends a stream behind its last step, of which len bytes were not used: U+FFFD for the beginning of a character, nothing for that of
- * a sequence, and a reset where a style is open. It is put where needed <= room, and behind a step it is at most 7 bytes long. */
+/* Writes the end of a stream, for the len bytes that the last step didn't use: U+FFFD for the beginning of a character, nothing for
+ * that of a sequence, and a reset if a style is open. It is written if needed <= room, and after a step it is at most 7 bytes long. */
 struct csicodec_stripped csicodec_clean_end(const struct csicodec_cleaning *state, const uint8_t *bytes, size_t len, uint8_t *out,
                                             size_t room);
 
 enum csicodec_span_kind {
-    /* Characters, and controls of C0 but ESC, and DEL. */
+    /* Characters, C0 controls other than ESC, and DEL. */
     CSICODEC_SPAN_TEXT = 0,
     /* One whole control sequence. */
     CSICODEC_SPAN_CSI = 1,
     /* One whole escape sequence: ESC, at most one intermediate byte (20 to 2f), and a final byte (30 to 7e). */
     CSICODEC_SPAN_ESC = 2,
-    /* A control string (ECMA-48, 5.6), or as much of it as there is: OSC, DCS, SOS, PM or APC, with what closes it. */
+    /* A control string (ECMA-48, 5.6), or as much of it as there is: OSC, DCS, SOS, PM or APC, with its end. */
     CSICODEC_SPAN_STRING = 3,
-    /* A control that went wrong, or as much of it as there is. A terminal may carry it out all the same. */
+    /* A malformed control, or as much of it as there is. A terminal may still carry it out. */
     CSICODEC_SPAN_OTHER = 4
 };
 
@@ -348,20 +347,20 @@ struct csicodec_spanned {
     size_t used;
 };
 
-/* The span at the front of len bytes of a stream, in the mode that the bytes before them leave open: one text, one control or
- * one string, as long as it can be. A control sequence of more than limit bytes is CSICODEC_SPAN_OTHER. CSICODEC_TRUNCATED says
- * that it depends on what follows: there are fewer bytes than limit, or than 3, and they come again with more behind them.
- * Text and strings end where the bytes do, and may go on in the next ones. It takes no memory. */
+/* The span at the front of len bytes of a stream, in the mode behind the bytes before: one text, one control or one string, as long
+ * as possible. A control sequence of more than limit bytes is CSICODEC_SPAN_OTHER. CSICODEC_TRUNCATED says that the span depends on
+ * what follows: there are fewer bytes than limit, or than 3; pass them again with more bytes behind them. Text and strings end
+ * where the bytes end, and may continue in the next ones. It takes no memory. */
 struct csicodec_spanned csicodec_span(uint32_t mode, size_t limit, const uint8_t *bytes, size_t len);
 
-/* enum csicodec_esc_code: the code of an escape sequence by its intermediate byte, or 0 for none, and its final byte; 0 where no
- * code is written so. */
+/* enum csicodec_esc_code: the code of an escape sequence, by its intermediate byte, or 0 for none, and its final byte; 0 if there
+ * is no code. */
 uint32_t csicodec_esc(uint8_t intermediate, uint8_t final_byte);
 
 /* The version of the library: CSICODEC_VERSION_NUMBER of its own header. */
 uint32_t csicodec_version(void);
 
-/* What a status says, in a few words; NULL of a number that is none. */
+/* A few words for a status; NULL for another number. */
 static inline const char *csicodec_status_text(uint32_t status) {
     switch (status) {
     case CSICODEC_OK: return "done";

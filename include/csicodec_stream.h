@@ -13,23 +13,23 @@
  *         memmove(bytes, bytes + at, held -= at);
  *     }
  *
- * What waits is kept by the caller: fewer bytes than the limit, or than 4. How a stream is cut into pieces changes nothing but
- * where text, strings and what went wrong are cut; a character of text is never cut by it. */
+ * The caller keeps the bytes that wait: fewer than the limit, or than 4. How a stream is cut into pieces changes only where text,
+ * strings and malformed controls are cut; it never cuts a character of text. */
 #ifndef CSICODEC_STREAM_H
 #define CSICODEC_STREAM_H
 
 #include <string.h>
 
-/* Whether a step of csicodec_filter, or a call of csicodec_next, may as well wait: of len bytes it found nothing sure, or answered
- * CSICODEC_TRUNCATED, when the first `looked` of them had come, and of what came behind them nothing ends the control sequence. So one
- * that comes byte by byte is read once, and not with each byte anew. A limit is that of the filter; else SIZE_MAX.
+/* Whether a step of csicodec_filter, or a call of csicodec_next, can wait for more bytes: with the first `looked` of len bytes it used
+ * nothing, or returned CSICODEC_TRUNCATED, and none of the bytes behind them ends the control sequence. So a sequence that comes
+ * byte by byte is read once, and not again with each byte. The limit is the filter's; for csicodec_next it is SIZE_MAX.
  *
  *     if (csicodec_waits(limit, bytes, len, looked)) { looked = len; continue; }
  *     filtered = csicodec_filter(mode, limit, bytes, len, out, room);
  *     looked = len - filtered.used;
  *     memmove(bytes, bytes + filtered.used, len = looked);
  *
- * So of a step of csicodec_strip_step or csicodec_clean_step, whose limit is 65536, without the bytes that are held (state.held). */
+ * The same holds for csicodec_strip_step and csicodec_clean_step, with the limit 65536 and without the first state.held bytes. */
 static inline int csicodec_waits(size_t limit, const uint8_t *bytes, size_t len, size_t looked) {
     if (looked < 2 || len >= limit || bytes[0] != 0x1b || bytes[1] != '[') return 0;
     for (; looked < len; looked++)
@@ -38,32 +38,32 @@ static inline int csicodec_waits(size_t limit, const uint8_t *bytes, size_t len,
 }
 
 enum csicodec_event_kind {
-    /* Nothing is sure of the bytes yet: they come again, ahead of those that follow. */
+    /* No event yet: pass the bytes again, before the bytes that come next. */
     CSICODEC_EVENT_NONE = 0,
-    /* Characters, and controls of C0 but ESC, and DEL. No character in UTF-8 is cut, but by what stands within it. */
+    /* Characters, C0 controls other than ESC, and DEL. A UTF-8 character is cut only by a control within it. */
     CSICODEC_EVENT_TEXT = 1,
-    /* A control sequence: its actions stand in the room of the stream. */
+    /* A control sequence: its actions are in the room of the stream. */
     CSICODEC_EVENT_ACTIONS = 2,
     /* An escape sequence. */
     CSICODEC_EVENT_ESC = 3,
-    /* A piece of a control string: what it holds, without what opens and closes it. */
+    /* A piece of the data of a control string, without what opens and closes it. */
     CSICODEC_EVENT_STRING = 4,
-    /* A control that went wrong, or a piece of it. */
+    /* A malformed control, or a piece of it. */
     CSICODEC_EVENT_OTHER = 5
 };
 
-/* A stream: what the bytes before a place leave open there, and the room that the caller lends. */
+/* A stream: what the bytes before have left open, and the room that the caller provides. */
 struct csicodec_stream {
     /* enum csicodec_filter_mode. */
     uint32_t mode;
     /* Of an open string, the character behind ESC that opened it. */
     uint32_t string;
-    /* Of a control sequence with controls in it, what it is a span of, and how far they were told; 0 where none is being told. */
+    /* Of a control sequence with C0 controls in it, its span, and how many of its bytes are told; 0 outside of one. */
     struct csicodec_spanned wrong;
     size_t inside;
     /* Of a control sequence that waits for its end, how many bytes were looked at. */
     size_t looked;
-    /* A control sequence has at most so many bytes. */
+    /* The most bytes that a control sequence may have. */
     size_t limit;
     struct csicodec_action *actions;
     size_t actions_room;
@@ -74,31 +74,31 @@ struct csicodec_stream {
 struct csicodec_event {
     /* enum csicodec_event_kind. */
     uint32_t kind;
-    /* Of CSICODEC_EVENT_OTHER that begins with ESC [, how it is refused. Where there is no event, CSICODEC_OK, or
-     * CSICODEC_BAD_STATE for a mode that is none and for a limit of 0. */
+    /* Of CSICODEC_EVENT_OTHER that begins with ESC [, why it is refused. If there is no event, CSICODEC_OK, or
+     * CSICODEC_BAD_STATE for an unknown mode or a limit of 0. */
     uint32_t status;
-    /* The bytes of the event, where they were passed; of a string, what it holds. */
+    /* The bytes of the event, in the caller's buffer; of a string, its data. */
     const uint8_t *bytes;
     size_t len;
-    /* Go on behind so many bytes. It is 0 of a control within a control sequence. */
+    /* Continue behind so many bytes. It is 0 for a control within a control sequence. */
     size_t used;
-    /* Of CSICODEC_EVENT_ACTIONS, how many there are, and how many tokens. Only what there is room for is put. */
+    /* Of CSICODEC_EVENT_ACTIONS, the number of actions and of tokens. As many are written as there is room for. */
     size_t actions;
     size_t params;
-    /* Of CSICODEC_EVENT_ESC, enum csicodec_esc_code, or 0 where no code is written so; the intermediate byte, or 0; and the
-     * final byte. */
+    /* Of CSICODEC_EVENT_ESC, enum csicodec_esc_code, or 0 if there is no code; the intermediate byte, or 0; and the final
+     * byte. */
     uint32_t code;
     uint8_t intermediate;
     uint8_t final_byte;
-    /* Of CSICODEC_EVENT_STRING, whether it is the first piece, and whether it is the last. A string that is cancelled has
-     * no last piece: another event comes. */
+    /* Of CSICODEC_EVENT_STRING, whether it is the first piece, and whether it is the last. A cancelled string has no last
+     * piece: another event follows. */
     uint8_t first;
     uint8_t last;
     /* Of CSICODEC_EVENT_STRING, the character that opened it: ']' OSC, 'P' DCS, 'X' SOS, '^' PM, '_' APC. */
     uint32_t string;
 };
 
-/* A stream of which nothing has come. */
+/* A new stream. */
 static inline struct csicodec_stream csicodec_stream_of(size_t limit, struct csicodec_action *actions, size_t actions_room,
                                                         struct csicodec_param *params, size_t params_room) {
     struct csicodec_stream stream;
@@ -137,8 +137,8 @@ static inline int csicodec_actions_event(struct csicodec_stream *stream, const u
     return csicodec_event_of(stream, event, CSICODEC_EVENT_ACTIONS, bytes, used, CSICODEC_FILTER_TEXT);
 }
 
-/* Whether a control sequence, whole or wrong, isn't over in len bytes, of which so many were looked at: none of the others is a final
- * byte, cancels it (CAN, SUB), or begins anew (ESC). */
+/* Whether a control sequence, well-formed or malformed, isn't over in len bytes, of which so many were looked at: none of the others is a
+ * final byte, CAN, SUB or ESC. */
 static inline int csicodec_goes_on(const uint8_t *bytes, size_t len, size_t looked) {
     for (; looked < len; looked++)
         if ((bytes[looked] >= 0x40 && bytes[looked] != 0x7f) || bytes[looked] == 0x18 || bytes[looked] == 0x1a ||
@@ -147,8 +147,8 @@ static inline int csicodec_goes_on(const uint8_t *bytes, size_t len, size_t look
     return 1;
 }
 
-/* What went wrong behind ESC [. Where it is for controls of C0, each is told as text, and then the sequence without them and
- * without DEL is read, as DEC's terminals and xterm do: its final byte is waited for, and it has at most 256 bytes. */
+/* A malformed sequence behind ESC [. If it has C0 controls, each is an event of text, and then the sequence without them and without
+ * DEL is read, as DEC's terminals and xterm do: this waits for its final byte, and it has at most 256 bytes. */
 static inline int csicodec_wrong_event(struct csicodec_stream *stream, const uint8_t *bytes, struct csicodec_spanned span,
                                        struct csicodec_event *event) {
     uint8_t text[256];
@@ -185,8 +185,8 @@ static inline int csicodec_string_event(struct csicodec_stream *stream, const ui
     return 1;
 }
 
-/* How many bytes of text there are ahead of a character in UTF-8 that is cut at its end: all, where none is. Its first byte and the
- * next one tell how long it is, as the Unicode Standard has it (3.9, table 3-7). */
+/* How many bytes of text there are before an incomplete UTF-8 character at its end: all, if there is none. The character's first two
+ * bytes tell its length (Unicode Standard, 3.9, table 3-7). */
 static inline size_t csicodec_whole_text(const uint8_t *text, size_t len) {
     size_t there = 1, size;
     uint8_t first, low = 0x80, high = 0xbf;
@@ -202,8 +202,8 @@ static inline size_t csicodec_whole_text(const uint8_t *text, size_t len) {
     return len - there;
 }
 
-/* The next event of a stream at the front of len bytes. Where it answers 0 there is none, and the bytes wait; else go on at
- * bytes + event->used. Where nothing comes any more, what waits is a control that went wrong, or a character that is cut. */
+/* The next event of a stream at the front of len bytes. If it returns 0 there is none, and the bytes wait; otherwise continue at
+ * bytes + event->used. At the end of the stream the bytes that wait are an unfinished control or an incomplete character. */
 static inline int csicodec_next_event(struct csicodec_stream *stream, const uint8_t *bytes, size_t len,
                                       struct csicodec_event *event) {
     struct csicodec_spanned span;

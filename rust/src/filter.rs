@@ -4,8 +4,8 @@ use crate::pending::{Pending, Step};
 use crate::{Error, raw};
 use std::num::NonZeroUsize;
 
-/// A stream of a terminal that is rewritten as it comes: each control sequence comes in its normal form, or in the shortest spelling
-/// that is found, and every other byte as it was. It doesn't matter how the stream is cut into the slices that are pushed.
+/// Rewrites a terminal's stream as it comes: each control sequence in its normal form, or in the shortest spelling that is found, and
+/// every other byte as it was. It doesn't matter how the stream is cut into slices.
 #[derive(Clone, Debug)]
 pub struct Filter {
     step: fn(u32, usize, &[u8], &mut [u8]) -> raw::Filtered,
@@ -15,8 +15,7 @@ pub struct Filter {
 }
 
 impl Filter {
-    /// A stream of which nothing has come, to be written in normal form. A control sequence of more bytes than `limit` passes as it
-    /// is.
+    /// A new stream, which is written in normal form. A control sequence of more bytes than `limit` passes as it is.
     pub fn new(limit: NonZeroUsize) -> Self {
         Filter {
             step: raw::filter,
@@ -26,7 +25,7 @@ impl Filter {
         }
     }
 
-    /// The same, with each control sequence in the shortest of its spellings that is found, which is read as the same actions.
+    /// The same, with each control sequence in the shortest spelling that is found, with the same actions.
     pub fn compact(limit: NonZeroUsize) -> Self {
         Filter {
             step: raw::compact,
@@ -34,8 +33,8 @@ impl Filter {
         }
     }
 
-    /// The same, with semicolons in the colours of the character and the ground (`38;2;R;G;B`), also where that is no shorter: for terminals
-    /// and tools that know no colons. A colour with an alpha has no such spelling.
+    /// The same, with semicolons in foreground and background colours (`38;2;R;G;B`), even if that is no shorter: for terminals
+    /// and tools that don't know colons. A colour with an alpha has no such spelling.
     pub fn compact_semicolons(limit: NonZeroUsize) -> Self {
         Filter {
             step: raw::compact_semicolons,
@@ -43,8 +42,8 @@ impl Filter {
         }
     }
 
-    /// Takes the next bytes, and appends the texts of all that is sure now. What isn't is held: fewer bytes than the limit, or
-    /// than 3 where that is less. After an `Err`, which is `Error::Memory`, nothing is appended, and the bytes are held.
+    /// Takes the next bytes, and appends the texts of all that is sure now. The other bytes are held: fewer than the limit, or than
+    /// 3 if the limit is less. After an `Err`, which is `Error::Memory`, nothing is appended, and the bytes are held.
     pub fn push(&mut self, bytes: &[u8], out: &mut Vec<u8>) -> Result<(), Error> {
         let step = |bytes: &[u8], out: &mut [u8]| {
             let answer = (self.step)(self.mode, self.limit, bytes, out);
@@ -62,7 +61,7 @@ impl Filter {
         Ok(())
     }
 
-    /// Appends what is held: nothing comes any more.
+    /// The end of the stream: appends what is held.
     pub fn finish(self, out: &mut Vec<u8>) {
         out.extend_from_slice(self.pending.bytes());
     }

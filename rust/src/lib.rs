@@ -40,19 +40,19 @@ use csicodec_sys as raw;
 use room::Room;
 use std::fmt;
 
-/// Why bytes are no sequences one after the other, or actions have no texts. `start` is where the refused sequence begins,
-/// and `at` the place of the fault, counted from there.
+/// Why bytes aren't sequences one after the other, or why actions have no texts. The refused sequence begins at `start`, and `at` is the
+/// place of the fault, counted from there.
 #[derive(Clone, Copy, Debug, PartialEq, Eq)]
 #[non_exhaustive]
 pub enum Error {
-    /// It doesn't begin with `ESC [`.
+    /// The bytes don't begin with `ESC [`.
     NotCsi {
         /// Where the sequence begins.
         start: usize,
         /// The place of the fault, counted from there.
         at: usize,
     },
-    /// A byte stands there that can't stand in a control sequence.
+    /// A byte that can't be in a control sequence.
     BadByte {
         /// Where the sequence begins.
         start: usize,
@@ -108,7 +108,7 @@ fn refusal(status: u32, start: usize, at: usize) -> Error {
     }
 }
 
-/// The normal form of the bytes, which are control sequences one after the other: each action a sequence of its own.
+/// The normal form of the bytes, which are control sequences one after the other: one sequence for each action.
 pub fn normalise(bytes: &[u8]) -> Result<Vec<u8>, Error> {
     let mut out = vec![0; bytes.len() * 2 + 16];
     loop {
@@ -182,14 +182,15 @@ impl Iterator for Actions<'_> {
 #[derive(Clone, Debug, PartialEq, Eq)]
 #[non_exhaustive]
 pub struct Front {
-    /// What it asks for, at least one action.
+    /// Its actions, at least one.
     pub actions: Vec<CSI>,
-    /// How many bytes it has: what follows stands behind them.
+    /// How many bytes it has.
     pub used: usize,
 }
 
-/// The sequence at the front of the bytes, whatever follows it. `Error::Truncated` says that its final byte is yet to come, and in
-/// each `Err` `start` is 0. It takes no memory but for the list that it answers, and for long sequences. Of a whole stream [`events`] tells more, and [`actions`] keeps its memory from sequence to sequence.
+/// The sequence at the front of the bytes, whatever follows it. `Error::Truncated` means that the final byte hasn't come yet; in
+/// each `Err` `start` is 0. It takes memory only for the list that it returns, and for long sequences. For a whole stream use
+/// [`events`], and for many sequences [`actions`], which uses its memory again for each.
 ///
 /// ```
 /// use csicodec::{CSI, Cursor, Edit, Error, front};
@@ -238,8 +239,8 @@ pub fn encode_to(actions: &[CSI], out: &mut Vec<u8>) -> Result<(), Error> {
     encode_plains(raw::encode, &plains, &params, actions.len() * 12 + 16, out)
 }
 
-/// The same in fewer bytes: a text that is no longer than that of [`encode_to`], and is read as the actions, where each of them is
-/// read back from its own text ([`CSI::is_canonical`]). Attributes side by side go into one sequence.
+/// The same in fewer bytes: a text that is no longer than that of [`encode_to`], with attributes side by side in one sequence. It has
+/// the same actions, if each of them is read back from its own text ([`CSI::is_canonical`]).
 ///
 /// ```
 /// use csicodec::{CSI, Cursor, Sgr, encode_compact_to};
@@ -300,7 +301,7 @@ pub fn encode(actions: &[CSI]) -> Result<Vec<u8>, Error> {
 }
 
 impl Esc {
-    /// The code that these bytes are behind ESC, or the two as they are where no code is written so.
+    /// The code with these bytes behind ESC, or the two as they are if there is no such code.
     pub fn parse(intermediate: Option<u8>, control: u8) -> Esc {
         let number = raw::esc(intermediate.unwrap_or(0), control);
         match EscCode::from_i64(i64::from(number)) {
@@ -335,9 +336,9 @@ impl fmt::Display for Esc {
 }
 
 impl CSI {
-    /// Whether the text of this value is read as this one value. It holds of all that is read, but for left and right margins
-    /// from 1 to 4294967295 and requests for the terminal's parameters. A mode, an extension or an item of graphics that is
-    /// given by a number counts as the one that has the number's name.
+    /// Whether the text of this value is read as this one value. This holds for all actions that are read, except left and right
+    /// margins from 1 to 4294967295 (DECSLRM) and requests for the terminal's parameters (DECREQTPARM). A mode, an extension or an
+    /// item of graphics with the number of a named one counts as the named one.
     pub fn is_canonical(&self) -> Result<bool, Error> {
         let mut params = Vec::new();
         let plain = rows::plain_of(self, &mut params);

@@ -8,8 +8,8 @@ fn steps(count: u32) -> usize {
 }
 
 impl OneBased {
-    /// The place in a list of so many, counted from 0: the last one for a number beyond it, as terminals take it, and 0 where
-    /// there is none.
+    /// The place in a list of so many, counted from 0: for a number beyond the end the last place, as in terminals, and 0 for an empty
+    /// list.
     pub fn as_index(&self, count: usize) -> usize {
         let place = usize::try_from(self.as_zero_based()).unwrap_or(usize::MAX);
         place.min(count.saturating_sub(1))
@@ -28,7 +28,7 @@ impl EraseInLine {
 }
 
 impl EraseInDisplay {
-    /// The lines that are erased from end to end on a page of so many, beside the line of the cursor.
+    /// The lines that are erased completely on a page of so many, besides the cursor's line.
     ///
     /// ```
     /// use csicodec::{EraseInDisplay, EraseInLine};
@@ -46,7 +46,7 @@ impl EraseInDisplay {
         }
     }
 
-    /// What is erased in the line of the cursor: nothing, where the scrollback is.
+    /// What is erased in the cursor's line: nothing, if the scrollback is erased.
     pub fn in_line(&self) -> Option<EraseInLine> {
         match self {
             EraseInDisplay::EraseToEndOfDisplay => Some(EraseInLine::EraseToEndOfLine),
@@ -58,10 +58,10 @@ impl EraseInDisplay {
 }
 
 impl Cursor {
-    /// The line and the column to which the cursor goes from one, on a page of so many lines and columns; none where it asks for
-    /// something else, or for what depends on tab stops or on a place that was kept. A number beyond the page stands for its last
-    /// line or column, and so does, of what goes by columns, a column behind the last one, where a cursor waits to wrap. Margins are
-    /// not looked at: a terminal that has them stops `Up` and `Down` there.
+    /// The line and the column to which this moves the cursor from a place, on a page of so many lines and columns; `None` if it
+    /// doesn't move the cursor, or if that depends on tab stops or on a saved place. A number beyond the page means its last line or
+    /// column. A cursor behind the last column, where it waits to wrap, counts as on the last one for moves along the line. Margins are
+    /// ignored: a terminal that has them stops `Up` and `Down` there.
     ///
     /// ```
     /// use csicodec::Cursor;
@@ -102,14 +102,14 @@ impl Cursor {
     }
 }
 
-/// Puts so many blanks in front, in place of as many at the end.
+/// Inserts so many blanks in front, and drops as many items at the end.
 fn insert<T>(items: &mut [T], count: usize, blank: impl FnMut() -> T) {
     let count = count.min(items.len());
     items.rotate_right(count);
     items[..count].fill_with(blank);
 }
 
-/// Takes so many away from the front, and puts as many blanks at the end.
+/// Removes so many items from the front, and adds as many blanks at the end.
 fn delete<T>(items: &mut [T], count: usize, blank: impl FnMut() -> T) {
     let rest = items.len() - count.min(items.len());
     items.rotate_left(items.len() - rest);
@@ -117,8 +117,7 @@ fn delete<T>(items: &mut [T], count: usize, blank: impl FnMut() -> T) {
 }
 
 impl Edit {
-    /// Carries out what is done to the cells of the cursor's line, which are from the first column to the last one. Where the
-    /// cursor is behind them it counts as on the last one.
+    /// Edits the cells of the cursor's line, from the first column to the last one. A cursor behind them counts as on the last one.
     ///
     /// ```
     /// use csicodec::Edit;
@@ -146,9 +145,9 @@ impl Edit {
         line[erased].fill_with(blank);
     }
 
-    /// Carries out what is done to whole lines of a page, from the first to the last one, of which those in `margins` scroll.
-    /// Where the cursor's line is outside of them no line is put in or taken out there, as on DEC's terminals. Of
-    /// `EraseInDisplay` it leaves the cursor's line to [`edit_line`](Edit::edit_line).
+    /// Edits whole lines of a page, from the first to the last one; those in `margins` scroll. If the cursor's line is outside of the
+    /// margins, no line is inserted or deleted there, as on DEC's terminals. For `EraseInDisplay`
+    /// [`edit_line`](Edit::edit_line) edits the cursor's line.
     ///
     /// ```
     /// use csicodec::Edit;

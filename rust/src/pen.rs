@@ -4,8 +4,8 @@ use crate::{CSI, Sgr};
 use std::fmt;
 use std::mem::discriminant;
 
-/// The attributes that are set, each by its last action, in the order in which they were first set: what a terminal keeps for the
-/// characters that come, and beside each character that has come.
+/// The attributes that are set, each by its last action, in the order in which they were first set. A terminal keeps one for the
+/// next characters, and one with each character on its page.
 ///
 /// ```
 /// use csicodec::{Intensity, Pen, Sgr};
@@ -24,12 +24,12 @@ pub struct Pen {
 }
 
 impl Pen {
-    /// None is set: the default rendition. It takes no memory.
+    /// No attribute is set: the default rendition. It takes no memory.
     pub const fn new() -> Self {
         Pen { set: Vec::new() }
     }
 
-    /// Carries out one action: what it sets stands for what was set of the same kind, and a reset takes all away.
+    /// Carries out one action: it replaces an attribute of the same kind, and a reset removes all.
     pub fn set(&mut self, sgr: Sgr) {
         let kind = discriminant(&sgr);
         if sgr == Sgr::Reset {
@@ -47,7 +47,7 @@ impl Pen {
     }
 }
 
-/// Writes the sequences that set these attributes and no others, whatever was set before: a reset, and each in turn.
+/// Writes the sequences that set these attributes and no others, whatever was set before: a reset, and then each attribute.
 impl fmt::Display for Pen {
     fn fmt(&self, f: &mut fmt::Formatter<'_>) -> fmt::Result {
         let set = self.set.iter().copied();

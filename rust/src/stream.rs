@@ -1,4 +1,4 @@
-//! A terminal's stream: its spans, and event by event what it says.
+//! A terminal's stream: its spans and its events.
 
 use crate::room::Room;
 use crate::text::whole;
@@ -9,15 +9,15 @@ use std::io::{self, ErrorKind, Read};
 #[derive(Clone, Copy, Debug, PartialEq, Eq, Hash)]
 #[non_exhaustive]
 pub enum SpanKind {
-    /// Characters, and controls of C0 but ESC, and DEL.
+    /// Characters, C0 controls other than ESC, and DEL.
     Text,
     /// One whole control sequence.
     Csi,
     /// One whole escape sequence: ESC, at most one intermediate byte (20 to 2f), and a final byte (30 to 7e).
     Esc,
-    /// A control string (ECMA-48, 5.6), or as much of it as there is: OSC, DCS, SOS, PM or APC, with what closes it.
+    /// A control string (ECMA-48, 5.6), or as much of it as there is: OSC, DCS, SOS, PM or APC, with its end.
     Str,
-    /// A control that went wrong, or as much of it as there is. A terminal may carry it out all the same.
+    /// A malformed control, or as much of it as there is. A terminal may still carry it out.
     Other,
 }
 
@@ -40,8 +40,8 @@ pub struct Spans<'a> {
 
 /// The spans of a whole stream. A control sequence of more than 65,536 bytes is `Other`.
 ///
-/// What a filter keeps, an emulator carries out: a control within a control sequence (`ESC [ 1 BS A`) makes the sequence `Other`
-/// here, and [`events`] tells the control and then the sequence.
+/// A C0 control within a control sequence (`ESC [ 1 BS A`) makes the sequence `Other` here, for a filter that passes it on.
+/// [`events`] gives the control and then the sequence, for an emulator that carries them out.
 pub fn spans(bytes: &[u8]) -> Spans<'_> {
     Spans {
         rest: bytes,
@@ -90,29 +90,29 @@ pub enum StringKind {
     Apc,
 }
 
-/// What a stream says next.
+/// An event of a stream.
 #[derive(Clone, Debug, PartialEq, Eq)]
 #[non_exhaustive]
 pub enum Event<'a> {
-    /// Characters, and controls of C0 but ESC, and DEL: [`characters`](crate::characters) gives them one by one. No character
-    /// in UTF-8 is cut, but by what stands within it in the stream.
+    /// Characters, C0 controls other than ESC, and DEL: [`characters`](crate::characters) gives them one by one. A UTF-8 character is
+    /// cut only by a control within it.
     Text(&'a [u8]),
-    /// An action of a control sequence, which may have more: they follow.
+    /// An action of a control sequence. Its further actions follow.
     Csi(CSI),
     /// An escape sequence.
     Esc(Esc),
-    /// A piece of a control string. One that is cancelled has no last piece: another event comes.
+    /// A piece of a control string. A cancelled string has no last piece: another event follows.
     Str {
         /// What opened it.
         kind: StringKind,
-        /// What it holds, without what opens and closes it.
+        /// The data, without what opens and closes the string.
         bytes: &'a [u8],
         /// Whether it is the first piece.
         first: bool,
         /// Whether it is the last piece.
         last: bool,
     },
-    /// A control that went wrong, or a piece of it.
+    /// A malformed control, or a piece of it.
     Other(&'a [u8]),
 }
 
@@ -347,7 +347,7 @@ pub struct Events<'a> {
     rest: &'a [u8],
 }
 
-/// The events of a whole stream. A control sequence of more than 65,536 bytes, or that is cut off, is `Other`.
+/// The events of a whole stream. A control sequence of more than 65,536 bytes, or an unfinished one, is `Other`.
 ///
 /// ```
 /// use csicodec::{CSI, Cursor, Event, events};
@@ -381,8 +381,8 @@ impl<'a> Iterator for Events<'a> {
     }
 }
 
-/// A reader of a stream that comes in pieces, as it comes. How it is cut changes nothing but where text, strings and what went wrong
-/// are cut; a character of text is never cut by it.
+/// Reads a stream that comes in pieces. How it is cut changes only where text, strings and malformed controls are cut; it never cuts
+/// a character of text.
 ///
 /// ```
 /// use csicodec::{Event, Parser};
@@ -407,7 +407,7 @@ impl Default for Parser {
 }
 
 impl Parser {
-    /// A stream of which nothing has come. A control sequence of more than 65,536 bytes is `Other`.
+    /// A new stream. A control sequence of more than 65,536 bytes is `Other`.
     pub fn new() -> Self {
         Parser {
             reader: Reader::new(false),
@@ -415,7 +415,7 @@ impl Parser {
         }
     }
 
-    /// Takes the next bytes, and tells each event that is sure now. What isn't is held: fewer than 65,536 bytes.
+    /// Takes the next bytes, and passes each event that is sure now. The other bytes are held: fewer than 65,536.
     pub fn advance<F: FnMut(Event<'_>)>(&mut self, bytes: &[u8], tell: &mut F) {
         if self.held.is_empty() {
             let used = run(&mut self.reader, bytes, tell);
@@ -427,12 +427,12 @@ impl Parser {
         }
     }
 
-    /// The bytes that are held. Where nothing comes any more they are a control that went wrong, or a character that is cut.
+    /// The bytes that are held. At the end of the stream they are an unfinished control or an incomplete character.
     pub fn held(&self) -> &[u8] {
         &self.held
     }
 
-    /// Nothing comes any more: tells what is held.
+    /// The end of the stream: passes what is held as an event.
     pub fn finish<F: FnMut(Event<'_>)>(mut self, tell: &mut F) {
         self.reader.ends = true;
         let used = run(&mut self.reader, &self.held, tell);
@@ -441,8 +441,8 @@ impl Parser {
         }
     }
 
-    /// Reads to the end, in pieces as they come, and tells each event and at last what is held. After an `Err`, which is the
-    /// reader's, what is held isn't told.
+    /// Reads to the end, in pieces, and passes each event, at last what is held. After an `Err`, which is the reader's, what is held
+    /// isn't passed.
     pub fn read_to_end<F: FnMut(Event<'_>)>(
         mut self,
         mut from: impl Read,

@@ -4,8 +4,8 @@ use crate::pending::{Pending, Step};
 use crate::{Error, raw};
 use std::io::{self, ErrorKind, Read, Write};
 
-/// The plain text of untrusted bytes: what a terminal would show, and nothing that it would act on but newlines and tabs. What is no
-/// UTF-8 becomes U+FFFD. `Err` is [`Error::Memory`].
+/// The plain text of untrusted bytes, with no control but newline and tab. Bytes that aren't UTF-8 become U+FFFD. `Err` is
+/// [`Error::Memory`].
 ///
 /// ```
 /// assert_eq!(csicodec::strip(b"a\x1b[31mb\x1b]0;title\x07\r\n")?, "ab\n");
@@ -15,8 +15,8 @@ pub fn strip(bytes: &[u8]) -> Result<String, Error> {
     left(raw::strip, bytes)
 }
 
-/// The same with the attributes of text (SGR) that hide nothing, in their normal form. Where the last of them is no reset, a reset
-/// ends the text, so that nothing of it colours what is written next.
+/// The same with the attributes (SGR) that hide nothing, in their normal form. If the last of them isn't a reset, a reset ends the
+/// text, so that it doesn't colour later output.
 ///
 /// ```
 /// assert_eq!(csicodec::clean(b"\x1b[01;31mred\x1b[2Jtext")?, "\x1b[1m\x1b[31mredtext\x1b[0m");
@@ -33,7 +33,7 @@ pub enum Depth {
     /// All, as they are.
     #[default]
     Full,
-    /// The 256 places of the palette; a colour by its red, green and blue becomes the nearest place from 16 on, in xterm's palette.
+    /// The 256 places of the palette; a true colour becomes the nearest place of xterm's palette from 16 on.
     Palette,
     /// The first 16 places; every other colour becomes the nearest of them.
     Ansi,
@@ -49,16 +49,16 @@ impl Depth {
     }
 }
 
-/// What passes beside text and styles.
+/// What passes besides text.
 #[derive(Clone, Copy, Debug, Default, PartialEq, Eq, Hash)]
 pub struct Passing {
     /// Which colours stay.
     pub depth: Depth,
-    /// Whether links pass (OSC 8) whose address is visible ASCII, of at most 2,083 bytes, with at most 256 bytes of parameters.
+    /// Whether links (OSC 8) pass, if the address is at most 2,083 bytes of visible ASCII, and the parameters at most 256.
     pub links: bool,
 }
 
-/// As [`clean`], with what passes. Where the last link has an address, one without ends the text.
+/// As [`clean`], with a choice of what passes. If a link is open at the end, a link without an address closes it.
 ///
 /// ```
 /// use csicodec::{Depth, Passing, clean_with};
@@ -92,12 +92,12 @@ fn left(call: impl Fn(&[u8], &mut [u8]) -> raw::Stripped, bytes: &[u8]) -> Resul
     }
 }
 
-/// A control sequence has at most so many bytes.
+/// The most bytes that a control sequence may have.
 const LIMIT: usize = 65536;
 
-/// Untrusted text that is stripped or cleaned as it comes, in bounded memory: it holds fewer than 65,536 bytes of a control sequence, and 3 of
-/// a character. In however many slices it is pushed, what these and the end append is what [`strip`] makes of all of it, or [`clean`].
-/// Links don't pass, since an address would be held, too.
+/// Strips or cleans untrusted text as it comes, in bounded memory: it holds fewer than 65,536 bytes of a control sequence, and 3 of
+/// a character. The pushed slices and the end append what [`strip`] or [`clean`] gives for the whole text. Links don't pass, since
+/// their addresses would have to be held too.
 ///
 /// ```
 /// use csicodec::{Cleaner, Depth};
@@ -121,7 +121,7 @@ pub struct Cleaner {
 }
 
 impl Cleaner {
-    /// A stream of which nothing has come, to be plain text.
+    /// A new stream, which becomes plain text.
     pub fn strip() -> Self {
         Cleaner {
             depth: None,
@@ -130,7 +130,7 @@ impl Cleaner {
         }
     }
 
-    /// The same, with the styles that stay, in these colours.
+    /// The same with styles, in these colours.
     pub fn clean(depth: Depth) -> Self {
         Cleaner {
             depth: Some(depth),
@@ -138,8 +138,8 @@ impl Cleaner {
         }
     }
 
-    /// Takes the next bytes, and appends what is left of all that is sure now, which is UTF-8 of whole characters. After an `Err`, which
-    /// is [`Error::Memory`], nothing is appended, and the bytes are held.
+    /// Takes the next bytes, and appends the text of all that is sure now: UTF-8 of whole characters. After an `Err`, which is
+    /// [`Error::Memory`], nothing is appended, and the bytes are held.
     pub fn push(&mut self, bytes: &[u8], out: &mut Vec<u8>) -> Result<(), Error> {
         let step = |bytes: &[u8], out: &mut [u8]| {
             let answer = match self.depth {
@@ -160,7 +160,7 @@ impl Cleaner {
         Ok(())
     }
 
-    /// Appends U+FFFD for a character that isn't over, and a reset where a style is open: nothing comes any more. After an `Err`, which is
+    /// The end of the stream: appends U+FFFD for an incomplete character, and a reset if a style is open. After an `Err`, which is
     /// [`Error::Memory`], nothing is appended.
     pub fn finish(self, out: &mut Vec<u8>) -> Result<(), Error> {
         let mut end = [0; 16];
@@ -172,8 +172,8 @@ impl Cleaner {
         Ok(())
     }
 
-    /// Reads to the end, and writes and flushes what is left as it comes, and then the end. An `Err` is the reader's or the writer's, or
-    /// [`ErrorKind::OutOfMemory`]: what was written is then the beginning of what is left, where a style may be open.
+    /// Reads to the end; writes and flushes the text as it comes, and the end. An `Err` is the reader's or the writer's, or
+    /// [`ErrorKind::OutOfMemory`]: the output is then a prefix of the text, and a style may be open.
     pub fn copy(mut self, mut from: impl Read, mut to: impl Write) -> io::Result<()> {
         let no_memory = |_| io::Error::from(ErrorKind::OutOfMemory);
         let mut piece = [0; 4096];

@@ -1,8 +1,8 @@
 //! Text in UTF-8.
 
-/// The characters of text, as [`Event::Text`](crate::Event::Text) has it. Controls of C0 are characters as others are: a terminal
-/// that carries them out asks for `'\r'`, `'\n'`, `'\t'` and `'\x08'`, and skips what is left of `char::is_ascii_control`. What is
-/// no UTF-8 is U+FFFD, once for each part that could be the start of a character, as the Unicode Standard recommends (3.9).
+/// The characters of text, as of [`Event::Text`](crate::Event::Text). C0 controls are characters too: a terminal carries out
+/// `'\r'`, `'\n'`, `'\t'` and `'\x08'`, and skips the others (`char::is_ascii_control`). Bytes that aren't UTF-8 become U+FFFD, once for
+/// each part that could be the start of a character, as the Unicode Standard recommends (3.9).
 ///
 /// ```
 /// let text: String = csicodec::characters(b"a\xc3\xa9\r\xff").collect();
@@ -15,7 +15,7 @@ pub fn characters(text: &[u8]) -> impl Iterator<Item = char> + Clone {
     })
 }
 
-/// How many bytes of the text there are ahead of a character that is cut at its end: all, where none is.
+/// How many bytes of the text there are before an incomplete character at its end: all, if there is none.
 pub(crate) fn whole(text: &[u8]) -> usize {
     let last = &text[text.len().saturating_sub(3)..];
     let Some(start) = last.iter().rposition(|byte| *byte >= 0xc0) else {

@@ -12,12 +12,12 @@ use std::num::NonZeroU32;
 pub struct OneBased(NonZeroU32);
 
 impl OneBased {
-    /// This number; none for 0.
+    /// This number; `None` for 0.
     pub fn new(value: u32) -> Option<Self> {
         NonZeroU32::new(value).map(OneBased)
     }
 
-    /// The number, 1 to 4294967295.
+    /// The number, from 1 to 4294967295.
     pub fn as_one_based(&self) -> u32 {
         self.0.get()
     }
@@ -69,7 +69,7 @@ macro_rules! flags {
         }
 
         impl std::fmt::Debug for $name {
-            /// The names of the flags, and what has none as a number: `SHIFT | CTRL | 0x40`.
+            /// The names of the flags, and the other bits as a number: `SHIFT | CTRL | 0x40`.
             fn fmt(&self, f: &mut std::fmt::Formatter<'_>) -> std::fmt::Result {
                 let mut rest = self.bits;
                 let mut between = "";
@@ -112,57 +112,57 @@ flags! {
 }
 
 flags! {
-    /// What a program asks of the reports of keys (kitty's keyboard protocol, progressive enhancement).
+    /// How a program wants keys reported (kitty's keyboard protocol, progressive enhancement).
     KittyKeyboardFlags:
-    /// Nothing: keys are sent as ever.
+    /// Nothing: keys are sent as usual.
     NONE = 0,
-    /// Keys whose bytes can be taken for those of another key, as Esc, are sent as control sequences.
+    /// Keys with ambiguous bytes, as Esc, are sent as control sequences.
     DISAMBIGUATE_ESCAPE_CODES = 1,
-    /// It is told whether a key was pressed, repeated or released.
+    /// Reports say whether a key was pressed, repeated or released.
     REPORT_EVENT_TYPES = 2,
-    /// The key is also told as it is with shift, and as it is on the base layout.
+    /// Reports also have the key with shift, and the key on the base layout.
     REPORT_ALTERNATE_KEYS = 4,
     /// Keys that write text are sent as control sequences too.
     REPORT_ALL_KEYS_AS_ESCAPE_CODES = 8,
-    /// The text that a key writes stands in its control sequence.
+    /// The control sequence of a key has the text that it writes.
     REPORT_ASSOCIATED_TEXT = 16
 }
 
-/// The extensions that a terminal says it has, in the order of its answer.
+/// The extensions in a terminal's answer, in order.
 #[derive(Clone, Debug, PartialEq, Eq, Hash)]
 pub struct DeviceAttributeFlags {
-    /// Each of them; one can stand there twice.
+    /// Each of them; one can be there twice.
     pub attributes: Vec<DeviceAttribute>,
 }
 
 /// XTSMGRAPHICS (xterm's ctlseqs): a request for what the terminal can draw, or its answer.
 #[derive(Clone, Debug, PartialEq, Eq, Hash)]
 pub struct XtSmGraphics {
-    /// What it is about.
+    /// The item.
     pub item: XtSmGraphicsItem,
-    /// The number of the action, where it is a request, and of the status, where it is an answer. 0 is a status alone, and
-    /// 4 an action alone; of 1 to 3 nothing in the sequence tells which of the two it is.
+    /// In a request the number of the action, in an answer the number of the status. 0 can only be a status, and 4 only an action;
+    /// for 1 to 3 the sequence doesn't say which.
     pub action_or_status: i64,
-    /// A number of colour registers, or a width and a height in pixels, where they are set or answered.
+    /// If they are set or answered, a number of colour registers, or a width and a height in pixels.
     pub value: Vec<i64>,
 }
 
 impl XtSmGraphics {
-    /// What is done, where it is a request: `None` for a number that no action has.
+    /// The action of a request: `None` if no action has the number.
     pub fn action(&self) -> Option<XtSmGraphicsAction> {
         XtSmGraphicsAction::from_i64(self.action_or_status)
     }
 
-    /// What became of it, where it is an answer: `None` for a number that no status has.
+    /// The status of an answer: `None` if no status has the number.
     pub fn status(&self) -> Option<XtSmGraphicsStatus> {
         XtSmGraphicsStatus::from_i64(self.action_or_status)
     }
 }
 
-/// A parameter list, or what is left of one, that none of the rules reads: nothing of it is lost.
+/// A parameter list, or the remainder of one, that no rule reads: nothing of it is lost.
 #[derive(Clone, Debug, PartialEq, Eq, Hash)]
 pub struct Unspecified {
-    /// The tokens, as they came. What is left behind private modes has a `?` ahead of it, so that its text means the same.
+    /// The tokens, as they came. A remainder behind private modes has a `?` in front, so that its text means the same.
     pub params: Vec<CsiParam>,
     /// The final character.
     pub control: char,

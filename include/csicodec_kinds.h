@@ -1,10 +1,10 @@
-/* The kinds of actions, and the numbers that stand in them. Written by tools/kinds; csicodec.h includes it. */
+/* The kinds of actions, and the numbers in them. Written by tools/kinds; csicodec.h includes it. */
 #ifndef CSICODEC_KINDS_H
 #define CSICODEC_KINDS_H
 
-/* Which action. What the fields of struct csicodec_action hold stands in parentheses; every other field is 0. */
+/* Which action. The parentheses say what the fields of struct csicodec_action hold; every other field is 0. */
 enum csicodec_kind {
-    /* What none of the rules reads: final_char: its final character; place, len: its tokens. */
+    /* A list, or the remainder of one, that no rule reads. (final_char: its final character; place, len: its tokens) */
     CSICODEC_UNSPECIFIED = 0,
     /* All attributes back to the default rendition. */
     CSICODEC_SGR_RESET = 1,

@@ -7,7 +7,7 @@
 
 #include "csicodec_kinds.h"
 
-/* The name of a kind as it stands here, such as "CSICODEC_CURSOR_UP"; NULL of a number that is no kind. */
+/* The name of a kind in this header, such as "CSICODEC_CURSOR_UP"; NULL for another number. */
 static inline const char *csicodec_kind_name(uint32_t kind) {
     switch (kind) {
     case CSICODEC_UNSPECIFIED: return "CSICODEC_UNSPECIFIED";

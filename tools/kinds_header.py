@@ -1,4 +1,4 @@
-"""The part of the header that has the kinds, and the numbers that stand in them. See kinds."""
+"""The part of the header that has the kinds, and the numbers in them. See kinds."""
 import re
 
 from kinds_library import ESCAPES, NAMED, acting, declared, kinds, low, numbers_of, snake, type_of, variants
@@ -58,7 +58,7 @@ def meaning(form, names):
 
 def header_kinds():
     types = {name: (docs, list(variants(body)), body) for name, docs, _, body in declared(NAMED + acting())}
-    out = "enum csicodec_kind {\n" + comment("What none of the rules reads: final_char: its final character; place, len: its tokens.") + "    CSICODEC_UNSPECIFIED = 0,\n"
+    out = "enum csicodec_kind {\n" + comment("A list, or the remainder of one, that no rule reads. (final_char: its final character; place, len: its tokens)") + "    CSICODEC_UNSPECIFIED = 0,\n"
     for number, group, variant, form, names in kinds():
         owner = "DeviceAttributes" if len(variant) > 1 else type_of(group)
         doc = next(d for v, _, d in types[owner][1] if v == variant[-1])
@@ -81,7 +81,7 @@ def header_kinds():
 def header_names():
     """What gives the name of a kind."""
     names = ["CSICODEC_UNSPECIFIED"] + [c_name(group, variant) for _, group, variant, _, _ in kinds()] + ["CSICODEC_SELECT_CHARACTER_PATH"]
-    out = "/* The name of a kind as it stands here, such as \"CSICODEC_CURSOR_UP\"; NULL of a number that is no kind. */\n"
+    out = "/* The name of a kind in this header, such as \"CSICODEC_CURSOR_UP\"; NULL for another number. */\n"
     out += "static inline const char *csicodec_kind_name(uint32_t kind) {\n    switch (kind) {\n"
     out += "".join(f'    case {name}: return "{name}";\n' for name in names)
     out += "    default: return NULL;\n    }\n}\n"
@@ -100,11 +100,11 @@ def header_names():
 
 
 def header():
-    return f"""/* The kinds of actions, and the numbers that stand in them. Written by tools/kinds; csicodec.h includes it. */
+    return f"""/* The kinds of actions, and the numbers in them. Written by tools/kinds; csicodec.h includes it. */
 #ifndef CSICODEC_KINDS_H
 #define CSICODEC_KINDS_H
 
-/* Which action. What the fields of struct csicodec_action hold stands in parentheses; every other field is 0. */
+/* Which action. The parentheses say what the fields of struct csicodec_action hold; every other field is 0. */
 {header_kinds()}
 #endif
 """

@@ -202,20 +202,18 @@ static inline size_t csicodec_whole_text(const uint8_t *text, size_t len) {
     return len - there;
 }
 
-/* The next event of a stream at the front of len bytes. If it returns 0 there is none, and the bytes wait; otherwise continue at
- * bytes + event->used. At the end of the stream the bytes that wait are an unfinished control or an incomplete character. */
-static inline int csicodec_next_event(struct csicodec_stream *stream, const uint8_t *bytes, size_t len,
+/* Text at the front, while no control is open: up to the next ESC. An incomplete character at the end of the bytes waits. */
+static inline int csicodec_text_event(struct csicodec_stream *stream, const uint8_t *bytes, size_t len,
                                       struct csicodec_event *event) {
-    struct csicodec_spanned span;
-    int sequence = len > 1 && bytes[0] == 0x1b && bytes[1] == '[';
-    size_t looked = stream->looked;
-    memset(event, 0, sizeof *event);
-    if (!len) return 0;
-    if (stream->inside) return csicodec_wrong_event(stream, bytes, stream->wrong, event);
-    stream->looked = sequence ? len : 0;
-    if (sequence && looked && len < stream->limit && csicodec_goes_on(bytes, len, looked)) return 0;
-    if (sequence && stream->limit && csicodec_actions_event(stream, bytes, len, bytes, 0, event)) return 1;
-    span = csicodec_span(stream->mode, stream->limit, bytes, len);
+    const uint8_t *esc = (const uint8_t *)memchr(bytes, 0x1b, len);
+    size_t used = esc ? (size_t)(esc - bytes) : csicodec_whole_text(bytes, len);
+    return used && csicodec_event_of(stream, event, CSICODEC_EVENT_TEXT, bytes, used, CSICODEC_FILTER_TEXT);
+}
+
+/* The event of the span at the front, where a call of csicodec_next gave none. */
+static inline int csicodec_span_event(struct csicodec_stream *stream, const uint8_t *bytes, size_t len, int sequence,
+                                      struct csicodec_event *event) {
+    struct csicodec_spanned span = csicodec_span(stream->mode, stream->limit, bytes, len);
     if (span.status != CSICODEC_OK) {
         event->status = CSICODEC_OK;
         if (span.status != CSICODEC_TRUNCATED) event->status = span.status;
@@ -238,6 +236,25 @@ static inline int csicodec_next_event(struct csicodec_stream *stream, const uint
         return csicodec_event_of(stream, event, CSICODEC_EVENT_OTHER, bytes, span.used, span.mode);
     if (span.used == len) span.used = csicodec_whole_text(bytes, len);
     return span.used && csicodec_event_of(stream, event, CSICODEC_EVENT_TEXT, bytes, span.used, span.mode);
+}
+
+/* The next event of a stream at the front of len bytes. If it returns 0 there is none, and the bytes wait; otherwise continue at
+ * bytes + event->used. At the end of the stream the bytes that wait are an unfinished control or an incomplete character. */
+static inline int csicodec_next_event(struct csicodec_stream *stream, const uint8_t *bytes, size_t len,
+                                      struct csicodec_event *event) {
+    int sequence = len > 1 && bytes[0] == 0x1b && bytes[1] == '[';
+    size_t looked = stream->looked;
+    memset(event, 0, sizeof *event);
+    if (!len) return 0;
+    if (stream->inside) return csicodec_wrong_event(stream, bytes, stream->wrong, event);
+    stream->looked = sequence ? len : 0;
+    if (sequence) {
+        if (looked && len < stream->limit && csicodec_goes_on(bytes, len, looked)) return 0;
+        if (stream->limit && csicodec_actions_event(stream, bytes, len, bytes, 0, event)) return 1;
+    } else if (bytes[0] != 0x1b && stream->mode == CSICODEC_FILTER_TEXT && stream->limit) {
+        return csicodec_text_event(stream, bytes, len, event);
+    }
+    return csicodec_span_event(stream, bytes, len, sequence, event);
 }
 
 #endif

@@ -119,6 +119,26 @@ pub enum Event<'a> {
 const LIMIT: usize = 65536;
 const TEXT: u32 = 0;
 const BAD_CSI: u32 = 4;
+const ESC: u8 = 0x1b;
+
+/// How many bytes stand ahead of the first ESC, if there is one, by eight at a time.
+fn ahead_of_esc(bytes: &[u8]) -> Option<usize> {
+    const ONES: u64 = u64::from_ne_bytes([1; 8]);
+    let mut ahead = 0;
+    let mut rest = bytes;
+    while let Some((word, others)) = rest.split_first_chunk() {
+        // What is 0 now is an ESC; the lowest bit that is set stands in the first of them.
+        let word = u64::from_le_bytes(*word) ^ (ONES * u64::from(ESC));
+        let found = word.wrapping_sub(ONES) & !word & (ONES << 7);
+        if found != 0 {
+            return Some(ahead + found.trailing_zeros() as usize / 8);
+        }
+        ahead += 8;
+        rest = others;
+    }
+    let last = rest.iter().position(|byte| *byte == ESC)?;
+    Some(ahead + last)
+}
 
 /// Whether a control sequence isn't over, of whose bytes so many were looked at: none of the others can end it.
 pub(crate) fn goes_on(bytes: &[u8], looked: usize, stays: impl Fn(u8) -> bool) -> bool {
@@ -212,8 +232,9 @@ impl Reader {
         if let Some(wrong) = self.wrong {
             return Some(self.wrong(bytes, wrong));
         }
-        if bytes.is_empty() {
-            return None;
+        let first = *bytes.first()?;
+        if self.mode == TEXT && first != ESC {
+            return self.text(bytes);
         }
         let looked = std::mem::take(&mut self.looked);
         let sequence = bytes.starts_with(b"\x1b[");
@@ -252,6 +273,16 @@ impl Reader {
         }
         self.mode = span.mode;
         Some((self.event(span.kind, &bytes[..used]), used))
+    }
+
+    /// Text at the front, where no control is open: up to the next ESC, and a character that is cut at the end of the bytes waits.
+    fn text<'a>(&self, bytes: &'a [u8]) -> Option<(Event<'a>, usize)> {
+        let used = match ahead_of_esc(bytes) {
+            Some(used) => used,
+            None if self.ends => bytes.len(),
+            None => whole(bytes),
+        };
+        (used > 0).then(|| (Event::Text(&bytes[..used]), used))
     }
 
     /// Reads the sequence at the front, of which `used` bytes are in the stream, or as many as it has where that is 0.

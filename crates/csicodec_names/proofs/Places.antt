@@ -6,79 +6,10 @@ use Rattle.csicodec_names.specs.declared.codes.SgrCode.TheVariants as code
 use Rattle.csicodec_names.specs.declared.codes.TheConstants.{CODES}
 use Rattle.csicodec_names.specs.Numbers.{number_of}
 
--- each code lies at its number, a line for each code
+-- each code lies at its number
 pub lies_at : (code : SgrCode) → get_or CODES (number_of code) None ≡ Some code
 lies_at code.Reset = refl
-lies_at code.IntensityBold = refl
-lies_at code.IntensityDim = refl
-lies_at code.ItalicOn = refl
-lies_at code.UnderlineOn = refl
-lies_at code.BlinkOn = refl
-lies_at code.RapidBlinkOn = refl
-lies_at code.InverseOn = refl
-lies_at code.InvisibleOn = refl
-lies_at code.StrikeThroughOn = refl
-lies_at code.DefaultFont = refl
-lies_at code.AltFont1 = refl
-lies_at code.AltFont2 = refl
-lies_at code.AltFont3 = refl
-lies_at code.AltFont4 = refl
-lies_at code.AltFont5 = refl
-lies_at code.AltFont6 = refl
-lies_at code.AltFont7 = refl
-lies_at code.AltFont8 = refl
-lies_at code.AltFont9 = refl
-lies_at code.UnderlineDouble = refl
-lies_at code.NormalIntensity = refl
-lies_at code.ItalicOff = refl
-lies_at code.UnderlineOff = refl
-lies_at code.BlinkOff = refl
-lies_at code.InverseOff = refl
-lies_at code.InvisibleOff = refl
-lies_at code.StrikeThroughOff = refl
-lies_at code.ForegroundBlack = refl
-lies_at code.ForegroundRed = refl
-lies_at code.ForegroundGreen = refl
-lies_at code.ForegroundYellow = refl
-lies_at code.ForegroundBlue = refl
-lies_at code.ForegroundMagenta = refl
-lies_at code.ForegroundCyan = refl
-lies_at code.ForegroundWhite = refl
-lies_at code.ForegroundColor = refl
-lies_at code.ForegroundDefault = refl
-lies_at code.BackgroundBlack = refl
-lies_at code.BackgroundRed = refl
-lies_at code.BackgroundGreen = refl
-lies_at code.BackgroundYellow = refl
-lies_at code.BackgroundBlue = refl
-lies_at code.BackgroundMagenta = refl
-lies_at code.BackgroundCyan = refl
-lies_at code.BackgroundWhite = refl
-lies_at code.BackgroundColor = refl
-lies_at code.BackgroundDefault = refl
-lies_at code.OverlineOn = refl
-lies_at code.OverlineOff = refl
-lies_at code.UnderlineColor = refl
-lies_at code.ResetUnderlineColor = refl
-lies_at code.VerticalAlignSuperScript = refl
-lies_at code.VerticalAlignSubScript = refl
-lies_at code.VerticalAlignBaseLine = refl
-lies_at code.ForegroundBrightBlack = refl
-lies_at code.ForegroundBrightRed = refl
-lies_at code.ForegroundBrightGreen = refl
-lies_at code.ForegroundBrightYellow = refl
-lies_at code.ForegroundBrightBlue = refl
-lies_at code.ForegroundBrightMagenta = refl
-lies_at code.ForegroundBrightCyan = refl
-lies_at code.ForegroundBrightWhite = refl
-lies_at code.BackgroundBrightBlack = refl
-lies_at code.BackgroundBrightRed = refl
-lies_at code.BackgroundBrightGreen = refl
-lies_at code.BackgroundBrightYellow = refl
-lies_at code.BackgroundBrightBlue = refl
-lies_at code.BackgroundBrightMagenta = refl
-lies_at code.BackgroundBrightCyan = refl
-lies_at code.BackgroundBrightWhite = refl
+lies_at _ = refl
 
 -- whether each code of a list lies at its number, counted from k on
 abbrev pub numbered : ℕ → List (Option SgrCode) → Bool

@@ -1,5 +1,5 @@
 -- The decimal text of a number, digit by digit.
-use Rattle.std.proofs.Common.{ℕ, ◌≡◌, ◌≤◌, ◌<◌, ◌+◌, ◌/◌, ◌%◌, ◌^◌, [], ◌∷◌, ◌∙◌, ap, length, length-append, arith, refl}
+use Rattle.std.proofs.Common.{ℕ, ◌≡◌, ◌≤◌, ◌<◌, ◌+◌, ◌/◌, ◌%◌, ◌^◌, [], ◌∷◌, ◌∙◌, ap, append_assoc, length, length-append, arith, refl}
 use Rattle.std.specs.Fmt.{decimal}
 use Rattle.std.proofs.lemmas.Fmt.{decimal_digit, decimal_step, length-decimal-le}
 
@@ -28,3 +28,12 @@ length-decimal_i64 n fits = length-decimal-le 19 n (omega arith) (omega arith) (
 
 pub length-decimal_u64 : (n : ℕ) → n < 2 ^ 64 → length (decimal n) ≤ 20
 length-decimal_u64 n fits = length-decimal-le 20 n (omega arith) (omega arith) fits
+
+-- how long a text of parts is, with a number among them
+pub ruleset lengths = (length-append, length-decimal_u16, length-decimal_u32, length-decimal_i64, length-decimal_u64)
+
+-- the text of a number of three digits at most
+pub ruleset digits = (append_assoc, decimal_digit, two_digits, three_digits)
+
+-- the text of a number, and how long it is, by its last digit
+pub ruleset steps = (append_assoc, length-append, decimal_digit, decimal_step, length-decimal_digit, length-decimal_step)

@@ -70,7 +70,6 @@ fault_more bytes more Memory n at f = absurd at
 -- its place is within the bytes
 pub fault_within : (bytes : List ℕ) (e : ReadError) (n : ℕ) → IsMetAt e n → FaultOf bytes e → n < length bytes
 fault_within bytes (NotCsi place) n at f = omega (arith, f.1.0.within, at)
-fault_within bytes (BadByte place) n at f = omega (arith, f.1.0.within, at)
-fault_within bytes (NumberTooLarge place) n at f = omega (arith, f.1.0.within, at)
 fault_within bytes (Truncated place) n at f = absurd at
 fault_within bytes Memory n at f = absurd at
+fault_within bytes _ n at f = omega (arith, f.1.0.within, at)

@@ -126,17 +126,8 @@ fault_at_end bytes (b ∷ rest) list h lt = absurd (omega arith)
 
 pub fault_refuses : (bytes : List ℕ) (room : ℕ) (e : ReadError) → FaultOf bytes e → Refuses bytes room e
 fault_refuses bytes room (NotCsi p) f = f
-fault_refuses bytes room (BadByte p) f = f
-fault_refuses bytes room (NumberTooLarge p) f = f
-fault_refuses bytes room (Truncated p) f = f
 fault_refuses bytes room Memory f = absurd f.1
-
-pub refused_with_less : (bytes : List ℕ) (room less : ℕ) (e : ReadError) → less ≤ room → Refuses bytes room e → Refuses bytes less e
-refused_with_less bytes room less (NotCsi p) le f = f
-refused_with_less bytes room less (BadByte p) le f = f
-refused_with_less bytes room less (NumberTooLarge p) le f = f
-refused_with_less bytes room less (Truncated p) le f = f
-refused_with_less bytes room less Memory le f = (f.0, f.1, f.2, f.3, omega (arith, f.4))
+fault_refuses bytes room _ f = f
 
 pub one_reading : (bytes rest others : List ℕ) (list read : List CsiParam) (final control : ℕ) → Reads bytes list final rest → Reads bytes read control others
     → (read ≡ list) × (control ≡ final) × (others ≡ rest)
@@ -146,9 +137,7 @@ one_reading bytes rest others list read final control s r =
 pub refused_for_memory : (bytes rest : List ℕ) (list : List CsiParam) (final room : ℕ) (e : ReadError) → Reads bytes list final rest → Refuses bytes room e
     → (e ≡ Memory) × (room < length list)
 refused_for_memory bytes rest list final room (NotCsi p) s r = absurd (r.0 list final rest s)
-refused_for_memory bytes rest list final room (BadByte p) s r = absurd (r.0 list final rest s)
-refused_for_memory bytes rest list final room (NumberTooLarge p) s r = absurd (r.0 list final rest s)
-refused_for_memory bytes rest list final room (Truncated p) s r = absurd (r.0 list final rest s)
 refused_for_memory bytes rest list final room Memory s r =
     let same = one_reading bytes rest r.2 list r.0 final r.1 s r.3 in
     (refl, subst (λ (l : List CsiParam). room < length l) same.0 r.4)
+refused_for_memory bytes rest list final room _ s r = absurd (r.0 list final rest s)

@@ -41,6 +41,7 @@ impl Model for Cracked {
 impl Cracked {
     /// The fields of a list. `NotSpelled` where another byte than `;` stands in it, and `Memory` only for a list with
     /// at least one field.
+    #[tactic(auto, using(std::proofs::lemmas::Result::err_from_is_err_and, crate::proofs::FieldsOf::have_tokens, crate::proofs::FieldsOf::wants_memory))]
     pub fn parse(alloc: Global, params: &[CsiParam]) -> Result<Cracked, ParseRefusal>
         // What is answered are fields of the list.
         ensures found { IfOk result (λ cracked. Fields params.now cracked) }

@@ -14,6 +14,7 @@ pub fn one_sequence()
 {}
 
 /// Bytes have at most one fault.
+#[tactic(auto, using(crate::proofs::OneFault::one_fault))]
 pub fn one_fault()
     ensures { (bytes : List ℕ) (d e : ReadError) → Fault bytes d → Fault bytes e → d ≡ e }
 {}
@@ -25,16 +26,19 @@ pub fn beginnings_go_on()
 {}
 
 /// What a spellable list prints is one of its spellings.
+#[tactic(auto, using(crate::proofs::Printed::printed))]
 pub fn printed_is_spelled()
     ensures { (list : List CsiParam) → Spellable list → Spells (spells list) list }
 {}
 
 /// A list has at most one list of fields.
+#[tactic(auto, using(crate::proofs::FieldsOf::one_fields))]
 pub fn one_fields()
     ensures { (list : List CsiParam) (f g : List (Option ℤ)) → Fields list f → Fields list g → f ≡ g }
 {}
 
 /// The fields of a list are found by going through it, token by token; a list that has none gives none so.
+#[tactic(auto, using(crate::proofs::FieldsOf::fields_in_turn))]
 pub fn fields_in_turn()
     ensures { (list : List CsiParam) (f : List (Option ℤ)) → Fields list f ↔ (fields_of list ≡ Some f) }
 {}

@@ -124,6 +124,7 @@ fn with_digit(number: u64, digit: u8) -> Option<u64>
 /// The number that a digit and the digits behind it write, and what is behind them; or the bytes
 /// from the digit on that makes it too large.
 #[inline(always)]
+#[tactic(auto, using(crate::proofs::Reading::first_cut, crate::proofs::Reading::one_digit, crate::proofs::Reading::one_more_digit))]
 fn number_front(first: u8, text: &[u8]) -> Result<(u64, &[u8]), &[u8]>
     requires { IsDigit first }
     ensures { MatchResult result (λ x. IsNumber first text.now x.0 x.1.now) (λ left. IsTooLarge first text.now left.now) }

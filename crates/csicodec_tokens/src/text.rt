@@ -94,6 +94,7 @@ impl Text {
     }
 
     /// Appends a number in decimal: 3 bytes at most.
+    #[tactic(auto, using(crate::proofs::Decimal::digits))]
     pub fn push_u8(&mut self, number: u8)
         requires room { length self.old ≤ 29 }
         ensures value { self.new ≡ self.old ++ decimal number }
@@ -113,6 +114,7 @@ impl Text {
     }
 
     /// Appends a number in decimal: 5 bytes at most.
+    #[tactic(auto, using(crate::proofs::Decimal::lengths))]
     pub fn push_u16(&mut self, number: u16)
         requires room { length self.old ≤ 27 }
         ensures value { self.new ≡ self.old ++ decimal number }
@@ -126,6 +128,7 @@ impl Text {
     }
 
     /// Appends a number in decimal: 10 bytes at most.
+    #[tactic(auto, using(crate::proofs::Decimal::lengths))]
     pub fn push_u32(&mut self, number: u32)
         requires room { length self.old ≤ 22 }
         ensures value { self.new ≡ self.old ++ decimal number }
@@ -139,6 +142,7 @@ impl Text {
     }
 
     /// Appends a number in decimal: 20 bytes at most.
+    #[tactic(auto, using(crate::proofs::Decimal::lengths))]
     pub fn push_u64(&mut self, number: u64)
         requires room { length self.old ≤ 12 }
         ensures value { self.new ≡ self.old ++ decimal number }
@@ -148,6 +152,7 @@ impl Text {
     }
 
     /// Appends a number in decimal, with `-` below zero: 20 bytes at most.
+    #[tactic(auto, using(crate::proofs::Decimal::lengths))]
     pub fn push_i64(&mut self, number: i64)
         requires room { length self.old ≤ 12 }
         ensures value { self.new ≡ self.old ++ signed_decimal number }
@@ -163,6 +168,7 @@ impl Text {
     }
 
     /// Appends all digits of a number, the last one after the others.
+    #[tactic(auto, using(crate::proofs::Decimal::steps))]
     fn push_digits(&mut self, number: u64)
         requires room { length self.old + length (decimal number) ≤ 32 }
         ensures { self.new ≡ self.old ++ decimal number }

@@ -68,91 +68,25 @@ abbrev OneToken : SgrCode → List CsiParam → Option Sgr → Type 0
 OneToken c after None = Unit {0}
 OneToken c after (Some s) = piece (Integer (pos (number_of c)) ∷ after) ≡ Some (s, 1)
 
--- a line for each code
+-- each code; those that further tokens follow first
 one_token_by : (c : SgrCode) (after : List CsiParam) → OneToken c after (action_of c)
 unfolding piece
 one_token_by code.Reset after = refl
-one_token_by code.IntensityBold after = refl
-one_token_by code.IntensityDim after = refl
-one_token_by code.ItalicOn after = refl
 one_token_by code.UnderlineOn after = tt
-one_token_by code.BlinkOn after = refl
-one_token_by code.RapidBlinkOn after = refl
-one_token_by code.InverseOn after = refl
-one_token_by code.InvisibleOn after = refl
-one_token_by code.StrikeThroughOn after = refl
-one_token_by code.DefaultFont after = refl
-one_token_by code.AltFont1 after = refl
-one_token_by code.AltFont2 after = refl
-one_token_by code.AltFont3 after = refl
-one_token_by code.AltFont4 after = refl
-one_token_by code.AltFont5 after = refl
-one_token_by code.AltFont6 after = refl
-one_token_by code.AltFont7 after = refl
-one_token_by code.AltFont8 after = refl
-one_token_by code.AltFont9 after = refl
-one_token_by code.UnderlineDouble after = refl
-one_token_by code.NormalIntensity after = refl
-one_token_by code.ItalicOff after = refl
-one_token_by code.UnderlineOff after = refl
-one_token_by code.BlinkOff after = refl
-one_token_by code.InverseOff after = refl
-one_token_by code.InvisibleOff after = refl
-one_token_by code.StrikeThroughOff after = refl
-one_token_by code.ForegroundBlack after = refl
-one_token_by code.ForegroundRed after = refl
-one_token_by code.ForegroundGreen after = refl
-one_token_by code.ForegroundYellow after = refl
-one_token_by code.ForegroundBlue after = refl
-one_token_by code.ForegroundMagenta after = refl
-one_token_by code.ForegroundCyan after = refl
-one_token_by code.ForegroundWhite after = refl
 one_token_by code.ForegroundColor after = tt
-one_token_by code.ForegroundDefault after = refl
-one_token_by code.BackgroundBlack after = refl
-one_token_by code.BackgroundRed after = refl
-one_token_by code.BackgroundGreen after = refl
-one_token_by code.BackgroundYellow after = refl
-one_token_by code.BackgroundBlue after = refl
-one_token_by code.BackgroundMagenta after = refl
-one_token_by code.BackgroundCyan after = refl
-one_token_by code.BackgroundWhite after = refl
 one_token_by code.BackgroundColor after = tt
-one_token_by code.BackgroundDefault after = refl
-one_token_by code.OverlineOn after = refl
-one_token_by code.OverlineOff after = refl
 one_token_by code.UnderlineColor after = tt
-one_token_by code.ResetUnderlineColor after = refl
-one_token_by code.VerticalAlignSuperScript after = refl
-one_token_by code.VerticalAlignSubScript after = refl
-one_token_by code.VerticalAlignBaseLine after = refl
-one_token_by code.ForegroundBrightBlack after = refl
-one_token_by code.ForegroundBrightRed after = refl
-one_token_by code.ForegroundBrightGreen after = refl
-one_token_by code.ForegroundBrightYellow after = refl
-one_token_by code.ForegroundBrightBlue after = refl
-one_token_by code.ForegroundBrightMagenta after = refl
-one_token_by code.ForegroundBrightCyan after = refl
-one_token_by code.ForegroundBrightWhite after = refl
-one_token_by code.BackgroundBrightBlack after = refl
-one_token_by code.BackgroundBrightRed after = refl
-one_token_by code.BackgroundBrightGreen after = refl
-one_token_by code.BackgroundBrightYellow after = refl
-one_token_by code.BackgroundBrightBlue after = refl
-one_token_by code.BackgroundBrightMagenta after = refl
-one_token_by code.BackgroundBrightCyan after = refl
-one_token_by code.BackgroundBrightWhite after = refl
+one_token_by _ after = refl
 
 pub one_token_front : (c : SgrCode) (after : List CsiParam) (s : Sgr) → action_of c ≡ Some s → piece (Integer (pos (number_of c)) ∷ after) ≡ Some (s, 1)
 one_token_front c after s e = subst (OneToken c after) e (one_token_by c after)
 
 -- each row that begins with a number begins with that of a code
 abbrev codes_head : List Slot → Bool
-codes_head [] = false
 codes_head (Number n ∷ ss) = is_some (with_number number_of all_codes (pos n))
 codes_head (Byte b ∷ ss) = b == 59
 codes_head (AnyNumber ∷ ss) = false
-codes_head (Any ∷ ss) = false
+codes_head _ = false
 
 all-heads : list_all (λ (r : Row). codes_head r.shape) sgr_rows ≡ true
 all-heads = refl
@@ -183,11 +117,10 @@ unfolding piece
 unknown_number z after no_code = unknown-rows sgr_rows z after all-heads no_code
 
 other-byte-row : (shape : List Slot) (b : ℕ) (after : List CsiParam) → codes_head shape ≡ true → (b == 59) ≡ false → begins_with shape (P b ∷ after) ≡ false
-other-byte-row [] b after h o = cc
 other-byte-row (Number n ∷ ss) b after h o = refl
 other-byte-row (Byte d ∷ ss) b after h o = let e : d ≡ 59 = eqb-true _ _ h in rw (e, o) refl
 other-byte-row (AnyNumber ∷ ss) b after h o = cc
-other-byte-row (Any ∷ ss) b after h o = cc
+other-byte-row _ b after h o = cc
 
 other-byte-rows : (rows : List Row) (b : ℕ) (after : List CsiParam) → list_all (λ (r : Row). codes_head r.shape) rows ≡ true → (b == 59) ≡ false → front_by 0 rows (P b ∷ after) ≡ None
 other-byte-rows [] b after h o = refl

@@ -8,14 +8,12 @@ use Rattle.csicodec_base.specs.Shapes.{color_shapes, rgba_shapes, rgb_shapes}
 
 pub behind_six : (after parts : List CsiParam) (d : CsiParam) → parts ≡ drop 3 after → 3 ≤ length after → get_or after 0 d ≡ P 58 → get_or after 1 d ≡ Integer (pos 6) → get_or after 2 d ≡ P 58
     → color_by 1 color_shapes after ≡ color_by 4 rgba_shapes parts
-behind_six [] parts d p l a b c = absurd (omega arith)
-behind_six (x ∷ []) parts d p l a b c = absurd (omega arith)
 behind_six (x ∷ y ∷ []) parts d p l a b c = absurd (omega arith)
 behind_six (x ∷ y ∷ z ∷ rest) parts d p l a b c = rw (p, a, b, c) refl
+behind_six _ parts d p l a b c = absurd (omega arith)
 
 pub behind_two : (after parts : List CsiParam) (d : CsiParam) → parts ≡ drop 3 after → 3 ≤ length after → get_or after 0 d ≡ P 58 → get_or after 1 d ≡ Integer (pos 2) → get_or after 2 d ≡ P 58
     → color_by 1 color_shapes after ≡ color_by 4 rgb_shapes parts
-behind_two [] parts d p l a b c = absurd (omega arith)
-behind_two (x ∷ []) parts d p l a b c = absurd (omega arith)
 behind_two (x ∷ y ∷ []) parts d p l a b c = absurd (omega arith)
 behind_two (x ∷ y ∷ z ∷ rest) parts d p l a b c = rw (p, a, b, c) refl
+behind_two _ parts d p l a b c = absurd (omega arith)

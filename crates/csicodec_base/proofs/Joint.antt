@@ -18,15 +18,13 @@ shares (Byte b) u = meets (Byte b) u
 shares AnyNumber u = meets AnyNumber u
 shares Any (Number n) = true
 shares Any (Byte b) = false
-shares Any AnyNumber = true
-shares Any Any = true
+shares Any _ = true
 
 abbrev is_colon : List Slot → Bool
 is_colon [] = true
 is_colon (Byte b ∷ ss) = b == colon
 is_colon (Number n ∷ ss) = false
-is_colon (AnyNumber ∷ ss) = false
-is_colon (Any ∷ ss) = false
+is_colon _ = false
 
 -- a longer shape that can stand where the first stands goes on with `:`
 abbrev goes_on : List Slot → List Slot → Bool
@@ -93,16 +91,12 @@ numbers-given (Color plane) shape list s plain e =
 abbrev NumberIfAny : Slot → CsiParam → Type 0
 NumberIfAny Any (Integer z) = Unit {0}
 NumberIfAny Any (P b) = ⊥
-NumberIfAny (Number n) t = Unit {0}
-NumberIfAny (Byte n) t = Unit {0}
-NumberIfAny AnyNumber t = Unit {0}
+NumberIfAny _ _ = Unit {0}
 
 first-number : (s : Slot) (ss : List Slot) (t : CsiParam) (ts : List CsiParam) → AllNumbers (taken (s ∷ ss) (t ∷ ts)) → NumberIfAny s t × AllNumbers (taken ss ts)
 first-number (Number n) ss t ts a = (tt, a)
-first-number (Byte n) ss t ts a = (tt, a)
-first-number AnyNumber ss t ts a = (tt, a)
-first-number Any ss (Integer z) ts a = (tt, a)
 first-number Any ss (P b) ts a = absurd a
+first-number _ ss _ ts a = (tt, a)
 
 shares-fits : (s u : Slot) (t : CsiParam) → fits_slot s t ≡ true → NumberIfAny s t → fits_slot u t ≡ true → shares s u ≡ true
 shares-fits (Number n) u t e a f = meets-fits (Number n) u t e f
@@ -111,20 +105,16 @@ shares-fits AnyNumber u t e a f = meets-fits AnyNumber u t e f
 shares-fits Any (Number n) t e a f = refl
 shares-fits Any (Byte b) (Integer z) e a f = cc
 shares-fits Any (Byte b) (P c) e a f = absurd a
-shares-fits Any AnyNumber t e a f = refl
-shares-fits Any Any t e a f = refl
+shares-fits Any _ t e a f = refl
 
 -- a shape that goes on with `:` doesn't fit where none stands
 none-longer : (us : List Slot) (rest : List CsiParam) → is_colon us ≡ true → NoColon rest → begins_with us rest ≡ true → length us ≤ 0
 none-longer [] rest c apart f = omega arith
-none-longer (Number n ∷ us) rest c apart f = cc
-none-longer (AnyNumber ∷ us) rest c apart f = cc
-none-longer (Any ∷ us) rest c apart f = cc
-none-longer (Byte b ∷ us) [] c apart f = cc
 none-longer (Byte b ∷ us) (Integer z ∷ ts) c apart f = cc
 none-longer (Byte b ∷ us) (P d ∷ ts) c apart f =
     let same : d ≡ b = eqb-true d b (and_parts (d == b) (begins_with us ts) f).0 in
     absurd (apart ts (ap (λ x. P x ∷ ts) (same ∙ eqb-true b colon c)))
+none-longer _ _ c apart f = cc
 
 -- and so no longer shape fits across the joint
 no-longer : (ss us : List Slot) (list more : List CsiParam) → begins_with ss list ≡ true → AllNumbers (taken ss list) → goes_on ss us ≡ true → NoColon (drop (length ss) list ++ more)

@@ -18,16 +18,11 @@ abbrev pub meets : Slot → Slot → Bool
 meets (Number n) (Number m) = n == m
 meets (Number n) (Byte b) = false
 meets (Number n) AnyNumber = true
-meets (Number n) Any = true
 meets (Byte a) (Number m) = false
 meets (Byte a) (Byte b) = a == b
 meets (Byte a) AnyNumber = false
-meets (Byte a) Any = true
-meets AnyNumber (Number m) = true
 meets AnyNumber (Byte b) = false
-meets AnyNumber AnyNumber = true
-meets AnyNumber Any = true
-meets Any u = true
+meets _ _ = true
 
 -- no tokens fit both shapes
 abbrev pub apart : List Slot → List Slot → Bool
@@ -73,14 +68,13 @@ or_parts true b e = inl refl
 or_parts false b e = inr e
 
 apart-not : (ss us : List Slot) (list : List CsiParam) → apart ss us ≡ true → begins_with ss list ≡ true → begins_with us list ≡ true → ⊥
-apart-not [] us list a e f = cc
-apart-not (s ∷ ss) [] list a e f = cc
 apart-not (s ∷ ss) (u ∷ us) [] a e f = cc
 apart-not (s ∷ ss) (u ∷ us) (t ∷ ts) a e f =
     let x = and_parts (fits_slot s t) (begins_with ss ts) e in
     let y = and_parts (fits_slot u t) (begins_with us ts) f in
     let m : meets s u ≡ true = meets-fits s u t x.0 y.0 in
     apart-not ss us ts (rw m at a) x.1 y.1
+apart-not _ _ _ a e f = cc
 
 here-or : (r : Row) (rs : List Row) (x : Row) (k : ℕ) → k < suc (length rs) → get_or (r ∷ rs) k x ≡ x → (r ≡ x) ⊎ Contains rs x
 here-or r rs x zero l e = inl e

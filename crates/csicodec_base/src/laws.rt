@@ -16,11 +16,13 @@ pub fn piece_by_row()
 {}
 
 /// The piece at the front of a list is the piece at the front of its first 13 tokens.
+#[tactic(auto, using(crate::proofs::Table::first_tokens))]
 pub fn first_tokens()
     ensures { (rest : List CsiParam) (k : ℕ) (action : Sgr) → Piece rest k action ↔ Piece (take 13 rest) k action }
 {}
 
 /// Whatever follows the list, the piece at its front stays, unless a `:` comes directly after the piece.
+#[tactic(auto, using(crate::proofs::Joint::piece_joint))]
 pub fn piece_stays()
     ensures { (list more : List CsiParam) (k : ℕ) (action : Sgr) →
         NoColon (drop k list ++ more) → Piece list k action → Piece (list ++ more) k action }

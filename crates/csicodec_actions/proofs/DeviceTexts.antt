@@ -32,11 +32,10 @@ numbers-shown all end = shown-listed any_number Integer (λ a items more. refl) 
 
 answer-text : (a : devices.Attributes) → (63 ∷ terminal_front a) ++ attributes_behind a ≡ written_text (written_attributes a)
 answer-text devices.Vt100WithAdvancedVideoOption = append-nil _
-answer-text devices.Vt101WithNoOptions = append-nil _
-answer-text devices.Vt102 = append-nil _
 answer-text (devices.Vt220 all) = rw (attributes-shown all (99 ∷ [])) refl
 answer-text (devices.Vt320 all) = rw (attributes-shown all (99 ∷ [])) refl
 answer-text (devices.Vt420 all) = rw (attributes-shown all (99 ∷ [])) refl
+answer-text _ = append-nil _
 
 -- one number, and then these
 pub first_listed : (z : ℤ) (all : List ℤ) (end : List ℕ) → listed_text Integer (z ∷ []) ++ (listed_text Integer all ++ end) ≡ 59 ∷ (signed_decimal z ++ (listed_text Integer all ++ end))
@@ -46,9 +45,5 @@ pub front_behind : (d : devices.Device) → device_front d ++ device_behind d �
 front_behind (devices.DeviceAttributes a) = answer-text a
 front_behind (devices.RequestTerminalParameters n) = refl
 front_behind (devices.XtSmGraphics item z all) = rw (numbers-shown all (83 ∷ []), first_listed z all (83 ∷ [])) refl
-front_behind devices.SoftReset = refl
-front_behind devices.RequestPrimaryDeviceAttributes = refl
-front_behind devices.RequestSecondaryDeviceAttributes = refl
-front_behind devices.RequestTertiaryDeviceAttributes = refl
-front_behind devices.RequestTerminalNameAndVersion = refl
 front_behind devices.StatusReport = append-nil _
+front_behind _ = refl

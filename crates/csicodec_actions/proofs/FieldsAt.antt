@@ -16,11 +16,11 @@ use Rattle.csicodec_tokens.proofs.FieldsOf.{computed-fields, fields-computed}
 use Rattle.csicodec_actions.specs.FieldRows.{HasFields, ahead_of_byte, field, has_field, numbers, value_or}
 use Rattle.csicodec_actions.specs.Kinds.{Count, read}
 
-pub field-at : (fs : List (Option ℤ)) (i : ℕ) → get_or fs i None ≡ field fs i
-field-at [] zero = refl
-field-at [] (suc i) = field-at [] i
-field-at (f ∷ fs) zero = refl
-field-at (f ∷ fs) (suc i) = field-at fs i
+pub field_at : (fs : List (Option ℤ)) (i : ℕ) → get_or fs i None ≡ field fs i
+field_at [] zero = refl
+field_at [] (suc i) = field_at [] i
+field_at (f ∷ fs) zero = refl
+field_at (f ∷ fs) (suc i) = field_at fs i
 
 none-there : (i : ℕ) → has_field [] i ≡ false
 none-there zero = refl
@@ -29,10 +29,10 @@ none-there (suc i) = none-there i
 suc-lt : (i n : ℕ) → nat_lt (suc i) (suc n) ≡ nat_lt i n
 suc-lt i n = grind arith
 
-pub there-at : (fs : List (Option ℤ)) (i : ℕ) → nat_lt i (length fs) ≡ has_field fs i
-there-at [] i = le-ltb i 0 (omega arith) ∙ sym (none-there i)
-there-at (f ∷ fs) zero = lt-ltb 0 (suc (length fs)) (omega arith)
-there-at (f ∷ fs) (suc i) = suc-lt i (length fs) ∙ there-at fs i
+pub there_at : (fs : List (Option ℤ)) (i : ℕ) → nat_lt i (length fs) ≡ has_field fs i
+there_at [] i = le-ltb i 0 (omega arith) ∙ sym (none-there i)
+there_at (f ∷ fs) zero = lt-ltb 0 (suc (length fs)) (omega arith)
+there_at (f ∷ fs) (suc i) = suc-lt i (length fs) ∙ there_at fs i
 
 ok-of : {T E : Type 0} (o : Option T) (e : E) → result_ok (ok_or o e) ≡ o
 ok-of None e = refl
@@ -74,11 +74,10 @@ no-field zero = refl
 no-field (suc i) = no-field i
 
 pub numbers-from : (fs : List (Option ℤ)) (i : ℕ) → numbers (drop i fs) ≡ and_number (field fs i) (numbers (drop (suc i) fs))
-numbers-from [] zero = refl
 numbers-from [] (suc i) = rw (no-field i) refl
 numbers-from (None ∷ fs) zero = refl
-numbers-from (Some z ∷ fs) zero = refl
 numbers-from (f ∷ fs) (suc i) = numbers-from fs i
+numbers-from _ zero = refl
 
 number-next : (values : List ℤ) (fs : List (Option ℤ)) (at : ℕ) (o : Option ℤ) (all : List ℤ) → o ≡ field fs at → values ++ numbers (drop at fs) ≡ all
     → values ++ and_number o (numbers (drop (at + 1) fs)) ≡ all

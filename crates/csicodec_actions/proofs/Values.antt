@@ -144,9 +144,8 @@ not-number k z other = elim (cases_Bool (is_number k z)) [ inl here ↦ absurd (
 
 item-good : (i : XtSmGraphicsItem) → GoodItem i → item_of (item_number i) ≡ i
 item-good item.NumberOfColorRegisters h = refl
-item-good item.SixelGraphicsGeometry h = refl
-item-good item.RegisGraphicsGeometry h = refl
 item-good (item.Unspecified z) h = rw (not-number 1 z h.1.0, not-number 2 z h.1.1, not-number 3 z h.1.2) refl
+item-good _ h = refl
 
 pub read-good : (k : Kind) (v : Value k) → Good k v → read k (number k v) ≡ Some v
 unfolding read
@@ -240,21 +239,15 @@ good-read Count z n ok e = number_or-fits 1 z n one-fits e
 good-read Last z n ok e = number_or-fits most z n most-fits e
 good-read Any z y ok e = let same : z ≡ y = same_Some _ _ e in rw (← same) (record { above = ok.0; fits = ok.1 })
 good-read Style z c ok e = tt
-good-read Control z c ok e = tt
-good-read Clear z c ok e = tt
-good-read InDisplay z c ok e = tt
-good-read InLine z c ok e = tt
 good-read Dec z m ok e = dec-read z m e
 good-read Terminal z m ok e = terminal-read z m e
-good-read Resource z r ok e = tt
 good-read Flags z f ok e = flags-read z f e
-good-read Way z m ok e = tt
-good-read Path z p ok e = tt
 good-read Pops z n ok e = (below-fits (2 ^ 32) z n e).1
 good-read Word z n ok e = (below-fits 65536 z n e).1
 good-read Pressed z v ok e = report-read pressed z v pressed-found e
 good-read Released z v ok e = report-read released z v released-found e
 good-read GraphicsItem z i ok e = rw (← same_Some _ _ e) (item-read z (record { above = ok.0; fits = ok.1 }))
+good-read _ z _ ok e = tt
 
 -- ---- a number that is written can be spelled
 

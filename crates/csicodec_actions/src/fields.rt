@@ -32,6 +32,7 @@ pub fn ahead_of(params: &[CsiParam], end: u8) -> Option<&[CsiParam]>
 }
 
 /// The number of a field; none where it is empty or missing.
+#[tactic(auto, using(crate::proofs::FieldsAt::field_at))]
 pub fn number(fields: &Cracked, idx: usize) -> Option<i64>
     ensures { result ≡ field fields.now idx }
 {
@@ -39,6 +40,7 @@ pub fn number(fields: &Cracked, idx: usize) -> Option<i64>
 }
 
 /// Whether the field stands there, be it an empty one.
+#[tactic(auto, using(crate::proofs::FieldsAt::there_at))]
 pub fn is_there(fields: &Cracked, idx: usize) -> bool
     ensures { result ≡ has_field fields.now idx }
 {
@@ -53,6 +55,7 @@ pub fn place(fields: &Cracked, idx: usize) -> Option<OneBased>
 }
 
 /// The numbers of all fields from this one on. An `Err` comes only where there are any.
+#[tactic(auto, using(crate::proofs::FieldsAt::number_found, crate::proofs::FieldsAt::number_missed, crate::proofs::FieldsAt::number_there))]
 pub fn numbers_behind(alloc: Global, fields: &Cracked, idx: usize) -> Result<Vec<i64>, AllocError>
     ensures ok { IfOk result (λ values. values.items ≡ numbers (drop idx fields.now)) }
     ensures err { OnErr result (0 < length (numbers (drop idx fields.now))) }

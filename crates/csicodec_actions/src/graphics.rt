@@ -230,6 +230,7 @@ impl XtSmGraphics {
     /// What a list asks or says of graphics (XTSMGRAPHICS of xterm, `CSI ? .. S`), whatever its first token is. `NotSpelled`
     /// where the list is empty, or lacks the number of an item or of an action; `Memory` only where fields stand behind the
     /// first token. `parse`, which answers an action, stands beside `CSI`.
+    #[tactic(auto, using(crate::proofs::GraphicsBehind::found_graphics, crate::proofs::GraphicsBehind::list_read, crate::proofs::GraphicsBehind::list_refused, crate::proofs::GraphicsBehind::refused_graphics))]
     pub fn of_list(alloc: Global, params: &[CsiParam]) -> Result<XtSmGraphics, ParseRefusal>
         ensures read { IfOk result (λ graphics. graphics_behind params.now ≡ Some (Devices (graphics_of graphics))) }
         ensures refused { IfErr result (RefusesGraphics params.now) }

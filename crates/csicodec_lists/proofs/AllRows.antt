@@ -106,15 +106,13 @@ end-keeps T Q false whole list a keeps all e = rw (← e) keeps
 made-keeps : (T : CsiParam → Type 0) (G : (k : Kind) → Value k → Type 0) (Q : Action → Type 0) → ReadsAs T G → (tail : Bool) (shape : List Slot) (make : Makes (AtEnd tail Action) shape)
     (list : List CsiParam) (a : Action) → Keeps T G Q tail shape make → AllByRecursion T list → made tail shape make list ≡ Some a → Q a
 made-keeps T G Q reads tail [] end list a keeps all e = end-keeps T Q tail end list a keeps all (same_Some _ _ e)
-made-keeps T G Q reads tail (Byte b ∷ shape) make [] a keeps all e = cc
-made-keeps T G Q reads tail (Number n ∷ shape) make [] a keeps all e = cc
-made-keeps T G Q reads tail (One k ∷ shape) make [] a keeps all e = cc
 made-keeps T G Q reads tail (Byte b ∷ shape) make (t ∷ ts) a keeps all e = made-keeps T G Q reads tail shape make ts a keeps all.1 e
 made-keeps T G Q reads tail (Number n ∷ shape) make (t ∷ ts) a keeps all e = made-keeps T G Q reads tail shape make ts a keeps all.1 e
 made-keeps T G Q reads tail (One k ∷ shape) make (Integer z ∷ ts) a keeps all e =
     option_and_then_some (λ v. made tail shape (make v) ts) (read k z) a e
     (λ v found is. made-keeps T G Q reads tail shape (make v) ts a (keeps v (reads k z v all.0 found)) all.1 is)
 made-keeps T G Q reads tail (One k ∷ shape) make (P c ∷ ts) a keeps all e = cc
+made-keeps T G Q reads tail _ make _ a keeps all e = cc
 
 abbrev pub TableKeeps : (CsiParam → Type 0) → ((k : Kind) → Value k → Type 0) → (Action → Type 0) → List (Before Action) → Type 0
 TableKeeps T G Q rows = AllRows (λ final row. Keeps T G Q row.tail row.shape row.make) rows

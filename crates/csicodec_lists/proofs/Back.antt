@@ -204,16 +204,10 @@ path-read p z good = elim (cases_Bool (is_number 0 z)) [
 window-back : (w : window_type.Window) → AllGood (written_window w).items → read_fields field_table (tokens (written_window w).items) (written_window w).final ≡ Some (Window w)
 window-back (window.MoveWindow x y) good = rw (read_any x, read_any y) refl
 window-back (window.ResizeWindowPixels None None) good = refl
-window-back (window.ResizeWindowPixels None (Some h)) good = refl
-window-back (window.ResizeWindowPixels (Some w) None) good = refl
 window-back (window.ResizeWindowPixels (Some w) (Some h)) good = refl
 window-back (window.ReportCellSizePixelsResponse None None) good = refl
-window-back (window.ReportCellSizePixelsResponse None (Some h)) good = refl
-window-back (window.ReportCellSizePixelsResponse (Some w) None) good = refl
 window-back (window.ReportCellSizePixelsResponse (Some w) (Some h)) good = refl
 window-back (window.ResizeWindowCells None None) good = refl
-window-back (window.ResizeWindowCells None (Some h)) good = refl
-window-back (window.ResizeWindowCells (Some w) None) good = refl
 window-back (window.ResizeWindowCells (Some w) (Some h)) good = refl
 window-back (window.ChecksumRectangularArea request page top left bottom right) good =
     rw (read_any request, read_any page, read-good Count top good.1.1.0, read-good Count left good.1.1.1.0, read-good Count bottom good.1.1.1.1.0, read-good Count right good.1.1.1.1.1.0) refl
@@ -221,16 +215,10 @@ window-back w good = refl
 
 window-sound : (w : window_type.Window) → is_sound (written_window w) ≡ true
 window-sound (window.ResizeWindowPixels None None) = refl
-window-sound (window.ResizeWindowPixels None (Some h)) = refl
-window-sound (window.ResizeWindowPixels (Some w) None) = refl
 window-sound (window.ResizeWindowPixels (Some w) (Some h)) = refl
 window-sound (window.ReportCellSizePixelsResponse None None) = refl
-window-sound (window.ReportCellSizePixelsResponse None (Some h)) = refl
-window-sound (window.ReportCellSizePixelsResponse (Some w) None) = refl
 window-sound (window.ReportCellSizePixelsResponse (Some w) (Some h)) = refl
 window-sound (window.ResizeWindowCells None None) = refl
-window-sound (window.ResizeWindowCells None (Some h)) = refl
-window-sound (window.ResizeWindowCells (Some w) None) = refl
 window-sound (window.ResizeWindowCells (Some w) (Some h)) = refl
 window-sound w = refl
 

@@ -18,13 +18,11 @@ use Rattle.csicodec_names.proofs.Coded.{is_number-pos}
 abbrev differ : Slot → Slot → Bool
 differ (Byte b) (Byte c) = not (b == c)
 differ (Byte b) (Number n) = true
-differ (Byte b) (One k) = true
-differ (Number n) (Byte b) = true
 differ (Number n) (Number m) = not (n == m)
 differ (Number n) (One k) = false
-differ (One k) (Byte b) = true
 differ (One k) (Number n) = false
 differ (One k) (One j) = false
+differ _ _ = true
 
 -- no list has both shapes, each with a tail or without
 abbrev shapes_apart : Bool → List Slot → Bool → List Slot → Bool

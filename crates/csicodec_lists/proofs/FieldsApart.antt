@@ -72,22 +72,15 @@ abbrev takes_none : Slot → Bool
 takes_none (This n) = false
 takes_none Empty = true
 takes_none End = true
-takes_none Maybe = false
-takes_none There = false
-takes_none (Must k) = false
-takes_none (Or k missing) = false
-takes_none Rest = false
+takes_none _ = false
 
 -- no number fits both slots
 abbrev no_number : Slot → Slot → Bool
 no_number (This n) t = not (fits t (Some (pos n) ∷ []))
 no_number Empty t = true
 no_number End t = true
-no_number Maybe t = takes_none t
-no_number There t = takes_none t
 no_number (Must k) t = takes_none t
-no_number (Or k missing) t = takes_none t
-no_number Rest t = takes_none t
+no_number _ t = takes_none t
 
 -- nothing fits both: no missing field, no empty one and no number
 abbrev differ : Slot → Slot → Bool
@@ -101,28 +94,15 @@ are_apart (s ∷ ss) (t ∷ ts) = differ s t || are_apart ss ts
 -- what a slot takes is told by the field at the front
 fits-front : (s : Slot) (f : Option ℤ) (fs : List (Option ℤ)) → fits s (f ∷ fs) ≡ fits s (f ∷ [])
 fits-front (This n) f fs = refl
-fits-front Empty f fs = refl
-fits-front End f fs = refl
-fits-front Maybe f fs = refl
-fits-front There f fs = refl
-fits-front (Must k) f fs = refl
-fits-front (Or k missing) f fs = refl
-fits-front Rest f fs = refl
+fits-front _ f fs = refl
 
 not_both : (a b : Bool) → not (a && b) ≡ true → a ≡ true → b ≡ true → ⊥
 not_both true true d e f = cc
-not_both true false d e f = cc
-not_both false b d e f = cc
+not_both _ _ d e f = cc
 
 none-taken : (t : Slot) (z : ℤ) → takes_none t ≡ true → fits t (Some z ∷ []) ≡ true → ⊥
 none-taken (This n) z d f = cc
-none-taken Empty z d f = cc
-none-taken End z d f = cc
-none-taken Maybe z d f = cc
-none-taken There z d f = cc
-none-taken (Must k) z d f = cc
-none-taken (Or k missing) z d f = cc
-none-taken Rest z d f = cc
+none-taken _ z d f = cc
 
 not-fits : (b : Bool) → not b ≡ true → b ≡ true → ⊥
 not-fits true d e = cc
@@ -132,11 +112,8 @@ number-slots : (s t : Slot) (z : ℤ) → no_number s t ≡ true → fits s (Som
 number-slots (This n) t z d e f = let same : z ≡ pos n = is_number-pos n z e in not-fits (fits t (Some (pos n) ∷ [])) d (rw same at f)
 number-slots Empty t z d e f = cc
 number-slots End t z d e f = cc
-number-slots Maybe t z d e f = none-taken t z d f
-number-slots There t z d e f = none-taken t z d f
 number-slots (Must k) t z d e f = none-taken t z d f
-number-slots (Or k missing) t z d e f = none-taken t z d f
-number-slots Rest t z d e f = none-taken t z d f
+number-slots _ t z d e f = none-taken t z d f
 
 differ-slots : (s t : Slot) (fs : List (Option ℤ)) → differ s t ≡ true → fits s fs ≡ true → fits t fs ≡ true → ⊥
 differ-slots s t [] d e f = not_both (fits s []) (fits t []) (and_parts (not (fits s [] && fits t [])) (not (fits s (None ∷ []) && fits t (None ∷ [])) && no_number s t) d).0 e f

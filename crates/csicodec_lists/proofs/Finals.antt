@@ -22,10 +22,6 @@ after f (One k ∷ shape) make = λ v. after f shape (make v)
 
 made-after : {A B : Type 0} (f : A → B) (shape : List Slot) (make : Makes A shape) (list : List CsiParam)
     → made false shape (after f shape make) list ≡ option_map f (made false shape make list)
-made-after f [] whole list = refl
-made-after f (Byte b ∷ shape) make [] = refl
-made-after f (Number n ∷ shape) make [] = refl
-made-after f (One k ∷ shape) make [] = refl
 made-after f (Byte b ∷ shape) make (t ∷ ts) = made-after f shape make ts
 made-after f (Number n ∷ shape) make (t ∷ ts) = made-after f shape make ts
 made-after f (One k ∷ shape) make (P c ∷ ts) = refl
@@ -35,6 +31,7 @@ made-after {A} {B} f (One k ∷ shape) make (Integer z ∷ ts) = go (λ v. made-
         → (o : Option (Value k)) → option_and_then (λ v. made {R = B} false shape (after f shape (make v)) ts) o ≡ option_map f (option_and_then (λ v. made {R = A} false shape (make v) ts) o)
     go each None = refl
     go each (Some v) = each v
+made-after f _ _ _ = refl
 
 gives-after : {A B : Type 0} (f : A → B) (shape : List Slot) (make : Makes A shape) (list : List CsiParam)
     → gives (row shape (after f shape make)) list ≡ option_map f (gives (row shape make) list)

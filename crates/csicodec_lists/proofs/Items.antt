@@ -27,8 +27,7 @@ abbrev pub begins_apart : List Item → Bool
 begins_apart [] = true
 begins_apart (Byte b ∷ items) = true
 begins_apart (The k v ∷ items) = false
-begins_apart (Unless n k v ∷ items) = false
-begins_apart (Attribute a ∷ items) = false
+begins_apart _ = false
 
 abbrev pub are_sound : List Item → Bool
 are_sound [] = true
@@ -62,12 +61,11 @@ mark-spellable b e =
     ((omega (arith, m.above), omega (arith, m.below)), λ digit. elim m.apart [ inl low ↦ omega (arith, low, digit) | inr high ↦ omega (arith, high, digit) ])
 
 apart : (t : CsiParam) (items : List Item) → begins_apart items ≡ true → Apart t (tokens items)
-apart (P b) items e = tt
-apart (Integer z) [] e = tt
 apart (Integer z) (Byte b ∷ items) e = tt
 apart (Integer z) (The j u ∷ items) e = cc
 apart (Integer z) (Unless n j u ∷ items) e = cc
 apart (Integer z) (Attribute a ∷ items) e = cc
+apart _ _ e = tt
 
 value-spellable : (k : Kind) (v : Value k) → Good k v → IsSpellable (Integer (number k v))
 value-spellable k v good = let s = number-said k v good in (s.above, s.fits)

@@ -97,17 +97,6 @@ after_some g flag final (t ∷ ts) h = go (block g (t ∷ ts))
     go None = omega arith
     go (Some b) = omega arith
 
--- what a block at the front gives is the next action
-pub some_after : (r : Option CSI) (g : Group) (tokens : List CsiParam) (p q : ℕ) → IfSome r (λ a. block g (drop p tokens) ≡ Some (action_of a, q - p)) → IfSome r (λ _. p < q)
-    → IfSome r (λ a. (flag : Bool) (final : ℕ) → actions_after g flag final (drop p tokens) ≡ action_of a ∷ actions_after g flag final (drop q tokens))
-some_after None g tokens p q b h = tt
-some_after (Some x) g tokens p q b h = λ flag final. after_block g flag final tokens p q (action_of x) b h
-
-pub none_after : (r : Option CSI) (g : Group) (tokens : List CsiParam) (p q : ℕ) → IfNone r (block g (drop p tokens) ≡ None) → IfNone r (q ≡ p) → p < length tokens
-    → IfNone r ((flag : Bool) (final : ℕ) → actions_after g flag final (drop p tokens) ≡ rest_action g (drop q tokens) flag final ∷ [])
-none_after (Some x) g tokens p q b e w = tt
-none_after None g tokens p q b e w = λ flag final. rw e (after_unknown g flag final tokens p b w)
-
 pub some_cuts : (r : Option CSI) (g : Group) (tokens : List CsiParam) (p q n : ℕ) → IfSome r (λ a. block g (drop p tokens) ≡ Some (action_of a, q - p)) → IfSome r (λ _. p < q)
     → IfSome r (λ _. q < n → CutsOn g tokens p q)
 some_cuts None g tokens p q n b h = tt
@@ -124,9 +113,8 @@ unknown_left g flag final tokens now after p q x xs same still is told all =
 
 pub first_odd : (g : Group) (list : List CsiParam) (flag : Bool) (final : ℕ) → (g ≡ Whole → ⊥) → has_odd g list ≡ true → actions_in g list flag final ≡ Unspecified list flag final ∷ []
 first_odd Whole list flag final cut e = absurd (cut refl)
-first_odd Styles list flag final cut e = rw e refl
 first_odd (Modes s) list flag final cut e = rw e refl
-first_odd (DecModes c) list flag final cut e = rw e refl
+first_odd _ list flag final cut e = rw e refl
 
 -- no byte is odd among private modes
 pub private_plain : (c : Change) (list : List CsiParam) → has_odd (DecModes c) list ≡ false
@@ -135,10 +123,9 @@ private_plain c (Integer z ∷ ts) = private_plain c ts
 private_plain c (P b ∷ ts) = private_plain c ts
 
 odd_marked : (g : Group) (list : List CsiParam) → has_odd g list ≡ true → marked g list ≡ list
-odd_marked Whole list e = refl
-odd_marked Styles list e = refl
 odd_marked (Modes s) list e = refl
 odd_marked (DecModes c) list e = cc (private_plain c list, e)
+odd_marked _ list e = refl
 
 pub odd_unknown : (g : Group) (list : List CsiParam) (flag : Bool) (final : ℕ) → (g ≡ Whole → ⊥) → has_odd g list ≡ true → actions_in g list flag final ≡ Unspecified (marked g list) flag final ∷ []
 odd_unknown g list flag final cut odd = first_odd g list flag final cut odd ∙ ap (λ (l : List CsiParam). Unspecified l flag final ∷ []) (sym (odd_marked g list odd))
@@ -151,9 +138,8 @@ none_odd g list final p z cut odd = λ flag.
 first_body : (g : Group) (list : List CsiParam) (flag : Bool) (final : ℕ) → (g ≡ Whole → ⊥) → has_odd g list ≡ false
     → actions_in g list flag final ≡ body_actions g list flag final (body g list)
 first_body Whole list flag final cut e = absurd (cut refl)
-first_body Styles list flag final cut e = rw e refl
 first_body (Modes s) list flag final cut e = rw e refl
-first_body (DecModes c) list flag final cut e = rw e refl
+first_body _ list flag final cut e = rw e refl
 
 -- without an odd byte a list is cut
 pub first_cut : (g : Group) (list : List CsiParam) (flag : Bool) (final : ℕ) → (g ≡ Whole → ⊥) → group list final ≡ g → has_odd g list ≡ false
@@ -166,10 +152,9 @@ body_some g list flag final [] h = absurd (omega arith)
 body_some g list flag final (t ∷ ts) h = refl
 
 empty_unknown : (g : Group) (list : List CsiParam) (flag : Bool) (final : ℕ) → (g ≡ Styles → ⊥) → empty_action g list flag final ≡ Unspecified list flag final
-empty_unknown Whole list flag final other = refl
 empty_unknown Styles list flag final other = absurd (other refl)
 empty_unknown (Modes s) list flag final other = refl
-empty_unknown (DecModes c) list flag final other = refl
+empty_unknown _ list flag final other = refl
 
 -- where nothing is left to cut
 pub body_end : (g : Group) (flag : Bool) (final : ℕ) (rest : List CsiParam) → length rest ≤ 0 → (g ≡ Styles → ⊥) → (g ≡ Whole → ⊥)
@@ -226,13 +211,6 @@ lent_none tokens lent final r all told none = ap (λ (l : List CsiParam). plain 
 pub lent_some : (tokens lent : List CsiParam) (final : ℕ) (r : Option CSI) (x : CSI) → lent ≡ tokens → option_map action_of r ≡ plain lent final → r ≡ Some x → whole tokens final ≡ Some (action_of x)
 lent_some tokens lent final r x all told some =
     plain_whole tokens final (action_of x) (ap (λ (l : List CsiParam). plain l final) (sym all) ∙ sym told ∙ ap (option_map action_of) some)
-
-pub some_whole : (r : Option CSI) (g : Group) (list : List CsiParam) (final q : ℕ) → g ≡ Whole → IfSome r (λ a. whole list final ≡ Some (action_of a)) → IfSome r (λ _. q ≡ length list)
-    → IfSome r (λ a. (flag : Bool) → actions_in g list flag final ≡ action_of a ∷ actions_after g flag final (drop q list))
-some_whole None g list final q is found all = tt
-some_whole (Some x) g list final q is found all = λ flag.
-    let d : drop q list ≡ [] = drop_all q list (omega (arith, all)) in
-    rw (is, d, found) refl
 
 pub none_whole : (r : Option CSI) (g : Group) (list : List CsiParam) (final q : ℕ) → g ≡ Whole → IfNone r (plain list final ≡ None) → IfNone r (q ≡ 0)
     → IfNone r ((flag : Bool) → actions_in g list flag final ≡ rest_action g (drop q list) flag final ∷ [])

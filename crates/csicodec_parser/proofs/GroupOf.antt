@@ -79,19 +79,9 @@ begins-marked (P b ∷ ts) e = ap (λ (c : ℕ). P c ∷ ts) (sym (eqb-true b 63
 
 -- a list is what is cut of it, with what stands before that
 pub marked-body : (g : Group) (list : List CsiParam) (final : ℕ) → group list final ≡ g → marked g (body g list) ≡ list
-marked-body Whole list final e = refl
-marked-body Styles list final e = refl
 marked-body (Modes s) list final e = refl
 marked-body (DecModes c) list final e = begins-marked list (group-says (DecModes c) (slice_get list 0) final e).1
-
-marked-long : (g : Group) (rest : List CsiParam) → start g ≤ length (marked g rest)
-marked-long Whole rest = omega arith
-marked-long Styles rest = omega arith
-marked-long (Modes s) rest = omega arith
-marked-long (DecModes c) rest = omega arith
-
-pub start-within : (g : Group) (list : List CsiParam) (final : ℕ) → group list final ≡ g → start g ≤ length list
-start-within g list final e = subst (λ (l : List CsiParam). start g ≤ length l) (marked-body g list final e) (marked-long g (body g list))
+marked-body _ list final e = refl
 
 -- ---- a list without an odd byte
 

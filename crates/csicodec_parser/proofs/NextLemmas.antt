@@ -187,25 +187,6 @@ goes_err s p q f h can e = let some = left_some s p f h can in rw e (omega arith
 
 -- ---- all actions of a run
 
-get_drop : {A : Type 0} (xs : List A) (i : ℕ) (a : A) → slice_get xs i ≡ Some a → drop i xs ≡ a ∷ drop (i + 1) xs
-get_drop xs i a e =
-    let w : i < length xs = slice_get_within xs i a e in
-    drop_more xs i a w ∙ ap (λ x. x ∷ drop (i + 1) xs) (get_or_from_slice_get xs i a a e)
-
--- one more action is told
-pub told_more : (all told : List Action) (i j : ℕ) (a : Action) → told ++ drop i all ≡ all → slice_get all i ≡ Some a → j ≡ i + 1 → (told ++ a ∷ []) ++ drop j all ≡ all
-told_more all told i j a e s k = rw (k, append_assoc) (ap (λ (l : List Action). told ++ l) (sym (get_drop all i a s)) ∙ e)
-
--- where the run has ended, all are told
-pub told_all : (p : Progress) (list : List CsiParam) (flag : Bool) (final : ℕ) (told : List Action) → p.list ≡ list → p.flag ≡ flag → p.final ≡ final → p.failed ≡ false
-    → told ++ drop p.given (actions list flag final) ≡ actions list flag final → HasEnded p → Actions list flag final told
-told_all p list flag final told l f n still e (inl h) = cc
-told_all p list flag final told l f n still e (inr h) =
-    let same : h.0 ≡ actions list flag final = actions_only list flag final h.0 (rw (l, f, n) at h.1) in
-    let none : drop p.given (actions list flag final) ≡ [] = drop_all p.given (actions list flag final) (rw same at h.2) in
-    let all : told ≡ actions list flag final = sym (append-nil told) ∙ ap (λ (xs : List Action). told ++ xs) (sym none) ∙ e in
-    subst (λ (xs : List Action). Actions list flag final xs) (sym all) (actions_are list flag final)
-
 -- ---- what is unread
 
 abbrev StandsAt : Progress → Stage → Type 0

@@ -16,13 +16,11 @@ rest_takes Whole rest flag final = go (boxed rest final) refl
     go : (o : Option Action) → boxed rest final ≡ o → TakesMemory (unwrap_or o (Unspecified rest flag final))
     go None e = refl
     go (Some a) e = boxed-takes rest final a e
-rest_takes Styles rest flag final = refl
 rest_takes (Modes s) rest flag final = refl
-rest_takes (DecModes c) rest flag final = refl
+rest_takes _ rest flag final = refl
 
 -- the rest of a list that is cut is unknown
 pub rest_unknown : (g : Group) (rest : List CsiParam) (flag : Bool) (final : ℕ) → (g ≡ Whole → ⊥) → rest_action g rest flag final ≡ Unspecified (marked g rest) flag final
 rest_unknown Whole rest flag final cut = absurd (cut refl)
-rest_unknown Styles rest flag final cut = refl
 rest_unknown (Modes s) rest flag final cut = refl
-rest_unknown (DecModes c) rest flag final cut = refl
+rest_unknown _ rest flag final cut = refl

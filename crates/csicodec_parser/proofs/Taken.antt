@@ -94,9 +94,7 @@ pub record First (g : Group) (t : CsiParam) (said : List ℕ) : Type 0 where
 
 dec_text : (c : Change) (m : DecPrivateMode) (end : ℕ) → (written_mode (changed c m)).final ≡ end → text (Mode (changed c m)) ≡ 27 ∷ 91 ∷ 63 ∷ (decimal (dec_number m) ++ end ∷ [])
 dec_text change.Set m end e = rw (← e) refl
-dec_text change.Reset m end e = rw (← e) refl
-dec_text change.Save m end e = rw (← e) refl
-dec_text change.Restore m end e = rw (← e) refl
+dec_text _ m end e = rw (← e) refl
 
 terminal_text : (s : Switch) (m : TerminalMode) (end : ℕ) → (written_mode (switched s m)).final ≡ end → text (Mode (switched s m)) ≡ 27 ∷ 91 ∷ (decimal (terminal_number m) ++ end ∷ [])
 terminal_text switch.Set m end e = rw (← e) refl

@@ -26,9 +26,8 @@ pub read-boxed : (list : List CsiParam) (final : ℕ) (o p : Option CSI) (b : Bo
     → IsTrue b ↔ IsUnread list final
 read-boxed list final (Some x) p b e none f some = cc
 read-boxed list final None None true e none f some = (λ t. λ a w. (let same = boxed_whole list final (sym e) in cc), λ unread. refl)
-read-boxed list final None None false e none f some = cc
-read-boxed list final None (Some x) true e none f some = cc
 read-boxed list final None (Some x) false e none f some = (λ t. cc, λ unread. absurd (unread (action_of x) (sym (boxed_whole list final (sym e)) ∙ sym f)))
+read-boxed list final _ _ _ e none f some = cc
 
 -- ---- a list that is cut
 

@@ -17,10 +17,7 @@ use Rattle.csicodec_spans.proofs.Rows.{Sound, sound_row}
 abbrev pub IsNoText : Mode → Front → Type 0
 IsNoText m (GoesOn n) = Unit {0}
 IsNoText m (Ends n) = m ≢ mode.Text
-IsNoText m (New n a) = Unit {0}
-IsNoText m (Esc n) = Unit {0}
-IsNoText m Csi = Unit {0}
-IsNoText m Unsure = Unit {0}
+IsNoText m _ = Unit {0}
 
 pub record Agrees (m : Mode) (bytes : List ℕ) (f : Front) : Type 0 where
   pub one : HasOneRow m bytes
@@ -37,11 +34,7 @@ test m bytes false x y h k = k refl
 
 in_every : (m : Mode) → holds_in every_mode m ≡ true
 in_every mode.Text = refl
-in_every mode.Osc = refl
-in_every mode.Dcs = refl
-in_every mode.Str = refl
-in_every mode.BadCsi = refl
-in_every mode.BadEsc = refl
+in_every _ = refl
 
 -- a row that holds in every mode
 by_any : (i : ℕ) (r : ModeRow) (m : Mode) (bytes : List ℕ) (f : Front) → slice_get mode_table i ≡ Some r → r.modes ≡ every_mode → begin_with r.spots bytes ≡ true → r.answer ≡ meant m f → IsNoText m f → Agrees m bytes f
@@ -60,10 +53,9 @@ agrees_stays mode.BadEsc b bytes e = by_row 7 _ mode.BadEsc (b ∷ bytes) (GoesO
 agrees_ends : (m : Mode) (b : ℕ) (bytes : List ℕ) → ends m b ≡ true → Agrees m (b ∷ bytes) (Ends 1)
 agrees_ends mode.Text b bytes e = cc
 agrees_ends mode.Osc b bytes e = by_row 1 _ mode.Osc (b ∷ bytes) (Ends 1) refl (grind (arith, nat_tests)) refl (λ text. absurd cc)
-agrees_ends mode.Dcs b bytes e = cc
-agrees_ends mode.Str b bytes e = cc
 agrees_ends mode.BadCsi b bytes e = by_row 6 _ mode.BadCsi (b ∷ bytes) (Ends 1) refl (grind (arith, nat_tests)) refl (λ text. absurd cc)
 agrees_ends mode.BadEsc b bytes e = by_row 8 _ mode.BadEsc (b ∷ bytes) (Ends 1) refl (grind (arith, nat_tests)) refl (λ text. absurd cc)
+agrees_ends _ b bytes e = cc
 
 -- CAN or SUB, or behind what went wrong a byte that is no ASCII
 agrees_left : (m : Mode) (b : ℕ) (bytes : List ℕ) → stays m b ≡ false → ends m b ≡ false → (b == 27) ≡ false → Agrees m (b ∷ bytes) (New 1 mode.Text)
@@ -110,10 +102,9 @@ agrees_opened m b bytes st quote =
     closes : (m : Mode) (b : ℕ) (bytes : List ℕ) → (is_string m && b == 92) ≡ false → (b == 92) ≡ true → Agrees m (27 ∷ b ∷ bytes) (Esc 2)
     closes mode.Text b bytes st e = by_row 16 _ mode.Text (27 ∷ b ∷ bytes) (Esc 2) refl (grind (arith, nat_tests)) refl tt
     closes mode.Osc b bytes st e = cc
-    closes mode.Dcs b bytes st e = cc
-    closes mode.Str b bytes st e = cc
     closes mode.BadCsi b bytes st e = by_row 16 _ mode.BadCsi (27 ∷ b ∷ bytes) (Esc 2) refl (grind (arith, nat_tests)) refl tt
     closes mode.BadEsc b bytes st e = by_row 16 _ mode.BadEsc (27 ∷ b ∷ bytes) (Esc 2) refl (grind (arith, nat_tests)) refl tt
+    closes _ b bytes st e = cc
 
     agrees_final : (m : Mode) (b : ℕ) (bytes : List ℕ) → (is_string m && b == 92) ≡ false → (b == 91) ≡ false → (b == 93) ≡ false → (b == 80) ≡ false → opens_string b ≡ false → is_within 48 126 b ≡ true
         → Agrees m (27 ∷ b ∷ bytes) (Esc 2)
@@ -150,11 +141,8 @@ agrees_escape m (b ∷ bytes) =
 
     quote : (m : Mode) (b : ℕ) (bytes : List ℕ) → (is_dcs m && b == 27) ≡ true → Agrees m (27 ∷ b ∷ bytes) (GoesOn 2)
     quote mode.Text b bytes e = cc
-    quote mode.Osc b bytes e = cc
     quote mode.Dcs b bytes e = by_row 20 _ mode.Dcs (27 ∷ b ∷ bytes) (GoesOn 2) refl (grind (arith, nat_tests)) refl tt
-    quote mode.Str b bytes e = cc
-    quote mode.BadCsi b bytes e = cc
-    quote mode.BadEsc b bytes e = cc
+    quote _ b bytes e = cc
 
 -- ---- any bytes
 

@@ -32,10 +32,8 @@ differ (OneOf rs) (NoneOf ss) = are_inside rs ss
 differ (OneOf rs) End = true
 differ (NoneOf rs) (OneOf ss) = are_inside ss rs
 differ (NoneOf rs) (NoneOf ss) = false
-differ (NoneOf rs) End = true
-differ End (OneOf ss) = true
-differ End (NoneOf ss) = true
 differ End End = false
+differ _ _ = true
 
 abbrev are_apart : List Spot → List Spot → Bool
 are_apart [] qs = false
@@ -96,9 +94,7 @@ differ_places (OneOf rs) (OneOf ss) b d e f = off rs ss b d e f
 differ_places (OneOf rs) (NoneOf ss) b d e f = let g = inside rs ss b d e in let h = not-true (within ss b) f in cc
 differ_places (NoneOf rs) (OneOf ss) b d e f = let g = inside ss rs b d f in let h = not-true (within rs b) e in cc
 differ_places (NoneOf rs) (NoneOf ss) b d e f = cc
-differ_places (OneOf rs) End b d e f = cc
-differ_places (NoneOf rs) End b d e f = cc
-differ_places End q b d e f = cc
+differ_places _ _ b d e f = cc
 
 apart_places : (ps qs : List Spot) (bytes : List ℕ) → are_apart ps qs ≡ true → begin_with ps bytes ≡ true → begin_with qs bytes ≡ true → ⊥
 apart_places [] qs bytes d e f = cc

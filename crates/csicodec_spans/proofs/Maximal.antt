@@ -35,8 +35,7 @@ csi_begins : (limit : ℕ) (bytes text rest body : List ℕ) (k : Kind) (a : Mod
 csi_begins limit bytes text rest body kind.Csi a l is e s = (s.0.2.body ++ s.0.1 ∷ [], s.0.2.whole)
 csi_begins limit bytes text rest body kind.Other a l is e s = esc_front text rest body (malformed_some limit (length text) bytes (91 ∷ body) l is s.0) (sym is ∙ e)
 csi_begins limit bytes text rest body kind.Text a l is e s = absurd s
-csi_begins limit bytes text rest body kind.Esc a l is e s = absurd s
-csi_begins limit bytes text rest body kind.Str a l is e s = absurd s
+csi_begins limit bytes text rest body _ a l is e s = absurd s
 
 front_begins : (bytes text rest : List ℕ) (k l : Kind) (n : ℕ) → bytes ≡ text ++ rest → length text ≡ n → l ≡ k → BeginsAs k (take n bytes) → BeginsAs l text
 front_begins bytes text rest k l n e len is h = subst (λ (x : Kind). BeginsAs x text) (sym is) (subst (BeginsAs k) (front_is bytes text rest n e len) h)
@@ -94,9 +93,7 @@ allows_text (Anew j n b) limit m bytes text k a e h s = s.2 ∙ h.0.text (sym s.
 allows_text Sequence limit m bytes text kind.Csi a e h s = absurd cc
 allows_text Sequence limit m bytes text kind.Other a e h s = absurd cc
 allows_text Sequence limit m bytes text kind.Text a e h s = absurd s
-allows_text Sequence limit m bytes text kind.Esc a e h s = absurd s
-allows_text Sequence limit m bytes text kind.Str a e h s = absurd s
-allows_text Undecided limit m bytes text k a e h s = absurd s
+allows_text _ limit m bytes text _ a e h s = absurd s
 
 parts_text : (limit : ℕ) (ps : List Part) (m : Mode) (bytes rest : List ℕ) (a : Mode) → 0 < length ps → AllByRecursion (λ (p : Part). p.kind ≡ kind.Text) ps → AreFirstParts limit m bytes ps rest a → a ≡ mode.Text
 parts_text limit [] m bytes rest a some h s = absurd (omega arith)
@@ -132,10 +129,7 @@ no_more left after s (t ∷ spans) last l g y = λ e f. apart left after y.0 s t
 anew_behind : (k : Kind) (a : Mode) (rest : List ℕ) → IsMaximal k a rest → IsAnew a (ahead a rest)
 anew_behind k mode.Text rest h = inl refl
 anew_behind k mode.Osc rest h = inr (h (inr (λ i. absurd cc)))
-anew_behind k mode.Dcs rest h = inr (h (inr (λ i. absurd cc)))
-anew_behind k mode.Str rest h = inr (h (inr (λ i. absurd cc)))
-anew_behind k mode.BadCsi rest h = inr (h (inr (λ i. absurd cc)))
-anew_behind k mode.BadEsc rest h = inr (h (inr (λ i. absurd cc)))
+anew_behind k _ rest h = inr (h (inr (λ i. absurd cc)))
 
 unsure_begins : (f : Answer) (limit : ℕ) (m : Mode) (bytes : List ℕ) → 0 < length bytes → Sound m bytes f → IsUnsureBy f limit bytes → BeginsAs kind.Other bytes
 unsure_begins (More j n b) limit m bytes some h u = absurd u

@@ -16,11 +16,9 @@ use Rattle.csicodec_spans.proofs.Apart.{are_inside, inside, said}
 
 -- this byte and no other may stand here
 abbrev is_only : ℕ → Spot → Bool
-is_only c (OneOf []) = false
 is_only c (OneOf (r ∷ [])) = r.first == c && r.last == c
 is_only c (OneOf (r ∷ s ∷ ranges)) = false
-is_only c (NoneOf ranges) = false
-is_only c End = false
+is_only c _ = false
 
 -- a byte stands in each of the first n spots, and no ESC
 abbrev are_free : ℕ → List Spot → Bool
@@ -36,10 +34,8 @@ are_free_behind (suc n) (p ∷ spots) = not (is_end p) && are_free n spots
 
 abbrev is_str : Kind → Bool
 is_str kind.Text = false
-is_str kind.Csi = false
-is_str kind.Esc = false
 is_str kind.Str = true
-is_str kind.Other = false
+is_str _ = false
 
 -- two ESC of a string
 abbrev is_quote : ℕ → Kind → List Spot → Bool
@@ -48,10 +44,9 @@ is_quote n k (p ∷ []) = false
 is_quote n k (p ∷ q ∷ spots) = n == 2 && (is_str k && (is_only 27 p && is_only 27 q))
 
 abbrev is_opener : List Spot → Bool
-is_opener [] = false
 is_opener (OneOf ranges ∷ spots) = are_inside ranges openers
 is_opener (NoneOf ranges ∷ spots) = false
-is_opener (End ∷ spots) = false
+is_opener _ = false
 
 -- n bytes of these spots begin as a span of this kind does
 abbrev begin : List Spot → Kind → ℕ → Bool
@@ -67,8 +62,7 @@ abbrev leaves : Kind → Mode → Bool
 leaves kind.Text a = holds_in (mode.Text ∷ []) a
 leaves kind.Csi a = false
 leaves kind.Esc a = true
-leaves kind.Str a = true
-leaves kind.Other a = true
+leaves _ a = true
 
 abbrev has_no_end : List Spot → Bool
 has_no_end [] = true
@@ -109,19 +103,16 @@ all_sound = refl
 -- ---- what the tests say
 
 only_byte : (c : ℕ) (p : Spot) (b : ℕ) → is_only c p ≡ true → takes p b ≡ true → b ≡ c
-only_byte c (OneOf []) b e t = cc
 only_byte c (OneOf (r ∷ [])) b e t = one r.first r.last e t
   where
     one : (low high : ℕ) → (low == c && high == c) ≡ true → (nat_le low b && nat_le b high || false) ≡ true → b ≡ c
     one low high e t = grind (arith, nat_tests)
 only_byte c (OneOf (r ∷ s ∷ ranges)) b e t = cc
-only_byte c (NoneOf ranges) b e t = cc
-only_byte c End b e t = cc
+only_byte c _ b e t = cc
 
 only_there : (c : ℕ) (p : Spot) → is_only c p ≡ true → is_end p ≡ true → ⊥
 only_there c (OneOf ranges) e t = cc
-only_there c (NoneOf ranges) e t = cc
-only_there c End e t = cc
+only_there c _ e t = cc
 
 -- ESC stands at most at the front
 abbrev pub OnlyFirst : List ℕ → Type 0
@@ -188,11 +179,9 @@ quote n k (p ∷ q ∷ spots) bytes e f =
     str kind.Other e = cc
 
 opener : (spots : List Spot) (bytes : List ℕ) → is_opener spots ≡ true → begin_with spots bytes ≡ true → (b : ℕ) × (more : List ℕ) × (bytes ≡ b ∷ more) × (within openers b ≡ true)
-opener [] bytes e f = cc
 opener (OneOf ranges ∷ spots) [] e f = cc
 opener (OneOf ranges ∷ spots) (b ∷ bytes) e f = (b, bytes, refl, inside ranges openers b e (and_parts (within ranges b) (begin_with spots bytes) f).0)
-opener (NoneOf ranges ∷ spots) bytes e f = cc
-opener (End ∷ spots) bytes e f = cc
+opener _ _ e f = cc
 
 led : (n : ℕ) (p : Spot) (spots : List Spot) (bytes : List ℕ) → 0 < n → is_only 27 p ≡ true → begin_with (p ∷ spots) bytes ≡ true → (more : List ℕ) × (take n bytes ≡ 27 ∷ more)
 led zero p spots bytes some e f = absurd (omega arith)
@@ -200,7 +189,6 @@ led (suc n) p spots bytes some e f = let (more, first, others) = only_first 27 p
 
 begin_as : (spots : List Spot) (k : Kind) (n : ℕ) (bytes : List ℕ) → 0 < n → n ≤ length bytes → begin spots k n ≡ true → begin_with spots bytes ≡ true → BeginsAs k (take n bytes)
 begin_as [] k n bytes some le e f = cc
-begin_as (p ∷ spots) kind.Text zero bytes some le e f = absurd (omega arith)
 begin_as (p ∷ spots) kind.Text (suc n) [] some le e f = absurd (omega arith)
 begin_as (p ∷ spots) kind.Text (suc n) (b ∷ bytes) some le e f =
     let none = not-true (takes p 27) (and_parts (not (is_end p)) (not (takes p 27)) e).1 in
@@ -209,21 +197,20 @@ begin_as (p ∷ spots) kind.Text (suc n) (b ∷ bytes) some le e f =
 begin_as (p ∷ spots) kind.Csi n bytes some le e f = cc
 begin_as (p ∷ spots) kind.Esc n bytes some le e f = led n p spots bytes some e f
 begin_as (p ∷ spots) kind.Other n bytes some le e f = led n p spots bytes some e f
-begin_as (p ∷ spots) kind.Str zero bytes some le e f = absurd (omega arith)
 begin_as (p ∷ spots) kind.Str (suc zero) bytes some le e f = let none : false ≡ true = (and_parts (nat_lt 1 1) (is_opener spots) (and_parts (is_only 27 p) (nat_lt 1 1 && is_opener spots) e).1).0 in absurd cc
 begin_as (p ∷ spots) kind.Str (suc (suc n)) bytes some le e f =
     let g = and_parts (is_only 27 p) (nat_lt 1 (suc (suc n)) && is_opener spots) e in
     let (more, first, others) = only_first 27 p spots bytes g.0 f in
     let (b, rest, second, within) = opener spots more (and_parts (nat_lt 1 (suc (suc n))) (is_opener spots) g.1).1 others in
     (b, take n rest, ap (take (suc (suc n))) (first ∙ ap (λ (x : List ℕ). 27 ∷ x) second), within)
+begin_as (p ∷ spots) _ _ _ some le e f = absurd (omega arith)
 
 ends : (n : ℕ) (spots : List Spot) (bytes : List ℕ) → ends_within n spots ≡ true → begin_with spots bytes ≡ true → length bytes < n
-ends zero spots bytes e f = cc
-ends (suc n) [] bytes e f = cc
 ends (suc n) (p ∷ spots) [] e f = omega arith
 ends (suc n) (OneOf ranges ∷ spots) (b ∷ bytes) e f = let later = ends n spots bytes e (and_parts (within ranges b) (begin_with spots bytes) f).1 in omega arith
 ends (suc n) (NoneOf ranges ∷ spots) (b ∷ bytes) e f = let later = ends n spots bytes e (and_parts (not (within ranges b)) (begin_with spots bytes) f).1 in omega arith
 ends (suc n) (End ∷ spots) (b ∷ bytes) e f = cc
+ends _ _ _ e f = cc
 
 begun : (spots : List Spot) (bytes : List ℕ) → is_begun spots ≡ true → begin_with spots bytes ≡ true → (bytes ≡ []) ⊎ ((more : List ℕ) × (bytes ≡ 27 ∷ more))
 begun [] bytes e f = cc
@@ -277,14 +264,7 @@ left k n a bytes e some le = record { some = ltb-true 0 n some; within = le; oth
     text : (k : Kind) (a : Mode) → leaves k a ≡ true → k ≡ kind.Text → a ≡ mode.Text
     text kind.Text mode.Text e is = refl
     text kind.Text mode.Osc e is = cc
-    text kind.Text mode.Dcs e is = cc
-    text kind.Text mode.Str e is = cc
-    text kind.Text mode.BadCsi e is = cc
-    text kind.Text mode.BadEsc e is = cc
-    text kind.Csi a e is = cc
-    text kind.Esc a e is = cc
-    text kind.Str a e is = cc
-    text kind.Other a e is = cc
+    text _ _ e is = cc
 
 sound_by : (modes : List Mode) (spots : List Spot) (f : Answer) (m : Mode) (bytes : List ℕ) → is_sound_by modes spots f ≡ true → holds_in modes m ≡ true → begin_with spots bytes ≡ true → Sound m bytes f
 sound_by modes spots (More k n a) m bytes e h f =
@@ -355,9 +335,8 @@ longer (p ∷ spots) (b ∷ bytes) more e f =
 
 decided : (modes : List Mode) (spots : List Spot) (f : Answer) → is_sound_by modes spots f ≡ true → (f ≡ Undecided) ⊎ (has_no_end spots ≡ true)
 decided modes spots (More k n a) e = inr (and_parts (has_no_end spots) _ e).0
-decided modes spots (Anew k n a) e = inr (and_parts (has_no_end spots) _ e).0
-decided modes spots Sequence e = inr (and_parts (has_no_end spots) _ e).0
 decided modes spots Undecided e = inl refl
+decided modes spots _ e = inr (and_parts (has_no_end spots) _ e).0
 
 -- what is decided stays, whatever follows
 pub kept : (m : Mode) (bytes more : List ℕ) → HasOneRow m bytes → IsKept (ahead m bytes) (ahead m (bytes ++ more))

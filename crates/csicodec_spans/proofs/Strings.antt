@@ -21,10 +21,8 @@ either P t x y f g = cond_both t x y P f g
 
 abbrev pub is_str : Kind → Bool
 is_str kind.Text = false
-is_str kind.Csi = false
-is_str kind.Esc = false
 is_str kind.Str = true
-is_str kind.Other = false
+is_str _ = false
 
 -- a control string is open
 abbrev pub in_string : Mode → Bool
@@ -38,9 +36,7 @@ IsPiece m bytes = ((c : ℕ) × (bytes ≡ c ∷ []) × ((c == 27) ≡ false) ×
 abbrev pub IsFit : Mode → Kind → List ℕ → Mode → Type 0
 IsFit m kind.Str bytes a = IsPiece m bytes
 IsFit m kind.Text bytes a = in_string a ≡ false
-IsFit m kind.Csi bytes a = in_string a ≡ false
-IsFit m kind.Esc bytes a = in_string a ≡ false
-IsFit m kind.Other bytes a = in_string a ≡ false
+IsFit m _ bytes a = in_string a ≡ false
 
 record Fits (limit : ℕ) (m : Mode) (bytes : List ℕ) (f : Front) : Type 0 where
   told : (k : Kind) (text rest : List ℕ) (a : Mode) → bytes ≡ text ++ rest → Allows (meant m f) limit bytes k text a → IsFit m k text a
@@ -48,9 +44,7 @@ record Fits (limit : ℕ) (m : Mode) (bytes : List ℕ) (f : Front) : Type 0 whe
 shut : (m : Mode) (k : Kind) (text : List ℕ) (a : Mode) → is_str k ≡ false → in_string a ≡ false → IsFit m k text a
 shut m kind.Str text a e f = absurd cc
 shut m kind.Text text a e f = f
-shut m kind.Csi text a e f = f
-shut m kind.Esc text a e f = f
-shut m kind.Other text a e f = f
+shut m _ text a e f = f
 
 away : (m : Mode) (k j : Kind) (text : List ℕ) (a n : Mode) → is_str j ≡ false → in_string n ≡ false → k ≡ j → a ≡ n → IsFit m k text a
 away m k j text a n e f same after = shut m k text a (ap is_str same ∙ e) (ap in_string after ∙ f)
@@ -84,17 +78,15 @@ fits_stays limit mode.BadEsc c bytes e = record { told = λ k text rest a split 
 fits_ends : (limit : ℕ) (m : Mode) (c : ℕ) (bytes : List ℕ) → ends m c ≡ true → Fits limit m (c ∷ bytes) (Ends 1)
 fits_ends limit mode.Text c bytes e = absurd cc
 fits_ends limit mode.Osc c bytes e = record { told = λ k text rest a split s. piece mode.Osc k text a s.0 (one mode.Osc c bytes text rest refl (apart c 7 27 e refl) split s.1) }
-fits_ends limit mode.Dcs c bytes e = absurd cc
-fits_ends limit mode.Str c bytes e = absurd cc
 fits_ends limit mode.BadCsi c bytes e = record { told = λ k text rest a split s. away mode.BadCsi k kind.Other text a mode.Text refl refl s.0 s.2 }
 fits_ends limit mode.BadEsc c bytes e = record { told = λ k text rest a split s. away mode.BadEsc k kind.Other text a mode.Text refl refl s.0 s.2 }
+fits_ends limit _ c bytes e = absurd cc
 
 csi_fits : (limit : ℕ) (m : Mode) (bytes : List ℕ) (k : Kind) (text : List ℕ) (a : Mode) → AllowsCsi limit bytes k text a → IsFit m k text a
 csi_fits limit m bytes kind.Csi text a s = ap in_string s.2
 csi_fits limit m bytes kind.Other text a s = ap in_string s.1
 csi_fits limit m bytes kind.Text text a s = absurd s
-csi_fits limit m bytes kind.Esc text a s = absurd s
-csi_fits limit m bytes kind.Str text a s = absurd s
+csi_fits limit m bytes _ text a s = absurd s
 
 fits_csi : (limit : ℕ) (m : Mode) (bytes : List ℕ) → Fits limit m bytes Csi
 fits_csi limit m bytes = record { told = λ k text rest a split s. csi_fits limit m bytes k text a s }
@@ -127,16 +119,12 @@ fits_st limit mode.Text c bytes e = absurd cc
 fits_st limit mode.Osc c bytes e = record { told = λ k text rest a split s. piece mode.Osc k text a s.0 (two mode.Osc c bytes text rest (λ none. absurd cc) split s.1) }
 fits_st limit mode.Dcs c bytes e = record { told = λ k text rest a split s. piece mode.Dcs k text a s.0 (two mode.Dcs c bytes text rest (λ none. absurd cc) split s.1) }
 fits_st limit mode.Str c bytes e = record { told = λ k text rest a split s. piece mode.Str k text a s.0 (two mode.Str c bytes text rest (λ none. absurd cc) split s.1) }
-fits_st limit mode.BadCsi c bytes e = absurd cc
-fits_st limit mode.BadEsc c bytes e = absurd cc
+fits_st limit _ c bytes e = absurd cc
 
 fits_quote : (limit : ℕ) (m : Mode) (c : ℕ) (bytes : List ℕ) → (is_dcs m && c == 27) ≡ true → Fits limit m (27 ∷ c ∷ bytes) (GoesOn 2)
 fits_quote limit mode.Text c bytes e = absurd cc
-fits_quote limit mode.Osc c bytes e = absurd cc
 fits_quote limit mode.Dcs c bytes e = record { told = λ k text rest a split s. piece mode.Dcs k text a s.0 (two mode.Dcs c bytes text rest (λ none. absurd cc) split s.1) }
-fits_quote limit mode.Str c bytes e = absurd cc
-fits_quote limit mode.BadCsi c bytes e = absurd cc
-fits_quote limit mode.BadEsc c bytes e = absurd cc
+fits_quote limit _ c bytes e = absurd cc
 
 fits_escape : (limit : ℕ) (m : Mode) (bytes : List ℕ) → Fits limit m (27 ∷ bytes) (escape m bytes)
 fits_escape limit m [] = record { told = λ k text rest a split s. absurd s }

@@ -36,16 +36,6 @@ split_more bytes rest behind flag xs ys list final s r a = record {
   each = are_actions-append s.sequences ((list, final) ∷ []) flag xs ys s.each (ys, [], sym (append-nil ys), a, refl);
 }
 
--- with nothing left, the bytes are decoded
-pub split_all : (bytes rest : List ℕ) (flag : Bool) (xs : List Action) → length rest ≤ 0 → IsSplit bytes flag rest xs → Decodes bytes flag xs
-split_all bytes [] flag xs h s = record { sequences = s.sequences; join = rw (s.parts, append-nil) s.join; each = s.each }
-split_all bytes (b ∷ rest) flag xs h s = absurd (omega arith)
-
-pub behind_shorter : (rest behind : List ℕ) (list : List CsiParam) (final : ℕ) → Reads rest list final behind → length behind < length rest
-behind_shorter rest behind list final r =
-    let long : length r.0 ≡ suc (suc (length (r.1.body ++ final ∷ []))) = ap length r.1.whole in
-    omega (arith, long, ap length r.2, length-append r.0 behind)
-
 fault_there : (bytes rest : List ℕ) (flag : Bool) (xs : List Action) (e : ReadError) → IsSplit bytes flag rest xs → 0 < length rest → FaultOf rest e
     → FaultAt bytes (length bytes - length rest) e × ((actions : List Action) → Decodes bytes flag actions → ⊥)
 fault_there bytes rest flag xs e s some r =

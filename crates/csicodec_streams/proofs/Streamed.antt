@@ -69,9 +69,6 @@ given_all given now bytes c end = Consumes-all given now bytes [] bytes c end re
 pub refused_end : (given now : Option (List ℕ)) (bytes : List ℕ) (e : DecodeError) → Consumes given now bytes → IsAtEnd now → RefusesDecode bytes false e → RefusesRun given (run_refusal e)
 refused_end given now bytes e c end r = run_refused given bytes e (given_all given now bytes c end) r
 
-pub rest_within : (bytes : List ℕ) (flag : Bool) (rest : List ℕ) (xs : List Action) → IsSplit bytes flag rest xs → length rest ≤ length bytes
-rest_within bytes flag rest xs s = omega (arith, ap length s.parts, length-append s.front rest)
-
 pub errs : {T E P : Type 0} (r : Result T E) → P → OnErr r P
 errs (Ok x) p = tt
 errs (Err e) p = p

@@ -23,9 +23,7 @@ use Rattle.csicodec_filter.specs.Filter.{WritesOne, IsWritten, AreWritten, Passe
 pub weaker_part : (V W : List ℕ → List ℕ → Type 0) (k : Kind) (b t : List ℕ) → ((b t : List ℕ) → V b t → W b t) → IsWritten V k b t → IsWritten W k b t
 weaker_part V W kind.Csi b t f h = f b t h
 weaker_part V W kind.Text b t f h = h
-weaker_part V W kind.Esc b t f h = h
-weaker_part V W kind.Str b t f h = h
-weaker_part V W kind.Other b t f h = h
+weaker_part V W _ b t f h = h
 
 weaker : (V W : List ℕ → List ℕ → Type 0) (ps : List Part) (t : List ℕ) → ((b t : List ℕ) → V b t → W b t) → AreWritten V ps t → AreWritten W ps t
 weaker V W [] t f h = h
@@ -79,10 +77,8 @@ module _ (Writes : List ℕ → List ℕ → Type 0) where
       → MatchOption control (text ≡ bytes) (λ final. Writes bytes text) → IsWritten Writes k bytes text
   by_control None kind.Csi bytes text list h w = absurd (h refl)
   by_control None kind.Text bytes text list h w = w
-  by_control None kind.Esc bytes text list h w = w
-  by_control None kind.Str bytes text list h w = w
-  by_control None kind.Other bytes text list h w = w
   by_control (Some final) k bytes text list h w = rw h.0 w
+  by_control None _ bytes text list h w = w
 
   -- one sequence more, in front of what is left
   pub passed_one : (limit : ℕ) (m n : Mode) (bytes rest text more : List ℕ) (parts : List Part) (len : ℕ) → AreFirstParts limit m bytes parts rest n → AreWritten Writes parts text
@@ -129,9 +125,7 @@ module _ (Writes : List ℕ → List ℕ → Type 0) where
   one_part : WritesOne Writes → (k : Kind) (b s t : List ℕ) → IsWritten Writes k b s → IsWritten Writes k b t → s ≡ t
   one_part unique kind.Csi b s t h k = unique b s t h k
   one_part unique kind.Text b s t h k = h ∙ sym k
-  one_part unique kind.Esc b s t h k = h ∙ sym k
-  one_part unique kind.Str b s t h k = h ∙ sym k
-  one_part unique kind.Other b s t h k = h ∙ sym k
+  one_part unique _ b s t h k = h ∙ sym k
 
   -- the text of more parts goes on with that of the first
   front_text : WritesOne Writes → (ps more : List Part) (s t : List ℕ) → AreWritten Writes ps s → AreWritten Writes (ps ++ more) t → (rest : List ℕ) × (t ≡ s ++ rest)
@@ -163,12 +157,6 @@ module _ (Writes : List ℕ → List ℕ → Type 0) where
       front_text unique h.parts [] text whole h.written (subst (λ (x : List Part). AreWritten Writes x whole) parts f.written)
 
 -- ---- readers and writers
-
-pub keeps_consumes : (a b c : Option (List ℕ)) (bs : List ℕ) → Keeps a b → Consumes b c bs → Consumes a c bs
-keeps_consumes None b c bs p q = tt
-keeps_consumes (Some x) None c bs p q = absurd p
-keeps_consumes (Some x) (Some y) None bs p q = absurd q
-keeps_consumes (Some x) (Some y) (Some z) bs p q = sym p ∙ q
 
 -- a stream from a reader to a writer, by what is known of both
 module _ (Writes : List ℕ → List ℕ → Type 0) where

@@ -11,7 +11,7 @@ use crate::notes::Short;
 use crate::runs::Runs;
 use csicodec_base::CsiParam;
 use csicodec_filter::Known;
-use csicodec_spans::{Mode, next_span_into};
+use csicodec_spans::{Cutter, Mode};
 use csicodec_streams::keep_from;
 use std::alloc::{AllocError, Global};
 use std::marker::Model;
@@ -37,22 +37,20 @@ fn append_short<'a>(
     ensures known { OnOk result (AreKnown IsNote known.new.memo.slots.items) }
 {
     runs.held.begin();
-    let mut rest = bytes;
-    let mut mode = mode;
+    let mut cutter = Cutter { mode, rest: bytes };
     loop {
+        let Cutter { mode, rest } = cutter;
         let len = known.look(limit, rest);
         if len > 0 {
             runs.held.take(known.noted())?;
-            rest = rest.split_at(len).1;
-            mode = Mode::Text;
+            cutter.rest = rest.split_at(len).1;
+            cutter.mode = Mode::Text;
             continue;
         }
-        let Some(read) = next_span_into(params, limit, mode, rest)? else {
+        let Some((span, control)) = cutter.next(limit, params)? else {
             return Ok((rest, mode));
         };
-        runs.take(known, rest, read.cut.span.bytes, params, read.control, out)?;
-        rest = read.cut.rest;
-        mode = read.cut.mode;
+        runs.take(known, rest, span.bytes, params, control, out)?;
     }
 }
 

@@ -9,7 +9,7 @@ ghost use Rattle.csicodec_filter.specs.Filter.{Passes};
 use crate::known::{Known, recall};
 use crate::rewrite::Rewrite;
 use csicodec_base::CsiParam;
-use csicodec_spans::{Mode, next_span_into};
+use csicodec_spans::{Cutter, Mode};
 use csicodec_streams::{Normal, keep_from};
 use std::alloc::{AllocError, Global};
 use std::marker::Model;
@@ -72,24 +72,22 @@ pub(crate) fn append_known<T: Rewrite>(
     ensures known { OnOk result (AreKnown IsNormal known.new.memo.slots.items) }
 {
     let normal = rewrite.writes_normal_forms();
-    let mut rest = bytes;
-    let mut mode = mode;
+    let mut cutter = Cutter { mode, rest: bytes };
     loop {
+        let Cutter { mode, rest } = cutter;
         let len = recall(known, normal, limit, rest, out)?;
         if len > 0 {
-            rest = rest.split_at(len).1;
-            mode = Mode::Text;
+            cutter.rest = rest.split_at(len).1;
+            cutter.mode = Mode::Text;
             continue;
         }
-        let Some(read) = next_span_into(params, limit, mode, rest)? else {
+        let Some((span, control)) = cutter.next(limit, params)? else {
             return Ok((bytes.len() - rest.len(), mode));
         };
         let before = out.len();
-        append_span(rewrite, params, read.control, read.cut.span.bytes, out)?;
+        append_span(rewrite, params, control, span.bytes, out)?;
         let text = out.split_at(before).1;
-        keep_span(known, normal, read.control, rest, read.cut.span.bytes, text);
-        rest = read.cut.rest;
-        mode = read.cut.mode;
+        keep_span(known, normal, control, rest, span.bytes, text);
     }
 }
 

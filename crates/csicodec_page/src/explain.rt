@@ -4,7 +4,7 @@ ghost use Rattle.std.specs.Prelude.{◌≤◌, IfOk, length};
 use crate::page::Page;
 use crate::style::Style;
 use csicodec_base::CsiParam;
-use csicodec_spans::{Kind, LIMIT, Mode, next_span_into};
+use csicodec_spans::{Cutter, Kind, LIMIT, Mode};
 use csicodec_streams::{CHUNK, RunError, keep_from, receive, send};
 use std::alloc::{AllocError, Global};
 use std::io::{Read, Write};
@@ -18,18 +18,17 @@ fn add_spans(
 ) -> Result<(usize, Mode), AllocError>
     ensures { IfOk result (λ (used, after). used ≤ length bytes.now) }
 {
-    let mut rest = bytes;
-    let mut mode = mode;
-    while let Some(read) = next_span_into(params, LIMIT, mode, rest)? {
-        let span = read.cut.span;
-        match read.control {
+    let mut cutter = Cutter { mode, rest: bytes };
+    loop {
+        let Cutter { mode, rest } = cutter;
+        let Some((span, control)) = cutter.next(LIMIT, params)? else {
+            return Ok((bytes.len() - rest.len(), mode));
+        };
+        match control {
             Some(control) => page.add_sequence(span.bytes, params, control)?,
-            None => page.add(mode, span.kind, span.bytes, read.cut.mode)?,
+            None => page.add(mode, span.kind, span.bytes, cutter.mode)?,
         }
-        rest = read.cut.rest;
-        mode = read.cut.mode;
     }
-    Ok((bytes.len() - rest.len(), mode))
 }
 
 /// A stream of which some has come. It holds what may go on: less than `LIMIT` bytes, or a span's first bytes.

@@ -46,29 +46,6 @@ pub struct Page<'a> {
     totals: Totals,
 }
 
-/// Whether a string begins with these bytes, and doesn't go on with them: they are ESC, and neither ST nor, in a DCS, ESC ESC.
-fn opens_anew(mode: Mode, bytes: &[u8]) -> bool {
-    if bytes.first().copied() != Some(0x1b) {
-        return false;
-    }
-    match bytes.get(1).copied() {
-        Some(0x5c) => false,
-        Some(0x1b) => mode != Mode::Dcs,
-        _ => true,
-    }
-}
-
-/// Whether bytes that are of this kind in this mode belong to the span before them, if that is of the kind too.
-fn goes_on(mode: Mode, kind: Kind, bytes: &[u8]) -> bool {
-    match mode {
-        Mode::Text => kind == Kind::Text,
-        Mode::Osc | Mode::Dcs | Mode::Str => kind == Kind::Str && !opens_anew(mode, bytes),
-        Mode::BadCsi | Mode::BadEsc => {
-            kind == Kind::Other && bytes.first().copied() != Some(0x1b)
-        }
-    }
-}
-
 /// The escape sequence that a span of that kind is.
 fn escape_of(bytes: &[u8]) -> Esc {
     let between = if bytes.len() > 2 {
@@ -372,7 +349,7 @@ impl<'a> Page<'a> {
             Kind::Text => return self.add_text(bytes),
             Kind::Csi | Kind::Str | Kind::Other => {}
         }
-        let same = self.open.len > 0 && self.open.kind == kind && goes_on(mode, kind, bytes);
+        let same = self.open.len > 0 && self.open.kind == kind && mode.goes_on(bytes);
         self.add_open(kind, same, bytes)?;
         self.open.closed = kind == Kind::Str && next == Mode::Text;
         self.text = false;

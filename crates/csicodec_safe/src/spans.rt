@@ -12,7 +12,7 @@ use crate::rule::Rule;
 use crate::text::{append_shown, append_sure};
 use crate::title::{read_as, title_behind};
 use csicodec_base::CsiParam;
-use csicodec_spans::{Kind, Mode, next_span_into};
+use csicodec_spans::{Cutter, Kind, Mode};
 use csicodec_streams::keep_from;
 use std::alloc::AllocError;
 
@@ -84,15 +84,11 @@ pub(crate) fn append_clean<'a, T: Rule>(
     // What is held stands directly before the rest.
     ensures last { IfOk result (λ (rest, after). (front : List ℕ) × (held.old.items ++ bytes.now ≡ front ++ (held.new.items ++ rest.now))) }
 {
-    let mut rest = bytes;
-    let mut mode = mode;
-    while let Some(read) = next_span_into(params, limit, mode, rest)? {
-        let span = read.cut.span;
+    let mut cutter = Cutter { mode, rest: bytes };
+    while let Some((span, control)) = cutter.next(limit, params)? {
         let kind = read_as(span.kind, *titled);
-        append_span(rule, params, read.control, held, kind, span.bytes, out)?;
+        append_span(rule, params, control, held, kind, span.bytes, out)?;
         *titled = title_behind(*titled, span.kind, span.bytes);
-        rest = read.cut.rest;
-        mode = read.cut.mode;
     }
-    Ok((rest, mode))
+    Ok((cutter.rest, cutter.mode))
 }

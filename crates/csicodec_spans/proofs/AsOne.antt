@@ -1,6 +1,6 @@
 -- Parts that are one: what is open goes on between any two of them.
-use Rattle.std.proofs.Common.{◌≡◌, ℕ, ◌<◌, List, [], ◌∷◌, ◌++◌, length, refl, sym, ap, subst, ◌∙◌, inl, inr, append_assoc, arith}
-use Rattle.std.proofs.lemmas.List.{append-nil, append_cancel_left, length-append}
+use Rattle.std.proofs.Common.{◌≡◌, ℕ, ◌<◌, List, [], ◌∷◌, ◌++◌, length, sym, ap, subst, ◌∙◌, inl, inr, append_assoc, arith}
+use Rattle.std.proofs.lemmas.List.{append_cancel_left, length-append}
 use Rattle.csicodec_spans.specs.declared.table.Mode.{Mode}
 use Rattle.csicodec_spans.specs.Table.{ahead}
 use Rattle.csicodec_spans.specs.Parts.{Part, AreFirstParts, AreOne, IsMore}

@@ -3,7 +3,6 @@ use Rattle.std.specs.Prelude.{ℕ, ◌≡◌, ◌≢◌, ◌<◌, ◌≤◌, ◌
 use Rattle.std.specs.List.{AllByRecursion, flat_map}
 use Rattle.csicodec_tokens.specs.declared.param.CsiParam.{CsiParam}
 use Rattle.csicodec_tokens.specs.declared.reader.ReadError.{ReadError}
-use Rattle.csicodec_tokens.specs.declared.reader.ReadError.TheVariants.{NotCsi, BadByte, NumberTooLarge, Truncated, Memory}
 use Rattle.csicodec_tokens.specs.Sequence.{Seq}
 use Rattle.csicodec_tokens.specs.Fault.{Begins, FaultOf, IsMetAt}
 use Rattle.csicodec_spans.specs.declared.table.Kind.{Kind}

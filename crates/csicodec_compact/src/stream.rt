@@ -1,5 +1,5 @@
 //! A stream that is made shorter as it comes.
-ghost use Rattle.std.specs.Prelude.{◌≡◌, ◌<◌, ◌≤◌, ◌⊎◌, ◌++◌, ℕ, List, [], length, OnOk, IfOk};
+ghost use Rattle.std.specs.Prelude.{◌≡◌, ◌<◌, ◌≤◌, ◌⊎◌, ◌++◌, ℕ, List, [], drop, length, OnOk, IfOk};
 ghost use Rattle.csicodec_spans.specs.declared.table.Mode.TheVariants.{Text as Plain};
 ghost use Rattle.csicodec_spans.specs.Parts.{IsUnsure};
 ghost use Rattle.csicodec_compact.specs.Runs.{CompactsAll, PassesShort};
@@ -16,24 +16,24 @@ use csicodec_streams::keep_from;
 use std::alloc::{AllocError, Global};
 use std::marker::Model;
 
-/// Appends what is made of all spans of the bytes that are sure, but for the run of control sequences at their end, and answers the
-/// bytes that aren't sure, and the mode there.
+/// Appends what is made of all spans of the bytes that are sure, but for the run of control sequences at their end, and answers how
+/// many bytes are sure, and the mode behind them.
 #[inline(never)]
-fn append_short<'a>(
+fn append_short(
     runs: &mut Runs,
     known: &mut Known<Short>,
     params: &mut Vec<CsiParam>,
     limit: usize,
     mode: Mode,
-    bytes: &'a [u8],
+    bytes: &[u8],
     out: &mut Vec<u8>,
-) -> Result<(&'a [u8], Mode), AllocError>
+) -> Result<(usize, Mode), AllocError>
     requires limit { 0 < limit }
     requires known { AreKnown IsNote known.old.memo.slots.items }
-    ensures parts { IfOk result (λ (rest, after). (front : List ℕ) × (bytes.now ≡ front ++ rest.now)) }
-    ensures unsure { IfOk result (λ (rest, after). IsUnsure limit after rest.now) }
-    ensures goes { IfOk result (λ (rest, after). (text : List ℕ) × (out.new.items ≡ out.old.items ++ text)
-        × GoesOn limit mode bytes.now text runs.new.held.text runs.new.held.form rest.now after) }
+    ensures within { IfOk result (λ (used, after). used ≤ length bytes.now) }
+    ensures unsure { IfOk result (λ (used, after). IsUnsure limit after (drop used bytes.now)) }
+    ensures goes { IfOk result (λ (used, after). (text : List ℕ) × (out.new.items ≡ out.old.items ++ text)
+        × GoesOn limit mode bytes.now text runs.new.held.text runs.new.held.form (drop used bytes.now) after) }
     ensures known { OnOk result (AreKnown IsNote known.new.memo.slots.items) }
 {
     runs.held.begin();
@@ -48,7 +48,7 @@ fn append_short<'a>(
             continue;
         }
         let Some((span, control)) = cutter.next(limit, params)? else {
-            return Ok((rest, mode));
+            return Ok((bytes.len() - rest.len(), mode));
         };
         runs.take(known, rest, span.bytes, params, control, out)?;
     }
@@ -117,7 +117,7 @@ impl Compactor {
         ensures known { OnOk result (AreKnown IsNote known.new.memo.slots.items) }
     {
         self.pending.extend_from_slice(bytes)?;
-        let (rest, mode) = append_short(
+        let (used, mode) = append_short(
             &mut self.runs,
             known,
             &mut self.params,
@@ -126,7 +126,6 @@ impl Compactor {
             &self.pending,
             out,
         )?;
-        let used = self.pending.len() - rest.len();
         self.runs.held.flush(out)?;
         self.mode = mode;
         keep_from(&mut self.pending, used);

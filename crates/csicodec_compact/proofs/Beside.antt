@@ -4,7 +4,7 @@ use Rattle.std.specs.Prelude.{◌&&◌, slice_get}
 use Rattle.std.proofs.lemmas.Bool.{cases_Bool, true≢false}
 use Rattle.std.proofs.lemmas.Grind.{flat_map-append}
 use Rattle.std.proofs.Math.Seq.{take-append_seam}
-use Rattle.std.proofs.lemmas.List.{length-append}
+use Rattle.std.proofs.lemmas.List.{drop-append-le, length-append, take-take}
 use Rattle.std.specs.List.{AllByRecursion, flat_map}
 use Rattle.csicodec_tokens.specs.declared.param.CsiParam.{CsiParam}
 use Rattle.csicodec_tokens.specs.Sequence.{Seq}
@@ -28,8 +28,21 @@ use Rattle.csicodec_compact.specs.Compacts.{Compacts, ReadsAlike}
 use Rattle.csicodec_compact.specs.Runs.{IsStaying, NoneStays, Shortens, AreRuns, IsShortened, PassesShort, CompactsAll}
 use Rattle.csicodec_compact.specs.declared.form.Form.{Form}
 use Rattle.csicodec_compact.specs.declared.form.Form.TheVariants as forms
-use Rattle.csicodec_compact.specs.Private.Steps.{form_of, closing, is_semicolon, joint, behind, is_joined, may_join, opened, list_of, IsTail, IsListed, IsOwn, IsNotedList, IsNoted, IsNote, GoesOnFrom, IsHeld, Follows, GoesOn}
+use Rattle.csicodec_compact.specs.Private.Steps.{Begins, form_of, closing, is_semicolon, joint, behind, is_joined, may_join, opened, list_of, IsTail, IsListed, IsOwn, IsNotedList, IsNoted, IsNote, GoesOnFrom, IsHeld, Follows, GoesOn}
 use Rattle.csicodec_compact.proofs.JoinedLists.{tail_joined, tail_decodes, joint_short}
+
+-- ---- bytes in front of others
+
+pub begins_one : (bytes wide : List ℕ) → Begins bytes wide → Begins (drop 1 bytes) (drop 1 wide)
+begins_one [] wide h = (drop 1 wide, refl)
+begins_one (b ∷ bytes) wide h = (h.0, ap (λ (l : List ℕ). drop 1 l) h.1)
+
+pub begins_two : (bytes wide : List ℕ) → 2 ≤ length bytes → Begins bytes wide → Begins (drop 2 bytes) (drop 2 wide)
+begins_two bytes wide long h = (h.0, ap (λ (l : List ℕ). drop 2 l) h.1 ∙ drop-append-le 2 bytes h.0 long)
+
+pub short_front : (bytes wide front : List ℕ) → Begins bytes wide → front ≡ take 32 wide → length bytes ≤ 32 → take (length bytes) front ≡ bytes
+short_front bytes wide front h is short =
+    ap (λ (l : List ℕ). take (length bytes) l) is ∙ take-take (length bytes) 32 wide short ∙ ap (λ (l : List ℕ). take (length bytes) l) h.1 ∙ take-append_seam bytes h.0
 
 -- ---- runs
 
@@ -302,6 +315,16 @@ follows_plain run parts k bytes held form h ne span = record {
   whole = sym (append-nil (run ++ parts));
   written = shortened_on run parts (held ++ closing form) bytes (closed run held form h) (shortened_span k bytes parts ne span);
   still = none_held;
+}
+
+-- the same where the span is held too
+pub follows_held : (run parts : List Part) (k : Kind) (bytes held : List ℕ) (form : Form) → IsHeld run held form → k ≢ kind.Csi → IsSpan k bytes parts → Follows run parts [] ((held ++ closing form) ++ bytes) forms.Whole
+follows_held run parts k bytes held form h ne span = record {
+  done = [];
+  left = run ++ parts;
+  whole = refl;
+  written = shortened_none;
+  still = held_whole (run ++ parts) ((held ++ closing form) ++ bytes) (shortened_on run parts (held ++ closing form) bytes (closed run held form h) (shortened_span k bytes parts ne span));
 }
 
 -- ---- a piece of a stream

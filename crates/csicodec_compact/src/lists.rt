@@ -12,7 +12,7 @@ use crate::encode::NUMBERS;
 use crate::form::Form;
 use csicodec_base::{CsiParam, ReadError, read_csi_into};
 use csicodec_parser::CSI;
-use csicodec_streams::parse_all;
+use csicodec_streams::parse_into;
 use std::alloc::{AllocError, Global};
 
 /// Whether a token is neither a number nor `;`.
@@ -91,19 +91,37 @@ fn without_end<'a>(text: &'a [u8], end: &[u8]) -> Option<&'a [u8]>
     if back == end { Some(front) } else { None }
 }
 
-/// Reads texts of sequences, to see which are lists of attributes. Its buffer is kept from call to call.
+/// Whether all actions of a list are attributes. `actions` is a buffer.
+fn are_styles(
+    alloc: Global,
+    params: &[CsiParam],
+    actions: &mut Vec<CSI>,
+) -> Result<bool, AllocError>
+    ensures { IfOk result (λ yes. yes ≡ true → (styles : List Sgr) × Actions params.now false 109 (map Style styles)) }
+{
+    actions.clear();
+    parse_into(alloc, params, false, 'm', actions)?;
+    if any_other(actions) {
+        return Ok(false);
+    }
+    Ok(true)
+}
+
+/// Reads texts of sequences, to see which are lists of attributes. Its buffers are kept from call to call.
 #[derive(Drop)]
 pub(crate) struct Lists {
     alloc: Global,
     params: Vec<CsiParam>,
+    actions: Vec<CSI>,
 }
 
 impl Lists {
-    /// With a buffer that takes no memory yet.
+    /// With buffers that take no memory yet.
     pub(crate) fn new(alloc: Global) -> Lists {
         Lists {
             alloc,
             params: Vec::new(alloc),
+            actions: Vec::new(alloc),
         }
     }
 
@@ -124,34 +142,19 @@ impl Lists {
         }
     }
 
-    /// Whether all actions of the list are attributes.
-    fn are_styles(&self) -> Result<bool, AllocError>
-        ensures { IfOk result (λ yes. yes ≡ true → (styles : List Sgr) × Actions self.now.params.items false 109 (map Style styles)) }
+    /// Whether the list that was read is of known attributes, and ends in a number.
+    fn is_unclosed(&mut self) -> Result<bool, AllocError>
+        ensures unclosed { IfOk result (λ yes. yes ≡ true → ¬ EndsInSemicolon self.new.params.items) }
+        ensures styles { IfOk result (λ yes. yes ≡ true → (styles : List Sgr) × Actions self.new.params.items false 109 (map Style styles)) }
+        ensures params { self.new.params.items ≡ self.old.params.items }
     {
-        let actions = parse_all(self.alloc, &self.params, false, 'm')?;
-        if any_other(&actions) {
-            return Ok(false);
-        }
-        Ok(true)
-    }
-
-    /// Whether a text is a sequence of attributes that are all known, and its list ends in a number.
-    fn opens(&mut self, text: &[u8]) -> Result<bool, AllocError>
-        ensures { IfOk result (λ yes. yes ≡ true → IsListed Form.Open text.now) }
-    {
-        if !self.is_list(text)? {
-            return Ok(false);
-        }
         if !is_open(&self.params) {
             return Ok(false);
         }
-        if !self.are_styles()? {
-            return Ok(false);
-        }
-        Ok(true)
+        are_styles(self.alloc, &self.params, &mut self.actions)
     }
 
-    /// The same behind which stands a 0.
+    /// Whether a text of a list that ends in `;0` is one of known attributes without that.
     fn is_blank(&mut self, text: &[u8]) -> Result<bool, AllocError>
         ensures { IfOk result (λ yes. yes ≡ true → IsListed Form.Blank text.now) }
     {
@@ -161,7 +164,10 @@ impl Lists {
         let mut other = Vec::new(self.alloc);
         other.extend_from_slice(front)?;
         other.push(b'm')?;
-        if !self.opens(&other)? {
+        if !self.is_list(&other)? {
+            return Ok(false);
+        }
+        if !self.is_unclosed()? {
             return Ok(false);
         }
         Ok(true)
@@ -180,13 +186,13 @@ impl Lists {
         if self.is_blank(text)? {
             return Ok(Form::Blank);
         }
-        if self.opens(text)? {
+        if !self.is_list(text)? {
+            return Ok(Form::Whole);
+        }
+        if self.is_unclosed()? {
             return Ok(Form::Open);
         }
-        if self.is_list(text)? {
-            return Ok(Form::Last);
-        }
-        Ok(Form::Whole)
+        Ok(Form::Last)
     }
 }
 

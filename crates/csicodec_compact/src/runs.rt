@@ -5,7 +5,7 @@ ghost use Rattle.csicodec_spans.specs.declared.table.Kind.{Kind};
 ghost use Rattle.csicodec_spans.specs.declared.table.Kind.TheVariants.{Csi as Sequence};
 ghost use Rattle.csicodec_spans.specs.Parts.{IsSpan, Part, part};
 ghost use Rattle.csicodec_streams.specs.Known.{AreKnown};
-ghost use Rattle.csicodec_compact.specs.Private.Steps.{Follows, IsHeld, IsNote, behind, closing, is_semicolon, joint, may_join, opened};
+ghost use Rattle.csicodec_compact.specs.Private.Steps.{Begins, Follows, IsHeld, IsNote, behind, closing, is_semicolon, joint, may_join, opened};
 
 use crate::compact::Compact;
 use crate::encode::NUMBERS;
@@ -52,6 +52,23 @@ fn may_join(held: Form, form: Form, text: &[u8]) -> bool
     }
 }
 
+/// How many bytes a text between two sequences has at most that is held with them, and from how many bytes on no more is held.
+const SHORT: usize = 48;
+
+const MOST: usize = 4096;
+
+/// Appends a text, with which `wide` begins: by one copy of a fixed length, if it is short.
+#[inline(always)]
+fn append_text(text: &[u8], wide: &[u8], out: &mut TextBuffer) -> Result<(), AllocError>
+    requires { Begins text.now wide.now }
+    ensures { OnOk result (out.new ≡ out.old ++ text.now) }
+{
+    match wide.first_chunk::<32>() {
+        Some(front) if text.len() <= 32 => out.push_front(front, text.len()),
+        _ => out.push_slice(text),
+    }
+}
+
 /// What is to be written for sequences that came: the last of them may be a list of attributes that goes on.
 #[derive(Drop)]
 pub(crate) struct Held {
@@ -88,9 +105,9 @@ impl Held {
         match self.form {
             Form::Whole => Ok(()),
             Form::Last => Ok(()),
-            Form::Open => self.text.push_slice(b"m"),
-            Form::Blank => self.text.push_slice(b"0m"),
-            Form::Bare => self.text.push_slice(b"m"),
+            Form::Open => self.text.push_front(b"m", 1),
+            Form::Blank => self.text.push_front(b"0m", 2),
+            Form::Bare => self.text.push_front(b"m", 1),
         }
     }
 
@@ -108,59 +125,80 @@ impl Held {
 
     /// Goes on with a text that stands by itself.
     #[inline(always)]
-    fn start(&mut self, form: Form, text: &[u8]) -> Result<(), AllocError>
+    fn start(&mut self, form: Form, text: &[u8], wide: &[u8]) -> Result<(), AllocError>
+        requires { Begins text.now wide.now }
         ensures text { OnOk result (self.new.text ≡ (self.old.text ++ closing self.old.form) ++ opened form text.now) }
         ensures form { OnOk result (self.new.form ≡ form) }
     {
         self.close()?;
         self.form = form;
         if form.is_joined() {
-            self.text.push_slice(b"\x1b[")?;
-            self.text.push_slice(behind_mark(text))?;
+            self.text.push_front(b"\x1b[", 2)?;
+            append_text(behind_mark(text), behind_mark(wide), &mut self.text)?;
             return Ok(());
         }
-        self.text.push_slice(text)?;
+        append_text(text, wide, &mut self.text)?;
         Ok(())
     }
 
     /// Goes on with a text in the same list. Behind a list that ends in `;` an empty one is written as 0.
     #[inline(always)]
-    fn join(&mut self, form: Form, text: &[u8]) -> Result<(), AllocError>
+    fn join(&mut self, form: Form, text: &[u8], wide: &[u8]) -> Result<(), AllocError>
+        requires { Begins text.now wide.now }
         ensures text { OnOk result (self.new.text ≡ self.old.text ++ joint self.old.form form text.now) }
         ensures form { OnOk result (self.new.form ≡ behind self.old.form form) }
     {
         if !form.is_bare() {
             self.form = form;
-            self.text.push_slice(text)?;
+            append_text(text, wide, &mut self.text)?;
             return Ok(());
         }
         if self.form.is_open() {
             self.form = Form::Blank;
-            self.text.push_slice(text)?;
+            append_text(text, wide, &mut self.text)?;
             return Ok(());
         }
         self.form = Form::Open;
-        self.text.push_slice(b";0")?;
+        self.text.push_front(b";0", 2)?;
         Ok(())
     }
 
-    /// Takes one control sequence, of which this is noted: it is joined to what is held, or stands behind it.
+    /// Takes one control sequence, of which this is noted: it is joined to what is held, or stands behind it. `wide` begins with
+    /// the note.
     #[inline(always)]
-    pub(crate) fn take(&mut self, note: &[u8]) -> Result<(), AllocError>
-        requires { 2 ≤ length note.now }
+    pub(crate) fn take(&mut self, note: &[u8], wide: &[u8]) -> Result<(), AllocError>
+        requires long { 2 ≤ length note.now }
+        requires wide { Begins note.now wide.now }
         ensures { OnOk result ((run : List Part) (bytes : List ℕ) → IsHeld run self.old.text self.old.form → IsNote bytes note.now
             → IsHeld (run ++ part Sequence bytes ∷ []) self.new.text self.new.form) }
     {
         let (marks, text) = note.split_at(2);
+        let (_, wide) = wide.split_at(2);
         let form = Form::of(marks[0]);
         let numbers = usize::from(marks[1]);
         if numbers <= self.room && may_join(self.form, form, text) {
             self.room -= numbers;
-            self.join(form, text)?;
+            self.join(form, text, wide)?;
             return Ok(());
         }
         self.room = NUMBERS.saturating_sub(numbers);
-        self.start(form, text)?;
+        self.start(form, text, wide)?;
+        Ok(())
+    }
+
+    /// Takes a span that is no control sequence: the run before it is over.
+    fn pass(&mut self, span: &[u8], out: &mut Vec<u8>) -> Result<(), AllocError>
+        ensures { OnOk result ((run parts : List Part) (kind : Kind) → IsHeld run self.old.text self.old.form → IsSpan kind span.now parts → kind ≢ Sequence
+            → (more : List ℕ) × (out.new.items ≡ out.old.items ++ more) × Follows run parts more self.new.text self.new.form) }
+    {
+        if span.len() > SHORT || self.text.as_slice().len() > MOST {
+            self.flush(out)?;
+            out.extend_from_slice(span)?;
+            return Ok(());
+        }
+        self.close()?;
+        self.form = Form::Whole;
+        self.text.push_slice(span)?;
         Ok(())
     }
 }
@@ -198,7 +236,7 @@ impl Runs {
         ensures known { OnOk result (AreKnown IsNote known.new.memo.slots.items) }
     {
         self.notes.find(span, params, control)?;
-        self.held.take(self.notes.note())?;
+        self.held.take(self.notes.note(), self.notes.note())?;
         known.keep(bytes, span.len(), self.notes.note());
         Ok(())
     }
@@ -224,10 +262,7 @@ impl Runs {
     {
         match control {
             Some(control) => self.take_sequence(known, bytes, span, params, control),
-            None => {
-                self.held.flush(out)?;
-                out.extend_from_slice(span)
-            }
+            None => self.held.pass(span, out),
         }
     }
 }

@@ -42,7 +42,7 @@ fn append_short(
         let Cutter { mode, rest } = cutter;
         let len = known.look(limit, rest);
         if len > 0 {
-            runs.held.take(known.noted())?;
+            runs.held.take(known.noted(), known.wide())?;
             cutter.rest = rest.split_at(len).1;
             cutter.mode = Mode::Text;
             continue;

@@ -2,15 +2,14 @@
 ghost use Rattle.std.specs.Prelude.{◌≡◌, ◌++◌, ◌<◌, ◌≤◌, ℕ, List, true, length, take, IfOk};
 ghost use Rattle.csicodec_streams.specs.Known.{AreKnown, IsNormal};
 
-use csicodec_base::TextBuffer;
-use csicodec_streams::{Memo, Normal, Note};
+use csicodec_streams::{Memo, Normal, Note, Noted, WIDE};
 use std::alloc::{AllocError, Global};
 
 /// A table of control sequences that came before, and where the last one that was looked for would be.
 #[derive(Drop)]
 pub struct Known<N> {
     memo: Memo<N>,
-    text: TextBuffer,
+    note: Noted,
     place: usize,
 }
 
@@ -21,7 +20,7 @@ impl<N: Note> Known<N> {
     {
         Known {
             memo: Memo::new(alloc),
-            text: TextBuffer::new(alloc),
+            note: Noted::none(),
             place: usize::MAX,
         }
     }
@@ -31,7 +30,7 @@ impl<N: Note> Known<N> {
     #[inline(always)]
     pub fn look(&mut self, limit: usize, bytes: &[u8]) -> usize
         requires { AreKnown N.notes self.old.memo.slots.items }
-        ensures noted { 0 < result → N.notes (take result bytes.now) self.new.text }
+        ensures noted { 0 < result → N.notes (take result bytes.now) self.new.note }
         ensures short { 0 < result → (result ≤ limit) × (result ≤ length bytes.now) }
         ensures known { AreKnown N.notes self.new.memo.slots.items }
     {
@@ -40,17 +39,46 @@ impl<N: Note> Known<N> {
             return 0;
         }
         let front = near(limit, bytes);
-        self.text.clear();
+        if front.len() < WIDE {
+            return self.look_at_end(front);
+        }
         self.place = self.memo.place(front);
-        self.memo.recall(self.place, front, &mut self.text)
+        self.memo.find(self.place, front, &mut self.note)
+    }
+
+    /// The same of so few bytes that no place is told for them: with others behind.
+    #[inline(never)]
+    fn look_at_end(&mut self, bytes: &[u8]) -> usize
+        requires few { length bytes.now < 48 }
+        requires known { AreKnown N.notes self.old.memo.slots.items }
+        ensures noted { 0 < result → N.notes (take result bytes.now) self.new.note }
+        ensures short { result ≤ length bytes.now }
+        ensures known { AreKnown N.notes self.new.memo.slots.items }
+    {
+        let mut wide = [0; WIDE];
+        wide[..bytes.len()].copy_from_slice(bytes);
+        let place = self.memo.place(&wide);
+        let len = self.memo.find(place, &wide, &mut self.note);
+        if len > bytes.len() {
+            return 0;
+        }
+        len
     }
 
     /// What is noted of the sequence that was found last.
     #[inline(always)]
     pub fn noted(&self) -> &[u8]
-        ensures { result.now ≡ self.now.text }
+        ensures { result.now ≡ self.now.note }
     {
-        self.text.as_slice()
+        self.note.as_slice()
+    }
+
+    /// The same, and what stands behind it in its place: a length that is always the same.
+    #[inline(always)]
+    pub fn wide(&self) -> &[u8]
+        ensures { (more : List ℕ) × (result.now ≡ self.now.note ++ more) }
+    {
+        self.note.wide()
     }
 
     /// Keeps the control sequence in front, which was looked for, and its note.

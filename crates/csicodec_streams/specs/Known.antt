@@ -1,5 +1,5 @@
 -- What a table of sequences that came before holds.
-use Rattle.std.specs.Prelude.{ℕ, ◌<◌, ◌≤◌, List, take}
+use Rattle.std.specs.Prelude.{ℕ, ◌≡◌, ◌<◌, ◌≤◌, List, Some, length, slice_get, take}
 use Rattle.std.specs.List.{All}
 use Rattle.csicodec_tokens.specs.declared.param.CsiParam.{CsiParam}
 use Rattle.csicodec_tokens.specs.Sequence.{Seq}
@@ -21,3 +21,7 @@ IsKnown Notes s = (s.len ≤ 48) × (s.text_len ≤ 48) × (0 < s.len → Notes 
 -- each slot does
 abbrev pub AreKnown : (List ℕ → List ℕ → Type 0) → List Slot → Type 0
 AreKnown Notes slots = All (IsKnown Notes) slots
+
+-- one of the slots has the sequence in front, and what is noted of it
+abbrev pub StandsAt : (List ℕ → List ℕ → Type 0) → List ℕ → List Slot → ℕ → Type 0
+StandsAt Notes bytes slots at = (s : Slot) × (slice_get slots at ≡ Some s) × (0 < s.len) × (s.len ≤ length bytes) × (s.text_len ≤ 48) × Notes (take s.len bytes) (take s.text_len s.text)

@@ -12,6 +12,6 @@ mod texts;
 pub use decode::{decode_all, normal_form, parse_all, parse_all_over, parse_into};
 pub use error::{DecodeError, RunError};
 pub use io::{CHUNK, keep_from, receive, send};
-pub use memo::{Memo, Normal, Note};
+pub use memo::{Memo, Normal, Note, Noted, WIDE};
 pub use stream::normalise;
 pub use texts::{encode, encode_all};

@@ -1,14 +1,14 @@
 //! Short sequences that came before, and what was noted of them: one that comes again is looked up, and not read again.
-ghost use Rattle.std.specs.Prelude.{◌≡◌, ◌+◌, ◌<◌, ◌≤◌, ◌++◌, ℕ, List, length, take};
-ghost use Rattle.csicodec_streams.specs.Known.{AreKnown};
+ghost use Rattle.std.specs.Prelude.{◌≡◌, ◌+◌, ◌<◌, ◌≤◌, ◌++◌, ℕ, List, [], length, take, true, IfSome};
+ghost use Rattle.csicodec_streams.specs.Known.{AreKnown, StandsAt};
 
 use csicodec_base::TextBuffer;
 use std::alloc::Global;
-use std::marker::PhantomData;
+use std::marker::{Model, PhantomData};
 use std::simd::prelude::*;
 
-/// How many bytes a slot has for a sequence, and how many for its note.
-const WIDE: usize = 48;
+/// How many bytes a slot has for a sequence, and how many for its note. Of fewer bytes no place is told.
+pub const WIDE: usize = 48;
 
 /// How many new sequences come before a table is made.
 const FIRST: usize = 16;
@@ -19,7 +19,7 @@ const FEWEST: usize = 64;
 const MOST: usize = 4096;
 
 /// After so many new sequences in a row, only each `STEP`th is looked for.
-const PATIENCE: u32 = 32;
+const PATIENCE: u32 = 1024;
 
 const STEP: u32 = 16;
 
@@ -54,11 +54,56 @@ pub(crate) struct Slot {
     text_len: u8,
 }
 
+/// The note of a sequence that was found.
+#[derive(Drop)]
+pub struct Noted {
+    text: [u8; 48],
+    len: usize,
+}
+
+impl Model for Noted {
+    ghost use Rattle.std.specs.Prelude.{ℕ, List, take, ◌≤◌};
+
+    ghost Value = { List ℕ };
+
+    ghost view = { λ noted. take noted.len noted.text };
+
+    ghost invariant = { λ noted. noted.len ≤ 48 };
+}
+
+impl Noted {
+    /// No bytes.
+    pub fn none() -> Noted
+        ensures { result ≡ [] }
+    {
+        Noted {
+            text: [0; WIDE],
+            len: 0,
+        }
+    }
+
+    /// The bytes of the note.
+    #[inline(always)]
+    pub fn as_slice(&self) -> &[u8]
+        ensures value { result.now ≡ self.now }
+    {
+        &self.text[..self.len]
+    }
+
+    /// The same, and what stands behind them in their place.
+    #[inline(always)]
+    pub fn wide(&self) -> &[u8]
+        ensures { (more : List ℕ) × (result.now ≡ self.now ++ more) }
+    {
+        &self.text
+    }
+}
+
 /// A table of control sequences that came before, each with its note. It takes no memory at first, and grows while much of what
-/// comes is new; without memory it stays as it is. Each sequence may stand in one of two slots, which are neighbours.
+/// comes is new; without memory it stays as it is. Each sequence may stand in one of four slots, which are neighbours.
 ///
 /// A caller asks for the [`place`](Memo::place) of what stands in front, then whether it is known there
-/// ([`recall`](Memo::recall)), and if not, tells its note once that was found ([`keep`](Memo::keep)).
+/// ([`recall`](Memo::recall), [`find`](Memo::find)), and if not, tells its note once that was found ([`keep`](Memo::keep)).
 #[derive(Drop)]
 pub struct Memo<N> {
     slots: Vec<Slot>,
@@ -113,24 +158,53 @@ impl<N: Note> Memo<N> {
         ensures none { result ≡ 0 → out.new ≡ out.old }
         ensures known { AreKnown N.notes self.new.slots.items }
     {
-        let first = self.told(place, bytes, out);
-        if first > 0 {
-            self.hit(place);
-            return first;
+        let Some(at) = self.known(place, bytes) else {
+            return 0;
+        };
+        let slot = &self.slots[at];
+        match out.push_front(&slot.text, usize::from(slot.text_len)) {
+            Ok(()) => usize::from(slot.len),
+            Err(_) => 0,
         }
-        let second = self.told(place ^ 1, bytes, out);
-        if second > 0 {
-            self.hit(place ^ 1);
-            return second;
+    }
+
+    /// The same, and the note is put into a place of its own.
+    #[inline(always)]
+    pub fn find(&mut self, place: usize, bytes: &[u8], out: &mut Noted) -> usize
+        requires { AreKnown N.notes self.old.slots.items }
+        ensures within { result ≤ length bytes.now }
+        ensures noted { 0 < result → N.notes (take result bytes.now) out.new }
+        ensures known { AreKnown N.notes self.new.slots.items }
+    {
+        let Some(at) = self.known(place, bytes) else {
+            return 0;
+        };
+        let slot = &self.slots[at];
+        *out = Noted {
+            text: slot.text,
+            len: usize::from(slot.text_len),
+        };
+        usize::from(slot.len)
+    }
+
+    /// Where the sequence in front stands, which came again.
+    #[inline(always)]
+    fn known(&mut self, place: usize, bytes: &[u8]) -> Option<usize>
+        requires { AreKnown N.notes self.old.slots.items }
+        ensures found { IfSome result (λ at. StandsAt N.notes bytes.now self.new.slots.items at) }
+        ensures known { AreKnown N.notes self.new.slots.items }
+    {
+        let found = self.place_of(place, bytes);
+        if let Some(at) = found {
+            self.hit(at);
         }
-        second
+        found
     }
 
     /// Notes that a sequence came again.
     #[inline(always)]
     fn hit(&mut self, place: usize)
-        requires { AreKnown N.notes self.old.slots.items }
-        ensures { AreKnown N.notes self.new.slots.items }
+        ensures { self.new.slots.items ≡ self.old.slots.items }
     {
         self.missed /= 2;
         if let Some(worth) = self.worth.get_mut(place) {
@@ -138,26 +212,51 @@ impl<N: Note> Memo<N> {
         }
     }
 
-    /// The same of one slot.
+    /// Where the sequence in front stands, if it is known.
     #[inline(always)]
-    fn told(&self, place: usize, bytes: &[u8], out: &mut TextBuffer) -> usize
-        requires known { AreKnown N.notes self.now.slots.items }
-        ensures within { result ≤ length bytes.now }
-        ensures noted { 0 < result → (text : List ℕ) × N.notes (take result bytes.now) text × (out.new ≡ out.old ++ text) }
-        ensures none { result ≡ 0 → out.new ≡ out.old }
+    fn place_of(&self, place: usize, bytes: &[u8]) -> Option<usize>
+        requires { AreKnown N.notes self.now.slots.items }
+        ensures { IfSome result (λ at. StandsAt N.notes bytes.now self.now.slots.items at) }
+    {
+        if self.has(place, bytes) {
+            return Some(place);
+        }
+        if self.has(place ^ 1, bytes) {
+            return Some(place ^ 1);
+        }
+        self.further(place ^ 2, bytes)
+    }
+
+    /// The same of two further slots.
+    #[inline(never)]
+    fn further(&self, place: usize, bytes: &[u8]) -> Option<usize>
+        requires { AreKnown N.notes self.now.slots.items }
+        ensures { IfSome result (λ at. StandsAt N.notes bytes.now self.now.slots.items at) }
+    {
+        if self.has(place, bytes) {
+            return Some(place);
+        }
+        if self.has(place ^ 1, bytes) {
+            return Some(place ^ 1);
+        }
+        None
+    }
+
+    /// Whether the sequence in front stands in this slot.
+    #[inline(always)]
+    fn has(&self, place: usize, bytes: &[u8]) -> bool
+        requires { AreKnown N.notes self.now.slots.items }
+        ensures { result ≡ true → StandsAt N.notes bytes.now self.now.slots.items place }
     {
         if place >= self.slots.len() || bytes.len() < WIDE {
-            return 0;
+            return false;
         }
         let slot = &self.slots[place];
         let len = usize::from(slot.len);
         if len == 0 || same_front(bytes, &slot.bytes, len) < len {
-            return 0;
+            return false;
         }
-        match out.push_front(&slot.text, usize::from(slot.text_len)) {
-            Ok(()) => len,
-            Err(_) => 0,
-        }
+        true
     }
 
     /// Keeps the sequence in front, of so many bytes, and its note, unless one of them is long, or it was not looked for.
@@ -172,21 +271,21 @@ impl<N: Note> Memo<N> {
         }
     }
 
-    /// Keeps them where one of the two slots is free.
+    /// Keeps them where one of the four slots is free.
     #[inline(never)]
     fn put(&mut self, place: usize, bytes: &[u8], len: usize, text: &[u8])
         requires known { AreKnown N.notes self.old.slots.items }
         requires noted { N.notes (take len bytes.now) text.now }
         ensures { AreKnown N.notes self.new.slots.items }
     {
+        let Some(front) = bytes.first_chunk::<WIDE>() else {
+            return;
+        };
         if self.spare == 0 {
             return self.grow();
         }
         self.miss();
         let own = self.free(place);
-        let Some(front) = bytes.first_chunk::<WIDE>() else {
-            return;
-        };
         if own < self.slots.len() && len <= WIDE && text.len() <= WIDE {
             let mut wide = [0; WIDE];
             wide[..text.len()].copy_from_slice(text);
@@ -212,7 +311,7 @@ impl<N: Note> Memo<N> {
         }
     }
 
-    /// The one of two slots that another sequence has from now on. Beyond the table where both are worth more.
+    /// The one of four slots that another sequence has from now on. Beyond the table where all are worth more.
     fn free(&mut self, place: usize) -> usize
         requires { AreKnown N.notes self.old.slots.items }
         ensures { AreKnown N.notes self.new.slots.items }
@@ -222,6 +321,12 @@ impl<N: Note> Memo<N> {
         }
         if self.is_free(place ^ 1) {
             return place ^ 1;
+        }
+        if self.is_free(place ^ 2) {
+            return place ^ 2;
+        }
+        if self.is_free(place ^ 3) {
+            return place ^ 3;
         }
         usize::MAX
     }

@@ -47,6 +47,10 @@ abbrev pub is_semicolon : Option ℕ → Bool
 is_semicolon None = false
 is_semicolon (Some b) = b == 59
 
+-- the bytes stand in front of some
+abbrev pub Begins : List ℕ → List ℕ → Type 0
+Begins bytes wide = (more : List ℕ) × (wide ≡ bytes ++ more)
+
 -- ---- forms
 
 abbrev pub form_of : ℕ → Form

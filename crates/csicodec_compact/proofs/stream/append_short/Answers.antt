@@ -14,10 +14,13 @@ loop-mode-init c = record {
 pub split_at-requires : goal.split_at-requires
 split_at-requires c = (c.look-len.ensures.short c.if-len-gt0.true).1
 
-pub take-requires : goal.take-requires
-take-requires c =
+pub take-requires-clause-long : goal.take-requires-clause-long
+take-requires-clause-long c =
     let note = c.look-len.ensures.noted c.if-len-gt0.true in
     note_long (take c.look-len.result c.loop-mode.cutter.rest.now) c.noted.result.now (rw (← c.noted.ensures) at note)
+
+pub take-requires-clause-wide : goal.take-requires-clause-wide
+take-requires-clause-wide c = rw c.noted.ensures c.wide.ensures
 
 pub loop-mode-preserved-then-len-gt0 : goal.loop-mode-preserved-then-len-gt0
 loop-mode-preserved-then-len-gt0 c =

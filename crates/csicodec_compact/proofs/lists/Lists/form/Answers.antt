@@ -1,7 +1,16 @@
-use Rattle.csicodec_compact.proofs.JoinedLists.{last_listed}
+use Rattle.std.proofs.Common.{rules, true, ◌≡◌}
+use Rattle.csicodec_compact.proofs.JoinedLists.{last_listed, open_listed}
 use Rattle.csicodec_compact.proofs.lists.Lists.form.Goals as goal
 
-pub returns-then-branch-3 : goal.returns-then-branch-3
-returns-then-branch-3 c =
-    let (seq, plain) = c.in_ok-is_list.ensures c.if-branch-3.true in
+pub returns-then-branch-2 : goal.returns-then-branch-2
+returns-then-branch-2 c =
+    let listed : c.in_ok-is_list.field-0 ≡ true = search rules in
+    let (seq, plain) = c.in_ok-is_list.ensures listed in
+    let (styles, means) = c.in_ok-is_unclosed.ensures.styles c.if-branch-2.true in
+    open_listed c.args.text.now _ styles seq plain (rw c.is_unclosed.ensures.params at (c.in_ok-is_unclosed.ensures.unclosed c.if-branch-2.true)) (rw c.is_unclosed.ensures.params at means)
+
+pub returns : goal.returns
+returns c =
+    let listed : c.in_ok-is_list.field-0 ≡ true = search rules in
+    let (seq, plain) = c.in_ok-is_list.ensures listed in
     last_listed c.args.text.now _ seq plain

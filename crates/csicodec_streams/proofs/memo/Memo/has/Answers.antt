@@ -1,0 +1,22 @@
+use Rattle.std.proofs.Common.{◌<◌, ◌≤◌, length, refl, subst, sym, take, arith}
+use Rattle.std.proofs.lemmas.List.Elements.{All-get_or}
+use Rattle.std.proofs.lemmas.Option.{slice_get_read}
+use Rattle.csicodec_streams.specs.Known.{IsKnown}
+use Rattle.csicodec_streams.proofs.Known.{same_noted}
+use Rattle.csicodec_streams.proofs.memo.Memo.has.Goals as goal
+
+pub returns : goal.returns
+returns g c = λ yes.
+    let slot = c.index-slot.result.now in
+    let items = c.args.self.now.slots.items in
+    let within : c.args.place < length items = omega (arith, c.if-place-len.false, c.len.ensures) in
+    let known : IsKnown g.N.Note.notes slot = subst (IsKnown g.N.Note.notes) (sym c.index-slot.ensures) (All-get_or (IsKnown g.N.Note.notes) items c.args.place slot within c.requires) in
+    let some : 0 < slot.len = omega (arith, c.if-len-eq0.false, c.from-len.ensures) in
+    let same : slot.len ≤ c.same_front.result = omega (arith, c.if-same_front-len.false, c.from-len.ensures) in (
+      slot,
+      slice_get_read items (length items) c.args.place slot refl within c.index-slot.ensures,
+      some,
+      omega (arith, known.0, c.if-bytes-lt-WIDE.false),
+      known.1,
+      same_noted g.N.Note.notes c.args.bytes.now slot.bytes (take slot.text_len slot.text) slot.len c.same_front.result same c.same_front.ensures (known.2 some),
+    )

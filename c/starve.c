@@ -67,8 +67,7 @@ static uint32_t filter(const uint8_t *text, size_t len) {
     return csicodec_filter(CSICODEC_FILTER_TEXT, 64, text, len, out, sizeof out).status;
 }
 
-/* How many allocations a call makes. csicodec_next: none but for a terminal's extensions, a window or graphics, of up to 32
- * tokens; csicodec_normalise and csicodec_encode: none for one short sequence with one action that has no tokens. */
+/* How many allocations a call makes. csicodec_next: none for up to 32 tokens; csicodec_normalise and csicodec_encode: none for one short sequence with one action that has no tokens. */
 static const struct {
     uint32_t (*call)(const uint8_t *, size_t);
     const char *text;
@@ -86,8 +85,11 @@ static const struct {
              {next, "\x1b[?1;99999h", 0},
              {next, "\x1b[?62;2;7c", 0},
              {next, "\x1b[?64;1;2;6;9;15;16;17;18;21;22;28c", 0},
-             {next, "\x1b[8;24;80t", 1},
-             {next, "\x1b[?1;0;256S", 2},
+             {next, "\x1b[8;24;80t", 0},
+             {next, "\x1b[8;24:80t", 0},
+             {next, "\x1b[1;2;3;4;5;6*y", 0},
+             {next, "\x1b[?1;0;256S", 0},
+             {next, "\x1b[?2;1;;S", 0},
              {normalise, "\x1b[1m", 0},
              {normalise, "\x1b[005;7H", 0},
              {normalise, "\x1b[?2004h", 0},

@@ -1,38 +1,113 @@
 -- What the code finds in the fields of a list.
-use Rattle.std.proofs.Common.{◌≡◌, ◌<◌, ◌≤◌, ◌+◌, ℕ, zero, suc, List, append_assoc, [], ◌∷◌, ◌++◌, inl, inr, drop, length, Option, None, Some, refl, sym, ap, ◌∙◌, arith, get_or, Bor, false}
-use Rattle.std.proofs.lemmas.Bool.{cases_Bool, le-ltb, lt-ltb}
-use Rattle.std.specs.Prelude.{ℤ, ◌==◌, if◌then◌else◌, nat_lt, IsNone, IfSome, Result, Ok}
+use Rattle.std.proofs.Common.{◌≡◌, ◌-◌, ◌<◌, ◌≤◌, length, ℕ, zero, suc, List, [], ◌∷◌, ◌++◌, inl, inr, drop, Option, None, Some, refl, sym, ap, ◌∙◌, Bor, false, true, arith}
+use Rattle.std.proofs.lemmas.Bool.{cases_Bool}
+use Rattle.std.specs.Prelude.{ℤ, ◌==◌, ◌&&◌, Bool, if◌then◌else◌, IsNone, IsSome, IfSome, Result, Ok, is_some, unwrap_or}
 use Rattle.std.specs.Bool.{then_some}
+use Rattle.std.specs.List.{list_all}
 use Rattle.std.specs.Option.{ok_or, option_copied, option_map}
 use Rattle.std.specs.Result.{result_ok}
-use Rattle.std.proofs.lemmas.List.{length-append}
 use Rattle.std.proofs.lemmas.Option.{same_Some}
 use Rattle.csicodec_tokens.specs.declared.param.CsiParam.{CsiParam}
 use Rattle.csicodec_tokens.specs.declared.param.CsiParam.TheVariants.{Integer, P}
-use Rattle.csicodec_tokens.specs.declared.refusal.ParseRefusal.TheVariants.{Memory, NotSpelled}
-use Rattle.csicodec_tokens.specs.Fields.{RefusesFields, fields_of}
+use Rattle.csicodec_tokens.specs.Fields.{fields_of, with_field}
 use Rattle.csicodec_tokens.specs.OneBased.{number_or}
-use Rattle.csicodec_tokens.proofs.FieldsOf.{computed-fields, fields-computed}
-use Rattle.csicodec_actions.specs.FieldRows.{HasFields, ahead_of_byte, field, has_field, numbers, value_or}
+use Rattle.csicodec_actions.specs.FieldRows.{ahead_of_byte, behind, field, first, has_field, is_there, numbers, value_or}
 use Rattle.csicodec_actions.specs.Kinds.{Count, read}
+use Rattle.csicodec_actions.specs.Lent.{integers}
+use Rattle.csicodec_actions.specs.Private.FieldsBy.{fields_there, is_field_token}
 
-pub field_at : (fs : List (Option ℤ)) (i : ℕ) → get_or fs i None ≡ field fs i
-field_at [] zero = refl
-field_at [] (suc i) = field_at [] i
-field_at (f ∷ fs) zero = refl
-field_at (f ∷ fs) (suc i) = field_at fs i
+-- ---- a list that has fields
 
-none-there : (i : ℕ) → has_field [] i ≡ false
-none-there zero = refl
-none-there (suc i) = none-there i
+some-with : (x : Option ℤ) (o : Option (List (Option ℤ))) → is_some o ≡ is_some (with_field x o)
+some-with x None = refl
+some-with x (Some f) = refl
 
-suc-lt : (i n : ℕ) → nat_lt (suc i) (suc n) ≡ nat_lt i n
-suc-lt i n = grind arith
+some-guarded : (s : Bool) (x : Option ℤ) (all : Bool) (o : Option (List (Option ℤ))) → all ≡ is_some o → (s && all) ≡ is_some (if s then with_field x o else None)
+some-guarded true x all o e = e ∙ some-with x o
+some-guarded false x all o e = refl
 
-pub there_at : (fs : List (Option ℤ)) (i : ℕ) → nat_lt i (length fs) ≡ has_field fs i
-there_at [] i = le-ltb i 0 (omega arith) ∙ sym (none-there i)
-there_at (f ∷ fs) zero = lt-ltb 0 (suc (length fs)) (omega arith)
-there_at (f ∷ fs) (suc i) = suc-lt i (length fs) ∙ there_at fs i
+-- no byte but `;` stands in it
+pub field-tokens : (list : List CsiParam) → list_all is_field_token list ≡ is_some (fields_of list)
+field-tokens [] = refl
+field-tokens (P b ∷ list) = some-guarded (b == 59) None (list_all is_field_token list) (fields_of list) (field-tokens list)
+field-tokens (Integer z ∷ []) = refl
+field-tokens (Integer z ∷ P b ∷ list) = some-guarded (b == 59) (Some z) (list_all is_field_token list) (fields_of list) (field-tokens list)
+field-tokens (Integer z ∷ Integer y ∷ list) = field-tokens (Integer y ∷ list) ∙ some-with (Some z) (fields_of (Integer y ∷ list))
+
+pub there-are : (o : Option (List (Option ℤ))) → is_some o ≡ true → Some (unwrap_or o []) ≡ o
+there-are None h = cc
+there-are (Some f) h = refl
+
+pub there-none : (o : Option (List (Option ℤ))) → is_some o ≡ false → None ≡ o
+there-none None h = refl
+there-none (Some f) h = cc
+
+-- what stands behind the first field has the fields behind it
+pub record IsBehind (list others : List CsiParam) : Type 0 where
+  pub kept : IsSome (fields_of others)
+  pub fields : fields_there others ≡ behind (fields_there list)
+
+behind-guarded : (s : Bool) (x : Option ℤ) (o : Option (List (Option ℤ))) → IsSome (if s then with_field x o else None)
+    → IsSome o × (unwrap_or o [] ≡ behind (unwrap_or (if s then with_field x o else None) []))
+behind-guarded true x None h = cc
+behind-guarded true x (Some f) h = (refl, refl)
+behind-guarded false x o h = cc
+
+pub behind-empty : (b : ℕ) (list : List CsiParam) → IsSome (fields_of (P b ∷ list)) → IsBehind (P b ∷ list) list
+behind-empty b list h = let r = behind-guarded (b == 59) None (fields_of list) h in record { kept = r.0; fields = r.1 }
+
+pub behind-closed : (z : ℤ) (b : ℕ) (list : List CsiParam) → IsSome (fields_of (Integer z ∷ P b ∷ list)) → IsBehind (Integer z ∷ P b ∷ list) list
+behind-closed z b list h = let r = behind-guarded (b == 59) (Some z) (fields_of list) h in record { kept = r.0; fields = r.1 }
+
+pub behind-alone : (z : ℤ) (list : List CsiParam) → ((b : ℕ) (others : List CsiParam) → list ≡ P b ∷ others → ⊥) → IsSome (fields_of (Integer z ∷ list)) → IsBehind (Integer z ∷ list) list
+behind-alone z [] other h = record { kept = refl; fields = refl }
+behind-alone z (P b ∷ list) other h = absurd (other b list refl)
+behind-alone z (Integer y ∷ list) other h = let r = behind-guarded true (Some z) (fields_of (Integer y ∷ list)) h in record { kept = r.0; fields = r.1 }
+
+-- ---- a field by its place
+
+drop-none : (n : ℕ) → drop {A = Option ℤ} n [] ≡ []
+drop-none zero = refl
+drop-none (suc n) = refl
+
+pub drop-behind : (fs gs : List (Option ℤ)) (n : ℕ) → gs ≡ behind fs → 0 < n → drop (n - 1) gs ≡ drop n fs
+drop-behind fs gs zero e h = absurd (omega (arith, h))
+drop-behind [] gs (suc n) e h = let one : suc n - 1 ≡ n = omega arith in rw (one, e) (drop-none n)
+drop-behind (f ∷ fs) gs (suc n) e h = let one : suc n - 1 ≡ n = omega arith in rw (one, e) refl
+
+pub field-from : (fs : List (Option ℤ)) (i : ℕ) → first (drop i fs) ≡ field fs i
+field-from fs zero = refl
+field-from [] (suc i) = ap first (sym (drop-none i)) ∙ field-from [] i
+field-from (f ∷ fs) (suc i) = field-from fs i
+
+pub there-from : (fs : List (Option ℤ)) (i : ℕ) → is_there (drop i fs) ≡ has_field fs i
+there-from fs zero = refl
+there-from [] (suc i) = ap is_there (sym (drop-none i)) ∙ there-from [] i
+there-from (f ∷ fs) (suc i) = there-from fs i
+
+first-guarded : (s : Bool) (x : Option ℤ) (o : Option (List (Option ℤ))) → IsSome (if s then with_field x o else None) → x ≡ first (unwrap_or (if s then with_field x o else None) [])
+first-guarded true x None h = cc
+first-guarded true x (Some f) h = refl
+first-guarded false x o h = cc
+
+pub first-number : (z : ℤ) (list : List CsiParam) → IsSome (fields_of (Integer z ∷ list)) → Some z ≡ first (fields_there (Integer z ∷ list))
+first-number z [] h = refl
+first-number z (P b ∷ list) h = first-guarded (b == 59) (Some z) (fields_of list) h
+first-number z (Integer y ∷ list) h = first-guarded true (Some z) (fields_of (Integer y ∷ list)) h
+
+pub first-empty : (b : ℕ) (list : List CsiParam) → IsSome (fields_of (P b ∷ list)) → None ≡ first (fields_there (P b ∷ list))
+first-empty b list h = first-guarded (b == 59) None (fields_of list) h
+
+there-guarded : (s : Bool) (x : Option ℤ) (o : Option (List (Option ℤ))) → IsSome (if s then with_field x o else None) → true ≡ is_there (unwrap_or (if s then with_field x o else None) [])
+there-guarded true x None h = cc
+there-guarded true x (Some f) h = refl
+there-guarded false x o h = cc
+
+pub there-more : (t : CsiParam) (list : List CsiParam) → IsSome (fields_of (t ∷ list)) → true ≡ is_there (fields_there (t ∷ list))
+there-more (P b) list h = there-guarded (b == 59) None (fields_of list) h
+there-more (Integer z) [] h = refl
+there-more (Integer z) (P b ∷ list) h = there-guarded (b == 59) (Some z) (fields_of list) h
+there-more (Integer z) (Integer y ∷ list) h = there-guarded true (Some z) (fields_of (Integer y ∷ list)) h
 
 ok-of : {T E : Type 0} (o : Option T) (e : E) → result_ok (ok_or o e) ≡ o
 ok-of None e = refl
@@ -46,56 +121,35 @@ place-read None (Some z) r e same none some = cc
 place-read (Some t) None r e same none some = cc
 place-read (Some t) (Some z) r e same none some = let is : t.now ≡ Integer z = same_Some _ _ same in rw (some, is) (ok-of (number_or 1 (Integer z)) e)
 
-pub no-fields : (list : List CsiParam) → RefusesFields list NotSpelled → None ≡ fields_of list
-no-fields list refused = go (fields_of list) refl
-  where
-    go : (o : Option (List (Option ℤ))) → fields_of list ≡ o → None ≡ fields_of list
-    go None e = sym e
-    go (Some f) e = absurd (refused f (computed-fields list f e))
+-- a field is there exactly where tokens are left
+pub none-left : (list : List CsiParam) (fs : List (Option ℤ)) (i : ℕ) → length list < 1 → fields_there list ≡ drop i fs → false ≡ has_field fs i
+none-left [] fs i low e = ap is_there e ∙ there-from fs i
+none-left (t ∷ list) fs i low e = absurd (omega (arith, low))
 
-pub some-fields : (list : List CsiParam) → RefusesFields list Memory → HasFields list
-some-fields list r = rw (fields-computed r.0 list r.1) r.2
+pub some-left : (list : List CsiParam) (fs : List (Option ℤ)) (i : ℕ) → 1 ≤ length list → IsSome (fields_of list) → fields_there list ≡ drop i fs → true ≡ has_field fs i
+some-left [] fs i high h e = absurd (omega (arith, high))
+some-left (t ∷ list) fs i high h e = there-more t list h ∙ (ap is_there e ∙ there-from fs i)
 
--- ---- the numbers behind
+-- ---- the numbers of fields
 
-pub none-behind : (fs : List (Option ℤ)) (i : ℕ) → length fs ≤ i → numbers (drop i fs) ≡ []
-none-behind [] zero le = refl
-none-behind [] (suc i) le = refl
-none-behind (f ∷ fs) zero le = absurd (omega (arith, le))
-none-behind (f ∷ fs) (suc i) le = none-behind fs i (omega (arith, le))
-
--- that of this field, if it has one, and those behind it
-abbrev pub and_number : Option ℤ → List ℤ → List ℤ
+abbrev and_number : Option ℤ → List ℤ → List ℤ
 and_number None zs = zs
 and_number (Some z) zs = z ∷ zs
 
-no-field : (i : ℕ) → field [] i ≡ None
-no-field zero = refl
-no-field (suc i) = no-field i
+numbers-guarded : (s : Bool) (x : Option ℤ) (o : Option (List (Option ℤ))) (zs : List ℤ) → IsSome (if s then with_field x o else None) → (IsSome o → zs ≡ numbers (unwrap_or o []))
+    → and_number x zs ≡ numbers (unwrap_or (if s then with_field x o else None) [])
+numbers-guarded true x None zs h e = cc
+numbers-guarded true None (Some f) zs h e = e refl
+numbers-guarded true (Some z) (Some f) zs h e = ap (λ l. z ∷ l) (e refl)
+numbers-guarded false x o zs h e = cc
 
-pub numbers-from : (fs : List (Option ℤ)) (i : ℕ) → numbers (drop i fs) ≡ and_number (field fs i) (numbers (drop (suc i) fs))
-numbers-from [] (suc i) = rw (no-field i) refl
-numbers-from (None ∷ fs) zero = refl
-numbers-from (f ∷ fs) (suc i) = numbers-from fs i
-numbers-from _ zero = refl
-
-number-next : (values : List ℤ) (fs : List (Option ℤ)) (at : ℕ) (o : Option ℤ) (all : List ℤ) → o ≡ field fs at → values ++ numbers (drop at fs) ≡ all
-    → values ++ and_number o (numbers (drop (at + 1) fs)) ≡ all
-number-next values fs at o all e h =
-    let next : at + 1 ≡ suc at = omega arith in
-    rw (next, e) (sym (ap (λ (l : List ℤ). values ++ l) (numbers-from fs at)) ∙ h)
-
-pub number_found : (values : List ℤ) (fs : List (Option ℤ)) (at : ℕ) (z : ℤ) (all : List ℤ) → Some z ≡ field fs at → values ++ numbers (drop at fs) ≡ all
-    → (values ++ z ∷ []) ++ numbers (drop (at + 1) fs) ≡ all
-number_found values fs at z all e h = append_assoc values (z ∷ []) (numbers (drop (at + 1) fs)) ∙ number-next values fs at (Some z) all e h
-
-pub number_there : (values : List ℤ) (fs : List (Option ℤ)) (at : ℕ) (z : ℤ) (all : List ℤ) → Some z ≡ field fs at → values ++ numbers (drop at fs) ≡ all → 0 < length all
-number_there values fs at z all e h =
-    let here : numbers (drop at fs) ≡ z ∷ numbers (drop (suc at) fs) = numbers-from fs at ∙ ap (λ o. and_number o (numbers (drop (suc at) fs))) (sym e) in
-    omega (arith, ap length here, ap length h, length-append values (numbers (drop at fs)))
-
-pub number_missed : (values : List ℤ) (fs : List (Option ℤ)) (at : ℕ) (all : List ℤ) → None ≡ field fs at → values ++ numbers (drop at fs) ≡ all → values ++ numbers (drop (at + 1) fs) ≡ all
-number_missed values fs at all e h = number-next values fs at None all e h
+-- they are those among its tokens
+pub numbers-there : (list : List CsiParam) → IsSome (fields_of list) → integers list ≡ numbers (fields_there list)
+numbers-there [] h = refl
+numbers-there (P b ∷ list) h = numbers-guarded (b == 59) None (fields_of list) (integers list) h (numbers-there list)
+numbers-there (Integer z ∷ []) h = refl
+numbers-there (Integer z ∷ P b ∷ list) h = numbers-guarded (b == 59) (Some z) (fields_of list) (integers list) h (numbers-there list)
+numbers-there (Integer z ∷ Integer y ∷ list) h = numbers-guarded true (Some z) (fields_of (Integer y ∷ list)) (integers (Integer y ∷ list)) h (numbers-there (Integer y ∷ list))
 
 -- ---- the byte at the end
 

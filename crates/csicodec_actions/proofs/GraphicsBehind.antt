@@ -1,42 +1,29 @@
 -- What is read of graphics behind the first token of a list.
-use Rattle.std.proofs.Common.{◌≡◌, ◌-◌, List, [], ◌∷◌, length, take, drop, Option, None, Some, refl, sym, ap, arith}
+use Rattle.std.proofs.Common.{◌≡◌, ◌-◌, List, [], ◌∷◌, length, take, drop, Option, None, Some, refl, sym, ap, ◌∙◌, arith}
 use Rattle.std.proofs.Math.Seq.{take-length}
-use Rattle.std.specs.Prelude.{ℤ, IfErr, IfOk, Result, option_and_then}
-use Rattle.std.specs.Option.{ok_or, option_map}
+use Rattle.std.specs.Prelude.{ℤ, option_and_then}
 use Rattle.csicodec_tokens.specs.declared.param.CsiParam.{CsiParam}
-use Rattle.csicodec_tokens.specs.declared.refusal.ParseRefusal.{ParseRefusal}
-use Rattle.csicodec_tokens.specs.declared.refusal.ParseRefusal.TheVariants.{NotSpelled, Memory}
-use Rattle.csicodec_tokens.specs.Fields.{Fields, RefusesFields}
-use Rattle.csicodec_tokens.proofs.FieldsOf.{fields-computed}
-use Rattle.csicodec_actions.specs.declared.graphics.XtSmGraphics.{XtSmGraphics}
-use Rattle.csicodec_actions.specs.Actions.{Device}
-use Rattle.csicodec_actions.specs.Devices.{graphics_of}
+use Rattle.csicodec_tokens.specs.declared.refusal.ParseRefusal.TheVariants.{Memory}
+use Rattle.csicodec_tokens.specs.Fields.{RefusesFields, fields_of}
+use Rattle.csicodec_tokens.proofs.FieldsOf.{computed-fields}
+use Rattle.csicodec_actions.specs.Actions.{Action}
 use Rattle.csicodec_actions.specs.FieldRows.{given}
 use Rattle.csicodec_actions.specs.Table.Graphics.{RefusesGraphics, graphics_behind, graphics_rows}
-use Rattle.csicodec_actions.proofs.FieldsAt.{no-fields}
 
 -- the tokens behind the first
 behind-first : (list : List CsiParam) → take (length list - 1) (drop 1 list) ≡ drop 1 list
 behind-first [] = refl
 behind-first (t ∷ ts) = let one : length (t ∷ ts) - 1 ≡ length ts = omega arith in rw one (take-length ts)
 
-refused : (rest : List CsiParam) (list : List CsiParam) (e : ParseRefusal) → rest ≡ drop 1 list → RefusesFields rest e → RefusesGraphics list e
-refused rest list Memory same h = rw (← same) h
-refused rest list NotSpelled same h = ap (option_and_then (given graphics_rows)) (sym (no-fields (drop 1 list) (rw (← same) h)))
+pub read_behind : (list : List CsiParam) (o : Option (List (Option ℤ))) (fs : List (Option ℤ)) → o ≡ Some fs → o ≡ fields_of (take (length list - 1) (drop 1 list))
+    → given graphics_rows fs ≡ graphics_behind list
+read_behind list o fs is e = ap (option_and_then (given graphics_rows)) (sym is ∙ (e ∙ ap fields_of (behind-first list)))
 
-pub list_refused : (list : List CsiParam) (e : ParseRefusal) → RefusesFields (take (length list - 1) (drop 1 list)) e → RefusesGraphics list e
-list_refused list e h = refused (take (length list - 1) (drop 1 list)) list e (behind-first list) h
+fields-there : (list : List CsiParam) (action : Action) (o : Option (List (Option ℤ))) → fields_of list ≡ o → option_and_then (given graphics_rows) o ≡ Some action → RefusesFields list Memory
+fields-there list action None is h = cc
+fields-there list action (Some []) is h = cc
+fields-there list action (Some (f ∷ fs)) is h = (f ∷ fs, computed-fields list (f ∷ fs) is, omega arith)
 
-pub list_read : (list : List CsiParam) (fs : List (Option ℤ)) → Fields (take (length list - 1) (drop 1 list)) fs → graphics_behind list ≡ given graphics_rows fs
-list_read list fs h = ap (option_and_then (given graphics_rows)) (fields-computed fs (drop 1 list) (rw (behind-first list) at h))
-
--- the row's answer, with or without one
-pub found_graphics : (o : Option XtSmGraphics) (list : List CsiParam) (r : Result XtSmGraphics ParseRefusal) → option_map (λ g. Device (graphics_of g)) o ≡ graphics_behind list → r ≡ ok_or o NotSpelled
-    → IfOk r (λ g. graphics_behind list ≡ Some (Device (graphics_of g)))
-found_graphics None list r is e = rw e tt
-found_graphics (Some g) list r is e = rw e (sym is)
-
-pub refused_graphics : (o : Option XtSmGraphics) (list : List CsiParam) (r : Result XtSmGraphics ParseRefusal) → option_map (λ g. Device (graphics_of g)) o ≡ graphics_behind list → r ≡ ok_or o NotSpelled
-    → IfErr r (RefusesGraphics list)
-refused_graphics None list r is e = rw e (sym is)
-refused_graphics (Some g) list r is e = rw e tt
+-- a list that stands for graphics has fields, and may be refused for want of memory
+pub wants_memory : (list : List CsiParam) (action : Action) → graphics_behind list ≡ Some action → RefusesGraphics list Memory
+wants_memory list action h = fields-there (drop 1 list) action (fields_of (drop 1 list)) refl h

@@ -1,6 +1,6 @@
 -- Rows over the fields of a list: a row is a field for each slot, and what is made of their numbers. Fields behind the row are ignored.
 use Prim.Native.Char.{Char, code}
-use Rattle.std.specs.Prelude.{◌≡◌, ◌⊎◌, ◌<◌, ℕ, zero, suc, ℤ, ◌==◌, ◌&&◌, Bool, true, false, not, List, [], ◌∷◌, length, Option, Some, None, IsSomeAnd, option_and_then, option_map, if◌then◌else◌}
+use Rattle.std.specs.Prelude.{ℕ, zero, suc, ℤ, ◌==◌, ◌&&◌, Bool, true, false, not, List, [], ◌∷◌, Option, Some, None, option_and_then, option_map, if◌then◌else◌}
 use Rattle.std.specs.Option.{option_or, is_some}
 use Rattle.csicodec_names.specs.Numbered.{is_number}
 use Rattle.csicodec_tokens.specs.declared.param.CsiParam.{CsiParam}
@@ -165,14 +165,3 @@ read_over o list = option_and_then (given o.rows) (fields_over o list)
 abbrev pub read_fields : {R : Type 0} → List (Over R) → List CsiParam → ℕ → Option R
 read_fields [] list final = None
 read_fields (o ∷ others) list final = option_or (if final == o.final then read_over o list else None) (read_fields others list final)
-
--- ---- memory
-
--- the list has at least one field
-abbrev pub HasFields : List CsiParam → Type 0
-HasFields list = IsSomeAnd (fields_of list) (λ fs. 0 < length fs)
-
--- an entry of this final has fields in the list. They take memory also where no row reads them
-abbrev pub TakesFields : {R : Type 0} → List (Over R) → List CsiParam → ℕ → Type 0
-TakesFields [] list final = ⊥
-TakesFields (o ∷ others) list final = ((final ≡ o.final) × IsSomeAnd (fields_over o list) (λ fs. 0 < length fs)) ⊎ TakesFields others list final

@@ -10,4 +10,5 @@ pub mod Table
 pub mod Written
 pub mod Devices
 pub mod Graphics
+pub mod Lent
 pub mod Private

@@ -1,5 +1,5 @@
 //! Graphics of a terminal, asked for and answered, and their row.
-ghost use Rattle.std.specs.Prelude.{◌≡◌, ◌↔◌, IfOk, IsTrue, Some, pos, ◌<◌, IfErr, OnErr, length};
+ghost use Rattle.std.specs.Prelude.{◌≡◌, ◌↔◌, IfOk, IsSome, IsTrue, Some, pos, IfErr, OnErr};
 ghost use Rattle.std.specs.Fmt.{signed_decimal};
 ghost use Rattle.csicodec_actions.specs.Devices.{HoldsMemory, graphics_of};
 ghost use Rattle.csicodec_actions.specs.Graphics.{action_number, item_number, item_of, status_number};
@@ -9,12 +9,13 @@ ghost use Rattle.std.specs.Option.{option_map};
 ghost use Rattle.csicodec_actions.specs.Actions.{Device as Devices};
 ghost use Rattle.csicodec_actions.specs.Kinds.{Good, GraphicsItem};
 ghost use Rattle.csicodec_actions.specs.Written.{AllGood, any_number, listed};
-ghost use Rattle.csicodec_actions.specs.FieldRows.{TakesFields, given};
-ghost use Rattle.csicodec_actions.specs.Table.Graphics.{RefusesGraphics, as_graphics, graphics_behind, graphics_fields, graphics_rows, written_graphics};
+ghost use Rattle.csicodec_actions.specs.FieldRows.{given};
+ghost use Rattle.csicodec_actions.specs.Lent.{lent_graphics};
+ghost use Rattle.csicodec_actions.specs.Table.Graphics.{RefusesGraphics, as_graphics, graphics_behind, graphics_rows, written_graphics};
 
 use crate::canonical::is_said;
-use crate::fields::{fields_in, number, numbers_behind};
-use csicodec_base::{Cracked, CsiParam, ParseRefusal};
+use crate::fields::{Fields, fields_in, integers_in, number, tokens_from};
+use csicodec_base::{CsiParam, ParseRefusal};
 use std::alloc::{AllocError, Global};
 use std::fmt;
 
@@ -210,19 +211,52 @@ fn are_said(numbers: &[i64]) -> bool
     true
 }
 
-/// What is asked or said of graphics before this final character, if a row reads the list. An `Err` comes only before
-/// `S`, where fields stand behind a `?`: they take memory, also where no row reads them.
+/// What is asked or said of graphics, its values lent from the list: the numbers among these tokens.
+#[derive(Clone, Copy, Debug)]
+pub struct GraphicsRef<'a> {
+    /// What it is about.
+    pub item: XtSmGraphicsItem,
+    /// The number of the action or of the status.
+    pub action_or_status: i64,
+    /// The tokens of the values.
+    pub values: &'a [CsiParam],
+}
+
+impl<'a> GraphicsRef<'a> {
+    /// The same with the values in memory of its own.
+    pub fn to_graphics(&self, alloc: Global) -> Result<XtSmGraphics, AllocError>
+        ensures { IfOk result (λ graphics. Devices (graphics_of graphics) ≡ lent_graphics self.now) }
+    {
+        Ok(XtSmGraphics {
+            item: self.item,
+            action_or_status: self.action_or_status,
+            value: integers_in(alloc, self.values)?,
+        })
+    }
+}
+
+/// What is asked or said of graphics before this final character, if a row reads the list. It takes no memory.
+pub fn graphics_ref(params: &[CsiParam], control: char) -> Option<GraphicsRef<'_>>
+    ensures { option_map lent_graphics result ≡ as_graphics params.now control }
+{
+    match control {
+        'S' => graphics(params),
+        _ => None,
+    }
+}
+
+/// The same with the values in memory of its own. An `Err` comes only where a row reads the list.
 pub fn graphics_action(
     alloc: Global,
     params: &[CsiParam],
     control: char,
 ) -> Result<Option<XtSmGraphics>, AllocError>
     ensures ok { IfOk result (λ graphics. option_map (λ g. Devices (graphics_of g)) graphics ≡ as_graphics params.now control) }
-    ensures err { OnErr result (TakesFields graphics_fields params.now control) }
+    ensures err { OnErr result (IsSome (as_graphics params.now control)) }
 {
-    match control {
-        'S' => graphics(alloc, params),
-        _ => Ok(None),
+    match graphics_ref(params, control) {
+        Some(graphics) => Ok(Some(graphics.to_graphics(alloc)?)),
+        None => Ok(None),
     }
 }
 
@@ -230,45 +264,48 @@ impl XtSmGraphics {
     /// What a list asks or says of graphics (XTSMGRAPHICS of xterm, `CSI ? .. S`), whatever its first token is. `NotSpelled`
     /// where the list is empty, or lacks the number of an item or of an action; `Memory` only where fields stand behind the
     /// first token. `parse`, which answers an action, stands beside `CSI`.
-    #[tactic(auto, using(crate::proofs::GraphicsBehind::found_graphics, crate::proofs::GraphicsBehind::list_read, crate::proofs::GraphicsBehind::list_refused, crate::proofs::GraphicsBehind::refused_graphics))]
     pub fn of_list(alloc: Global, params: &[CsiParam]) -> Result<XtSmGraphics, ParseRefusal>
         ensures read { IfOk result (λ graphics. graphics_behind params.now ≡ Some (Devices (graphics_of graphics))) }
         ensures refused { IfErr result (RefusesGraphics params.now) }
     {
-        let [_, list @ ..] = params else {
-            return Err(ParseRefusal::NotSpelled);
-        };
-        let fields = Cracked::parse(alloc, list)?;
-        read(alloc, &fields)?.ok_or(ParseRefusal::NotSpelled)
+        match behind_mark(params) {
+            Some(graphics) => Ok(graphics.to_graphics(alloc)?),
+            None => Err(ParseRefusal::NotSpelled),
+        }
     }
 }
 
+/// What is asked or said behind the first token of a list.
+fn behind_mark(params: &[CsiParam]) -> Option<GraphicsRef<'_>>
+    ensures { option_map lent_graphics result ≡ graphics_behind params.now }
+{
+    let [_, list @ ..] = params else {
+        return None;
+    };
+    read(&fields_in(list)?)
+}
+
 #[tactic(auto, unfolding(crate::specs::Table::Graphics::as_graphics))]
-fn graphics(alloc: Global, params: &[CsiParam]) -> Result<Option<XtSmGraphics>, AllocError>
-    ensures ok { IfOk result (λ graphics. option_map (λ g. Devices (graphics_of g)) graphics ≡ as_graphics params.now 83) }
-    ensures err { OnErr result (TakesFields graphics_fields params.now 83) }
+fn graphics(params: &[CsiParam]) -> Option<GraphicsRef<'_>>
+    ensures { option_map lent_graphics result ≡ as_graphics params.now 83 }
 {
     let [CsiParam::P(b'?'), list @ ..] = params else {
-        return Ok(None);
+        return None;
     };
-    match fields_in(alloc, list)? {
-        Some(fields) => read(alloc, &fields),
-        None => Ok(None),
-    }
+    read(&fields_in(list)?)
 }
 
 /// An item, an action or a status, and the values.
 #[tactic(auto, unfolding(crate::specs::Kinds::read))]
-fn read(alloc: Global, fields: &Cracked) -> Result<Option<XtSmGraphics>, AllocError>
-    ensures ok { IfOk result (λ graphics. option_map (λ g. Devices (graphics_of g)) graphics ≡ given graphics_rows fields.now) }
-    ensures err { OnErr result (0 < length fields.now) }
+fn read<'a>(fields: &Fields<'a>) -> Option<GraphicsRef<'a>>
+    ensures { option_map lent_graphics result ≡ given graphics_rows fields.now }
 {
     let (Some(item), Some(action_or_status)) = (number(fields, 0), number(fields, 1)) else {
-        return Ok(None);
+        return None;
     };
-    Ok(Some(XtSmGraphics {
+    Some(GraphicsRef {
         item: XtSmGraphicsItem::of(item),
         action_or_status,
-        value: numbers_behind(alloc, fields, 2)?,
-    }))
+        values: tokens_from(fields, 2),
+    })
 }

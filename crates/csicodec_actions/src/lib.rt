@@ -20,7 +20,8 @@ pub use cursor::Cursor;
 pub use device::{Device, DeviceAttribute, DeviceAttributeFlags, DeviceAttributes};
 pub use edit::Edit;
 pub use graphics::{
-    XtSmGraphics, XtSmGraphicsAction, XtSmGraphicsItem, XtSmGraphicsStatus, graphics_action,
+    GraphicsRef, XtSmGraphics, XtSmGraphicsAction, XtSmGraphicsItem, XtSmGraphicsStatus,
+    graphics_action, graphics_ref,
 };
 pub use keyboard::{Keyboard, KittyKeyboardMode};
 pub use mode::{Change, DecPrivateMode, Mode, Switch, TerminalMode, XtermKeyModifierResource};

@@ -12,7 +12,7 @@ mod params;
 mod path;
 mod window;
 
-pub use csicodec_actions::graphics_action;
+pub use csicodec_actions::{graphics_action, graphics_ref};
 pub use cursor::cursor_action;
 pub use device::device_action;
 pub use edit::edit_action;

@@ -1,59 +1,42 @@
 //! The rows of windows and areas.
-ghost use Rattle.std.specs.Prelude.{◌≡◌, IfOk, OnErr};
+ghost use Rattle.std.specs.Prelude.{◌≡◌};
 ghost use Rattle.std.specs.Option.{option_map};
 ghost use Rattle.csicodec_actions.specs.Actions.{Window as Windows};
-ghost use Rattle.csicodec_actions.specs.FieldRows.{TakesFields, given};
-ghost use Rattle.csicodec_actions.specs.Table.Window.{alone_rows, areas, as_window, two_rows, which_rows, window_fields, windows};
+ghost use Rattle.csicodec_actions.specs.FieldRows.{given};
+ghost use Rattle.csicodec_actions.specs.Table.Window.{alone_rows, areas, as_window, two_rows, which_rows, windows};
 
 use csicodec_actions::Window;
-use csicodec_actions::fields::{ahead_of, fields_in, is_there, number, place};
-use csicodec_base::{Cracked, CsiParam};
-use std::alloc::{AllocError, Global};
+use csicodec_actions::fields::{Fields, ahead_of, fields_in, is_there, number, place};
+use csicodec_base::CsiParam;
 
-/// What is done to a window before this final character, if a row reads the list. An `Err` comes only where the list has
-/// fields, before `t`, or before `y` and ahead of a `*`: they take memory, also where no row reads them.
+/// What is done to a window before this final character, if a row reads the list. It takes no memory.
 #[tactic(auto, unfolding(csicodec_actions::specs::Table::Window::as_window))]
-pub fn window_action(
-    alloc: Global,
-    params: &[CsiParam],
-    control: char,
-) -> Result<Option<Window>, AllocError>
-    ensures ok { IfOk result (λ window. option_map (λ w. Windows w) window ≡ as_window params.now control) }
-    ensures err { OnErr result (TakesFields window_fields params.now control) }
+pub fn window_action(params: &[CsiParam], control: char) -> Option<Window>
+    ensures { option_map (λ w. Windows w) result ≡ as_window params.now control }
 {
     match control {
-        't' => window(alloc, params),
-        'y' => area(alloc, params),
-        _ => Ok(None),
+        't' => window(params),
+        'y' => area(params),
+        _ => None,
     }
 }
 
 #[tactic(auto, unfolding(csicodec_actions::specs::Table::Window::as_window))]
-fn window(alloc: Global, params: &[CsiParam]) -> Result<Option<Window>, AllocError>
-    ensures ok { IfOk result (λ window. option_map (λ w. Windows w) window ≡ as_window params.now 116) }
-    ensures err { OnErr result (TakesFields window_fields params.now 116) }
+fn window(params: &[CsiParam]) -> Option<Window>
+    ensures { option_map (λ w. Windows w) result ≡ as_window params.now 116 }
 {
-    match fields_in(alloc, params)? {
-        Some(fields) => Ok(window_of(&fields)),
-        None => Ok(None),
-    }
+    window_of(&fields_in(params)?)
 }
 
 #[tactic(auto, unfolding(csicodec_actions::specs::Table::Window::as_window))]
-fn area(alloc: Global, params: &[CsiParam]) -> Result<Option<Window>, AllocError>
-    ensures ok { IfOk result (λ area. option_map (λ w. Windows w) area ≡ as_window params.now 121) }
-    ensures err { OnErr result (TakesFields window_fields params.now 121) }
+fn area(params: &[CsiParam]) -> Option<Window>
+    ensures { option_map (λ w. Windows w) result ≡ as_window params.now 121 }
 {
-    let Some(front) = ahead_of(params, b'*') else {
-        return Ok(None);
-    };
-    match fields_in(alloc, front)? {
-        Some(fields) => Ok(area_of(&fields)),
-        None => Ok(None),
-    }
+    let front = ahead_of(params, b'*')?;
+    area_of(&fields_in(front)?)
 }
 
-fn window_of(fields: &Cracked) -> Option<Window>
+fn window_of(fields: &Fields<'_>) -> Option<Window>
     ensures { option_map (λ w. Windows w) result ≡ given windows fields.now }
 {
     if let Some(window) = alone(fields) {
@@ -66,7 +49,7 @@ fn window_of(fields: &Cracked) -> Option<Window>
 }
 
 /// What a code says alone.
-fn alone(fields: &Cracked) -> Option<Window>
+fn alone(fields: &Fields<'_>) -> Option<Window>
     ensures { option_map (λ w. Windows w) result ≡ given alone_rows fields.now }
 {
     match number(fields, 0)? {
@@ -86,7 +69,7 @@ fn alone(fields: &Cracked) -> Option<Window>
 }
 
 /// What a code says with a number behind it.
-fn which(fields: &Cracked) -> Option<Window>
+fn which(fields: &Fields<'_>) -> Option<Window>
     ensures { option_map (λ w. Windows w) result ≡ given which_rows fields.now }
 {
     match (number(fields, 0)?, number(fields, 1)) {
@@ -113,7 +96,7 @@ fn which(fields: &Cracked) -> Option<Window>
 
 /// What a code says with two numbers behind it, and 6 without any.
 #[tactic(auto, unfolding(csicodec_actions::specs::Kinds::read))]
-fn two(fields: &Cracked) -> Option<Window>
+fn two(fields: &Fields<'_>) -> Option<Window>
     ensures { option_map (λ w. Windows w) result ≡ given two_rows fields.now }
 {
     let code = number(fields, 0)?;
@@ -141,7 +124,7 @@ fn two(fields: &Cracked) -> Option<Window>
 }
 
 #[tactic(auto, unfolding(csicodec_actions::specs::Kinds::read))]
-fn area_of(fields: &Cracked) -> Option<Window>
+fn area_of(fields: &Fields<'_>) -> Option<Window>
     ensures { option_map (λ w. Windows w) result ≡ given areas fields.now }
 {
     Some(Window::ChecksumRectangularArea {

@@ -6,8 +6,7 @@ ghost use Rattle.std.specs.Option.{option_map};
 ghost use Rattle.csicodec_actions.specs.Actions as action;
 ghost use Rattle.csicodec_actions.specs.Actions.{TakesMemory};
 ghost use Rattle.csicodec_actions.specs.Devices.{device_of};
-ghost use Rattle.csicodec_actions.specs.FieldRows.{TakesFields};
-ghost use Rattle.csicodec_actions.specs.Table.{boxed, field_table, plain, text};
+ghost use Rattle.csicodec_actions.specs.Table.{boxed, plain, text};
 ghost use Rattle.csicodec_parser.specs.ActionOf.{action_of, unspecified_of, unspecified_text};
 ghost use Rattle.csicodec_parser.specs.Canonical.{Canonical, IsUnspecified};
 
@@ -303,8 +302,8 @@ pub(crate) fn plain_action(params: &[CsiParam], control: char) -> Option<CSI>
     Some(CSI::SelectCharacterPath(path, effect))
 }
 
-/// The action of a list that is read whole, if a row reads it, and its value holds memory. An `Err` comes only where
-/// there is one, or where the list is read by its fields and has some.
+/// The action of a list that is read whole, if a row reads it, and its value holds memory. An `Err` comes only where there is
+/// one.
 #[cold]
 #[inline(never)]
 #[tactic(auto, unfolding(csicodec_actions::specs::Table::boxed))]
@@ -314,12 +313,12 @@ pub(crate) fn boxed_action(
     control: char,
 ) -> Result<Option<CSI>, AllocError>
     ensures ok { IfOk result (λ action. option_map action_of action ≡ boxed params.now control) }
-    ensures err { OnErr result (IsSome (boxed params.now control) ⊎ TakesFields field_table params.now control) }
+    ensures err { OnErr result (IsSome (boxed params.now control)) }
 {
     if let Some(device) = device_action(alloc, params, control)? {
         return Ok(Some(CSI::Device(Box::new(alloc, device)?)));
     }
-    if let Some(window) = window_action(alloc, params, control)? {
+    if let Some(window) = window_action(params, control) {
         return Ok(Some(CSI::Window(Box::new(alloc, window)?)));
     }
     match graphics_action(alloc, params, control)? {

@@ -9,6 +9,7 @@ use Rattle.std.proofs.lemmas.Option.{get_or_from_slice_get, slice_get_within}
 use Rattle.csicodec_tokens.specs.declared.param.CsiParam.{CsiParam}
 use Rattle.csicodec_actions.specs.Actions.{Action, Unspecified}
 use Rattle.csicodec_actions.specs.Devices.{attribute_at, listed_attributes}
+use Rattle.csicodec_actions.specs.Lent.{integer_at, integers}
 use Rattle.csicodec_actions.specs.Table.{boxed}
 use Rattle.csicodec_actions.specs.declared.device.DeviceAttribute.{DeviceAttribute}
 use Rattle.csicodec_parser.specs.declared.parser.ActionRef.{ActionRef}
@@ -20,7 +21,7 @@ use Rattle.csicodec_plain.specs.declared.lay.Large.{Large}
 use Rattle.csicodec_plain.specs.declared.plain.Param.{Param}
 use Rattle.csicodec_plain.specs.declared.plain.Plain.{Plain}
 use Rattle.csicodec_plain.specs.Next.{Lays, all_params, plains}
-use Rattle.csicodec_plain.specs.Plain.{attribute_param}
+use Rattle.csicodec_plain.specs.Plain.{attribute_param, value_param}
 use Rattle.csicodec_plain.specs.Private.Fronts.{LaysOne, large_of, terminal_of}
 use Rattle.csicodec_plain.specs.Room.{laid}
 use Rattle.csicodec_plain.specs.Rows.{params_of, plain_of}
@@ -90,6 +91,19 @@ pub terminal_params : (c : Class) (extensions : List DeviceAttribute) → map at
 terminal_params class.Vt220 extensions = refl
 terminal_params class.Vt320 extensions = refl
 terminal_params class.Vt420 extensions = refl
+
+-- ---- numbers
+
+-- those of one token more
+pub numbers_more : (before : List Param) (list : List CsiParam) (i : ℕ) (d : CsiParam) → i < length list
+    → (before ++ map value_param (integers (take i list))) ++ map value_param (integer_at (slice_index_or list i d))
+    ≡ before ++ map value_param (integers (take (i + 1) list))
+numbers_more before list i d low =
+    let front = integers (take i list) in
+    let next = integer_at (slice_index_or list i d) in
+    append_assoc before (map value_param front) (map value_param next)
+    ∙ ap (λ l. before ++ l) (sym (map-append value_param front next)
+    ∙ ap (map value_param) (flat_map_more integer_at [] (take i list) (slice_index_or list i d) ∙ ap integers (sym (take_more list i d low))))
 
 -- ---- actions
 

@@ -1,21 +1,23 @@
 //! The actions of a list as structs, and their tokens, put into room that a caller lends: as many as there is room for.
-ghost use Rattle.std.specs.Prelude.{◌≡◌, false, List, ◌++◌, ◌∷◌, length, map, unwrap_or, Some, IfOk, IfSome};
+ghost use Rattle.std.specs.Prelude.{◌≡◌, ℤ, false, List, ◌++◌, ◌∷◌, length, map, unwrap_or, Some, IfOk, IfSome};
 ghost use Rattle.std.specs.Option.{option_map};
 ghost use Rattle.csicodec_actions.specs.Actions.{Action, Device as Devices, Unspecified as Unknown, Window as Windows};
-ghost use Rattle.csicodec_actions.specs.Devices.{attribute_at, device_of, listed_attributes};
+ghost use Rattle.csicodec_actions.specs.Devices.{XtSmGraphics as Graphics, attribute_at, device_of, listed_attributes};
+ghost use Rattle.csicodec_actions.specs.Lent.{integer_at, integers, lent_graphics};
 ghost use Rattle.csicodec_actions.specs.Table.{boxed};
 ghost use Rattle.csicodec_parser.specs.ActionOf.{action_of};
 ghost use Rattle.csicodec_parser.specs.Run.{IsRef};
 ghost use Rattle.csicodec_parser.specs.Segments.{Actions};
 ghost use Rattle.csicodec_plain.specs.Next.{Lays};
-ghost use Rattle.csicodec_plain.specs.Plain.{attribute_param};
+ghost use Rattle.csicodec_plain.specs.Plain.{attribute_param, value_param};
 ghost use Rattle.csicodec_plain.specs.Private.Fronts.{LaysOne, PutsBehind, large_of, terminal_of};
 ghost use Rattle.csicodec_plain.specs.Room.{laid};
 ghost use Rattle.csicodec_plain.specs.Rows.{device_params, params_of, plain_of};
 ghost use Rattle.csicodec_plain.specs.declared.plain.Param.{Param};
 ghost use Rattle.csicodec_actions.specs.declared.device.DeviceAttribute.{DeviceAttribute as Attribute};
 
-use crate::candidates::{VT220, VT320, VT420};
+use crate::candidates::{VT220, VT320, VT420, XT_SM_GRAPHICS};
+use crate::numbers::item_number;
 use crate::plain::{Param, Plain, list_row, unknown_row};
 use crate::room::put;
 use crate::rows::{device_plain, plain_of, window_plain};
@@ -23,7 +25,8 @@ use crate::token::{Token, put_all};
 use csicodec::CsiParam::{Integer, P};
 use csicodec::laws::segmentation;
 use csicodec::{CSI, CsiParam, Device, DeviceAttribute, DeviceAttributes, Window};
-use csicodec_lists::{device_action, graphics_action, window_action};
+use csicodec_actions::GraphicsRef;
+use csicodec_lists::{device_action, graphics_ref, window_action};
 use csicodec_parser::ActionRef;
 use std::alloc::{AllocError, Global};
 
@@ -214,16 +217,71 @@ fn lay_class(
     })
 }
 
+/// Puts the number that a token is behind the tokens that are there: nothing for a byte.
+fn put_number(room: &mut [Param], place: usize, token: CsiParam) -> Option<usize>
+    ensures { IfSome result (PutsBehind room.old room.new place (map value_param (integer_at token))) }
+{
+    match token {
+        Integer(value) => {
+            put(room, place, value.to_param());
+            place.checked_add(1)
+        }
+        P(_) => Some(place),
+    }
+}
+
+/// Puts the numbers among tokens behind the tokens that are there.
+fn put_numbers(room: &mut [Param], place: usize, list: &[CsiParam]) -> Option<usize>
+    ensures { IfSome result (PutsBehind room.old room.new place (map value_param (integers list.now))) }
+{
+    let mut end = place;
+    for token in list {
+        end = put_number(room, end, *token)?;
+    }
+    Some(end)
+}
+
+/// The struct of graphics with so many values, whose tokens stand from this place on.
+fn graphics_plain(graphics: &GraphicsRef<'_>, place: usize, len: usize) -> Plain
+    ensures { (values : List ℤ) → len ≡ length values → result ≡ plain_of place (Devices (Graphics graphics.now.item graphics.now.action_or_status values)) }
+{
+    let item = item_number(graphics.item);
+    list_row(XT_SM_GRAPHICS, item, graphics.action_or_status, place, len)
+}
+
+/// The same of graphics, whose values are the numbers among tokens.
+fn lay_graphics(
+    graphics: &GraphicsRef<'_>,
+    count: Counts,
+    actions: &mut [Plain],
+    params: &mut [Param],
+) -> Option<Counts>
+    ensures { IfSome result (LaysOne count actions.old actions.new params.old params.new (lent_graphics graphics.now)) }
+{
+    let end = put_numbers(params, count.params, graphics.values)?;
+    let len = end.checked_sub(count.params)?;
+    put(
+        actions,
+        count.actions,
+        graphics_plain(graphics, count.params, len),
+    );
+    Some(Counts {
+        actions: count.actions.checked_add(1)?,
+        params: end,
+    })
+}
+
 /// What a row of a list that is read whole gives, where its action takes memory in a `CSI`.
 #[derive(Drop)]
-enum Large {
+enum Large<'a> {
     Device(Device),
     Window(Window),
+    Graphics(GraphicsRef<'a>),
 }
 
 /// The same of such an action.
 fn lay_large(
-    large: &Large,
+    large: &Large<'_>,
     count: Counts,
     actions: &mut [Plain],
     params: &mut [Param],
@@ -233,26 +291,27 @@ fn lay_large(
     match large {
         Large::Device(device) => lay_device(device, count, actions, params),
         Large::Window(window) => lay_window(window, count, actions),
+        Large::Graphics(graphics) => lay_graphics(graphics, count, actions, params),
     }
 }
 
 /// The action of a row, where it takes memory in a `CSI`.
 #[tactic(auto, unfolding(csicodec_actions::specs::Table::boxed))]
-fn large_action(
+fn large_action<'a>(
     alloc: Global,
-    list: &[CsiParam],
+    list: &'a [CsiParam],
     control: char,
-) -> Result<Option<Large>, AllocError>
+) -> Result<Option<Large<'a>>, AllocError>
     ensures { IfOk result (λ large. option_map large_of large ≡ boxed list.now control) }
 {
     if let Some(device) = device_action(alloc, list, control)? {
         return Ok(Some(Large::Device(device)));
     }
-    if let Some(window) = window_action(alloc, list, control)? {
+    if let Some(window) = window_action(list, control) {
         return Ok(Some(Large::Window(window)));
     }
-    match graphics_action(alloc, list, control)? {
-        Some(graphics) => Ok(Some(Large::Device(Device::XtSmGraphics(graphics)))),
+    match graphics_ref(list, control) {
+        Some(graphics) => Ok(Some(Large::Graphics(graphics))),
         None => Ok(None),
     }
 }

@@ -23,8 +23,8 @@ pub struct NotOneBased;
 pub enum ParseRefusal {
     /// The list is none that a value of the type asked for is written as.
     NotSpelled,
-    /// Out of memory. `Cracked::parse` says it only of a list that has fields. `XtSmGraphics::parse` needs the fields before
-    /// it knows whether they are graphics, and so says it also of a list that it would refuse.
+    /// Out of memory. `Cracked::parse` says it only of a list that has fields, and `XtSmGraphics::parse` only where there are
+    /// fields behind the first token.
     Memory,
 }
 

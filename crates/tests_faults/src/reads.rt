@@ -52,7 +52,7 @@ pub(crate) fn next(ample: &Ample, alloc: Global) -> Outcome {
     }
 }
 
-/// The fields take memory, and so does the action. After a refusal nothing more comes, and nothing is left.
+/// The action takes memory. After a refusal nothing more comes, and nothing is left.
 pub(crate) fn next_boxed(
     params: &[CsiParam],
     control: char,

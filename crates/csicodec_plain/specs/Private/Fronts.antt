@@ -5,6 +5,7 @@ use Rattle.csicodec_actions.specs.Actions.{Action}
 use Rattle.csicodec_actions.specs.Actions as action
 use Rattle.csicodec_actions.specs.Devices as device
 use Rattle.csicodec_actions.specs.Devices.{device_of}
+use Rattle.csicodec_actions.specs.Lent.{lent_graphics}
 use Rattle.csicodec_actions.specs.declared.device.DeviceAttribute.{DeviceAttribute}
 use Rattle.csicodec_parser.specs.Segments.{Actions}
 use Rattle.csicodec_plain.specs.Next.{Lays, refused}
@@ -39,6 +40,7 @@ terminal_of class.Vt420 extensions = action.Device (device.DeviceAttributes (dev
 abbrev pub large_of : Large → Action
 large_of (large.Device d) = action.Device (device_of d)
 large_of (large.Window w) = action.Window w
+large_of (large.Graphics g) = lent_graphics g
 
 -- its actions are put
 pub record IsLaid (list : List CsiParam) (final used : ℕ) (actions_old actions_new : List Plain) (params_old params_new : List Param) (answer : Front) : Type 0 where

@@ -1,13 +1,15 @@
-use Rattle.std.proofs.Common.{sym}
-use Rattle.csicodec_tokens.proofs.FieldsOf.{fields-computed}
-use Rattle.csicodec_actions.proofs.FieldsAt.{no-fields, some-fields}
+use Rattle.std.proofs.Common.{◌∙◌, sym}
+use Rattle.csicodec_tokens.specs.Fields.{fields_of}
+use Rattle.csicodec_actions.proofs.FieldsAt.{field-tokens, there-are, there-none}
 use Rattle.csicodec_actions.proofs.fields.fields_in.Goals as goal
 
-pub returns-in-Ok-clause-ok : goal.returns-in-Ok-clause-ok
-returns-in-Ok-clause-ok c = sym (fields-computed _ c.args.params.now c.in-Ok.ensures.found)
+pub invariant_of-result : goal.invariant_of-result
+invariant_of-result c = sym (field-tokens c.args.list.now) ∙ (sym c.are_field_tokens.ensures ∙ c.if-are_field_tokens.true)
 
-pub returns-in-Err-NotSpelled-clause-ok : goal.returns-in-Err-NotSpelled-clause-ok
-returns-in-Err-NotSpelled-clause-ok c = no-fields c.args.params.now (rw c.in-Err-NotSpelled.field-0-is at c.in-Err-NotSpelled.ensures.refused)
+pub returns-then-are_field_tokens : goal.returns-then-are_field_tokens
+returns-then-are_field_tokens c =
+    there-are (fields_of c.args.list.now) (sym (field-tokens c.args.list.now) ∙ (sym c.are_field_tokens.ensures ∙ c.if-are_field_tokens.true))
 
-pub returns-in-Err-Memory-clause-err : goal.returns-in-Err-Memory-clause-err
-returns-in-Err-Memory-clause-err c = some-fields c.args.params.now (rw c.in-Err-Memory.field-0-is at c.in-Err-Memory.ensures.refused)
+pub returns-else-are_field_tokens : goal.returns-else-are_field_tokens
+returns-else-are_field_tokens c =
+    there-none (fields_of c.args.list.now) (sym (field-tokens c.args.list.now) ∙ (sym c.are_field_tokens.ensures ∙ c.if-are_field_tokens.false))

@@ -1,0 +1,20 @@
+-- Numbers that are lent as the tokens that they are read from, and graphics whose values are.
+use Rattle.std.specs.Prelude.{ℤ, List, [], ◌∷◌}
+use Rattle.std.specs.List.{flat_map}
+use Rattle.csicodec_tokens.specs.declared.param.CsiParam.{CsiParam}
+use Rattle.csicodec_tokens.specs.declared.param.CsiParam.TheVariants.{Integer, P}
+use Rattle.csicodec_actions.specs.declared.graphics.GraphicsRef.{GraphicsRef}
+use Rattle.csicodec_actions.specs.Actions.{Action, Device}
+use Rattle.csicodec_actions.specs.Devices.{XtSmGraphics}
+
+-- the numbers among tokens
+abbrev pub integer_at : CsiParam → List ℤ
+integer_at (Integer z) = z ∷ []
+integer_at (P b) = []
+
+abbrev pub integers : List CsiParam → List ℤ
+integers list = flat_map integer_at list
+
+-- these are the values of graphics that are lent
+abbrev pub lent_graphics : GraphicsRef → Action
+lent_graphics g = Device (XtSmGraphics g.item g.action_or_status (integers g.values.now))

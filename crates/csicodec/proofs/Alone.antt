@@ -22,12 +22,11 @@ use Rattle.csicodec.proofs.WrittenBack.{written-back}
 
 uncut-body : (g : Group) (list t : List CsiParam) (flag : Bool) (final : ℕ) → marked g t ≡ list → (g ≡ groups.Styles → 0 < length t) → IsStuck g t
     → BodyActions g list t flag final (Unspecified list flag final ∷ [])
-uncut-body groups.Whole list [] flag final same some stuck = refl
 uncut-body groups.Styles list [] flag final same some stuck = absurd (omega (arith, some refl))
 uncut-body (groups.Modes s) list [] flag final same some stuck = refl
-uncut-body (groups.DecModes c) list [] flag final same some stuck = refl
 uncut-body g list (t ∷ ts) flag final same some stuck =
     record { pieces = []; rest = t ∷ ts; cut = refl; stuck = stuck; all = ap (λ (l : List CsiParam). Unspecified l flag final ∷ []) (sym same) }
+uncut-body _ list [] flag final same some stuck = refl
 
 uncut-actions : (g : Group) (list : List CsiParam) (flag : Bool) (final : ℕ) → group list final ≡ g → (g ≡ groups.Styles → 0 < length (body g list)) → IsUncut g list
     → CutActions g list flag final (Unspecified list flag final ∷ [])

@@ -143,9 +143,7 @@ whole-kept flag list final a ok e =
 
 pub changed-kept : (flag : Bool) (c : Change) (n : ℕ) (m : DecPrivateMode) → read Dec (pos n) ≡ Some m → Kept flag (Mode (changed c m))
 changed-kept flag change.Set n m h = record { range = tt; canonical = inr ((dec-read (pos n) m h, tt), λ e. e) }
-changed-kept flag change.Reset n m h = record { range = tt; canonical = inr ((dec-read (pos n) m h, tt), λ e. e) }
-changed-kept flag change.Save n m h = record { range = tt; canonical = inr ((dec-read (pos n) m h, tt), λ e. e) }
-changed-kept flag change.Restore n m h = record { range = tt; canonical = inr ((dec-read (pos n) m h, tt), λ e. e) }
+changed-kept flag _ n m h = record { range = tt; canonical = inr ((dec-read (pos n) m h, tt), λ e. e) }
 
 pub switched-kept : (flag : Bool) (s : Switch) (n : ℕ) (m : TerminalMode) → read Terminal (pos n) ≡ Some m → Kept flag (Mode (switched s m))
 switched-kept flag switch.Set n m h = record { range = tt; canonical = inr ((terminal-read (pos n) m h, tt), λ e. e) }

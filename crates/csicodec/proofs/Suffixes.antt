@@ -24,16 +24,13 @@ use Rattle.csicodec_parser.proofs.GroupOf.{marked-body}
 
 -- whether a `?` is put ahead of what is unknown behind a piece
 abbrev puts_mark : Group → Bool
-puts_mark groups.Whole = false
-puts_mark groups.Styles = false
 puts_mark (groups.Modes s) = false
 puts_mark (groups.DecModes c) = true
+puts_mark _ = false
 
 changes-private : (c : Change) (m : DecPrivateMode) → changes_private (Mode (changed c m)) ≡ true
 changes-private changes.Set m = refl
-changes-private changes.Reset m = refl
-changes-private changes.Save m = refl
-changes-private changes.Restore m = refl
+changes-private _ m = refl
 
 switches-none : (s : Switch) (m : TerminalMode) → changes_private (Mode (switched s m)) ≡ false
 switches-none switches.Set m = refl
@@ -65,10 +62,9 @@ unknown-ends list flag final xs e = rw e (refl, refl, refl, ([], refl))
 
 remainder-ends : (g : Group) (list rest : List CsiParam) (flag : Bool) (final : ℕ) → IsSuffix list rest → EndsUnknown (puts_mark g) list flag final (remainder g rest flag final)
 remainder-ends g list [] flag final s = tt
-remainder-ends groups.Whole list (t ∷ ts) flag final s = (refl, refl, refl, s)
-remainder-ends groups.Styles list (t ∷ ts) flag final s = (refl, refl, refl, s)
 remainder-ends (groups.Modes c) list (t ∷ ts) flag final s = (refl, refl, refl, s)
 remainder-ends (groups.DecModes c) list (t ∷ ts) flag final s = (refl, refl, refl, (t ∷ ts, refl, s))
+remainder-ends _ list (t ∷ ts) flag final s = (refl, refl, refl, s)
 
 -- no row of a whole list gives what is unknown
 abbrev IsKnown : Action → Type 0
@@ -103,10 +99,9 @@ segmented-ends g list t flag final (x ∷ xs) rest suffix some same cut =
     piece-ends g false list (cut.0 ++ cut.1) flag final _ x _ cut.3.piece (cut-ends g list cut.1 flag final xs rest _ cut.4 (remainder-ends g list rest flag final all))
 
 empty-ends : (g : Group) (list : List CsiParam) (flag : Bool) (final : ℕ) → EndsUnknown false list flag final (empty_action g list flag final ∷ [])
-empty-ends groups.Whole list flag final = unknown-ends list flag final _ refl
 empty-ends groups.Styles list flag final = tt
 empty-ends (groups.Modes s) list flag final = unknown-ends list flag final _ refl
-empty-ends (groups.DecModes c) list flag final = unknown-ends list flag final _ refl
+empty-ends _ list flag final = unknown-ends list flag final _ refl
 
 body-ends : (g : Group) (list t : List CsiParam) (flag : Bool) (final : ℕ) (xs : List Action) → IsSuffix list t → marked g t ≡ list → BodyActions g list t flag final xs → EndsUnknown false list flag final xs
 body-ends g list [] flag final xs suffix same e = rw e (empty-ends g list flag final)

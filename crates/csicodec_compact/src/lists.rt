@@ -142,6 +142,24 @@ impl Lists {
         }
     }
 
+    /// The same of a text that may be the bytes of a sequence before `m`, of which the list is known.
+    fn is_list_as(
+        &mut self,
+        text: &[u8],
+        bytes: &[u8],
+        params: &[CsiParam],
+    ) -> Result<bool, AllocError>
+        requires { Seq bytes.now params.now 109 }
+        ensures { IfOk result (λ yes. yes ≡ true → Seq text.now self.new.params.items 109 × IsStyleList self.new.params.items) }
+    {
+        if text == bytes {
+            self.params.clear();
+            self.params.extend_from_slice(params)?;
+            return Ok(is_plain(&self.params));
+        }
+        self.is_list(text)
+    }
+
     /// Whether the list that was read is of known attributes, and ends in a number.
     fn is_unclosed(&mut self) -> Result<bool, AllocError>
         ensures unclosed { IfOk result (λ yes. yes ≡ true → ¬ EndsInSemicolon self.new.params.items) }
@@ -173,8 +191,14 @@ impl Lists {
         Ok(true)
     }
 
-    /// The form of a text of a sequence of attributes.
-    pub(crate) fn form(&mut self, text: &[u8]) -> Result<Form, AllocError>
+    /// The form of a text that is written for a sequence before `m`, which has these bytes and this list.
+    pub(crate) fn form(
+        &mut self,
+        text: &[u8],
+        bytes: &[u8],
+        params: &[CsiParam],
+    ) -> Result<Form, AllocError>
+        requires { Seq bytes.now params.now 109 }
         ensures { IfOk result (λ form. IsOwn form text.now) }
     {
         if is_reset(text) {
@@ -186,7 +210,7 @@ impl Lists {
         if self.is_blank(text)? {
             return Ok(Form::Blank);
         }
-        if !self.is_list(text)? {
+        if !self.is_list_as(text, bytes, params)? {
             return Ok(Form::Whole);
         }
         if self.is_unclosed()? {

@@ -24,7 +24,8 @@ impl Note for Short {
 
 /// Whether a list before this final is one of attributes, which doesn't stay.
 fn are_attributes(params: &[CsiParam], control: char) -> bool
-    ensures { result ≡ true → stays params.now control ≡ false }
+    ensures free { result ≡ true → stays params.now control ≡ false }
+    ensures end { result ≡ true → control ≡ 109 }
 {
     control == 'm' && !stays(params, control)
 }
@@ -77,13 +78,14 @@ impl Notes {
     }
 
     /// The form of the text.
-    fn form(&mut self, params: &[CsiParam], control: char) -> Result<Form, AllocError>
+    fn form(&mut self, bytes: &[u8], params: &[CsiParam], control: char) -> Result<Form, AllocError>
+        requires { Seq bytes.now params.now control }
         ensures own { IfOk result (λ form. IsOwn form self.old.text.items) }
         ensures free { IfOk result (λ form. is_joined form ≡ true → stays params.now control ≡ false) }
         ensures text { self.new.text.items ≡ self.old.text.items }
     {
         if are_attributes(params, control) {
-            self.lists.form(&self.text)
+            self.lists.form(&self.text, bytes, params)
         } else {
             Ok(Form::Whole)
         }
@@ -102,7 +104,7 @@ impl Notes {
         self.text.clear();
         self.compact
             .rewrite(bytes, params, control, &mut self.text)?;
-        let form = self.form(params, control)?;
+        let form = self.form(bytes, params, control)?;
         write_note(&mut self.note, form, &self.text)?;
         Ok(())
     }

@@ -100,7 +100,7 @@ impl Noted {
 }
 
 /// A table of control sequences that came before, each with its note. It takes no memory at first, and grows while much of what
-/// comes is new; without memory it stays as it is. Each sequence may stand in one of four slots, which are neighbours.
+/// comes is new; without memory it stays as it is. Each sequence may stand in one of eight slots, which are neighbours.
 ///
 /// A caller asks for the [`place`](Memo::place) of what stands in front, then whether it is known there
 /// ([`recall`](Memo::recall), [`find`](Memo::find)), and if not, tells its note once that was found ([`keep`](Memo::keep)).
@@ -218,18 +218,19 @@ impl<N: Note> Memo<N> {
         requires { AreKnown N.notes self.now.slots.items }
         ensures { IfSome result (λ at. StandsAt N.notes bytes.now self.now.slots.items at) }
     {
-        if self.has(place, bytes) {
-            return Some(place);
+        if place >= self.slots.len() || bytes.len() < WIDE {
+            return None;
         }
-        if self.has(place ^ 1, bytes) {
-            return Some(place ^ 1);
+        let near = self.of_two(place, bytes);
+        if near.is_some() {
+            return near;
         }
-        self.further(place ^ 2, bytes)
+        self.further(place, bytes)
     }
 
-    /// The same of two further slots.
-    #[inline(never)]
-    fn further(&self, place: usize, bytes: &[u8]) -> Option<usize>
+    /// The same of a slot and its neighbour.
+    #[inline(always)]
+    fn of_two(&self, place: usize, bytes: &[u8]) -> Option<usize>
         requires { AreKnown N.notes self.now.slots.items }
         ensures { IfSome result (λ at. StandsAt N.notes bytes.now self.now.slots.items at) }
     {
@@ -240,6 +241,23 @@ impl<N: Note> Memo<N> {
             return Some(place ^ 1);
         }
         None
+    }
+
+    /// The same of the six slots beside these.
+    #[inline(never)]
+    fn further(&self, place: usize, bytes: &[u8]) -> Option<usize>
+        requires { AreKnown N.notes self.now.slots.items }
+        ensures { IfSome result (λ at. StandsAt N.notes bytes.now self.now.slots.items at) }
+    {
+        let second = self.of_two(place ^ 2, bytes);
+        if second.is_some() {
+            return second;
+        }
+        let third = self.of_two(place ^ 4, bytes);
+        if third.is_some() {
+            return third;
+        }
+        self.of_two(place ^ 6, bytes)
     }
 
     /// Whether the sequence in front stands in this slot.
@@ -271,7 +289,7 @@ impl<N: Note> Memo<N> {
         }
     }
 
-    /// Keeps them where one of the four slots is free.
+    /// Keeps them where one of the eight slots is free.
     #[inline(never)]
     fn put(&mut self, place: usize, bytes: &[u8], len: usize, text: &[u8])
         requires known { AreKnown N.notes self.old.slots.items }
@@ -311,8 +329,20 @@ impl<N: Note> Memo<N> {
         }
     }
 
-    /// The one of four slots that another sequence has from now on. Beyond the table where all are worth more.
+    /// The one of eight slots that another sequence has from now on. Beyond the table where all are worth more.
     fn free(&mut self, place: usize) -> usize
+        requires { AreKnown N.notes self.old.slots.items }
+        ensures { AreKnown N.notes self.new.slots.items }
+    {
+        let near = self.free_of_four(place);
+        if near < MOST {
+            return near;
+        }
+        self.free_of_four(place ^ 4)
+    }
+
+    /// The same of four slots.
+    fn free_of_four(&mut self, place: usize) -> usize
         requires { AreKnown N.notes self.old.slots.items }
         ensures { AreKnown N.notes self.new.slots.items }
     {

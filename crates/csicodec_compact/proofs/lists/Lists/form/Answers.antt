@@ -4,13 +4,13 @@ use Rattle.csicodec_compact.proofs.lists.Lists.form.Goals as goal
 
 pub returns-then-branch-2 : goal.returns-then-branch-2
 returns-then-branch-2 c =
-    let listed : c.in_ok-is_list.field-0 ≡ true = search rules in
-    let (seq, plain) = c.in_ok-is_list.ensures listed in
+    let listed : c.in_ok-is_list_as.field-0 ≡ true = search rules in
+    let (seq, plain) = c.in_ok-is_list_as.ensures listed in
     let (styles, means) = c.in_ok-is_unclosed.ensures.styles c.if-branch-2.true in
     open_listed c.args.text.now _ styles seq plain (rw c.is_unclosed.ensures.params at (c.in_ok-is_unclosed.ensures.unclosed c.if-branch-2.true)) (rw c.is_unclosed.ensures.params at means)
 
 pub returns : goal.returns
 returns c =
-    let listed : c.in_ok-is_list.field-0 ≡ true = search rules in
-    let (seq, plain) = c.in_ok-is_list.ensures listed in
+    let listed : c.in_ok-is_list_as.field-0 ≡ true = search rules in
+    let (seq, plain) = c.in_ok-is_list_as.ensures listed in
     last_listed c.args.text.now _ seq plain

@@ -1,5 +1,5 @@
-//! Tests of the programs' libraries: what is told of sequences, escape sequences and strings in words, of whole streams by
-//! `explain`, and what `normalise`, `compact`, `strip` and `clean` write.
+//! Tests of the programs' libraries: what `explain` tells of whole streams, and in words of what its list of sequences can't have,
+//! and what `normalise`, `compact`, `strip` and `clean` write.
 #![tactic(auto)]
 
 #[cfg(test)]

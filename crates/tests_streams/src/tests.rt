@@ -3,7 +3,6 @@
 mod commands;
 mod explain;
 mod normal_forms;
-mod readings;
 mod shortest;
 mod strings;
 mod untrusted;

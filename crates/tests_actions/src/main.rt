@@ -1,0 +1,91 @@
+//! Sequences, what each stands for, and how that is written: a table.
+//!
+//! Each line of standard input is a sequence, or bytes that are none, with `\e` for ESC, `\a` for BEL and `\\` for `\`. The program
+//! writes the line, and behind it, with tabs between, the actions that the sequence stands for, as `{:?}` writes them, and the
+//! text of these; `read otherwise` where that text stands for others. Of a refusal it writes the error. An empty line, and one that
+//! begins with `#`, stays as it is. The files `stdin` and `stdout` beside `src/` are the table, which was written by hand.
+#![tactic(auto)]
+
+use csicodec::{CSI, Esc, decode_all, encode_all};
+use std::alloc::{AllocError, Global};
+
+/// The bytes that a line spells.
+fn bytes_of(alloc: Global, line: &str) -> Result<Vec<u8>, AllocError> {
+    let mut bytes = Vec::new(alloc);
+    let mut escaped = false;
+    for byte in line.bytes() {
+        if escaped || byte != b'\\' {
+            bytes.push(match byte {
+                b'e' if escaped => 0x1b,
+                b'a' if escaped => 0x07,
+                _ => byte,
+            })?;
+            escaped = false;
+        } else {
+            escaped = true;
+        }
+    }
+    Ok(bytes)
+}
+
+/// A text as a line spells it.
+fn spelled(alloc: Global, text: &[u8]) -> Result<String, AllocError> {
+    let mut line = String::new(alloc);
+    for byte in text {
+        match *byte {
+            0x1b => line.push_str("\\e")?,
+            b'\\' => line.push_str("\\\\")?,
+            byte => line.push(char::from(byte))?,
+        }
+    }
+    Ok(line)
+}
+
+/// Whether these actions, of which this was written, display so too, are canonical, and are read back.
+fn read_back(alloc: Global, actions: &[CSI], written: &[u8]) -> Result<bool, AllocError> {
+    let mut displayed = String::new(alloc);
+    for action in actions {
+        if !action.is_canonical(alloc, false)? {
+            return Ok(false);
+        }
+        displayed.push_str(action.to_string(alloc)?.as_str())?;
+    }
+    let same = matches!(decode_all(alloc, written, false), Ok(read) if read.as_slice() == actions);
+    Ok(same && displayed.as_bytes() == written)
+}
+
+/// What is told of these bytes: an escape sequence is ESC and one or two bytes, of which the first isn't `[`.
+fn told(alloc: Global, bytes: &[u8]) -> Result<String, AllocError> {
+    let esc = match bytes {
+        [0x1b, control] => Some(Esc::parse(None, *control)),
+        [0x1b, between, control] if *between != b'[' => Some(Esc::parse(Some(*between), *control)),
+        _ => None,
+    };
+    if let Some(esc) = esc {
+        let text = spelled(alloc, esc.to_string(alloc)?.as_bytes())?;
+        return format!(in alloc; "{esc:?}\t{text}");
+    }
+    match decode_all(alloc, bytes, false) {
+        Ok(actions) => {
+            let written = encode_all(alloc, &actions)?;
+            let text = spelled(alloc, &written)?;
+            let same = read_back(alloc, &actions, &written)?;
+            let end = if same { "" } else { "\tread otherwise" };
+            format!(in alloc; "{actions:?}\t{text}{end}")
+        }
+        Err(error) => format!(in alloc; "{error:?}"),
+    }
+}
+
+fn main(rt: HostRuntime) -> anyhow::Result<()> {
+    for line in rt.lines(rt.alloc()) {
+        let line = line?;
+        if line.is_empty() || line.starts_with('#') {
+            println!(rt; "{line}")?;
+        } else {
+            let bytes = bytes_of(rt.alloc(), line.as_str())?;
+            println!(rt; "{line}\t{}", told(rt.alloc(), &bytes)?)?;
+        }
+    }
+    Ok(())
+}

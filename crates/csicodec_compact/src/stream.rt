@@ -37,20 +37,23 @@ fn append_short(
     ensures known { OnOk result (AreKnown IsNote known.new.memo.slots.items) }
 {
     runs.held.begin();
-    let mut cutter = Cutter { mode, rest: bytes };
+    let mut rest = bytes;
+    let mut mode = mode;
     loop {
-        let Cutter { mode, rest } = cutter;
         let len = known.look(limit, rest);
         if len > 0 {
             runs.held.take(known.noted(), known.wide())?;
-            cutter.rest = rest.split_at(len).1;
-            cutter.mode = Mode::Text;
+            rest = rest.split_at(len).1;
+            mode = Mode::Text;
             continue;
         }
+        let mut cutter = Cutter { mode, rest };
         let Some((span, control)) = cutter.next(limit, params)? else {
             return Ok((bytes.len() - rest.len(), mode));
         };
         runs.take(known, rest, span.bytes, params, control, out)?;
+        rest = cutter.rest;
+        mode = cutter.mode;
     }
 }
 

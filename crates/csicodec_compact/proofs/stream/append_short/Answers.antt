@@ -17,7 +17,7 @@ split_at-requires c = (c.look-len.ensures.short c.if-len-gt0.true).1
 pub take-requires-clause-long : goal.take-requires-clause-long
 take-requires-clause-long c =
     let note = c.look-len.ensures.noted c.if-len-gt0.true in
-    note_long (take c.look-len.result c.loop-mode.cutter.rest.now) c.noted.result.now (rw (← c.noted.ensures) at note)
+    note_long (take c.look-len.result c.loop-mode.rest.now) c.noted.result.now (rw (← c.noted.ensures) at note)
 
 pub take-requires-clause-wide : goal.take-requires-clause-wide
 take-requires-clause-wide c = rw c.noted.ensures c.wide.ensures
@@ -26,14 +26,14 @@ pub loop-mode-preserved-then-len-gt0 : goal.loop-mode-preserved-then-len-gt0
 loop-mode-preserved-then-len-gt0 c =
     let (text, out, goes) = c.loop-mode.invariant.goes in
     let (before, whole) = c.loop-mode.invariant.parts in
-    let rest = c.loop-mode.cutter.rest.now in
+    let rest = c.loop-mode.rest.now in
     let len = c.look-len.result in
     let note = c.look-len.ensures.noted c.if-len-gt0.true in
     let (short, within) = c.look-len.ensures.short c.if-len-gt0.true in
     let held = c.in_ok-take.ensures goes.left (take len rest) goes.still (rw (← c.noted.ensures) at note) in
     rw c.split_at.ensures.back (record {
       parts = (before ++ take len rest, whole ∙ ap (λ t. before ++ t) (sym (take-append-drop len rest)) ∙ sym (append_assoc before (take len rest) (drop len rest)));
-      goes = (text, out, goes_one c.args.limit c.args.mode c.loop-mode.cutter.mode c.args.bytes.now text _ rest _ len _ _ goes note.4 short within held);
+      goes = (text, out, goes_one c.args.limit c.args.mode c.loop-mode.mode c.args.bytes.now text _ rest _ len _ _ goes note.4 short within held);
       known = c.look-len.ensures.known;
     })
 
@@ -62,7 +62,7 @@ loop-mode-preserved c =
       goes = (
         text ++ more,
         longer ∙ ap (λ t. t ++ more) out ∙ append_assoc c.args.out.now.items text more,
-        goes_parts c.args.limit c.args.mode c.loop-mode.cutter.mode left.mode c.args.bytes.now text _ c.loop-mode.cutter.rest.now left.rest.now more _ found.parts _ _ goes found.first follows,
+        goes_parts c.args.limit c.args.mode c.loop-mode.mode left.mode c.args.bytes.now text _ c.loop-mode.rest.now left.rest.now more _ found.parts _ _ goes found.first follows,
       );
       known = c.in_ok-take-2.ensures.known;
     }

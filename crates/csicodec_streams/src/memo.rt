@@ -158,17 +158,43 @@ impl<N: Note> Memo<N> {
         ensures none { result ≡ 0 → out.new ≡ out.old }
         ensures known { AreKnown N.notes self.new.slots.items }
     {
-        let Some(at) = self.known(place, bytes) else {
+        if place >= self.slots.len() || bytes.len() < WIDE {
             return 0;
-        };
+        }
+        if self.has(place, bytes) {
+            return self.append(place, bytes, out);
+        }
+        if self.has(place ^ 1, bytes) {
+            return self.append(place ^ 1, bytes, out);
+        }
+        match self.beside(place, bytes) {
+            Some(at) => self.append(at, bytes, out),
+            None => 0,
+        }
+    }
+
+    /// Appends the note of this slot, which is that of the sequence in front.
+    #[inline(always)]
+    fn append(&mut self, at: usize, _bytes: &[u8], out: &mut TextBuffer) -> usize
+        requires known { AreKnown N.notes self.old.slots.items }
+        requires stands { StandsAt N.notes _bytes.now self.old.slots.items at }
+        ensures within { result ≤ length _bytes.now }
+        ensures noted { 0 < result → (text : List ℕ) × N.notes (take result _bytes.now) text × (out.new ≡ out.old ++ text) }
+        ensures none { result ≡ 0 → out.new ≡ out.old }
+        ensures known { AreKnown N.notes self.new.slots.items }
+    {
         let slot = &self.slots[at];
+        let len = usize::from(slot.len);
         match out.push_front(&slot.text, usize::from(slot.text_len)) {
-            Ok(()) => usize::from(slot.len),
+            Ok(()) => {
+                self.hit(at);
+                len
+            }
             Err(_) => 0,
         }
     }
 
-    /// The same, and the note is put into a place of its own.
+    /// The same as [`recall`](Memo::recall), and the note is put into a place of its own.
     #[inline(always)]
     pub fn find(&mut self, place: usize, bytes: &[u8], out: &mut Noted) -> usize
         requires { AreKnown N.notes self.old.slots.items }
@@ -176,29 +202,38 @@ impl<N: Note> Memo<N> {
         ensures noted { 0 < result → N.notes (take result bytes.now) out.new }
         ensures known { AreKnown N.notes self.new.slots.items }
     {
-        let Some(at) = self.known(place, bytes) else {
+        if place >= self.slots.len() || bytes.len() < WIDE {
             return 0;
-        };
+        }
+        if self.has(place, bytes) {
+            return self.copy(place, bytes, out);
+        }
+        if self.has(place ^ 1, bytes) {
+            return self.copy(place ^ 1, bytes, out);
+        }
+        match self.beside(place, bytes) {
+            Some(at) => self.copy(at, bytes, out),
+            None => 0,
+        }
+    }
+
+    /// Copies the note of this slot, which is that of the sequence in front.
+    #[inline(always)]
+    fn copy(&mut self, at: usize, _bytes: &[u8], out: &mut Noted) -> usize
+        requires known { AreKnown N.notes self.old.slots.items }
+        requires stands { StandsAt N.notes _bytes.now self.old.slots.items at }
+        ensures within { result ≤ length _bytes.now }
+        ensures noted { 0 < result → N.notes (take result _bytes.now) out.new }
+        ensures known { AreKnown N.notes self.new.slots.items }
+    {
         let slot = &self.slots[at];
+        let len = usize::from(slot.len);
         *out = Noted {
             text: slot.text,
             len: usize::from(slot.text_len),
         };
-        usize::from(slot.len)
-    }
-
-    /// Where the sequence in front stands, which came again.
-    #[inline(always)]
-    fn known(&mut self, place: usize, bytes: &[u8]) -> Option<usize>
-        requires { AreKnown N.notes self.old.slots.items }
-        ensures found { IfSome result (λ at. StandsAt N.notes bytes.now self.new.slots.items at) }
-        ensures known { AreKnown N.notes self.new.slots.items }
-    {
-        let found = self.place_of(place, bytes);
-        if let Some(at) = found {
-            self.hit(at);
-        }
-        found
+        self.hit(at);
+        len
     }
 
     /// Notes that a sequence came again.
@@ -212,20 +247,21 @@ impl<N: Note> Memo<N> {
         }
     }
 
-    /// Where the sequence in front stands, if it is known.
-    #[inline(always)]
-    fn place_of(&self, place: usize, bytes: &[u8]) -> Option<usize>
+    /// Where the sequence in front stands, if it is in one of the six slots beside its place and the neighbour of that.
+    #[inline(never)]
+    fn beside(&self, place: usize, bytes: &[u8]) -> Option<usize>
         requires { AreKnown N.notes self.now.slots.items }
         ensures { IfSome result (λ at. StandsAt N.notes bytes.now self.now.slots.items at) }
     {
-        if place >= self.slots.len() || bytes.len() < WIDE {
-            return None;
+        let second = self.of_two(place ^ 2, bytes);
+        if second.is_some() {
+            return second;
         }
-        let near = self.of_two(place, bytes);
-        if near.is_some() {
-            return near;
+        let third = self.of_two(place ^ 4, bytes);
+        if third.is_some() {
+            return third;
         }
-        self.further(place, bytes)
+        self.of_two(place ^ 6, bytes)
     }
 
     /// The same of a slot and its neighbour.
@@ -241,23 +277,6 @@ impl<N: Note> Memo<N> {
             return Some(place ^ 1);
         }
         None
-    }
-
-    /// The same of the six slots beside these.
-    #[inline(never)]
-    fn further(&self, place: usize, bytes: &[u8]) -> Option<usize>
-        requires { AreKnown N.notes self.now.slots.items }
-        ensures { IfSome result (λ at. StandsAt N.notes bytes.now self.now.slots.items at) }
-    {
-        let second = self.of_two(place ^ 2, bytes);
-        if second.is_some() {
-            return second;
-        }
-        let third = self.of_two(place ^ 4, bytes);
-        if third.is_some() {
-            return third;
-        }
-        self.of_two(place ^ 6, bytes)
     }
 
     /// Whether the sequence in front stands in this slot.

@@ -1,17 +1,12 @@
 //! One module a subject.
 
+mod built;
 mod bytes;
-mod devices;
 mod escapes;
-mod graphics;
-mod lists;
-mod modes;
-mod pairs;
+mod mouse;
+mod numbers;
 mod parts;
 mod pieces;
 mod readme;
-mod reports;
 mod rest;
-mod whole_lists;
-mod windows;
 mod worked;

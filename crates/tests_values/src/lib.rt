@@ -1,4 +1,4 @@
-//! Tests of what values built by hand are written as, and of which of these texts are read back.
+//! Tests of what values built by hand are written as, which no text gives.
 #![tactic(auto)]
 
 #[cfg(test)]

@@ -1,15 +1,11 @@
-//! Values of each type that are built by hand: their texts, by `Display` and by `encode_all`, and whether these are read
-//! back. A line for each variant; a file a subject.
+//! Values that are built by hand, since no text gives them: their texts, by `Display` and by `encode_all`, and that these are
+//! read otherwise. The values that are read back stand in the table of `tests_actions`, a line for each variant.
 ghost use Rattle.std.specs.Prelude.{◌<◌};
 
-mod attributes;
-mod cursor;
 mod devices;
 mod displays;
-mod keyboard;
-mod modes;
-mod mouse;
 mod unknown;
+mod unread;
 mod windows;
 
 use csicodec::{CSI, OneBased, decode_all, encode_all};

@@ -1,26 +1,10 @@
-//! Bytes that are read whole: their actions, and where they are refused.
+//! Bytes that are read whole, and a sequence into a slice. What bytes stand for, and where they are refused, is the table of
+//! `tests_actions`.
 
 use csicodec::{
-    CSI, ColorSpec, CsiParam, DecodeError, Intensity, ReadError, RunError, Sgr, SrgbaTuple,
-    decode_all, encode_all, normalise, read_csi_within,
+    CsiParam, DecodeError, ReadError, RunError, decode_all, encode_all, normalise, read_csi_within,
 };
 use std::test::Fail;
-
-/// Bold, and a colour by its parts.
-static STYLES: [Sgr; 2] = [
-    Sgr::Intensity(Intensity::Bold),
-    Sgr::Foreground(ColorSpec::TrueColor(SrgbaTuple(1, 2, 3, 255))),
-];
-
-#[test]
-fn reads_sequences(rt: HostRuntime) -> Result<(), Fail> {
-    let actions = decode_all(rt.alloc(), b"\x1b[01;38;2;1;2;3m", false)?;
-    assert_eq!(rt; actions.len(), STYLES.len());
-    for (action, style) in actions.iter().zip(&STYLES) {
-        assert!(rt; *action == CSI::Sgr(*style));
-    }
-    Ok(())
-}
 
 #[test]
 fn nothing_is_nothing(rt: HostRuntime) -> Result<(), Fail> {
@@ -50,18 +34,22 @@ fn reads_into_a_slice(rt: HostRuntime) -> Result<(), Fail> {
     Ok(())
 }
 
+/// Bytes, and the first fault of them.
+static FAULTS: [(&[u8], usize, ReadError); 4] = [
+    (b"\x1b[1", 0, ReadError::Truncated { at: 3 }),
+    (b"\x1b[m\x1b[1", 3, ReadError::Truncated { at: 3 }),
+    (b"\x1b[1mx\x1b[1", 4, ReadError::NotCsi { at: 0 }),
+    (b"\x1b[m\x1b[1\x07", 3, ReadError::BadByte { at: 3 }),
+];
+
 #[test]
-fn refuses_the_first_fault(rt: HostRuntime) {
-    let rows: [(&[u8], usize, ReadError); 4] = [
-        (b"\x1b[1", 0, ReadError::Truncated { at: 3 }),
-        (b"\x1b[m\x1b[1", 3, ReadError::Truncated { at: 3 }),
-        (b"\x1b[1mx\x1b[1", 4, ReadError::NotCsi { at: 0 }),
-        (b"\x1b[m\x1b[1\x07", 3, ReadError::BadByte { at: 3 }),
-    ];
-    for (bytes, start, error) in rows {
-        let refusal = DecodeError::Read { start, error };
-        assert!(rt; matches!(decode_all(rt.alloc(), bytes, false), Err(e) if e == refusal));
-        let mut input = bytes;
+fn normalises_nothing_of_a_fault(rt: HostRuntime) {
+    for (bytes, start, error) in &FAULTS {
+        let refusal = DecodeError::Read {
+            start: *start,
+            error: *error,
+        };
+        let mut input = *bytes;
         let mut written = Vec::new(rt.alloc());
         let answer = normalise(rt.alloc(), &mut input, &mut written);
         assert_eq!(rt; answer, Err(RunError::Decode(refusal)));

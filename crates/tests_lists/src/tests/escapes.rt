@@ -1,4 +1,4 @@
-//! Worked escape sequences.
+//! Escape sequences that no bytes of ASCII are, and the numbers of codes. The others stand in the table of `tests_actions`.
 
 use csicodec::Esc::{self, Code, Unspecified};
 use csicodec::EscCode;
@@ -7,50 +7,9 @@ use std::test::Fail;
 /// The intermediate and the control, the code that they are, if any, and the text.
 type Escape = (Option<u8>, u8, Option<EscCode>, &'static [u8]);
 
-static ESCAPES: [Escape; 15] = [
-    (None, b'7', Some(EscCode::DecSaveCursorPosition), b"\x1b7"),
-    (Some(b'O'), b'S', Some(EscCode::F4Press), b"\x1bOS"),
+static ESCAPES: [Escape; 4] = [
     (Some(0), b'c', Some(EscCode::FullReset), b"\x1bc"),
-    (Some(b'('), b'0', Some(EscCode::DecLineDrawingG0), b"\x1b(0"),
-    (
-        Some(b'('),
-        b'B',
-        Some(EscCode::AsciiCharacterSetG0),
-        b"\x1b(B",
-    ),
-    (Some(b')'), b'0', Some(EscCode::DecLineDrawingG1), b"\x1b)0"),
-    (
-        Some(b')'),
-        b'B',
-        Some(EscCode::AsciiCharacterSetG1),
-        b"\x1b)B",
-    ),
-    (
-        Some(b'#'),
-        b'3',
-        Some(EscCode::DecDoubleHeightTopHalfLine),
-        b"\x1b#3",
-    ),
-    (
-        Some(b'#'),
-        b'4',
-        Some(EscCode::DecDoubleHeightBottomHalfLine),
-        b"\x1b#4",
-    ),
-    (
-        Some(b'#'),
-        b'5',
-        Some(EscCode::DecSingleWidthLine),
-        b"\x1b#5",
-    ),
-    (
-        Some(b'#'),
-        b'6',
-        Some(EscCode::DecDoubleWidthLine),
-        b"\x1b#6",
-    ),
     (Some(0), b'a', None, b"\x1b\x00a"),
-    (Some(b'('), b'Z', None, b"\x1b(Z"),
     (None, 0xe9, None, b"\x1b\xc3\xa9"),
     (Some(0xff), 0xff, None, b"\x1b\xc3\xbf\xc3\xbf"),
 ];

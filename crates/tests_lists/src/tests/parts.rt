@@ -1,8 +1,8 @@
-//! Actions that are made of their parts, and the text of one appended.
+//! Actions that are made of their parts, their copies, and their texts: appended, and displayed.
 
 use csicodec::{
-    CSI, CsiParam, Cursor, DecPrivateMode, DecPrivateModeCode, Device, Edit, Keyboard, Mode,
-    Modifiers, MouseButton, MouseReport, NotOneBased, OneBased, Sgr, TerminalMode,
+    CSI, CsiParam, Cursor, DecPrivateMode, DecPrivateModeCode, Device, Edit, EraseInLine, Keyboard,
+    Mode, Modifiers, MouseButton, MouseReport, NotOneBased, OneBased, Sgr, TerminalMode,
     TerminalModeCode, Unspecified, Window, encode,
 };
 use std::test::Fail;
@@ -69,6 +69,27 @@ fn appends_actions_of_their_parts(rt: HostRuntime) -> Result<(), Fail> {
         encode(&action, &mut out)?;
         assert_eq!(rt; out.first(), Some(&b'a'), "before {text}");
         assert_eq!(rt; &out[1..], text.as_bytes());
+        assert!(rt; action.clone(alloc)? == action, "{text}");
+        assert!(rt; format!(in alloc; "{action}")?.as_str() == text, "{text}");
     }
+    Ok(())
+}
+
+/// Each of these displays as its text does without `ESC [`.
+#[test]
+fn displays(rt: HostRuntime) -> Result<(), Fail> {
+    let line = OneBased::new(1);
+    let home = Cursor::Position { line, col: line };
+    assert_eq!(rt; format!(in rt.alloc(); "{home}")?.as_str(), "1;1H");
+    let erase = Edit::EraseInLine(EraseInLine::EraseToEndOfLine);
+    assert_eq!(rt; format!(in rt.alloc(); "{erase}")?.as_str(), "K");
+    let insert = Mode::SetMode(TerminalMode::Unspecified(4));
+    assert_eq!(rt; format!(in rt.alloc(); "{insert}")?.as_str(), "4h");
+    let parameters = Device::RequestTerminalParameters(-3);
+    assert!(rt; parameters.clone(rt.alloc())? == parameters);
+    assert_eq!(rt;
+        format!(in rt.alloc(); "{parameters}")?.as_str(),
+        "-1;1;1;128;128;1;0x"
+    );
     Ok(())
 }

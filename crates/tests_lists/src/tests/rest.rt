@@ -1,6 +1,6 @@
 //! What is left of a list, and what a run over it costs.
 
-use super::worked::tokens_of;
+use super::worked::{gives, tokens_of};
 use csicodec::{CSI, CsiParam, Look, Run, Tokens, encode_all, parse_all};
 use std::alloc::{AllocError, Global};
 use std::test::Fail;
@@ -98,7 +98,7 @@ fn looks_are_few(rt: HostRuntime) -> Result<(), Fail> {
 }
 
 /// Lists whose last action is unknown, of each group of lists and each subject.
-static UNKNOWN: [(&str, char); 15] = [
+static UNKNOWN: [(&str, char); 16] = [
     ("1;1231231;3", 'm'),
     ("1;<", 'm'),
     (">3;1", 'm'),
@@ -109,6 +109,7 @@ static UNKNOWN: [(&str, char); 15] = [
     ("?6;1", 'J'),
     ("9;4", 't'),
     ("7*", 'y'),
+    ("7", 'y'),
     ("?1;;", 'S'),
     ("?1;1", 'c'),
     ("<32;1;1", 'm'),
@@ -116,13 +117,21 @@ static UNKNOWN: [(&str, char); 15] = [
     ("3 ", 'k'),
 ];
 
-/// The flag comes into what is unknown, and changes nothing else.
+/// The flag comes into what is unknown, and changes nothing else; and all at once are as one by one.
 #[test]
 fn the_flag_is_kept(rt: HostRuntime) -> Result<(), Fail> {
     for (text, control) in &UNKNOWN {
         let list = tokens_of(rt.alloc(), text)?;
         let mut cut = parse_all(rt.alloc(), &list, true, *control)?;
         let mut whole = parse_all(rt.alloc(), &list, false, *control)?;
+        assert!(rt;
+            gives(CSI::parse(rt.alloc(), &list, false, *control), &whole),
+            "{text}"
+        );
+        assert!(rt;
+            encode_all(rt.alloc(), &cut)? == encode_all(rt.alloc(), &whole)?,
+            "{text}"
+        );
         let last = match (cut.pop(), whole.pop()) {
             (Some(CSI::Unspecified(cut)), Some(CSI::Unspecified(whole))) => {
                 cut.parameters_truncated
@@ -134,5 +143,17 @@ fn the_flag_is_kept(rt: HostRuntime) -> Result<(), Fail> {
         };
         assert!(rt; last && cut == whole, "{text}");
     }
+    Ok(())
+}
+
+/// Ten thousand empty fields are no row of windows, and stay as they came.
+#[test]
+fn many_fields(rt: HostRuntime) -> Result<(), Fail> {
+    let params = vec![in rt.alloc(); CsiParam::P(b';'); 10_000]?;
+    let actions = parse_all(rt.alloc(), &params, false, 't')?;
+    assert!(rt;
+        matches!(actions.as_slice(), [CSI::Unspecified(unknown)] if unknown.params.len() == 10_000)
+    );
+    assert_eq!(rt; encode_all(rt.alloc(), &actions)?.len(), 10_003);
     Ok(())
 }

@@ -1,4 +1,4 @@
-//! Devices, their extensions, and graphics.
+//! Devices, their extensions, and graphics, with what no sequence says.
 
 use super::check;
 use csicodec::CsiParam::{Integer, P};
@@ -9,61 +9,26 @@ use csicodec::{
 use std::alloc::Global;
 use std::test::Fail;
 
-/// Devices without lists.
+/// Requests for the terminal's parameters, which are written as the report, and the texts.
+static PARAMETERS: [(i64, &str); 8] = [
+    (0, "\x1b[2;1;1;128;128;1;0x"),
+    (1, "\x1b[3;1;1;128;128;1;0x"),
+    (-1, "\x1b[1;1;1;128;128;1;0x"),
+    (-2, "\x1b[0;1;1;128;128;1;0x"),
+    (-3, "\x1b[-1;1;1;128;128;1;0x"),
+    (i64::MAX, "\x1b[9223372036854775809;1;1;128;128;1;0x"),
+    (
+        9223372036854775805,
+        "\x1b[9223372036854775807;1;1;128;128;1;0x",
+    ),
+    (i64::MIN, "\x1b[-9223372036854775806;1;1;128;128;1;0x"),
+];
+
 #[test]
-fn devices(rt: HostRuntime) -> Result<(), Fail> {
-    let rows: [(Device, &str, bool); 13] = [
-        (
-            Device::DeviceAttributes(DeviceAttributes::Vt100WithAdvancedVideoOption),
-            "\x1b[?1;2c",
-            true,
-        ),
-        (
-            Device::DeviceAttributes(DeviceAttributes::Vt101WithNoOptions),
-            "\x1b[?1;0c",
-            true,
-        ),
-        (
-            Device::DeviceAttributes(DeviceAttributes::Vt102),
-            "\x1b[?6c",
-            true,
-        ),
-        (Device::SoftReset, "\x1b[!p", true),
-        (Device::RequestPrimaryDeviceAttributes, "\x1b[c", true),
-        (Device::RequestSecondaryDeviceAttributes, "\x1b[>c", true),
-        (Device::RequestTertiaryDeviceAttributes, "\x1b[=c", true),
-        (Device::RequestTerminalNameAndVersion, "\x1b[>q", true),
-        (Device::StatusReport, "\x1b[5n", true),
-        (
-            Device::RequestTerminalParameters(0),
-            "\x1b[2;1;1;128;128;1;0x",
-            false,
-        ),
-        (
-            Device::RequestTerminalParameters(1),
-            "\x1b[3;1;1;128;128;1;0x",
-            false,
-        ),
-        (
-            Device::RequestTerminalParameters(i64::MAX),
-            "\x1b[9223372036854775809;1;1;128;128;1;0x",
-            false,
-        ),
-        (
-            Device::RequestTerminalParameters(i64::MIN),
-            "\x1b[-9223372036854775806;1;1;128;128;1;0x",
-            false,
-        ),
-    ];
-    for (value, text, canonical) in rows {
-        check(
-            &rt,
-            rt.alloc(),
-            CSI::Device(Box::new(rt.alloc(), value)?),
-            false,
-            text,
-            canonical,
-        )?;
+fn parameters(rt: HostRuntime) -> Result<(), Fail> {
+    for (number, text) in &PARAMETERS {
+        let device = CSI::from_device(rt.alloc(), Device::RequestTerminalParameters(*number))?;
+        check(&rt, rt.alloc(), device, false, text, false)?;
     }
     Ok(())
 }
@@ -79,101 +44,37 @@ fn terminal(alloc: Global, class: u8, attributes: &[DeviceAttribute]) -> Result<
     Ok(CSI::Device(Box::new(alloc, Device::DeviceAttributes(attributes))?))
 }
 
-/// Extensions, their texts, and whether these are read back.
-static EXTENSIONS: [(DeviceAttribute, &str, bool); 19] = [
-    (
-        DeviceAttribute::Code(DeviceAttributeCodes::Columns132),
-        "1",
-        true,
-    ),
-    (
-        DeviceAttribute::Code(DeviceAttributeCodes::Printer),
-        "2",
-        true,
-    ),
-    (
-        DeviceAttribute::Code(DeviceAttributeCodes::RegisGraphics),
-        "3",
-        true,
-    ),
-    (
-        DeviceAttribute::Code(DeviceAttributeCodes::SixelGraphics),
-        "4",
-        true,
-    ),
-    (
-        DeviceAttribute::Code(DeviceAttributeCodes::SelectiveErase),
-        "6",
-        true,
-    ),
-    (
-        DeviceAttribute::Code(DeviceAttributeCodes::UserDefinedKeys),
-        "8",
-        true,
-    ),
-    (
-        DeviceAttribute::Code(DeviceAttributeCodes::NationalReplacementCharsets),
-        "9",
-        true,
-    ),
-    (
-        DeviceAttribute::Code(DeviceAttributeCodes::TechnicalCharacters),
-        "15",
-        true,
-    ),
-    (
-        DeviceAttribute::Code(DeviceAttributeCodes::UserWindows),
-        "18",
-        true,
-    ),
-    (
-        DeviceAttribute::Code(DeviceAttributeCodes::HorizontalScrolling),
-        "21",
-        true,
-    ),
-    (
-        DeviceAttribute::Code(DeviceAttributeCodes::AnsiColor),
-        "22",
-        true,
-    ),
-    (
-        DeviceAttribute::Code(DeviceAttributeCodes::AnsiTextLocator),
-        "29",
-        true,
-    ),
-    (DeviceAttribute::Unspecified(P(b'$')), "$", true),
-    (DeviceAttribute::Unspecified(P(b';')), ";", false),
-    (DeviceAttribute::Unspecified(P(b'A')), "A", false),
-    (DeviceAttribute::Unspecified(Integer(1)), "1", false),
-    (DeviceAttribute::Unspecified(Integer(99)), "99", true),
-    (DeviceAttribute::Unspecified(Integer(-1)), "-1", false),
-    (DeviceAttribute::Unspecified(P(0xff)), "ÿ", false),
+/// Extensions that are read as others or not at all, and what is written for them.
+static EXTENSIONS: [(CsiParam, &str); 7] = [
+    (P(b';'), ";"),
+    (P(b'A'), "A"),
+    (P(b'1'), "1"),
+    (Integer(1), "1"),
+    (Integer(-1), "-1"),
+    (P(0xe9), "é"),
+    (P(0xff), "ÿ"),
 ];
 
 /// Each extension alone, and behind another one, of each service class.
 #[test]
 fn extensions(rt: HostRuntime) -> Result<(), Fail> {
     let first = DeviceAttribute::Code(DeviceAttributeCodes::AnsiColor);
-    for (attribute, text, canonical) in &EXTENSIONS {
+    for (token, text) in &EXTENSIONS {
+        let attribute = DeviceAttribute::Unspecified(*token);
         for class in 62..65 {
-            let alone = terminal(rt.alloc(), class, &[*attribute])?;
+            let alone = terminal(rt.alloc(), class, &[attribute])?;
             let said = format!(in rt.alloc(); "\x1b[?{class};{text}c")?;
-            check(&rt, rt.alloc(), alone, false, said.as_str(), *canonical)?;
-            let second = terminal(rt.alloc(), class, &[first, *attribute])?;
+            check(&rt, rt.alloc(), alone, false, said.as_str(), false)?;
+            let second = terminal(rt.alloc(), class, &[first, attribute])?;
             let said = format!(in rt.alloc(); "\x1b[?{class};22;{text}c")?;
-            check(&rt, rt.alloc(), second, false, said.as_str(), *canonical)?;
+            check(&rt, rt.alloc(), second, false, said.as_str(), false)?;
         }
-    }
-    for class in 62..65 {
-        let none = terminal(rt.alloc(), class, &[])?;
-        let said = format!(in rt.alloc(); "\x1b[?{class}c")?;
-        check(&rt, rt.alloc(), none, false, said.as_str(), true)?;
     }
     Ok(())
 }
 
 /// Graphics without values, their texts, and whether these are read back.
-static GRAPHICS: [(XtSmGraphicsItem, i64, &str, bool); 8] = [
+static GRAPHICS: [(XtSmGraphicsItem, i64, &str, bool); 13] = [
     (
         XtSmGraphicsItem::NumberOfColorRegisters,
         0,
@@ -202,13 +103,44 @@ static GRAPHICS: [(XtSmGraphicsItem, i64, &str, bool); 8] = [
         "\x1b[?3;-9223372036854775808",
         false,
     ),
+    (
+        XtSmGraphicsItem::RegisGraphicsGeometry,
+        -1,
+        "\x1b[?3;-1",
+        false,
+    ),
+    (
+        XtSmGraphicsItem::RegisGraphicsGeometry,
+        3,
+        "\x1b[?3;3",
+        true,
+    ),
+    (XtSmGraphicsItem::Unspecified(3), 1, "\x1b[?3;1", false),
+    (
+        XtSmGraphicsItem::Unspecified(i64::MIN),
+        1,
+        "\x1b[?-9223372036854775808;1",
+        false,
+    ),
+    (
+        XtSmGraphicsItem::Unspecified(i64::MIN),
+        i64::MAX,
+        "\x1b[?-9223372036854775808;9223372036854775807",
+        false,
+    ),
 ];
 
 /// Values, their texts, and whether these are read back.
-static VALUES: [(&[i64], &str, bool); 3] = [
+static VALUES: [(&[i64], &str, bool); 5] = [
     (&[], "S", true),
     (&[0, i64::MAX], ";0;9223372036854775807S", true),
     (&[5, -1], ";5;-1S", false),
+    (&[1, i64::MIN], ";1;-9223372036854775808S", false),
+    (
+        &[i64::MIN, 0, i64::MAX],
+        ";-9223372036854775808;0;9223372036854775807S",
+        false,
+    ),
 ];
 
 /// Graphics without values, with values that a sequence can have, and with one that it can't.

@@ -3,7 +3,6 @@
 
 mod controls;
 mod decoded;
-mod escape;
 mod explain;
 mod fields;
 mod json;

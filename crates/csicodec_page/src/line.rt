@@ -1,9 +1,8 @@
 //! The begin of a line: when and where a span came, and its bytes.
 
-use crate::escape::append_escaped;
 use crate::style::Style;
 use csicodec_spans::Kind;
-use csicodec_strings::Quoted;
+use csicodec_strings::{Quoted, append_escaped};
 use itoa::write_digits;
 use std::alloc::AllocError;
 use std::fmt::Write;

@@ -1,10 +1,12 @@
-//! Control strings in words: what an OSC, a DCS or an APC does, as the documents of xterm, DEC, kitty, iTerm2 and others say.
+//! Control strings in words: what an OSC, a DCS or an APC does, as the documents of xterm, DEC, kitty, iTerm2 and others say;
+//! and bytes as they are shown.
 #![tactic(auto)]
 
 mod answers;
 mod clipboard;
 mod colors;
 mod device;
+mod escape;
 mod fields;
 mod graphics;
 mod iterm;
@@ -16,6 +18,7 @@ use crate::device::device_control;
 use crate::fields::Body;
 use crate::graphics::graphics;
 use crate::osc::command;
+pub use escape::append_escaped;
 pub use shown::{Quoted, Shown, is_seen};
 use std::fmt;
 

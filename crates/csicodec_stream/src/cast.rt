@@ -3,7 +3,7 @@
 use csicodec_command::{Failure, Recording, time_of};
 use csicodec_compact::Compactor;
 use csicodec_filter::{Faithful, Filter, NormalForm};
-use csicodec_safe::{Cleaner, Dropped, Kept, Rule};
+use csicodec_safe::{Cleaner, Dropped, Kept, Rule, strip};
 use csicodec_streams::{RunError, send};
 use serde_json::Value;
 use std::alloc::{AllocError, Global};
@@ -57,6 +57,11 @@ impl Stage {
         }
     }
 
+    /// Whether the data are made safe, so that nothing else of the recording may be a control either.
+    fn is_safe(&self) -> bool {
+        matches!(self, Stage::Plain(_) | Stage::Styled(_))
+    }
+
     /// Nothing comes any more: what was held is appended.
     fn finish(&mut self, out: &mut Vec<u8>) -> Result<(), AllocError> {
         match self {
@@ -74,9 +79,26 @@ fn no_memory(_: AllocError) -> Failure {
     Failure::Run(RunError::Memory)
 }
 
+/// A line as it is; where the data are made safe as `strip` leaves it, since a comment, a header or an event of another kind may
+/// have controls of its own.
+fn send_line<W: Write>(
+    alloc: Global,
+    stage: &Stage,
+    line: &str,
+    output: &mut W,
+) -> Result<(), Failure> {
+    if !stage.is_safe() {
+        return Ok(send(output, line.as_bytes())?);
+    }
+    let mut text = strip(alloc, line.trim_end().as_bytes()).map_err(no_memory)?;
+    text.extend_from_slice(b"\n").map_err(no_memory)?;
+    Ok(send(output, &text)?)
+}
+
 /// An event of data that a program wrote, as a line.
 fn send_event<W: Write>(
     alloc: Global,
+    stage: &Stage,
     time: &str,
     data: &[u8],
     output: &mut W,
@@ -84,11 +106,11 @@ fn send_event<W: Write>(
     let data = String::from_utf8_lossy(alloc, data).map_err(no_memory)?;
     let data = Value::String(data).to_string(alloc).map_err(no_memory)?;
     let line = format!(in alloc; "[{time}, \"o\", {data}]\n").map_err(no_memory)?;
-    Ok(send(output, line.as_bytes())?)
+    send_line(alloc, stage, &line, output)
 }
 
-/// Writes a recording whose events have what becomes of their data, at the same times; all else stays as it is. What isn't over
-/// at the last event stands in one more, at its time.
+/// Writes a recording whose events have what becomes of their data, at the same times; all else stays as it is, but for controls
+/// where the data are made safe. What isn't over at the last event stands in one more, at its time.
 pub fn rewrite_cast<R: BufRead, W: Write>(
     alloc: Global,
     stage: &mut Stage,
@@ -104,13 +126,13 @@ pub fn rewrite_cast<R: BufRead, W: Write>(
             break;
         };
         let Some(data) = reading.take(text)? else {
-            send(output, text.as_bytes())?;
+            send_line(alloc, stage, text, output)?;
             continue;
         };
         let time = time_of(text.trim());
         out.clear();
         stage.push(data.as_bytes(), &mut out).map_err(no_memory)?;
-        send_event(alloc, time, &out, output)?;
+        send_event(alloc, stage, time, &out, output)?;
         if reading.counts_from_begin() {
             last.clear();
             last.push_str(time).map_err(no_memory)?;
@@ -119,7 +141,7 @@ pub fn rewrite_cast<R: BufRead, W: Write>(
     out.clear();
     stage.finish(&mut out).map_err(no_memory)?;
     if !out.is_empty() {
-        send_event(alloc, &last, &out, output)?;
+        send_event(alloc, stage, &last, &out, output)?;
     }
     reading.end()
 }

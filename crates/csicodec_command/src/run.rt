@@ -91,6 +91,7 @@ impl<'a> Run<'a> {
 /// program ends with.
 pub fn failed(rt: &HostRuntime, failure: Failure, name: &str, reason: Option<io::Error>) -> u8 {
     let is_of_file = name != INPUT && !matches!(failure, Failure::Run(RunError::Write));
+    let name = name.escape_debug();
     // Where standard error is gone too, the status is all that can be told.
     let _told = match (is_of_file, reason) {
         (true, Some(reason)) => eprintln!(rt; "{failure}: {name}: {reason}"),
@@ -210,19 +211,28 @@ pub fn refused(rt: &HostRuntime, wrong: Wrong<'_>) -> u8 {
     let _told = match wrong {
         Wrong::Nothing => eprintln!(rt; "{failure}\n{USAGE}"),
         Wrong::NoCommand(word, Some(known)) => {
+            let word = word.escape_debug();
             eprintln!(rt; "{failure}: {word} (the nearest is {known})\n{USAGE}")
         }
-        Wrong::NoCommand(word, None) => eprintln!(rt; "{failure}: {word}\n{USAGE}"),
+        Wrong::NoCommand(word, None) => {
+            let word = word.escape_debug();
+            eprintln!(rt; "{failure}: {word}\n{USAGE}")
+        }
         Wrong::UnknownOption(word, Some(known)) => {
+            let word = word.escape_debug();
             eprintln!(rt; "{failure}: {word} (the nearest is {known})\n{HINT}")
         }
-        Wrong::UnknownOption(word, None) => eprintln!(rt; "{failure}: {word}\n{HINT}"),
+        Wrong::UnknownOption(word, None) => {
+            let word = word.escape_debug();
+            eprintln!(rt; "{failure}: {word}\n{HINT}")
+        }
         Wrong::Misplaced(word, of) => {
-            let of = of.word();
+            let (word, of) = (word.escape_debug(), of.word());
             eprintln!(rt; "{failure}: {word} (of {of})\n{HINT}")
         }
         Wrong::NoValue(word, values) => { eprintln!(rt; "{failure}: {word} ({values})\n{HINT}") }
         Wrong::NotValue(word, value, values) => {
+            let value = value.escape_debug();
             eprintln!(rt; "{failure} of {word}: {value} ({values})\n{HINT}")
         }
         Wrong::NotText | Wrong::Memory => eprintln!(rt; "{failure}"),

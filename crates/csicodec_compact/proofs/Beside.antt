@@ -1,5 +1,5 @@
 -- Runs of parts, one after the other.
-use Rattle.std.proofs.Common.{◌≡◌, ◌≢◌, ◌≤◌, ◌+◌, ◌-◌, ℕ, Bool, true, false, not, Option, None, Some, IfSome, List, [], ◌∷◌, ◌++◌, MatchOption, inl, inr, length, take, drop, refl, sym, ap, subst, ◌∙◌, append_assoc, append-nil, arith}
+use Rattle.std.proofs.Common.{◌≡◌, ◌≢◌, ◌≤◌, ◌+◌, ◌-◌, ℕ, Bool, true, false, not, Option, None, Some, IfSome, List, [], ◌∷◌, ◌++◌, MatchOption, inl, inr, ⊎_elim, length, take, drop, refl, sym, ap, subst, ◌∙◌, append_assoc, append-nil, arith}
 use Rattle.std.specs.Prelude.{◌&&◌, slice_get}
 use Rattle.std.proofs.lemmas.Bool.{cases_Bool, true≢false}
 use Rattle.std.proofs.lemmas.Grind.{flat_map-append}
@@ -23,11 +23,14 @@ use Rattle.csicodec_spans.specs.Parts.{Part, part, bytes_of, left_over, AreAll, 
 use Rattle.csicodec_spans.proofs.OneSpan.{none_unsure}
 use Rattle.csicodec_spans.proofs.Kept.{parts_more, parts_on}
 use Rattle.csicodec_filter.specs.Faithful.{stays}
+use Rattle.csicodec_filter.specs.Transform.{Begins as BeginsWith, Sends, Transforms}
 use Rattle.csicodec_filter.proofs.Filtered.{one_first}
 use Rattle.csicodec_compact.specs.Compacts.{Compacts, ReadsAlike}
 use Rattle.csicodec_compact.specs.Runs.{IsStaying, NoneStays, Shortens, AreRuns, IsShortened, PassesShort, CompactsAll}
 use Rattle.csicodec_compact.specs.declared.form.Form.{Form}
 use Rattle.csicodec_compact.specs.declared.form.Form.TheVariants as forms
+use Rattle.csicodec_compact.specs.declared.all.Compacting.{Compacting}
+use Rattle.csicodec_compact.specs.Private.Run.{Leaves, PassesSince}
 use Rattle.csicodec_compact.specs.Private.Steps.{Begins, form_of, closing, is_semicolon, joint, behind, is_joined, may_join, opened, list_of, IsTail, IsListed, IsOwn, IsNotedList, IsNoted, IsNote, GoesOnFrom, IsHeld, Follows, GoesOn}
 use Rattle.csicodec_compact.proofs.JoinedLists.{tail_joined, tail_decodes, joint_short}
 
@@ -382,7 +385,27 @@ compacts_all limit m a bytes text rest h = record {
 pub passes_none : (limit : ℕ) → PassesShort limit mode.Text [] [] [] mode.Text
 passes_none limit = record { parts = []; first = (refl, refl); unsure = none_unsure limit mode.Text; shortened = shortened_none }
 
--- by its final byte, a span's tokens
+-- ---- a run, from state to state
+
+-- all bytes, and what was held
+pub compacted : (first : Compacting) (bytes text : List ℕ) → Transforms PassesSince Leaves first bytes text → CompactsAll first.compactor.limit mode.Text bytes text
+compacted first bytes text (last, sure, rest, since, left, split) =
+    rw (split, left) (compacts_all first.compactor.limit mode.Text last.compactor.mode bytes sure last.compactor.bytes since.passed)
+
+-- what went out is a front of what is made of the bytes
+pub begun_compacts : (first : Compacting) (AreAll : Type 0) (bytes sent : List ℕ) → BeginsWith (Sends PassesSince first) (Transforms PassesSince Leaves first) AreAll bytes sent
+    → (unsent : List ℕ) × CompactsAll first.compactor.limit mode.Text bytes (sent ++ unsent)
+begun_compacts first AreAll bytes sent (unsent, h) = ⊎_elim
+    (λ (k : Sends PassesSince first bytes (sent ++ unsent)).
+    let (last, since) = k in
+    let all = compacts_all first.compactor.limit mode.Text last.compactor.mode bytes (sent ++ unsent) last.compactor.bytes since.passed in
+    (unsent ++ last.compactor.bytes, subst (λ (t : List ℕ). CompactsAll first.compactor.limit mode.Text bytes t) (append_assoc sent unsent last.compactor.bytes) all))
+    (λ (k : AreAll × Transforms PassesSince Leaves first bytes (sent ++ unsent)). (unsent, compacted first bytes (sent ++ unsent) k.1))
+    h
+
+-- ---- a span, by its final byte
+
+-- its tokens
 pub by_seq : (control : Option ℕ) (k : Kind) (bytes : List ℕ) (list : List CsiParam) → MatchOption control (k ≢ kind.Csi) (λ final. (k ≡ kind.Csi) × Seq bytes list final) → IfSome control (λ final. Seq bytes list final)
 by_seq None k bytes list h = tt
 by_seq (Some final) k bytes list h = h.1

@@ -2,4 +2,3 @@ pub mod Told
 pub mod Joined
 pub mod JoinedLists
 pub mod Beside
-pub mod Running

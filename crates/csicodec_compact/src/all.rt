@@ -8,10 +8,38 @@ ghost use Rattle.csicodec_compact.specs.Runs.{CompactsAll, PassesShort};
 use crate::compact::Compact;
 use crate::notes::Short;
 use crate::stream::Compactor;
-use csicodec_filter::Known;
-use csicodec_streams::{CHUNK, RunError, receive, send};
-use std::alloc::Global;
+use csicodec_filter::{Known, Transform, transform_all};
+use csicodec_streams::RunError;
+use std::alloc::{AllocError, Global};
 use std::io::{Read, Write};
+
+/// A compactor, and the sequences that came before, which it keeps from piece to piece.
+#[derive(Drop)]
+struct Compacting {
+    compactor: Compactor,
+    known: Known<Short>,
+}
+
+impl Transform for Compacting {
+    ghost use Rattle.csicodec_streams.specs.Known.{AreKnown};
+    ghost use Rattle.csicodec_compact.specs.Private.Run.{Leaves, PassesSince};
+    ghost use Rattle.csicodec_compact.specs.Private.Steps.{IsNote};
+
+    ghost stands = { λ now. AreKnown IsNote now.known.memo.slots.items };
+
+    ghost passes = { PassesSince };
+
+    ghost ends = { Leaves };
+
+    fn take(&mut self, bytes: &[u8], out: &mut Vec<u8>) -> Result<(), AllocError> {
+        self.compactor.push_known(&mut self.known, bytes, out)?;
+        Ok(())
+    }
+
+    fn end(&mut self, out: &mut Vec<u8>) -> Result<(), AllocError> {
+        self.compactor.finish(out)
+    }
+}
 
 /// Reads to the end, and writes what a [`Compactor`] makes of the stream; after each read all that is sure is written and flushed.
 ///
@@ -44,27 +72,7 @@ pub fn compact_all<R: Read, W: Write>(
         × Consumes (R.remaining input.old) (R.remaining input.new) (bytes ++ more) × CompactsAll limit Plain bytes (sent ++ unsent)
         × Appends (W.contents output.old) (W.contents output.new) sent) }
 {
-    let mut compactor = Compactor::new(alloc, limit, compact);
-    let mut known: Known<Short> = Known::new(alloc);
-    let mut out = Vec::new(alloc);
-    let mut chunk = [0u8; CHUNK];
-    for _ in 0..u64::MAX {
-        let Ok(count) = receive(input, &mut chunk) else {
-            return Err(RunError::Read);
-        };
-        out.clear();
-        if count == 0 {
-            let Ok(()) = compactor.finish(&mut out) else {
-                return Err(RunError::Memory);
-            };
-            return send(output, &out);
-        }
-        let Ok(()) = compactor.push_known(&mut known, &chunk[..count], &mut out) else {
-            return Err(RunError::Memory);
-        };
-        let Ok(()) = send(output, &out) else {
-            return Err(RunError::Write);
-        };
-    }
-    Err(RunError::Read)
+    let compactor = Compactor::new(alloc, limit, compact);
+    let known = Known::new(alloc);
+    transform_all(alloc, Compacting { compactor, known }, input, output)
 }

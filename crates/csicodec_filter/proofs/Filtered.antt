@@ -2,8 +2,7 @@
 use Rattle.std.proofs.Common.{◌≡◌, ◌≢◌, ◌<◌, ◌≤◌, ◌⊎◌, ℕ, Option, None, Some, IfSome, MatchOption, List, [], ◌∷◌, ◌++◌, length, take, drop, refl, sym, ap, subst, ◌∙◌, append_assoc, append-nil, arith}
 use Rattle.std.proofs.lemmas.List.{length-take, take-append-drop}
 use Rattle.std.specs.List.{AllByRecursion, flat_map}
-use Rattle.std.specs.Io.KnownBytes.{Appends, Consumes, IsAtEnd, Keeps}
-use Rattle.std.proofs.KnownBytes.{Appends-trans, Consumes-trans, Consumes-whole}
+use Rattle.std.specs.Io.KnownBytes.{Appends, Consumes, IsAtEnd}
 use Rattle.csicodec_tokens.specs.declared.param.CsiParam.{CsiParam}
 use Rattle.csicodec_tokens.specs.Sequence.{Seq}
 use Rattle.csicodec_spans.specs.declared.table.Kind.{Kind}
@@ -18,7 +17,11 @@ use Rattle.csicodec_spans.proofs.Kept.{unsure_short, parts_more, parts_on}
 use Rattle.csicodec_spans.proofs.Once.{parts_front, whole_once}
 use Rattle.csicodec_streams.specs.Decoding.{NormalisesTo}
 use Rattle.csicodec_streams.specs.Known.{IsOne}
+use Rattle.csicodec_filter.specs.declared.run.Filtering.{Filtering}
 use Rattle.csicodec_filter.specs.Filter.{WritesOne, IsWritten, AreWritten, Passes, Filters, IsFrontOf}
+use Rattle.csicodec_filter.specs.Private.Run.{Leaves, PassesSince}
+use Rattle.csicodec_filter.specs.Transform.{Begins, Sends, Transforms}
+use Rattle.csicodec_filter.proofs.Sent.{whole_front}
 
 pub weaker_part : (V W : List ℕ → List ℕ → Type 0) (k : Kind) (b t : List ℕ) → ((b t : List ℕ) → V b t → W b t) → IsWritten V k b t → IsWritten W k b t
 weaker_part V W kind.Csi b t f h = f b t h
@@ -156,46 +159,9 @@ module _ (Writes : List ℕ → List ℕ → Type 0) where
       let parts : f.parts ≡ h.parts ++ [] = same ∙ sym (append-nil h.parts) in
       front_text unique h.parts [] text whole h.written (subst (λ (x : List Part). AreWritten Writes x whole) parts f.written)
 
--- ---- readers and writers
+-- ---- from state to state
 
--- a stream from a reader to a writer, by what is known of both
 module _ (Writes : List ℕ → List ℕ → Type 0) where
-  abbrev pub SentFront : ℕ → Option (List ℕ) → Option (List ℕ) → Option (List ℕ) → Type 0
-  SentFront limit i w x = IfSome i (λ bytes. (sent : List ℕ) × IsFrontOf Writes limit mode.Text bytes sent × Appends w x sent)
-
-  -- what was written is a front, where some of the input was read
-  pub sent_front : (limit : ℕ) (a : Mode) (read text held sent unsent : List ℕ) (i j w x : Option (List ℕ)) → Consumes i j read → Passes Writes limit mode.Text read text held a
-      → text ≡ sent ++ unsent → Appends w x sent → SentFront limit i w x
-  sent_front limit a read text held sent unsent None j w x consumed passed parts written = tt
-  sent_front limit a read text held sent unsent (Some xs) None w x consumed passed parts written = absurd consumed
-  sent_front limit a read text held sent unsent (Some xs) (Some ys) w x consumed passed parts written =
-      let whole = passes_front Writes limit mode.Text a read ys text held passed in
-      (sent, rw consumed (shorter_front Writes limit mode.Text (read ++ ys) sent unsent (rw parts at whole)), written)
-
-  module _ (limit : ℕ) (a : Mode) (read text held buf : List ℕ) (count : ℕ) (i j k w x y : Option (List ℕ)) where
-    all_consumed : Consumes i j read → Consumes j k (take count buf) → count ≡ 0 → Consumes i k read
-    all_consumed consumed more none =
-        let same : read ++ take count buf ≡ read = ap (λ (n : ℕ). read ++ take n buf) none ∙ append-nil read in
-        subst (Consumes i k) same (Consumes-trans i j k read (take count buf) consumed more)
-
-    -- all that was written is what the filter makes of all that was read, where no byte is left and what was held went out too
-    pub all_filtered : Consumes i j read → Passes Writes limit mode.Text read text held a → Appends w x text → Consumes j k (take count buf) → count ≡ 0 → IsAtEnd k → Appends x y held
-        → IfSome i (λ bytes. (t : List ℕ) × Filters Writes limit mode.Text bytes t × Appends w y t)
-    all_filtered consumed passed written more none end ok =
-        let P : List ℕ → Type 0 = λ bytes. (t : List ℕ) × Filters Writes limit mode.Text bytes t × Appends w y t in
-        Consumes-whole i k read P (all_consumed consumed more none) end
-        (text ++ held, filters Writes limit mode.Text a read text held passed, Appends-trans w x y text held written ok)
-
-    -- and a front of it, where only some of what was held went out
-    pub all_front : (sent unsent : List ℕ) → Consumes i j read → Passes Writes limit mode.Text read text held a → Appends w x text → Consumes j k (take count buf) → count ≡ 0 → IsAtEnd k
-        → held ≡ sent ++ unsent → Appends x y sent → SentFront limit i w y
-    all_front sent unsent consumed passed written more none end parts some =
-        let P : List ℕ → Type 0 = λ bytes. (s : List ℕ) × IsFrontOf Writes limit mode.Text bytes s × Appends w y s in
-        let whole = filters_front Writes limit mode.Text read (text ++ held) (filters Writes limit mode.Text a read text held passed) in
-        let split : text ++ held ≡ (text ++ sent) ++ unsent = ap (λ (t : List ℕ). text ++ t) parts ∙ sym (append_assoc text sent unsent) in
-        Consumes-whole i k read P (all_consumed consumed more none) end
-        (text ++ sent, shorter_front Writes limit mode.Text read (text ++ sent) unsent (rw split at whole), Appends-trans w x y text sent written some)
-
   -- a chunk more
   pub one_more : (Now : List ℕ → List ℕ → Type 0) (limit other : ℕ) (n a : Mode) (read chunk text more held rest : List ℕ) → other ≡ limit → ((b t : List ℕ) → Now b t → Writes b t)
       → Passes Writes limit mode.Text read text held n → Passes Now other n (held ++ chunk) more rest a → Passes Writes limit mode.Text (read ++ chunk) (text ++ more) rest a
@@ -203,9 +169,19 @@ module _ (Writes : List ℕ → List ℕ → Type 0) where
       let later = passes_weaker Now Writes other n (held ++ chunk) more rest a same k in
       passes_on Writes limit mode.Text n a read chunk held rest text more h (subst (λ (l : ℕ). Passes Writes l n (held ++ chunk) more rest a) e later)
 
-  -- and its front that went out
-  pub more_front : (limit : ℕ) (a : Mode) (all text more held sent unsent : List ℕ) (i k w x y : Option (List ℕ)) → Consumes i k all → Passes Writes limit mode.Text all (text ++ more) held a
-      → Appends w x text → more ≡ sent ++ unsent → Appends x y sent → SentFront limit i w y
-  more_front limit a all text more held sent unsent i k w x y consumed passed written parts some =
-      let split : text ++ more ≡ (text ++ sent) ++ unsent = ap (λ (t : List ℕ). text ++ t) parts ∙ sym (append_assoc text sent unsent) in
-      sent_front limit a all (text ++ more) held (text ++ sent) unsent i k w y consumed passed split (Appends-trans w x y text sent written some)
+module _ {R : Type 0} (Writes : R → List ℕ → List ℕ → Type 0) (first : Filtering R) where
+  -- all bytes, and what was held
+  pub filtered : (bytes text : List ℕ) → Transforms (PassesSince Writes) Leaves first bytes text → Filters (Writes first.filter.rewrite) first.filter.limit mode.Text bytes text
+  filtered bytes text (last, sure, rest, since, left, split) =
+      rw (split, left) (filters (Writes first.filter.rewrite) first.filter.limit mode.Text last.filter.mode bytes sure last.filter.bytes since.passed)
+
+  -- what went out is a front of what the filter makes of the whole input
+  pub sent_front : (bytes more sent : List ℕ) (i k w y : Option (List ℕ)) → Consumes i k (bytes ++ more)
+      → Begins (Sends (PassesSince Writes) first) (Transforms (PassesSince Writes) Leaves first) ((more ≡ []) × IsAtEnd k) bytes sent → Appends w y sent
+      → IfSome i (λ all. (front : List ℕ) × IsFrontOf (Writes first.filter.rewrite) first.filter.limit mode.Text all front × Appends w y front)
+  sent_front =
+      let Own = Writes first.filter.rewrite in
+      let limit = first.filter.limit in
+      whole_front (Sends (PassesSince Writes) first) (Transforms (PassesSince Writes) Leaves first) (IsFrontOf Own limit mode.Text) (shorter_front Own limit mode.Text)
+      (λ read more text (last, since). passes_front Own limit mode.Text last.filter.mode read more text last.filter.bytes since.passed)
+      (λ bytes text whole. filters_front Own limit mode.Text bytes text (filtered bytes text whole))

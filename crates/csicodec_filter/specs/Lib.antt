@@ -1,2 +1,4 @@
 pub mod Faithful
 pub mod Filter
+pub mod Transform
+pub mod Private

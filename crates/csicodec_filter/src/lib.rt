@@ -6,9 +6,11 @@ mod filter;
 mod known;
 mod rewrite;
 mod run;
+mod transform;
 
 pub use faithful::{Faithful, stays};
 pub use filter::{Filter, append_spans};
 pub use known::Known;
 pub use rewrite::{NormalForm, Rewrite};
 pub use run::filter_all;
+pub use transform::{Transform, transform_all};

@@ -8,10 +8,37 @@ ghost use Rattle.csicodec_filter.specs.Filter.{Filters, IsFrontOf, Passes};
 use crate::filter::Filter;
 use crate::known::Known;
 use crate::rewrite::Rewrite;
-use csicodec_spans::Mode;
-use csicodec_streams::{CHUNK, Normal, RunError, receive, send};
-use std::alloc::Global;
+use crate::transform::{Transform, transform_all};
+use csicodec_streams::{Normal, RunError};
+use std::alloc::{AllocError, Global};
 use std::io::{Read, Write};
+
+/// A filter, and the sequences that came before, which it keeps from piece to piece.
+#[derive(Drop)]
+struct Filtering<T> {
+    filter: Filter<T>,
+    known: Known<Normal>,
+}
+
+impl<T: Rewrite + Drop> Transform for Filtering<T> {
+    ghost use Rattle.csicodec_streams.specs.Known.{AreKnown, IsNormal};
+    ghost use Rattle.csicodec_filter.specs.Private.Run.{Leaves, PassesSince};
+
+    ghost stands = { λ now. AreKnown IsNormal now.known.memo.slots.items };
+
+    ghost passes = { PassesSince T.writes };
+
+    ghost ends = { Leaves };
+
+    fn take(&mut self, bytes: &[u8], out: &mut Vec<u8>) -> Result<(), AllocError> {
+        self.filter.push_known(&mut self.known, bytes, out)?;
+        Ok(())
+    }
+
+    fn end(&mut self, out: &mut Vec<u8>) -> Result<(), AllocError> {
+        self.filter.finish(out)
+    }
+}
 
 /// Reads to the end, and writes what a filter makes of the stream; after each read all that is sure is written and flushed.
 ///
@@ -43,27 +70,7 @@ pub fn filter_all<T: Rewrite + Drop, R: Read, W: Write>(
     ensures front { OnErr result (IfSome (R.remaining input.old) (λ bytes.
         (sent : List ℕ) × IsFrontOf (T.writes rewrite) limit Plain bytes sent × Appends (W.contents output.old) (W.contents output.new) sent)) }
 {
-    let mut filter = Filter::new(alloc, limit, rewrite);
-    let mut known: Known<Normal> = Known::new(alloc);
-    let mut out = Vec::new(alloc);
-    let mut chunk = [0u8; CHUNK];
-    for _ in 0..u64::MAX {
-        let Ok(count) = receive(input, &mut chunk) else {
-            return Err(RunError::Read);
-        };
-        out.clear();
-        if count == 0 {
-            let Ok(()) = filter.finish(&mut out) else {
-                return Err(RunError::Memory);
-            };
-            return send(output, &out);
-        }
-        let Ok(()) = filter.push_known(&mut known, &chunk[..count], &mut out) else {
-            return Err(RunError::Memory);
-        };
-        let Ok(()) = send(output, &out) else {
-            return Err(RunError::Write);
-        };
-    }
-    Err(RunError::Read)
+    let filter = Filter::new(alloc, limit, rewrite);
+    let known = Known::new(alloc);
+    transform_all(alloc, Filtering { filter, known }, input, output)
 }

@@ -1,16 +1,16 @@
 -- Chunk by chunk.
-use Rattle.std.proofs.Common.{◌≡◌, ℕ, Bool, false, List, [], ◌∷◌, ◌++◌, sym, ap, subst, ◌∙◌, append_assoc, append-nil}
+use Rattle.std.proofs.Common.{◌≡◌, ℕ, Bool, false, List, [], ◌∷◌, ◌++◌, sym, ap, subst, ◌∙◌, ⊎_elim, append_assoc, append-nil}
 use Rattle.std.specs.List.{concat}
 use Rattle.csicodec_spans.specs.declared.table.Mode.{Mode}
 use Rattle.csicodec_spans.specs.declared.table.Mode.TheVariants as mode
 use Rattle.csicodec_spans.specs.Parts.{Part}
 use Rattle.csicodec_spans.proofs.OneSpan.{none_unsure}
 use Rattle.csicodec_spans.proofs.Kept.{parts_more, parts_on}
+use Rattle.csicodec_filter.specs.Transform.{Sends, Transforms}
 use Rattle.csicodec_safe.specs.Shown.{shown_chars, shown_text}
 use Rattle.csicodec_safe.specs.Titles.{title_open, with_titles}
 use Rattle.csicodec_safe.specs.Cleaned.{RuleOf, EndOf, AreSteps, Ends, longest}
-use Rattle.csicodec_safe.specs.Stream.{Between, start_of, Takes, AreTaken}
-use Rattle.csicodec_safe.specs.Stream.{Goes}
+use Rattle.csicodec_safe.specs.Stream.{Between, start_of, Goes, Takes, AreTaken, Closing, Begins}
 use Rattle.csicodec_safe.proofs.Titles.{open_on, titles_on}
 use Rattle.csicodec_safe.proofs.Sure.{read_none}
 use Rattle.csicodec_safe.proofs.Stepped.{cleans, goes_none, steps_on}
@@ -61,6 +61,9 @@ module _ {S : Type 0} (Gives : RuleOf S) where
     all = sym (append_assoc text (shown_text last.held) close);
   }
 
+  pub closed : (Closes : EndOf S) (s : S) (bytes text : List ℕ) → Transforms (Takes Gives) (Closing Closes) (start_of s) bytes text → Ends Gives Closes longest s bytes text
+  closed Closes s bytes text (last, sure, rest, takes, (close, closes, shown), split) = rw (split, shown) (ends Closes s bytes sure close last takes closes)
+
   taken_on : (s : S) (bytes text : List ℕ) (old new : Between S) (chunks : List (List ℕ)) (more : List ℕ) → Takes Gives (start_of s) bytes text old → AreTaken Gives old chunks more new
       → Takes Gives (start_of s) (bytes ++ concat chunks) (text ++ more) new
   taken_on s bytes text old new [] more h (none, same) = rw (none, same, append-nil bytes, append-nil text) h
@@ -75,3 +78,15 @@ module _ {S : Type 0} (Gives : RuleOf S) where
   pub any_chunks : (Closes : EndOf S) (s : S) (chunks : List (List ℕ)) (text close : List ℕ) (last : Between S) → AreTaken Gives (start_of s) chunks text last → Closes last.rule close
       → Ends Gives Closes longest s (concat chunks) (text ++ (shown_text last.held ++ close))
   any_chunks Closes s chunks text close last h k = ends Closes s (concat chunks) text close last (taken s chunks text last h) k
+
+  -- with what a rule writes at any end, the front is one of a whole text
+  pub begins_whole : (Closes : EndOf S) (s : S) (AreAll : Type 0) (bytes sent : List ℕ) → ((after : S) → (close : List ℕ) × Closes after close) → Begins Gives Closes s AreAll bytes sent
+      → (unsent : List ℕ) × Ends Gives Closes longest s bytes (sent ++ unsent)
+  begins_whole Closes s AreAll bytes sent always (unsent, h) = ⊎_elim
+      (λ (k : Sends (Takes Gives) (start_of s) bytes (sent ++ unsent)).
+      let (last, takes) = k in
+      let (close, closes) = always last.rule in
+      let rest = shown_text last.held ++ close in
+      (unsent ++ rest, subst (λ (t : List ℕ). Ends Gives Closes longest s bytes t) (append_assoc sent unsent rest) (ends Closes s bytes (sent ++ unsent) close last takes closes)))
+      (λ (k : AreAll × Ends Gives Closes longest s bytes (sent ++ unsent)). (unsent, k.1))
+      h

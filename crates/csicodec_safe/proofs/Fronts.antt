@@ -1,5 +1,5 @@
 -- What went out is a front of the text of the whole stream, whatever comes behind.
-use Rattle.std.proofs.Common.{◌≡◌, ℕ, Bool, true, false, cond, Option, None, Some, IfSome, List, [], ◌∷◌, ◌++◌, map, refl, sym, ap, subst, ◌∙◌, ⊎_elim, append_assoc, append-nil}
+use Rattle.std.proofs.Common.{◌≡◌, ℕ, Bool, true, false, cond, Option, IfSome, List, [], ◌∷◌, ◌++◌, map, refl, sym, ap, subst, ◌∙◌, append_assoc, append-nil}
 use Rattle.std.specs.Prelude.{filter}
 use Rattle.std.specs.Io.KnownBytes.{Appends, Consumes, IsAtEnd}
 use Rattle.bstr.specs.Utf8.{lossy_chars}
@@ -10,11 +10,13 @@ use Rattle.csicodec_spans.specs.declared.table.Mode.TheVariants as mode
 use Rattle.csicodec_spans.specs.Parts.{Part, IsWhole, left_over}
 use Rattle.csicodec_spans.proofs.Kept.{parts_more}
 use Rattle.csicodec_spans.proofs.Once.{parts_front}
+use Rattle.csicodec_filter.specs.Transform.{Sends}
+use Rattle.csicodec_filter.proofs.Sent.{whole_front}
 use Rattle.csicodec_safe.specs.declared.styles.Passing.{Passing}
 use Rattle.csicodec_safe.specs.Links.{Begun, is_linked, links_in, start}
 use Rattle.csicodec_safe.specs.Shown.{shown, shown_chars, shown_text, IsRead}
 use Rattle.csicodec_safe.specs.Titles.{title_open, with_titles}
-use Rattle.csicodec_safe.specs.Cleaned.{RuleOf, EndOf, IsStep, AreSteps, Ends, Strips, stripped, drops, ends_bare, is_text, longest}
+use Rattle.csicodec_safe.specs.Cleaned.{RuleOf, IsStep, AreSteps, Ends, Strips, stripped, drops, ends_bare, is_text, longest}
 use Rattle.csicodec_safe.specs.Stream.{Begins, Between, Goes, IsFrontOf, Takes, start_of}
 use Rattle.csicodec_safe.specs.Styled.{kept, Item, Style, item_texts, shown_items, Leaves, begun_behind, run_behind, items_behind, AreLeft, is_open, styles_of, links_of, ends_of, StylesIn, Keeping, first_kept, stays, resets}
 use Rattle.csicodec_safe.proofs.Again.{of_once, one_styled}
@@ -174,35 +176,19 @@ shorter Out bytes sent unsent h whole k = let (more, e) = h whole k in (unsent +
 abbrev pub SentFront : (List ℕ → List ℕ → Type 0) → Option (List ℕ) → Option (List ℕ) → Option (List ℕ) → Type 0
 SentFront Out i w y = IfSome i (λ bytes. (sent : List ℕ) × IsFrontOf Out bytes sent × Appends w y sent)
 
-module _ {S : Type 0} (Gives : RuleOf S) (Closes : EndOf S) (s : S) (Out : List ℕ → List ℕ → Type 0) where
-  sent_front : ((read more text : List ℕ) (last : Between S) → Takes Gives (start_of s) read text last → IsFrontOf Out (read ++ more) text)
-      → ((bytes text : List ℕ) → Ends Gives Closes longest s bytes text → IsFrontOf Out bytes text) → (bytes more sent : List ℕ) (i k w y : Option (List ℕ)) → Consumes i k (bytes ++ more)
-      → Begins Gives Closes s ((more ≡ []) × IsAtEnd k) bytes sent → Appends w y sent → SentFront Out i w y
-  sent_front takes ends bytes more sent None k w y consumed begins written = tt
-  sent_front takes ends bytes more sent (Some xs) None w y consumed begins written = absurd consumed
-  sent_front takes ends bytes more sent (Some xs) (Some ys) w y consumed (unsent, h) written = (
-    sent,
-    shorter Out xs sent unsent (⊎_elim
-        (λ (k : (last : Between S) × Takes Gives (start_of s) bytes (sent ++ unsent) last).
-        subst (λ (b : List ℕ). IsFrontOf Out b (sent ++ unsent)) (sym (consumed ∙ append_assoc bytes more ys)) (takes bytes (more ++ ys) (sent ++ unsent) k.0 k.1))
-        (λ (k : ((more ≡ []) × (ys ≡ [])) × Ends Gives Closes longest s bytes (sent ++ unsent)).
-        let all : xs ≡ bytes = consumed ∙ ap (λ (t : List ℕ). (bytes ++ more) ++ t) k.0.1 ∙ append-nil (bytes ++ more) ∙ ap (λ (t : List ℕ). bytes ++ t) k.0.0 ∙ append-nil bytes in
-        subst (λ (b : List ℕ). IsFrontOf Out b (sent ++ unsent)) (sym all) (ends bytes (sent ++ unsent) k.1))
-        h),
-    written,
-  )
-
 same_front : (Out : List ℕ → List ℕ → Type 0) (bytes text : List ℕ) → ((other : List ℕ) → Out bytes other → other ≡ text) → IsFrontOf Out bytes text
 same_front Out bytes text one whole k = ([], one whole k ∙ sym (append-nil text))
 
 pub strip_sent : {S : Type 0} (s : S) (bytes more sent : List ℕ) (i k w y : Option (List ℕ)) → Consumes i k (bytes ++ more) → Begins drops ends_bare s ((more ≡ []) × IsAtEnd k) bytes sent → Appends w y sent
     → SentFront (Strips longest) i w y
-strip_sent s = sent_front drops ends_bare s (Strips longest) (strip_front s) (λ bytes text e. same_front (Strips longest) bytes text (λ other k. one_text longest bytes other text k (strips longest s bytes text e)))
+strip_sent s = whole_front (Sends (Takes drops) (start_of s)) (Ends drops ends_bare longest s) (IsFrontOf (Strips longest)) (shorter (Strips longest)) (λ read more text (last, h). strip_front s read more text last h)
+    (λ bytes text e. same_front (Strips longest) bytes text (λ other k. one_text longest bytes other text k (strips longest s bytes text e)))
 
 pub clean_sent : {S : Type 0} (of : S → Keeping) (d : Passing) (s : S) → of s ≡ first_kept d → (bytes more sent : List ℕ) (i k w y : Option (List ℕ)) → Consumes i k (bytes ++ more)
     → Begins (stays of) (resets of) s ((more ≡ []) × IsAtEnd k) bytes sent → Appends w y sent → SentFront (StylesIn d) i w y
 clean_sent of d s begins =
     let same : (of s).passing ≡ d = ap (λ (x : Keeping). x.passing) begins in
     let first : (of s).begun ≡ start = ap (λ (x : Keeping). x.begun) begins in
-    sent_front (stays of) (resets of) s (StylesIn d) (λ read more text last h. subst (λ (x : Passing). IsFrontOf (StylesIn x) (read ++ more) text) same (clean_front of s read more text last first h))
+    whole_front (Sends (Takes (stays of)) (start_of s)) (Ends (stays of) (resets of) longest s) (IsFrontOf (StylesIn d)) (shorter (StylesIn d))
+    (λ read more text (last, h). subst (λ (x : Passing). IsFrontOf (StylesIn x) (read ++ more) text) same (clean_front of s read more text last first h))
     (λ bytes text e. same_front (StylesIn d) bytes text (λ other k. one_styled d bytes other text k (styles of d s bytes text begins e)))

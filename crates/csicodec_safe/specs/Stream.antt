@@ -1,9 +1,10 @@
 -- A stream that is cleaned as it comes, chunk by chunk.
-use Rattle.std.specs.Prelude.{ℕ, ◌≡◌, ◌⊎◌, Bool, false, List, [], ◌∷◌, ◌++◌}
+use Rattle.std.specs.Prelude.{ℕ, ◌≡◌, Bool, false, List, [], ◌∷◌, ◌++◌}
 use Rattle.std.specs.List.{concat}
 use Rattle.csicodec_spans.specs.declared.table.Mode.{Mode}
 use Rattle.csicodec_spans.specs.declared.table.Mode.TheVariants as mode
 use Rattle.csicodec_spans.specs.Parts.{Part, AreFirstParts, IsUnsure}
+use Rattle.csicodec_filter.specs.Transform.{Begins as BeginsWith, EndsOf, Sends}
 use Rattle.csicodec_safe.specs.Shown.{IsRead, shown_chars, shown_text}
 use Rattle.csicodec_safe.specs.Titles.{title_open, with_titles}
 use Rattle.csicodec_safe.specs.Cleaned.{RuleOf, EndOf, AreSteps, Ends, longest}
@@ -48,10 +49,13 @@ abbrev pub AnyChunks : {S : Type 0} → RuleOf S → EndOf S → Type 0
 AnyChunks {S} Gives Closes = (s : S) (chunks : List (List ℕ)) (text close : List ℕ) (last : Between S) → AreTaken Gives (start_of s) chunks text last → Closes last.rule close
     → Ends Gives Closes longest s (concat chunks) (text ++ (shown_text last.held ++ close))
 
+-- at the end: what is shown of the bytes that are held, and what the rule writes
+abbrev pub Closing : {S : Type 0} → EndOf S → EndsOf (Between S)
+Closing Closes last text = (close : List ℕ) × Closes last.rule close × (text ≡ shown_text last.held ++ close)
+
 -- what went out is a front of the text of these bytes: as far as it is sure, or, where they are all, with its end
 abbrev pub Begins : {S : Type 0} → RuleOf S → EndOf S → S → Type 0 → List ℕ → List ℕ → Type 0
-Begins {S} Gives Closes s AreAll bytes sent =
-    (unsent : List ℕ) × (((last : Between S) × Takes Gives (start_of s) bytes (sent ++ unsent) last) ⊎ (AreAll × Ends Gives Closes longest s bytes (sent ++ unsent)))
+Begins Gives Closes s = BeginsWith (Sends (Takes Gives) (start_of s)) (Ends Gives Closes longest s)
 
 -- the text that the bytes have begins with what was sent
 abbrev pub IsFrontOf : (List ℕ → List ℕ → Type 0) → List ℕ → List ℕ → Type 0

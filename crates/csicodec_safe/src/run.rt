@@ -11,9 +11,30 @@ use crate::colors::Depth;
 use crate::rule::Rule;
 use crate::styles::{Kept, Passing};
 use crate::whole::Dropped;
-use csicodec_streams::{CHUNK, RunError, receive, send};
-use std::alloc::Global;
+use csicodec_filter::{Transform, transform_all};
+use csicodec_streams::RunError;
+use std::alloc::{AllocError, Global};
 use std::io::{Read, Write};
+
+impl<T: Rule + Drop> Transform for Cleaner<T> {
+    ghost use Rattle.std.specs.Prelude.{⊤};
+    ghost use Rattle.csicodec_safe.specs.Stream.{Closing};
+
+    ghost stands = { λ now. ⊤ };
+
+    ghost passes = { λ first bytes text last. Takes T.gives first bytes text last };
+
+    ghost ends = { Closing T.closes };
+
+    fn take(&mut self, bytes: &[u8], out: &mut Vec<u8>) -> Result<(), AllocError> {
+        self.push(bytes, out)?;
+        Ok(())
+    }
+
+    fn end(&mut self, out: &mut Vec<u8>) -> Result<(), AllocError> {
+        self.finish(out)
+    }
+}
 
 /// Reads to the end, and writes what a rule leaves of the stream; after each read all that is sure is written and flushed.
 ///
@@ -38,28 +59,8 @@ pub fn clean_run<T: Rule + Drop, R: Read, W: Write>(
     ensures front { OnErr result ((bytes : List ℕ) × (more : List ℕ) × (sent : List ℕ) × Consumes (R.remaining input.old) (R.remaining input.new) (bytes ++ more)
         × Begins T.gives T.closes rule ((more ≡ []) × IsAtEnd (R.remaining input.new)) bytes sent × Appends (W.contents output.old) (W.contents output.new) sent) }
 {
-    let mut cleaner = Cleaner::new(alloc, rule);
-    let mut out = Vec::new(alloc);
-    let mut chunk = [0u8; CHUNK];
-    for _ in 0..u64::MAX {
-        let Ok(count) = receive(input, &mut chunk) else {
-            return Err(RunError::Read);
-        };
-        out.clear();
-        if count == 0 {
-            let Ok(()) = cleaner.finish(&mut out) else {
-                return Err(RunError::Memory);
-            };
-            return send(output, &out);
-        }
-        let Ok(()) = cleaner.push(&chunk[..count], &mut out) else {
-            return Err(RunError::Memory);
-        };
-        let Ok(()) = send(output, &out) else {
-            return Err(RunError::Write);
-        };
-    }
-    Err(RunError::Read)
+    let cleaner = Cleaner::new(alloc, rule);
+    transform_all(alloc, cleaner, input, output)
 }
 
 /// Reads to the end, and writes the plain text of the stream, as [`strip`](crate::strip) makes it of all its bytes, as it comes.

@@ -3,7 +3,7 @@ use Rattle.std.proofs.lemmas.Result.{on_err_weaker, on_ok_weaker}
 use Rattle.csicodec_safe.specs.Styled.{Keeping, resets, stays}
 use Rattle.csicodec_safe.proofs.Styled.{styled, styles}
 use Rattle.csicodec_safe.proofs.Fronts.{clean_sent}
-use Rattle.csicodec_safe.proofs.Running.{begins_whole}
+use Rattle.csicodec_safe.proofs.Chunks.{begins_whole}
 use Rattle.csicodec_safe.proofs.run.clean_all_with.Goals as goal
 
 pub returns-clause-ok : goal.returns-clause-ok

@@ -3,7 +3,7 @@ use Rattle.std.proofs.lemmas.Result.{on_err_weaker, on_ok_weaker}
 use Rattle.csicodec_safe.specs.Cleaned.{drops, ends_bare, longest}
 use Rattle.csicodec_safe.proofs.Plain.{strips, strips_plain}
 use Rattle.csicodec_safe.proofs.Fronts.{strip_sent}
-use Rattle.csicodec_safe.proofs.Running.{begins_whole}
+use Rattle.csicodec_safe.proofs.Chunks.{begins_whole}
 use Rattle.csicodec_safe.proofs.run.strip_all.Goals as goal
 
 pub returns-clause-ok : goal.returns-clause-ok

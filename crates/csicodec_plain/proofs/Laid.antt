@@ -1,28 +1,19 @@
 -- Room with one item more, and with one action more.
-use Rattle.std.specs.Prelude.{IfOk, IfSome, Ok, Err, Result, unwrap_or}
-use Rattle.std.proofs.Common.{◌≡◌, ◌<◌, ◌≤◌, ◌+◌, ℕ, suc, false, List, [], ◌∷◌, ◌++◌, length, map, take, slice_index_or, slice_set, Option, Some, None, ap, sym, subst, refl, ◌∙◌, arith, append_assoc, length-append}
+use Rattle.std.specs.Prelude.{IfOk, IfSome, Ok, Err, Result}
+use Rattle.std.proofs.Common.{◌≡◌, ◌<◌, ◌≤◌, ◌+◌, ℕ, suc, false, List, [], ◌∷◌, ◌++◌, length, take, slice_set, Option, Some, None, ap, sym, subst, refl, ◌∙◌, arith, length-append}
 use Rattle.std.specs.List.{slice_get}
-use Rattle.std.specs.Option.{ok_or, option_map}
+use Rattle.std.specs.Option.{ok_or}
 use Rattle.std.specs.declared.alloc.AllocError.{AllocError}
-use Rattle.std.proofs.lemmas.List.{flat_map_more, map-append, map_more, take_more}
+use Rattle.std.proofs.lemmas.List.{flat_map_more, take_more}
 use Rattle.std.proofs.lemmas.Option.{get_or_from_slice_get, slice_get_within}
-use Rattle.csicodec_tokens.specs.declared.param.CsiParam.{CsiParam}
-use Rattle.csicodec_actions.specs.Actions.{Action, Unspecified}
-use Rattle.csicodec_actions.specs.Devices.{attribute_at, listed_attributes}
-use Rattle.csicodec_actions.specs.Lent.{integer_at, integers}
-use Rattle.csicodec_actions.specs.Table.{boxed}
-use Rattle.csicodec_actions.specs.declared.device.DeviceAttribute.{DeviceAttribute}
+use Rattle.csicodec_actions.specs.Actions.{Action}
 use Rattle.csicodec_parser.specs.declared.parser.ActionRef.{ActionRef}
 use Rattle.csicodec_parser.specs.Run.{IsRef}
-use Rattle.csicodec_plain.specs.declared.lay.Class.{Class}
-use Rattle.csicodec_plain.specs.declared.lay.Class.TheVariants as class
 use Rattle.csicodec_plain.specs.declared.lay.Counts.{Counts}
-use Rattle.csicodec_plain.specs.declared.lay.Large.{Large}
 use Rattle.csicodec_plain.specs.declared.plain.Param.{Param}
 use Rattle.csicodec_plain.specs.declared.plain.Plain.{Plain}
 use Rattle.csicodec_plain.specs.Next.{Lays, all_params, plains}
-use Rattle.csicodec_plain.specs.Plain.{attribute_param, value_param}
-use Rattle.csicodec_plain.specs.Private.Fronts.{LaysOne, large_of, terminal_of}
+use Rattle.csicodec_plain.specs.Private.Fronts.{LaysOne, PutsBehind}
 use Rattle.csicodec_plain.specs.Room.{laid}
 use Rattle.csicodec_plain.specs.Rows.{params_of, plain_of}
 
@@ -61,50 +52,6 @@ put_full room old items place x is at high =
     let long : length room ≡ length old = ap length is ∙ laid_length old items in
     is ∙ laid_full old items x (omega (arith, long, at, high))
 
--- behind others, of which some are there
-pub put_mapped : {T : Type 0} (f : T → Param) (tokens : List T) (i : ℕ) (t : T) (old before : List Param) (now new : List Param) (place : ℕ) (p : Param)
-    → i < length tokens → t ≡ slice_index_or tokens i t → p ≡ f t → place ≡ length before
-    → now ≡ laid old (before ++ map f (take i tokens))
-    → ((o items : List Param) → now ≡ laid o items → place + i ≡ length items → new ≡ laid o (items ++ p ∷ []))
-    → length (map f (take i tokens)) ≡ i
-    → new ≡ laid old (before ++ map f (take (i + 1) tokens))
-put_mapped f tokens i t old before now new place p low is made at here puts count =
-    let front = map f (take i tokens) in
-    let e = length-append before front in
-    puts old (before ++ front) here (omega (arith, e, at, count))
-    ∙ ap (laid old) (append_assoc before front (p ∷ []) ∙ ap (λ l. before ++ l) (ap (λ q. front ++ q ∷ []) (made ∙ ap f is) ∙ sym (map_more f tokens i t low)))
-
--- ---- extensions
-
--- those of one token more
-pub extensions_more : (before : List Param) (list : List CsiParam) (i : ℕ) (d : CsiParam) → i < length list
-    → (before ++ map attribute_param (listed_attributes (take i list))) ++ map attribute_param (attribute_at (slice_index_or list i d))
-    ≡ before ++ map attribute_param (listed_attributes (take (i + 1) list))
-extensions_more before list i d low =
-    let front = listed_attributes (take i list) in
-    let next = attribute_at (slice_index_or list i d) in
-    append_assoc before (map attribute_param front) (map attribute_param next)
-    ∙ ap (λ l. before ++ l) (sym (map-append attribute_param front next)
-    ∙ ap (map attribute_param) (flat_map_more attribute_at [] (take i list) (slice_index_or list i d) ∙ ap listed_attributes (sym (take_more list i d low))))
-
-pub terminal_params : (c : Class) (extensions : List DeviceAttribute) → map attribute_param extensions ≡ params_of (terminal_of c extensions)
-terminal_params class.Vt220 extensions = refl
-terminal_params class.Vt320 extensions = refl
-terminal_params class.Vt420 extensions = refl
-
--- ---- numbers
-
--- those of one token more
-pub numbers_more : (before : List Param) (list : List CsiParam) (i : ℕ) (d : CsiParam) → i < length list
-    → (before ++ map value_param (integers (take i list))) ++ map value_param (integer_at (slice_index_or list i d))
-    ≡ before ++ map value_param (integers (take (i + 1) list))
-numbers_more before list i d low =
-    let front = integers (take i list) in
-    let next = integer_at (slice_index_or list i d) in
-    append_assoc before (map value_param front) (map value_param next)
-    ∙ ap (λ l. before ++ l) (sym (map-append value_param front next)
-    ∙ ap (map value_param) (flat_map_more integer_at [] (take i list) (slice_index_or list i d) ∙ ap integers (sym (take_more list i d low))))
-
 -- ---- actions
 
 length_plains : (place : ℕ) (xs : List Action) → length (plains place xs) ≡ length xs
@@ -133,17 +80,16 @@ pub lays_more : (oa ma na : List Plain) (op mp np : List Param) (count : Counts)
     → Lays oa ma op mp count before
     → p ≡ plain_of count.params a
     → ((old items : List Plain) → ma ≡ laid old items → count.actions ≡ length items → na ≡ laid old (items ++ p ∷ []))
-    → ((old items : List Param) → mp ≡ laid old items → count.params ≡ length items → (np ≡ laid old (items ++ params_of a)) × (end ≡ length (items ++ params_of a)))
+    → PutsBehind mp np count.params (params_of a) end
     → next ≡ count.actions + 1
     → Lays oa na op np (record { actions = next; params = end }) (before ++ a ∷ [])
-lays_more oa ma na op mp np count next end p before a lays made puts_action puts_params more =
+lays_more oa ma na op mp np count next end p before a lays made puts_action tokens more =
     let action = puts_action oa (plains 0 before) lays.lays_actions (lays.actions ∙ sym (length_plains 0 before)) in
-    let params = puts_params op (all_params before) lays.lays_params lays.params in
     record {
       actions = more ∙ (ap (λ n. n + 1) lays.actions ∙ sym (length_snoc before a));
-      params = params.1 ∙ ap length (sym (params_snoc before a));
+      params = omega (arith, tokens.ends, lays.params, length-append (all_params before) (params_of a), ap length (params_snoc before a));
       lays_actions = action ∙ ap (laid oa) (ap (λ q. plains 0 before ++ q ∷ []) (made ∙ ap (λ n. plain_of n a) (lays.params ∙ sym (from_zero (length (all_params before))))) ∙ sym (plains_snoc 0 before a));
-      lays_params = params.0 ∙ ap (laid op) (sym (params_snoc before a));
+      lays_params = tokens.puts op (all_params before) lays.lays_params lays.params ∙ ap (laid op) (sym (params_snoc before a));
     }
 
 pub lays_none : (actions : List Plain) (params : List Param) → Lays actions actions params params (record { actions = 0; params = 0 }) []
@@ -159,27 +105,8 @@ pub or_failed : (o : Option Counts) (r : Result Counts AllocError) (e : AllocErr
 or_failed None r e P Q is more held = subst (λ (x : Result Counts AllocError). IfOk x Q) (sym is) tt
 or_failed (Some n) r e P Q is more held = subst (λ (x : Result Counts AllocError). IfOk x Q) (sym is) (more n held)
 
-lays_same : (count : Counts) (ao an : List Plain) (po pn : List Param) (a b : Action) (n : Counts) → b ≡ a → LaysOne count ao an po pn b n → LaysOne count ao an po pn a n
+pub lays_same : (count : Counts) (ao an : List Plain) (po pn : List Param) (a b : Action) (n : Counts) → b ≡ a → LaysOne count ao an po pn b n → LaysOne count ao an po pn a n
 lays_same count ao an po pn a b n is = subst (λ (x : Action). LaysOne count ao an po pn x n) is
-
-pub whole_one : (o : Option Counts) (r : Result Counts AllocError) (e : AllocError) (count : Counts) (ao an : List Plain) (po pn : List Param) (a : Action) (list : List CsiParam) (final : ℕ)
-    → r ≡ ok_or o e → boxed list final ≡ Some a → IfSome o (LaysOne count ao an po pn a)
-    → IfOk r (LaysOne count ao an po pn (unwrap_or (boxed list final) (Unspecified list false final)))
-whole_one o r e count ao an po pn a list final answers is =
-    or_failed o r e _ _ answers (λ n. lays_same count ao an po pn _ a n (ap (λ (x : Option Action). unwrap_or x (Unspecified list false final)) (sym is)))
-
-pub whole_some : (o : Option Counts) (r : Result Counts AllocError) (e : AllocError) (count : Counts) (ao an : List Plain) (po pn : List Param) (found : Option Large) (large : Large) (list : List CsiParam) (final : ℕ)
-    → r ≡ ok_or o e → option_map large_of found ≡ boxed list final → found ≡ Some large → IfSome o (LaysOne count ao an po pn (large_of large))
-    → IfOk r (LaysOne count ao an po pn (unwrap_or (boxed list final) (Unspecified list false final)))
-whole_some o r e count ao an po pn found large list final answers told is =
-    whole_one o r e count ao an po pn (large_of large) list final answers (sym told ∙ ap (option_map large_of) is)
-
-pub whole_none : (o : Option Counts) (r : Result Counts AllocError) (e : AllocError) (count : Counts) (ao an : List Plain) (po pn : List Param) (found : Option Large) (list : List CsiParam) (final : ℕ)
-    → r ≡ ok_or o e → option_map large_of found ≡ boxed list final → found ≡ None → IfSome o (LaysOne count ao an po pn (Unspecified list false final))
-    → IfOk r (LaysOne count ao an po pn (unwrap_or (boxed list final) (Unspecified list false final)))
-whole_none o r e count ao an po pn found list final answers told is =
-    let same : boxed list final ≡ None = sym told ∙ ap (option_map large_of) is in
-    or_failed o r e _ _ answers (λ n. lays_same count ao an po pn _ (Unspecified list false final) n (ap (λ (x : Option Action). unwrap_or x (Unspecified list false final)) (sym same)))
 
 -- the action whose tokens are lent so
 pub ref_laid : (o : Option Counts) (r : Result Counts AllocError) (e : AllocError) (count : Counts) (ao an : List Plain) (po pn : List Param) (b : Action) (lent : ActionRef) (final : ℕ)

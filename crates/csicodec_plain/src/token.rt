@@ -1,10 +1,10 @@
 //! Tokens of a list, extensions of a terminal and values of graphics: what crosses as a `Param`, both ways.
-ghost use Rattle.std.specs.Prelude.{◌≡◌, ◌++◌, List, length, map, take, drop, ⊤, IfOk, IfSome};
+ghost use Rattle.std.specs.Prelude.{◌≡◌, [], ◌∷◌, map, ⊤, IfOk, IfSome};
 ghost use Rattle.std.specs.Option.{option_map};
 ghost use Rattle.csicodec_plain.specs.Private.Candidates.{FindsToken, FindsTokens};
+ghost use Rattle.csicodec_plain.specs.Private.Fronts.{PutsBehind};
 ghost use Rattle.csicodec_plain.specs.Values.{AttributeInRange, IsNamedAttribute, TokenInRange};
 ghost use Rattle.csicodec_plain.specs.Plain.{attribute_param, param_of, value_param};
-ghost use Rattle.csicodec_plain.specs.Room.{laid};
 ghost use Rattle.csicodec_plain.specs.declared.plain.Param.{Param};
 
 use crate::numbers::attribute_token;
@@ -101,15 +101,22 @@ impl Token for DeviceAttribute {
     }
 }
 
-/// Puts tokens behind those that are there, as many as there is room for. It answers the place behind them, unless
-/// there is none.
-pub(crate) fn put_all<T: Token>(room: &mut [Param], place: usize, tokens: &[T]) -> Option<usize>
-    ensures { IfSome result (λ end. (old before : List Param) → room.old ≡ laid old before → place ≡ length before →
-        (room.new ≡ laid old (before ++ map T.crosses tokens.now)) × (end ≡ length (before ++ map T.crosses tokens.now))) }
+/// Puts a token behind those that are there, if there is room for it. It answers the place behind it, unless there is none.
+#[inline(always)]
+pub(crate) fn put_one<T: Token>(room: &mut [Param], place: usize, token: T) -> Option<usize>
+    ensures { IfSome result (PutsBehind room.old room.new place (T.crosses token ∷ [])) }
 {
-    let end = place.checked_add(tokens.len())?;
-    for (i, token) in tokens.iter().enumerate() {
-        put(room, place + i, token.to_param());
+    put(room, place, token.to_param());
+    place.checked_add(1)
+}
+
+/// Puts tokens behind those that are there, as many as there is room for.
+pub(crate) fn put_all<T: Token>(room: &mut [Param], place: usize, tokens: &[T]) -> Option<usize>
+    ensures { IfSome result (PutsBehind room.old room.new place (map T.crosses tokens.now)) }
+{
+    let mut end = place;
+    for token in tokens {
+        end = put_one(room, end, *token)?;
     }
     Some(end)
 }

@@ -1,17 +1,16 @@
 -- What is laid of an action, and what is answered of a list that was read.
-use Rattle.std.specs.Prelude.{ℕ, ◌≡◌, ◌⊎◌, ◌++◌, false, List, [], ◌∷◌, length}
+use Rattle.std.specs.Prelude.{ℕ, ◌≡◌, ◌⊎◌, ◌+◌, ◌++◌, false, List, [], ◌∷◌, length}
 use Rattle.csicodec_tokens.specs.declared.param.CsiParam.{CsiParam}
 use Rattle.csicodec_actions.specs.Actions.{Action}
 use Rattle.csicodec_actions.specs.Actions as action
 use Rattle.csicodec_actions.specs.Devices as device
-use Rattle.csicodec_actions.specs.Devices.{device_of}
-use Rattle.csicodec_actions.specs.Lent.{lent_graphics}
-use Rattle.csicodec_actions.specs.declared.device.DeviceAttribute.{DeviceAttribute}
+use Rattle.csicodec_actions.specs.Devices.{device_of, listed_attributes}
+use Rattle.csicodec_actions.specs.Lent.{integers}
 use Rattle.csicodec_parser.specs.Segments.{Actions}
 use Rattle.csicodec_plain.specs.Next.{Lays, refused}
-use Rattle.csicodec_plain.specs.declared.lay.Class.{Class}
-use Rattle.csicodec_plain.specs.declared.lay.Class.TheVariants as class
 use Rattle.csicodec_plain.specs.declared.lay.Counts.{Counts}
+use Rattle.csicodec_plain.specs.declared.lay.Head.{Head}
+use Rattle.csicodec_plain.specs.declared.lay.Head.TheVariants as head
 use Rattle.csicodec_plain.specs.declared.lay.Large.{Large}
 use Rattle.csicodec_plain.specs.declared.lay.Large.TheVariants as large
 use Rattle.csicodec_plain.specs.declared.next.Front.{Front}
@@ -26,21 +25,23 @@ LaysOne count actions_old actions_new params_old params_new a next =
     Lays old_actions actions_old old_params params_old count before → Lays old_actions actions_new old_params params_new next (before ++ a ∷ [])
 
 -- these tokens stand behind those that were there up to the place, as many as there is room for, and end here
-abbrev pub PutsBehind : List Param → List Param → ℕ → List Param → ℕ → Type 0
-PutsBehind room_old room_new place items end = (old before : List Param) → room_old ≡ laid old before → place ≡ length before →
-    (room_new ≡ laid old (before ++ items)) × (end ≡ length (before ++ items))
+pub record PutsBehind (room_old room_new : List Param) (place : ℕ) (items : List Param) (end : ℕ) : Type 0 where
+  pub ends : end ≡ place + length items
+  pub puts : (old before : List Param) → room_old ≡ laid old before → place ≡ length before → room_new ≡ laid old (before ++ items)
 
--- the terminal of a service class that names these extensions
-abbrev pub terminal_of : Class → List DeviceAttribute → Action
-terminal_of class.Vt220 extensions = action.Device (device.DeviceAttributes (device.Vt220 extensions))
-terminal_of class.Vt320 extensions = action.Device (device.DeviceAttributes (device.Vt320 extensions))
-terminal_of class.Vt420 extensions = action.Device (device.DeviceAttributes (device.Vt420 extensions))
+-- the action that says this ahead of a list of extensions or values
+abbrev pub headed : Head → List CsiParam → Action
+headed head.Vt220 list = action.Device (device.DeviceAttributes (device.Vt220 (listed_attributes list)))
+headed head.Vt320 list = action.Device (device.DeviceAttributes (device.Vt320 (listed_attributes list)))
+headed head.Vt420 list = action.Device (device.DeviceAttributes (device.Vt420 (listed_attributes list)))
+headed (head.Graphics item action_or_status) list = action.Device (device.XtSmGraphics item action_or_status (integers list))
 
--- what a row gives that takes memory
+-- the action of a list that is read whole, which takes memory
 abbrev pub large_of : Large → Action
 large_of (large.Device d) = action.Device (device_of d)
 large_of (large.Window w) = action.Window w
-large_of (large.Graphics g) = lent_graphics g
+large_of (large.Listed h list) = headed h list.now
+large_of (large.Unknown list final) = action.Unspecified list.now false final
 
 -- its actions are put
 pub record IsLaid (list : List CsiParam) (final used : ℕ) (actions_old actions_new : List Plain) (params_old params_new : List Param) (answer : Front) : Type 0 where

@@ -10,11 +10,12 @@ use std::alloc::Global;
 use std::test::Fail;
 
 /// Requests for the terminal's parameters, which are written as the report, and the texts.
-static PARAMETERS: [(i64, &str); 8] = [
+static PARAMETERS: [(i64, &str); 9] = [
     (0, "\x1b[2;1;1;128;128;1;0x"),
     (1, "\x1b[3;1;1;128;128;1;0x"),
     (-1, "\x1b[1;1;1;128;128;1;0x"),
     (-2, "\x1b[0;1;1;128;128;1;0x"),
+    (-3, "\x1b[-1;1;1;128;128;1;0x"),
     (-3, "\x1b[-1;1;1;128;128;1;0x"),
     (i64::MAX, "\x1b[9223372036854775809;1;1;128;128;1;0x"),
     (

@@ -1,8 +1,7 @@
-//! The README's use as a library.
+//! The use as a library of docs/CALLING.md.
 
 use csicodec::{CSI, ReadError, Sgr, encode, read_csi_into};
 use std::alloc::Global;
-use std::test::Fail;
 
 /// The same sequences without blinking.
 pub fn without_blink(alloc: Global, bytes: &[u8]) -> Result<Vec<u8>, ReadError> {
@@ -20,11 +19,4 @@ pub fn without_blink(alloc: Global, bytes: &[u8]) -> Result<Vec<u8>, ReadError> 
         rest = tail.rest;
     }
     Ok(out)
-}
-
-#[test]
-fn drops_blinking(rt: HostRuntime) -> Result<(), Fail> {
-    let kept = without_blink(rt.alloc(), b"\x1b[5;1m\x1b[2J")?;
-    assert_eq!(rt; kept.as_slice(), b"\x1b[1m\x1b[2J".as_slice());
-    Ok(())
 }

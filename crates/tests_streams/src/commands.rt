@@ -1,0 +1,43 @@
+//! What the words of a command line ask for.
+
+use csicodec_command::{Color, Command, Depth, USAGE, command_of};
+use std::alloc::{AllocError, Global};
+
+/// `command WORD..`: what the words of a command line ask for.
+pub(crate) fn command(alloc: Global, line: &str) -> Result<String, AllocError> {
+    let mut words: Vec<String> = Vec::new(alloc);
+    for word in line.split(' ') {
+        let word = String::from_str(alloc, word)?;
+        words.push(word)?;
+    }
+    match command_of(alloc, &words) {
+        Ok(Command::Run(run)) => {
+            let (task, files, wanted) = (run.task, run.files.as_slice(), run.wanted);
+            let (count, full, json) = (wanted.count, wanted.full, wanted.json);
+            let (unknown, only) = (wanted.unknown, wanted.only.unwrap_or("all"));
+            if run.depth != Depth::Full {
+                let depth = run.depth;
+                return format!(in alloc; "{task:?} {files:?} {depth:?}");
+            }
+            if run.links {
+                return format!(in alloc; "{task:?} {files:?} with links");
+            }
+            if run.faithful {
+                return format!(in alloc; "{task:?} {files:?} faithful");
+            }
+            if run.color != Color::Auto || run.timing.is_some() || wanted.decode {
+                let (color, timing) = (run.color, run.timing.unwrap_or("none"));
+                let decode = wanted.decode;
+                return format!(in alloc; "{color:?} {timing} {decode}");
+            }
+            if run.semicolons {
+                return format!(in alloc; "{task:?} {files:?} with semicolons");
+            }
+            format!(in alloc; "{task:?} {files:?} {count} {full} {json} {unknown} {only}")
+        }
+        Ok(Command::Help(USAGE)) => format!(in alloc; "help"),
+        Ok(Command::Help(_)) => format!(in alloc; "help of a word"),
+        Ok(Command::Version) => format!(in alloc; "version"),
+        Err(wrong) => format!(in alloc; "{wrong:?}"),
+    }
+}

@@ -1,0 +1,59 @@
+//! What the programs' libraries make of bytes: a table.
+//!
+//! Each line of standard input is a row: a word that says what is tried, and behind it, with blanks between, on what. The program
+//! writes the line, and behind it, with tabs between, what came of it; where a law is broken, it says so with the word
+//! `otherwise`. An empty line, and one that begins with `#`, stays as it is. The files `stdin` and `stdout` beside `src/` are the
+//! table, which was written by hand. Bytes are spelled as in Rust, with `\e` for ESC.
+#![tactic(auto)]
+
+mod commands;
+mod explain;
+mod forms;
+mod shortest;
+mod spans;
+mod spelling;
+mod untrusted;
+mod words;
+
+use std::alloc::{AllocError, Global};
+
+/// What is told of a row.
+fn told(alloc: Global, row: &str) -> Result<String, AllocError> {
+    let (word, rest) = row.split_once(' ').unwrap_or((row, ""));
+    match word {
+        "command" => commands::command(alloc, rest),
+        "explain" => explain::explain(alloc, rest),
+        "timed" => explain::timed(alloc, rest),
+        "totals" => explain::totals(alloc, rest),
+        "normalise" => forms::normalise(alloc, rest),
+        "error" => forms::error(alloc, rest),
+        "filter" => forms::filter(alloc, rest),
+        "faithful" => forms::faithful(alloc, rest),
+        "short" => shortest::short(alloc, rest),
+        "semicolons" => shortest::semicolons(alloc, rest),
+        "join" => shortest::join(alloc, rest),
+        "pieces" => shortest::pieces(alloc, rest),
+        "encode" => shortest::encode(alloc, rest),
+        "spans" => spans::spans(alloc, rest),
+        "string" => words::string(alloc, rest),
+        "words" => words::words(alloc, rest),
+        "value" => words::value(alloc, rest),
+        "shown" => untrusted::shown(alloc, rest),
+        "colors" => untrusted::colors(alloc, rest),
+        "links" => untrusted::links(alloc, rest),
+        "link" => untrusted::link(alloc, rest),
+        _ => format!(in alloc; "no such row"),
+    }
+}
+
+fn main(rt: HostRuntime) -> anyhow::Result<()> {
+    for line in rt.lines(rt.alloc()) {
+        let line = line?;
+        if line.is_empty() || line.starts_with('#') {
+            println!(rt; "{line}")?;
+        } else {
+            println!(rt; "{line}\t{}", told(rt.alloc(), line.as_str())?)?;
+        }
+    }
+    Ok(())
+}

@@ -1,0 +1,81 @@
+//! What `strip` and `clean` leave of what is used against those who print untrusted text, and of text.
+
+use crate::spelling::{bytes_of, law, spelled};
+use csicodec_safe::{
+    Cleaner, Depth, Dropped, Kept, Passing, Rule, clean, clean_in, clean_with, strip,
+};
+use std::alloc::{AllocError, Global};
+
+const WITH_LINKS: Passing = Passing {
+    depth: Depth::Full,
+    links: true,
+};
+
+/// What a rule leaves of bytes that come one by one.
+fn byte_by_byte<R: Rule + Drop>(
+    alloc: Global,
+    rule: R,
+    bytes: &[u8],
+) -> Result<Vec<u8>, AllocError> {
+    let mut cleaner = Cleaner::new(alloc, rule);
+    let mut out = Vec::new(alloc);
+    for byte in bytes.iter() {
+        cleaner.push(&[*byte], &mut out)?;
+    }
+    cleaner.finish(&mut out)?;
+    Ok(out)
+}
+
+/// `shown BYTES`: what `strip` leaves of them, and what `clean` does. Twice is once, `strip` of what `clean` left is `strip`, and
+/// byte by byte the same is left.
+pub(crate) fn shown(alloc: Global, word: &str) -> Result<String, AllocError> {
+    let bytes = bytes_of(alloc, word)?;
+    let stripped = strip(alloc, &bytes)?;
+    let cleaned = clean(alloc, &bytes)?;
+    let holds = clean(alloc, &cleaned)? == cleaned
+        && strip(alloc, &cleaned)? == stripped
+        && byte_by_byte(alloc, Dropped, &bytes)? == stripped
+        && byte_by_byte(alloc, Kept::new(alloc), &bytes)? == cleaned;
+    let (plain, styled) = (spelled(alloc, &stripped)?, spelled(alloc, &cleaned)?);
+    let end = law(holds);
+    format!(in alloc; "{plain}\t{styled}{end}")
+}
+
+/// `colors BYTES`: what a colour becomes among 256 places and among 16.
+pub(crate) fn colors(alloc: Global, word: &str) -> Result<String, AllocError> {
+    let bytes = bytes_of(alloc, word)?;
+    let palette = clean_in(alloc, Depth::Palette, &bytes)?;
+    let ansi = clean_in(alloc, Depth::Ansi, &bytes)?;
+    let (palette, ansi) = (spelled(alloc, &palette)?, spelled(alloc, &ansi)?);
+    format!(in alloc; "{palette}\t{ansi}")
+}
+
+/// `links BYTES`: what `clean` leaves of them where links pass. Twice is once, byte by byte the same is left, and without its links it
+/// is what is left without links.
+pub(crate) fn links(alloc: Global, word: &str) -> Result<String, AllocError> {
+    let bytes = bytes_of(alloc, word)?;
+    let cleaned = clean_with(alloc, WITH_LINKS, &bytes)?;
+    let holds = byte_by_byte(alloc, Kept::letting(alloc, WITH_LINKS), &bytes)? == cleaned
+        && clean_with(alloc, WITH_LINKS, &cleaned)? == cleaned
+        && clean(alloc, &cleaned)? == clean(alloc, &bytes)?;
+    let (text, end) = (spelled(alloc, &cleaned)?, law(holds));
+    format!(in alloc; "{text}{end}")
+}
+
+/// `link PARAMETERS ADDRESS`: of a link with so many bytes of each and of an `x` behind it, how many are left.
+pub(crate) fn link(alloc: Global, words: &str) -> Result<String, AllocError> {
+    let (params, address) = words.split_once(' ').unwrap_or((words, ""));
+    let (params, address): (u16, u16) = (params.parse().unwrap_or(0), address.parse().unwrap_or(0));
+    let mut bytes = Vec::new(alloc);
+    bytes.extend_from_slice(b"\x1b]8;")?;
+    for _ in 0..params {
+        bytes.push(b'p')?;
+    }
+    bytes.push(b';')?;
+    for _ in 0..address {
+        bytes.push(b'u')?;
+    }
+    bytes.extend_from_slice(b"\x07x")?;
+    let left = clean_with(alloc, WITH_LINKS, &bytes)?.len();
+    format!(in alloc; "{left}")
+}

@@ -43,7 +43,7 @@ pub(crate) enum Call {
 }
 
 /// Each call, in the order in which they are made. `.ci/starve` has how many requests for memory each makes.
-pub(crate) const CALLS: [Call; 34] = [
+pub(crate) static CALLS: [Call; 34] = [
     Call::Read,
     Call::ReadInto,
     Call::Crack,

@@ -26,12 +26,12 @@ use std::process::ExitCode;
 /// Which call was out of memory, at most one; or what is wrong.
 fn refused(ample: &Ample, alloc: Global) -> Result<Option<Call>, &'static str> {
     let mut refused = None;
-    for call in CALLS {
-        match run(call, ample, alloc) {
+    for call in &CALLS {
+        match run(*call, ample, alloc) {
             Outcome::Refused if refused.is_some() => {
                 return Err("one refused request, and more than one call out of memory");
             }
-            Outcome::Refused => refused = Some(call),
+            Outcome::Refused => refused = Some(*call),
             Outcome::Right => {}
             Outcome::Wrong => return Err("a wrong answer"),
         }

@@ -2,6 +2,4 @@
 
 mod filter;
 mod memory;
-mod reader;
-mod spans;
 mod streams;

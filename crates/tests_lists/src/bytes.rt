@@ -1,8 +1,8 @@
-//! Bytes: escape sequences that no bytes of ASCII are, a sequence that is read into a slice, and what `normalise` writes.
+//! Escape sequences that no bytes of ASCII are, and sequences that are read into a slice.
 
 use crate::readme::without_blink;
 use crate::spelling::{bytes_of, spelled};
-use csicodec::{CsiParam, Esc, decode_all, encode_all, normalise, read_csi_within};
+use csicodec::{CsiParam, Esc, read_csi_within};
 use std::alloc::{AllocError, Global};
 
 /// `escape CONTROL`, or `escape INTERMEDIATE CONTROL`, as numbers: the escape sequence, and its text.
@@ -25,22 +25,6 @@ pub(crate) fn within(alloc: Global, bytes: &str) -> Result<String, AllocError> {
         }
         Err(error) => format!(in alloc; "{error:?}"),
     }
-}
-
-/// `normalise BYTES`: what the call answers, and what was written; and how many actions the bytes have, where they have.
-pub(crate) fn normalised(alloc: Global, bytes: &str) -> Result<String, AllocError> {
-    let bytes = bytes_of(alloc, bytes)?;
-    let mut input = bytes.as_slice();
-    let mut output = Vec::new(alloc);
-    let answer = normalise(alloc, &mut input, &mut output);
-    let written = spelled(alloc, &output)?;
-    let Ok(actions) = decode_all(alloc, &bytes, false) else {
-        return format!(in alloc; "{answer:?}\t{written}");
-    };
-    let same = encode_all(alloc, &actions)? == output;
-    let end = if same { "" } else { "\totherwise" };
-    let count = actions.len();
-    format!(in alloc; "{answer:?}\t{written}\t{count} actions{end}")
 }
 
 /// `still BYTES`: the same sequences without blinking.

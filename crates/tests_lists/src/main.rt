@@ -31,7 +31,6 @@ fn told(alloc: Global, row: &str) -> Result<String, AllocError> {
         "graphics" => numbers::graphics(alloc, rest),
         "escape" => bytes::escape(alloc, rest),
         "within" => bytes::within(alloc, rest),
-        "normalise" => bytes::normalised(alloc, rest),
         "still" => bytes::still(alloc, rest),
         _ => format!(in alloc; "no such row"),
     }

@@ -32,7 +32,10 @@ fn rebuilt(alloc: Global, action: CSI) -> Result<(String, CSI), AllocError> {
         CSI::Window(window) => (window.to_string(alloc)?, CSI::from_window(alloc, *window)?),
         CSI::Unspecified(unknown) => {
             let text = unknown.to_string(alloc)?;
-            (text, CSI::from_unspecified(alloc, Box::into_inner(unknown))?)
+            (
+                text,
+                CSI::from_unspecified(alloc, Box::into_inner(unknown))?,
+            )
         }
         CSI::SelectCharacterPath(path, effect) => {
             (String::new(alloc), CSI::SelectCharacterPath(path, effect))
@@ -49,7 +52,7 @@ pub(crate) fn parts(alloc: Global, bytes: &str) -> Result<String, AllocError> {
     };
     let text = encode_all(alloc, &actions)?;
     let Some(action) = actions.pop() else {
-        return format!(in alloc; "nothing");
+        return format!(in alloc; "nothing, in {} bytes", text.len());
     };
     let copy = action.clone(alloc)?;
     let (held, made) = rebuilt(alloc, action)?;

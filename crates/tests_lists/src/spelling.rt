@@ -1,6 +1,7 @@
 //! How a row spells tokens, characters and bytes.
 
 use csicodec::CsiParam;
+use csicodec_strings::append_escaped;
 use std::alloc::{AllocError, Global};
 
 /// The character that a word is, or that `#` and its number stand for.
@@ -37,38 +38,22 @@ pub(crate) fn list_of(alloc: Global, words: &str) -> Result<(Vec<CsiParam>, char
     Ok((tokens_of(alloc, front)?, char_of(last).unwrap_or(' ')))
 }
 
-/// The bytes that a word spells, with `\e` for ESC, `\a` for BEL and `\\` for `\`.
+/// The bytes that a word spells, with `\e` for ESC.
 pub(crate) fn bytes_of(alloc: Global, word: &str) -> Result<Vec<u8>, AllocError> {
     let mut bytes = Vec::new(alloc);
-    let mut escaped = false;
-    for byte in word.bytes() {
-        if escaped || byte != b'\\' {
-            bytes.push(match byte {
-                b'e' if escaped => 0x1b,
-                b'a' if escaped => 0x07,
-                _ => byte,
-            })?;
-            escaped = false;
-        } else {
-            escaped = true;
-        }
+    let mut rest = word;
+    while let Some((front, behind)) = rest.split_once("\\e") {
+        bytes.extend_from_slice(front.as_bytes())?;
+        bytes.push(0x1b)?;
+        rest = behind;
     }
+    bytes.extend_from_slice(rest.as_bytes())?;
     Ok(bytes)
 }
 
-/// Bytes as a row spells them; those that are no character of ASCII that is shown by their number.
-pub(crate) fn spelled(alloc: Global, text: &[u8]) -> Result<String, AllocError> {
-    let mut line = String::new(alloc);
-    for byte in text {
-        match *byte {
-            0x1b => line.push_str("\\e")?,
-            b'\\' => line.push_str("\\\\")?,
-            b' '..=b'~' => line.push(char::from(*byte))?,
-            byte => {
-                let number = format!(in alloc; "<{byte}>")?;
-                line.push_str(number.as_str())?;
-            }
-        }
-    }
-    Ok(line)
+/// Bytes as `explain` shows them.
+pub(crate) fn spelled(alloc: Global, bytes: &[u8]) -> Result<String, AllocError> {
+    let mut text = Vec::new(alloc);
+    append_escaped(&mut text, bytes)?;
+    Ok(String::from_utf8(text).unwrap_or(String::new(alloc)))
 }

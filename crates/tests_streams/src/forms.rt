@@ -6,22 +6,24 @@ use csicodec_filter::{Faithful, Filter, NormalForm, Rewrite};
 use csicodec_streams::{DecodeError, RunError};
 use std::alloc::{AllocError, Global};
 
-/// What is written of the bytes, where they are read.
-fn normal(alloc: Global, bytes: &[u8]) -> Option<Vec<u8>> {
+/// What is answered of the bytes, and what is written.
+fn normal(alloc: Global, bytes: &[u8]) -> (Result<(), RunError>, Vec<u8>) {
     let mut input = bytes;
     let mut output = Vec::new(alloc);
-    csicodec_streams::normalise(alloc, &mut input, &mut output).ok()?;
-    Some(output)
+    let answer = csicodec_streams::normalise(alloc, &mut input, &mut output);
+    (answer, output)
 }
 
-/// `normalise BYTES`: what is written of them; and of that the same.
+/// `normalise BYTES`: what is written of them, and of that the same; and the error, if there is one.
 pub(crate) fn normalise(alloc: Global, word: &str) -> Result<String, AllocError> {
     let bytes = bytes_of(alloc, word)?;
-    let Some(once) = normal(alloc, &bytes) else {
-        return format!(in alloc; "refused");
-    };
-    let holds = normal(alloc, &once).is_some_and(|twice| twice == once);
-    let (text, end) = (spelled(alloc, &once)?, law(holds));
+    let (answer, once) = normal(alloc, &bytes);
+    let text = spelled(alloc, &once)?;
+    if let Err(error) = answer {
+        return format!(in alloc; "{text}\t{error:?}");
+    }
+    let (again, twice) = normal(alloc, &once);
+    let end = law(again.is_ok() && twice == once);
     format!(in alloc; "{text}{end}")
 }
 

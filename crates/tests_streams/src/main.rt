@@ -9,6 +9,7 @@
 mod commands;
 mod explain;
 mod forms;
+mod reads;
 mod shortest;
 mod spans;
 mod spelling;
@@ -25,6 +26,7 @@ fn told(alloc: Global, row: &str) -> Result<String, AllocError> {
         "explain" => explain::explain(alloc, rest),
         "timed" => explain::timed(alloc, rest),
         "totals" => explain::totals(alloc, rest),
+        "read" => reads::read(alloc, rest),
         "normalise" => forms::normalise(alloc, rest),
         "error" => forms::error(alloc, rest),
         "filter" => forms::filter(alloc, rest),

@@ -1,5 +1,6 @@
 //! How a row spells bytes.
 
+use csicodec_strings::append_escaped;
 use std::alloc::{AllocError, Global};
 
 /// The number that a digit of base 16 is.
@@ -38,29 +39,11 @@ pub(crate) fn bytes_of(alloc: Global, word: &str) -> Result<Vec<u8>, AllocError>
     Ok(bytes)
 }
 
-static DIGITS: [char; 16] = [
-    '0', '1', '2', '3', '4', '5', '6', '7', '8', '9', 'a', 'b', 'c', 'd', 'e', 'f',
-];
-
-/// The spelling of bytes.
+/// The spelling of bytes, which is that of `explain`.
 pub(crate) fn spelled(alloc: Global, bytes: &[u8]) -> Result<String, AllocError> {
-    let mut word = String::new(alloc);
-    for byte in bytes {
-        match *byte {
-            0x1b => word.push_str("\\e")?,
-            b'\n' => word.push_str("\\n")?,
-            b'\r' => word.push_str("\\r")?,
-            b'\t' => word.push_str("\\t")?,
-            b'\\' => word.push_str("\\\\")?,
-            b' '..=b'~' => word.push(char::from(*byte))?,
-            byte => {
-                word.push_str("\\x")?;
-                word.push(DIGITS[usize::from(byte >> 4)])?;
-                word.push(DIGITS[usize::from(byte & 15)])?;
-            }
-        }
-    }
-    Ok(word)
+    let mut text = Vec::new(alloc);
+    append_escaped(&mut text, bytes)?;
+    Ok(String::from_utf8(text).unwrap_or(String::new(alloc)))
 }
 
 /// The end of a row: nothing where the law holds.

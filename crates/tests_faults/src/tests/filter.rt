@@ -1,5 +1,5 @@
 //! Streams that a filter rewrites.
-ghost use Rattle.std.specs.Prelude.{◌≡◌, ◌<◌, List};
+ghost use Rattle.std.specs.Prelude.{◌≡◌, List};
 ghost use Rattle.csicodec.specs.Actions.{Action};
 ghost use Rattle.csicodec.specs.Table.{texts};
 
@@ -73,32 +73,6 @@ impl Rewrite for WithoutBlink {
     }
 }
 
-/// What a filter of sequences of at most 22 bytes makes of the bytes, by so many at a time.
-fn normal(rt: &HostRuntime, bytes: &[u8], step: usize) -> Result<Vec<u8>, Fail>
-    requires step { 0 < step }
-{
-    let mut filter = Filter::new(rt.alloc(), 22, NormalForm::new(rt.alloc()));
-    let mut out = Vec::new(rt.alloc());
-    for chunk in bytes.chunks(step) {
-        filter.push(chunk, &mut out)?;
-    }
-    filter.finish(&mut out)?;
-    Ok(out)
-}
-
-#[test]
-fn filters_in_any_chunks(rt: HostRuntime) -> Result<(), Fail> {
-    for (bytes, wanted) in &STREAMS {
-        let whole = normal(&rt, bytes, 64)?;
-        assert_eq!(rt; whole.as_slice(), *wanted, "whole");
-        let by_one = normal(&rt, bytes, 1)?;
-        assert_eq!(rt; by_one.as_slice(), *wanted, "one byte at a time");
-        let by_seven = normal(&rt, bytes, 7)?;
-        assert_eq!(rt; by_seven.as_slice(), *wanted, "7 bytes at a time");
-    }
-    Ok(())
-}
-
 #[test]
 fn drops_a_class_of_actions(rt: HostRuntime) -> Result<(), Fail> {
     let mut filter = Filter::new(rt.alloc(), 64, WithoutBlink { alloc: rt.alloc() });
@@ -156,7 +130,7 @@ impl Read for Live {
 
 #[test]
 fn runs_from_a_reader_to_a_writer(rt: HostRuntime) {
-    for (bytes, wanted) in STREAMS {
+    for (bytes, wanted) in &STREAMS {
         for (step, taken) in [(64, 64), (1, 64), (7, 3)] {
             let mut writer = Writer::new(Taking::Steps(taken));
             let rewrite = NormalForm::new(rt.alloc());

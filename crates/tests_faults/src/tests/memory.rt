@@ -62,15 +62,15 @@ fn runs_out(rt: HostRuntime) -> Result<(), Fail> {
     let ample = Ample::new(rt.alloc())?;
     let mut ends = Vec::with_capacity(rt.alloc(), CALLS.len())?;
     let mut rooms: Vec<Vec<u8>> = Vec::with_capacity(rt.alloc(), CALLS.len())?;
-    for _ in CALLS {
+    for _ in &CALLS {
         rooms.push(Vec::with_capacity(rt.alloc(), ROOM)?)?;
     }
     let mut left = BLOCKS;
-    for call in CALLS {
+    for call in &CALLS {
         left = left.saturating_sub(take_all(rt.alloc(), left));
         drop(rooms.pop());
-        let (refusals, outcome) = grow(call, &ample, rt.alloc());
-        let _kept = ends.push((call, refusals, outcome));
+        let (refusals, outcome) = grow(*call, &ample, rt.alloc());
+        let _kept = ends.push((*call, refusals, outcome));
     }
     assert_eq!(rt; ends.len(), CALLS.len());
     for (call, refusals, outcome) in ends {

@@ -32,7 +32,8 @@ use Rattle.csicodec_actions.specs.Actions as action
 
 -- ---- lists that are read whole
 
--- the action of a list before a final character, subject by subject, where it is made without memory
+-- The action of a list before a final character, subject by subject, where it is made without memory. The order of the subjects doesn't
+-- matter, here and below: no list is read by two (law `rows` of csicodec_lists).
 unfoldable pub plain : List CsiParam → ℕ → Option Action
 plain list final =
     option_or (as_cursor list final)
@@ -42,7 +43,7 @@ plain list final =
 unfoldable pub boxed : List CsiParam → ℕ → Option Action
 boxed list final = option_or (as_device list final) (option_or (as_window list final) (as_graphics list final))
 
--- the action of a list before a final character: what a row of any subject gives; no two rows do (`RowsDecide`)
+-- the action of a list before a final character: what a row of any subject gives
 unfoldable pub whole : List CsiParam → ℕ → Option Action
 whole list final = option_or (plain list final) (boxed list final)
 
@@ -62,7 +63,8 @@ table = cursor_rows ++ (edit_rows ++ (mode_rows ++ (mouse_rows ++ (keyboard_rows
 abbrev pub field_table : List (Over Action)
 field_table = window_fields ++ graphics_fields
 
--- The order of rows and subjects doesn't matter: what any row of the final gives is the action, and so is what any row over fields gives.
+-- The order of rows and subjects doesn't matter (law `rows` of csicodec_lists): what any row of the final gives is the action, and so is what
+-- any row over fields gives.
 abbrev pub RowsDecide : List CsiParam → ℕ → Type 0
 RowsDecide list final = (r : Row Action) (action : Action) → Contains (rows_before table final) r → gives r list ≡ Some action → Whole list final action
 

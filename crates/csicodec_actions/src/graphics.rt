@@ -223,7 +223,7 @@ pub struct GraphicsRef<'a> {
 }
 
 impl<'a> GraphicsRef<'a> {
-    /// The same with the values in memory of its own.
+    /// What is asked or said, with its values in memory of its own. `Err` is out of memory.
     pub fn to_graphics(&self, alloc: Global) -> Result<XtSmGraphics, AllocError>
         ensures { IfOk result (λ graphics. Devices (graphics_of graphics) ≡ lent_graphics self.now) }
     {
@@ -245,7 +245,8 @@ pub fn graphics_ref(params: &[CsiParam], control: char) -> Option<GraphicsRef<'_
     }
 }
 
-/// The same with the values in memory of its own. An `Err` comes only where a row reads the list.
+/// What is asked or said of graphics before this final character, its values in memory of their own, if a row reads the list. `Err` is
+/// out of memory, and comes only where a row reads it.
 pub fn graphics_action(
     alloc: Global,
     params: &[CsiParam],
@@ -262,8 +263,8 @@ pub fn graphics_action(
 
 impl XtSmGraphics {
     /// What a list asks or says of graphics (XTSMGRAPHICS of xterm, `CSI ? .. S`), whatever its first token is. `NotSpelled`
-    /// where the list is empty, or lacks the number of an item or of an action; `Memory` only where fields stand behind the
-    /// first token. `parse`, which answers an action, stands beside `CSI`.
+    /// exactly where the list is empty, or lacks the number of an item or of an action behind that token; otherwise `Memory`,
+    /// if there is none. `parse`, which answers an action, stands beside `CSI`.
     pub fn of_list(alloc: Global, params: &[CsiParam]) -> Result<XtSmGraphics, ParseRefusal>
         ensures read { IfOk result (λ graphics. graphics_behind params.now ≡ Some (Devices (graphics_of graphics))) }
         ensures refused { IfErr result (RefusesGraphics params.now) }

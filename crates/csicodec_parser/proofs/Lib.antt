@@ -7,4 +7,3 @@ pub mod NextLemmas
 pub mod Taken
 pub mod Odd
 pub mod Unread
-pub mod GraphicsFields

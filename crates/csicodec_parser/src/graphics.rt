@@ -11,8 +11,8 @@ use std::alloc::Global;
 /// `parse` of [`XtSmGraphics`], which answers an action.
 pub trait ParseGraphics {
     /// What a list asks or says of graphics (XTSMGRAPHICS of xterm, `CSI ? .. S`), whatever its first token is. `NotSpelled`
-    /// where the list is empty, or lacks the number of an item or of an action; `Memory` only where fields stand behind the
-    /// first token.
+    /// exactly where the list is empty, or lacks the number of an item or of an action behind that token; otherwise `Memory`,
+    /// if there is none.
     ///
     /// ```text
     /// XtSmGraphics::parse(alloc, &[P(b'?'), Integer(2), P(b';'), Integer(1)])      // of SixelGraphicsGeometry

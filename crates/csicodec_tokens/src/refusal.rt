@@ -23,8 +23,8 @@ pub struct NotOneBased;
 pub enum ParseRefusal {
     /// The list is none that a value of the type asked for is written as.
     NotSpelled,
-    /// Out of memory. `Cracked::parse` says it only of a list that has fields, and `XtSmGraphics::parse` only where there are
-    /// fields behind the first token.
+    /// Out of memory. `Cracked::parse` says it only of a list that has fields, and `XtSmGraphics::parse` only of one that it
+    /// reads.
     Memory,
 }
 

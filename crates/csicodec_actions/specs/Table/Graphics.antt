@@ -1,9 +1,9 @@
 -- What a terminal can draw, asked and answered (XTSMGRAPHICS of xterm): lists before `S`, read by their fields, and what each action is written as.
-use Rattle.std.specs.Prelude.{◌≡◌, ℕ, ℤ, List, [], ◌∷◌, drop, Option, None, option_and_then}
+use Rattle.std.specs.Prelude.{◌≡◌, ℕ, ℤ, List, [], ◌∷◌, drop, Option, None, IsSome, option_and_then}
 use Rattle.csicodec_tokens.specs.declared.param.CsiParam.{CsiParam}
 use Rattle.csicodec_tokens.specs.declared.refusal.ParseRefusal.{ParseRefusal}
 use Rattle.csicodec_tokens.specs.declared.refusal.ParseRefusal.TheVariants.{NotSpelled, Memory}
-use Rattle.csicodec_tokens.specs.Fields.{RefusesFields, fields_of}
+use Rattle.csicodec_tokens.specs.Fields.{fields_of}
 use Rattle.csicodec_actions.specs.declared.graphics.XtSmGraphicsItem.{XtSmGraphicsItem}
 use Rattle.csicodec_actions.specs.Actions.{Action, Device}
 use Rattle.csicodec_actions.specs.Devices.{XtSmGraphics}
@@ -27,10 +27,10 @@ as_graphics list final = read_fields graphics_fields list final
 abbrev pub graphics_behind : List CsiParam → Option Action
 graphics_behind list = option_and_then (given graphics_rows) (fields_of (drop 1 list))
 
--- why this list may be refused so: no row reads it, or there are fields behind its first token, which take memory
+-- why this list may be refused so: the row doesn't read it, or it does, and its values take memory
 abbrev pub RefusesGraphics : List CsiParam → ParseRefusal → Type 0
 RefusesGraphics list NotSpelled = graphics_behind list ≡ None
-RefusesGraphics list Memory = RefusesFields (drop 1 list) Memory
+RefusesGraphics list Memory = IsSome (graphics_behind list)
 
 -- ---- what is written
 

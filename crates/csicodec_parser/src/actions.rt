@@ -86,14 +86,14 @@ pub enum CSI {
     Mode(Mode),
     /// What a terminal is, asked and answered.
     Device(Box<Device>),
-    /// What the keyboard reports.
-    Keyboard(Keyboard),
-    /// SCP (ECMA-48, 8.3.111): the path of characters, and what becomes of those that are shown.
-    SelectCharacterPath(CharacterPath, i64),
     /// A report of the mouse.
     Mouse(MouseReport),
     /// What is done to the terminal's window, and the checksum of an area of the page.
     Window(Box<Window>),
+    /// The keyboard's protocol of kitty: its flags set, asked and answered.
+    Keyboard(Keyboard),
+    /// SCP (ECMA-48, 8.3.111): the path of characters, and what becomes of those that are shown.
+    SelectCharacterPath(CharacterPath, i64),
     /// What none of the rules reads.
     Unspecified(Box<Unspecified>),
 }
@@ -130,11 +130,11 @@ impl CSI {
             CSI::Cursor(cursor) => CSI::Cursor(*cursor),
             CSI::Edit(edit) => CSI::Edit(*edit),
             CSI::Mode(mode) => CSI::Mode(*mode),
-            CSI::Mouse(mouse) => CSI::Mouse(*mouse),
             CSI::Device(device) => {
                 let copy = (**device).clone(alloc)?;
                 CSI::Device(Box::new(alloc, copy)?)
             }
+            CSI::Mouse(mouse) => CSI::Mouse(*mouse),
             CSI::Window(window) => CSI::Window(Box::new(alloc, **window)?),
             CSI::Keyboard(keyboard) => CSI::Keyboard(*keyboard),
             CSI::SelectCharacterPath(path, effect) => CSI::SelectCharacterPath(*path, *effect),
@@ -170,10 +170,10 @@ impl CSI {
             CSI::Edit(edit) => Ok(edit.is_canonical()),
             CSI::Mode(mode) => Ok(mode.is_canonical()),
             CSI::Device(device) => Ok(device.is_canonical()),
+            CSI::Mouse(report) => Ok(report.is_canonical()),
             CSI::Window(window) => Ok(window.is_canonical()),
             CSI::Keyboard(keyboard) => Ok(keyboard.is_canonical()),
             CSI::SelectCharacterPath(_, effect) => Ok(is_said(*effect)),
-            CSI::Mouse(report) => Ok(report.is_canonical()),
             CSI::Unspecified(unknown) => is_canonical_unknown(alloc, unknown, parameters_truncated),
         }
     }
@@ -236,8 +236,8 @@ impl fmt::Display for CSI {
             CSI::Cursor(cursor) => write!(f, "\x1b[{cursor}"),
             CSI::Edit(edit) => write!(f, "\x1b[{edit}"),
             CSI::Mode(mode) => write!(f, "\x1b[{mode}"),
-            CSI::Mouse(mouse) => write!(f, "\x1b[{mouse}"),
             CSI::Device(device) => write!(f, "\x1b[{device}"),
+            CSI::Mouse(mouse) => write!(f, "\x1b[{mouse}"),
             CSI::Window(window) => write!(f, "\x1b[{window}"),
             CSI::Keyboard(keyboard) => write!(f, "\x1b[{keyboard}"),
             CSI::SelectCharacterPath(path, effect) => {

@@ -77,7 +77,7 @@ pub enum ActionRef<'a> {
     Whole(&'a [CsiParam]),
     /// `Unspecified`, of these tokens.
     Unknown(&'a [CsiParam]),
-    /// The same with a `?` ahead of them, which stands before the private modes.
+    /// `Unspecified`, of a `?` and then these tokens: the rest of a list of private modes.
     UnknownMode(&'a [CsiParam]),
 }
 
@@ -213,7 +213,7 @@ fn rest_action<L: Look>(
     unspecified(group, look, alloc, truncated, control)
 }
 
-/// The same without memory. The tokens are passed.
+/// The action of all unread tokens, with these lent. They are passed.
 fn rest_ref<'a>(group: Group, look: &mut Tokens<'a>) -> ActionRef<'a>
     requires { look.old.passed ≤ length look.old.list }
     ensures is { (flag : Bool) (final : ℕ) → IsRef result flag final (rest_action group (drop look.old.passed look.old.list) flag final) }

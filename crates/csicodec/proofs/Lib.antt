@@ -1,4 +1,5 @@
 pub mod RowGroups
+pub mod Choice
 pub mod Suffixes
 mod Escapes
 pub mod Spelling

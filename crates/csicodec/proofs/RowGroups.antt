@@ -43,12 +43,12 @@ rows-whole = search rules depth 60
 -- ---- over fields
 
 -- whatever stands first, lists before this final are read whole
-record IsWholeFinal (final : ℕ) : Type 0 where
-  other : (final == 109) ≡ false
-  dec : dec_group final ≡ groups.Whole
-  plain : plain_group final ≡ groups.Whole
+pub record IsWholeFinal (final : ℕ) : Type 0 where
+  pub other : (final == 109) ≡ false
+  pub dec : dec_group final ≡ groups.Whole
+  pub plain : plain_group final ≡ groups.Whole
 
-any-whole : (final : ℕ) (first : Option CsiParam) → IsWholeFinal final → group_by first final ≡ groups.Whole
+pub any-whole : (final : ℕ) (first : Option CsiParam) → IsWholeFinal final → group_by first final ≡ groups.Whole
 any-whole final first is = elim (cases_Bool (is_byte 63 first)) [ inl here ↦ rw (is.other, here) is.dec | inr none ↦ rw (is.other, none) is.plain ]
 
 fields-whole : (list : List CsiParam) (final : ℕ) (a : Action) → read_fields field_table list final ≡ Some a → group list final ≡ groups.Whole

@@ -4,6 +4,7 @@ pub mod Exact
 pub mod RoundTrip
 pub mod Streams
 pub mod Suffix
+pub mod WhichRules
 pub use Rattle.csicodec_tokens.specs.Digits
 pub use Rattle.csicodec_names.specs.EnumNumbers
 pub use Rattle.csicodec_names.specs.Esc

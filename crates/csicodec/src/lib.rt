@@ -15,8 +15,8 @@ pub use csicodec_base::{
     DecPrivateModeCode, DeviceAttributeCodes, EraseInDisplay, EraseInLine, Esc, EscCode, Font,
     Intensity, KittyKeyboardFlags, Modifiers, MouseButtons, NotOneBased, NotSpelled, OneBased,
     ParseRefusal, ReadCsi, ReadError, Sgr, SgrCode, ShortCsi, SrgbaTuple, TabulationClear,
-    TerminalModeCode, Text, Underline, VerticalAlign, behind_csi, read_csi, read_csi_into,
-    read_csi_within, sgr_front,
+    TerminalModeCode, Text, TextBuffer, Underline, VerticalAlign, append_code, behind_csi,
+    read_csi, read_csi_into, read_csi_within, sgr_front,
 };
 pub use csicodec_filter::{Faithful, Filter, NormalForm, Rewrite, append_spans, filter_all};
 pub use csicodec_parser::{

@@ -14,7 +14,7 @@ use csicodec_base::{CsiParam, ReadError, read_csi_into, read_csi_within};
 use csicodec_parser::{CSI, Look, Sink, Texts, Tokens, list_into};
 use std::alloc::{AllocError, Global};
 
-/// The tokens of a list of at most so many are read into a place that is kept, and of a longer one into memory.
+/// Lists of at most so many tokens are read onto the stack, and longer ones into memory.
 const SHORT: usize = 32;
 
 /// The actions of one parameter list, into a sink.
@@ -27,7 +27,8 @@ pub fn parse_into<S: Sink>(
     sink: &mut S,
 ) -> Result<(), AllocError>
     ensures { OnOk result ((before : List Action) → S.holds sink.old before →
-        (actions : List Action) × Actions params.now parameters_truncated control actions × S.holds sink.new (before ++ actions)) }
+        (actions : List Action) × Actions params.now parameters_truncated control actions
+        × S.holds sink.new (before ++ actions)) }
 {
     let mut tokens = Tokens::new(params);
     list_into(alloc, &mut tokens, parameters_truncated, control, sink)
@@ -78,8 +79,10 @@ fn front_into<'a, S: Sink>(
     parameters_truncated: bool,
     sink: &mut S,
 ) -> Result<Behind<'a>, AllocError>
-    ensures front { IfOk result (λ behind. (actions : List Action) × DecodesFront bytes.now parameters_truncated behind.rest.now actions
-        × ((before : List Action) → S.holds sink.old before → S.holds sink.new (before ++ actions))) }
+    ensures front { IfOk result (λ behind. (actions : List Action)
+        × DecodesFront bytes.now parameters_truncated behind.rest.now actions
+        × ((before : List Action) → S.holds sink.old before →
+        S.holds sink.new (before ++ actions))) }
     ensures behind { IfOk result (λ behind. StopsAt behind.rest.now behind.error) }
     ensures within { IfOk result (λ behind. length behind.rest.now ≤ length bytes.now) }
     ensures err { OnErr result (RefusesDecode bytes.now parameters_truncated Memory) }
@@ -118,7 +121,8 @@ fn decode_into<S: Sink>(
     sink: &mut S,
 ) -> Result<(), DecodeError>
     requires { S.holds sink.old [] }
-    ensures done { OnOk result ((actions : List Action) × Decodes bytes.now parameters_truncated actions × S.holds sink.new actions) }
+    ensures done { OnOk result ((actions : List Action)
+        × Decodes bytes.now parameters_truncated actions × S.holds sink.new actions) }
     ensures refused { IfErr result (RefusesDecode bytes.now parameters_truncated) }
 {
     let mut params = Vec::new(alloc);
@@ -141,7 +145,8 @@ pub fn parse_all(
     parameters_truncated: bool,
     control: char,
 ) -> Result<Vec<CSI>, AllocError>
-    ensures { IfOk result (λ all. Actions params.now parameters_truncated control (map action_of all.items)) }
+    ensures { IfOk result (λ all.
+        Actions params.now parameters_truncated control (map action_of all.items)) }
 {
     parse_all_over(
         alloc,
@@ -151,7 +156,8 @@ pub fn parse_all(
     )
 }
 
-/// The same of any list of which nothing is passed yet, whose looks are counted: at most 128 × (length + 1).
+/// All actions of any list of tokens of which none is passed yet, before its final character. The looks at
+/// its tokens are counted: at most 128 × (length + 1).
 pub fn parse_all_over<L: Look>(
     alloc: Global,
     look: &mut L,
@@ -159,7 +165,8 @@ pub fn parse_all_over<L: Look>(
     control: char,
 ) -> Result<Vec<CSI>, AllocError>
     requires { L.passed look.old ≡ 0 }
-    ensures all { IfOk result (λ all. Actions (L.tokens look.old) parameters_truncated control (map action_of all.items)) }
+    ensures all { IfOk result (λ all.
+        Actions (L.tokens look.old) parameters_truncated control (map action_of all.items)) }
     ensures list { L.tokens look.new ≡ L.tokens look.old }
     ensures counted { L.looks look.old ≤ L.looks look.new }
     ensures cheap { L.looks look.new ≤ L.looks look.old + 128 * (length (L.tokens look.old) + 1) }
@@ -172,8 +179,8 @@ pub fn parse_all_over<L: Look>(
 /// All actions of the bytes, which are sequences one after the other, in order; each is parsed with the flag.
 /// Empty bytes have none.
 ///
-/// `DecodeError::Read` says where and why the first sequence that is refused is none, and `DecodeError::Memory` that memory
-/// ran out. The first of the two that is met from the front is answered.
+/// `DecodeError::Read` says where the first fault is, and which; `DecodeError::Memory`, that memory ran out. Of the two, the one
+/// that is met first, from the front, is returned.
 ///
 /// ```text
 /// decode_all(alloc, b"\x1b[1;3m\x1b[2A", false)?     // Intensity(Bold), Italic(true), Up(2)
@@ -185,7 +192,8 @@ pub fn decode_all(
     parameters_truncated: bool,
 ) -> Result<Vec<CSI>, DecodeError>
     // What is answered are the actions of the bytes.
-    ensures found { IfOk result (λ all. Decodes bytes.now parameters_truncated (map action_of all.items)) }
+    ensures found { IfOk result (λ all.
+        Decodes bytes.now parameters_truncated (map action_of all.items)) }
     // Bytes that have actions are refused only where memory runs out.
     ensures only { (actions : List Action) → Decodes bytes.now parameters_truncated actions →
         IfErr result (λ e. e ≡ Memory) }

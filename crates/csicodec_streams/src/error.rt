@@ -30,8 +30,8 @@ pub enum DecodeError {
 }
 
 impl DecodeError {
-    /// The byte of the whole input at which it is refused, counted from 0. None where memory ran out, and where the place
-    /// would pass `usize::MAX`, as it can in a value that is built by hand.
+    /// The byte of the whole input at which it is refused, counted from 0. `None` if memory ran out, and if the place is above
+    /// `usize::MAX`, as only in a value that is built by hand.
     pub fn at(&self) -> Option<usize>
         ensures { result ≡ decode_place self.now }
     {
@@ -81,8 +81,8 @@ impl<T: Drop> From<AllocFailed<T>> for DecodeError {
     }
 }
 
-/// Why a run from a reader to a writer ended early. `normalise` has written nothing then, but with `Write`; a filter has written a
-/// front of what it makes of the whole input.
+/// Why a run from a reader to a writer ended early. With any of these but `Write`, `normalise` has written nothing; a filter has
+/// written a prefix of what it makes of the whole input.
 ///
 /// ```text
 /// normalise(alloc, &mut input, &mut output)      // of "\x1b[m\x1b[1", Err(Decode(Read { start: 3, .. }))
@@ -90,13 +90,13 @@ impl<T: Drop> From<AllocFailed<T>> for DecodeError {
 /// ```
 #[derive(Clone, Copy, Debug, PartialEq, Eq)]
 pub enum RunError {
-    /// A read answered an error: for `normalise` of any kind, for a filter of any but `Interrupted`. A filter tells it of a reader
-    /// too that has no end in 2^64 - 1 reads.
+    /// A read failed: in `normalise` with any error, in a filter with any but `Interrupted`. In a filter also a reader that doesn't
+    /// end after 2^64 - 1 reads.
     Read,
-    /// The input is no join of sequences, and this holds `DecodeError::Read`. A filter never tells it.
+    /// The input isn't sequences one after the other; it holds `DecodeError::Read`. A filter never returns it.
     Decode(DecodeError),
-    /// A write or the flush answered an error, for `normalise` of any kind, for a filter of any but a write's `Interrupted`; or a
-    /// write took no byte.
+    /// A write or the flush failed: in `normalise` with any error, in a filter with any but a write's `Interrupted`; or a write
+    /// took no byte.
     Write,
     /// Memory ran out; or there are more than `isize::MAX` bytes for `normalise`.
     Memory,

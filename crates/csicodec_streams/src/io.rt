@@ -11,7 +11,7 @@ pub const CHUNK: usize = 4096;
 /// The most bytes that an input may have: what was read counts as kept, and no vector holds more.
 pub(crate) const MOST: usize = isize::MAX as usize;
 
-/// Appends what one read of at most so many bytes gives, and answers how many came: none at the end.
+/// Appends what one read into the chunk gives, and returns how many bytes that is: none at the end.
 #[inline(always)]
 pub(crate) fn read_some<R: Read>(
     input: &mut R,
@@ -19,7 +19,9 @@ pub(crate) fn read_some<R: Read>(
     kept: &mut Vec<u8>,
 ) -> Result<usize, RunError>
     requires { 0 < length chunk.old }
-    ensures grows { IfOk result (λ count. (bytes : List ℕ) × (kept.new.items ≡ kept.old.items ++ bytes) × (length bytes ≡ count) × Consumes (R.remaining input.old) (R.remaining input.new) bytes) }
+    ensures grows { IfOk result (λ count. (bytes : List ℕ)
+        × (kept.new.items ≡ kept.old.items ++ bytes) × (length bytes ≡ count)
+        × Consumes (R.remaining input.old) (R.remaining input.new) bytes) }
     ensures end { IfOk result (λ count. count ≡ 0 → IsAtEnd (R.remaining input.new)) }
     ensures err { IfErr result (λ e. (e ≡ RunError.Read) ⊎ (e ≡ RunError.Memory)) }
 {
@@ -32,13 +34,17 @@ pub(crate) fn read_some<R: Read>(
     Ok(count)
 }
 
-/// Reads to the end, and keeps nothing, where so many bytes came before. `Memory` where there are more than `MOST` of both.
+/// Reads to the end, and keeps nothing. `Memory` where there are more than `MOST` bytes, with those that came before.
 #[cold]
 #[inline(never)]
 pub(crate) fn read_out<R: Read>(input: &mut R, before: usize) -> Result<(), RunError>
-    ensures end { OnOk result ((bytes : List ℕ) × Consumes (R.remaining input.old) (R.remaining input.new) bytes × IsAtEnd (R.remaining input.new)) }
+    ensures end { OnOk result ((bytes : List ℕ)
+        × Consumes (R.remaining input.old) (R.remaining input.new) bytes
+        × IsAtEnd (R.remaining input.new)) }
     ensures err { IfErr result (λ e. (e ≡ RunError.Read) ⊎ (e ≡ RunError.Memory)) }
-    ensures long { IfErr result (λ e. e ≡ RunError.Memory → (bytes : List ℕ) × Consumes (R.remaining input.old) (R.remaining input.new) bytes × (2 ^ 63 ≤ before + length bytes)) }
+    ensures long { IfErr result (λ e. e ≡ RunError.Memory → (bytes : List ℕ)
+        × Consumes (R.remaining input.old) (R.remaining input.new) bytes
+        × (2 ^ 63 ≤ before + length bytes)) }
 {
     let mut chunk = [0u8; CHUNK];
     let mut read = before;
@@ -106,9 +112,11 @@ pub fn send<W: Write>(output: &mut W, bytes: &[u8]) -> Result<(), RunError>
 /// Reads what there is now; a read that a signal interrupted, as the change of a window's size does, is tried again.
 pub fn receive<R: Read>(input: &mut R, chunk: &mut [u8]) -> Result<usize, RunError>
     ensures within { IfOk result (λ count. count ≤ length chunk.new) }
-    ensures read { IfOk result (λ count. Consumes (R.remaining input.old) (R.remaining input.new) (take count chunk.new)
+    ensures read { IfOk result (λ count.
+        Consumes (R.remaining input.old) (R.remaining input.new) (take count chunk.new)
         × (count ≡ 0 → 0 < length chunk.new → IsAtEnd (R.remaining input.new))) }
-    ensures err { IfErr result (λ e. (e ≡ RunError.Read) × Keeps (R.remaining input.old) (R.remaining input.new)) }
+    ensures err { IfErr result (λ e.
+        (e ≡ RunError.Read) × Keeps (R.remaining input.old) (R.remaining input.new)) }
 {
     for _ in 0..u64::MAX {
         match input.read(chunk) {

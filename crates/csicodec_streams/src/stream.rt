@@ -18,7 +18,7 @@ use csicodec_parser::{Texts, Tokens, list_into};
 use std::alloc::{AllocError, Global};
 use std::io::{Read, Write};
 
-/// The same into their joined texts. What came before is looked up.
+/// The texts of all actions of the sequences at the front of the bytes, joined. Sequences that came before are looked up.
 #[inline(always)]
 fn texts_into<'a>(
     alloc: Global,
@@ -29,8 +29,10 @@ fn texts_into<'a>(
 ) -> Result<Behind<'a>, AllocError>
     requires known { AreKnown IsNormal memo.old.slots.items }
     requires texts { (before : List Action) × (sink.old.bytes ≡ texts before) }
-    ensures front { IfOk result (λ behind. (actions : List Action) × DecodesFront bytes.now false behind.rest.now actions
-        × ((before : List Action) → sink.old.bytes ≡ texts before → sink.new.bytes ≡ texts (before ++ actions))) }
+    ensures front { IfOk result (λ behind. (actions : List Action)
+        × DecodesFront bytes.now false behind.rest.now actions
+        × ((before : List Action) → sink.old.bytes ≡ texts before →
+        sink.new.bytes ≡ texts (before ++ actions))) }
     ensures behind { IfOk result (λ behind. StopsAt behind.rest.now behind.error) }
     ensures within { IfOk result (λ behind. length behind.rest.now ≤ length bytes.now) }
     ensures err { OnErr result (RefusesDecode bytes.now false Memory) }
@@ -72,14 +74,16 @@ fn stays(error: ReadError) -> bool
     !matches!(error, ReadError::Truncated { .. })
 }
 
-/// What is told of a refusal in mid-stream, where so many bytes were read: the rest of the input is read first, since a read that
-/// fails is told instead.
+/// The error of a run that meets a refused sequence in mid-stream, after so many bytes. The rest of the input is read first: if a
+/// read of it fails, that is the error.
 #[cold]
 #[inline(never)]
 fn refused<R: Read>(input: &mut R, count: usize, error: DecodeError) -> RunError
-    ensures refused { (given : Option (List ℕ)) (read : List ℕ) → Consumes given (R.remaining input.old) read →
+    ensures refused { (given : Option (List ℕ)) (read : List ℕ) →
+        Consumes given (R.remaining input.old) read →
         ((more : List ℕ) → RefusesDecode (read ++ more) false error) → RefusesRun given result }
-    ensures read_whole { (fault : DecodeError) → result ≡ RunError.Decode fault → IsAtEnd (R.remaining input.new) }
+    ensures read_whole { (fault : DecodeError) → result ≡ RunError.Decode fault →
+        IsAtEnd (R.remaining input.new) }
 {
     match error {
         DecodeError::Read { .. } => match read_out(input, count) {
@@ -90,8 +94,8 @@ fn refused<R: Read>(input: &mut R, count: usize, error: DecodeError) -> RunError
     }
 }
 
-/// The texts of all that was read and of what a reader has left. What is read is kept until it is decoded, but for the beginning of
-/// a sequence that isn't whole. That one is gone over again when it is twice as long.
+/// The texts of what was read, and of what the reader still has. Bytes are kept until they are decoded. A sequence that isn't whole
+/// is tried again only once it is twice as long, so that each byte is looked at a bounded number of times.
 #[inline(never)]
 fn stream_into<R: Read>(
     alloc: Global,
@@ -100,11 +104,14 @@ fn stream_into<R: Read>(
     sink: &mut Texts,
 ) -> Result<(), RunError>
     requires { sink.old.bytes ≡ [] }
-    ensures ok { OnOk result ((given : Option (List ℕ)) → Consumes given (R.remaining input.old) read.items → IfSome given (λ bytes.
+    ensures ok { OnOk result ((given : Option (List ℕ)) →
+        Consumes given (R.remaining input.old) read.items → IfSome given (λ bytes.
         (actions : List Action) × Decodes bytes false actions × (sink.new.bytes ≡ texts actions))) }
     ensures end { OnOk result (IsAtEnd (R.remaining input.new)) }
-    ensures refused { IfErr result (λ e. (given : Option (List ℕ)) → Consumes given (R.remaining input.old) read.items → RefusesRun given e) }
-    ensures read_whole { IfErr result (λ e. (fault : DecodeError) → e ≡ RunError.Decode fault → IsAtEnd (R.remaining input.new)) }
+    ensures refused { IfErr result (λ e. (given : Option (List ℕ)) →
+        Consumes given (R.remaining input.old) read.items → RefusesRun given e) }
+    ensures read_whole { IfErr result (λ e. (fault : DecodeError) → e ≡ RunError.Decode fault →
+        IsAtEnd (R.remaining input.new)) }
 {
     let mut held = read;
     let mut params = Vec::new(alloc);
@@ -139,14 +146,12 @@ fn stream_into<R: Read>(
     Err(RunError::Memory)
 }
 
-/// Reads all there is, and writes the texts of its actions: each sequence in its normal form, one sequence for each
-/// action.
+/// Reads sequences one after the other to the end of the input, and writes their normal forms: a sequence for each action.
 ///
-/// The input is sequences one after the other, each parsed with `parameters_truncated` false. `RunError` tells a failed
-/// read, an input that is refused, a failed write and out of memory apart; any error of a read, `Interrupted` too, is
-/// `Read`, and any of a write or the flush, or a write that takes no byte, is `Write`. After all but `Write` nothing was
-/// written. An input that is refused is read to its end before that is told, since a read that fails is told instead; one of
-/// more than `isize::MAX` bytes is `Memory`.
+/// Each is parsed with `parameters_truncated` false. Any error of a read, `Interrupted` too, is `RunError::Read`; any error of a
+/// write or of the flush, and a write that takes no byte, is `RunError::Write`. After every error but `Write` nothing was written.
+/// Input that is refused is still read to its end, and a read that fails there is the error. More than `isize::MAX` bytes are
+/// `RunError::Memory`.
 ///
 /// ```text
 /// normalise(alloc, &mut input, &mut output)?;      // reads "\x1b[01;3m", and writes "\x1b[1m\x1b[3m"
@@ -157,10 +162,12 @@ pub fn normalise<R: Read, W: Write>(
     output: &mut W,
 ) -> Result<(), RunError>
     ensures ok { OnOk result (IfSome (R.remaining input.old) (λ bytes.
-        (actions : List Action) × Decodes bytes false actions × Appends (W.contents output.old) (W.contents output.new) (texts actions))) }
+        (actions : List Action) × Decodes bytes false actions
+        × Appends (W.contents output.old) (W.contents output.new) (texts actions))) }
     ensures end { OnOk result (IsAtEnd (R.remaining input.new)) }
     ensures refused { IfErr result (RefusesRun (R.remaining input.old)) }
-    ensures read_whole { IfErr result (λ e. (fault : DecodeError) → e ≡ RunError.Decode fault → IsAtEnd (R.remaining input.new)) }
+    ensures read_whole { IfErr result (λ e. (fault : DecodeError) → e ≡ RunError.Decode fault →
+        IsAtEnd (R.remaining input.new)) }
     ensures untouched { IfErr result (λ e. e ≢ RunError.Write → output.new ≡ output.old) }
 {
     let mut texts = Texts::new(alloc);

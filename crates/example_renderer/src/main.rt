@@ -16,7 +16,8 @@ use std::io::Write;
 /// The actions that clear a line and set the pen of what is written on it.
 fn status_line(alloc: Global, line: OneBased, ground: AnsiColor) -> Result<Vec<CSI>, AllocError>
     // Each of them is read back from its own text.
-    ensures { IfOk result (λ all. All (λ action. Canonical action false) (map action_of all.items)) }
+    ensures { IfOk result (λ all.
+        All (λ action. Canonical action false) (map action_of all.items)) }
 {
     let col = OneBased::new(1);
     let all = vec![in alloc;
@@ -28,7 +29,7 @@ fn status_line(alloc: Global, line: OneBased, ground: AnsiColor) -> Result<Vec<C
     Ok(all)
 }
 
-/// The text of a count that somebody else gives, if it is one that a terminal reads back: 0 lines up aren't.
+/// Appends the text of an action that somebody else built, if it is read back as this action: `Up(0)` isn't.
 fn checked(alloc: Global, action: &CSI, out: &mut Vec<u8>) -> Result<bool, AllocError> {
     if !action.is_canonical(alloc, false)? {
         return Ok(false);

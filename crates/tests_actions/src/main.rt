@@ -2,11 +2,12 @@
 //!
 //! Each line of standard input is a sequence, or bytes that are none, with `\e` for ESC, `\a` for BEL and `\\` for `\`. The program
 //! writes the line, and behind it, with tabs between, the actions that the sequence stands for, as `{:?}` writes them, and the
-//! text of these; `read otherwise` where that text stands for others. Of a refusal it writes the error. An empty line, and one that
+//! text of these; `read otherwise` where that text stands for others, and `parsed otherwise` where `parse_all` of its list does. Of a
+//! refusal it writes the error. An empty line, and one that
 //! begins with `#`, stays as it is. The files `stdin` and `stdout` beside `src/` are the table, which was written by hand.
 #![tactic(auto)]
 
-use csicodec::{CSI, Esc, decode_all, encode_all};
+use csicodec::{CSI, Esc, decode_all, encode_all, parse_all, read_csi};
 use std::alloc::{AllocError, Global};
 
 /// The bytes that a line spells.
@@ -41,6 +42,17 @@ fn spelled(alloc: Global, text: &[u8]) -> Result<String, AllocError> {
     Ok(line)
 }
 
+/// Whether bytes that are one sequence stand for these actions by its list alone, too.
+fn is_parsed(alloc: Global, bytes: &[u8], actions: &[CSI]) -> Result<bool, AllocError> {
+    match read_csi(alloc, bytes) {
+        Ok(read) if read.rest.is_empty() => {
+            let parsed = parse_all(alloc, &read.params, false, read.control)?;
+            Ok(parsed.as_slice() == actions)
+        }
+        _ => Ok(true),
+    }
+}
+
 /// Whether these actions, of which this was written, display so too, are canonical, and are read back.
 fn read_back(alloc: Global, actions: &[CSI], written: &[u8]) -> Result<bool, AllocError> {
     let mut displayed = String::new(alloc);
@@ -71,7 +83,9 @@ fn told(alloc: Global, bytes: &[u8]) -> Result<String, AllocError> {
             let text = spelled(alloc, &written)?;
             let same = read_back(alloc, &actions, &written)?;
             let end = if same { "" } else { "\tread otherwise" };
-            format!(in alloc; "{actions:?}\t{text}{end}")
+            let parsed = is_parsed(alloc, bytes, &actions)?;
+            let list = if parsed { "" } else { "\tparsed otherwise" };
+            format!(in alloc; "{actions:?}\t{text}{end}{list}")
         }
         Err(error) => format!(in alloc; "{error:?}"),
     }

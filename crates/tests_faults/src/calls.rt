@@ -17,6 +17,8 @@ pub(crate) enum Call {
     ParseGraphics,
     DecodeAll,
     DecodeCutShort,
+    DecodeReport,
+    DecodeFaultFirst,
     FromDevice,
     FromWindow,
     FromUnspecified,
@@ -43,7 +45,7 @@ pub(crate) enum Call {
 }
 
 /// Each call, in the order in which they are made. `.ci/starve` has how many requests for memory each makes.
-pub(crate) static CALLS: [Call; 34] = [
+pub(crate) static CALLS: [Call; 36] = [
     Call::Read,
     Call::ReadInto,
     Call::Crack,
@@ -55,6 +57,8 @@ pub(crate) static CALLS: [Call; 34] = [
     Call::ParseGraphics,
     Call::DecodeAll,
     Call::DecodeCutShort,
+    Call::DecodeReport,
+    Call::DecodeFaultFirst,
     Call::FromDevice,
     Call::FromWindow,
     Call::FromUnspecified,
@@ -111,6 +115,8 @@ pub(crate) fn run(call: Call, ample: &Ample, alloc: Global) -> Outcome {
         Call::ParseGraphics => reads::graphics(ample, alloc),
         Call::DecodeAll => reads::decode(ample, alloc),
         Call::DecodeCutShort => reads::decode_cut_short(alloc),
+        Call::DecodeReport => reads::decode_report(alloc),
+        Call::DecodeFaultFirst => reads::decode_fault_first(alloc),
         Call::FromDevice => boxes::device(alloc),
         Call::FromWindow => boxes::window(alloc),
         Call::FromUnspecified => boxes::unknown(alloc),

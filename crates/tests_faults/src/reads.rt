@@ -4,8 +4,8 @@ use crate::ample::{Ample, BEHIND, CUT_SHORT, NO_PARAMETERS};
 use crate::calls::{Outcome, judge};
 use crate::fakes::INPUT;
 use csicodec::{
-    CSI, Cracked, CsiParam, DecodeError, Intensity, ParseGraphics, ParseRefusal, ReadError, Sgr,
-    XtSmGraphics, decode_all, parse_all, read_csi, read_csi_into,
+    CSI, Cracked, CsiParam, DecodeError, Device, Intensity, ParseGraphics, ParseRefusal, ReadError,
+    Sgr, XtSmGraphics, decode_all, parse_all, read_csi, read_csi_into,
 };
 use std::alloc::{AllocError, Global};
 
@@ -95,5 +95,30 @@ pub(crate) fn decode_cut_short(alloc: Global) -> Outcome {
     match decode_all(alloc, CUT_SHORT, false) {
         Ok(_) => Outcome::Wrong,
         Err(error) => judge(error == DecodeError::Memory, error == BEHIND),
+    }
+}
+
+/// A request for the terminal's parameters behind an attribute: out of memory is told by that name, and not as a fault.
+pub(crate) fn decode_report(alloc: Global) -> Outcome {
+    match decode_all(alloc, b"\x1b[1m\x1b[x", false) {
+        Ok(all) => {
+            let bold = matches!(all.first(), Some(CSI::Sgr(Sgr::Intensity(Intensity::Bold))));
+            let last =
+                matches!(all.last(), Some(CSI::Device(device)) if **device == Device::RequestTerminalParameters(0));
+            judge(false, bold && last && all.len() == 2)
+        }
+        Err(error) => judge(error == DecodeError::Memory, false),
+    }
+}
+
+/// The fault comes before a request that takes memory, for which nothing is asked.
+pub(crate) fn decode_fault_first(alloc: Global) -> Outcome {
+    let fault = DecodeError::Read {
+        start: 4,
+        error: ReadError::NotCsi { at: 0 },
+    };
+    match decode_all(alloc, b"\x1b[1m\x07\x1b[x", false) {
+        Ok(_) => Outcome::Wrong,
+        Err(error) => judge(error == DecodeError::Memory, error == fault),
     }
 }

@@ -1,25 +1,22 @@
 -- What the calls for fewer bytes answer a C program.
-use Rattle.std.specs.Prelude.{ℕ, ◌≡◌, List, length}
+use Rattle.std.specs.Prelude.{ℕ, List}
 use Rattle.csicodec_actions.specs.Actions.{Action}
 use Rattle.csicodec_compact.specs.Compacts.{Compacts, Encodes}
 use Rattle.csicodec_plain.specs.declared.encode.Encoded.{Encoded}
 use Rattle.csicodec_c.specs.declared.filter.Filtered.{Filtered}
 use Rattle.csicodec_plain.specs.declared.plain.Param.{Param}
 use Rattle.csicodec_plain.specs.declared.plain.Plain.{Plain}
-use Rattle.csicodec_plain.specs.Encode.{AllStand}
+use Rattle.csicodec_plain.specs.Encode.{AllStand, IsPut}
 use Rattle.csicodec_c.specs.Filter.{IsStep}
-use Rattle.csicodec_plain.specs.Room.{Fills}
 
 -- a step of a filter that writes spellings that are read alike, and no longer
 abbrev pub IsCompacted : ℕ → ℕ → List ℕ → List ℕ → List ℕ → Filtered → Type 0
 IsCompacted number limit bytes old new answer = IsStep Compacts number limit bytes old new answer
 
--- the length of a text of these actions, which is put where it fits
+-- a text of these actions is put
 pub record IsCompact (plains : List Plain) (params : List Param) (old new : List ℕ) (answer : Encoded) : Type 0 where
   pub actions : List Action
   pub stand : AllStand plains params actions
   pub text : List ℕ
   pub encodes : Encodes actions text
-  pub ok : answer.status ≡ 0
-  pub needed : answer.needed ≡ length text
-  pub fills : Fills old new text
+  pub put : IsPut old new text answer

@@ -6,6 +6,9 @@ use Rattle.csicodec_filter.specs.Filter.{Passes}
 use Rattle.csicodec_streams.specs.Decoding.{NormalisesTo}
 use Rattle.csicodec_c.specs.declared.filter.Filtered.{Filtered}
 use Rattle.csicodec_plain.specs.Room.{Fills}
+use Rattle.csicodec_plain.specs.Status.{status_number}
+use Rattle.csicodec_plain.specs.declared.status.Status.{Status}
+use Rattle.csicodec_plain.specs.declared.status.Status.TheVariants as status
 
 abbrev pub mode_number : Mode → ℕ
 mode_number modes.Text = 0
@@ -15,8 +18,8 @@ mode_number modes.Str = 3
 mode_number modes.BadCsi = 4
 mode_number modes.BadEsc = 5
 
-abbrev pub refused : ℕ → Filtered
-refused status = record { status = status; mode = 0; used = 0; needed = 0 }
+abbrev pub refused : Status → Filtered
+refused why = record { status = status_number why; mode = 0; used = 0; needed = 0 }
 
 -- the text of the parts that are sure, which is put where it fits; the bytes behind them are held, in this mode
 pub record IsStep (Writes : List ℕ → List ℕ → Type 0) (number limit : ℕ) (bytes old new : List ℕ) (answer : Filtered) : Type 0 where
@@ -24,7 +27,7 @@ pub record IsStep (Writes : List ℕ → List ℕ → Type 0) (number limit : �
   pub after : Mode
   pub text : List ℕ
   pub began : number ≡ mode_number before
-  pub ok : answer.status ≡ 0
+  pub ok : answer.status ≡ status_number status.Done
   pub mode : answer.mode ≡ mode_number after
   pub within : answer.used ≤ length bytes
   pub passes : Passes Writes limit before bytes text (drop answer.used bytes) after
@@ -41,5 +44,5 @@ IsBadState number limit = (limit ≡ 0) ⊎ ((mode : Mode) → number ≡ mode_n
 
 -- or a refusal, and then nothing is put
 pub record IsRefused (number limit : ℕ) (old new : List ℕ) (answer : Filtered) : Type 0 where
-  pub why : (answer ≡ refused 5) ⊎ ((answer ≡ refused 7) × IsBadState number limit)
-  pub stays : new ≡ old
+  pub why : (answer ≡ refused status.Memory) ⊎ ((answer ≡ refused status.BadState) × IsBadState number limit)
+  pub same : new ≡ old

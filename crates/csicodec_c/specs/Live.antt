@@ -10,6 +10,9 @@ use Rattle.csicodec_c.specs.declared.live.Cleaning.{Cleaning}
 use Rattle.csicodec_c.specs.declared.strip.Stripped.{Stripped}
 use Rattle.csicodec_c.specs.Filter.{mode_number}
 use Rattle.csicodec_plain.specs.Room.{Fills}
+use Rattle.csicodec_plain.specs.Status.{status_number}
+use Rattle.csicodec_plain.specs.declared.status.Status.{Status}
+use Rattle.csicodec_plain.specs.declared.status.Status.TheVariants as status
 use Rattle.csicodec_c.specs.Strip.{bit, depth_number, stripped}
 use Rattle.csicodec_c.specs.Strip.{refused as nothing}
 
@@ -30,10 +33,10 @@ abbrev pub zeros : Cleaning
 zeros = record { mode = 0; titled = 0; styled = 0; held = 0 }
 
 abbrev pub cleaned : Pause → ℕ → ℕ → Cleaned
-cleaned p used needed = record { status = 0; state = numbers p; used = used; needed = needed }
+cleaned p used needed = record { status = status_number status.Done; state = numbers p; used = used; needed = needed }
 
-abbrev pub refused : ℕ → Cleaned
-refused status = record { status = status; state = zeros; used = 0; needed = 0 }
+abbrev pub refused : Status → Cleaned
+refused why = record { status = status_number why; state = zeros; used = 0; needed = 0 }
 
 -- a step by a rule, whose state is told by whether a style is open: the text of what is sure, which is put where it fits, how many bytes
 -- were used, and the state behind them, which the others can go on from
@@ -75,18 +78,18 @@ AreCalls IsCall state again (chunk ∷ chunks) all last left =
 
 -- or memory ran out, or the state is none, and then nothing is put
 pub record IsStripRefused (state : Cleaning) (len : ℕ) (old new : List ℕ) (answer : Cleaned) : Type 0 where
-  pub why : (answer ≡ refused 5) ⊎ ((answer ≡ refused 7) × IsBadState state len)
-  pub stays : new ≡ old
+  pub why : (answer ≡ refused status.Memory) ⊎ ((answer ≡ refused status.BadState) × IsBadState state len)
+  pub same : new ≡ old
 
 -- or the depth is none
 abbrev pub IsBadDepth : ℕ → Type 0
 IsBadDepth number = (d : Depth) → number ≡ depth_number d → ⊥
 
 pub record IsCleanRefused (number : ℕ) (state : Cleaning) (len : ℕ) (old new : List ℕ) (answer : Cleaned) : Type 0 where
-  pub why : (answer ≡ refused 5) ⊎ ((answer ≡ refused 7) × (IsBadDepth number ⊎ IsBadState state len))
-  pub stays : new ≡ old
+  pub why : (answer ≡ refused status.Memory) ⊎ ((answer ≡ refused status.BadState) × (IsBadDepth number ⊎ IsBadState state len))
+  pub same : new ≡ old
 
 -- so at the end
 pub record IsEndRefused (state : Cleaning) (len : ℕ) (old new : List ℕ) (answer : Stripped) : Type 0 where
-  pub why : (answer ≡ nothing 5) ⊎ ((answer ≡ nothing 7) × IsBadState state len)
-  pub stays : new ≡ old
+  pub why : (answer ≡ nothing status.Memory) ⊎ ((answer ≡ nothing status.BadState) × IsBadState state len)
+  pub same : new ≡ old

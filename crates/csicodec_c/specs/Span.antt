@@ -7,6 +7,9 @@ use Rattle.csicodec_spans.specs.Parts.{Cuts, IsMaximal, IsUnsure}
 use Rattle.csicodec_names.specs.declared.esc.EscCode.{EscCode}
 use Rattle.csicodec_names.specs.Esc.{packed}
 use Rattle.csicodec_names.specs.EscCodes.{esc_number}
+use Rattle.csicodec_plain.specs.Status.{status_number}
+use Rattle.csicodec_plain.specs.declared.status.Status.{Status}
+use Rattle.csicodec_plain.specs.declared.status.Status.TheVariants as status
 use Rattle.csicodec_c.specs.declared.span.Spanned.{Spanned}
 use Rattle.csicodec_c.specs.Filter.{IsBadState, mode_number}
 
@@ -17,8 +20,8 @@ kind_number kinds.Esc = 2
 kind_number kinds.Str = 3
 kind_number kinds.Other = 4
 
-abbrev pub refused : ℕ → Spanned
-refused status = record { status = status; kind = 0; mode = 0; used = 0 }
+abbrev pub refused : Status → Spanned
+refused why = record { status = status_number why; kind = 0; mode = 0; used = 0 }
 
 -- the span at the front, as the table of modes cuts it and as long as it can be, and the mode behind it
 pub record IsDone (number limit : ℕ) (bytes : List ℕ) (answer : Spanned) : Type 0 where
@@ -28,7 +31,7 @@ pub record IsDone (number limit : ℕ) (bytes : List ℕ) (answer : Spanned) : T
   pub text : List ℕ
   pub rest : List ℕ
   pub began : number ≡ mode_number before
-  pub ok : answer.status ≡ 0
+  pub ok : answer.status ≡ status_number status.Done
   pub is : answer.kind ≡ kind_number kind
   pub mode : answer.mode ≡ mode_number after
   pub used : answer.used ≡ length text
@@ -41,12 +44,12 @@ pub record IsDone (number limit : ℕ) (bytes : List ℕ) (answer : Spanned) : T
 pub record IsWaiting (number limit : ℕ) (bytes : List ℕ) (answer : Spanned) : Type 0 where
   pub before : Mode
   pub began : number ≡ mode_number before
-  pub tells : answer ≡ refused 4
+  pub tells : answer ≡ refused status.Truncated
   pub unsure : IsUnsure limit before bytes
 
 -- or the state is none
 abbrev pub IsRefused : ℕ → ℕ → Spanned → Type 0
-IsRefused number limit answer = (answer ≡ refused 7) × IsBadState number limit
+IsRefused number limit answer = (answer ≡ refused status.BadState) × IsBadState number limit
 
 -- the number of the code that an intermediate byte, where 0 is none, and a final byte are; and 0 where no code is written so
 pub record IsCode (intermediate final answer : ℕ) : Type 0 where

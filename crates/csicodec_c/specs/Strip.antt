@@ -9,9 +9,12 @@ use Rattle.csicodec_safe.specs.Shown.{IsPlain}
 use Rattle.csicodec_safe.specs.Styled.{IsStyledIn, StylesIn, without_links}
 use Rattle.csicodec_c.specs.declared.strip.Stripped.{Stripped}
 use Rattle.csicodec_plain.specs.Room.{Fills}
+use Rattle.csicodec_plain.specs.Status.{status_number}
+use Rattle.csicodec_plain.specs.declared.status.Status.{Status}
+use Rattle.csicodec_plain.specs.declared.status.Status.TheVariants as status
 
 abbrev pub stripped : ℕ → Stripped
-stripped needed = record { status = 0; needed = needed }
+stripped needed = record { status = status_number status.Done; needed = needed }
 
 abbrev pub bit : Bool → ℕ
 bit false = 0
@@ -50,15 +53,15 @@ IsPassing depth links passing = (depth ≡ depth_number passing.depth) × (links
 abbrev pub IsCleanedWith : ℕ → ℕ → List ℕ → List ℕ → List ℕ → Stripped → Type 0
 IsCleanedWith depth links bytes old new answer = (passing : Passing) × IsPassing depth links passing × IsCleanedIn passing bytes old new answer
 
-abbrev pub refused : ℕ → Stripped
-refused status = record { status = status; needed = 0 }
+abbrev pub refused : Status → Stripped
+refused why = record { status = status_number why; needed = 0 }
 
 -- or memory ran out, and then nothing is put
 pub record IsRefused (old new : List ℕ) (answer : Stripped) : Type 0 where
-  pub tells : answer ≡ refused 5
-  pub stays : new ≡ old
+  pub tells : answer ≡ refused status.Memory
+  pub same : new ≡ old
 
 -- or the numbers stand for nothing that passes, and then nothing is put either
 pub record IsRefusedWith (depth links : ℕ) (old new : List ℕ) (answer : Stripped) : Type 0 where
-  pub why : (answer ≡ refused 5) ⊎ ((answer ≡ refused 7) × ((passing : Passing) → IsPassing depth links passing → ⊥))
-  pub stays : new ≡ old
+  pub why : (answer ≡ refused status.Memory) ⊎ ((answer ≡ refused status.BadState) × ((passing : Passing) → IsPassing depth links passing → ⊥))
+  pub same : new ≡ old

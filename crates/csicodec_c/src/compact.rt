@@ -9,7 +9,7 @@ ghost use Rattle.csicodec_c.specs.Filter.{IsRefused};
 
 use crate::filter::{Filtered, step};
 use csicodec_compact::{Compact, encode_compact};
-use csicodec_plain::{Encoded, Param, Plain, actions_of, fill, refused};
+use csicodec_plain::{Encoded, Param, Plain, Status, actions_of, put_text, refused};
 use std::alloc::{AllocError, Global};
 
 /// Puts what the spans of the bytes that are sure become, where it fits: each control sequence in the shortest of its spellings that
@@ -74,15 +74,8 @@ pub extern "C" fn csicodec_encode_compact(
     ensures { IsCompact actions.now params.now out.old out.new result ⊎ RefusesActions actions.now params.now out.old out.new result }
 {
     match text_of(alloc, actions, params) {
-        Ok(Ok(all)) => {
-            fill(out, all.as_slice());
-            Encoded {
-                status: 0,
-                at: 0,
-                needed: all.len(),
-            }
-        }
-        Ok(Err(at)) => refused(6, at),
-        Err(_) => refused(5, 0),
+        Ok(Ok(all)) => put_text(all.as_slice(), out),
+        Ok(Err(at)) => refused(Status::NoAction, at),
+        Err(_) => refused(Status::Memory, 0),
     }
 }

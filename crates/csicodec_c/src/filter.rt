@@ -5,7 +5,7 @@ ghost use Rattle.csicodec_filter.specs.Filter.{Passes};
 ghost use Rattle.csicodec_c.specs.Filter.{IsDone, IsRefused, IsStep, mode_number, refused};
 
 use csicodec::{NormalForm, Rewrite, append_spans};
-use csicodec_plain::fill;
+use csicodec_plain::{Status, fill};
 use csicodec_spans::Mode;
 use std::alloc::{AllocError, Global};
 
@@ -13,13 +13,13 @@ use std::alloc::{AllocError, Global};
 #[repr(C)]
 #[derive(Clone, Copy, Debug, PartialEq, Eq)]
 pub struct Filtered {
-    /// 0 where it is done, 5 where memory ran out, 7 where the mode is none, or the limit is 0.
+    /// The number of a `Status`: `Done`, `Memory`, or `BadState` where the mode is none, or the limit is 0.
     pub status: u32,
-    /// Of 0, the mode behind the bytes that were used.
+    /// Of `Done`, the mode behind the bytes that were used.
     pub mode: u32,
-    /// Of 0, how many bytes were used; those behind them are to come again ahead of the next ones.
+    /// Of `Done`, how many bytes were used; those behind them are to come again ahead of the next ones.
     pub used: usize,
-    /// Of 0, the length of the text.
+    /// Of `Done`, the length of the text.
     pub needed: usize,
 }
 
@@ -31,11 +31,11 @@ struct Passed {
     mode: Mode,
 }
 
-fn refused(status: u32) -> Filtered
-    ensures { result ≡ refused status }
+fn refused(why: Status) -> Filtered
+    ensures { result ≡ refused why }
 {
     Filtered {
-        status,
+        status: why.number(),
         mode: 0,
         used: 0,
         needed: 0,
@@ -101,22 +101,22 @@ pub(crate) fn step<T: Rewrite + Drop>(
     ensures { IsStep (T.writes rewrite) mode limit bytes.now out.old out.new result ⊎ IsRefused mode limit out.old out.new result }
 {
     let Some(mode) = mode_at(mode) else {
-        return refused(7);
+        return refused(Status::BadState);
     };
     if limit == 0 {
-        return refused(7);
+        return refused(Status::BadState);
     }
     match pass(alloc, rewrite, mode, limit, bytes) {
         Ok(passed) => {
             fill(out, passed.text.as_slice());
             Filtered {
-                status: 0,
+                status: Status::Done.number(),
                 mode: number_of(passed.mode),
                 used: passed.used,
                 needed: passed.text.len(),
             }
         }
-        Err(_) => refused(5),
+        Err(_) => refused(Status::Memory),
     }
 }
 

@@ -1,12 +1,13 @@
 //! Untrusted text as it comes, by a state that the caller keeps.
 ghost use Rattle.std.specs.Prelude.{◌≡◌, ◌≤◌, ◌⊎◌, Bool, length, IfSome, IfNone};
 ghost use Rattle.csicodec_safe.specs.declared.pause.Pause.{Pause};
-ghost use Rattle.csicodec_c.specs.Live.{IsCleanRefused, IsCleanStep, IsEnd, IsEndRefused, IsState, IsStripRefused, IsStripStep, numbers, refused};
+ghost use Rattle.csicodec_c.specs.Live.{IsCleanRefused, IsCleanStep, IsEnd, IsEndRefused, IsState, IsStripRefused, IsStripStep, cleaned, numbers, refused};
 ghost use Rattle.csicodec_c.specs.Strip.{bit};
+ghost use Rattle.csicodec_plain.specs.Room.{Fills};
 
 use crate::filter::{mode_at, number_of};
-use crate::strip::{Stripped, bit_at, depth_at, refused as nothing};
-use csicodec_plain::fill;
+use crate::strip::{Stripped, bit_at, depth_at, put, refused as nothing};
+use csicodec_plain::{Status, fill};
 use csicodec_safe::{Pause, append_ending, clean_step, strip_step};
 use std::alloc::Global;
 
@@ -28,18 +29,18 @@ pub struct Cleaning {
 #[repr(C)]
 #[derive(Clone, Copy, Debug, PartialEq, Eq)]
 pub struct Cleaned {
-    /// 0 where it is done, 5 where memory ran out, 7 where the state is none, or the depth.
+    /// The number of a `Status`: `Done`, `Memory`, or `BadState` where the state is none, or the depth.
     pub status: u32,
-    /// Of 0, the state behind the bytes that were used.
+    /// Of `Done`, the state behind the bytes that were used.
     pub state: Cleaning,
-    /// Of 0, how many bytes were used; those behind them are to come again ahead of the next ones.
+    /// Of `Done`, how many bytes were used; those behind them are to come again ahead of the next ones.
     pub used: usize,
-    /// Of 0, the length of the text.
+    /// Of `Done`, the length of the text.
     pub needed: usize,
 }
 
-fn refused(status: u32) -> Cleaned
-    ensures { result ≡ refused status }
+fn refused(why: Status) -> Cleaned
+    ensures { result ≡ refused why }
 {
     let state = Cleaning {
         mode: 0,
@@ -48,7 +49,7 @@ fn refused(status: u32) -> Cleaned
         held: 0,
     };
     Cleaned {
-        status,
+        status: why.number(),
         state,
         used: 0,
         needed: 0,
@@ -91,6 +92,21 @@ fn numbers(pause: Pause) -> Cleaning
     }
 }
 
+/// Puts what a step left, where it fits: of so many bytes, with the state behind them.
+fn put_step(text: &[u8], used: usize, after: Pause, out: &mut [u8]) -> Cleaned
+    requires { after.held ≤ 3 }
+    ensures tells { result ≡ cleaned after used (length text.now) }
+    ensures fills { Fills out.old out.new text.now }
+{
+    fill(out, text);
+    Cleaned {
+        status: Status::Done.number(),
+        state: numbers(after),
+        used,
+        needed: text.len(),
+    }
+}
+
 /// Puts what is left of the bytes that are sure, as plain text, where it fits.
 #[unsafe(no_mangle)]
 pub extern "C" fn csicodec_strip_step(
@@ -102,19 +118,13 @@ pub extern "C" fn csicodec_strip_step(
     ensures { IsStripStep state.now bytes.now out.old out.new result ⊎ IsStripRefused state.now (length bytes.now) out.old out.new result }
 {
     let Some(pause) = pause_at(state, bytes.len()) else {
-        return refused(7);
+        return refused(Status::BadState);
     };
     let mut text = Vec::new(alloc);
     let Ok((used, after)) = strip_step(alloc, pause, bytes, &mut text) else {
-        return refused(5);
+        return refused(Status::Memory);
     };
-    fill(out, text.as_slice());
-    Cleaned {
-        status: 0,
-        state: numbers(after),
-        used,
-        needed: text.len(),
-    }
+    put_step(text.as_slice(), used, after, out)
 }
 
 /// The same with the styles that stay, in the colours of a depth.
@@ -129,19 +139,13 @@ pub extern "C" fn csicodec_clean_step(
     ensures { IsCleanStep depth state.now bytes.now out.old out.new result ⊎ IsCleanRefused depth state.now (length bytes.now) out.old out.new result }
 {
     let (Some(depth), Some(pause)) = (depth_at(depth), pause_at(state, bytes.len())) else {
-        return refused(7);
+        return refused(Status::BadState);
     };
     let mut text = Vec::new(alloc);
     let Ok((used, after)) = clean_step(alloc, depth, pause, bytes, &mut text) else {
-        return refused(5);
+        return refused(Status::Memory);
     };
-    fill(out, text.as_slice());
-    Cleaned {
-        status: 0,
-        state: numbers(after),
-        used,
-        needed: text.len(),
-    }
+    put_step(text.as_slice(), used, after, out)
 }
 
 /// Puts what ends a stream behind its last step, where it fits: `bytes` are those that no step used.
@@ -155,15 +159,11 @@ pub extern "C" fn csicodec_clean_end(
     ensures { IsEnd state.now bytes.now out.old out.new result ⊎ IsEndRefused state.now (length bytes.now) out.old out.new result }
 {
     let Some(pause) = pause_at(state, bytes.len()) else {
-        return nothing(7);
+        return nothing(Status::BadState);
     };
     let mut text = Vec::new(alloc);
     let Ok(()) = append_ending(pause, bytes, &mut text) else {
-        return nothing(5);
+        return nothing(Status::Memory);
     };
-    fill(out, text.as_slice());
-    Stripped {
-        status: 0,
-        needed: text.len(),
-    }
+    put(text.as_slice(), out)
 }

@@ -1,7 +1,7 @@
 //! Sequences and their actions, which are plain structs.
 ghost use Rattle.std.specs.Prelude.{◌≡◌, ◌⊎◌};
 ghost use Rattle.csicodec_plain.specs.Normalise.{IsDone as IsNormalised, IsRefused as RefusesToNormalise};
-ghost use Rattle.csicodec_plain.specs.Encode.{IsDone as IsEncoded, IsRefused as RefusesToEncode, IsJudged, StandsForNone, judgement};
+ghost use Rattle.csicodec_plain.specs.Encode.{IsDone as IsEncoded, IsJudged, IsRefused as RefusesToEncode, IsUnjudged};
 ghost use Rattle.csicodec_plain.specs.Next.{IsDone as IsLaid, IsRefused as RefusesToLay};
 
 use csicodec_plain::{
@@ -46,7 +46,7 @@ pub extern "C" fn csicodec_encode(
 /// Whether the text of the action that the struct stands for is read as this one action.
 #[unsafe(no_mangle)]
 pub extern "C" fn csicodec_is_canonical(alloc: Global, plain: &Plain, params: &[Param]) -> Judged
-    ensures { IsJudged plain.now params.now result ⊎ ((result ≡ judgement 5 0) ⊎ ((result ≡ judgement 6 0) × StandsForNone plain.now params.now)) }
+    ensures { IsJudged plain.now params.now result ⊎ IsUnjudged plain.now params.now result }
 {
     judge(alloc, plain, params)
 }

@@ -4,27 +4,29 @@ ghost use Rattle.csicodec_c.specs.Span.{IsCode, IsDone, IsRefused, IsWaiting, ki
 
 use crate::filter::{mode_at, number_of};
 use csicodec::Esc;
+use csicodec_plain::Status;
 use csicodec_spans::{Kind, next_span};
 
 /// What stands at the front of a stream.
 #[repr(C)]
 #[derive(Clone, Copy, Debug, PartialEq, Eq)]
 pub struct Spanned {
-    /// 0 where it is known, 4 where it depends on what follows, 7 where the mode is none, or the limit is 0.
+    /// The number of a `Status`: `Done` where it is known, `Truncated` where it depends on what follows, `BadState` where the mode
+    /// is none, or the limit is 0.
     pub status: u32,
-    /// Of 0, what the bytes are.
+    /// Of `Done`, what the bytes are.
     pub kind: u32,
-    /// Of 0, the mode behind them.
+    /// Of `Done`, the mode behind them.
     pub mode: u32,
-    /// Of 0, how many they are: 1 or more.
+    /// Of `Done`, how many they are: 1 or more.
     pub used: usize,
 }
 
-fn refused(status: u32) -> Spanned
-    ensures { result ≡ refused status }
+fn refused(why: Status) -> Spanned
+    ensures { result ≡ refused why }
 {
     Spanned {
-        status,
+        status: why.number(),
         kind: 0,
         mode: 0,
         used: 0,
@@ -49,19 +51,19 @@ pub extern "C" fn csicodec_span(mode: u32, limit: usize, bytes: &[u8]) -> Spanne
     ensures { IsDone mode limit bytes.now result ⊎ (IsWaiting mode limit bytes.now result ⊎ IsRefused mode limit result) }
 {
     let Some(mode) = mode_at(mode) else {
-        return refused(7);
+        return refused(Status::BadState);
     };
     if limit == 0 {
-        return refused(7);
+        return refused(Status::BadState);
     }
     match next_span(limit, mode, bytes) {
         Some(cut) => Spanned {
-            status: 0,
+            status: Status::Done.number(),
             kind: kind_number(cut.span.kind),
             mode: number_of(cut.mode),
             used: cut.span.bytes.len(),
         },
-        None => refused(4),
+        None => refused(Status::Truncated),
     }
 }
 

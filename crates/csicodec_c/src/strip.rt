@@ -1,10 +1,11 @@
 //! What is left of untrusted text.
-ghost use Rattle.std.specs.Prelude.{◌≡◌, ◌⊎◌, ◌↔◌, Bool, Some, IfSome, IfNone};
+ghost use Rattle.std.specs.Prelude.{◌≡◌, ◌⊎◌, ◌↔◌, Bool, Some, IfSome, IfNone, length};
+ghost use Rattle.csicodec_plain.specs.Room.{Fills};
 ghost use Rattle.csicodec_safe.specs.declared.colors.Depth.{Depth};
 ghost use Rattle.csicodec_safe.specs.declared.styles.Passing.{Passing};
-ghost use Rattle.csicodec_c.specs.Strip.{IsCleaned, IsCleanedIn, IsCleanedWith, IsPassing, IsRefused, IsRefusedWith, IsStripped, bit, depth_number, refused};
+ghost use Rattle.csicodec_c.specs.Strip.{IsCleaned, IsCleanedIn, IsCleanedWith, IsPassing, IsRefused, IsRefusedWith, IsStripped, bit, depth_number, refused, stripped};
 
-use csicodec_plain::fill;
+use csicodec_plain::{Status, fill};
 use csicodec_safe::{Depth, Passing, clean_with, strip};
 use std::alloc::Global;
 
@@ -12,16 +13,31 @@ use std::alloc::Global;
 #[repr(C)]
 #[derive(Clone, Copy, Debug, PartialEq, Eq)]
 pub struct Stripped {
-    /// 0 where it is done, 5 where memory ran out, 7 where a number stands for nothing.
+    /// The number of a `Status`: `Done`, `Memory`, or `BadState` where a number stands for nothing.
     pub status: u32,
-    /// Of 0, the length of what is left.
+    /// Of `Done`, the length of what is left.
     pub needed: usize,
 }
 
-pub(crate) fn refused(status: u32) -> Stripped
-    ensures { result ≡ refused status }
+pub(crate) fn refused(why: Status) -> Stripped
+    ensures { result ≡ refused why }
 {
-    Stripped { status, needed: 0 }
+    Stripped {
+        status: why.number(),
+        needed: 0,
+    }
+}
+
+/// Puts what is left, where it fits.
+pub(crate) fn put(text: &[u8], out: &mut [u8]) -> Stripped
+    ensures tells { result ≡ stripped (length text.now) }
+    ensures fills { Fills out.old out.new text.now }
+{
+    fill(out, text);
+    Stripped {
+        status: Status::Done.number(),
+        needed: text.len(),
+    }
 }
 
 /// The truth of a number.
@@ -53,13 +69,9 @@ pub extern "C" fn csicodec_strip(alloc: Global, bytes: &[u8], out: &mut [u8]) ->
     ensures { IsStripped bytes.now out.old out.new result ⊎ IsRefused out.old out.new result }
 {
     let Ok(text) = strip(alloc, bytes) else {
-        return refused(5);
+        return refused(Status::Memory);
     };
-    fill(out, text.as_slice());
-    Stripped {
-        status: 0,
-        needed: text.len(),
-    }
+    put(text.as_slice(), out)
 }
 
 /// Puts the text of the bytes with what passes, where it fits.
@@ -67,13 +79,9 @@ fn put_cleaned(alloc: Global, passing: Passing, bytes: &[u8], out: &mut [u8]) ->
     ensures { IsCleanedIn passing bytes.now out.old out.new result ⊎ IsRefused out.old out.new result }
 {
     let Ok(text) = clean_with(alloc, passing, bytes) else {
-        return refused(5);
+        return refused(Status::Memory);
     };
-    fill(out, text.as_slice());
-    Stripped {
-        status: 0,
-        needed: text.len(),
-    }
+    put(text.as_slice(), out)
 }
 
 /// Puts the text of the bytes with its styles, where it fits.
@@ -112,7 +120,7 @@ pub extern "C" fn csicodec_clean_with(
     ensures { IsCleanedWith depth links bytes.now out.old out.new result ⊎ IsRefusedWith depth links out.old out.new result }
 {
     let Some(passing) = passing_at(depth, links) else {
-        return refused(7);
+        return refused(Status::BadState);
     };
     put_cleaned(alloc, passing, bytes, out)
 }

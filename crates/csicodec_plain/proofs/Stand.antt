@@ -8,11 +8,10 @@ use Rattle.csicodec_actions.specs.Table.{text}
 use Rattle.csicodec_plain.specs.declared.encode.Encoded.{Encoded}
 use Rattle.csicodec_plain.specs.declared.plain.Param.{Param}
 use Rattle.csicodec_plain.specs.declared.plain.Plain.{Plain}
-use Rattle.csicodec_plain.specs.Encode.{AllStand, IsDone, OneAction, Stands}
+use Rattle.csicodec_plain.specs.Encode.{AllStand, IsDone, IsPut, OneAction, Stands}
 use Rattle.csicodec_plain.specs.Private.Candidates.{AreTexts}
 use Rattle.csicodec_plain.specs.Named.{IsNamed}
 use Rattle.csicodec_plain.specs.Ranges.{InRange}
-use Rattle.csicodec_plain.specs.Room.{Fills}
 use Rattle.csicodec_plain.specs.Rows.{params_of, plain_of}
 use Rattle.csicodec_plain.proofs.OneAction.{action-named, same-action}
 
@@ -60,21 +59,19 @@ one_struct [] d one = absurd (omega (arith, one))
 one_struct (x ∷ []) d one = refl
 one_struct (x ∷ y ∷ plains) d one = absurd (omega (arith, one))
 
--- texts that are put where they fit
-pub texts_done : (plains : List Plain) (params : List Param) (old new all : List ℕ) (answer : Encoded) → AreTexts plains params all → Fills old new all
-    → answer.status ≡ 0 → answer.needed ≡ length all → IsDone plains params old new answer
-texts_done plains params old new all answer are fills ok needed = record {
+-- texts that are put
+pub texts_done : (plains : List Plain) (params : List Param) (old new all : List ℕ) (answer : Encoded) → AreTexts plains params all → IsPut old new all answer
+    → IsDone plains params old new answer
+texts_done plains params old new all answer are put = record {
   actions = are.actions;
   stand = are.stand;
-  ok = ok;
-  needed = needed ∙ ap length are.joined;
-  fills = subst (λ (l : List ℕ). Fills old new l) are.joined fills;
+  put = subst (λ (l : List ℕ). IsPut old new l answer) are.joined put;
 }
 
 pub one_done : (plains : List Plain) (params : List Param) (old new all : List ℕ) (d : Plain) (answer : Encoded) → length plains ≡ 1
-    → AreTexts (slice_index_or plains 0 d ∷ []) params all → Fills old new all → answer.status ≡ 0 → answer.needed ≡ length all → IsDone plains params old new answer
-one_done plains params old new all d answer one are fills ok needed =
-    texts_done plains params old new all answer (subst (λ (l : List Plain). AreTexts l params all) (sym (one_struct plains d one)) are) fills ok needed
+    → AreTexts (slice_index_or plains 0 d ∷ []) params all → IsPut old new all answer → IsDone plains params old new answer
+one_done plains params old new all d answer one are put =
+    texts_done plains params old new all answer (subst (λ (l : List Plain). AreTexts l params all) (sym (one_struct plains d one)) are) put
 
 -- of the actions with one struct and its tokens there is one by its name
 pub one_stands : (plain : Plain) (params : List Param) → OneAction plain params

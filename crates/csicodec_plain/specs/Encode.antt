@@ -12,9 +12,18 @@ use Rattle.csicodec_plain.specs.Named.{IsNamed}
 use Rattle.csicodec_plain.specs.Ranges.{InRange}
 use Rattle.csicodec_plain.specs.Room.{Fills}
 use Rattle.csicodec_plain.specs.Rows.{params_of, plain_of}
+use Rattle.csicodec_plain.specs.Status.{status_number}
+use Rattle.csicodec_plain.specs.declared.status.Status.{Status}
+use Rattle.csicodec_plain.specs.declared.status.Status.TheVariants as status
 
-abbrev pub refused : ℕ → ℕ → Encoded
-refused status at = record { status = status; at = at; needed = 0 }
+abbrev pub refused : Status → ℕ → Encoded
+refused why at = record { status = status_number why; at = at; needed = 0 }
+
+-- the length of a text, which is put where it fits
+pub record IsPut (old new text : List ℕ) (answer : Encoded) : Type 0 where
+  pub ok : answer.status ≡ status_number status.Done
+  pub needed : answer.needed ≡ length text
+  pub fills : Fills old new text
 
 -- the action has this struct, and its tokens stand at the place of the struct
 abbrev pub Has : Plain → List Param → Action → Type 0
@@ -39,13 +48,11 @@ AllStand [] params (a ∷ actions) = ⊥
 AllStand (plain ∷ plains) params [] = ⊥
 AllStand (plain ∷ plains) params (a ∷ actions) = Stands plain params a × AllStand plains params actions
 
--- the length of the texts of these actions, which are put where they fit
+-- the texts of these actions are put
 pub record IsDone (plains : List Plain) (params : List Param) (old new : List ℕ) (answer : Encoded) : Type 0 where
   pub actions : List Action
   pub stand : AllStand plains params actions
-  pub ok : answer.status ≡ 0
-  pub needed : answer.needed ≡ length (texts actions)
-  pub fills : Fills old new (texts actions)
+  pub put : IsPut old new (texts actions) answer
 
 -- the struct at this place is the first that stands for no action
 pub record HasNone (plains : List Plain) (params : List Param) (at : ℕ) : Type 0 where
@@ -57,12 +64,17 @@ pub record HasNone (plains : List Plain) (params : List Param) (at : ℕ) : Type
 
 -- or a refusal, of memory or of a struct that stands for no action, and then nothing is put
 pub record IsRefused (plains : List Plain) (params : List Param) (old new : List ℕ) (answer : Encoded) : Type 0 where
-  pub status : (answer.status ≡ 5) ⊎ ((answer.status ≡ 6) × HasNone plains params answer.at)
-  pub stays : new ≡ old
+  pub status : (answer.status ≡ status_number status.Memory) ⊎ ((answer.status ≡ status_number status.NoAction) × HasNone plains params answer.at)
+  pub same : new ≡ old
 
-abbrev pub judgement : ℕ → ℕ → Judged
-judgement status canonical = record { status = status; canonical = canonical }
+abbrev pub judgement : Status → ℕ → Judged
+judgement why canonical = record { status = status_number why; canonical = canonical }
 
 -- whether the action that the struct stands for is read back from its text
 abbrev pub IsJudged : Plain → List Param → Judged → Type 0
-IsJudged plain params answer = (a : Action) × Stands plain params a × (answer.status ≡ 0) × (answer.canonical ≡ 1 ↔ Canonical a false) × (answer.canonical < 2)
+IsJudged plain params answer = (a : Action) × Stands plain params a × (answer.status ≡ status_number status.Done) × (answer.canonical ≡ 1 ↔ Canonical a false) × (answer.canonical < 2)
+
+-- or why that isn't known: memory ran out, or the struct stands for no action
+abbrev pub IsUnjudged : Plain → List Param → Judged → Type 0
+IsUnjudged plain params answer =
+    (answer ≡ judgement status.Memory 0) ⊎ ((answer ≡ judgement status.NoAction 0) × StandsForNone plain params)

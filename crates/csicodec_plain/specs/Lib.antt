@@ -1,3 +1,4 @@
+pub mod Status
 pub mod Normalise
 pub mod Room
 pub mod Plain

@@ -16,17 +16,16 @@ use Rattle.csicodec_plain.specs.Named.{IsNamed}
 use Rattle.csicodec_plain.specs.Ranges.{InRange}
 use Rattle.csicodec_plain.specs.Room.{laid}
 use Rattle.csicodec_plain.specs.Rows.{params_of, plain_of}
+use Rattle.csicodec_plain.specs.Status.{fault_of, status_number}
+use Rattle.csicodec_plain.specs.declared.status.Status.{Status}
+use Rattle.csicodec_plain.specs.declared.status.Status.TheVariants as status
 
-abbrev pub refused : ℕ → ℕ → Front
-refused status at = record { status = status; at = at; used = 0; actions = 0; params = 0 }
+abbrev pub refused : Status → ℕ → Front
+refused why at = record { status = status_number why; at = at; used = 0; actions = 0; params = 0 }
 
 -- the answer of each refusal
 abbrev pub refusal : ReadError → Front
-refusal (reading.NotCsi at) = refused 1 at
-refusal (reading.BadByte at) = refused 2 at
-refusal (reading.NumberTooLarge at) = refused 3 at
-refusal (reading.Truncated at) = refused 4 at
-refusal reading.Memory = refused 5 0
+refusal error = refused (fault_of error).0 (fault_of error).1
 
 -- why bytes may be refused so: their own fault; out of memory only for a sequence
 abbrev pub IsWhy : List ℕ → ReadError → Type 0
@@ -63,7 +62,7 @@ pub record IsDone (bytes : List ℕ) (actions_old actions_new : List Plain) (par
   pub front : IsFront bytes actions rest
   pub in_range : All InRange actions
   pub named : All IsNamed actions
-  pub ok : answer.status ≡ 0
+  pub ok : answer.status ≡ status_number status.Done
   pub used : answer.used + length rest ≡ length bytes
   pub count : answer.actions ≡ length actions
   pub params : answer.params ≡ length (all_params actions)

@@ -7,21 +7,21 @@ use Rattle.csicodec_streams.specs.Decoding.{NormalisesTo}
 use Rattle.csicodec_streams.specs.Refusals.{RefusesDecode}
 use Rattle.csicodec_plain.specs.declared.normalise.Normalised.{Normalised}
 use Rattle.csicodec_plain.specs.Room.{Fills}
+use Rattle.csicodec_plain.specs.Status.{fault_of, status_number}
+use Rattle.csicodec_plain.specs.declared.status.Status.{Status}
+use Rattle.csicodec_plain.specs.declared.status.Status.TheVariants as status
 
 abbrev pub normalised : ℕ → Normalised
-normalised needed = record { status = 0; start = 0; at = 0; needed = needed }
+normalised needed = record { status = status_number status.Done; start = 0; at = 0; needed = needed }
 
-abbrev pub refused : ℕ → ℕ → ℕ → Normalised
-refused status start at = record { status = status; start = start; at = at; needed = 0 }
+abbrev pub refused : Status → ℕ → ℕ → Normalised
+refused why start at = record { status = status_number why; start = start; at = at; needed = 0 }
 
 -- the answer of each refusal
 abbrev pub refusal : DecodeError → Normalised
-refusal (decoding.Read start (reading.NotCsi at)) = refused 1 start at
-refusal (decoding.Read start (reading.BadByte at)) = refused 2 start at
-refusal (decoding.Read start (reading.NumberTooLarge at)) = refused 3 start at
-refusal (decoding.Read start (reading.Truncated at)) = refused 4 start at
-refusal (decoding.Read start reading.Memory) = refused 5 0 0
-refusal decoding.Memory = refused 5 0 0
+refusal (decoding.Read start reading.Memory) = refused status.Memory 0 0
+refusal (decoding.Read start error) = refused (fault_of error).0 start (fault_of error).1
+refusal decoding.Memory = refused status.Memory 0 0
 
 -- the length of the normal form, which is put where it fits
 pub record IsDone (bytes old new : List ℕ) (answer : Normalised) : Type 0 where
@@ -35,4 +35,4 @@ pub record IsRefused (bytes old new : List ℕ) (answer : Normalised) : Type 0 w
   pub error : DecodeError
   pub why : RefusesDecode bytes false error
   pub tells : answer ≡ refusal error
-  pub stays : new ≡ old
+  pub same : new ≡ old

@@ -25,23 +25,27 @@ use Rattle.csicodec_plain.specs.declared.plain.Plain.{Plain}
 
 -- ---- structs
 
+-- every field is 0
+abbrev pub empty : Plain
+empty = record { kind = 0; final_char = 0; first = pos 0; second = pos 0; top = 0; left = 0; bottom = 0; right = 0; place = 0; len = 0; red = 0; green = 0; blue = 0; alpha = 0; modifiers = 0; button = 0; absent = 0 }
+
 -- a kind and two numbers
 abbrev pub row : ℕ → ℤ → ℤ → Plain
-row kind first second = record { kind = kind; final_char = 0; first = first; second = second; top = 0; left = 0; bottom = 0; right = 0; place = 0; len = 0; red = 0; green = 0; blue = 0; alpha = 0; modifiers = 0; button = 0; absent = 0 }
+row kind first second = record empty { kind = kind; first = first; second = second }
 
 -- with tokens from this place on
 abbrev pub list_row : ℕ → ℤ → ℤ → ℕ → ℕ → Plain
-list_row kind first second place len = record { kind = kind; final_char = 0; first = first; second = second; top = 0; left = 0; bottom = 0; right = 0; place = place; len = len; red = 0; green = 0; blue = 0; alpha = 0; modifiers = 0; button = 0; absent = 0 }
+list_row kind first second place len = record (row kind first second) { place = place; len = len }
 
 -- what none of the rules reads
 abbrev pub unknown_row : ℕ → ℕ → ℕ → Plain
-unknown_row final place len = record { kind = 0; final_char = final; first = pos 0; second = pos 0; top = 0; left = 0; bottom = 0; right = 0; place = place; len = len; red = 0; green = 0; blue = 0; alpha = 0; modifiers = 0; button = 0; absent = 0 }
+unknown_row final place len = record empty { final_char = final; place = place; len = len }
 
 -- a colour: 0 the terminal's own, 1 a place in the palette, 2 its parts
 abbrev pub color_row : ℕ → ColorSpec → Plain
 color_row kind color.Default = row kind (pos 0) (pos 0)
 color_row kind (color.PaletteIndex i) = row kind (pos 1) (pos i)
-color_row kind (color.TrueColor c) = record { kind = kind; final_char = 0; first = pos 2; second = pos 0; top = 0; left = 0; bottom = 0; right = 0; place = 0; len = 0; red = c.0; green = c.1; blue = c.2; alpha = c.3; modifiers = 0; button = 0; absent = 0 }
+color_row kind (color.TrueColor c) = record (row kind (pos 2) (pos 0)) { red = c.0; green = c.1; blue = c.2; alpha = c.3 }
 
 -- an absent number is 0
 abbrev pub number_or_zero : Option ℤ → ℤ
@@ -57,11 +61,11 @@ absence None None = 3
 
 -- two numbers that may be absent
 abbrev pub sized_row : ℕ → Option ℤ → Option ℤ → Plain
-sized_row kind first second = record { kind = kind; final_char = 0; first = number_or_zero first; second = number_or_zero second; top = 0; left = 0; bottom = 0; right = 0; place = 0; len = 0; red = 0; green = 0; blue = 0; alpha = 0; modifiers = 0; button = 0; absent = absence first second }
+sized_row kind first second = record (row kind (number_or_zero first) (number_or_zero second)) { absent = absence first second }
 
 -- four sides, with two numbers
 abbrev pub area_row : ℕ → ℤ → ℤ → ℕ → ℕ → ℕ → ℕ → Plain
-area_row kind first second top left bottom right = record { kind = kind; final_char = 0; first = first; second = second; top = top; left = left; bottom = bottom; right = right; place = 0; len = 0; red = 0; green = 0; blue = 0; alpha = 0; modifiers = 0; button = 0; absent = 0 }
+area_row kind first second top left bottom right = record (row kind first second) { top = top; left = left; bottom = bottom; right = right }
 
 -- ---- numbers
 
@@ -119,7 +123,7 @@ button_number button.Button3Drag = 23
 
 -- a report of the mouse
 abbrev pub report_row : ℕ → ℕ → ℕ → MouseButton → Modifiers → Plain
-report_row kind x y button modifiers = record { kind = kind; final_char = 0; first = pos x; second = pos y; top = 0; left = 0; bottom = 0; right = 0; place = 0; len = 0; red = 0; green = 0; blue = 0; alpha = 0; modifiers = modifier_bits modifiers; button = button_number button; absent = 0 }
+report_row kind x y button modifiers = record (row kind (pos x) (pos y)) { modifiers = modifier_bits modifiers; button = button_number button }
 
 -- ---- tokens
 

@@ -1,7 +1,7 @@
 //! Plain structs as actions, and their texts.
 ghost use Rattle.std.specs.Prelude.{◌≡◌, ◌⊎◌, ◌↔◌, ◌<◌, List, [], ◌∷◌, drop, take, map, length, true, IfOk, IfErr, IfSome, MatchOption};
 ghost use Rattle.csicodec_parser.specs.ActionOf.{action_of};
-ghost use Rattle.csicodec_plain.specs.Encode.{AllStand, HasNone, IsDone, IsRefused, Stands, StandsForNone, refused};
+ghost use Rattle.csicodec_plain.specs.Encode.{AllStand, HasNone, IsDone, IsPut, IsRefused, Stands, StandsForNone, refused};
 ghost use Rattle.std.specs.Option.{option_map};
 ghost use Rattle.csicodec_plain.specs.Private.Candidates.{AreTexts, IsExtended, IsGraphics, IsUnknown, Makes};
 ghost use Rattle.csicodec_plain.specs.Named.{IsNamed};
@@ -17,6 +17,7 @@ use crate::plain::{Param, Plain};
 use crate::room::fill;
 use crate::rows::plain_of;
 use crate::short::short_text;
+use crate::status::Status;
 use crate::token::tokens;
 use csicodec::{
     CSI, Device, DeviceAttributeFlags, DeviceAttributes, Text, Unspecified, XtSmGraphics,
@@ -29,21 +30,35 @@ use std::alloc::{AllocError, Global};
 #[repr(C)]
 #[derive(Clone, Copy, Debug, PartialEq, Eq)]
 pub struct Encoded {
-    /// 0 where it is done, 5 where memory ran out, 6 for a struct that stands for no action.
+    /// The number of a `Status`: `Done`, `Memory`, or `NoAction` for a struct that stands for none.
     pub status: u32,
-    /// Of 6, which of the structs.
+    /// Of `NoAction`, which of the structs.
     pub at: usize,
-    /// Of 0, the length of the texts.
+    /// Of `Done`, the length of the texts.
     pub needed: usize,
 }
 
-pub fn refused(status: u32, at: usize) -> Encoded
-    ensures { result ≡ refused status at }
+/// Why nothing is put.
+pub fn refused(why: Status, at: usize) -> Encoded
+    ensures { result ≡ refused why at }
 {
     Encoded {
-        status,
+        status: why.number(),
         at,
         needed: 0,
+    }
+}
+
+/// Puts a text, where it fits.
+#[inline(always)]
+pub fn put_text(text: &[u8], out: &mut [u8]) -> Encoded
+    ensures { IsPut out.old out.new text.now result }
+{
+    fill(out, text);
+    Encoded {
+        status: Status::Done.number(),
+        at: 0,
+        needed: text.len(),
     }
 }
 
@@ -263,24 +278,12 @@ pub fn put_texts(alloc: Global, actions: &[Plain], params: &[Param], out: &mut [
     if actions.len() == 1 {
         let plain = &actions[0];
         if let Some(text) = short_of(plain) {
-            fill(out, text.as_bytes());
-            return Encoded {
-                status: 0,
-                at: 0,
-                needed: text.as_bytes().len(),
-            };
+            return put_text(text.as_bytes(), out);
         }
     }
     match texts_of(alloc, actions, params) {
-        Ok(Ok(all)) => {
-            fill(out, all.as_slice());
-            Encoded {
-                status: 0,
-                at: 0,
-                needed: all.len(),
-            }
-        }
-        Ok(Err(at)) => refused(6, at),
-        Err(_) => refused(5, 0),
+        Ok(Ok(all)) => put_text(all.as_slice(), out),
+        Ok(Err(at)) => refused(Status::NoAction, at),
+        Err(_) => refused(Status::Memory, 0),
     }
 }

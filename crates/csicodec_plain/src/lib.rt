@@ -13,11 +13,13 @@ mod plain;
 mod room;
 mod rows;
 mod short;
+mod status;
 mod token;
 
 pub use canonical::{Judged, judge};
-pub use encode::{Encoded, actions_of, put_texts, refused};
+pub use encode::{Encoded, actions_of, put_text, put_texts, refused};
 pub use next::{Front, lay_front};
 pub use normalise::{Normalised, put_normal_form};
 pub use plain::{Param, Plain};
 pub use room::fill;
+pub use status::Status;

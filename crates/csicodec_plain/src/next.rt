@@ -5,30 +5,31 @@ ghost use Rattle.csicodec_plain.specs.Next.{IsDone, IsRefused, refusal, refused}
 
 use crate::lay::lay_list;
 use crate::plain::{Param, Plain};
+use crate::status::{Status, fault_of};
 use csicodec::{CsiParam, ReadError, read_csi_into, read_csi_within};
 use std::alloc::Global;
 
-/// What stands at the front of some bytes: 0, or why no sequence does.
+/// What stands at the front of some bytes, or why no sequence does.
 #[repr(C)]
 #[derive(Clone, Copy, Debug, PartialEq, Eq)]
 pub struct Front {
-    /// 0 where a sequence stands there, else as in `Normalised`.
+    /// The number of a `Status`: `Done` where a sequence stands there, else as in `Normalised`.
     pub status: u32,
-    /// Of 1 to 4, the place of the fault.
+    /// Of a refusal, the place of the fault.
     pub at: usize,
-    /// Of 0, how many bytes the sequence has.
+    /// Of `Done`, how many bytes the sequence has.
     pub used: usize,
-    /// Of 0, how many actions it has.
+    /// Of `Done`, how many actions it has.
     pub actions: usize,
-    /// Of 0, how many tokens belong to them.
+    /// Of `Done`, how many tokens belong to them.
     pub params: usize,
 }
 
-fn refused(status: u32, at: usize) -> Front
-    ensures { result ≡ refused status at }
+fn refused(why: Status, at: usize) -> Front
+    ensures { result ≡ refused why at }
 {
     Front {
-        status,
+        status: why.number(),
         at,
         used: 0,
         actions: 0,
@@ -39,13 +40,8 @@ fn refused(status: u32, at: usize) -> Front
 fn refusal(error: ReadError) -> Front
     ensures { result ≡ refusal error }
 {
-    match error {
-        ReadError::NotCsi { at } => refused(1, at),
-        ReadError::BadByte { at } => refused(2, at),
-        ReadError::NumberTooLarge { at } => refused(3, at),
-        ReadError::Truncated { at } => refused(4, at),
-        ReadError::Memory => refused(5, 0),
-    }
+    let (why, at) = fault_of(error);
+    refused(why, at)
 }
 
 /// Puts the actions of this list and their tokens, as many as there is room for: of a sequence of so many bytes.
@@ -62,13 +58,13 @@ fn answer(
 {
     match lay_list(alloc, list, control, actions, params) {
         Ok(count) => Front {
-            status: 0,
+            status: Status::Done.number(),
             at: 0,
             used,
             actions: count.actions,
             params: count.params,
         },
-        Err(_) => refused(5, 0),
+        Err(_) => refused(Status::Memory, 0),
     }
 }
 

@@ -8,6 +8,7 @@ ghost use Rattle.csicodec_plain.specs.Normalise.{IsDone, IsRefused, normalised, 
 
 use crate::room::fill;
 use crate::short::short_text;
+use crate::status::{Status, fault_of};
 use csicodec::laws::segmentation;
 use csicodec::{CSI, CsiParam, DecodeError, ReadError, Text, normal_form, read_csi_within};
 use csicodec_parser::ActionRef;
@@ -16,18 +17,17 @@ use std::alloc::Global;
 /// Of so many bytes it is tried whether they are one sequence with one action.
 const SHORT: usize = 32;
 
-/// How a normalisation ended: 0, or why the bytes are refused.
+/// How a normalisation ended, or why the bytes are refused.
 #[repr(C)]
 #[derive(Clone, Copy, Debug, PartialEq, Eq)]
 pub struct Normalised {
-    /// 0 where it is done; 1 where a byte is none of a sequence's first two, 2 for a byte that stands in no sequence,
-    /// 3 for a number that is too large, 4 for a sequence that is cut off, 5 where memory ran out.
+    /// The number of a `Status`: `Done`, `NotCsi`, `BadByte`, `NumberTooLarge`, `Truncated` or `Memory`.
     pub status: u32,
-    /// Of 1 to 4, where the sequence begins that is refused.
+    /// Of a refusal, where the sequence begins that is refused.
     pub start: usize,
-    /// Of 1 to 4, the place of the fault, counted from there.
+    /// Of a refusal, the place of the fault, counted from there.
     pub at: usize,
-    /// Of 0, the length of the normal form.
+    /// Of `Done`, the length of the normal form.
     pub needed: usize,
 }
 
@@ -35,18 +35,18 @@ fn done(needed: usize) -> Normalised
     ensures { result ≡ normalised needed }
 {
     Normalised {
-        status: 0,
+        status: Status::Done.number(),
         start: 0,
         at: 0,
         needed,
     }
 }
 
-fn refused(status: u32, start: usize, at: usize) -> Normalised
-    ensures { result ≡ refused status start at }
+fn refused(why: Status, start: usize, at: usize) -> Normalised
+    ensures { result ≡ refused why start at }
 {
     Normalised {
-        status,
+        status: why.number(),
         start,
         at,
         needed: 0,
@@ -57,14 +57,15 @@ fn refusal(error: DecodeError) -> Normalised
     ensures { result ≡ refusal error }
 {
     match error {
-        DecodeError::Read { start, error } => match error {
-            ReadError::NotCsi { at } => refused(1, start, at),
-            ReadError::BadByte { at } => refused(2, start, at),
-            ReadError::NumberTooLarge { at } => refused(3, start, at),
-            ReadError::Truncated { at } => refused(4, start, at),
-            ReadError::Memory => refused(5, 0, 0),
-        },
-        DecodeError::Memory => refused(5, 0, 0),
+        DecodeError::Read {
+            error: ReadError::Memory,
+            ..
+        }
+        | DecodeError::Memory => refused(Status::Memory, 0, 0),
+        DecodeError::Read { start, error } => {
+            let (why, at) = fault_of(error);
+            refused(why, start, at)
+        }
     }
 }
 

@@ -17,6 +17,8 @@ use Rattle.csicodec_plain.specs.declared.next.Front.{Front}
 use Rattle.csicodec_plain.specs.declared.plain.Param.{Param}
 use Rattle.csicodec_plain.specs.declared.plain.Plain.{Plain}
 use Rattle.csicodec_plain.specs.Room.{laid}
+use Rattle.csicodec_plain.specs.Status.{status_number}
+use Rattle.csicodec_plain.specs.declared.status.Status.TheVariants as status
 
 -- behind what is laid lies one action more, and so many there are then
 abbrev pub LaysOne : Counts → List Plain → List Plain → List Param → List Param → Action → Counts → Type 0
@@ -47,11 +49,11 @@ large_of (large.Unknown list final) = action.Unspecified list.now false final
 pub record IsLaid (list : List CsiParam) (final used : ℕ) (actions_old actions_new : List Plain) (params_old params_new : List Param) (answer : Front) : Type 0 where
   pub all : List Action
   pub are : Actions list false final all
-  pub ok : answer.status ≡ 0
+  pub ok : answer.status ≡ status_number status.Done
   pub used_all : answer.used ≡ used
   pub lays : Lays actions_old actions_new params_old params_new (record { actions = answer.actions; params = answer.params }) all
 
 -- so, or out of memory
 abbrev pub IsAnswer : List CsiParam → ℕ → ℕ → List Plain → List Plain → List Param → List Param → Front → Type 0
 IsAnswer list final used actions_old actions_new params_old params_new answer =
-    IsLaid list final used actions_old actions_new params_old params_new answer ⊎ (answer ≡ refused 5 0)
+    IsLaid list final used actions_old actions_new params_old params_new answer ⊎ (answer ≡ refused status.Memory 0)

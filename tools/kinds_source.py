@@ -124,7 +124,7 @@ pub(crate) const UNSPECIFIED: u32 = 0;
             clauses["named"] = holds(f"IsNamed{group}")
         if has_tokens(group):
             clauses["bare"] = f"IfSome result (λ {name}. {name}_params ({name}_of {name}) ≡ [])"
-            clauses["finds"] = f"Finds ({name}_plain plain.now.place) HasNoList plain.now (option_map {name}_of result)"
+            clauses["finds"] = f"Finds ({name}_plain plain.now.place) HasNoList plain.now\n        (option_map {name}_of result)"
         else:
             clauses["finds"] = f"Finds {name}_plain {group}InRange plain.now result"
         ensures = "".join(f"    ensures {clause} {{ {says} }}\n" for clause, says in clauses.items())
@@ -139,7 +139,8 @@ pub(crate) fn small_candidate(plain: &Plain) -> Option<CSI>
     ensures in_range { IfSome result (λ csi. InRange (action_of csi)) }
     ensures named { IfSome result (λ csi. IsNamed (action_of csi)) }
     ensures bare { IfSome result (λ csi. params_of (action_of csi) ≡ []) }
-    ensures finds { Finds (plain_of plain.now.place) IsSmall plain.now (option_map action_of result) }
+    ensures finds { Finds (plain_of plain.now.place) IsSmall plain.now
+        (option_map action_of result) }
 {
     match plain.kind {
 """
@@ -156,7 +157,8 @@ pub(crate) fn candidate(alloc: Global, plain: &Plain) -> Result<Option<CSI>, All
     ensures in_range {{ IfOk result (λ r. IfSome r (λ csi. InRange (action_of csi))) }}
     ensures named {{ IfOk result (λ r. IfSome r (λ csi. IsNamed (action_of csi))) }}
     ensures bare {{ IfOk result (λ r. IfSome r (λ csi. params_of (action_of csi) ≡ [])) }}
-    ensures finds {{ IfOk result (λ r. Finds (plain_of plain.now.place) IsBare plain.now (option_map action_of r)) }}
+    ensures finds {{ IfOk result (λ r. Finds (plain_of plain.now.place) IsBare plain.now
+        (option_map action_of r)) }}
 {{
     match plain.kind {{
 """

@@ -22,7 +22,8 @@ pub extern "C" fn csicodec_compact(
     bytes: &[u8],
     out: &mut [u8],
 ) -> Filtered
-    ensures { IsCompacted mode limit bytes.now out.old out.new result ⊎ IsRefused mode limit out.old out.new result }
+    ensures { IsCompacted mode limit bytes.now out.old out.new result
+        ⊎ IsRefused mode limit out.old out.new result }
 {
     step(alloc, Compact::new(alloc), mode, limit, bytes, out)
 }
@@ -36,7 +37,8 @@ pub extern "C" fn csicodec_compact_semicolons(
     bytes: &[u8],
     out: &mut [u8],
 ) -> Filtered
-    ensures { IsCompacted mode limit bytes.now out.old out.new result ⊎ IsRefused mode limit out.old out.new result }
+    ensures { IsCompacted mode limit bytes.now out.old out.new result
+        ⊎ IsRefused mode limit out.old out.new result }
 {
     step(
         alloc,
@@ -54,7 +56,10 @@ fn text_of(
     plains: &[Plain],
     params: &[Param],
 ) -> Result<Result<Vec<u8>, usize>, AllocError>
-    ensures text { IfOk result (λ r. IfOk r (λ text. (actions : List Action) × AllStand plains.now params.now actions × Encodes actions text.items)) }
+    ensures text { IfOk result (λ r.
+        IfOk r (λ text.
+        (actions : List Action) × AllStand plains.now params.now actions
+        × Encodes actions text.items)) }
     ensures none { IfOk result (λ r. IfErr r (λ at. HasNone plains.now params.now at)) }
 {
     match actions_of(alloc, plains, params)? {
@@ -71,7 +76,8 @@ pub extern "C" fn csicodec_encode_compact(
     params: &[Param],
     out: &mut [u8],
 ) -> Encoded
-    ensures { IsCompact actions.now params.now out.old out.new result ⊎ RefusesActions actions.now params.now out.old out.new result }
+    ensures { IsCompact actions.now params.now out.old out.new result
+        ⊎ RefusesActions actions.now params.now out.old out.new result }
 {
     match text_of(alloc, actions, params) {
         Ok(Ok(all)) => put_text(all.as_slice(), out),

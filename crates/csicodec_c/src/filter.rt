@@ -80,7 +80,10 @@ fn pass<T: Rewrite + Drop>(
 ) -> Result<Passed, AllocError>
     requires { 0 < limit }
     ensures within { IfOk result (λ p. p.used ≤ length bytes.now) }
-    ensures passes { IfOk result (λ p. (text : List ℕ) × Passes (T.writes rewrite) limit mode bytes.now text (drop p.used bytes.now) p.mode × (p.text.items ≡ text)) }
+    ensures passes { IfOk result (λ p.
+        (text : List ℕ)
+        × Passes (T.writes rewrite) limit mode bytes.now text (drop p.used bytes.now) p.mode
+        × (p.text.items ≡ text)) }
 {
     let mut rewrite = rewrite;
     let mut params = Vec::new(alloc);
@@ -98,7 +101,8 @@ pub(crate) fn step<T: Rewrite + Drop>(
     bytes: &[u8],
     out: &mut [u8],
 ) -> Filtered
-    ensures { IsStep (T.writes rewrite) mode limit bytes.now out.old out.new result ⊎ IsRefused mode limit out.old out.new result }
+    ensures { IsStep (T.writes rewrite) mode limit bytes.now out.old out.new result
+        ⊎ IsRefused mode limit out.old out.new result }
 {
     let Some(mode) = mode_at(mode) else {
         return refused(Status::BadState);
@@ -130,7 +134,8 @@ pub extern "C" fn csicodec_filter(
     bytes: &[u8],
     out: &mut [u8],
 ) -> Filtered
-    ensures { IsDone mode limit bytes.now out.old out.new result ⊎ IsRefused mode limit out.old out.new result }
+    ensures { IsDone mode limit bytes.now out.old out.new result
+        ⊎ IsRefused mode limit out.old out.new result }
 {
     step(alloc, NormalForm::new(alloc), mode, limit, bytes, out)
 }

@@ -11,8 +11,14 @@ ghost use Rattle.csicodec_c.specs.declared.strip.Stripped.{Stripped};
 
 /// However untrusted text is cut into steps, what they put and the end is what `strip` makes of all of it, or `clean` in a depth.
 pub fn any_steps()
-    ensures strip { (chunks : List (List ℕ)) (all left old new : List ℕ) (last : Cleaning) (answer : Stripped) → AreCalls IsStripStep zeros [] chunks all last left → IsEnd last left old new answer
-        → answer.needed ≤ length old → Strips longest (concat chunks) (all ++ take answer.needed new) }
-    ensures clean { (d : Depth) (chunks : List (List ℕ)) (all left old new : List ℕ) (last : Cleaning) (answer : Stripped) → AreCalls (IsCleanStep (depth_number d)) zeros [] chunks all last left → IsEnd last left old new answer
-        → answer.needed ≤ length old → StylesIn (without_links d) (concat chunks) (all ++ take answer.needed new) }
+    ensures strip { (chunks : List (List ℕ)) (all left old new : List ℕ) (last : Cleaning)
+        (answer : Stripped)
+        → AreCalls IsStripStep zeros [] chunks all last left → IsEnd last left old new answer
+        → answer.needed ≤ length old
+        → Strips longest (concat chunks) (all ++ take answer.needed new) }
+    ensures clean { (d : Depth) (chunks : List (List ℕ)) (all left old new : List ℕ) (last : Cleaning)
+        (answer : Stripped)
+        → AreCalls (IsCleanStep (depth_number d)) zeros [] chunks all last left
+        → IsEnd last left old new answer → answer.needed ≤ length old
+        → StylesIn (without_links d) (concat chunks) (all ++ take answer.needed new) }
 {}

@@ -115,7 +115,8 @@ pub extern "C" fn csicodec_strip_step(
     bytes: &[u8],
     out: &mut [u8],
 ) -> Cleaned
-    ensures { IsStripStep state.now bytes.now out.old out.new result ⊎ IsStripRefused state.now (length bytes.now) out.old out.new result }
+    ensures { IsStripStep state.now bytes.now out.old out.new result
+        ⊎ IsStripRefused state.now (length bytes.now) out.old out.new result }
 {
     let Some(pause) = pause_at(state, bytes.len()) else {
         return refused(Status::BadState);
@@ -136,7 +137,8 @@ pub extern "C" fn csicodec_clean_step(
     bytes: &[u8],
     out: &mut [u8],
 ) -> Cleaned
-    ensures { IsCleanStep depth state.now bytes.now out.old out.new result ⊎ IsCleanRefused depth state.now (length bytes.now) out.old out.new result }
+    ensures { IsCleanStep depth state.now bytes.now out.old out.new result
+        ⊎ IsCleanRefused depth state.now (length bytes.now) out.old out.new result }
 {
     let (Some(depth), Some(pause)) = (depth_at(depth), pause_at(state, bytes.len())) else {
         return refused(Status::BadState);
@@ -156,7 +158,8 @@ pub extern "C" fn csicodec_clean_end(
     bytes: &[u8],
     out: &mut [u8],
 ) -> Stripped
-    ensures { IsEnd state.now bytes.now out.old out.new result ⊎ IsEndRefused state.now (length bytes.now) out.old out.new result }
+    ensures { IsEnd state.now bytes.now out.old out.new result
+        ⊎ IsEndRefused state.now (length bytes.now) out.old out.new result }
 {
     let Some(pause) = pause_at(state, bytes.len()) else {
         return nothing(Status::BadState);

@@ -12,7 +12,8 @@ use std::alloc::Global;
 /// Puts the normal form of the bytes, where it fits.
 #[unsafe(no_mangle)]
 pub extern "C" fn csicodec_normalise(alloc: Global, bytes: &[u8], out: &mut [u8]) -> Normalised
-    ensures { IsNormalised bytes.now out.old out.new result ⊎ RefusesToNormalise bytes.now out.old out.new result }
+    ensures { IsNormalised bytes.now out.old out.new result
+        ⊎ RefusesToNormalise bytes.now out.old out.new result }
 {
     put_normal_form(alloc, bytes, out)
 }
@@ -25,7 +26,8 @@ pub extern "C" fn csicodec_next(
     actions: &mut [Plain],
     params: &mut [Param],
 ) -> Front
-    ensures { IsLaid bytes.now actions.old actions.new params.old params.new result ⊎ RefusesToLay bytes.now actions.old actions.new params.old params.new result }
+    ensures { IsLaid bytes.now actions.old actions.new params.old params.new result
+        ⊎ RefusesToLay bytes.now actions.old actions.new params.old params.new result }
 {
     lay_front(alloc, bytes, actions, params)
 }
@@ -38,7 +40,8 @@ pub extern "C" fn csicodec_encode(
     params: &[Param],
     out: &mut [u8],
 ) -> Encoded
-    ensures { IsEncoded actions.now params.now out.old out.new result ⊎ RefusesToEncode actions.now params.now out.old out.new result }
+    ensures { IsEncoded actions.now params.now out.old out.new result
+        ⊎ RefusesToEncode actions.now params.now out.old out.new result }
 {
     put_texts(alloc, actions, params, out)
 }

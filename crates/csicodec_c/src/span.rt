@@ -48,7 +48,8 @@ fn kind_number(kind: Kind) -> u32
 /// The span at the front of bytes that stand in a mode.
 #[unsafe(no_mangle)]
 pub extern "C" fn csicodec_span(mode: u32, limit: usize, bytes: &[u8]) -> Spanned
-    ensures { IsDone mode limit bytes.now result ⊎ (IsWaiting mode limit bytes.now result ⊎ IsRefused mode limit result) }
+    ensures { IsDone mode limit bytes.now result
+        ⊎ (IsWaiting mode limit bytes.now result ⊎ IsRefused mode limit result) }
 {
     let Some(mode) = mode_at(mode) else {
         return refused(Status::BadState);

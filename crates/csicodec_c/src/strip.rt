@@ -76,7 +76,8 @@ pub extern "C" fn csicodec_strip(alloc: Global, bytes: &[u8], out: &mut [u8]) ->
 
 /// Puts the text of the bytes with what passes, where it fits.
 fn put_cleaned(alloc: Global, passing: Passing, bytes: &[u8], out: &mut [u8]) -> Stripped
-    ensures { IsCleanedIn passing bytes.now out.old out.new result ⊎ IsRefused out.old out.new result }
+    ensures { IsCleanedIn passing bytes.now out.old out.new result
+        ⊎ IsRefused out.old out.new result }
 {
     let Ok(text) = clean_with(alloc, passing, bytes) else {
         return refused(Status::Memory);
@@ -117,7 +118,8 @@ pub extern "C" fn csicodec_clean_with(
     bytes: &[u8],
     out: &mut [u8],
 ) -> Stripped
-    ensures { IsCleanedWith depth links bytes.now out.old out.new result ⊎ IsRefusedWith depth links out.old out.new result }
+    ensures { IsCleanedWith depth links bytes.now out.old out.new result
+        ⊎ IsRefusedWith depth links out.old out.new result }
 {
     let Some(passing) = passing_at(depth, links) else {
         return refused(Status::BadState);

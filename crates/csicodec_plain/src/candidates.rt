@@ -153,7 +153,8 @@ fn device_candidate(plain: &Plain) -> Option<Device>
     ensures in_range { IfSome result (λ device. DeviceInRange (device_of device)) }
     ensures named { IfSome result (λ device. IsNamedDevice (device_of device)) }
     ensures bare { IfSome result (λ device. device_params (device_of device) ≡ []) }
-    ensures finds { Finds (device_plain plain.now.place) HasNoList plain.now (option_map device_of result) }
+    ensures finds { Finds (device_plain plain.now.place) HasNoList plain.now
+        (option_map device_of result) }
 {
     match plain.kind {
         401 => Some(Device::DeviceAttributes(DeviceAttributes::Vt100WithAdvancedVideoOption)),
@@ -278,7 +279,8 @@ pub(crate) fn small_candidate(plain: &Plain) -> Option<CSI>
     ensures in_range { IfSome result (λ csi. InRange (action_of csi)) }
     ensures named { IfSome result (λ csi. IsNamed (action_of csi)) }
     ensures bare { IfSome result (λ csi. params_of (action_of csi) ≡ []) }
-    ensures finds { Finds (plain_of plain.now.place) IsSmall plain.now (option_map action_of result) }
+    ensures finds { Finds (plain_of plain.now.place) IsSmall plain.now
+        (option_map action_of result) }
 {
     match plain.kind {
         1..=100 => Some(CSI::Sgr(sgr_candidate(plain)?)),
@@ -297,7 +299,8 @@ pub(crate) fn candidate(alloc: Global, plain: &Plain) -> Result<Option<CSI>, All
     ensures in_range { IfOk result (λ r. IfSome r (λ csi. InRange (action_of csi))) }
     ensures named { IfOk result (λ r. IfSome r (λ csi. IsNamed (action_of csi))) }
     ensures bare { IfOk result (λ r. IfSome r (λ csi. params_of (action_of csi) ≡ [])) }
-    ensures finds { IfOk result (λ r. Finds (plain_of plain.now.place) IsBare plain.now (option_map action_of r)) }
+    ensures finds { IfOk result (λ r. Finds (plain_of plain.now.place) IsBare plain.now
+        (option_map action_of r)) }
 {
     match plain.kind {
         401..=500 => match device_candidate(plain) {

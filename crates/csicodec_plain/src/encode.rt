@@ -99,7 +99,8 @@ fn from<T>(items: &[T], place: usize) -> &[T]
 
 /// The tokens of an action, unless they are fewer.
 fn part<T>(items: &[T], place: usize, len: usize) -> Option<&[T]>
-    ensures { MatchOption result (length (take len (drop place items.now)) < len) (λ part. part.now ≡ take len (drop place items.now)) }
+    ensures { MatchOption result (length (take len (drop place items.now)) < len) (λ part.
+        part.now ≡ take len (drop place items.now)) }
 {
     let behind = from(items, place);
     if len <= behind.len() {
@@ -114,7 +115,8 @@ fn unknown(alloc: Global, plain: &Plain, params: &[Param]) -> Result<Option<CSI>
     ensures in_range { IfOk result (λ r. IfSome r (λ csi. InRange (action_of csi))) }
     ensures tokens { IfOk result (λ r. IfSome r (λ csi. params_of (action_of csi) ≡ params.now)) }
     ensures named { IfOk result (λ r. IfSome r (λ csi. IsNamed (action_of csi))) }
-    ensures finds { IfOk result (λ r. Makes IsUnknown plain.now params.now (option_map action_of r)) }
+    ensures finds { IfOk result (λ r.
+        Makes IsUnknown plain.now params.now (option_map action_of r)) }
 {
     let Some(control) = char::from_u32(plain.final_char) else {
         return Ok(None);
@@ -135,7 +137,8 @@ fn extended(alloc: Global, plain: &Plain, params: &[Param]) -> Result<Option<CSI
     ensures in_range { IfOk result (λ r. IfSome r (λ csi. InRange (action_of csi))) }
     ensures tokens { IfOk result (λ r. IfSome r (λ csi. params_of (action_of csi) ≡ params.now)) }
     ensures named { IfOk result (λ r. IfSome r (λ csi. IsNamed (action_of csi))) }
-    ensures finds { IfOk result (λ r. Makes IsExtended plain.now params.now (option_map action_of r)) }
+    ensures finds { IfOk result (λ r.
+        Makes IsExtended plain.now params.now (option_map action_of r)) }
 {
     let Some(attributes) = tokens(alloc, params)? else {
         return Ok(None);
@@ -155,7 +158,8 @@ fn graphics(alloc: Global, plain: &Plain, params: &[Param]) -> Result<Option<CSI
     ensures in_range { IfOk result (λ r. IfSome r (λ csi. InRange (action_of csi))) }
     ensures tokens { IfOk result (λ r. IfSome r (λ csi. params_of (action_of csi) ≡ params.now)) }
     ensures named { IfOk result (λ r. IfSome r (λ csi. IsNamed (action_of csi))) }
-    ensures finds { IfOk result (λ r. Makes IsGraphics plain.now params.now (option_map action_of r)) }
+    ensures finds { IfOk result (λ r.
+        Makes IsGraphics plain.now params.now (option_map action_of r)) }
 {
     let Some(value) = tokens(alloc, params)? else {
         return Ok(None);
@@ -191,7 +195,9 @@ pub(crate) fn action(
     params: &[Param],
     plain: &Plain,
 ) -> Result<Option<CSI>, AllocError>
-    ensures { IfOk result (λ r. MatchOption r (StandsForNone plain.now params.now) (λ csi. Stands plain.now params.now (action_of csi))) }
+    ensures { IfOk result (λ r.
+        MatchOption r (StandsForNone plain.now params.now) (λ csi.
+        Stands plain.now params.now (action_of csi))) }
 {
     let Some(items) = part(params, plain.place, plain.len) else {
         return Ok(None);
@@ -214,7 +220,8 @@ pub fn actions_of(
     plains: &[Plain],
     params: &[Param],
 ) -> Result<Result<Vec<CSI>, usize>, AllocError>
-    ensures actions { IfOk result (λ r. IfOk r (λ all. AllStand plains.now params.now (map action_of all.items))) }
+    ensures actions { IfOk result (λ r.
+        IfOk r (λ all. AllStand plains.now params.now (map action_of all.items))) }
     ensures none { IfOk result (λ r. IfErr r (λ at. HasNone plains.now params.now at)) }
 {
     let mut actions = Vec::new(alloc);
@@ -273,7 +280,8 @@ fn short_of(plain: &Plain) -> Option<Text>
 /// Puts the texts of the actions that the structs stand for, where they fit.
 #[tactic(auto, using(crate::proofs::Stand::texts_done))]
 pub fn put_texts(alloc: Global, actions: &[Plain], params: &[Param], out: &mut [u8]) -> Encoded
-    ensures { IsDone actions.now params.now out.old out.new result ⊎ IsRefused actions.now params.now out.old out.new result }
+    ensures { IsDone actions.now params.now out.old out.new result
+        ⊎ IsRefused actions.now params.now out.old out.new result }
 {
     if actions.len() == 1 {
         let plain = &actions[0];

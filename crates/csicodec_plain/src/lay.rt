@@ -34,7 +34,8 @@ pub(crate) struct Counts {
 
 /// Puts the extensions, or the values, that a terminal names behind the tokens that are there.
 fn put_device(room: &mut [Param], place: usize, device: &Device) -> Option<usize>
-    ensures { IfSome result (PutsBehind room.old room.new place (device_params (device_of device.now))) }
+    ensures { IfSome result (PutsBehind room.old room.new place
+        (device_params (device_of device.now))) }
 {
     match device {
         Device::DeviceAttributes(
@@ -62,7 +63,9 @@ fn put_params(room: &mut [Param], place: usize, action: &CSI) -> Option<usize>
 /// the structs can't be counted.
 #[inline(always)]
 fn lay_struct(plain: Plain, end: usize, count: Counts, actions: &mut [Plain]) -> Option<Counts>
-    ensures { (old new : List Param) (a : Action) → plain ≡ plain_of count.params a → PutsBehind old new count.params (params_of a) end → IfSome result (LaysOne count actions.old actions.new old new a) }
+    ensures { (old new : List Param) (a : Action) → plain ≡ plain_of count.params a
+        → PutsBehind old new count.params (params_of a) end
+        → IfSome result (LaysOne count actions.old actions.new old new a) }
 {
     let next = count.actions.checked_add(1)?;
     put(actions, count.actions, plain);
@@ -80,7 +83,8 @@ fn lay_one(
     actions: &mut [Plain],
     params: &mut [Param],
 ) -> Option<Counts>
-    ensures { IfSome result (LaysOne count actions.old actions.new params.old params.new (action_of action.now)) }
+    ensures { IfSome result (LaysOne count actions.old actions.new params.old params.new
+        (action_of action.now)) }
 {
     let end = put_params(params, count.params, action)?;
     lay_struct(plain_of(count.params, action), end, count, actions)
@@ -95,7 +99,8 @@ fn lay_unknown(
     actions: &mut [Plain],
     params: &mut [Param],
 ) -> Option<Counts>
-    ensures { IfSome result (LaysOne count actions.old actions.new params.old params.new (Unknown (mark.now ++ tokens.now) false control)) }
+    ensures { IfSome result (LaysOne count actions.old actions.new params.old params.new
+        (Unknown (mark.now ++ tokens.now) false control)) }
 {
     let len = mark.len().checked_add(tokens.len())?;
     let behind = put_all(params, count.params, mark)?;
@@ -131,7 +136,8 @@ fn class_of(list: &[CsiParam], control: char) -> Option<(Head, &[CsiParam])>
 
 /// The struct of an action with so many extensions or values, which stand from this place on.
 fn head_plain(head: Head, place: usize, len: usize) -> Plain
-    ensures { (list : List CsiParam) → len ≡ length (params_of (headed head list)) → result ≡ plain_of place (headed head list) }
+    ensures { (list : List CsiParam) → len ≡ length (params_of (headed head list))
+        → result ≡ plain_of place (headed head list) }
 {
     match head {
         Head::Vt220 => list_row(VT220, 0, 0, place, len),
@@ -152,7 +158,8 @@ fn head_plain(head: Head, place: usize, len: usize) -> Plain
 
 /// Puts a token of the list, where it is an extension or a value: a `;` is no extension, and a byte no value.
 fn put_listed(room: &mut [Param], place: usize, head: Head, token: CsiParam) -> Option<usize>
-    ensures { IfSome result (PutsBehind room.old room.new place (params_of (headed head (token ∷ [])))) }
+    ensures { IfSome result (PutsBehind room.old room.new place
+        (params_of (headed head (token ∷ [])))) }
 {
     match (head, token) {
         (Head::Graphics { .. }, P(_)) | (_, P(b';')) => Some(place),
@@ -179,7 +186,8 @@ fn lay_listed(
     actions: &mut [Plain],
     params: &mut [Param],
 ) -> Option<Counts>
-    ensures { IfSome result (LaysOne count actions.old actions.new params.old params.new (headed head list.now)) }
+    ensures { IfSome result (LaysOne count actions.old actions.new params.old params.new
+        (headed head list.now)) }
 {
     let end = put_list(params, count.params, head, list)?;
     let len = end.checked_sub(count.params)?;
@@ -202,7 +210,8 @@ fn lay_large(
     actions: &mut [Plain],
     params: &mut [Param],
 ) -> Option<Counts>
-    ensures { IfSome result (LaysOne count actions.old actions.new params.old params.new (large_of large.now)) }
+    ensures { IfSome result (LaysOne count actions.old actions.new params.old params.new
+        (large_of large.now)) }
 {
     match large {
         Large::Device(device) => {
@@ -222,7 +231,8 @@ fn large_action<'a>(
     list: &'a [CsiParam],
     control: char,
 ) -> Result<Large<'a>, AllocError>
-    ensures { IfOk result (λ large. large_of large ≡ unwrap_or (boxed list.now control) (Unknown list.now false control)) }
+    ensures { IfOk result (λ large.
+        large_of large ≡ unwrap_or (boxed list.now control) (Unknown list.now false control)) }
 {
     if let Some((class, extensions)) = class_of(list, control) {
         return Ok(Large::Listed(class, extensions));
@@ -254,7 +264,8 @@ fn lay_whole(
     actions: &mut [Plain],
     params: &mut [Param],
 ) -> Result<Counts, AllocError>
-    ensures { IfOk result (LaysOne count actions.old actions.new params.old params.new (unwrap_or (boxed list.now control) (Unknown list.now false control))) }
+    ensures { IfOk result (LaysOne count actions.old actions.new params.old params.new
+        (unwrap_or (boxed list.now control) (Unknown list.now false control))) }
 {
     let large = large_action(alloc, list, control)?;
     lay_large(&large, count, actions, params).ok_or(AllocError)
@@ -270,7 +281,9 @@ fn lay_ref(
     actions: &mut [Plain],
     params: &mut [Param],
 ) -> Result<Counts, AllocError>
-    ensures { IfOk result (λ next. (a : Action) → IsRef action.entry false control a → LaysOne count actions.old actions.new params.old params.new a next) }
+    ensures { IfOk result (λ next.
+        (a : Action) → IsRef action.entry false control a
+        → LaysOne count actions.old actions.new params.old params.new a next) }
 {
     match action {
         ActionRef::Small(csi) => lay_one(&csi, count, actions, params).ok_or(AllocError),
@@ -294,7 +307,9 @@ pub(crate) fn lay_list(
     actions: &mut [Plain],
     params: &mut [Param],
 ) -> Result<Counts, AllocError>
-    ensures { IfOk result (λ count. (all : List Action) × Actions list.now false control all × Lays actions.old actions.new params.old params.new count all) }
+    ensures { IfOk result (λ count.
+        (all : List Action) × Actions list.now false control all
+        × Lays actions.old actions.new params.old params.new count all) }
 {
     segmentation(list, false, control);
     let mut count = Counts {

@@ -72,7 +72,8 @@ fn answer(
 #[cold]
 #[inline(never)]
 fn next_long(alloc: Global, bytes: &[u8], actions: &mut [Plain], params: &mut [Param]) -> Front
-    ensures { IsDone bytes.now actions.old actions.new params.old params.new result ⊎ IsRefused bytes.now actions.old actions.new params.old params.new result }
+    ensures { IsDone bytes.now actions.old actions.new params.old params.new result
+        ⊎ IsRefused bytes.now actions.old actions.new params.old params.new result }
 {
     let mut list = Vec::new(alloc);
     let tail = match read_csi_into(&mut list, bytes) {
@@ -85,7 +86,8 @@ fn next_long(alloc: Global, bytes: &[u8], actions: &mut [Plain], params: &mut [P
 
 /// Puts the actions of the sequence at the front, and their tokens, as many as there is room for.
 pub fn lay_front(alloc: Global, bytes: &[u8], actions: &mut [Plain], params: &mut [Param]) -> Front
-    ensures { IsDone bytes.now actions.old actions.new params.old params.new result ⊎ IsRefused bytes.now actions.old actions.new params.old params.new result }
+    ensures { IsDone bytes.now actions.old actions.new params.old params.new result
+        ⊎ IsRefused bytes.now actions.old actions.new params.old params.new result }
 {
     let mut room = [CsiParam::Integer(0); 32];
     let read = match read_csi_within(&mut room, bytes) {

@@ -199,7 +199,8 @@ pub(crate) fn private_mode(plain: &Plain) -> Option<DecPrivateMode>
 /// The first number, as that of a mode, by its code where it has one.
 #[tactic(auto, using(crate::proofs::ModeNumbers::terminal_reads))]
 pub(crate) fn terminal_mode(plain: &Plain) -> Option<TerminalMode>
-    ensures { ReadsNamed terminal_number IsNamedTerminal (FitsUnsignedBits 16) plain.now.first result }
+    ensures { ReadsNamed terminal_number IsNamedTerminal
+        (FitsUnsignedBits 16) plain.now.first result }
 {
     TerminalMode::at(plain.first)
 }

@@ -126,7 +126,8 @@ pub(crate) fn tokens<T: Token + Drop>(
     alloc: Global,
     params: &[Param],
 ) -> Result<Option<Vec<T>>, AllocError>
-    ensures { IfOk result (λ r. FindsTokens T.crosses T.in_range T.named params.now (option_map (λ all. all.items) r)) }
+    ensures { IfOk result (λ r.
+        FindsTokens T.crosses T.in_range T.named params.now (option_map (λ all. all.items) r)) }
 {
     let mut all = Vec::new(alloc);
     for param in params {

@@ -3,6 +3,9 @@
 use crate::Error;
 use crate::stream::goes_on;
 
+/// The most bytes that a control sequence may have.
+pub(crate) const LIMIT: usize = 65536;
+
 /// What a step over some bytes answers.
 pub(crate) struct Step<T> {
     /// 0 where it is done.

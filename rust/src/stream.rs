@@ -1,5 +1,6 @@
 //! A terminal's stream: its spans and its events.
 
+use crate::pending::LIMIT;
 use crate::room::Room;
 use crate::text::whole;
 use crate::{CSI, Esc, raw};
@@ -116,7 +117,6 @@ pub enum Event<'a> {
     Other(&'a [u8]),
 }
 
-const LIMIT: usize = 65536;
 const TEXT: u32 = 0;
 const BAD_CSI: u32 = 4;
 const ESC: u8 = 0x1b;

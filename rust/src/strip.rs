@@ -1,6 +1,6 @@
 //! What is left of untrusted text.
 
-use crate::pending::{Pending, Step};
+use crate::pending::{LIMIT, Pending, Step};
 use crate::{Error, raw};
 use std::io::{self, ErrorKind, Read, Write};
 
@@ -91,9 +91,6 @@ fn left(call: impl Fn(&[u8], &mut [u8]) -> raw::Stripped, bytes: &[u8]) -> Resul
         }
     }
 }
-
-/// The most bytes that a control sequence may have.
-const LIMIT: usize = 65536;
 
 /// Strips or cleans untrusted text as it comes, in bounded memory: it holds fewer than 65,536 bytes of a control sequence, and 3 of
 /// a character. The pushed slices and the end append what [`strip`] or [`clean`] gives for the whole text. Links don't pass, since

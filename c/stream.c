@@ -65,6 +65,27 @@ static int waits(void) {
     return good;
 }
 
+/* A sequence of many bytes with a control at its front: the control, and then all of its actions. */
+static int of_many_bytes(void) {
+    static uint8_t many[4096];
+    struct csicodec_action actions[2];
+    struct csicodec_param params[2];
+    struct csicodec_stream stream = csicodec_stream_of(sizeof many, actions, 2, params, 2);
+    struct csicodec_event event;
+    for (size_t count = 1; count < 2000; count += 1 + count / 8) {
+        size_t len = 4;
+        memcpy(many, "\x1b[1\n", len);
+        for (size_t i = 1; i < count; i++) many[len++] = ';', many[len++] = '1';
+        many[len++] = 'm';
+        if (!csicodec_next_event(&stream, many, len, &event) || event.kind != CSICODEC_EVENT_TEXT || event.used != 0 || *event.bytes != '\n')
+            return 0;
+        if (!csicodec_next_event(&stream, many, len, &event) || event.kind != CSICODEC_EVENT_ACTIONS || event.used != len ||
+            event.actions != count || actions[0].kind != CSICODEC_SGR_INTENSITY)
+            return 0;
+    }
+    return 1;
+}
+
 static int of_nothing(void) {
     struct csicodec_event event;
     struct csicodec_stream stream = csicodec_stream_of(1, NULL, 0, NULL, 0), none = csicodec_stream_of(0, NULL, 0, NULL, 0);
@@ -90,6 +111,7 @@ int main(void) {
     if (!of_nothing()) return 2;
     if (!names()) return 3;
     if (!waits()) return 4;
+    if (!of_many_bytes()) return 5;
     for (size_t i = 0; i < sizeof bytes; i++)
         for (size_t j = i; j < sizeof bytes; j++)
             if (!cut(i, j)) {

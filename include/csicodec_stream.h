@@ -18,6 +18,7 @@
 #ifndef CSICODEC_STREAM_H
 #define CSICODEC_STREAM_H
 
+#include <stdlib.h>
 #include <string.h>
 
 /* Whether a step of csicodec_filter, or a call of csicodec_next, can wait for more bytes: with the first `looked` of len bytes it used
@@ -147,12 +148,30 @@ static inline int csicodec_goes_on(const uint8_t *bytes, size_t len, size_t look
     return 1;
 }
 
+/* The actions of a control sequence that has C0 controls and DEL in it, read without them. What is left of it is copied, beyond 256
+ * bytes to the heap: where malloc has no room the sequence is refused with CSICODEC_MEMORY. */
+static inline int csicodec_without_controls(struct csicodec_stream *stream, const uint8_t *bytes, size_t used,
+                                            struct csicodec_event *event) {
+    uint8_t few[256], *text = used > sizeof few ? (uint8_t *)malloc(used) : few;
+    size_t len = 2, i;
+    int done;
+    if (!text) {
+        event->status = CSICODEC_MEMORY;
+        return 0;
+    }
+    text[0] = 0x1b, text[1] = '[';
+    for (i = 2; i < used; i++)
+        if (bytes[i] >= 0x20 && bytes[i] != 0x7f) text[len++] = bytes[i];
+    done = csicodec_actions_event(stream, text, len, bytes, used, event);
+    if (text != few) free(text);
+    return done;
+}
+
 /* A malformed sequence behind ESC [. If it has C0 controls, each is an event of text, and then the sequence without them and without
- * DEL is read, as DEC's terminals and xterm do: this waits for its final byte, and it has at most 256 bytes. */
+ * DEL is read, as DEC's terminals and xterm do: this waits for its final byte. */
 static inline int csicodec_wrong_event(struct csicodec_stream *stream, const uint8_t *bytes, struct csicodec_spanned span,
                                        struct csicodec_event *event) {
-    uint8_t text[256];
-    size_t len = 2, i;
+    size_t i;
     for (i = stream->inside ? stream->inside : 2; i < span.used; i++) {
         if (bytes[i] >= 0x20) continue;
         event->kind = CSICODEC_EVENT_TEXT;
@@ -162,12 +181,7 @@ static inline int csicodec_wrong_event(struct csicodec_stream *stream, const uin
         stream->inside = i + 1;
         return 1;
     }
-    if (span.mode == CSICODEC_FILTER_TEXT && span.used <= sizeof text) {
-        text[0] = 0x1b, text[1] = '[';
-        for (i = 2; i < span.used; i++)
-            if (bytes[i] >= 0x20 && bytes[i] != 0x7f) text[len++] = bytes[i];
-        if (csicodec_actions_event(stream, text, len, bytes, span.used, event)) return 1;
-    }
+    if (span.mode == CSICODEC_FILTER_TEXT && csicodec_without_controls(stream, bytes, span.used, event)) return 1;
     if (event->status == CSICODEC_OK) event->status = CSICODEC_BAD_BYTE;
     return csicodec_event_of(stream, event, CSICODEC_EVENT_OTHER, bytes, span.used, span.mode);
 }

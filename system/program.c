@@ -1,0 +1,56 @@
+/* The program csicodec: three proved programs in one file, of which the words say which runs, and what these ask of the system
+ * beside C's own calls: their words, the environment and errno. It is compiled with no header of C. STREAM_WORDS and VALUED_WORDS
+ * are those of tools/programs. */
+typedef __SIZE_TYPE__ size_t;
+typedef __PTRDIFF_TYPE__ ptrdiff_t;
+char *getenv(const char *);
+int *__errno_location(void);
+extern char **environ;
+
+static int count;
+static char **words;
+
+/* The text with its end behind it, or -1 where there is none, -2 where there is no room for it. */
+static ptrdiff_t put(const char *text, unsigned char *to, size_t room) {
+    size_t i;
+    if (!text) return -1;
+    for (i = 0; text[i]; i++) {
+        if (i == room) return -2;
+        to[i] = (unsigned char)text[i];
+    }
+    return (ptrdiff_t)i;
+}
+
+size_t rattle_arg_count(void) { return (size_t)count; }
+ptrdiff_t rattle_arg(size_t i, unsigned char *to, size_t room) { return put(i < (size_t)count ? words[i] : 0, to, room); }
+ptrdiff_t rattle_env(const char *name, unsigned char *to, size_t room) { return put(getenv(name), to, room); }
+int rattle_errno(void) { return *__errno_location(); }
+void rattle_set_errno(int number) { *__errno_location() = number; }
+
+/* Whether a word is one of a list, which has a space between two. */
+static int is_among(const char *word, const char *list) {
+    while (*list) {
+        const char *left = word;
+        while (*left && *left == *list) left++, list++;
+        if (!*left && (*list == ' ' || !*list)) return 1;
+        while (*list && *list != ' ') list++;
+        if (*list) list++;
+    }
+    return 0;
+}
+
+int run_normal(void), run_explain(void), run_stream(void);
+
+/* The first word that is no option, and no value of one, says which program runs, as program_of in tools/programs has it. */
+int main(int n, char **v) {
+    int i;
+    count = n;
+    words = v;
+    if (n < 2) return run_normal();
+    for (i = 1; i < n; i++) {
+        if (is_among(v[i], STREAM_WORDS)) return run_stream();
+        if (is_among(v[i], VALUED_WORDS)) i++;
+        else if (v[i][0] != '-' || !v[i][1]) break;
+    }
+    return run_explain();
+}

@@ -1,0 +1,263 @@
+"""What is run where there is no toolchain, made of what was proved: the program csicodec and the library for each processor, the modules
+for WebAssembly, and the list of them. The kit alone makes all but the last step of the modules, which is binaryen's.
+"""
+import hashlib
+import os
+import re
+import shutil
+import subprocess
+import sys
+import tempfile
+from concurrent.futures import ThreadPoolExecutor
+
+TOP = os.path.dirname(os.path.dirname(os.path.realpath(__file__)))
+HERE = "x86_64-linux"
+# The kit's name of each target, and what it is told of it. The first processor of x86-64 runs everywhere; the kit would take its second.
+TARGETS = {HERE: ("x86_64-unknown-linux-gnu", ["--cpu", "x86-64"]), "aarch64-linux": ("aarch64-unknown-linux-gnu", [])}
+# Which version of C's calls the shared library asks for: the oldest that the processor has.
+GLIBC = {HERE: "2.2.5", "aarch64-linux": "2.17"}
+LOADER = {HERE: "x86_64", "aarch64-linux": "aarch64"}
+C_CALLS = ("malloc", "realloc", "free", "memcpy", "memmove", "memset", "memcmp", "bcmp")
+C_FLAGS = ["-O2", "-ffreestanding", "-ffunction-sections", "-fno-asynchronous-unwind-tables", "-Wall", "-Wextra", "-Werror"]
+
+
+class Stop(Exception):
+    """What can't be made, and why."""
+
+
+def run(*words, cwd=None, env=None):
+    """Runs a command, and answers what it wrote; what it said is told where it fails."""
+    ran = subprocess.run(words, cwd=cwd, env=env, stdin=subprocess.DEVNULL, capture_output=True, text=True)
+    if ran.returncode:
+        raise Stop(f"{ran.stdout[-4000:]}{ran.stderr[-4000:]}\nrelease: failed: {' '.join(words)[:300]}")
+    return ran.stdout
+
+
+def shared(words):
+    """What the script that the launcher shares says."""
+    return run("sh", "-c", f'set -eu; top=$1; . "$top/tools/programs"; {words}', "release", TOP).strip()
+
+
+NORMAL, EXPLAIN, STREAM, LIBRARY, STREAM_WORDS, VALUED_WORDS = shared(
+    'printf "%s\\n" "$normal_program" "$explain_program" "$stream_program" "$library" "$stream_words" "$valued_words"'
+).split("\n")
+# The crates that are built, each with the name of its entry in the program.
+ENTRIES = {NORMAL: "run_normal", EXPLAIN: "run_explain", STREAM: "run_stream"}
+MADE = [*ENTRIES, LIBRARY]
+
+
+def contents(name):
+    return shared(f"contents {name}")
+
+
+def version():
+    with open(f"{TOP}/include/csicodec.h", encoding="utf-8") as file:
+        return re.search(r'^#define CSICODEC_VERSION "(.*)"$', file.read(), re.M)[1]
+
+
+def sum_of(path):
+    with open(path, "rb") as file:
+        return hashlib.sha256(file.read()).hexdigest()
+
+
+class Kit:
+    """The toolchain, with the tools of LLVM that its clang is."""
+
+    def __init__(self):
+        if not shutil.which("rt"):
+            raise Stop("release: the Rattle toolchain is missing: no rt in PATH (README.md says which one is needed)")
+        self.folder = os.path.dirname(run("rt", "doc").strip())
+        self.line = run("rt", "version").strip()
+        self.clang = f"{self.folder}/toolchain/bin/clang"
+
+    def tool(self, name, *words, **how):
+        """Runs a tool of LLVM, or a linker: the program goes by the name that it is called by."""
+        ran = subprocess.run([name, *words], executable=self.clang, stdin=subprocess.DEVNULL, capture_output=True, text=True, **how)
+        if ran.returncode:
+            raise Stop(f"{ran.stdout}{ran.stderr}\nrelease: failed: {name} {' '.join(words)[:300]}")
+        return ran.stdout
+
+    def c_object(self, target, name, to, *flags):
+        """Compiles a file of system/."""
+        run(self.clang, f"--target={target}", *C_FLAGS, *flags, "-c", f"{TOP}/system/{name}.c", "-o", to)
+        return to
+
+
+# ---- objects
+
+
+def lines():
+    """The words of each crate's line in crates.txt."""
+    with open(f"{TOP}/crates.txt", encoding="utf-8") as file:
+        found = [line.split("#")[0].strip() for line in file]
+    return {line.split(":")[0].split()[0]: line.split(":")[1].split() for line in found if line}
+
+
+def words_for(kit, name):
+    """What the kit's compiler is told of a crate: where its root and the libraries are."""
+    all_lines = lines()
+    below = shared(f"crates_of {name}").split("\n")[:-1]
+    root = "src/main.rt" if os.path.isfile(f"{TOP}/crates/{name}/src/main.rt") else "src/lib.rt"
+    words = ["--crate-name", name, root, "--links", f"{name}=", "-L", f"dependency={kit.folder}/rlibs"]
+    for used in ["std", *all_lines[name]]:
+        place = f"../{used}/out/rlib" if used in all_lines else f"{kit.folder}/rlibs"
+        words += ["--extern", f"{used}={place}/{used}.rlib"]
+    for used in below:
+        words += ["-L", f"dependency=../{used}/out/rlib"]
+    if root == "src/lib.rt":
+        words += ["--crate-type", "staticlib"]
+    return [*words, "--antt-project", f"{kit.folder}/rattle/logic/antt-project.json", "--logic-built", f"{kit.folder}/logic_built"]
+
+
+def prove_below(name, kept):
+    """Sees to it that the libraries below a crate are proved, of these sources. `rt ci` leaves them with no stamp."""
+    below = shared(f"crates_of {name}").split("\n")[:-1]
+    there = [os.path.isdir(f"{TOP}/crates/{it}/out/rlib") for it in below]
+    stamped = [os.path.isfile(f"{TOP}/crates/{it}/out/rlib/stamp") for it in below]
+    if kept and all(there) and not all(stamped):
+        return
+    run(f"{TOP}/tools/prove", name)
+
+
+def folder_that_keeps(kit, room):
+    """A copy of the kit's compilers, made of links, whose clang keeps the module of LLVM that it is given in KEEP."""
+    to = f"{room}/toolchain"
+    os.makedirs(f"{to}/bin")
+    os.symlink(f"{kit.folder}/toolchain/lib", f"{to}/lib")
+    for name in os.listdir(f"{kit.folder}/toolchain/bin"):
+        if name != "clang":
+            os.symlink(os.path.realpath(f"{kit.folder}/toolchain/bin/{name}"), f"{to}/bin/{name}")
+    with open(f"{to}/bin/clang", "w", encoding="utf-8") as file:
+        file.write(f'#!/bin/sh\nfor word; do case $word in *.ll) cp "$word" "$KEEP" ;; esac; done\nexec "{kit.clang}" "$@"\n')
+    os.chmod(f"{to}/bin/clang", 0o755)
+    return to
+
+
+def objects(kit, place, name, room):
+    """Proves and builds a crate for a processor over the libraries below, or takes what was built of the same sources. For ARM the
+    module of LLVM is kept beside it, of which the module for WebAssembly is made."""
+    target, more = TARGETS[place]
+    folder = f"{TOP}/out/release/{place}"
+    os.makedirs(folder, exist_ok=True)
+    to, stamp = f"{folder}/{name}.{'a' if name == LIBRARY else 'o'}", f"{contents(name)} {kit.line} {' '.join(more)}"
+    if os.path.isfile(f"{to}.stamp") and os.path.isfile(to):
+        with open(f"{to}.stamp", encoding="utf-8") as file:
+            if file.read() == f"{stamp} {sum_of(to)}":
+                return to
+    print(f"release: {name} for {place}", file=sys.stderr, flush=True)
+    own = tempfile.mkdtemp(dir=room)
+    env = {**os.environ, "KEEP": f"{folder}/{name}.ll"}
+    toolchain = folder_that_keeps(kit, own) if place != HERE else f"{kit.folder}/toolchain"
+    words = [*words_for(kit, name), "--jobs", "2", "--toolchain", toolchain, "--backend", "llvm", "--target", target, *more]
+    run(f"{kit.folder}/bin/rattle", "build", *words, "-o", to, cwd=f"{TOP}/crates/{name}", env=env)
+    with open(f"{to}.stamp", "w", encoding="utf-8") as file:
+        file.write(f"{stamp} {sum_of(to)}")
+    return to
+
+
+def all_objects(kit, places, names, kept, room):
+    """Those of all crates for all processors, some at once."""
+    for name in names:
+        prove_below(name, kept)
+    with ThreadPoolExecutor(max(1, len(os.sched_getaffinity(0)) // 2)) as pool:
+        waiting = {(place, name): pool.submit(objects, kit, place, name, room) for place in places for name in names}
+        return {key: it.result() for key, it in waiting.items()}
+
+
+# ---- files
+
+
+def link_program(kit, place, made, to, room):
+    """One static program of the three, on which ASLR works, with the parts of musl that it asks for."""
+    target = TARGETS[place][0]
+    own = tempfile.mkdtemp(dir=room)
+    texts = [f'-DSTREAM_WORDS="{STREAM_WORDS}"', f'-DVALUED_WORDS="{VALUED_WORDS}"']
+    files = [kit.c_object(target, "program", f"{own}/program.o", "-fPIE", *texts), kit.c_object(target, "heap", f"{own}/heap.o", "-fPIE")]
+    for name, entry in ENTRIES.items():
+        kit.tool("llvm-objcopy", "--redefine-sym", f"main={entry}", made[place, name], f"{own}/{name}.o")
+        files.append(f"{own}/{name}.o")
+    how = ["-static", "-pie", "--no-dynamic-linker", "-z", "relro", "-z", "now", "-z", "noexecstack", "--gc-sections", "--icf=safe", "--build-id=none"]
+    kit.tool("ld.lld", *how, "-s", "-u", "_start", "-o", to, *files, f"{TOP}/system/{place}/musl.a")
+
+
+def link_library(kit, place, made, folder, room):
+    """The archive, with the calls of the heap in it, and the shared library, which exports the calls of the header and nothing else."""
+    target, major = TARGETS[place][0], version().split(".")[0]
+    own = tempfile.mkdtemp(dir=room)
+    kit.tool("llvm-ar", "x", made[place, LIBRARY], cwd=own)
+    parts = sorted(os.listdir(own))
+    if len(parts) != 1:
+        raise Stop(f"release: {made[place, LIBRARY]} has {len(parts)} members, not 1")
+    os.rename(f"{own}/{parts[0]}", f"{own}/csicodec.o")
+    kit.c_object(target, "heap", f"{own}/heap.o", "-fPIC", "-fvisibility=hidden")
+    archive = f"{folder}/libcsicodec.a"
+    kit.tool("llvm-ar", "rcsD", archive, "csicodec.o", "heap.o", cwd=own)
+    with open(f"{own}/calls.c", "w", encoding="utf-8") as file:
+        file.writelines(f"void {name}(void) {{}}\n" for name in C_CALLS)
+    newer = "GLIBC_2.14 { global: memcpy; } GLIBC_2.2.5;\n" if place == HERE else ""
+    older = [name for name in C_CALLS if not (newer and name == "memcpy")]
+    with open(f"{own}/versions", "w", encoding="utf-8") as file:
+        file.write(f"GLIBC_{GLIBC[place]} {{ global: {'; '.join(older)}; local: *; }};\n{newer}")
+    run(kit.clang, f"--target={target}", "-ffreestanding", "-fPIC", "-fno-builtin", "-w", "-c", f"{own}/calls.c", "-o", f"{own}/calls.o")
+    kit.tool("ld.lld", "-shared", "-soname", "libc.so.6", "--version-script", f"{own}/versions", "-o", f"{own}/libc.so.6", f"{own}/calls.o")
+    with open(f"{own}/names", "w", encoding="utf-8") as file:
+        file.write(f"CSICODEC_{major} {{ global: {'; '.join(calls())}; local: *; }};\n")
+    how = ["-shared", "-soname", f"libcsicodec.so.{major}", "--version-script", f"{own}/names", "-z", "relro", "-z", "now", "-z", "defs", "-z", "noexecstack"]
+    how += ["--gc-sections", "--icf=safe", "--build-id=none", "--hash-style=gnu", "-s"]
+    kit.tool("ld.lld", *how, "-o", f"{folder}/libcsicodec.so", f"{own}/csicodec.o", f"{own}/heap.o", f"{own}/libc.so.6")
+
+
+def calls():
+    """The calls of the header."""
+    with open(f"{TOP}/include/csicodec.h", encoding="utf-8") as file:
+        return re.findall(r"^(?:struct csicodec_[a-z]*|uint32_t) (csicodec_[a-z_]*)\(", file.read(), re.M)
+
+
+def build_files(kit, places, to, kept, room):
+    """The program and the library for each processor."""
+    made = all_objects(kit, places, MADE, kept, room)
+    for place in places:
+        os.makedirs(f"{to}/{place}", exist_ok=True)
+        link_program(kit, place, made, f"{to}/{place}/csicodec", room)
+        link_library(kit, place, made, f"{to}/{place}", room)
+    return made
+
+
+# ---- the list of them
+
+
+def manifest(kit, to):
+    """Writes MANIFEST of what lies in the folder."""
+    found = sorted(os.path.relpath(f"{at}/{name}", to) for at, _, names in os.walk(to) for name in names if name != "MANIFEST")
+    with open(f"{to}/MANIFEST", "w", encoding="utf-8") as file:
+        file.write(f"version {version()}\nkit {kit.line}\n")
+        file.writelines(f"sources {contents(name)} {name}\n" for name in MADE)
+        file.writelines(f"file {sum_of(f'{to}/{name}')} {os.path.getsize(f'{to}/{name}')} {name}\n" for name in found)
+
+
+def read_manifest(folder):
+    """The sums of the sources, and of the files, that MANIFEST tells."""
+    sources, files = {}, {}
+    if os.path.isfile(f"{folder}/MANIFEST"):
+        with open(f"{folder}/MANIFEST", encoding="utf-8") as file:
+            for words in map(str.split, file):
+                if words[0] == "sources":
+                    sources[words[2]] = words[1]
+                elif words[0] == "file":
+                    files[words[3]] = words[1]
+    return sources, files
+
+
+def is_of_these_sources(folder):
+    """Whether what lies there was made of the sources as they stand."""
+    sources = read_manifest(folder)[0]
+    return sources == {name: contents(name) for name in MADE}
+
+
+def faults(folder):
+    """What in the folder isn't as its MANIFEST says."""
+    files = read_manifest(folder)[1]
+    there = {os.path.relpath(f"{at}/{name}", folder) for at, _, names in os.walk(folder) for name in names} - {"MANIFEST"}
+    said = [f"{folder}/{name} is missing" for name in sorted({*files} - there)]
+    said += [f"{folder}/{name} isn't told of in MANIFEST" for name in sorted(there - {*files})]
+    return said + [f"{folder}/{name} isn't the file that MANIFEST tells of" for name in sorted(there & {*files}) if sum_of(f"{folder}/{name}") != files[name]]

@@ -1,0 +1,83 @@
+"""Makes the wheels, with nothing but Python: `pip wheel .` calls it (PEP 517), and the repository's tools/release. The library and the
+program for each machine lie in dist/ beside this file, as the sources of a release have them."""
+import base64
+import hashlib
+import os
+import platform
+import re
+import time
+import zipfile
+
+HERE = os.path.dirname(os.path.abspath(__file__))
+# The folder of dist/ for each machine, and its names in a wheel's. The shared library asks for no newer call of C than these have.
+PLACES = {
+    "x86_64-linux": "manylinux2014_x86_64.manylinux_2_17_x86_64.musllinux_1_1_x86_64",
+    "aarch64-linux": "manylinux2014_aarch64.manylinux_2_17_aarch64.musllinux_1_1_aarch64",
+}
+
+
+def version():
+    with open(f"{HERE}/csicodec/__init__.py", encoding="utf-8") as file:
+        return re.search(r'^__version__ = "(.*)"$', file.read(), re.M)[1]
+
+
+def metadata():
+    """What the packages tell of themselves, with the README as their description."""
+    with open(f"{HERE}/README.md", encoding="utf-8") as file:
+        readme = file.read()
+    fields = [
+        "Metadata-Version: 2.1",
+        "Name: csicodec",
+        f"Version: {version()}",
+        "Summary: Control sequences of terminals as typed actions, and untrusted text made safe: a proved library",
+        "License: MIT",
+        "Requires-Python: >=3.9",
+        "Classifier: License :: OSI Approved :: MIT License",
+        "Classifier: Operating System :: POSIX :: Linux",
+        "Classifier: Topic :: Terminals",
+        "Classifier: Typing :: Typed",
+        "Description-Content-Type: text/markdown",
+    ]
+    return "\n".join(fields) + "\n\n" + readme
+
+
+def write_wheel(dist, place, folder, licences, epoch):
+    """Writes the wheel for a place, with what dist/ has for it, and answers its name. A wheel is a zip with a list of its files."""
+    info, files = f"csicodec-{version()}.dist-info", {}
+    for name in sorted(os.listdir(f"{HERE}/csicodec")):
+        if name.endswith((".py", ".typed")):
+            files[f"csicodec/{name}"] = (f"{HERE}/csicodec/{name}", 0o644)
+    files["csicodec/libcsicodec.so"] = (f"{dist}/{place}/python.so", 0o755)
+    files["csicodec/program"] = (f"{dist}/{place}/csicodec", 0o755)
+    for path in licences:
+        files[f"{info}/licenses/{os.path.basename(path)}"] = (path, 0o644)
+    held = {}
+    for name, (path, mode) in files.items():
+        with open(path, "rb") as file:
+            held[name] = (file.read(), mode)
+    tags = PLACES[place].split(".")
+    told = ["Wheel-Version: 1.0", "Generator: csicodec", "Root-Is-Purelib: false", *(f"Tag: py3-none-{tag}" for tag in tags)]
+    held[f"{info}/METADATA"] = (metadata().encode(), 0o644)
+    held[f"{info}/WHEEL"] = ("\n".join(told).encode() + b"\n", 0o644)
+    held[f"{info}/entry_points.txt"] = (b"[console_scripts]\ncsicodec = csicodec.program:main\n", 0o644)
+    lines = [f"{name},sha256={base64.urlsafe_b64encode(hashlib.sha256(it).digest()).rstrip(b'=').decode()},{len(it)}" for name, (it, _) in held.items()]
+    held[f"{info}/RECORD"] = ("\n".join([*lines, f"{info}/RECORD,,"]).encode() + b"\n", 0o644)
+    made = f"csicodec-{version()}-py3-none-{PLACES[place]}.whl"
+    with zipfile.ZipFile(f"{folder}/{made}", "w", zipfile.ZIP_DEFLATED, compresslevel=9) as packed:
+        for name, (it, mode) in held.items():
+            entry = zipfile.ZipInfo(name, time.gmtime(epoch)[:6])
+            entry.compress_type, entry.external_attr = zipfile.ZIP_DEFLATED, (0o100000 | mode) << 16
+            packed.writestr(entry, it)
+    return made
+
+
+def build_wheel(wheel_directory, config_settings=None, metadata_directory=None):
+    place = {"x86_64": "x86_64-linux", "amd64": "x86_64-linux", "aarch64": "aarch64-linux", "arm64": "aarch64-linux"}.get(platform.machine().lower())
+    if platform.system() != "Linux" or not place:
+        raise SystemExit(f"csicodec is for Linux on x86_64 and aarch64, and not for {platform.system()} on {platform.machine()}")
+    epoch = int(os.environ.get("SOURCE_DATE_EPOCH") or os.path.getmtime(f"{HERE}/csicodec/__init__.py"))
+    return write_wheel(f"{HERE}/dist", place, wheel_directory, [f"{HERE}/LICENSE", f"{HERE}/NOTICE"], epoch)
+
+
+def build_sdist(sdist_directory, config_settings=None):
+    raise SystemExit("csicodec: the repository's tools/release makes the sources")

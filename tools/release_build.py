@@ -26,9 +26,9 @@ class Stop(Exception):
     """What can't be made, and why."""
 
 
-def run(*words, cwd=None, env=None):
+def run(*words, cwd=None):
     """Runs a command, and answers what it wrote; what it said is told where it fails."""
-    ran = subprocess.run(words, cwd=cwd, env=env, stdin=subprocess.DEVNULL, capture_output=True, text=True)
+    ran = subprocess.run(words, cwd=cwd, stdin=subprocess.DEVNULL, capture_output=True, text=True)
     if ran.returncode:
         raise Stop(f"{ran.stdout[-4000:]}{ran.stderr[-4000:]}\nrelease: failed: {' '.join(words)[:300]}")
     return ran.stdout
@@ -120,8 +120,8 @@ def prove_below(name, kept):
     run(f"{TOP}/tools/prove", name)
 
 
-def folder_that_keeps(kit, room):
-    """A copy of the kit's compilers, made of links, whose clang keeps the module of LLVM that it is given in KEEP."""
+def folder_that_keeps(kit, room, module):
+    """A copy of the kit's compilers, made of links, whose clang keeps the module of LLVM that it is given as text."""
     to = f"{room}/toolchain"
     os.makedirs(f"{to}/bin")
     os.symlink(f"{kit.folder}/toolchain/lib", f"{to}/lib")
@@ -129,7 +129,7 @@ def folder_that_keeps(kit, room):
         if name != "clang":
             os.symlink(os.path.realpath(f"{kit.folder}/toolchain/bin/{name}"), f"{to}/bin/{name}")
     with open(f"{to}/bin/clang", "w", encoding="utf-8") as file:
-        file.write(f'#!/bin/sh\nfor word; do case $word in *.ll) cp "$word" "$KEEP" ;; esac; done\nexec "{kit.clang}" "$@"\n')
+        file.write(f'#!/bin/sh\nfor word; do case $word in *.ll) [ ! -f "$word" ] || /bin/cp "$word" "{module}" ;; esac; done\nexec "{kit.clang}" "$@"\n')
     os.chmod(f"{to}/bin/clang", 0o755)
     return to
 
@@ -147,10 +147,9 @@ def objects(kit, place, name, room):
                 return to
     print(f"release: {name} for {place}", file=sys.stderr, flush=True)
     own = tempfile.mkdtemp(dir=room)
-    env = {**os.environ, "KEEP": f"{folder}/{name}.ll"}
-    toolchain = folder_that_keeps(kit, own) if place != HERE else f"{kit.folder}/toolchain"
+    toolchain = folder_that_keeps(kit, own, f"{folder}/{name}.ll") if place != HERE else f"{kit.folder}/toolchain"
     words = [*words_for(kit, name), "--jobs", "2", "--toolchain", toolchain, "--backend", "llvm", "--target", target, *more]
-    run(f"{kit.folder}/bin/rattle", "build", *words, "-o", to, cwd=f"{TOP}/crates/{name}", env=env)
+    run(f"{kit.folder}/bin/rattle", "build", *words, "-o", to, cwd=f"{TOP}/crates/{name}")
     with open(f"{to}.stamp", "w", encoding="utf-8") as file:
         file.write(f"{stamp} {sum_of(to)}")
     return to
@@ -174,6 +173,8 @@ def link_program(kit, place, made, to, room):
     own = tempfile.mkdtemp(dir=room)
     texts = [f'-DSTREAM_WORDS="{STREAM_WORDS}"', f'-DVALUED_WORDS="{VALUED_WORDS}"']
     files = [kit.c_object(target, "program", f"{own}/program.o", "-fPIE", *texts), kit.c_object(target, "heap", f"{own}/heap.o", "-fPIE")]
+    if place == HERE:
+        files.append(kit.c_object(target, "copy", f"{own}/copy.o", "-fPIE"))
     for name, entry in ENTRIES.items():
         kit.tool("llvm-objcopy", "--redefine-sym", f"main={entry}", made[place, name], f"{own}/{name}.o")
         files.append(f"{own}/{name}.o")

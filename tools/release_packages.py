@@ -83,7 +83,7 @@ def rust(dist, out, room):
 
 def page(dist, out, room):
     """The page and its modules, as one file."""
-    shutil.copy(f"{dist}/web/csicodec.html", f"{out}/csicodec-{version()}.html")
+    shutil.copy(f"{dist}/web/index.html", f"{out}/csicodec-{version()}.html")
 
 
 def node(dist, out, room):

@@ -117,7 +117,9 @@ def prove_below(name, kept):
     stamped = [os.path.isfile(f"{TOP}/crates/{it}/out/rlib/stamp") for it in below]
     if kept and all(there) and not all(stamped):
         return
-    run(f"{TOP}/tools/prove", name)
+    # What it says of its progress is passed on.
+    if subprocess.run([f"{TOP}/tools/prove", name], stdin=subprocess.DEVNULL, stdout=sys.stderr, check=False).returncode:
+        raise Stop("release: not proved")
 
 
 def folder_that_keeps(kit, room, module):
@@ -231,18 +233,18 @@ def build_files(kit, places, to, kept, room):
 # ---- the list of them
 
 
-def manifest(kit, to):
-    """Writes MANIFEST of what lies in the folder."""
+def manifest(kit, to, tools):
+    """Writes MANIFEST of what lies in the folder, and of which other tools made a part of it."""
     found = sorted(os.path.relpath(f"{at}/{name}", to) for at, _, names in os.walk(to) for name in names if name != "MANIFEST")
     with open(f"{to}/MANIFEST", "w", encoding="utf-8") as file:
-        file.write(f"version {version()}\nkit {kit.line}\n")
+        file.write(f"version {version()}\nkit {kit.line}\n" + "".join(f"tool {tool}\n" for tool in tools))
         file.writelines(f"sources {contents(name)} {name}\n" for name in MADE)
         file.writelines(f"file {sum_of(f'{to}/{name}')} {os.path.getsize(f'{to}/{name}')} {name}\n" for name in found)
 
 
 def read_manifest(folder):
-    """The sums of the sources, and of the files, that MANIFEST tells."""
-    sources, files = {}, {}
+    """The sums of the sources, and of the files, that MANIFEST tells, and the tools."""
+    sources, files, tools = {}, {}, []
     if os.path.isfile(f"{folder}/MANIFEST"):
         with open(f"{folder}/MANIFEST", encoding="utf-8") as file:
             for words in map(str.split, file):
@@ -250,7 +252,9 @@ def read_manifest(folder):
                     sources[words[2]] = words[1]
                 elif words[0] == "file":
                     files[words[3]] = words[1]
-    return sources, files
+                elif words[0] == "tool":
+                    tools.append(" ".join(words[1:]))
+    return sources, files, tools
 
 
 def is_of_these_sources(folder):

@@ -11,8 +11,8 @@ import tempfile
 from release_build import EXPLAIN, LIBRARY, TOP, Stop, calls, run, version
 
 TARGET = "wasm64-unknown-unknown"
-FEATURES = ["-mbulk-memory", "-msimd128", "-mnontrapping-fptoint", "-msign-ext"]
-ENABLED = ["--enable-bulk-memory", "--enable-simd", "--enable-nontrapping-float-to-int", "--enable-sign-ext", "--enable-mutable-globals", "--enable-memory64"]
+FEATURES = ["-mbulk-memory", "-mnontrapping-fptoint", "-msign-ext"]
+ENABLED = ["--enable-bulk-memory", "--enable-nontrapping-float-to-int", "--enable-sign-ext", "--enable-mutable-globals", "--enable-memory64"]
 LAYOUT = 'target datalayout = "e-m:e-p:64:64-p10:8:8-p20:8:8-i64:64-i128:128-n32:64-S128"'
 # The page, with what stands in place of each line <!-- NAME -->.
 PAGE = {"csicodec.mjs": "module", "worker.mjs": "worker"}
@@ -21,6 +21,11 @@ PAGE = {"csicodec.mjs": "module", "worker.mjs": "worker"}
 def need():
     if not shutil.which("wasm-opt"):
         raise Stop("release: no wasm-opt in PATH: the modules for WebAssembly can't be made (apt-get install binaryen; Debian 12's 108 was tried)")
+
+
+def tool():
+    """The tool that makes the last step."""
+    return "binaryen " + run("wasm-opt", "--version").strip()
 
 
 def lowered(text):

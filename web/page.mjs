@@ -177,5 +177,5 @@ try {
     await prepare();
     linked();
 } catch (fault) {
-    $('said').textContent = `This browser can't run the page: it needs WebAssembly with SIMD and DecompressionStream (${fault.message}).`;
+    $('said').textContent = `This browser can't run the page: it needs WebAssembly and DecompressionStream (${fault.message}).`;
 }

@@ -121,8 +121,8 @@ def filter(stream: AnyStr) -> AnyStr:
 def compact(stream: AnyStr, *, semicolons: bool = False) -> AnyStr:
     """A whole stream for a terminal, in the shortest spelling that is found, never longer.
 
-    >>> compact("\\x1b[0m\\x1b[1m\\x1b[31mred")
-    '\\x1b[;1;31mred'
+    >>> compact("\\x1b[0;01mred\\x1b[10;1H")
+    '\\x1b[;1mred\\x1b[10H'
     """
     it = Filter.compact(semicolons=semicolons)
     return _like(stream, it.feed(_bytes(stream)) + it.finish())  # type: ignore[no-any-return]

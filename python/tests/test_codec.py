@@ -1,4 +1,4 @@
-"""Tests of the package for Python: `python3 tests.py [REPOSITORY]`, with the package in the path. It takes the examples of each kind and
+"""Tests of the package for Python: `python3 test_codec.py [REPOSITORY]`, with the package in the path. It takes the examples of each kind and
 the streams from the repository."""
 import doctest
 import glob
@@ -12,7 +12,7 @@ import unittest
 import csicodec
 from csicodec import Cleaner, ControlString, Cursor, CursorAction, Filter, Malformed, Parser, Sgr, Text, UnknownEsc, Unspecified, library
 
-REPOSITORY = pathlib.Path(sys.argv.pop(1) if len(sys.argv) > 1 else os.path.join(os.path.dirname(os.path.abspath(__file__)), ".."))
+REPOSITORY = pathlib.Path(sys.argv.pop(1) if len(sys.argv) > 1 else os.path.join(os.path.dirname(os.path.abspath(__file__)), "../.."))
 STREAMS = [pathlib.Path(name).read_bytes() for name in sorted(glob.glob(str(REPOSITORY / "examples/*.stream")))]
 ODD = b"a\xc3\xa9\x1b[1\x08;5Hb\x1b]0;title\x07\x1b[38;2;1;2;3m\x1b[99z\x1b(0\x1bPdata\x1b\\\x1b[?25h\xff\x1b[1\x1b[2Jx\xe2\x82\x1b#3\xe2\x82\xac\x1b["
 
@@ -45,7 +45,7 @@ class Codec(unittest.TestCase):
                 [action] = csicodec.events(given)
                 self.assertEqual(bytes(action), given)
                 self.assertTrue(action.is_canonical)
-                self.assertEqual(eval(re.sub(r"<(\w+(?:\.\w+)*): \d+>", r"\1", repr(action)), {**vars(csicodec)}), action)
+                self.assertEqual(eval(re.sub(r"<(\w+)[^:<>]*: (\d+)>", r"\1(\2)", repr(action)), {**vars(csicodec)}), action)
                 kinds.add(type(action).__qualname__)
         self.assertGreater(len(kinds), 100)
 

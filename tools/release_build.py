@@ -97,29 +97,35 @@ def lines():
 def words_for(kit, name):
     """What the kit's compiler is told of a crate: where its root and the libraries are."""
     all_lines = lines()
-    below = shared(f"crates_of {name}").split("\n")[:-1]
     root = "src/main.rt" if os.path.isfile(f"{TOP}/crates/{name}/src/main.rt") else "src/lib.rt"
     words = ["--crate-name", name, root, "--links", f"{name}=", "-L", f"dependency={kit.folder}/rlibs"]
     for used in ["std", *all_lines[name]]:
         place = f"../{used}/out/rlib" if used in all_lines else f"{kit.folder}/rlibs"
         words += ["--extern", f"{used}={place}/{used}.rlib"]
-    for used in below:
+    for used in below(name):
         words += ["-L", f"dependency=../{used}/out/rlib"]
     if root == "src/lib.rt":
         words += ["--crate-type", "staticlib"]
     return [*words, "--antt-project", f"{kit.folder}/rattle/logic/antt-project.json", "--logic-built", f"{kit.folder}/logic_built"]
 
 
+def below(name):
+    """The crates of the repository that a crate stands on, lowest first."""
+    return shared(f"crates_of {name}").split("\n")[:-1]
+
+
 def prove_below(name, kept):
     """Sees to it that the libraries below a crate are proved, of these sources. `rt ci` leaves them with no stamp."""
-    below = shared(f"crates_of {name}").split("\n")[:-1]
-    there = [os.path.isdir(f"{TOP}/crates/{it}/out/rlib") for it in below]
-    stamped = [os.path.isfile(f"{TOP}/crates/{it}/out/rlib/stamp") for it in below]
+    there = [os.path.isdir(f"{TOP}/crates/{it}/out/rlib") for it in below(name)]
+    stamped = [os.path.isfile(f"{TOP}/crates/{it}/out/rlib/stamp") for it in below(name)]
     if kept and all(there) and not all(stamped):
         return
-    # What it says of its progress is passed on.
-    if subprocess.run([f"{TOP}/tools/prove", name], stdin=subprocess.DEVNULL, stdout=sys.stderr, check=False).returncode:
-        raise Stop("release: not proved")
+    used = [it for it in lines()[name] if it in lines()]
+    for it in used:
+        # What stands below another is proved with that. What is said of the progress is passed on.
+        if not any(it in below(other) for other in used):
+            if subprocess.run([f"{TOP}/tools/prove", it], stdin=subprocess.DEVNULL, stdout=sys.stderr, check=False).returncode:
+                raise Stop("release: not proved")
 
 
 def folder_that_keeps(kit, room, module):
@@ -136,34 +142,41 @@ def folder_that_keeps(kit, room, module):
     return to
 
 
-def objects(kit, place, name, room):
-    """Proves and builds a crate for a processor over the libraries below, or takes what was built of the same sources. For ARM the
-    module of LLVM is kept beside it, of which the module for WebAssembly is made."""
-    target, more = TARGETS[place]
-    folder = f"{TOP}/out/release/{place}"
-    os.makedirs(folder, exist_ok=True)
-    to, stamp = f"{folder}/{name}.{'a' if name == LIBRARY else 'o'}", f"{contents(name)} {kit.line} {' '.join(more)}"
+def object_of(kit, place, name):
+    """Where a crate's object for a processor lies, or its archive, what its stamp must say, and whether it was built of these sources."""
+    to = f"{TOP}/out/release/{place}/{name}.{'a' if name == LIBRARY else 'o'}"
+    stamp, is_there = f"{contents(name)} {kit.line} {' '.join(TARGETS[place][1])}", False
     if os.path.isfile(f"{to}.stamp") and os.path.isfile(to):
         with open(f"{to}.stamp", encoding="utf-8") as file:
-            if file.read() == f"{stamp} {sum_of(to)}":
-                return to
+            is_there = file.read() == f"{stamp} {sum_of(to)}"
+    return to, stamp, is_there
+
+
+def build_object(kit, place, name, room):
+    """Proves and builds a crate for a processor over the libraries below. For ARM the module of LLVM is kept beside it, of which the
+    module for WebAssembly is made."""
+    target, more = TARGETS[place]
+    to, stamp, _ = object_of(kit, place, name)
+    os.makedirs(os.path.dirname(to), exist_ok=True)
     print(f"release: {name} for {place}", file=sys.stderr, flush=True)
-    own = tempfile.mkdtemp(dir=room)
-    toolchain = folder_that_keeps(kit, own, f"{folder}/{name}.ll") if place != HERE else f"{kit.folder}/toolchain"
+    own, module = tempfile.mkdtemp(dir=room), f"{os.path.splitext(to)[0]}.ll"
+    toolchain = folder_that_keeps(kit, own, module) if place != HERE else f"{kit.folder}/toolchain"
     words = [*words_for(kit, name), "--jobs", "2", "--toolchain", toolchain, "--backend", "llvm", "--target", target, *more]
     run(f"{kit.folder}/bin/rattle", "build", *words, "-o", to, cwd=f"{TOP}/crates/{name}")
     with open(f"{to}.stamp", "w", encoding="utf-8") as file:
         file.write(f"{stamp} {sum_of(to)}")
-    return to
 
 
 def all_objects(kit, places, names, kept, room):
-    """Those of all crates for all processors, some at once."""
-    for name in names:
+    """Those of all crates for all processors: what isn't there is built, some at once."""
+    found = {(place, name): object_of(kit, place, name) for place in places for name in names}
+    missing = [key for key, (_, _, is_there) in found.items() if not is_there]
+    for name in dict.fromkeys(name for _, name in missing):
         prove_below(name, kept)
     with ThreadPoolExecutor(max(1, len(os.sched_getaffinity(0)) // 2)) as pool:
-        waiting = {(place, name): pool.submit(objects, kit, place, name, room) for place in places for name in names}
-        return {key: it.result() for key, it in waiting.items()}
+        for built in [pool.submit(build_object, kit, place, name, room) for place, name in missing]:
+            built.result()
+    return {key: to for key, (to, _, _) in found.items()}
 
 
 # ---- files

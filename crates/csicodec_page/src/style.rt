@@ -9,7 +9,7 @@ pub struct Style<'a> {
     pub json: bool,
     /// Totals follow.
     pub count: bool,
-    /// Only what isn't known, and what is malformed.
+    /// Only what has no name here, and what is malformed.
     pub unknown: bool,
     /// Text in base64 is decoded; a string is held until it is over.
     pub decode: bool,
@@ -60,10 +60,9 @@ impl<'a> Style<'a> {
     }
 }
 
-/// Whether the words say that nothing is known, or no action.
+/// Whether the words say that nothing is known.
 fn is_unknown(name: &str, rest: &str) -> bool {
     name == "unknown"
         || name == "malformed"
         || rest.starts_with("unknown")
-        || rest.ends_with("(no action)")
 }

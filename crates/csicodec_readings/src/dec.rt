@@ -3,7 +3,7 @@
 use crate::table::Row;
 
 /// DEC: the manuals of VT100 to VT525.
-pub static DEC: [Row; 127] = [
+pub static DEC: [Row; 124] = [
     (
         b'?',
         0,
@@ -172,21 +172,7 @@ pub static DEC: [Row; 127] = [
     ),
     (0, b'$', 'p', None, "DECRQM  ask for the mode {1:0}"),
     (0, b'$', 'q', None, "DECSDDT  time to disconnecting: {1:0}"),
-    (
-        0,
-        b'$',
-        'r',
-        None,
-        "DECCARA  change attributes in lines {1} to {3:the last}, columns {2} to {4:the last}",
-    ),
     (0, b'$', 's', None, "DECSPRTT  type of the printer: {1:0}"),
-    (
-        0,
-        b'$',
-        't',
-        None,
-        "DECRARA  reverse attributes in lines {1} to {3:the last}, columns {2} to {4:the last}",
-    ),
     (
         0,
         b'$',
@@ -535,13 +521,6 @@ pub static DEC: [Row; 127] = [
     (0, 0, 'q', Some(22), "DECLL  caps lock light off"),
     (0, 0, 'q', Some(23), "DECLL  scroll lock light off"),
     (0, 0, 'q', None, "DECLL  keyboard light {1:0}"),
-    (
-        0,
-        0,
-        'x',
-        None,
-        "DECREPTPARM  answer: serial line, parity {2:0}, bits {3:0}, speeds {4:0} and {5:0}",
-    ),
     (0, 0, 'y', None, "DECTST  self-test {1:0}, {2:0}"),
     (
         b'>',

@@ -1,32 +1,129 @@
-//! Keys, as terminals send them.
+//! Keys, as terminals send them: xterm's PC-Style Function Keys and modifyOtherKeys, kitty's keyboard protocol.
 
-use crate::list::{intermediate, marker, number, sub_number};
+use crate::list::{intermediate, is_regular, is_semicolon, marker};
 use csicodec_base::CsiParam;
+use csicodec_strings::is_seen;
 use std::fmt;
 
-/// The key that a list before this final character is, if it is one.
-pub fn key_of(params: &[CsiParam], control: char) -> Option<Key> {
-    if marker(params) != 0 || intermediate(params) != 0 {
+/// The key that a list before this final character is, if it is one: `1;5` before a letter, `3;5` before `~`, `27;5;13` before `~`, or
+/// `97:65;5:3;65` before `u`.
+pub fn key_of(params: &[CsiParam], control: char) -> Option<Key<'_>> {
+    if marker(params) != 0 || intermediate(params) != 0 || !is_regular(params) {
         return None;
     }
-    let first = number(params, 0);
-    let (key, place) = match (control, first) {
-        ('~', Some(27)) if params.len() > 2 => (point(number(params, 2)?), 1),
-        ('~', Some(code)) => (Code::Name(by_number(code)?), 1),
-        ('u', Some(code)) => (point(code), 1),
-        (_, Some(1)) => (Code::Name(by_letter(control)?), 1),
-        _ => return None,
+    let mut fields = params.split(is_semicolon);
+    let first = fields.next()?;
+    let (second, third) = (fields.next(), fields.next());
+    if fields.next().is_some() {
+        return None;
+    }
+    match control {
+        'u' => by_point(first, second.unwrap_or(&[]), third.unwrap_or(&[])),
+        '~' => by_code(one(first)?, second, third),
+        _ if one(first) == Some(1) && third.is_none() => {
+            let press = Press::of(second?)?;
+            Some(press.of_key(Code::Name(by_letter(control)?)))
+        }
+        _ => None,
+    }
+}
+
+/// The number that a field is.
+fn one(field: &[CsiParam]) -> Option<i64> {
+    match field {
+        [CsiParam::Integer(number)] => Some(*number),
+        _ => None,
+    }
+}
+
+/// A key before `~`: its number and what is held down; or 27, what is held down and a character (modifyOtherKeys).
+fn by_code<'a>(
+    code: i64,
+    second: Option<&'a [CsiParam]>,
+    third: Option<&'a [CsiParam]>,
+) -> Option<Key<'a>> {
+    let press = match second {
+        Some(field) => Press::of(field)?,
+        None => Press::PLAIN,
     };
-    if control != '~' && control != 'u' && params.len() < 2 {
+    match third {
+        Some(field) if code == 27 => Some(press.of_key(point(one(field)?))),
+        Some(_) => None,
+        None => Some(press.of_key(Code::Name(by_number(code)?))),
+    }
+}
+
+/// A key before `u`: its character, with the one beside shift and the one of the basic layout behind colons; what is held down; and
+/// the characters of its text. With the number 0 it is text alone.
+fn by_point<'a>(
+    first: &'a [CsiParam],
+    second: &'a [CsiParam],
+    text: &'a [CsiParam],
+) -> Option<Key<'a>> {
+    let [CsiParam::Integer(code), ..] = first else {
+        return None;
+    };
+    if first.len() > 5 {
         return None;
     }
-    let modifiers = number(params, place).unwrap_or(1);
-    let event = sub_number(params, place, 1).unwrap_or(1);
+    let press = if second.is_empty() {
+        Press::PLAIN
+    } else {
+        Press::of(second)?
+    };
+    let key = if *code == 0 && !text.is_empty() {
+        Code::Name("")
+    } else {
+        point(*code)
+    };
     Some(Key {
-        key,
-        modifiers,
-        event,
+        text,
+        ..press.of_key(key)
     })
+}
+
+/// What is held down, and what happens to the key.
+#[derive(Clone, Copy, Debug, PartialEq, Eq)]
+struct Press {
+    /// 1, and the sum of the bits of the modifiers.
+    modifiers: i64,
+    /// 1 where it is pressed, 2 where it repeats, 3 where it is released.
+    event: i64,
+}
+
+impl Press {
+    /// Nothing is held down.
+    const PLAIN: Press = Press {
+        modifiers: 1,
+        event: 1,
+    };
+
+    /// Of a field: the modifiers, and the event behind a colon.
+    fn of(field: &[CsiParam]) -> Option<Press> {
+        match field {
+            [CsiParam::Integer(modifiers)] => Some(Press {
+                modifiers: *modifiers,
+                event: 1,
+            }),
+            [
+                CsiParam::Integer(modifiers),
+                CsiParam::P(b':'),
+                CsiParam::Integer(event),
+            ] => Some(Press {
+                modifiers: *modifiers,
+                event: *event,
+            }),
+            _ => None,
+        }
+    }
+
+    fn of_key<'a>(self, key: Code) -> Key<'a> {
+        Key {
+            key,
+            press: self,
+            text: &[],
+        }
+    }
 }
 
 /// Which key it is.
@@ -37,30 +134,48 @@ enum Code {
     Point(i64),
 }
 
-/// A key, with what is held down.
-#[derive(Clone, Copy, Debug, PartialEq, Eq)]
-pub struct Key {
+/// A key, with what is held down, and the text that it gives.
+#[derive(Clone, Copy, Debug)]
+pub struct Key<'a> {
     key: Code,
-    /// 1, and the sum of the bits of the modifiers.
-    modifiers: i64,
-    /// 1 where it is pressed, 2 where it repeats, 3 where it is released.
-    event: i64,
+    press: Press,
+    /// The numbers of the text's characters, with colons between.
+    text: &'a [CsiParam],
 }
 
-impl fmt::Display for Key {
+impl<'a> fmt::Display for Key<'a> {
     fn fmt<W: fmt::Write>(&self, f: &mut fmt::Formatter<W>) -> fmt::Result {
         f.write_str("key  ")?;
-        held(f, self.modifiers)?;
+        held(f, self.press.modifiers)?;
         match self.key {
             Code::Name(name) => f.write_str(name)?,
             Code::Point(code) => character(f, code)?,
         }
-        match self.event {
+        if !self.text.is_empty() {
+            f.write_str(if self.key == Code::Name("") {
+                "text "
+            } else {
+                ", text "
+            })?;
+            write_text(f, self.text)?;
+        }
+        match self.press.event {
             2 => f.write_str(", repeated"),
             3 => f.write_str(", released"),
             _ => Ok(()),
         }
     }
+}
+
+/// The characters of a text by their numbers.
+fn write_text<W: fmt::Write>(f: &mut fmt::Formatter<W>, text: &[CsiParam]) -> fmt::Result {
+    f.write_char('"')?;
+    for token in text {
+        if let CsiParam::Integer(code) = token {
+            character(f, *code)?;
+        }
+    }
+    f.write_char('"')
 }
 
 /// The modifiers, each with a hyphen behind it.
@@ -91,7 +206,7 @@ fn character<W: fmt::Write>(f: &mut fmt::Formatter<W>, code: i64) -> fmt::Result
         Err(_) => None,
     };
     match named {
-        Some(character) if character > ' ' && character != '\x7f' => f.write_char(character),
+        Some(character) if character != ' ' && is_seen(character) => f.write_char(character),
         _ => write!(f, "of character {code}"),
     }
 }

@@ -18,7 +18,7 @@ mod told;
 use crate::escapes::escape_of;
 use crate::intermediates::escape_of_bytes;
 use crate::keys::key_of;
-use crate::list::{intermediate, marker, number};
+use crate::list::{intermediate, is_regular, marker, number};
 use crate::otherwise::{Otherwise, read_otherwise};
 use crate::sets::Escape;
 use crate::table::{Form, words};
@@ -28,9 +28,6 @@ use csicodec_base::{CsiParam, Esc};
 use csicodec_parser::{CSI, Unspecified};
 use csicodec_words::Describe;
 use std::fmt;
-
-/// What stands behind the words of a sequence that is unknown to the codec.
-const NO_ACTION: &str = " (no action)";
 
 /// One action of a control sequence, as a terminal reads it.
 #[derive(Clone, Copy)]
@@ -46,7 +43,11 @@ pub struct Reading<'a> {
 impl<'a> Describe for Reading<'a> {
     fn describe<W: fmt::Write>(&self, f: &mut fmt::Formatter<W>) -> fmt::Result {
         if let CSI::Unspecified(unknown) = self.action {
-            return unread(f, unknown);
+            return if marker(&unknown.params) == marker(self.params) {
+                unread(f, unknown)
+            } else {
+                unknown.describe(f)
+            };
         }
         match read_otherwise(self.params, self.control) {
             Some(reading) => tell(f, &reading, self.action),
@@ -67,8 +68,7 @@ impl Describe for EscReading {
         } = self.0
         {
             if let Some(escape) = escape_of(intermediate.unwrap_or(0), control) {
-                write!(f, "{escape}")?;
-                return f.write_str(NO_ACTION);
+                return write!(f, "{escape}");
             }
         }
         self.0.describe(f)
@@ -89,8 +89,7 @@ impl LongEscReading {
 impl Describe for LongEscReading {
     fn describe<W: fmt::Write>(&self, f: &mut fmt::Formatter<W>) -> fmt::Result {
         let escape = self.0;
-        write!(f, "{escape}")?;
-        f.write_str(NO_ACTION)
+        write!(f, "{escape}")
     }
 }
 
@@ -109,35 +108,26 @@ fn tell<W: fmt::Write>(
     }
 }
 
-/// A sequence, or what is left of one, that no row of the codec's table reads.
+/// A sequence, or what is left of one, that no row of the codec's table reads: a key, or the words that a table has for its form. A list
+/// with a byte where none may stand isn't read by terminals either.
 fn unread<W: fmt::Write>(f: &mut fmt::Formatter<W>, unknown: &Unspecified) -> fmt::Result {
     let (params, control) = (unknown.params.as_slice(), unknown.control);
-    if let Some(key) = key_of(params, control) {
-        write!(f, "{key}")?;
-        return f.write_str(NO_ACTION);
+    if !is_regular(params) {
+        return unknown.describe(f);
     }
-    let first = number(params, 0).unwrap_or(0);
+    if let Some(key) = key_of(params, control) {
+        return write!(f, "{key}");
+    }
     let form = Form {
         marker: marker(params),
         between: intermediate(params),
         control,
     };
     if tell_numbers(f, form, params)? {
-        return f.write_str(NO_ACTION);
+        return Ok(());
     }
-    match (form.marker, form.between, control) {
-        (0, 0, 't') if first >= 24 && params.len() == 1 => fill(
-            f,
-            params,
-            "DECSLPP  {1#line} a page",
-        )?,
-        (b'>', 0, 'c') if params.len() <= 2 => {
-            f.write_str("DA2  ask for the terminal's type and version")?;
-        }
-        _ => match words(form, first) {
-            Some(words) => fill(f, params, words)?,
-            None => return unknown.describe(f),
-        },
+    match words(form, number(params, 0).unwrap_or(0)) {
+        Some(words) => fill(f, params, words),
+        None => unknown.describe(f),
     }
-    f.write_str(NO_ACTION)
 }

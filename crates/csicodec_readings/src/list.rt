@@ -18,6 +18,34 @@ pub fn intermediate(params: &[CsiParam]) -> u8 {
     }
 }
 
+/// The tokens between the marker and the intermediate byte.
+fn between(params: &[CsiParam]) -> &[CsiParam] {
+    let inner = match params {
+        [CsiParam::P(b'<'..=b'?'), inner @ ..] => inner,
+        _ => params,
+    };
+    match inner {
+        [inner @ .., CsiParam::P(b' '..=b'/')] => inner,
+        _ => inner,
+    }
+}
+
+/// Whether a list is a marker, numbers with semicolons and colons between them, and an intermediate byte, of which each may be left
+/// out: the lists that terminals read (ECMA-48, 5.4.2; DEC's markers).
+pub fn is_regular(params: &[CsiParam]) -> bool {
+    between(params).iter().all(|token| matches!(token, CsiParam::Integer(0..) | CsiParam::P(b';' | b':')))
+}
+
+/// Whether a token is the semicolon that stands between fields.
+pub fn is_semicolon(token: &CsiParam) -> bool {
+    *token == CsiParam::P(b';')
+}
+
+/// How many fields a list has between its semicolons; an empty list has one, which is empty.
+pub fn count_fields(params: &[CsiParam]) -> usize {
+    params.split(is_semicolon).count()
+}
+
 /// The number at a place, counted from 0 by the semicolons ahead of it, and there at a sub-place, counted by the colons.
 pub fn sub_number(params: &[CsiParam], place: u32, sub: u32) -> Option<i64> {
     let mut at = 0u32;

@@ -3,7 +3,7 @@
 use crate::table::Row;
 
 /// xterm's ctlseqs, but for what the rows name themselves.
-pub static XTERM: [Row; 37] = [
+pub static XTERM: [Row; 35] = [
     (
         b'?',
         0,
@@ -15,9 +15,7 @@ pub static XTERM: [Row; 37] = [
     (b'?', 0, 'c', Some(12), "DA1  answer: VT125"),
     (0, 0, 'i', Some(10), "MC  HTML copy of the screen (xterm)"),
     (0, 0, 'i', Some(11), "MC  SVG copy of the screen (xterm)"),
-    (0, b'#', '{', None, "XTPUSHSGR  push the attributes"),
     (0, b'#', '}', None, "XTPOPSGR  pop the attributes"),
-    (0, b'#', 'p', None, "XTPUSHSGR  push the attributes"),
     (0, b'#', 'q', None, "XTPOPSGR  pop the attributes"),
     (
         0,

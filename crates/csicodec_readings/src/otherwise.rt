@@ -50,14 +50,28 @@ pub fn read_otherwise(params: &[CsiParam], control: char) -> Option<Otherwise> {
         (0, 0, 't') if params.len() > 2 && number(params, 0) == Some(5) => {
             Some(Otherwise::Or(" (or answer: the display's size in pixels)"))
         }
-        (0, 0, 'I') if params.is_empty() => Some(Otherwise::Or(" (or focus gained)")),
-        (0, 0, 'R') if params.is_empty() => Some(Otherwise::Or(" (or the key F3)")),
-        (0, 0, 'M') if params.is_empty() => {
-            Some(Otherwise::Or(" (or a mouse report, by the next 3 characters)"))
-        }
+        (0, 0, _) if params.is_empty() => or_input(control),
         (0, 0, 'm') => behind_semicolon(params),
         _ => None,
     }
+}
+
+/// What a terminal sends by the same sequence without numbers (xterm's ctlseqs, PC-Style Function Keys, FocusIn/FocusOut and Mouse
+/// Tracking).
+fn or_input(control: char) -> Option<Otherwise> {
+    Some(Otherwise::Or(match control {
+        'A' => " (or the key Up)",
+        'B' => " (or the key Down)",
+        'C' => " (or the key Right)",
+        'D' => " (or the key Left)",
+        'E' => " (or the key Begin)",
+        'F' => " (or the key End)",
+        'H' => " (or the key Home)",
+        'I' => " (or focus gained)",
+        'R' => " (or the key F3)",
+        'M' => " (or a mouse report, by the next 3 characters)",
+        _ => return None,
+    }))
 }
 
 /// A style and a `;`, behind which a terminal reads 0 (ECMA-48, 5.4.2).

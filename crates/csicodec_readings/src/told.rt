@@ -1,6 +1,6 @@
 //! Sequences without an action, of which a number has words of its own.
 
-use crate::list::{marker, number};
+use crate::list::{count_fields, marker, number, positive};
 use crate::otherwise::held;
 use crate::table::Form;
 use crate::template::fill;
@@ -21,12 +21,127 @@ pub fn tell_numbers<W: fmt::Write>(
         (b'?', 0, 'c') if first == 61 => class_told(f, "VT100", params)?,
         (b'?', 0, 'c') if first == 65 => class_told(f, "VT500", params)?,
         (b'?', 0, 'n') if first == 997 => colour_scheme(f, params)?,
-        (0, 0, 'M') if params.len() > 1 => mouse(f, params)?,
-        (0, 0, '_') => key_record(f, params)?,
+        (0, 0, 'M') if params.len() == 5 && count_fields(params) == 3 => mouse(f, params)?,
+        (0, 0, '_') if count_fields(params) <= 6 => key_record(f, params)?,
+        (0, 0, 'r') if count_fields(params) == 2 => scrolling_region(f, params)?,
+        (0, 0, 't') if first >= 24 && params.len() == 1 => fill(
+            f,
+            params,
+            "DECSLPP  {1#line} a page",
+        )?,
+        (0, 0, 'x') => serial_line(f, params)?,
+        (0, 0, ']') if first == 9 && positive(params, 1).is_none() => {
+            f.write_str("Linux  screen never blanks")?;
+        }
+        (0, 0, ']') if first == 14 && positive(params, 1).is_none() => {
+            f.write_str("Linux  screen never powers down")?;
+        }
+        (b'>', 0, 'c') if params.len() <= 2 => {
+            f.write_str("DA2  ask for the terminal's type and version")?;
+        }
+        (0, b'#', '{' | 'p') => pushed(f, params)?,
+        (0, b'$', 'r') => rectangle(f, "DECCARA  change attributes", params)?,
+        (0, b'$', 't') => rectangle(f, "DECRARA  reverse attributes", params)?,
         (0, 0, 'm') if params.len() == 1 => return attribute(f, first),
         _ => return Ok(false),
     }
     Ok(true)
+}
+
+/// DECSTBM with one of its numbers left out, which the codec doesn't read: the first line, or the last (VT100 User Guide).
+fn scrolling_region<W: fmt::Write>(f: &mut fmt::Formatter<W>, params: &[CsiParam]) -> fmt::Result {
+    let top = positive(params, 0).unwrap_or(1);
+    match positive(params, 1) {
+        Some(bottom) => write!(f, "DECSTBM  scrolling region: lines {top} to {bottom}"),
+        None => write!(f, "DECSTBM  scrolling region: line {top} to the last"),
+    }
+}
+
+/// The speeds of a serial line by DEC's codes, which are eight times their places here (VT100 User Guide, DECREPTPARM; the last one is
+/// xterm's).
+static SPEEDS: [&str; 17] = [
+    "50", "75", "110", "134.5", "150", "200", "300", "600", "1200", "1800", "2000", "2400", "3600", "4800", "9600",
+    "19200", "38400",
+];
+
+/// The speed of a code.
+fn speed(code: i64) -> &'static str {
+    match usize::try_from(code / 8) {
+        Ok(place) if code % 8 == 0 => SPEEDS.get(place).copied().unwrap_or("other"),
+        _ => "other",
+    }
+}
+
+/// DECREPTPARM: the parity, the bits of a character, and the speeds at which a terminal sends and receives.
+fn serial_line<W: fmt::Write>(f: &mut fmt::Formatter<W>, params: &[CsiParam]) -> fmt::Result {
+    let parity = match number(params, 1) {
+        Some(4) => "odd parity",
+        Some(5) => "even parity",
+        _ => "no parity",
+    };
+    let bits = if number(params, 2) == Some(2) { 7 } else { 8 };
+    let sent = speed(number(params, 3).unwrap_or(0));
+    let received = speed(number(params, 4).unwrap_or(0));
+    write!(f, "DECREPTPARM  answer: serial line, {parity}, {bits} bits, ")?;
+    write!(f, "{sent} and {received} baud")
+}
+
+/// The attributes that XTPUSHSGR, DECCARA and DECRARA name by a number (xterm's ctlseqs; DEC VT510).
+static ATTRIBUTES: [(i64, &str); 16] = [
+    (0, "all"),
+    (1, "bold"),
+    (2, "faint"),
+    (3, "italic"),
+    (4, "underline"),
+    (5, "blink"),
+    (7, "inverse"),
+    (8, "concealed"),
+    (9, "crossed out"),
+    (21, "double underline"),
+    (22, "not bold"),
+    (24, "not underlined"),
+    (25, "no blink"),
+    (27, "not inverse"),
+    (30, "foreground"),
+    (31, "background"),
+];
+
+/// The attributes from a place on, each with words ahead of it.
+fn tell_attributes<W: fmt::Write>(
+    f: &mut fmt::Formatter<W>,
+    params: &[CsiParam],
+    from: u32,
+) -> fmt::Result {
+    let mut ahead = ": ";
+    for place in from..32 {
+        let Some(code) = number(params, place) else {
+            return Ok(());
+        };
+        f.write_str(ahead)?;
+        ahead = ", ";
+        match ATTRIBUTES.iter().find(|row| row.0 == code) {
+            Some(row) => f.write_str(row.1)?,
+            None => write!(f, "{code}")?,
+        }
+    }
+    Ok(())
+}
+
+/// XTPUSHSGR: all attributes, or those that are named.
+fn pushed<W: fmt::Write>(f: &mut fmt::Formatter<W>, params: &[CsiParam]) -> fmt::Result {
+    f.write_str("XTPUSHSGR  push the attributes")?;
+    tell_attributes(f, params, 0)
+}
+
+/// A rectangle whose attributes change, and which.
+fn rectangle<W: fmt::Write>(
+    f: &mut fmt::Formatter<W>,
+    name: &'static str,
+    params: &[CsiParam],
+) -> fmt::Result {
+    f.write_str(name)?;
+    fill(f, params, " in lines {1} to {3:the last}, columns {2} to {4:the last}")?;
+    tell_attributes(f, params, 4)
 }
 
 /// What the second number of DECRPM says of a mode.

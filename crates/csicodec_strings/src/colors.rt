@@ -50,8 +50,18 @@ fn write_indexed<W: fmt::Write>(
         f.write_str("colour of ")?;
         return f.write_str(special_name(index));
     }
+    if let Some(place) = special_place(index) {
+        f.write_str("special colour of ")?;
+        return f.write_str(SPECIAL.get(place).copied().unwrap_or("some text"));
+    }
     let index = Shown(index);
     write!(f, "colour {index} of the palette")
+}
+
+/// Behind the 256 colours of the palette stand the special ones (xterm's ctlseqs, Operating System Commands 4).
+fn special_place(index: &[u8]) -> Option<usize> {
+    let place = number(index)?.checked_sub(256)?;
+    usize::try_from(place).ok()
 }
 
 /// A colour that is set or asked for.

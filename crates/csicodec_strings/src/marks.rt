@@ -83,6 +83,9 @@ pub fn editor_mark<W: fmt::Write>(f: &mut fmt::Formatter<W>, rest: Body<'_>) -> 
 /// The words of ConEmu's OSC 9;4.
 fn progress<W: fmt::Write>(f: &mut fmt::Formatter<W>, fields: &[u8]) -> fmt::Result {
     let (state, percent) = halves(fields, b';');
+    if state == b"1".as_slice() && percent.is_empty() {
+        return f.write_str("progress: 0 %");
+    }
     if state == b"1".as_slice() {
         let percent = Shown(percent);
         return write!(f, "progress: {percent} %");

@@ -10,8 +10,8 @@ use std::fmt;
 
 /// Commands that have one text: their numbers and what they do.
 ///
-/// xterm's ctlseqs, Operating System Commands: 0 to 3, 6, 22, 46, 50, 51, 60 and 61, 106; 7 is Apple's Terminal's, and most
-/// terminals'; 21 is DEC's (VT520, DECSWT) and kitty's; 66, 99, 5113, 5522, 30001 and 30101 are kitty's; 20, 39, 49 and those
+/// xterm's ctlseqs, Operating System Commands: 0 to 3, 6, 22, 46, 50, 51, 60 and 61, 106; 7, and 6 with the address of a file, are
+/// Apple's Terminal's, 7 most terminals'; 21 is DEC's (VT520, DECSWT) and kitty's; 66, 99, 5113, 5522, 30001 and 30101 are kitty's; 20, 39, 49 and those
 /// from 702 to 776 are rxvt's (urxvt(7)), 701 is its and mintty's, 440 mintty's; 176 and 555 are foot's; 3008 is systemd's.
 static TEXTS: [(u32, &str); 41] = [
     (0, "window title and icon name"),
@@ -110,6 +110,9 @@ fn numbered<W: fmt::Write>(f: &mut fmt::Formatter<W>, code: u32, rest: Body<'_>)
         110..=119 => dynamic_reset(f, code),
         133 => prompt_mark(f, rest),
         633 => editor_mark(f, rest),
+        6 if rest.behind(b"file:").is_some() => {
+            plain(f, "current document (Terminal.app)", rest)
+        }
         777 => rxvt(f, rest),
         1337 => iterm(f, rest),
         _ => match with_front(code, rest) {

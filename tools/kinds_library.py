@@ -88,7 +88,7 @@ def module(name):
 
 def number_of(name):
     """How the specs and the source give the number of an enumeration, and how the source reads it again."""
-    return NUMBERS.get(name, (f"{low(name)}_number", "value.to_i64()", f"{name}::from_i64(plain.first)?"))
+    return NUMBERS.get(name, (f"{low(name)}_number", "value.to_i64()", f"{name}::from_i64(given.first)?"))
 
 
 def used(names, text):

@@ -1,4 +1,4 @@
-"""The proof of csicodec_plain that has lines for each kind: a struct and its tokens are those of one action by its name, and of one. See kinds."""
+"""The proof of csicodec_structs that has lines for each kind: a struct and its tokens are those of one action by its name, and of one. See kinds."""
 import re
 
 from kinds_library import BY_NUMBER, NAMED, acting, declared, has_tokens, kinds, low, module, number_of, of, text_of, type_of, used, variants
@@ -7,10 +7,10 @@ from kinds_table import PATH
 
 # The enumerations of these forms, how the specs give their numbers, and the number that is one.
 HIDDEN = {
-    "keys": ("XtermKeyModifierResource", "resource_number", "plain.first"),
-    "report": ("MouseButton", "button_number", "(pos plain.button)"),
-    "state": ("KittyKeyboardMode", "kitty_mode_number", "plain.second"),
-    "path": ("CharacterPath", "path_number", "plain.first"),
+    "keys": ("XtermKeyModifierResource", "resource_number", "given.first"),
+    "report": ("MouseButton", "button_number", "(pos given.button)"),
+    "state": ("KittyKeyboardMode", "kitty_mode_number", "given.second"),
+    "path": ("CharacterPath", "path_number", "given.first"),
 }
 # What stands by a number that isn't one of a list: how it is found again.
 FOUND = {"Font": ("font_at", "font-back v range"), "DecPrivateMode": ("dec_at", "dec-back v named"), "TerminalMode": ("terminal_at", "terminal-back v named")}
@@ -21,7 +21,7 @@ WHOLE = {"enum", "flag", "keys", "report", "state", "extensions", "graphics"}
 def coded(form, names):
     """The enumeration in a form that is found in the list of its variants: its name, how its number is given, and the number."""
     if form == "enum" and names[0] not in FOUND:
-        return names[0], number_of(names[0])[0], "plain.first"
+        return names[0], number_of(names[0])[0], "given.first"
     return HIDDEN.get(form)
 
 
@@ -47,25 +47,25 @@ def lists():
 
 def found_row(number, group, variant, form, names):
     """The action of a struct of this kind."""
-    first, second = "(nat_abs plain.first)", "(nat_abs plain.second)"
+    first, second = "(nat_abs given.first)", "(nat_abs given.second)"
     left = {
         "unit": "",
         "count": f" {first}",
         "place": f" {first}",
         "places": f" {first} {second}",
-        "int": " plain.first",
-        "ints": " plain.first plain.second",
-        "sizes": " (first_at plain) (second_at plain)",
-        "enum": f" ({FOUND[names[0]][0]} plain.first)" if form == "enum" and names[0] in FOUND else " v",
-        "flag": " (flag_at plain.first)",
-        "color": " (color_at plain)",
-        "keys": " v (second_at plain)",
-        "area": " plain.first plain.second plain.top plain.left plain.bottom plain.right",
-        "report": f" {first} {second} v (record {{ bits = plain.modifiers }})",
+        "int": " given.first",
+        "ints": " given.first given.second",
+        "sizes": " (first_at given) (second_at given)",
+        "enum": f" ({FOUND[names[0]][0]} given.first)" if form == "enum" and names[0] in FOUND else " v",
+        "flag": " (flag_at given.first)",
+        "color": " (color_at given)",
+        "keys": " v (second_at given)",
+        "area": " given.first given.second given.top given.left given.bottom given.right",
+        "report": f" {first} {second} v (record {{ bits = given.modifiers }})",
         "state": f" (record {{ bits = {first} }}) v",
         "bits": f" (record {{ bits = {first} }})",
         "extensions": " (map attribute_at params)",
-        "graphics": " (item_of plain.first) plain.second (map value_at params)",
+        "graphics": " (item_of given.first) given.second (map value_at params)",
     }[form]
     one = action(group, variant, left)
     if coded(form, names):
@@ -98,19 +98,19 @@ def back_rows(number, group, variant, form, names):
 
 def found():
     """The action of any struct and its tokens, and that each action by its name is found by its own."""
-    out = "\n-- the action of a struct and its tokens\naction_at : Plain → List Param → Option Action\naction_at plain params =\n"
-    out += "    if plain.kind == 0 then Some (action.Unspecified (map token_at params) false plain.final_char) else\n"
+    out = "\n-- the action of a struct and its tokens\naction_at : Struct → List Param → Option Action\naction_at given params =\n"
+    out += "    if given.kind == 0 then Some (action.Unspecified (map token_at params) false given.final_char) else\n"
     for kind in kinds():
-        out += f"    if plain.kind == {kind[0]} then {found_row(*kind)} else\n"
-    out += f"    if plain.kind == {PATH} then option_map (λ v. action.SelectCharacterPath v plain.second) (with_number path_number character_path_all plain.first) else\n    None\n"
+        out += f"    if given.kind == {kind[0]} then {found_row(*kind)} else\n"
+    out += f"    if given.kind == {PATH} then option_map (λ v. action.SelectCharacterPath v given.second) (with_number path_number character_path_all given.first) else\n    None\n"
     for group in BY_NUMBER:
         name, place = low(group), "place " if has_tokens(group) else ""
-        out += f"\n{name}-back : (place : ℕ) (a : {type_of(group)}) → {group}InRange a → IsNamed (action.{group} a) → action_at ({name}_plain {place}a) (params_of (action.{group} a)) ≡ Some (action.{group} a)\nunfolding action_at\n"
+        out += f"\n{name}-back : (place : ℕ) (a : {type_of(group)}) → {group}InRange a → IsNamed (action.{group} a) → action_at ({name}_struct {place}a) (params_of (action.{group} a)) ≡ Some (action.{group} a)\nunfolding action_at\n"
         rows_ = [row for kind in of(group) for row in back_rows(*kind)] or [(spec_row(*of(group)[0])[0].removeprefix("place "), "refl")]
         out += "".join(f"{name}-back place {left} range named = {right}\n" for left, right in rows_)
         if not all(kind[3] in WHOLE for kind in of(group)):
             out += f"{name}-back place other range named = refl\n"
-    out += "\naction-back : (place : ℕ) (a : Action) → InRange a → IsNamed a → action_at (plain_of place a) (params_of a) ≡ Some a\nunfolding action_at\n"
+    out += "\naction-back : (place : ℕ) (a : Action) → InRange a → IsNamed a → action_at (struct_of place a) (params_of a) ≡ Some a\nunfolding action_at\n"
     out += "".join(f"action-back place (action.{group} a) range named = {low(group)}-back place a range named\n" for group in BY_NUMBER)
     out += """action-back place (action.SelectCharacterPath v effect) range named = ap (option_map (λ v. action.SelectCharacterPath v effect)) (character_path-found v)
 action-back place (action.Unspecified params flag final) range named = rw (tokens-back params, named) refl
@@ -123,10 +123,10 @@ def like_row(number, group, variant, form, names):
     if form == "enum":
         at, back = FOUND[names[0]]
         by, has = at.replace("_at", "-named"), at.replace("_at", "_number")
-        return " v", f"let h = {by} v in record {{ one = {action(group, variant, f' ({at} (pos ({has} v)))')}; in_range = subst (λ n. n < 65536) (sym h.1) range; named = h.0; plain = ap (λ n. row {number} (pos n) (pos 0)) h.1; params = refl }}"
+        return " v", f"let h = {by} v in record {{ one = {action(group, variant, f' ({at} (pos ({has} v)))')}; in_range = subst (λ n. n < 65536) (sym h.1) range; named = h.0; given = ap (λ n. row {number} (pos n) (pos 0)) h.1; params = refl }}"
     if form == "extensions":
-        return " list", f"let l = attributes-named list (recursion_from_All AttributeInRange list range) in record {{ one = {action(group, variant, ' l.others')}; in_range = All-from_recursion AttributeInRange l.others l.in_range; named = All-from_recursion IsNamedAttribute l.others l.named; plain = ap (λ n. list_row {number} (pos 0) (pos 0) place n) l.long; params = l.same }}"
-    return " item action_or_status list", f"let h = item-named (item_number item) in record {{ one = {action(group, variant, ' (item_of (item_number item)) action_or_status list')}; in_range = range; named = h.0; plain = ap (λ z. list_row {number} z action_or_status place (length list)) h.1; params = refl }}"
+        return " list", f"let l = attributes-named list (recursion_from_All AttributeInRange list range) in record {{ one = {action(group, variant, ' l.others')}; in_range = All-from_recursion AttributeInRange l.others l.in_range; named = All-from_recursion IsNamedAttribute l.others l.named; given = ap (λ n. list_row {number} (pos 0) (pos 0) place n) l.long; params = l.same }}"
+    return " item action_or_status list", f"let h = item-named (item_number item) in record {{ one = {action(group, variant, ' (item_of (item_number item)) action_or_status list')}; in_range = range; named = h.0; given = ap (λ z. list_row {number} z action_or_status place (length list)) h.1; params = refl }}"
 
 
 def likes():
@@ -138,11 +138,11 @@ def likes():
             if named_row(*kind):
                 left, right = like_row(*kind)
                 out += f"{low(group)}-named place ({value(group, kind[2], left)}) range = {right}\n"
-        out += f"{low(group)}-named place other range = record {{ one = action.{group} other; in_range = range; named = tt; plain = refl; params = refl }}\n"
+        out += f"{low(group)}-named place other range = record {{ one = action.{group} other; in_range = range; named = tt; given = refl; params = refl }}\n"
     out += "\npub action-named : (place : ℕ) (a : Action) → InRange a → ByName place a\n"
     out += "".join(f"action-named place (action.{group} a) range = {low(group)}-named place a range\n" for group in filter(can_be_named, BY_NUMBER))
-    out += """action-named place (action.Unspecified params flag final) range = record { one = action.Unspecified params false final; in_range = range; named = refl; plain = refl; params = refl }
-action-named place other range = record { one = other; in_range = range; named = tt; plain = refl; params = refl }
+    out += """action-named place (action.Unspecified params flag final) range = record { one = action.Unspecified params false final; in_range = range; named = refl; given = refl; params = refl }
+action-named place other range = record { one = other; in_range = range; named = tt; given = refl; params = refl }
 """
     return out
 
@@ -150,15 +150,15 @@ action-named place other range = record { one = other; in_range = range; named =
 def proof():
     body = lists() + found() + """
 -- so two by their names with one struct and its tokens are one
-pub same-action : (place : ℕ) (a b : Action) → InRange a → IsNamed a → InRange b → IsNamed b → plain_of place a ≡ plain_of place b → params_of a ≡ params_of b → a ≡ b
-same-action place a b in_a named_a in_b named_b plain params =
-    let same = ap (λ p. action_at p (params_of a)) plain ∙ ap (action_at (plain_of place b)) params in
+pub same-action : (place : ℕ) (a b : Action) → InRange a → IsNamed a → InRange b → IsNamed b → struct_of place a ≡ struct_of place b → params_of a ≡ params_of b → a ≡ b
+same-action place a b in_a named_a in_b named_b given params =
+    let same = ap (λ p. action_at p (params_of a)) given ∙ ap (action_at (struct_of place b)) params in
     same_Some a b (sym (action-back place a in_a named_a) ∙ same ∙ action-back place b in_b named_b)
 """ + likes()
     types = ""
     for name, _ in enumerations():
         types += f"use {module(name)}.{{{name}}}\nuse {module(name)}.TheVariants as {low(name)}\n"
-    values = re.findall(r"^(?:abbrev )?pub (?:record )?([\w-]+) ", text_of("crates/csicodec_plain/proofs/OneValue.antt"), re.M)
+    values = re.findall(r"^(?:abbrev )?pub (?:record )?([\w-]+) ", text_of("crates/csicodec_structs/proofs/OneValue.antt"), re.M)
     return f"""-- A struct and its tokens are those of one action by its name, whatever action has them. Written by tools/kinds.
 use Rattle.std.proofs.Common.{{◌≡◌, ◌<◌, ℕ, List, [], ◌∷◌, Option, None, Some, length, map, refl, sym, subst, ap, ◌∙◌, pos}}
 use Rattle.std.specs.Prelude.{{false, nat_abs, ◌==◌, if◌then◌else◌}}
@@ -168,9 +168,9 @@ use Rattle.std.proofs.lemmas.Option.{{same_Some}}
 use Rattle.csicodec_names.specs.Numbered.{{with_number}}
 use Rattle.csicodec_names.specs.declared.color.ColorSpec.TheVariants as color
 {types}{spec_use("csicodec_names", "EnumNumbers", body)}{type_uses(body)}\
-{spec_use("csicodec_actions", "Graphics", body)}{spec_use("csicodec_actions", "Kinds", body)}{spec_use("csicodec_actions", "Modes", body)}\
-use Rattle.csicodec_plain.specs.declared.plain.Param.{{Param}}
-use Rattle.csicodec_plain.specs.declared.plain.Plain.{{Plain}}
-{own_use("Named", body)}{spec_use("csicodec_plain", "Plain", body)}{own_use("Ranges", body)}{own_use("Rows", body)}{spec_use("csicodec_plain", "Values", body)}\
-use Rattle.csicodec_plain.proofs.OneValue.{{{used(values, body)}}}
+{spec_use("csicodec_actions", "XtSmGraphics", body)}{spec_use("csicodec_actions", "Kinds", body)}{spec_use("csicodec_actions", "Modes", body)}\
+use Rattle.csicodec_structs.specs.declared.structs.Param.{{Param}}
+use Rattle.csicodec_structs.specs.declared.structs.Struct.{{Struct}}
+{own_use("Named", body)}{spec_use("csicodec_structs", "Structs", body)}{own_use("Ranges", body)}{own_use("Rows", body)}{spec_use("csicodec_structs", "Values", body)}\
+use Rattle.csicodec_structs.proofs.OneValue.{{{used(values, body)}}}
 """ + body

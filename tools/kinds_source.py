@@ -1,4 +1,4 @@
-"""The source of csicodec_plain that has a line for each kind: the struct of an action, and what a struct without tokens may stand for. See
+"""The source of csicodec_structs that has a line for each kind: the struct of an action, and what a struct without tokens may stand for. See
 kinds."""
 import re
 
@@ -14,7 +14,7 @@ def source_use(text):
 
 def numbers_use(text):
     """The `use` line of the functions between numbers and values that it calls."""
-    names = re.findall(r"^pub\(crate\) fn (\w+)", text_of("crates/csicodec_plain/src/numbers.rt"), re.M)
+    names = re.findall(r"^pub\(crate\) fn (\w+)", text_of("crates/csicodec_structs/src/numbers.rt"), re.M)
     return f"use crate::numbers::{{{used([name for name in names if f'{name}(' in text], text)}}};\n"
 
 
@@ -39,7 +39,7 @@ def code_row(number, group, variant, form, names):
         "flag": ("(value)", f"row({number}, flag_number(*value), 0)"),
         "color": ("(color)", f"color_row({number}, color)"),
         "keys": (" { resource, value }", f"sized_row({number}, Some(i64::from(resource.number())), *value)"),
-        "area": (" { request_id, page_number, top, left, bottom, right }", f"Plain {{ top: top.as_one_based(), left: left.as_one_based(), bottom: bottom.as_one_based(), right: right.as_one_based(), ..row({number}, *request_id, *page_number) }}"),
+        "area": (" { request_id, page_number, top, left, bottom, right }", f"Struct {{ top: top.as_one_based(), left: left.as_one_based(), bottom: bottom.as_one_based(), right: right.as_one_based(), ..row({number}, *request_id, *page_number) }}"),
         "report": (f" {{ {a}, {b}, button, modifiers }}", f"report_row({number}, *{a}, *{b}, *button, *modifiers)"),
         "state": (" { flags, mode }", f"row({number}, i64::from(flags.bits()), i64::from(mode.number()))"),
         "bits": ("(flags)", f"row({number}, i64::from(flags.bits()), 0)"),
@@ -55,19 +55,19 @@ def rows():
         value = f"place ({low(group)}_of {low(group)}.now)" if has_tokens(group) else f"{low(group)}.now"
         place = "place: usize, " if has_tokens(group) else ""
         public = "pub(crate) " if is_boxed(group) else ""
-        body += f"\n{public}fn {low(group)}_plain({place}{low(group)}: &{type_of(group)}) -> Plain\n    ensures {{ result ≡ {low(group)}_plain {value} }}\n{{\n    match {low(group)} {{\n"
+        body += f"\n{public}fn {low(group)}_struct({place}{low(group)}: &{type_of(group)}) -> Struct\n    ensures {{ result ≡ {low(group)}_struct {value} }}\n{{\n    match {low(group)} {{\n"
         for kind in of(group):
             body += code_row(*kind)
         body += "    }\n}\n"
     body += """
 /// An action whose tokens, if it has any, stand from this place on.
-pub(crate) fn plain_of(place: usize, action: &CSI) -> Plain
-    ensures { result ≡ plain_of place (action_of action.now) }
+pub(crate) fn struct_of(place: usize, action: &CSI) -> Struct
+    ensures { result ≡ struct_of place (action_of action.now) }
 {
     match action {
 """
     for group in IN_TURN:
-        body += f"        CSI::{group}({low(group)}) => {low(group)}_plain({'place, ' if has_tokens(group) else ''}{low(group)}),\n"
+        body += f"        CSI::{group}({low(group)}) => {low(group)}_struct({'place, ' if has_tokens(group) else ''}{low(group)}),\n"
     body += f"""        CSI::SelectCharacterPath(path, effect) => row({PATH}, i64::from(path.number()), *effect),
         CSI::Unspecified(unknown) => unknown_row(unknown.control, place, unknown.params.len()),
     }}
@@ -77,9 +77,9 @@ pub(crate) fn plain_of(place: usize, action: &CSI) -> Plain
 ghost use Rattle.std.specs.Prelude.{{◌≡◌}};
 ghost use Rattle.csicodec_actions.specs.Devices.{{device_of}};
 ghost use Rattle.csicodec_parser.specs.ActionOf.{{action_of}};
-ghost use Rattle.csicodec_plain.specs.Rows.{{{", ".join(sorted([f"{low(group)}_plain" for group in IN_TURN] + ["plain_of"]))}}};
+ghost use Rattle.csicodec_structs.specs.Rows.{{{", ".join(sorted([f"{low(group)}_struct" for group in IN_TURN] + ["struct_of"]))}}};
 
-{numbers_use(body)}use crate::plain::{{Plain, color_row, list_row, report_row, row, sized_row, unknown_row}};
+{numbers_use(body)}use crate::structs::{{Struct, color_row, list_row, report_row, row, sized_row, unknown_row}};
 use bitflags::Flags;
 {source_use(body)}""" + body
 
@@ -89,20 +89,20 @@ def candidate(number, group, variant, form, names):
     a, b = names_in(names)
     right = {
         "unit": "",
-        "count": "(count(plain)?)",
-        "place": "(first_place(plain)?)",
-        "places": f" {{ {a}: first_place(plain)?, {b}: second_place(plain)? }}",
-        "int": "(plain.first)",
-        "ints": f" {{ {a}: plain.first, {b}: plain.second }}",
-        "sizes": f" {{ {a}: first(plain), {b}: second(plain) }}",
+        "count": "(count(given)?)",
+        "place": "(first_place(given)?)",
+        "places": f" {{ {a}: first_place(given)?, {b}: second_place(given)? }}",
+        "int": "(given.first)",
+        "ints": f" {{ {a}: given.first, {b}: given.second }}",
+        "sizes": f" {{ {a}: first(given), {b}: second(given) }}",
         "enum": f"({number_of(names[0])[2]})" if form == "enum" else "",
-        "flag": "(flag(plain)?)",
-        "color": "(color(plain)?)",
-        "keys": " { resource: XtermKeyModifierResource::parse(plain.first)?, value: second(plain) }",
-        "area": " { request_id: plain.first, page_number: plain.second, top: side(plain.top)?, left: side(plain.left)?, bottom: side(plain.bottom)?, right: side(plain.right)? }",
-        "report": f" {{ {a}: first_word(plain)?, {b}: second_word(plain)?, button: button(plain.button)?, modifiers: Modifiers::from_bits_retain(plain.modifiers) }}",
-        "state": " { flags: flags(plain)?, mode: KittyKeyboardMode::from_i64(plain.second)? }",
-        "bits": "(flags(plain)?)",
+        "flag": "(flag(given)?)",
+        "color": "(color(given)?)",
+        "keys": " { resource: XtermKeyModifierResource::parse(given.first)?, value: second(given) }",
+        "area": " { request_id: given.first, page_number: given.second, top: side(given.top)?, left: side(given.left)?, bottom: side(given.bottom)?, right: side(given.right)? }",
+        "report": f" {{ {a}: first_word(given)?, {b}: second_word(given)?, button: button(given.button)?, modifiers: Modifiers::from_bits_retain(given.modifiers) }}",
+        "state": " { flags: flags(given)?, mode: KittyKeyboardMode::from_i64(given.second)? }",
+        "bits": "(flags(given)?)",
     }[form]
     return f"{number} => Some({name}{right}{tail}),\n"
 
@@ -124,52 +124,52 @@ pub(crate) const UNSPECIFIED: u32 = 0;
             clauses["named"] = holds(f"IsNamed{group}")
         if has_tokens(group):
             clauses["bare"] = f"IfSome result (λ {name}. {name}_params ({name}_of {name}) ≡ [])"
-            clauses["finds"] = f"Finds ({name}_plain plain.now.place) HasNoList plain.now\n        (option_map {name}_of result)"
+            clauses["finds"] = f"Finds ({name}_struct given.now.place) HasNoList given.now\n        (option_map {name}_of result)"
         else:
-            clauses["finds"] = f"Finds {name}_plain {group}InRange plain.now result"
+            clauses["finds"] = f"Finds {name}_struct {group}InRange given.now result"
         ensures = "".join(f"    ensures {clause} {{ {says} }}\n" for clause, says in clauses.items())
-        body += f"\nfn {name}_candidate(plain: &Plain) -> Option<{type_of(group)}>\n{ensures}{{\n    match plain.kind {{\n"
+        body += f"\nfn {name}_candidate(given: &Struct) -> Option<{type_of(group)}>\n{ensures}{{\n    match given.kind {{\n"
         for kind in of(group):
             if kind[3] not in LISTS:
                 body += candidate(*kind)
         body += "        _ => None,\n    }\n}\n"
     body += """
 /// Of what takes no memory.
-pub(crate) fn small_candidate(plain: &Plain) -> Option<CSI>
+pub(crate) fn small_candidate(given: &Struct) -> Option<CSI>
     ensures in_range { IfSome result (λ csi. InRange (action_of csi)) }
     ensures named { IfSome result (λ csi. IsNamed (action_of csi)) }
     ensures bare { IfSome result (λ csi. params_of (action_of csi) ≡ []) }
-    ensures finds { Finds (plain_of plain.now.place) IsSmall plain.now
+    ensures finds { Finds (struct_of given.now.place) IsSmall given.now
         (option_map action_of result) }
 {
-    match plain.kind {
+    match given.kind {
 """
     for group in BY_NUMBER:
         if not is_boxed(group):
-            body += f"        {span(group)} => Some(CSI::{group}({low(group)}_candidate(plain)?)),\n"
-    body += f"""        {PATH} => Some(CSI::SelectCharacterPath(CharacterPath::from_i64(plain.first)?, plain.second)),
+            body += f"        {span(group)} => Some(CSI::{group}({low(group)}_candidate(given)?)),\n"
+    body += f"""        {PATH} => Some(CSI::SelectCharacterPath(CharacterPath::from_i64(given.first)?, given.second)),
         _ => None,
     }}
 }}
 
 /// Of all that have no tokens.
-pub(crate) fn candidate(alloc: Global, plain: &Plain) -> Result<Option<CSI>, AllocError>
+pub(crate) fn candidate(alloc: Global, given: &Struct) -> Result<Option<CSI>, AllocError>
     ensures in_range {{ IfOk result (λ r. IfSome r (λ csi. InRange (action_of csi))) }}
     ensures named {{ IfOk result (λ r. IfSome r (λ csi. IsNamed (action_of csi))) }}
     ensures bare {{ IfOk result (λ r. IfSome r (λ csi. params_of (action_of csi) ≡ [])) }}
-    ensures finds {{ IfOk result (λ r. Finds (plain_of plain.now.place) IsBare plain.now
+    ensures finds {{ IfOk result (λ r. Finds (struct_of given.now.place) IsBare given.now
         (option_map action_of r)) }}
 {{
-    match plain.kind {{
+    match given.kind {{
 """
     for group in BY_NUMBER:
         if is_boxed(group):
-            body += f"""        {span(group)} => match {low(group)}_candidate(plain) {{
+            body += f"""        {span(group)} => match {low(group)}_candidate(given) {{
             Some({low(group)}) => Ok(Some(CSI::{group}(Box::new(alloc, {low(group)})?))),
             None => Ok(None),
         }},
 """
-    body += """        _ => Ok(small_candidate(plain)),
+    body += """        _ => Ok(small_candidate(given)),
     }
 }
 """
@@ -180,11 +180,11 @@ ghost use Rattle.std.specs.Prelude.{{◌≡◌, [], IfOk, IfSome}};
 ghost use Rattle.std.specs.Option.{{option_map}};
 ghost use Rattle.csicodec_actions.specs.Devices.{{device_of}};
 ghost use Rattle.csicodec_parser.specs.ActionOf.{{action_of}};
-ghost use Rattle.csicodec_plain.specs.Private.Candidates.{{Finds, HasNoList, IsBare, IsSmall}};
+ghost use Rattle.csicodec_structs.specs.Private.Candidates.{{Finds, HasNoList, IsBare, IsSmall}};
 ghost {own_use("Named", body).strip()};
 ghost {own_use("Ranges", body).strip()};
 ghost {own_use("Rows", body).strip()};
 
-{numbers_use(body)}use crate::plain::Plain;
+{numbers_use(body)}use crate::structs::Struct;
 use bitflags::Flags;
 {source_use(body)}""" + body

@@ -1,4 +1,4 @@
-"""The specs of csicodec_plain that have a line for each kind: which struct an action is, which actions are in range, and which are by their
+"""The specs of csicodec_structs that have a line for each kind: which struct an action is, which actions are in range, and which are by their
 name. See kinds."""
 import re
 
@@ -16,11 +16,11 @@ def spec_use(crate, file, text):
 def own_use(file, text):
     """The same of the files that are written here."""
     names = {
-        "Rows": ["plain_of", "params_of"] + [f"{low(group)}_{what}" for group in IN_TURN for what in ("plain", "params")],
+        "Rows": ["struct_of", "params_of"] + [f"{low(group)}_{what}" for group in IN_TURN for what in ("struct", "params")],
         "Ranges": ["InRange"] + [f"{group}InRange" for group in IN_TURN],
         "Named": ["IsNamed"] + [f"IsNamed{group}" for group in IN_TURN],
     }[file]
-    return f"use Rattle.csicodec_plain.specs.{file}.{{{used(names, text)}}}\n"
+    return f"use Rattle.csicodec_structs.specs.{file}.{{{used(names, text)}}}\n"
 
 
 def type_use(group, text):
@@ -90,10 +90,10 @@ def specs():
     body = ""
     for group in BY_NUMBER:
         place = "ℕ → " if has_tokens(group) else ""
-        body += f"\nabbrev pub {low(group)}_plain : {place}{type_of(group)} → Plain\n"
+        body += f"\nabbrev pub {low(group)}_struct : {place}{type_of(group)} → Struct\n"
         for kind in of(group):
             left, right = spec_row(*kind)
-            body += f"{low(group)}_plain {left} = {right}\n"
+            body += f"{low(group)}_struct {left} = {right}\n"
     for group in BY_NUMBER:
         if has_tokens(group):
             body += f"\n-- the tokens of an action: of a terminal's extensions, and the values of graphics\nabbrev pub {low(group)}_params : {type_of(group)} → List Param\n"
@@ -106,21 +106,21 @@ def specs():
 params_of (action.Unspecified params flag final) = map param_of params
 
 -- an action whose tokens stand from this place on
-abbrev pub plain_of : ℕ → Action → Plain
+abbrev pub struct_of : ℕ → Action → Struct
 """
     for group in IN_TURN:
         x = group[0].lower()
-        body += f"plain_of place (action.{group} {x}) = {low(group)}_plain {'place ' if has_tokens(group) else ''}{x}\n"
-    body += f"""plain_of place (action.SelectCharacterPath path effect) = row {PATH} (pos (path_number path)) effect
-plain_of place (action.Unspecified params flag final) = unknown_row final place (length params)
+        body += f"struct_of place (action.{group} {x}) = {low(group)}_struct {'place ' if has_tokens(group) else ''}{x}\n"
+    body += f"""struct_of place (action.SelectCharacterPath path effect) = row {PATH} (pos (path_number path)) effect
+struct_of place (action.Unspecified params flag final) = unknown_row final place (length params)
 """
     return f"""-- The struct of each action: a row for each kind. Written by tools/kinds.
 use Rattle.std.specs.Prelude.{{ℕ, List, [], map, length, pos, Some}}
 {spec_use("csicodec_names", "EnumNumbers", body)}{spec_use("csicodec_names", "FlagBits", body)}{type_uses(body)}\
-{spec_use("csicodec_actions", "Graphics", body)}{spec_use("csicodec_actions", "Kinds", body)}{spec_use("csicodec_actions", "Modes", body)}\
-use Rattle.csicodec_plain.specs.declared.plain.Param.{{Param}}
-use Rattle.csicodec_plain.specs.declared.plain.Plain.{{Plain}}
-{spec_use("csicodec_plain", "Plain", body)}""" + body
+{spec_use("csicodec_actions", "XtSmGraphics", body)}{spec_use("csicodec_actions", "Kinds", body)}{spec_use("csicodec_actions", "Modes", body)}\
+use Rattle.csicodec_structs.specs.declared.structs.Param.{{Param}}
+use Rattle.csicodec_structs.specs.declared.structs.Struct.{{Struct}}
+{spec_use("csicodec_structs", "Structs", body)}""" + body
 
 
 # ---- what is in range
@@ -166,7 +166,7 @@ use Rattle.std.specs.Char.{{IsScalar}}
 use Rattle.std.specs.List.{{All}}
 {spec_use("csicodec_names", "FlagBits", body)}{type_uses(body)}{spec_use("csicodec_actions", "Kinds", body)}{spec_use("csicodec_actions", "Modes", body)}\
 use Rattle.csicodec_actions.specs.Ranges as typed
-{spec_use("csicodec_plain", "Values", body)}""" + body
+{spec_use("csicodec_structs", "Values", body)}""" + body
 
 
 # ---- what is by its name
@@ -202,4 +202,4 @@ IsNamed other = Unit {0}
 -- where they have one, and the flag of an unknown action isn't set. Any other action has no like. Written by tools/kinds.
 use Rattle.std.specs.Prelude.{{◌≡◌, false}}
 use Rattle.std.specs.List.{{All}}
-{type_uses(body)}{spec_use("csicodec_plain", "Values", body)}""" + body
+{type_uses(body)}{spec_use("csicodec_structs", "Values", body)}""" + body

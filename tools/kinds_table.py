@@ -154,21 +154,21 @@ GROUPS = [
 ]
 PATH = 801
 # The files that its types are in, where they are more than the one that declares its own.
-FILES_OF = {"Device": ["device", "graphics"]}
+FILES_OF = {"Device": ["device", "xtsmgraphics"]}
 # Enumerations of these files and of those of the names that don't cross.
 APART = {"AnsiColor", "Change", "Switch"}
 
 # What stands as a number, but not as its own `to_i64` and `from_i64` say: how the specs and the source give it, and how the
 # source reads it again.
 NUMBERS = {
-    "Intensity": ("intensity_number", "intensity_number(*value)", "intensity(plain.first)?"),
-    "Underline": ("underline_number", "underline_number(*value)", "underline(plain.first)?"),
-    "Blink": ("blink_number", "blink_number(*value)", "blink(plain.first)?"),
-    "VerticalAlign": ("align_number", "align_number(*value)", "align(plain.first)?"),
-    "Font": ("font_number", "font_number(*value)", "font(plain)?"),
-    "CursorTabulationControl": ("tabulation_control_number", "value.to_i64()", "CursorTabulationControl::from_i64(plain.first)?"),
-    "DecPrivateMode": ("dec_number", "i64::from(value.number())", "private_mode(plain)?"),
-    "TerminalMode": ("terminal_number", "i64::from(value.number())", "terminal_mode(plain)?"),
+    "Intensity": ("intensity_number", "intensity_number(*value)", "intensity(given.first)?"),
+    "Underline": ("underline_number", "underline_number(*value)", "underline(given.first)?"),
+    "Blink": ("blink_number", "blink_number(*value)", "blink(given.first)?"),
+    "VerticalAlign": ("align_number", "align_number(*value)", "align(given.first)?"),
+    "Font": ("font_number", "font_number(*value)", "font(given)?"),
+    "CursorTabulationControl": ("tabulation_control_number", "value.to_i64()", "CursorTabulationControl::from_i64(given.first)?"),
+    "DecPrivateMode": ("dec_number", "i64::from(value.number())", "private_mode(given)?"),
+    "TerminalMode": ("terminal_number", "i64::from(value.number())", "terminal_mode(given)?"),
 }
 
 # What the numbers are of enumerations that are declared without them.

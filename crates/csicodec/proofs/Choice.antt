@@ -14,7 +14,7 @@ use Rattle.csicodec_actions.specs.Rows.{Slot, Byte, Number, One, Before, has_sha
 use Rattle.csicodec_actions.specs.Table.Cursor.{cursor_rows, as_cursor}
 use Rattle.csicodec_actions.specs.Table.Device.{device_rows, as_device}
 use Rattle.csicodec_actions.specs.Table.Edit.{edit_rows, as_edit}
-use Rattle.csicodec_actions.specs.Table.Graphics.{graphics_fields, graphics_rows, as_graphics}
+use Rattle.csicodec_actions.specs.Table.XtSmGraphics.{graphics_fields, graphics_rows, as_graphics}
 use Rattle.csicodec_actions.specs.Table.Keyboard.{keyboard_rows, as_keyboard}
 use Rattle.csicodec_actions.specs.Table.Mode.{mode_rows, as_mode}
 use Rattle.csicodec_actions.specs.Table.Mouse.{mouse_rows, as_mouse}

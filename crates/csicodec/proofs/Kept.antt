@@ -29,11 +29,11 @@ use Rattle.csicodec_actions.specs.Mouse.{pressed, released, is_release}
 use Rattle.csicodec_actions.specs.Kinds.{IsReport, Good, IsOneBased, Any, Dec, GraphicsItem, Terminal, read}
 use Rattle.csicodec_actions.proofs.MouseCodes.{release-pressed, none-released}
 use Rattle.csicodec_parser.specs.Canonical.{Canonical}
-use Rattle.csicodec_actions.specs.declared.graphics.XtSmGraphicsItem.{XtSmGraphicsItem}
+use Rattle.csicodec_actions.specs.declared.xtsmgraphics.XtSmGraphicsItem.{XtSmGraphicsItem}
 use Rattle.csicodec_actions.specs.Modes.{changed, switched}
 use Rattle.csicodec_actions.specs.Ranges.{InRange}
 use Rattle.csicodec_actions.specs.FieldRows.{FieldRow, Over}
-use Rattle.csicodec_actions.specs.Table.Graphics.{graphics_fields}
+use Rattle.csicodec_actions.specs.Table.XtSmGraphics.{graphics_fields}
 use Rattle.csicodec_actions.specs.Table.Window.{window_fields}
 use Rattle.csicodec_actions.specs.Table.{table, field_table, whole}
 use Rattle.csicodec_actions.specs.declared.device.DeviceAttribute.{DeviceAttribute}

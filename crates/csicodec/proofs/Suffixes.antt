@@ -81,7 +81,7 @@ whole-ends : (list : List CsiParam) (flag : Bool) (final : ℕ) (a : Action) →
 whole-ends list flag final a w = go a (whole-keeps (λ t. Unit {0}) (λ k v. Unit {0}) IsKnown (λ k z v h e. tt) rows-known field-rows-known list final a (no-tokens list) w)
   where
     go : (x : Action) → IsKnown x → EndsUnknown false list flag final (x ∷ [])
-    go (Unspecified params own control) known = absurd known
+    go (Unspecified params own final) known = absurd known
     go x known = tt
 
 -- ---- a list that is cut

@@ -30,7 +30,7 @@ pub use Rattle.csicodec_actions.specs.Mouse
 pub use Rattle.csicodec_actions.specs.Ranges
 pub use Rattle.csicodec_actions.specs.Devices
 pub use Rattle.csicodec_actions.specs.FieldRows
-pub use Rattle.csicodec_actions.specs.Graphics
+pub use Rattle.csicodec_actions.specs.XtSmGraphics
 pub use Rattle.csicodec_actions.specs.Rows
 pub use Rattle.csicodec_actions.specs.Special
 pub use Rattle.csicodec_actions.specs.Table

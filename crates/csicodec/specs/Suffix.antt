@@ -27,8 +27,8 @@ changes_private action = false
 -- `?` is put ahead.
 abbrev pub EndsUnknown : Bool → List CsiParam → Bool → ℕ → List Action → Type 0
 EndsUnknown behind list flag final [] = Unit {0}
-EndsUnknown behind list flag final (Unspecified params own control ∷ more) =
-    (more ≡ []) × (own ≡ flag) × (control ≡ final) × HoldsEnd behind list params
+EndsUnknown behind list flag final (Unspecified params own last ∷ more) =
+    (more ≡ []) × (own ≡ flag) × (last ≡ final) × HoldsEnd behind list params
 EndsUnknown behind list flag final (action ∷ more) = EndsUnknown (changes_private action) list flag final more
 
 abbrev pub SuffixLaw : List CsiParam → Bool → ℕ → Type 0

@@ -14,7 +14,7 @@ use Rattle.csicodec_actions.specs.Table.{whole}
 use Rattle.csicodec_actions.specs.Table.Cursor.{as_cursor}
 use Rattle.csicodec_actions.specs.Table.Device.{as_device}
 use Rattle.csicodec_actions.specs.Table.Edit.{as_edit}
-use Rattle.csicodec_actions.specs.Table.Graphics.{as_graphics}
+use Rattle.csicodec_actions.specs.Table.XtSmGraphics.{as_graphics}
 use Rattle.csicodec_actions.specs.Table.Keyboard.{as_keyboard, keyboards}
 use Rattle.csicodec_actions.specs.Table.Mode.{as_mode, queries}
 use Rattle.csicodec_actions.specs.Table.Mouse.{as_mouse}

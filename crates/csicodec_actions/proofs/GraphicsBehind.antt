@@ -5,7 +5,7 @@ use Rattle.std.specs.Prelude.{ℤ, option_and_then}
 use Rattle.csicodec_tokens.specs.declared.param.CsiParam.{CsiParam}
 use Rattle.csicodec_tokens.specs.Fields.{fields_of}
 use Rattle.csicodec_actions.specs.FieldRows.{given}
-use Rattle.csicodec_actions.specs.Table.Graphics.{graphics_behind, graphics_rows}
+use Rattle.csicodec_actions.specs.Table.XtSmGraphics.{graphics_behind, graphics_rows}
 
 -- the tokens behind the first
 behind-first : (list : List CsiParam) → take (length list - 1) (drop 1 list) ≡ drop 1 list

@@ -29,9 +29,9 @@ use Rattle.csicodec_actions.specs.declared.path.CharacterPath.TheVariants as pat
 use Rattle.csicodec_actions.specs.declared.keyboard.KittyKeyboardMode.TheVariants as way
 use Rattle.csicodec_names.specs.declared.flags.KittyKeyboardFlags.{KittyKeyboardFlags}
 use Rattle.csicodec_names.specs.FlagBits.{kitty_bits}
-use Rattle.csicodec_actions.specs.declared.graphics.XtSmGraphicsItem.{XtSmGraphicsItem}
-use Rattle.csicodec_actions.specs.declared.graphics.XtSmGraphicsItem.TheVariants as item
-use Rattle.csicodec_actions.specs.Graphics.{item_number, item_of}
+use Rattle.csicodec_actions.specs.declared.xtsmgraphics.XtSmGraphicsItem.{XtSmGraphicsItem}
+use Rattle.csicodec_actions.specs.declared.xtsmgraphics.XtSmGraphicsItem.TheVariants as item
+use Rattle.csicodec_actions.specs.XtSmGraphics.{item_number, item_of}
 use Rattle.csicodec_names.proofs.Coded.{is_number-pos, listed-number, none-found, Coded, found-of, small, attributes, styles, controls, clears, lines, displays, decs, terminals}
 use Rattle.csicodec_actions.proofs.Found.{map-some}
 use Rattle.csicodec_actions.proofs.MouseCodes.{report-good, report-read, report-small, pressed-found, released-found}

@@ -22,7 +22,7 @@ pub data Action : Type 0 where
   Window : window_type.Window → Action
   Keyboard : keyboard_type.Keyboard → Action
   SelectCharacterPath : CharacterPath → ℤ → Action
-  Unspecified : (params : List CsiParam) (parameters_truncated : Bool) (control : ℕ) → Action
+  Unspecified : (params : List CsiParam) (parameters_truncated : Bool) (final : ℕ) → Action
 
 -- whether the value of an action holds memory
 abbrev pub takes_memory : Action → Bool

@@ -12,8 +12,8 @@ use Rattle.csicodec_actions.specs.declared.device.DeviceAttribute.{DeviceAttribu
 use Rattle.csicodec_actions.specs.declared.device.DeviceAttribute.TheVariants.{Code, Unspecified}
 use Rattle.csicodec_actions.specs.declared.device.DeviceAttributes as attributes_type
 use Rattle.csicodec_actions.specs.declared.device.DeviceAttributes.TheVariants as attributes
-use Rattle.csicodec_actions.specs.declared.graphics.XtSmGraphics as graphics_type
-use Rattle.csicodec_actions.specs.declared.graphics.XtSmGraphicsItem.{XtSmGraphicsItem}
+use Rattle.csicodec_actions.specs.declared.xtsmgraphics.XtSmGraphics as graphics_type
+use Rattle.csicodec_actions.specs.declared.xtsmgraphics.XtSmGraphicsItem.{XtSmGraphicsItem}
 
 -- ---- one constructor for each variant, with lists in place of vectors
 

@@ -22,15 +22,15 @@ use Rattle.csicodec_actions.specs.declared.path.CharacterPath.{CharacterPath}
 use Rattle.csicodec_actions.specs.declared.keyboard.KittyKeyboardMode.{KittyKeyboardMode}
 use Rattle.csicodec_names.specs.declared.flags.KittyKeyboardFlags.{KittyKeyboardFlags}
 use Rattle.csicodec_names.specs.FlagBits.{kitty_bits, modifier_bits}
-use Rattle.csicodec_actions.specs.declared.graphics.XtSmGraphicsItem.{XtSmGraphicsItem}
-use Rattle.csicodec_actions.specs.Graphics.{item_number, item_of, IsUnnamedItem}
+use Rattle.csicodec_actions.specs.declared.xtsmgraphics.XtSmGraphicsItem.{XtSmGraphicsItem}
+use Rattle.csicodec_actions.specs.XtSmGraphics.{item_number, item_of, IsUnnamedItem}
 use Rattle.csicodec_actions.specs.Modes.{dec_number, terminal_number, resource_number, resources}
 use Rattle.csicodec_actions.specs.Mouse.{pressed, released, reported, report_code, button_code}
 use Rattle.csicodec_actions.specs.declared.mouse.MouseButton.{MouseButton}
 use Rattle.csicodec_names.specs.declared.flags.Modifiers.{Modifiers}
 use Rattle.csicodec_names.specs.Numbered.{with_number}
 use Rattle.csicodec_tokens.specs.Digits.{largest}
-use Rattle.csicodec_actions.specs.declared.graphics.XtSmGraphicsItem.TheVariants as item
+use Rattle.csicodec_actions.specs.declared.xtsmgraphics.XtSmGraphicsItem.TheVariants as item
 
 -- ---- the numbers of the keyboard's ways, and of paths of characters
 

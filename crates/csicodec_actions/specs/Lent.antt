@@ -3,7 +3,7 @@ use Rattle.std.specs.Prelude.{ℤ, List, [], ◌∷◌}
 use Rattle.std.specs.List.{flat_map}
 use Rattle.csicodec_tokens.specs.declared.param.CsiParam.{CsiParam}
 use Rattle.csicodec_tokens.specs.declared.param.CsiParam.TheVariants.{Integer, P}
-use Rattle.csicodec_actions.specs.declared.graphics.GraphicsRef.{GraphicsRef}
+use Rattle.csicodec_actions.specs.declared.xtsmgraphics.GraphicsRef.{GraphicsRef}
 use Rattle.csicodec_actions.specs.Actions.{Action, Device}
 use Rattle.csicodec_actions.specs.Devices.{XtSmGraphics}
 

@@ -9,6 +9,6 @@ pub mod Special
 pub mod Table
 pub mod Written
 pub mod Devices
-pub mod Graphics
+pub mod XtSmGraphics
 pub mod Lent
 pub mod Private

@@ -2,7 +2,7 @@
 pub mod Cursor
 pub mod Device
 pub mod Edit
-pub mod Graphics
+pub mod XtSmGraphics
 pub mod Keyboard
 pub mod Mode
 pub mod Mouse
@@ -18,7 +18,7 @@ use Rattle.csicodec_actions.specs.Rows.{Row, gives, Before, rows_before}
 use Rattle.csicodec_actions.specs.Table.Cursor.{cursor_rows, as_cursor, written_cursor}
 use Rattle.csicodec_actions.specs.Table.Device.{device_rows, as_device, written_device}
 use Rattle.csicodec_actions.specs.Table.Edit.{edit_rows, as_edit, written_edit}
-use Rattle.csicodec_actions.specs.Table.Graphics.{graphics_fields, as_graphics}
+use Rattle.csicodec_actions.specs.Table.XtSmGraphics.{graphics_fields, as_graphics}
 use Rattle.csicodec_actions.specs.Table.Keyboard.{keyboard_rows, as_keyboard, written_keyboard}
 use Rattle.csicodec_actions.specs.Table.Mode.{mode_rows, as_mode, written_mode}
 use Rattle.csicodec_actions.specs.Table.Mouse.{mouse_rows, as_mouse, written_mouse}
@@ -34,8 +34,8 @@ use Rattle.csicodec_actions.specs.Actions as action
 
 -- The action of a list before a final character, subject by subject, where it is made without memory. The order of the subjects doesn't
 -- matter, here and below: no list is read by two (law `rows` of csicodec_lists).
-unfoldable pub plain : List CsiParam → ℕ → Option Action
-plain list final =
+unfoldable pub unboxed : List CsiParam → ℕ → Option Action
+unboxed list final =
     option_or (as_cursor list final)
     (option_or (as_edit list final) (option_or (as_mode list final) (option_or (as_mouse list final) (option_or (as_keyboard list final) (as_path list final)))))
 
@@ -45,11 +45,11 @@ boxed list final = option_or (as_device list final) (option_or (as_window list f
 
 -- the action of a list before a final character: what a row of any subject gives
 unfoldable pub whole : List CsiParam → ℕ → Option Action
-whole list final = option_or (plain list final) (boxed list final)
+whole list final = option_or (unboxed list final) (boxed list final)
 
 -- what a proof unfolds to compute which row of any subject reads a list
 unfoldable pub all_subjects : ⊤
-unfolding whole plain boxed as_cursor as_edit as_mode as_mouse as_keyboard as_path as_device as_window as_graphics
+unfolding whole unboxed boxed as_cursor as_edit as_mode as_mouse as_keyboard as_path as_device as_window as_graphics
 all_subjects = tt
 
 abbrev pub Whole : List CsiParam → ℕ → Action → Type 0

@@ -70,8 +70,8 @@ two second a b = The Count a ∷ put ";" ∷ The second b ∷ []
 abbrev pub any_number : ℤ → Item
 any_number z = The Any z
 
-abbrev pub plain : ℕ → Item
-plain n = any_number (pos n)
+abbrev pub fixed : ℕ → Item
+fixed n = any_number (pos n)
 
 -- each of these, a `;` before it
 abbrev pub listed : {A : Type 0} → (A → Item) → List A → List Item

@@ -5,19 +5,19 @@ use Rattle.std.specs.List.{concat}
 use Rattle.std.proofs.Math.Seq.{take-append_seam}
 use Rattle.csicodec_spans.specs.declared.table.Mode.{Mode}
 use Rattle.csicodec_spans.specs.declared.table.Mode.TheVariants as modes
-use Rattle.csicodec_safe.specs.declared.colors.Depth.{Depth}
-use Rattle.csicodec_safe.specs.declared.colors.Depth.TheVariants as depths
-use Rattle.csicodec_safe.specs.declared.pause.Pause.{Pause}
-use Rattle.csicodec_safe.specs.Cleaned.{RuleOf, Strips, drops, longest}
-use Rattle.csicodec_safe.specs.Steps.{AreStepped, Steps, bare, beginning, ending}
-use Rattle.csicodec_safe.specs.Styled.{Keeping, StylesIn, resumed, stays, without_links}
-use Rattle.csicodec_safe.proofs.Paused.{cleaned_steps, stripped_steps}
+use Rattle.csicodec_clean.specs.declared.colors.Depth.{Depth}
+use Rattle.csicodec_clean.specs.declared.colors.Depth.TheVariants as depths
+use Rattle.csicodec_clean.specs.declared.pause.Pause.{Pause}
+use Rattle.csicodec_clean.specs.Cleaned.{RuleOf, Strips, drops, longest}
+use Rattle.csicodec_clean.specs.Steps.{AreStepped, Steps, bare, beginning, ending}
+use Rattle.csicodec_clean.specs.Styled.{Keeping, StylesIn, resumed, keeps, without_links}
+use Rattle.csicodec_clean.proofs.Paused.{cleaned_steps, stripped_steps}
 use Rattle.csicodec_c.specs.declared.live.Cleaned.{Cleaned}
 use Rattle.csicodec_c.specs.declared.live.Cleaning.{Cleaning}
 use Rattle.csicodec_c.specs.declared.strip.Stripped.{Stripped}
 use Rattle.csicodec_c.specs.Filter.{mode_number}
 use Rattle.csicodec_c.specs.Live.{AreCalls, IsCleanStep, IsEnd, IsStep, IsStripStep, numbers, zeros}
-use Rattle.csicodec_plain.specs.Room.{Fills}
+use Rattle.csicodec_structs.specs.Room.{Fills}
 use Rattle.csicodec_c.specs.Strip.{bit, depth_number}
 
 -- ---- numbers are of one state
@@ -100,13 +100,13 @@ stripped_calls chunks all left old new last answer calls end room =
     let none : q.styled ≡ false = sym (bit_back q.styled) ∙ ap (λ (n : ℕ). n == 1) (sym (ap (λ (s : Cleaning). s.styled) is) ∙ none_styled chunks zeros [] all last left calls) in
     subst (λ (t : List ℕ). Strips longest (concat chunks) (all ++ t)) (sym (ended last left old new answer q is end room)) (stripped_steps chunks all left q stepped none)
 
-in_depth : (d : Depth) (s : Cleaning) (b o n : List ℕ) (a : Cleaned) → IsCleanStep (depth_number d) s b o n a → IsStep (stays (λ (k : Keeping). k)) (resumed d) s b o n a
+in_depth : (d : Depth) (s : Cleaning) (b o n : List ℕ) (a : Cleaned) → IsCleanStep (depth_number d) s b o n a → IsStep (keeps (λ (k : Keeping). k)) (resumed d) s b o n a
 in_depth d s b o n a (other, same, step) =
     let one : other ≡ d = sym (depth_back other) ∙ ap depth_of (sym same) ∙ depth_back d in
-    subst (λ (x : Depth). IsStep (stays (λ (k : Keeping). k)) (resumed x) s b o n a) one step
+    subst (λ (x : Depth). IsStep (keeps (λ (k : Keeping). k)) (resumed x) s b o n a) one step
 
 pub cleaned_calls : (d : Depth) (chunks : List (List ℕ)) (all left old new : List ℕ) (last : Cleaning) (answer : Stripped) → AreCalls (IsCleanStep (depth_number d)) zeros [] chunks all last left → IsEnd last left old new answer
     → answer.needed ≤ length old → StylesIn (without_links d) (concat chunks) (all ++ take answer.needed new)
 cleaned_calls d chunks all left old new last answer calls end room =
-    let (q, is, stepped) = calls_stepped (stays (λ (k : Keeping). k)) (resumed d) (IsCleanStep (depth_number d)) (in_depth d) chunks zeros beginning [] all last left refl calls in
+    let (q, is, stepped) = calls_stepped (keeps (λ (k : Keeping). k)) (resumed d) (IsCleanStep (depth_number d)) (in_depth d) chunks zeros beginning [] all last left refl calls in
     subst (λ (t : List ℕ). StylesIn (without_links d) (concat chunks) (all ++ t)) (sym (ended last left old new answer q is end room)) (cleaned_steps d chunks all left q stepped)

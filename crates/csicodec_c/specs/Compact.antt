@@ -2,11 +2,11 @@
 use Rattle.std.specs.Prelude.{ℕ, List}
 use Rattle.csicodec_actions.specs.Actions.{Action}
 use Rattle.csicodec_compact.specs.Compacts.{Compacts, Encodes}
-use Rattle.csicodec_plain.specs.declared.encode.Encoded.{Encoded}
+use Rattle.csicodec_structs.specs.declared.encode.Encoded.{Encoded}
 use Rattle.csicodec_c.specs.declared.filter.Filtered.{Filtered}
-use Rattle.csicodec_plain.specs.declared.plain.Param.{Param}
-use Rattle.csicodec_plain.specs.declared.plain.Plain.{Plain}
-use Rattle.csicodec_plain.specs.Encode.{AllStand, IsPut}
+use Rattle.csicodec_structs.specs.declared.structs.Param.{Param}
+use Rattle.csicodec_structs.specs.declared.structs.Struct.{Struct}
+use Rattle.csicodec_structs.specs.Encode.{AllStand, IsPut}
 use Rattle.csicodec_c.specs.Filter.{IsStep}
 
 -- a step of a filter that writes spellings that are read alike, and no longer
@@ -14,9 +14,9 @@ abbrev pub IsCompacted : ℕ → ℕ → List ℕ → List ℕ → List ℕ → 
 IsCompacted number limit bytes old new answer = IsStep Compacts number limit bytes old new answer
 
 -- a text of these actions is put
-pub record IsCompact (plains : List Plain) (params : List Param) (old new : List ℕ) (answer : Encoded) : Type 0 where
+pub record IsCompact (structs : List Struct) (params : List Param) (old new : List ℕ) (answer : Encoded) : Type 0 where
   pub actions : List Action
-  pub stand : AllStand plains params actions
+  pub stand : AllStand structs params actions
   pub text : List ℕ
   pub encodes : Encodes actions text
   pub put : IsPut old new text answer

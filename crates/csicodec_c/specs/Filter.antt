@@ -5,10 +5,10 @@ use Rattle.csicodec_spans.specs.declared.table.Mode.TheVariants as modes
 use Rattle.csicodec_filter.specs.Filter.{Passes}
 use Rattle.csicodec_streams.specs.Decoding.{NormalisesTo}
 use Rattle.csicodec_c.specs.declared.filter.Filtered.{Filtered}
-use Rattle.csicodec_plain.specs.Room.{Fills}
-use Rattle.csicodec_plain.specs.Status.{status_number}
-use Rattle.csicodec_plain.specs.declared.status.Status.{Status}
-use Rattle.csicodec_plain.specs.declared.status.Status.TheVariants as status
+use Rattle.csicodec_structs.specs.Room.{Fills}
+use Rattle.csicodec_structs.specs.Status.{status_number}
+use Rattle.csicodec_structs.specs.declared.status.Status.{Status}
+use Rattle.csicodec_structs.specs.declared.status.Status.TheVariants as status
 
 abbrev pub mode_number : Mode → ℕ
 mode_number modes.Text = 0

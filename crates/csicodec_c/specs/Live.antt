@@ -1,18 +1,18 @@
 -- What the calls that clean untrusted text step by step answer a C program.
 use Rattle.std.specs.Prelude.{ℕ, ◌≡◌, ◌≤◌, ◌⊎◌, Bool, List, [], ◌∷◌, ◌++◌, length, take, drop}
-use Rattle.csicodec_safe.specs.declared.colors.Depth.{Depth}
-use Rattle.csicodec_safe.specs.declared.pause.Pause.{Pause}
-use Rattle.csicodec_safe.specs.Cleaned.{RuleOf, drops}
-use Rattle.csicodec_safe.specs.Steps.{Steps, bare, ending}
-use Rattle.csicodec_safe.specs.Styled.{Keeping, resumed, stays}
+use Rattle.csicodec_clean.specs.declared.colors.Depth.{Depth}
+use Rattle.csicodec_clean.specs.declared.pause.Pause.{Pause}
+use Rattle.csicodec_clean.specs.Cleaned.{RuleOf, drops}
+use Rattle.csicodec_clean.specs.Steps.{Steps, bare, ending}
+use Rattle.csicodec_clean.specs.Styled.{Keeping, resumed, keeps}
 use Rattle.csicodec_c.specs.declared.live.Cleaned.{Cleaned}
 use Rattle.csicodec_c.specs.declared.live.Cleaning.{Cleaning}
 use Rattle.csicodec_c.specs.declared.strip.Stripped.{Stripped}
 use Rattle.csicodec_c.specs.Filter.{mode_number}
-use Rattle.csicodec_plain.specs.Room.{Fills}
-use Rattle.csicodec_plain.specs.Status.{status_number}
-use Rattle.csicodec_plain.specs.declared.status.Status.{Status}
-use Rattle.csicodec_plain.specs.declared.status.Status.TheVariants as status
+use Rattle.csicodec_structs.specs.Room.{Fills}
+use Rattle.csicodec_structs.specs.Status.{status_number}
+use Rattle.csicodec_structs.specs.declared.status.Status.{Status}
+use Rattle.csicodec_structs.specs.declared.status.Status.TheVariants as status
 use Rattle.csicodec_c.specs.Strip.{bit, depth_number, stripped}
 use Rattle.csicodec_c.specs.Strip.{refused as nothing}
 
@@ -59,7 +59,7 @@ IsStripStep state bytes old new answer = IsStep drops (λ _. bare) state bytes o
 -- a step of clean, with the colours that stay
 abbrev pub IsCleanStep : ℕ → Cleaning → List ℕ → List ℕ → List ℕ → Cleaned → Type 0
 IsCleanStep number state bytes old new answer =
-    (d : Depth) × (number ≡ depth_number d) × IsStep (stays (λ (k : Keeping). k)) (resumed d) state bytes old new answer
+    (d : Depth) × (number ≡ depth_number d) × IsStep (keeps (λ (k : Keeping). k)) (resumed d) state bytes old new answer
 
 -- what ends a stream behind its steps, which is put where it fits
 pub record IsEnd (state : Cleaning) (bytes old new : List ℕ) (answer : Stripped) : Type 0 where

@@ -7,9 +7,9 @@ use Rattle.csicodec_spans.specs.Parts.{Cuts, IsMaximal, IsUnsure}
 use Rattle.csicodec_names.specs.declared.esc.EscCode.{EscCode}
 use Rattle.csicodec_names.specs.Esc.{packed}
 use Rattle.csicodec_names.specs.EscCodes.{esc_number}
-use Rattle.csicodec_plain.specs.Status.{status_number}
-use Rattle.csicodec_plain.specs.declared.status.Status.{Status}
-use Rattle.csicodec_plain.specs.declared.status.Status.TheVariants as status
+use Rattle.csicodec_structs.specs.Status.{status_number}
+use Rattle.csicodec_structs.specs.declared.status.Status.{Status}
+use Rattle.csicodec_structs.specs.declared.status.Status.TheVariants as status
 use Rattle.csicodec_c.specs.declared.span.Spanned.{Spanned}
 use Rattle.csicodec_c.specs.Filter.{IsBadState, mode_number}
 

@@ -3,13 +3,13 @@ ghost use Rattle.std.specs.Prelude.{◌≡◌, ◌⊎◌, List, IfOk, IfErr};
 ghost use Rattle.csicodec_actions.specs.Actions.{Action};
 ghost use Rattle.csicodec_compact.specs.Compacts.{Encodes};
 ghost use Rattle.csicodec_c.specs.Compact.{IsCompact, IsCompacted};
-ghost use Rattle.csicodec_plain.specs.Encode.{AllStand, HasNone};
-ghost use Rattle.csicodec_plain.specs.Encode.{IsRefused as RefusesActions};
+ghost use Rattle.csicodec_structs.specs.Encode.{AllStand, HasNone};
+ghost use Rattle.csicodec_structs.specs.Encode.{IsRefused as RefusesActions};
 ghost use Rattle.csicodec_c.specs.Filter.{IsRefused};
 
 use crate::filter::{Filtered, step};
 use csicodec_compact::{Compact, encode_compact};
-use csicodec_plain::{Encoded, Param, Plain, Status, actions_of, put_text, refused};
+use csicodec_structs::{Encoded, Param, Status, Struct, actions_of, put_text, refused};
 use std::alloc::{AllocError, Global};
 
 /// Puts what the spans of the bytes that are sure become, where it fits: each control sequence in the shortest of its spellings that
@@ -53,16 +53,16 @@ pub extern "C" fn csicodec_compact_semicolons(
 /// A short text of the actions that the structs stand for, or which of these stands for none.
 fn text_of(
     alloc: Global,
-    plains: &[Plain],
+    structs: &[Struct],
     params: &[Param],
 ) -> Result<Result<Vec<u8>, usize>, AllocError>
     ensures text { IfOk result (λ r.
         IfOk r (λ text.
-        (actions : List Action) × AllStand plains.now params.now actions
+        (actions : List Action) × AllStand structs.now params.now actions
         × Encodes actions text.items)) }
-    ensures none { IfOk result (λ r. IfErr r (λ at. HasNone plains.now params.now at)) }
+    ensures none { IfOk result (λ r. IfErr r (λ at. HasNone structs.now params.now at)) }
 {
-    match actions_of(alloc, plains, params)? {
+    match actions_of(alloc, structs, params)? {
         Ok(actions) => Ok(Ok(encode_compact(alloc, actions.as_slice())?)),
         Err(at) => Ok(Err(at)),
     }
@@ -72,7 +72,7 @@ fn text_of(
 #[unsafe(no_mangle)]
 pub extern "C" fn csicodec_encode_compact(
     alloc: Global,
-    actions: &[Plain],
+    actions: &[Struct],
     params: &[Param],
     out: &mut [u8],
 ) -> Encoded

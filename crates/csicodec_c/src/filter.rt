@@ -5,8 +5,8 @@ ghost use Rattle.csicodec_filter.specs.Filter.{Passes};
 ghost use Rattle.csicodec_c.specs.Filter.{IsDone, IsRefused, IsStep, mode_number, refused};
 
 use csicodec::{NormalForm, Rewrite, append_spans};
-use csicodec_plain::{Status, fill};
 use csicodec_spans::Mode;
+use csicodec_structs::{Status, fill};
 use std::alloc::{AllocError, Global};
 
 /// How a step of a filter ended.

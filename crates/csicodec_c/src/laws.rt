@@ -1,9 +1,9 @@
 //! Laws of the definitions. Each is the contract of a function that does nothing.
 ghost use Rattle.std.specs.Prelude.{◌≤◌, ◌++◌, ℕ, List, [], length, take};
 ghost use Rattle.std.specs.List.{concat};
-ghost use Rattle.csicodec_safe.specs.declared.colors.Depth.{Depth};
-ghost use Rattle.csicodec_safe.specs.Cleaned.{Strips, longest};
-ghost use Rattle.csicodec_safe.specs.Styled.{StylesIn, without_links};
+ghost use Rattle.csicodec_clean.specs.declared.colors.Depth.{Depth};
+ghost use Rattle.csicodec_clean.specs.Cleaned.{Strips, longest};
+ghost use Rattle.csicodec_clean.specs.Styled.{StylesIn, without_links};
 ghost use Rattle.csicodec_c.specs.Live.{AreCalls, IsCleanStep, IsEnd, IsStripStep, zeros};
 ghost use Rattle.csicodec_c.specs.Strip.{depth_number};
 ghost use Rattle.csicodec_c.specs.declared.live.Cleaning.{Cleaning};

@@ -1,14 +1,14 @@
 //! Untrusted text as it comes, by a state that the caller keeps.
 ghost use Rattle.std.specs.Prelude.{◌≡◌, ◌≤◌, ◌⊎◌, Bool, length, IfSome, IfNone};
-ghost use Rattle.csicodec_safe.specs.declared.pause.Pause.{Pause};
+ghost use Rattle.csicodec_clean.specs.declared.pause.Pause.{Pause};
 ghost use Rattle.csicodec_c.specs.Live.{IsCleanRefused, IsCleanStep, IsEnd, IsEndRefused, IsState, IsStripRefused, IsStripStep, cleaned, numbers, refused};
 ghost use Rattle.csicodec_c.specs.Strip.{bit};
-ghost use Rattle.csicodec_plain.specs.Room.{Fills};
+ghost use Rattle.csicodec_structs.specs.Room.{Fills};
 
 use crate::filter::{mode_at, number_of};
 use crate::strip::{Stripped, bit_at, depth_at, put, refused as nothing};
-use csicodec_plain::{Status, fill};
-use csicodec_safe::{Pause, append_ending, clean_step, strip_step};
+use csicodec_clean::{Pause, append_ending, clean_step, strip_step};
+use csicodec_structs::{Status, fill};
 use std::alloc::Global;
 
 /// What a stream leaves open between two steps. At its beginning each number is 0.

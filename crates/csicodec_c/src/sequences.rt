@@ -1,11 +1,11 @@
-//! Sequences and their actions, which are plain structs.
+//! Sequences and their actions, which are structs.
 ghost use Rattle.std.specs.Prelude.{◌≡◌, ◌⊎◌};
-ghost use Rattle.csicodec_plain.specs.Normalise.{IsDone as IsNormalised, IsRefused as RefusesToNormalise};
-ghost use Rattle.csicodec_plain.specs.Encode.{IsDone as IsEncoded, IsJudged, IsRefused as RefusesToEncode, IsUnjudged};
-ghost use Rattle.csicodec_plain.specs.Next.{IsDone as IsLaid, IsRefused as RefusesToLay};
+ghost use Rattle.csicodec_structs.specs.Normalise.{IsDone as IsNormalised, IsRefused as RefusesToNormalise};
+ghost use Rattle.csicodec_structs.specs.Encode.{IsDone as IsEncoded, IsJudged, IsRefused as RefusesToEncode, IsUnjudged};
+ghost use Rattle.csicodec_structs.specs.Next.{IsDone as IsLaid, IsRefused as RefusesToLay};
 
-use csicodec_plain::{
-    Encoded, Front, Judged, Normalised, Param, Plain, judge, lay_front, put_normal_form, put_texts,
+use csicodec_structs::{
+    Encoded, Front, Judged, Normalised, Param, Struct, judge, lay_front, put_normal_form, put_texts,
 };
 use std::alloc::Global;
 
@@ -23,7 +23,7 @@ pub extern "C" fn csicodec_normalise(alloc: Global, bytes: &[u8], out: &mut [u8]
 pub extern "C" fn csicodec_next(
     alloc: Global,
     bytes: &[u8],
-    actions: &mut [Plain],
+    actions: &mut [Struct],
     params: &mut [Param],
 ) -> Front
     ensures { IsLaid bytes.now actions.old actions.new params.old params.new result
@@ -36,7 +36,7 @@ pub extern "C" fn csicodec_next(
 #[unsafe(no_mangle)]
 pub extern "C" fn csicodec_encode(
     alloc: Global,
-    actions: &[Plain],
+    actions: &[Struct],
     params: &[Param],
     out: &mut [u8],
 ) -> Encoded
@@ -48,8 +48,8 @@ pub extern "C" fn csicodec_encode(
 
 /// Whether the text of the action that the struct stands for is read as this one action.
 #[unsafe(no_mangle)]
-pub extern "C" fn csicodec_is_canonical(alloc: Global, plain: &Plain, params: &[Param]) -> Judged
-    ensures { IsJudged plain.now params.now result ⊎ IsUnjudged plain.now params.now result }
+pub extern "C" fn csicodec_is_canonical(alloc: Global, given: &Struct, params: &[Param]) -> Judged
+    ensures { IsJudged given.now params.now result ⊎ IsUnjudged given.now params.now result }
 {
-    judge(alloc, plain, params)
+    judge(alloc, given, params)
 }

@@ -4,8 +4,8 @@ ghost use Rattle.csicodec_c.specs.Span.{IsCode, IsDone, IsRefused, IsWaiting, ki
 
 use crate::filter::{mode_at, number_of};
 use csicodec::Esc;
-use csicodec_plain::Status;
 use csicodec_spans::{Kind, next_span};
+use csicodec_structs::Status;
 
 /// What stands at the front of a stream.
 #[repr(C)]

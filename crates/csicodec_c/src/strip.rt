@@ -1,12 +1,12 @@
 //! What is left of untrusted text.
 ghost use Rattle.std.specs.Prelude.{◌≡◌, ◌⊎◌, ◌↔◌, Bool, Some, IfSome, IfNone, length};
-ghost use Rattle.csicodec_plain.specs.Room.{Fills};
-ghost use Rattle.csicodec_safe.specs.declared.colors.Depth.{Depth};
-ghost use Rattle.csicodec_safe.specs.declared.styles.Passing.{Passing};
+ghost use Rattle.csicodec_structs.specs.Room.{Fills};
+ghost use Rattle.csicodec_clean.specs.declared.colors.Depth.{Depth};
+ghost use Rattle.csicodec_clean.specs.declared.styles.Passing.{Passing};
 ghost use Rattle.csicodec_c.specs.Strip.{IsCleaned, IsCleanedIn, IsCleanedWith, IsPassing, IsRefused, IsRefusedWith, IsStripped, bit, depth_number, refused, stripped};
 
-use csicodec_plain::{Status, fill};
-use csicodec_safe::{Depth, Passing, clean_with, strip};
+use csicodec_clean::{Depth, Passing, clean_with, strip};
+use csicodec_structs::{Status, fill};
 use std::alloc::Global;
 
 /// How much is left of a text.

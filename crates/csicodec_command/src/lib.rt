@@ -7,7 +7,9 @@ mod recording;
 mod report;
 mod run;
 
-pub use command::{Color, Command, Depth, Run, Task, USAGE, VERSION, Wanted, Wrong, command_of};
+pub use command::{
+    ColorWhen, Colors, Command, Request, Task, USAGE, VERSION, Wanted, Wrong, command_of,
+};
 pub use recording::{Recording, micros, time_of};
 pub use report::Failure;
-pub use run::{Job, asked, failed, refused, text_of, words_of, work_through};
+pub use run::{Worker, asked, failed, refused, text_of, words_of, work_through};

@@ -1,6 +1,6 @@
 //! A run of a program: its words, its inputs one after the other, and what it tells of what failed.
 
-use crate::command::{Command, HINT, Run, USAGE, VERSION, Wrong, command_of};
+use crate::command::{Command, HINT, Request, USAGE, VERSION, Wrong, command_of};
 use crate::report::Failure;
 use csicodec_streams::RunError;
 use std::alloc::Global;
@@ -12,7 +12,7 @@ use std::io::{self, BufRead, BufReader, ErrorKind, Read, Stdout, Write};
 const INPUT: &str = "-";
 
 /// What is made of one input after the other.
-pub trait Job {
+pub trait Worker {
     /// Works on this input, to its end.
     fn read<R: Read, W: Write>(
         &mut self,
@@ -80,7 +80,7 @@ fn is_cast(name: &str) -> bool {
     name.ends_with(".cast")
 }
 
-impl<'a> Run<'a> {
+impl<'a> Request<'a> {
     /// Whether something of its streams has times.
     pub fn is_timed(&self) -> bool {
         self.timing.is_some() || self.files.iter().any(|name| is_cast(name))
@@ -140,7 +140,7 @@ pub fn text_of(rt: &HostRuntime, name: &str) -> Result<String, u8> {
 }
 
 /// Works on this recording of asciinema.
-fn work_on_cast<T: Job, R: Read>(
+fn work_on_cast<T: Worker, R: Read>(
     alloc: Global,
     work: &mut T,
     input: &mut R,
@@ -153,7 +153,7 @@ fn work_on_cast<T: Job, R: Read>(
 }
 
 /// Works on the input of this name, which is read from there; the status, if it failed.
-fn work_on_input<T: Job, R: Read>(
+fn work_on_input<T: Worker, R: Read>(
     rt: &HostRuntime,
     work: &mut T,
     name: &str,
@@ -173,7 +173,7 @@ fn work_on_input<T: Job, R: Read>(
 }
 
 /// Works on the input of this name; the status, if it failed.
-fn work_on<T: Job>(
+fn work_on<T: Worker>(
     rt: &HostRuntime,
     work: &mut T,
     name: &str,
@@ -188,7 +188,7 @@ fn work_on<T: Job>(
 }
 
 /// Works on these inputs, or on standard input where there are none; the status, if it failed.
-pub fn work_through<T: Job>(rt: &HostRuntime, work: &mut T, files: &[&str]) -> Result<(), u8> {
+pub fn work_through<T: Worker>(rt: &HostRuntime, work: &mut T, files: &[&str]) -> Result<(), u8> {
     let mut output = Output {
         out: rt.stdout(),
         fault: None,
@@ -270,7 +270,7 @@ pub fn words_of(rt: &HostRuntime) -> Result<Vec<String>, u8> {
 }
 
 /// The work that these words ask for, or none where what they ask was told; the status, if that failed.
-pub fn asked<'a>(rt: &HostRuntime, words: &'a [String]) -> Result<Option<Run<'a>>, u8> {
+pub fn asked<'a>(rt: &HostRuntime, words: &'a [String]) -> Result<Option<Request<'a>>, u8> {
     match command_of(rt.alloc(), words) {
         Ok(Command::Run(run)) => Ok(Some(run)),
         Ok(Command::Help(text)) => {

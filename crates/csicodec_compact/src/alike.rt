@@ -12,7 +12,7 @@ use std::alloc::{AllocError, Global};
 
 /// Reads sequences, and compares what they are read as by their normal forms. Its buffers are kept from call to call.
 #[derive(Drop)]
-pub(crate) struct Reader {
+pub(crate) struct Comparer {
     alloc: Global,
     params: Vec<CsiParam>,
     came: Texts,
@@ -27,10 +27,10 @@ fn tells(normal: &[u8]) -> bool
     !normal.contains(&b's') && !normal.contains(&b'x')
 }
 
-impl Reader {
+impl Comparer {
     /// With buffers that take no memory yet.
-    pub fn new(alloc: Global) -> Reader {
-        Reader {
+    pub fn new(alloc: Global) -> Comparer {
+        Comparer {
             alloc,
             params: Vec::new(alloc),
             came: Texts::new(alloc),

@@ -3,7 +3,7 @@ ghost use Rattle.std.specs.Prelude.{◌≡◌, ◌≤◌, ℕ, List, true, lengt
 ghost use Rattle.csicodec_tokens.specs.Sequence.{Seq};
 ghost use Rattle.csicodec_compact.specs.Compacts.{Compacts, ReadsAlike};
 
-use crate::alike::Reader;
+use crate::alike::Comparer;
 use crate::spell::{may_be_shorter, spell, spell_plainly};
 use csicodec_base::{CsiParam, TextBuffer};
 use csicodec_filter::{Rewrite, stays};
@@ -18,7 +18,7 @@ use std::alloc::{AllocError, Global};
 /// ```
 #[derive(Drop)]
 pub struct Compact {
-    reader: Reader,
+    reader: Comparer,
     spelling: TextBuffer,
     semicolons: bool,
 }
@@ -27,7 +27,7 @@ impl Compact {
     /// With buffers of its own, which are kept from sequence to sequence.
     pub fn new(alloc: Global) -> Compact {
         Compact {
-            reader: Reader::new(alloc),
+            reader: Comparer::new(alloc),
             spelling: TextBuffer::new(alloc),
             semicolons: false,
         }

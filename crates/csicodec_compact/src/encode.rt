@@ -3,7 +3,7 @@ ghost use Rattle.std.specs.Prelude.{◌≡◌, ◌++◌, ◌<◌, ◌≤◌, ℕ
 ghost use Rattle.csicodec_parser.specs.ActionOf.{action_of};
 ghost use Rattle.csicodec_compact.specs.Compacts.{Encodes, ReadsAlike};
 
-use crate::alike::Reader;
+use crate::alike::Comparer;
 use crate::spell::spell;
 use csicodec_base::{ColorSpec, CsiParam, ReadError, Sgr, TextBuffer, read_csi_into};
 use csicodec_filter::stays;
@@ -62,7 +62,7 @@ fn join(texts: &[u8], out: &mut Vec<u8>) -> Result<(), AllocError> {
 #[derive(Drop)]
 struct Joiner {
     alloc: Global,
-    reader: Reader,
+    reader: Comparer,
     joined: Vec<u8>,
     params: Vec<CsiParam>,
     spelling: TextBuffer,
@@ -73,7 +73,7 @@ impl Joiner {
     fn new(alloc: Global) -> Joiner {
         Joiner {
             alloc,
-            reader: Reader::new(alloc),
+            reader: Comparer::new(alloc),
             joined: Vec::new(alloc),
             params: Vec::new(alloc),
             spelling: TextBuffer::new(alloc),

@@ -6,7 +6,8 @@ mod timing;
 
 use cast::explain_cast;
 use csicodec_command::{
-    Color, Failure, Job, Run, Task, Wrong, asked, failed, refused, text_of, words_of, work_through,
+    ColorWhen, Failure, Request, Task, Worker, Wrong, asked, failed, refused, text_of, words_of,
+    work_through,
 };
 use csicodec_page::{Explainer, Style};
 use csicodec_streams::RunError;
@@ -23,7 +24,7 @@ struct Explained<'a> {
     timing: Option<Timing>,
 }
 
-impl<'a> Job for Explained<'a> {
+impl<'a> Worker for Explained<'a> {
     fn read<R: Read, W: Write>(
         &mut self,
         _alloc: Global,
@@ -52,12 +53,12 @@ impl<'a> Job for Explained<'a> {
 
 /// How the streams of a run are explained: in colours if that is asked for, or where a terminal shows them to someone who didn't
 /// say by NO_COLOR that they aren't wanted.
-fn style_of<'a>(rt: &HostRuntime, run: &Run<'a>) -> Style<'a> {
+fn style_of<'a>(rt: &HostRuntime, run: &Request<'a>) -> Style<'a> {
     let wanted = run.wanted;
     let color = match run.color {
-        Color::Always => true,
-        Color::Never => false,
-        Color::Auto => rt.stdout().is_terminal() && env::var(rt, "NO_COLOR").is_err(),
+        ColorWhen::Always => true,
+        ColorWhen::Never => false,
+        ColorWhen::Auto => rt.stdout().is_terminal() && env::var(rt, "NO_COLOR").is_err(),
     };
     Style {
         full: wanted.full,
@@ -80,7 +81,7 @@ fn times_of(rt: &HostRuntime, name: &str) -> Result<Timing, u8> {
     }
 }
 
-fn explain(rt: &HostRuntime, run: &Run<'_>) -> Result<(), u8> {
+fn explain(rt: &HostRuntime, run: &Request<'_>) -> Result<(), u8> {
     let timing = match run.timing {
         Some(name) => Some(times_of(rt, name)?),
         None => None,

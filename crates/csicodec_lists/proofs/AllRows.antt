@@ -12,7 +12,7 @@ use Rattle.csicodec_actions.specs.Actions.{Action}
 use Rattle.csicodec_actions.specs.FieldRows.{read_fields}
 use Rattle.csicodec_actions.specs.Kinds.{Kind, Value, read}
 use Rattle.csicodec_actions.specs.Rows.{Slot, Byte, Number, One, Makes, AtEnd, ended, has_shape, made, gives, Row, given, Before, rows_before, read_by}
-use Rattle.csicodec_actions.specs.Table.Graphics.{graphics_fields}
+use Rattle.csicodec_actions.specs.Table.XtSmGraphics.{graphics_fields}
 use Rattle.csicodec_actions.specs.Table.Window.{window_fields}
 use Rattle.csicodec_actions.specs.Table.{all_subjects, table, field_table, whole}
 use Rattle.csicodec_actions.proofs.AllFieldRows.{FieldRowsKeep, fields-append, fields-keep, option_or-assoc}

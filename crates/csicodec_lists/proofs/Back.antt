@@ -19,7 +19,7 @@ use Rattle.csicodec_actions.specs.declared.device.DeviceAttribute.{DeviceAttribu
 use Rattle.csicodec_actions.specs.declared.device.DeviceAttribute.TheVariants as attribute
 use Rattle.csicodec_actions.specs.declared.edit.Edit as edit_type
 use Rattle.csicodec_actions.specs.declared.edit.Edit.TheVariants as edit
-use Rattle.csicodec_actions.specs.declared.graphics.XtSmGraphicsItem.{XtSmGraphicsItem}
+use Rattle.csicodec_actions.specs.declared.xtsmgraphics.XtSmGraphicsItem.{XtSmGraphicsItem}
 use Rattle.csicodec_actions.specs.declared.path.CharacterPath.{CharacterPath}
 use Rattle.csicodec_actions.specs.declared.path.CharacterPath.TheVariants as path
 use Rattle.csicodec_actions.specs.declared.keyboard.Keyboard as keyboard_type
@@ -43,7 +43,7 @@ use Rattle.csicodec_actions.specs.Special.{IsNeverRead, IsSpecial}
 use Rattle.csicodec_actions.specs.Table.Cursor.{written_cursor}
 use Rattle.csicodec_actions.specs.Table.Device.{answer, written_attributes, written_class, written_device}
 use Rattle.csicodec_actions.specs.Table.Edit.{written_edit}
-use Rattle.csicodec_actions.specs.Table.Graphics.{written_graphics}
+use Rattle.csicodec_actions.specs.Table.XtSmGraphics.{written_graphics}
 use Rattle.csicodec_actions.specs.Table.Keyboard.{written_keyboard}
 use Rattle.csicodec_actions.specs.Table.Mode.{written_mode}
 use Rattle.csicodec_actions.specs.Table.Mouse.{report, written_mouse}

@@ -6,18 +6,18 @@ use Rattle.csicodec_actions.specs.Actions.{Action, TakesMemory}
 use Rattle.csicodec_actions.specs.Table.Device.{device_rows, as_device}
 use Rattle.csicodec_actions.specs.FieldRows.{read_fields}
 use Rattle.csicodec_actions.specs.Rows.{read_by}
-use Rattle.csicodec_actions.specs.Table.Graphics.{graphics_fields, as_graphics}
+use Rattle.csicodec_actions.specs.Table.XtSmGraphics.{graphics_fields, as_graphics}
 use Rattle.csicodec_actions.specs.Table.Window.{window_fields, as_window}
-use Rattle.csicodec_actions.specs.Table.{field_table, plain, boxed, whole}
+use Rattle.csicodec_actions.specs.Table.{field_table, unboxed, boxed, whole}
 use Rattle.csicodec_actions.proofs.AllFieldRows.{FieldRowsKeep, fields-append, fields-keep}
 use Rattle.csicodec_actions.proofs.Found.{one-of}
 use Rattle.csicodec_lists.proofs.AllRows.{TableKeeps, table-keeps, no-tokens}
 
-pub plain_whole : (list : List CsiParam) (final : ℕ) (a : Action) → plain list final ≡ Some a → whole list final ≡ Some a
+pub unboxed_whole : (list : List CsiParam) (final : ℕ) (a : Action) → unboxed list final ≡ Some a → whole list final ≡ Some a
 unfolding whole
-plain_whole list final a e = rw e refl
+unboxed_whole list final a e = rw e refl
 
-pub boxed_whole : (list : List CsiParam) (final : ℕ) → plain list final ≡ None → boxed list final ≡ whole list final
+pub boxed_whole : (list : List CsiParam) (final : ℕ) → unboxed list final ≡ None → boxed list final ≡ whole list final
 unfolding whole
 boxed_whole list final e = rw e refl
 

@@ -12,7 +12,7 @@ use Rattle.csicodec_names.proofs.Coded.{is_number-pos}
 use Rattle.csicodec_actions.specs.Actions.{Action}
 use Rattle.csicodec_actions.specs.FieldRows.{Slot, This, Empty, End, Maybe, There, Must, Or, Rest, behind, ahead_of_byte, behind_byte, fits, have_shape, FieldRow, gives, given, Over, over, no_byte, byte, fields_over, read_over, read_fields}
 use Rattle.csicodec_actions.specs.Rows.{Row, Byte, open_row, rows_before, read_by}
-use Rattle.csicodec_actions.specs.Table.Graphics.{graphics_rows}
+use Rattle.csicodec_actions.specs.Table.XtSmGraphics.{graphics_rows}
 use Rattle.csicodec_actions.specs.Table.Window.{areas, windows}
 use Rattle.csicodec_actions.specs.Table.{table, field_table, whole, FieldRowsDecide}
 use Rattle.csicodec_actions.proofs.AllFieldRows.{AllFieldRows, over-in}

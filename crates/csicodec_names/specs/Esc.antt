@@ -5,23 +5,23 @@ use Rattle.csicodec_names.specs.declared.esc.Esc.TheVariants.{Unspecified, Code}
 use Rattle.csicodec_names.specs.declared.esc.EscCode.{EscCode}
 use Rattle.csicodec_names.specs.EscCodes.{characters_of, esc_number}
 
--- 256 times the intermediate and the control, where no intermediate counts as 0
+-- 256 times the intermediate and the final, where no intermediate counts as 0
 abbrev pub packed : Option ℕ → ℕ → ℕ
-packed intermediate control = 256 * unwrap_or intermediate 0 + control
+packed intermediate final = 256 * unwrap_or intermediate 0 + final
 
--- an intermediate and a control are a code exactly where they pack its number, and stay as they are where they pack no code's
-pub record EscOf (intermediate : Option ℕ) (control : ℕ) (esc : Esc) : Type 0 where
-  pub code : (known : EscCode) → (esc ≡ Code known) ↔ (packed intermediate control ≡ esc_number known)
-  pub other : ((known : EscCode) → packed intermediate control ≢ esc_number known) → esc ≡ Unspecified intermediate control
+-- an intermediate and a final are a code exactly where they pack its number, and stay as they are where they pack no code's
+pub record EscOf (intermediate : Option ℕ) (final : ℕ) (esc : Esc) : Type 0 where
+  pub code : (known : EscCode) → (esc ≡ Code known) ↔ (packed intermediate final ≡ esc_number known)
+  pub other : ((known : EscCode) → packed intermediate final ≢ esc_number known) → esc ≡ Unspecified intermediate final
 
--- the intermediate, if any, and the control
+-- the intermediate, if any, and the final
 abbrev pub in_turn : Option ℕ → ℕ → List ℕ
-in_turn None control = control ∷ []
-in_turn (Some intermediate) control = intermediate ∷ control ∷ []
+in_turn None final = final ∷ []
+in_turn (Some intermediate) final = intermediate ∷ final ∷ []
 
 -- what stands after ESC
 abbrev pub after_esc : Esc → List ℕ
-after_esc (Unspecified intermediate control) = in_turn intermediate control
+after_esc (Unspecified intermediate final) = in_turn intermediate final
 after_esc (Code known) = characters_of known
 
 -- the character ESC and those after it, in UTF-8

@@ -33,7 +33,7 @@ impl Closer {
 
 /// A `Debug` text that is written as JSON, byte by byte.
 #[derive(Drop)]
-pub struct Fields {
+pub struct JsonFields {
     out: Vec<u8>,
     /// The word that is read: a name, a number or a character between its marks.
     word: Vec<u8>,
@@ -98,10 +98,10 @@ fn names_front(text: &[u8]) -> (&[u8], &[u8], &[u8]) {
     }
 }
 
-impl Fields {
+impl JsonFields {
     /// Nothing is written.
-    pub fn new(alloc: Global) -> Fields {
-        Fields {
+    pub fn new(alloc: Global) -> JsonFields {
+        JsonFields {
             out: Vec::new(alloc),
             word: Vec::new(alloc),
             closers: Vec::new(alloc),

@@ -13,7 +13,7 @@ const MOST: usize = 512;
 
 /// A sequence, and what was told of it.
 #[derive(Drop)]
-struct Slot {
+struct Entry {
     bytes: Vec<u8>,
     told: Vec<u8>,
     actions: u64,
@@ -21,9 +21,9 @@ struct Slot {
 
 /// Short sequences with what was told of each, behind its place. Each stands in one slot, and takes it from another.
 #[derive(Drop)]
-pub struct Known {
+pub struct Remembered {
     alloc: Global,
-    slots: Vec<Slot>,
+    slots: Vec<Entry>,
 }
 
 /// The slot of a sequence.
@@ -35,10 +35,10 @@ fn slot_of(bytes: &[u8]) -> usize {
     (hash >> 20) as usize
 }
 
-impl Known {
+impl Remembered {
     /// Nothing came before.
-    pub fn new(alloc: Global) -> Known {
-        Known {
+    pub fn new(alloc: Global) -> Remembered {
+        Remembered {
             alloc,
             slots: Vec::new(alloc),
         }
@@ -57,7 +57,7 @@ impl Known {
     /// Makes room.
     fn make_slots(&mut self) -> Result<(), AllocError> {
         for _ in 0..SLOTS {
-            let slot = Slot {
+            let slot = Entry {
                 bytes: Vec::new(self.alloc),
                 told: Vec::new(self.alloc),
                 actions: 0,

@@ -5,7 +5,7 @@ use crate::decoded::clipboard_bytes;
 use crate::line::Told;
 use crate::sheet::Sheet;
 use crate::style::Style;
-use crate::totals::{Counts, Totals};
+use crate::totals::{Summary, Totals};
 use csicodec_base::{CsiParam, Esc};
 use csicodec_parser::CSI;
 use csicodec_readings::{EscReading, LongEscReading, Reading};
@@ -121,12 +121,12 @@ impl<'a> Page<'a> {
     }
 
     /// How much came, if that is asked for.
-    pub fn counts(&self) -> Option<Counts<'_>> {
+    pub fn counts(&self) -> Option<Summary<'_>> {
         let style = self.sheet.style();
         if !style.count {
             return None;
         }
-        Some(Counts {
+        Some(Summary {
             totals: self.totals,
             names: self.sheet.names(),
             json: style.json,

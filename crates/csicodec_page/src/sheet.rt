@@ -1,9 +1,9 @@
 //! The lines of spans: each with its place and its bytes, and a line for each of its actions; or an object of JSON.
 
 use crate::decoded::Clipboard;
-use crate::fields::Fields;
+use crate::fields::JsonFields;
 use crate::json::{append_action, append_begin_object, append_decoded, append_end, append_object};
-use crate::known::Known;
+use crate::known::Remembered;
 use crate::line::{CYAN, PLAIN, Told, append_begin, append_bytes, append_margin, paint};
 use crate::names::Names;
 use crate::style::{Style, name_of};
@@ -20,13 +20,13 @@ pub struct Sheet<'a> {
     /// What is put into a line.
     buffer: String,
     /// The fields of one action, in JSON.
-    fields: Fields,
+    fields: JsonFields,
     /// Where the span that is told begins in the text, and where it goes on behind its place.
     begin: usize,
     behind: usize,
     /// How many actions of it are told.
     actions: u64,
-    known: Known,
+    known: Remembered,
     names: Names,
 }
 
@@ -53,11 +53,11 @@ impl<'a> Sheet<'a> {
             text: Vec::new(alloc),
             words: String::new(alloc),
             buffer: String::new(alloc),
-            fields: Fields::new(alloc),
+            fields: JsonFields::new(alloc),
             begin: 0,
             behind: 0,
             actions: 0,
-            known: Known::new(alloc),
+            known: Remembered::new(alloc),
             names: Names::new(alloc),
         }
     }

@@ -62,7 +62,5 @@ impl<'a> Style<'a> {
 
 /// Whether the words say that nothing is known.
 fn is_unknown(name: &str, rest: &str) -> bool {
-    name == "unknown"
-        || name == "malformed"
-        || rest.starts_with("unknown")
+    name == "unknown" || name == "malformed" || rest.starts_with("unknown")
 }

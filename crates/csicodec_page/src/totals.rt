@@ -58,7 +58,7 @@ impl Totals {
 
 /// All that is counted, as an object of JSON where that is asked for.
 #[derive(Clone, Copy)]
-pub struct Counts<'a> {
+pub struct Summary<'a> {
     /// The kinds of spans.
     pub totals: Totals,
     /// The names of what they do.
@@ -67,7 +67,7 @@ pub struct Counts<'a> {
     pub json: bool,
 }
 
-impl<'a> fmt::Display for Counts<'a> {
+impl<'a> fmt::Display for Summary<'a> {
     fn fmt<W: fmt::Write>(&self, f: &mut fmt::Formatter<W>) -> fmt::Result {
         let (totals, names) = (self.totals, self.names);
         if !self.json {

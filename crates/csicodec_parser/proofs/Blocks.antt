@@ -17,11 +17,11 @@ use Rattle.csicodec_parser.specs.declared.parser.Stage.TheVariants.{Fresh, Going
 use Rattle.csicodec_parser.specs.Groups.{group, marked, start, has_odd}
 use Rattle.csicodec_parser.specs.Cut.{body}
 use Rattle.csicodec_parser.specs.Segments.{empty_action}
-use Rattle.csicodec_actions.specs.Table.{plain, whole}
+use Rattle.csicodec_actions.specs.Table.{unboxed, whole}
 use Rattle.csicodec_parser.specs.Private.Steps.{front, block, block_of, is_semicolon, with_semicolon, segments, segments_at, rest_action, actions_after, body_actions, actions_in, left_at, from_at, GoesBy, CanGo, CutsOn}
 use Rattle.csicodec_parser.proofs.Fronts.{front_empty, front_fits}
 use Rattle.csicodec_parser.proofs.GroupOf.{marked-body}
-use Rattle.csicodec_lists.proofs.Boxed.{plain_whole, boxed_whole}
+use Rattle.csicodec_lists.proofs.Boxed.{unboxed_whole, boxed_whole}
 use Rattle.csicodec_parser.proofs.Rests.{rest_unknown}
 
 semicolon_at : (rest : List CsiParam) (len : ℕ) (o : Option CsiParam) → slice_get rest len ≡ o → len ≤ length rest → with_semicolon len o ≤ length rest
@@ -205,14 +205,14 @@ lent_all tokens lent p len z h l =
     let whole_length : len ≡ length tokens = omega (arith, z) in
     l ∙ ap (λ (q : ℕ). take len (drop (q + 0) tokens)) z ∙ ap (λ (n : ℕ). take n tokens) whole_length ∙ take_all (length tokens) tokens (omega arith)
 
-pub lent_none : (tokens lent : List CsiParam) (final : ℕ) (r : Option CSI) → lent ≡ tokens → option_map action_of r ≡ plain lent final → r ≡ None → plain tokens final ≡ None
-lent_none tokens lent final r all told none = ap (λ (l : List CsiParam). plain l final) (sym all) ∙ sym told ∙ ap (option_map action_of) none
+pub lent_none : (tokens lent : List CsiParam) (final : ℕ) (r : Option CSI) → lent ≡ tokens → option_map action_of r ≡ unboxed lent final → r ≡ None → unboxed tokens final ≡ None
+lent_none tokens lent final r all told none = ap (λ (l : List CsiParam). unboxed l final) (sym all) ∙ sym told ∙ ap (option_map action_of) none
 
-pub lent_some : (tokens lent : List CsiParam) (final : ℕ) (r : Option CSI) (x : CSI) → lent ≡ tokens → option_map action_of r ≡ plain lent final → r ≡ Some x → whole tokens final ≡ Some (action_of x)
+pub lent_some : (tokens lent : List CsiParam) (final : ℕ) (r : Option CSI) (x : CSI) → lent ≡ tokens → option_map action_of r ≡ unboxed lent final → r ≡ Some x → whole tokens final ≡ Some (action_of x)
 lent_some tokens lent final r x all told some =
-    plain_whole tokens final (action_of x) (ap (λ (l : List CsiParam). plain l final) (sym all) ∙ sym told ∙ ap (option_map action_of) some)
+    unboxed_whole tokens final (action_of x) (ap (λ (l : List CsiParam). unboxed l final) (sym all) ∙ sym told ∙ ap (option_map action_of) some)
 
-pub none_whole : (r : Option CSI) (g : Group) (list : List CsiParam) (final q : ℕ) → g ≡ Whole → IfNone r (plain list final ≡ None) → IfNone r (q ≡ 0)
+pub none_whole : (r : Option CSI) (g : Group) (list : List CsiParam) (final q : ℕ) → g ≡ Whole → IfNone r (unboxed list final ≡ None) → IfNone r (q ≡ 0)
     → IfNone r ((flag : Bool) → actions_in g list flag final ≡ rest_action g (drop q list) flag final ∷ [])
 none_whole (Some x) g list final q is none stays = tt
 none_whole None g list final q is none stays = λ flag. rw (is, stays) (ap (λ (o : Option Action). unwrap_or o (Unspecified list flag final) ∷ []) (sym (boxed_whole list final none)))

@@ -22,7 +22,7 @@ use Rattle.csicodec_parser.specs.Groups.{group, marked, has_odd}
 use Rattle.csicodec_parser.specs.Cut.{body}
 use Rattle.csicodec_parser.specs.Segments.{Actions}
 use Rattle.csicodec_parser.specs.Private.Steps.{one_token, front, block_of, with_semicolon, rest_action, actions, actions_in, actions_after, body_actions}
-use Rattle.csicodec_actions.specs.Table.{text, texts, plain}
+use Rattle.csicodec_actions.specs.Table.{text, texts, unboxed}
 use Rattle.csicodec_parser.proofs.Blocks.{semicolon_from, segments_block, after_unknown, first_cut, odd_unknown, body_some}
 use Rattle.csicodec_lists.proofs.Boxed.{boxed_whole}
 use Rattle.csicodec_parser.proofs.Cuts.{actions_are}
@@ -117,5 +117,5 @@ first_taken g t said old new f appended before held = appended ∙ ap (λ (l : L
 
 -- ---- a list that is read whole
 
-pub rest_actions : (list : List CsiParam) (flag : Bool) (final : ℕ) → group list final ≡ Whole → plain list final ≡ None → actions list flag final ≡ rest_action Whole list flag final ∷ []
+pub rest_actions : (list : List CsiParam) (flag : Bool) (final : ℕ) → group list final ≡ Whole → unboxed list final ≡ None → actions list flag final ≡ rest_action Whole list flag final ∷ []
 rest_actions list flag final is none = rw (is, boxed_whole list final none) refl

@@ -12,17 +12,17 @@ use Rattle.csicodec_parser.specs.Cut.{body}
 use Rattle.csicodec_parser.specs.Groups.{has_odd}
 use Rattle.csicodec_parser.specs.Segments.{IsUnread}
 use Rattle.csicodec_parser.specs.Private.Steps.{found, front}
-use Rattle.csicodec_actions.specs.Table.{plain, boxed}
-use Rattle.csicodec_lists.proofs.Boxed.{plain_whole, boxed_whole}
+use Rattle.csicodec_actions.specs.Table.{unboxed, boxed}
+use Rattle.csicodec_lists.proofs.Boxed.{unboxed_whole, boxed_whole}
 use Rattle.csicodec_parser.proofs.Fronts.{front_stuck, stuck_front}
 
 -- ---- a list that is read whole
 
-pub read-plain : (list : List CsiParam) (final : ℕ) (o : Option CSI) → option_map action_of o ≡ plain list final → is_some o ≡ true → IsTrue false ↔ IsUnread list final
-read-plain list final None e some = cc
-read-plain list final (Some x) e some = (λ t. cc, λ unread. absurd (unread (action_of x) (plain_whole list final (action_of x) (sym e))))
+pub read-unboxed : (list : List CsiParam) (final : ℕ) (o : Option CSI) → option_map action_of o ≡ unboxed list final → is_some o ≡ true → IsTrue false ↔ IsUnread list final
+read-unboxed list final None e some = cc
+read-unboxed list final (Some x) e some = (λ t. cc, λ unread. absurd (unread (action_of x) (unboxed_whole list final (action_of x) (sym e))))
 
-pub read-boxed : (list : List CsiParam) (final : ℕ) (o p : Option CSI) (b : Bool) → option_map action_of o ≡ plain list final → is_some o ≡ false → option_map action_of p ≡ boxed list final → is_some p ≡ not b
+pub read-boxed : (list : List CsiParam) (final : ℕ) (o p : Option CSI) (b : Bool) → option_map action_of o ≡ unboxed list final → is_some o ≡ false → option_map action_of p ≡ boxed list final → is_some p ≡ not b
     → IsTrue b ↔ IsUnread list final
 read-boxed list final (Some x) p b e none f some = cc
 read-boxed list final None None true e none f some = (λ t. λ a w. (let same = boxed_whole list final (sym e) in cc), λ unread. refl)

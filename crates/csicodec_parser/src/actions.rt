@@ -6,7 +6,7 @@ ghost use Rattle.std.specs.Option.{option_map};
 ghost use Rattle.csicodec_actions.specs.Actions as action;
 ghost use Rattle.csicodec_actions.specs.Actions.{TakesMemory};
 ghost use Rattle.csicodec_actions.specs.Devices.{device_of};
-ghost use Rattle.csicodec_actions.specs.Table.{boxed, plain, text};
+ghost use Rattle.csicodec_actions.specs.Table.{boxed, unboxed, text};
 ghost use Rattle.csicodec_parser.specs.ActionOf.{action_of, unspecified_of, unspecified_text};
 ghost use Rattle.csicodec_parser.specs.Canonical.{Canonical, IsUnspecified};
 
@@ -43,7 +43,7 @@ impl Unspecified {
     /// A copy, in memory of its own. Of no tokens it takes none.
     pub fn clone(&self, alloc: Global) -> Result<Self, AllocError>
         ensures same { IfOk result (λ copy. unspecified_of copy ≡ unspecified_of self.now) }
-        ensures plain { OnErr result (0 < length self.now.params.items) }
+        ensures memory { OnErr result (0 < length self.now.params.items) }
     {
         let mut params = Vec::new(alloc);
         params.extend_from_slice(&self.params)?;
@@ -123,7 +123,7 @@ impl CSI {
     /// A copy. Only a `Device`, a `Window` and an `Unspecified` take memory.
     pub fn clone(&self, alloc: Global) -> Result<Self, AllocError>
         ensures same { IfOk result (λ copy. action_of copy ≡ action_of self.now) }
-        ensures plain { TakesMemory (action_of self.now) ⊎ IsOk result }
+        ensures memory { TakesMemory (action_of self.now) ⊎ IsOk result }
     {
         Ok(match self {
             CSI::Sgr(sgr) => CSI::Sgr(*sgr),
@@ -162,7 +162,7 @@ impl CSI {
         parameters_truncated: bool,
     ) -> Result<bool, AllocError>
         ensures exact { IfOk result (λ yes. IsTrue yes ↔ Canonical (action_of self.now) parameters_truncated) }
-        ensures plain { IsUnspecified (action_of self.now) ⊎ IsOk result }
+        ensures memory { IsUnspecified (action_of self.now) ⊎ IsOk result }
     {
         match self {
             CSI::Sgr(sgr) => Ok(is_canonical_sgr(sgr)),
@@ -279,9 +279,9 @@ pub fn append_text(alloc: Global, out: &mut TextBuffer, action: &CSI) -> Result<
 
 /// The action of a list that is read whole, if a row reads it, and its value holds no memory.
 #[inline(always)]
-#[tactic(auto, unfolding(csicodec_actions::specs::Table::plain))]
-pub(crate) fn plain_action(params: &[CsiParam], control: char) -> Option<CSI>
-    ensures { option_map action_of result ≡ plain params.now control }
+#[tactic(auto, unfolding(csicodec_actions::specs::Table::unboxed))]
+pub(crate) fn unboxed_action(params: &[CsiParam], control: char) -> Option<CSI>
+    ensures { option_map action_of result ≡ unboxed params.now control }
 {
     if let Some(cursor) = cursor_action(params, control) {
         return Some(CSI::Cursor(cursor));

@@ -5,7 +5,7 @@ ghost use Rattle.csicodec_parser.specs.Canonical.{IsCanonicalSgr, IsCanonicalUnk
 ghost use Rattle.csicodec_parser.specs.Groups.{group as group_of_list};
 ghost use Rattle.csicodec_parser.specs.Segments.{IsUnread};
 
-use crate::actions::{Unspecified, boxed_action, plain_action};
+use crate::actions::{Unspecified, boxed_action, unboxed_action};
 use crate::group::{Group, front};
 use crate::list::{group_of, is_odd};
 use csicodec_actions::is_spellable_token;
@@ -57,7 +57,7 @@ fn is_final(control: char) -> bool
 fn is_unread(alloc: Global, params: &[CsiParam], control: char) -> Result<bool, AllocError>
     ensures { IfOk result (λ yes. IsTrue yes ↔ IsUnread params.now control) }
 {
-    if plain_action(params, control).is_some() {
+    if unboxed_action(params, control).is_some() {
         return Ok(false);
     }
     let boxed = boxed_action(alloc, params, control)?;

@@ -5,19 +5,19 @@
 mod actions;
 mod canonical;
 mod count;
-mod graphics;
 mod group;
 mod list;
 mod look;
 mod parser;
 mod sink;
 mod tokens;
+mod xtsmgraphics;
 
 pub use actions::{CSI, Unspecified, append_text};
 pub use count::Count;
-pub use graphics::ParseGraphics;
 pub use list::list_into;
 pub use look::Look;
 pub use parser::{ActionRef, CSIParser, Run};
 pub use sink::{Sink, Texts};
 pub use tokens::Tokens;
+pub use xtsmgraphics::ParseGraphics;

@@ -6,11 +6,11 @@ ghost use Rattle.csicodec_parser.specs.ActionOf.{action_of};
 ghost use Rattle.csicodec_parser.specs.Groups.{group as group_of_list, has_odd, marked, start};
 ghost use Rattle.csicodec_parser.specs.Run.{IsRef};
 ghost use Rattle.csicodec_parser.specs.Segments.{Actions};
-ghost use Rattle.csicodec_actions.specs.Table.{plain, whole};
+ghost use Rattle.csicodec_actions.specs.Table.{unboxed, whole};
 ghost use Rattle.csicodec_parser.specs.Private.Steps.{with_semicolon, block, rest_action, left_at, fresh_cost, from_at, GoesBy, CanGo, CutsOn};
 ghost use Rattle.csicodec_parser.specs.Private.Steps.{BeginsAs, IsRestAlone, BodyBeginsAs, BodyIsRestAlone, LeftBeginsAs, LeftIsRestAlone, PaysRest, PaysBlock, PaysAll};
 
-use crate::actions::{CSI, Unspecified, boxed_action, plain_action};
+use crate::actions::{CSI, Unspecified, boxed_action, unboxed_action};
 use crate::count::Count;
 use crate::group::{Group, front};
 use crate::look::Look;
@@ -237,14 +237,14 @@ pub(crate) fn whole_list<L: Look>(look: &mut L, control: char) -> Option<CSI>
     requires { L.passed look.old ≡ 0 }
     ensures some { IfSome result (λ action. whole (L.tokens look.old) control ≡ Some (action_of action)) }
     ensures all { IfSome result (λ _. L.passed look.new ≡ length (L.tokens look.new)) }
-    ensures none { IfNone result (plain (L.tokens look.old) control ≡ None) }
+    ensures none { IfNone result (unboxed (L.tokens look.old) control ≡ None) }
     ensures stays { IfNone result (L.passed look.new ≡ 0) }
     ensures list { L.tokens look.new ≡ L.tokens look.old }
     ensures counted { L.looks look.old ≤ L.looks look.new }
     ensures costs { L.looks look.new ≤ L.looks look.old + 8 * length (L.tokens look.old) + L.passed look.new }
 {
     let len = look.len();
-    let Some(action) = plain_action(look.lend(0, len), control) else {
+    let Some(action) = unboxed_action(look.lend(0, len), control) else {
         return None;
     };
     look.pass(len);

@@ -33,7 +33,10 @@ fn between(params: &[CsiParam]) -> &[CsiParam] {
 /// Whether a list is a marker, numbers with semicolons and colons between them, and an intermediate byte, of which each may be left
 /// out: the lists that terminals read (ECMA-48, 5.4.2; DEC's markers).
 pub fn is_regular(params: &[CsiParam]) -> bool {
-    between(params).iter().all(|token| matches!(token, CsiParam::Integer(0..) | CsiParam::P(b';' | b':')))
+    between(params).iter().all(|token| matches!(
+        token,
+        CsiParam::Integer(0..) | CsiParam::P(b';' | b':')
+    ))
 }
 
 /// Whether a token is the semicolon that stands between fields.

@@ -21,11 +21,11 @@ impl fmt::Display for Escape {
 }
 
 /// A set by the intermediate bytes behind the one that says what it becomes, and its final byte.
-type Row = (&'static [u8], u8, &'static str);
+type SetRow = (&'static [u8], u8, &'static str);
 
 /// Sets of 94 characters: of DEC (VT510 Programmer Reference, SCS) and xterm's ctlseqs (Designate G0 Character Set); `@`, `I` and
 /// `J` of the register of ISO (ISO-IR 2, 13 and 14); `U` and `K` of console_codes(4).
-static SETS: [Row; 38] = [
+static SETS: [SetRow; 38] = [
     (b"", b'0', "DEC special graphics (line drawing)"),
     (b"", b'1', "DEC alternate character ROM"),
     (b"", b'2', "DEC alternate character ROM, special graphics"),
@@ -68,7 +68,7 @@ static SETS: [Row; 38] = [
 
 /// Sets of 96 characters (the register of ISO: ISO-IR 100, 101, 109, 110, 126, 127, 138, 144, 148, 157, 166, 179, 199, 203 and 226;
 /// `<` of DEC).
-static SETS_OF_96: [Row; 16] = [
+static SETS_OF_96: [SetRow; 16] = [
     (b"", b'<', "the user's supplemental set"),
     (b"", b'A', "Latin-1"),
     (b"", b'B', "Latin-2"),
@@ -89,7 +89,7 @@ static SETS_OF_96: [Row; 16] = [
 
 /// Sets of which each character has several bytes (the register of ISO: ISO-IR 42, 58, 87 and 168, 149, 159, 165, 171, 172, 183 to
 /// 187, 228, 229 and 233; RFC 1468, RFC 1554).
-static SETS_OF_SEVERAL: [Row; 16] = [
+static SETS_OF_SEVERAL: [SetRow; 16] = [
     (b"", b'@', "JIS C 6226-1978"),
     (b"", b'A', "GB 2312"),
     (b"", b'B', "JIS X 0208"),
@@ -109,7 +109,7 @@ static SETS_OF_SEVERAL: [Row; 16] = [
 ];
 
 /// The set of a table that has these bytes.
-fn find(rows: &[Row], between: &[u8], last: u8) -> Option<&'static str> {
+fn find(rows: &[SetRow], between: &[u8], last: u8) -> Option<&'static str> {
     for (known, name, set) in rows {
         if *known == between && *name == last {
             return Some(*set);

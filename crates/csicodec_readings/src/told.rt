@@ -2,7 +2,7 @@
 
 use crate::list::{count_fields, marker, number, positive};
 use crate::otherwise::held;
-use crate::table::Form;
+use crate::table::Key;
 use crate::template::fill;
 use csicodec_base::CsiParam;
 use csicodec_words::{private_mode_name, tell_extension, terminal_mode_name};
@@ -11,7 +11,7 @@ use std::fmt;
 /// Tells a sequence of this form; false, and nothing is written, where it is none of these.
 pub fn tell_numbers<W: fmt::Write>(
     f: &mut fmt::Formatter<W>,
-    form: Form,
+    form: Key,
     params: &[CsiParam],
 ) -> Result<bool, fmt::Error> {
     let first = number(params, 0).unwrap_or(0);
@@ -60,8 +60,8 @@ fn scrolling_region<W: fmt::Write>(f: &mut fmt::Formatter<W>, params: &[CsiParam
 /// The speeds of a serial line by DEC's codes, which are eight times their places here (VT100 User Guide, DECREPTPARM; the last one is
 /// xterm's).
 static SPEEDS: [&str; 17] = [
-    "50", "75", "110", "134.5", "150", "200", "300", "600", "1200", "1800", "2000", "2400", "3600", "4800", "9600",
-    "19200", "38400",
+    "50", "75", "110", "134.5", "150", "200", "300", "600", "1200", "1800", "2000", "2400", "3600",
+    "4800", "9600", "19200", "38400",
 ];
 
 /// The speed of a code.
@@ -82,7 +82,10 @@ fn serial_line<W: fmt::Write>(f: &mut fmt::Formatter<W>, params: &[CsiParam]) ->
     let bits = if number(params, 2) == Some(2) { 7 } else { 8 };
     let sent = speed(number(params, 3).unwrap_or(0));
     let received = speed(number(params, 4).unwrap_or(0));
-    write!(f, "DECREPTPARM  answer: serial line, {parity}, {bits} bits, ")?;
+    write!(
+        f,
+        "DECREPTPARM  answer: serial line, {parity}, {bits} bits, "
+    )?;
     write!(f, "{sent} and {received} baud")
 }
 
@@ -140,7 +143,11 @@ fn rectangle<W: fmt::Write>(
     params: &[CsiParam],
 ) -> fmt::Result {
     f.write_str(name)?;
-    fill(f, params, " in lines {1} to {3:the last}, columns {2} to {4:the last}")?;
+    fill(
+        f,
+        params,
+        " in lines {1} to {3:the last}, columns {2} to {4:the last}",
+    )?;
     tell_attributes(f, params, 4)
 }
 

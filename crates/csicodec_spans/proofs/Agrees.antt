@@ -6,29 +6,29 @@ use Rattle.std.proofs.lemmas.Bool.Decides.{nat_tests}
 use Rattle.csicodec_spans.specs.declared.table.Kind.TheVariants as kind
 use Rattle.csicodec_spans.specs.declared.table.Mode.{Mode}
 use Rattle.csicodec_spans.specs.declared.table.Mode.TheVariants as mode
-use Rattle.csicodec_spans.specs.declared.table.Front.{Front}
-use Rattle.csicodec_spans.specs.declared.table.Front.TheVariants.{GoesOn, Ends, New, Esc, Csi, Unsure}
+use Rattle.csicodec_spans.specs.declared.table.Ahead.{Ahead}
+use Rattle.csicodec_spans.specs.declared.table.Ahead.TheVariants.{GoesOn, Ends, New, Esc, Csi, Unsure}
 use Rattle.csicodec_spans.specs.Table.{More, Sequence, ModeRow, mode_table, every_mode, holds_in, begin_with, fits_front, ahead, HasOneRow}
 use Rattle.csicodec_spans.specs.Private.TableBy.{is_within, opens_string, is_string, is_dcs, stays, ends, intermediate, opened, escape, look, meant}
 use Rattle.csicodec_spans.proofs.Apart.{one_row, said}
 use Rattle.csicodec_spans.proofs.Rows.{Sound, sound_row}
 
 -- text has no end
-abbrev pub IsNoText : Mode → Front → Type 0
+abbrev pub IsNoText : Mode → Ahead → Type 0
 IsNoText m (GoesOn n) = Unit {0}
 IsNoText m (Ends n) = m ≢ mode.Text
 IsNoText m _ = Unit {0}
 
-pub record Agrees (m : Mode) (bytes : List ℕ) (f : Front) : Type 0 where
+pub record Agrees (m : Mode) (bytes : List ℕ) (f : Ahead) : Type 0 where
   pub one : HasOneRow m bytes
   pub same : ahead m bytes ≡ meant m f
   pub ends : IsNoText m f
 
-by_row : (i : ℕ) (r : ModeRow) (m : Mode) (bytes : List ℕ) (f : Front) → slice_get mode_table i ≡ Some r → fits_front m bytes r ≡ true → r.answer ≡ meant m f → IsNoText m f → Agrees m bytes f
+by_row : (i : ℕ) (r : ModeRow) (m : Mode) (bytes : List ℕ) (f : Ahead) → slice_get mode_table i ≡ Some r → fits_front m bytes r ≡ true → r.answer ≡ meant m f → IsNoText m f → Agrees m bytes f
 by_row i r m bytes f at fit same ends = record { one = one_row i r m bytes at fit; same = said i r m bytes at fit ∙ same; ends = ends }
 
 -- either way of a test
-test : (m : Mode) (bytes : List ℕ) (b : Bool) (x y : Front) → (b ≡ true → Agrees m bytes x) → (b ≡ false → Agrees m bytes y) → Agrees m bytes (if b then x else y)
+test : (m : Mode) (bytes : List ℕ) (b : Bool) (x y : Ahead) → (b ≡ true → Agrees m bytes x) → (b ≡ false → Agrees m bytes y) → Agrees m bytes (if b then x else y)
 test m bytes true x y h k = h refl
 test m bytes false x y h k = k refl
 
@@ -37,7 +37,7 @@ in_every mode.Text = refl
 in_every _ = refl
 
 -- a row that holds in every mode
-by_any : (i : ℕ) (r : ModeRow) (m : Mode) (bytes : List ℕ) (f : Front) → slice_get mode_table i ≡ Some r → r.modes ≡ every_mode → begin_with r.spots bytes ≡ true → r.answer ≡ meant m f → IsNoText m f → Agrees m bytes f
+by_any : (i : ℕ) (r : ModeRow) (m : Mode) (bytes : List ℕ) (f : Ahead) → slice_get mode_table i ≡ Some r → r.modes ≡ every_mode → begin_with r.spots bytes ≡ true → r.answer ≡ meant m f → IsNoText m f → Agrees m bytes f
 by_any i r m bytes f at modes fit same ends = by_row i r m bytes f at (and_from (holds_in r.modes m) (begin_with r.spots bytes) (rw modes (in_every m)) fit) same ends
 
 -- ---- the first byte
@@ -160,7 +160,7 @@ pub only_row : (m : Mode) (bytes : List ℕ) → HasOneRow m bytes
 only_row m bytes = (agrees m bytes).one
 
 -- the table says what was found
-pub found : (m : Mode) (bytes : List ℕ) (f : Front) → look m bytes ≡ f → ahead m bytes ≡ meant m f
+pub found : (m : Mode) (bytes : List ℕ) (f : Ahead) → look m bytes ≡ f → ahead m bytes ≡ meant m f
 found m bytes f e = (agrees m bytes).same ∙ ap (meant m) e
 
 pub sound : (m : Mode) (bytes : List ℕ) → Sound m bytes (ahead m bytes)

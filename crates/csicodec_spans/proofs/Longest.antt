@@ -5,8 +5,8 @@ use Rattle.csicodec_spans.specs.declared.table.Kind.{Kind}
 use Rattle.csicodec_spans.specs.declared.table.Kind.TheVariants as kind
 use Rattle.csicodec_spans.specs.declared.table.Mode.{Mode}
 use Rattle.csicodec_spans.specs.declared.table.Mode.TheVariants as mode
-use Rattle.csicodec_spans.specs.declared.table.Front.{Front}
-use Rattle.csicodec_spans.specs.declared.table.Front.TheVariants.{GoesOn, Ends, New, Esc, Csi, Unsure}
+use Rattle.csicodec_spans.specs.declared.table.Ahead.{Ahead}
+use Rattle.csicodec_spans.specs.declared.table.Ahead.TheVariants.{GoesOn, Ends, New, Esc, Csi, Unsure}
 use Rattle.csicodec_spans.specs.Private.TableBy.{kind_in, stays, look, meant}
 use Rattle.csicodec_spans.specs.Parts.{Cuts, IsMore, IsMaximal}
 use Rattle.csicodec_spans.specs.Table.{ahead}
@@ -59,20 +59,20 @@ ends_maximal m k bytes rest n e is =
     let other = (subst (Agrees m bytes) is (agrees m bytes)).ends in
     closed_maximal k rest (λ text. not_text m other (sym e ∙ text))
 
-abbrev pub IsOther : Front → Type 0
+abbrev pub IsOther : Ahead → Type 0
 IsOther f = ((n : ℕ) × (a : Mode) × (f ≡ New n a)) ⊎ (((n : ℕ) × (f ≡ Esc n)) ⊎ ((f ≡ Csi) ⊎ (f ≡ Unsure)))
 
 -- other fronts begin anew, or aren't sure
-pub none_more : (m : Mode) (f : Front) → IsOther f → ¬ IsMore (meant m f)
-none_more m f (inl h) more = subst (λ (x : Front). IsMore (meant m x)) h.2 more
-none_more m f (inr (inl h)) more = subst (λ (x : Front). IsMore (meant m x)) h.1 more
-none_more m f (inr (inr (inl h))) more = subst (λ (x : Front). IsMore (meant m x)) h more
-none_more m f (inr (inr (inr h))) more = subst (λ (x : Front). IsMore (meant m x)) h more
+pub none_more : (m : Mode) (f : Ahead) → IsOther f → ¬ IsMore (meant m f)
+none_more m f (inl h) more = subst (λ (x : Ahead). IsMore (meant m x)) h.2 more
+none_more m f (inr (inl h)) more = subst (λ (x : Ahead). IsMore (meant m x)) h.1 more
+none_more m f (inr (inr (inl h))) more = subst (λ (x : Ahead). IsMore (meant m x)) h more
+none_more m f (inr (inr (inr h))) more = subst (λ (x : Ahead). IsMore (meant m x)) h more
 
-pub stops_maximal : (k : Kind) (a : Mode) (rest : List ℕ) (f : Front) → look a rest ≡ f → IsOther f → IsMaximal k a rest
+pub stops_maximal : (k : Kind) (a : Mode) (rest : List ℕ) (f : Ahead) → look a rest ≡ f → IsOther f → IsMaximal k a rest
 stops_maximal k a rest f is none which more = none_more a f none (subst IsMore (found a rest f is) more)
 
 -- and these go on
-pub some_more : (m : Mode) (bytes : List ℕ) (f : Front) → look m bytes ≡ f → ((n : ℕ) × (f ≡ GoesOn n)) ⊎ ((n : ℕ) × (f ≡ Ends n)) → IsMore (ahead m bytes)
+pub some_more : (m : Mode) (bytes : List ℕ) (f : Ahead) → look m bytes ≡ f → ((n : ℕ) × (f ≡ GoesOn n)) ⊎ ((n : ℕ) × (f ≡ Ends n)) → IsMore (ahead m bytes)
 some_more m bytes f is (inl h) = subst IsMore (sym (found m bytes (GoesOn h.0) (is ∙ h.1))) tt
 some_more m bytes f is (inr h) = subst IsMore (sym (found m bytes (Ends h.0) (is ∙ h.1))) tt

@@ -7,7 +7,7 @@ use Rattle.csicodec_spans.specs.declared.table.Kind.{Kind}
 use Rattle.csicodec_spans.specs.declared.table.Kind.TheVariants as kind
 use Rattle.csicodec_spans.specs.declared.table.Mode.{Mode}
 use Rattle.csicodec_spans.specs.declared.table.Mode.TheVariants as mode
-use Rattle.csicodec_spans.specs.declared.table.Front.TheVariants.{Unsure}
+use Rattle.csicodec_spans.specs.declared.table.Ahead.TheVariants.{Unsure}
 use Rattle.csicodec_spans.specs.Table.{Answer, More, Anew, Sequence, Undecided, ahead}
 use Rattle.csicodec_spans.specs.Parts.{Part, part, bytes_of, AllowsCsi, Allows, IsFirstPart, AreFirstParts, IsUnsureBy, AreAll, IsSpan, Cuts, IsMore, IsMaximal}
 use Rattle.csicodec_spans.specs.Iteration.{Left, Gives, BeginsAs, IsNoMoreText, AreMaximal}

@@ -7,8 +7,8 @@ use Rattle.csicodec_spans.specs.declared.table.Kind.{Kind}
 use Rattle.csicodec_spans.specs.declared.table.Kind.TheVariants as kind
 use Rattle.csicodec_spans.specs.declared.table.Mode.{Mode}
 use Rattle.csicodec_spans.specs.declared.table.Mode.TheVariants as mode
-use Rattle.csicodec_spans.specs.declared.table.Front.{Front}
-use Rattle.csicodec_spans.specs.declared.table.Front.TheVariants.{GoesOn, Csi, Unsure}
+use Rattle.csicodec_spans.specs.declared.table.Ahead.{Ahead}
+use Rattle.csicodec_spans.specs.declared.table.Ahead.TheVariants.{GoesOn, Csi, Unsure}
 use Rattle.csicodec_spans.specs.Table.{Answer, More, Anew, ahead}
 use Rattle.csicodec_spans.specs.Private.TableBy.{kind_in, stays, look, meant}
 use Rattle.csicodec_spans.specs.Parts.{Part, part, Allows, AllowsCsi, IsFirstPart, AreFirstParts, IsUnsure, IsUnsureBy, IsMore, bytes_of, AreAll, AreOne, IsSpan, Cuts}
@@ -104,7 +104,7 @@ abbrev pub IsTaken : Answer → Kind → ℕ → Mode → Type 0
 IsTaken f k n a = (f ≡ More k n a) ⊎ (f ≡ Anew k n a)
 
 -- they are some bytes, and no more than there are
-pub taken_within : (m : Mode) (bytes : List ℕ) (f : Front) (k : Kind) (n : ℕ) (a : Mode) → look m bytes ≡ f → IsTaken (meant m f) k n a → (0 < n) × (n ≤ length bytes)
+pub taken_within : (m : Mode) (bytes : List ℕ) (f : Ahead) (k : Kind) (n : ℕ) (a : Mode) → look m bytes ≡ f → IsTaken (meant m f) k n a → (0 < n) × (n ≤ length bytes)
 taken_within m bytes f k n a e (inl is) = let h = (subst (Sound m bytes) (found m bytes f e ∙ is) (sound m bytes)).0 in (h.some, h.within)
 taken_within m bytes f k n a e (inr is) = let h = (subst (Sound m bytes) (found m bytes f e ∙ is) (sound m bytes)).0 in (h.some, h.within)
 
@@ -116,7 +116,7 @@ allowed_cut limit m a bytes k n f e s = record {
   first = (drop n bytes, a, (sym (take-append-drop n bytes), subst (λ (x : Answer). Allows x limit bytes k (take n bytes) a) (sym e) s), (refl, refl));
 }
 
-pub taken_cut : (limit : ℕ) (m : Mode) (bytes : List ℕ) (f : Front) (k : Kind) (n : ℕ) (a : Mode) → look m bytes ≡ f → IsTaken (meant m f) k n a → Cuts limit m bytes k (take n bytes) (drop n bytes) a
+pub taken_cut : (limit : ℕ) (m : Mode) (bytes : List ℕ) (f : Ahead) (k : Kind) (n : ℕ) (a : Mode) → look m bytes ≡ f → IsTaken (meant m f) k n a → Cuts limit m bytes k (take n bytes) (drop n bytes) a
 taken_cut limit m bytes f k n a e (inl is) = allowed_cut limit m a bytes k n (More k n a) (found m bytes f e ∙ is) (refl, length-take-le n bytes (taken_within m bytes f k n a e (inl is)).1, refl)
 taken_cut limit m bytes f k n a e (inr is) = allowed_cut limit m a bytes k n (Anew k n a) (found m bytes f e ∙ is) (refl, length-take-le n bytes (taken_within m bytes f k n a e (inr is)).1, refl)
 

@@ -7,8 +7,8 @@ use Rattle.csicodec_spans.specs.declared.table.Kind.{Kind}
 use Rattle.csicodec_spans.specs.declared.table.Kind.TheVariants as kind
 use Rattle.csicodec_spans.specs.declared.table.Mode.{Mode}
 use Rattle.csicodec_spans.specs.declared.table.Mode.TheVariants as mode
-use Rattle.csicodec_spans.specs.declared.table.Front.{Front}
-use Rattle.csicodec_spans.specs.declared.table.Front.TheVariants.{GoesOn, Ends, New, Esc, Csi}
+use Rattle.csicodec_spans.specs.declared.table.Ahead.{Ahead}
+use Rattle.csicodec_spans.specs.declared.table.Ahead.TheVariants.{GoesOn, Ends, New, Esc, Csi}
 use Rattle.csicodec_spans.specs.Table.{Answer, holds_in, string_modes}
 use Rattle.csicodec_spans.specs.Private.TableBy.{is_within, is_cancel, opens_string, is_string, is_dcs, kind_in, stays, ends, intermediate, opened, escape, look, meant}
 use Rattle.csicodec_spans.specs.Parts.{part, Allows, AllowsCsi, IsFirstPart}
@@ -16,7 +16,7 @@ use Rattle.csicodec_spans.proofs.Agrees.{found}
 use Rattle.csicodec_spans.proofs.Missed.{front_is}
 
 -- either way of a test
-either : (P : Front → Type 0) (t : Bool) (x y : Front) → (t ≡ true → P x) → (t ≡ false → P y) → P (if t then x else y)
+either : (P : Ahead → Type 0) (t : Bool) (x y : Ahead) → (t ≡ true → P x) → (t ≡ false → P y) → P (if t then x else y)
 either P t x y f g = cond_both t x y P f g
 
 abbrev pub is_str : Kind → Bool
@@ -38,7 +38,7 @@ IsFit m kind.Str bytes a = IsPiece m bytes
 IsFit m kind.Text bytes a = in_string a ≡ false
 IsFit m _ bytes a = in_string a ≡ false
 
-record Fits (limit : ℕ) (m : Mode) (bytes : List ℕ) (f : Front) : Type 0 where
+record Fits (limit : ℕ) (m : Mode) (bytes : List ℕ) (f : Ahead) : Type 0 where
   told : (k : Kind) (text rest : List ℕ) (a : Mode) → bytes ≡ text ++ rest → Allows (meant m f) limit bytes k text a → IsFit m k text a
 
 shut : (m : Mode) (k : Kind) (text : List ℕ) (a : Mode) → is_str k ≡ false → in_string a ≡ false → IsFit m k text a

@@ -8,15 +8,15 @@ mod colors;
 mod device;
 mod escape;
 mod fields;
-mod graphics;
 mod iterm;
+mod kitty_graphics;
 mod marks;
 mod osc;
 mod shown;
 
 use crate::device::device_control;
 use crate::fields::Body;
-use crate::graphics::graphics;
+use crate::kitty_graphics::graphics;
 use crate::osc::command;
 pub use escape::append_escaped;
 pub use shown::{Quoted, Shown, is_seen};

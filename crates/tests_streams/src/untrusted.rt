@@ -1,7 +1,7 @@
 //! What `strip` and `clean` leave of what is used against those who print untrusted text, and of text.
 
 use crate::spelling::{bytes_of, law, spelled};
-use csicodec_safe::{
+use csicodec_clean::{
     Cleaner, Depth, Dropped, Kept, Passing, Rule, clean, clean_in, clean_with, strip,
 };
 use std::alloc::{AllocError, Global};

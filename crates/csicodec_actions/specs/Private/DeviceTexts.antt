@@ -7,7 +7,7 @@ use Rattle.csicodec_tokens.specs.declared.param.CsiParam.{CsiParam}
 use Rattle.csicodec_tokens.specs.declared.param.CsiParam.TheVariants.{Integer}
 use Rattle.csicodec_actions.specs.Devices
 use Rattle.csicodec_actions.specs.Devices.{attribute_token}
-use Rattle.csicodec_actions.specs.Graphics.{item_number}
+use Rattle.csicodec_actions.specs.XtSmGraphics.{item_number}
 use Rattle.csicodec_actions.specs.Table.Device.{line, written_device}
 use Rattle.csicodec_actions.specs.Written.{shown, written_text}
 

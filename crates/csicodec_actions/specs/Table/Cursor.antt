@@ -9,7 +9,7 @@ use Rattle.csicodec_actions.specs.declared.cursor.Cursor.TheVariants as cursor
 use Rattle.csicodec_actions.specs.Actions.{Action, Cursor}
 use Rattle.csicodec_actions.specs.Kinds.{Count, Last, Style, Control, Clear}
 use Rattle.csicodec_actions.specs.Rows.{Row, row, One, Number, mark, counted, chosen, halves, paired, Before, before, read_by}
-use Rattle.csicodec_actions.specs.Written.{Written, The, count, choice, two, plain, write, put}
+use Rattle.csicodec_actions.specs.Written.{Written, The, count, choice, two, fixed, write, put}
 
 -- the top, and a bottom that is 4294967295 where it is left out or 0
 abbrev pub top_and_bottom : List (Row Action)
@@ -80,5 +80,5 @@ written_cursor (cursor.SetTopAndBottomMargins a b) = write (if a == 1 && b == mo
 written_cursor (cursor.SetLeftAndRightMargins a b) = write (if a == 1 && b == most then [] else two Count a b) "s"
 written_cursor cursor.SaveCursor = write [] "s"
 written_cursor cursor.RestoreCursor = write [] "u"
-written_cursor cursor.RequestActivePositionReport = write (plain 6 ∷ []) "n"
+written_cursor cursor.RequestActivePositionReport = write (fixed 6 ∷ []) "n"
 written_cursor (cursor.CursorStyle c) = write (The Style c ∷ put " " ∷ []) "q"

@@ -6,8 +6,8 @@ use Rattle.csicodec_actions.specs.declared.device.DeviceAttribute.{DeviceAttribu
 use Rattle.csicodec_actions.specs.Devices as devices
 use Rattle.csicodec_actions.specs.Actions.{Action, Device}
 use Rattle.csicodec_actions.specs.Rows.{Row, row, open_row, Number, mark, Before, before, read_by}
-use Rattle.csicodec_actions.specs.Table.Graphics.{written_graphics}
-use Rattle.csicodec_actions.specs.Written.{Item, Attribute, Written, any_number, listed, plain, write, put}
+use Rattle.csicodec_actions.specs.Table.XtSmGraphics.{written_graphics}
+use Rattle.csicodec_actions.specs.Written.{Item, Attribute, Written, any_number, listed, fixed, write, put}
 
 -- nothing or 0, also behind `>` and `=`
 abbrev pub requests : List (Row Action)
@@ -62,20 +62,20 @@ as_device list final = read_by device_rows list final
 
 -- the number of the service class, and then each extension
 abbrev pub written_class : ℕ → List DeviceAttribute → Written
-written_class class attributes = write (put "?" ∷ plain class ∷ listed Attribute attributes) "c"
+written_class class attributes = write (put "?" ∷ fixed class ∷ listed Attribute attributes) "c"
 
 -- a line for each variant
 abbrev pub written_attributes : devices.Attributes → Written
-written_attributes devices.Vt100WithAdvancedVideoOption = write (put "?" ∷ plain 1 ∷ put ";" ∷ plain 2 ∷ []) "c"
-written_attributes devices.Vt101WithNoOptions = write (put "?" ∷ plain 1 ∷ put ";" ∷ plain 0 ∷ []) "c"
-written_attributes devices.Vt102 = write (put "?" ∷ plain 6 ∷ []) "c"
+written_attributes devices.Vt100WithAdvancedVideoOption = write (put "?" ∷ fixed 1 ∷ put ";" ∷ fixed 2 ∷ []) "c"
+written_attributes devices.Vt101WithNoOptions = write (put "?" ∷ fixed 1 ∷ put ";" ∷ fixed 0 ∷ []) "c"
+written_attributes devices.Vt102 = write (put "?" ∷ fixed 6 ∷ []) "c"
 written_attributes (devices.Vt220 attributes) = written_class 62 attributes
 written_attributes (devices.Vt320 attributes) = written_class 63 attributes
 written_attributes (devices.Vt420 attributes) = written_class 64 attributes
 
 -- the parameters of a serial line: no parity, 8 bits, 128 both ways (38400 baud in xterm), 1 for a clock multiplier of 16, no switches
 abbrev pub line : List Item
-line = listed plain (1 ∷ 1 ∷ 128 ∷ 128 ∷ 1 ∷ 0 ∷ [])
+line = listed fixed (1 ∷ 1 ∷ 128 ∷ 128 ∷ 1 ∷ 0 ∷ [])
 
 -- a request is written as the report: its number and 2, and then the parameters
 abbrev pub written_parameters : ℤ → Written
@@ -90,5 +90,5 @@ written_device devices.RequestSecondaryDeviceAttributes = write (put ">" ∷ [])
 written_device devices.RequestTertiaryDeviceAttributes = write (put "=" ∷ []) "c"
 written_device devices.RequestTerminalNameAndVersion = write (put ">" ∷ []) "q"
 written_device (devices.RequestTerminalParameters n) = written_parameters n
-written_device devices.StatusReport = write (plain 5 ∷ []) "n"
+written_device devices.StatusReport = write (fixed 5 ∷ []) "n"
 written_device (devices.XtSmGraphics item action_or_status value) = written_graphics item action_or_status value

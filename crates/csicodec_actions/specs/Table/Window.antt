@@ -7,7 +7,7 @@ use Rattle.csicodec_actions.specs.declared.window.Window.TheVariants as window
 use Rattle.csicodec_actions.specs.Actions.{Action, Window}
 use Rattle.csicodec_actions.specs.FieldRows.{FieldRow, field_row, This, Empty, End, Maybe, There, Must, Or, Over, over, no_byte, byte, read_fields}
 use Rattle.csicodec_actions.specs.Kinds.{Any, Count}
-use Rattle.csicodec_actions.specs.Written.{Item, Written, The, plain, write, put}
+use Rattle.csicodec_actions.specs.Written.{Item, Written, The, fixed, write, put}
 
 -- `code`
 abbrev pub alone_rows : List (FieldRow Action)
@@ -84,13 +84,13 @@ maybe None = []
 maybe (Some z) = The Any z ∷ []
 
 abbrev pub alone : ℕ → Written
-alone code = write (plain code ∷ []) "t"
+alone code = write (fixed code ∷ []) "t"
 
 abbrev pub which : ℕ → ℕ → Written
-which code number = write (plain code ∷ put ";" ∷ plain number ∷ []) "t"
+which code number = write (fixed code ∷ put ";" ∷ fixed number ∷ []) "t"
 
 abbrev pub two : ℕ → Option ℤ → Option ℤ → Written
-two code a b = write (plain code ∷ put ";" ∷ maybe a ++ put ";" ∷ maybe b) "t"
+two code a b = write (fixed code ∷ put ";" ∷ maybe a ++ put ";" ∷ maybe b) "t"
 
 -- a line for each variant
 abbrev pub written_window : window_type.Window → Written

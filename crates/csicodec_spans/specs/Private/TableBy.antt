@@ -5,8 +5,8 @@ use Rattle.csicodec_spans.specs.declared.table.Kind as kinds
 use Rattle.csicodec_spans.specs.declared.table.Kind.TheVariants as kind
 use Rattle.csicodec_spans.specs.declared.table.Mode as modes
 use Rattle.csicodec_spans.specs.declared.table.Mode.TheVariants as mode
-use Rattle.csicodec_spans.specs.declared.table.Front.{Front}
-use Rattle.csicodec_spans.specs.declared.table.Front.TheVariants.{GoesOn, Ends, New, Esc, Csi, Unsure}
+use Rattle.csicodec_spans.specs.declared.table.Ahead.{Ahead}
+use Rattle.csicodec_spans.specs.declared.table.Ahead.TheVariants.{GoesOn, Ends, New, Esc, Csi, Unsure}
 use Rattle.csicodec_spans.specs.Table.{Answer, More, Anew, Sequence, Undecided}
 
 -- from the low byte to the high one
@@ -68,13 +68,13 @@ ends mode.BadCsi b = is_within 64 126 b
 ends mode.BadEsc b = is_within 48 126 b
 
 -- behind ESC and an intermediate byte: a final byte, or the two have gone wrong
-abbrev pub intermediate : List ℕ → Front
+abbrev pub intermediate : List ℕ → Ahead
 intermediate [] = Unsure
 intermediate (b ∷ bytes) = if is_within 48 126 b then Esc 3 else New 2 mode.BadEsc
 
 -- behind an ESC that begins anew: `[`, `]`, `P`, `X`, `^` or `_`, another final byte, an intermediate one, or the ESC has
 -- gone wrong
-abbrev pub opened : ℕ → List ℕ → Front
+abbrev pub opened : ℕ → List ℕ → Ahead
 opened b bytes =
     if b == 91 then Csi else
     if b == 93 then New 2 mode.Osc else
@@ -85,7 +85,7 @@ opened b bytes =
     New 1 mode.BadEsc
 
 -- behind ESC: `\` closes the string that is open, a second ESC belongs to a DCS, and anything else begins anew
-abbrev pub escape : modes.Mode → List ℕ → Front
+abbrev pub escape : modes.Mode → List ℕ → Ahead
 escape m [] = Unsure
 escape m (b ∷ bytes) =
     if is_string m && b == 92 then Ends 2 else
@@ -93,7 +93,7 @@ escape m (b ∷ bytes) =
     opened b bytes
 
 -- a byte that stays, or ends and belongs, or ESC; CAN and SUB are left, and are text
-abbrev pub look : modes.Mode → List ℕ → Front
+abbrev pub look : modes.Mode → List ℕ → Ahead
 look m [] = Unsure
 look m (b ∷ bytes) =
     if stays m b then GoesOn 1 else
@@ -102,7 +102,7 @@ look m (b ∷ bytes) =
     New 1 mode.Text
 
 -- the answer of the table that it stands for
-abbrev pub meant : modes.Mode → Front → Answer
+abbrev pub meant : modes.Mode → Ahead → Answer
 meant m (GoesOn n) = More (kind_in m) n m
 meant m (Ends n) = More (kind_in m) n mode.Text
 meant m (New n a) = Anew (kind_in a) n a

@@ -1,11 +1,11 @@
 use Rattle.std.proofs.Common.{sym, ◌∙◌}
-use Rattle.csicodec_parser.proofs.Unread.{read-plain, read-boxed}
+use Rattle.csicodec_parser.proofs.Unread.{read-unboxed, read-boxed}
 use Rattle.csicodec_parser.proofs.canonical.is_unread.Goals as goal
 
 pub returns-then-is_some : goal.returns-then-is_some
-returns-then-is_some c = read-plain c.args.params.now c.args.control c.plain_action.result c.plain_action.ensures (sym c.is_some.ensures ∙ c.if-is_some.true)
+returns-then-is_some c = read-unboxed c.args.params.now c.args.control c.unboxed_action.result c.unboxed_action.ensures (sym c.is_some.ensures ∙ c.if-is_some.true)
 
 pub returns : goal.returns
 returns c =
-    read-boxed c.args.params.now c.args.control c.plain_action.result c.in_ok-boxed.boxed c.is_none.result c.plain_action.ensures (sym c.is_some.ensures ∙ c.if-is_some.false)
+    read-boxed c.args.params.now c.args.control c.unboxed_action.result c.in_ok-boxed.boxed c.is_none.result c.unboxed_action.ensures (sym c.is_some.ensures ∙ c.if-is_some.false)
     c.in_ok-boxed.ensures.ok c.is_none.ensures

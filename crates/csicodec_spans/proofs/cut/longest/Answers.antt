@@ -1,6 +1,6 @@
 use Rattle.std.proofs.Common.{length, refl, inl, sym, ap, ◌∙◌, arith}
 use Rattle.std.proofs.lemmas.List.{length-drop}
-use Rattle.csicodec_spans.specs.declared.table.Front.TheVariants.{GoesOn, Ends}
+use Rattle.csicodec_spans.specs.declared.table.Ahead.TheVariants.{GoesOn, Ends}
 use Rattle.csicodec_spans.specs.declared.table.Mode.TheVariants as mode
 use Rattle.csicodec_spans.proofs.OneSpan.{taken_within}
 use Rattle.csicodec_spans.proofs.Spanned.{before_rest, rest_is}

@@ -1,5 +1,5 @@
 use Rattle.std.proofs.Common.{◌≡◌, take, sym, ◌∙◌, refl, inl, inr}
-use Rattle.csicodec_spans.specs.declared.table.Front.TheVariants.{GoesOn, Ends, New, Esc}
+use Rattle.csicodec_spans.specs.declared.table.Ahead.TheVariants.{GoesOn, Ends, New, Esc}
 use Rattle.csicodec_spans.specs.declared.table.Kind.TheVariants as kind
 use Rattle.csicodec_spans.proofs.Longest.{closed_maximal, ends_maximal}
 use Rattle.csicodec_spans.proofs.Missed.{no_csi}

@@ -1,0 +1,194 @@
+-- What went out is a front of the text of the whole stream, whatever comes behind.
+use Rattle.std.proofs.Common.{◌≡◌, ℕ, Bool, true, false, cond, Option, IfSome, List, [], ◌∷◌, ◌++◌, map, refl, sym, ap, subst, ◌∙◌, append_assoc, append-nil}
+use Rattle.std.specs.Prelude.{filter}
+use Rattle.std.specs.Io.KnownBytes.{Appends, Consumes, IsAtEnd}
+use Rattle.bstr.specs.Utf8.{lossy_chars}
+use Rattle.csicodec_actions.specs.Actions.{Action}
+use Rattle.csicodec_spans.specs.declared.table.Kind.{Kind}
+use Rattle.csicodec_spans.specs.declared.table.Kind.TheVariants as kind
+use Rattle.csicodec_spans.specs.declared.table.Mode.TheVariants as mode
+use Rattle.csicodec_spans.specs.Parts.{Part, IsWhole, left_over}
+use Rattle.csicodec_spans.proofs.Kept.{parts_more}
+use Rattle.csicodec_spans.proofs.Once.{parts_front}
+use Rattle.csicodec_filter.specs.Transform.{Sends}
+use Rattle.csicodec_filter.proofs.Sent.{whole_front}
+use Rattle.csicodec_clean.specs.declared.styles.Passing.{Passing}
+use Rattle.csicodec_clean.specs.Links.{Begun, is_linked, links_in, start}
+use Rattle.csicodec_clean.specs.Shown.{shown, shown_chars, shown_text, IsRead}
+use Rattle.csicodec_clean.specs.Titles.{title_open, with_titles}
+use Rattle.csicodec_clean.specs.Cleaned.{RuleOf, IsStep, AreSteps, Ends, Strips, stripped, drops, ends_bare, is_text, longest}
+use Rattle.csicodec_clean.specs.Stream.{Begins, Between, Goes, IsFrontOf, Takes, start_of}
+use Rattle.csicodec_clean.specs.Styled.{kept, Item, Style, item_texts, shown_items, Leaves, begun_behind, run_behind, items_behind, AreLeft, is_open, styles_of, links_of, ends_of, StylesIn, Keeping, first_kept, keeps, resets}
+use Rattle.csicodec_clean.proofs.Again.{of_once, one_styled}
+use Rattle.csicodec_clean.proofs.Plain.{steps_stripped, strips}
+use Rattle.csicodec_clean.proofs.Shows.{shown_read}
+use Rattle.csicodec_clean.proofs.Styled.{given_string, part_texts, styles, texts_both, texts_chars, texts_links, texts_styles}
+use Rattle.csicodec_clean.proofs.Sure.{read_more, read_none}
+use Rattle.csicodec_clean.proofs.Titles.{titles_on}
+use Rattle.csicodec_clean.proofs.Twice.{one_text}
+
+-- the text begins with another
+abbrev pub GoesOnFrom : List ℕ → List ℕ → Type 0
+GoesOnFrom text front = (more : List ℕ) × (text ≡ front ++ more)
+
+on : (text front more : List ℕ) → text ≡ front ++ more → GoesOnFrom text front
+on text front more e = (more, e)
+
+further : (text front other : List ℕ) → GoesOnFrom text front → GoesOnFrom (text ++ other) front
+further text front other (more, e) = (more ++ other, ap (λ (t : List ℕ). t ++ other) e ∙ append_assoc front more other)
+
+-- bytes more in the run, and nothing more read of it
+read_longer : (run chars rest bytes : List ℕ) → IsRead run chars rest → IsRead (run ++ bytes) chars (rest ++ bytes)
+read_longer run chars rest bytes h =
+    subst (λ (cs : List ℕ). IsRead (run ++ bytes) cs (rest ++ bytes)) (append-nil chars) (read_more run rest bytes (rest ++ bytes) chars [] h (read_none (rest ++ bytes)))
+
+run_begins : (run chars rest : List ℕ) → IsRead run chars rest → GoesOnFrom (shown_text run) (shown_chars chars)
+run_begins run chars rest h = (shown_text rest, shown_read run chars rest h)
+
+-- ---- stripped
+
+stripped_begins : (ps : List Part) (run chars rest : List ℕ) → IsRead run chars rest → GoesOnFrom (stripped run ps) (shown_chars chars)
+stripped_begins [] run chars rest h = run_begins run chars rest h
+stripped_begins (p ∷ ps) run chars rest h =
+    by (is_text p.kind) (stripped_begins ps (run ++ p.bytes) chars (rest ++ p.bytes) (read_longer run chars rest p.bytes h)) (further (shown_text run) (shown_chars chars) (stripped [] ps) (run_begins run chars rest h))
+  where
+    by : (b : Bool) → GoesOnFrom (stripped (run ++ p.bytes) ps) (shown_chars chars) → GoesOnFrom (shown_text run ++ stripped [] ps) (shown_chars chars)
+        → GoesOnFrom (cond b (stripped (run ++ p.bytes) ps) (shown_text run ++ stripped [] ps)) (shown_chars chars)
+    by true x y = x
+    by false x y = y
+
+-- ---- the parts that come behind those that were taken
+
+record Behind (limit : ℕ) (parts all : List Part) : Type 0 where
+  later : List Part
+  whole : with_titles false all ≡ with_titles false parts ++ later
+
+behind : {S : Type 0} (Gives : RuleOf S) (s : S) (read more text : List ℕ) (last : Between S) (all : List Part) (g : Goes Gives longest mode.Text false s [] [] read text last.bytes last.mode last.titled last.rule last.held)
+    → IsWhole longest mode.Text (read ++ more) all → Behind longest g.parts all
+behind Gives s read more text last all g w =
+    let (others, e) = parts_front longest g.parts w.sure mode.Text (read ++ more) (last.bytes ++ more) w.rest last.mode w.after (parts_more longest g.parts mode.Text read more last.bytes last.mode g.first) w.first w.unsure in
+    let qs = others ++ left_over w.rest in
+    let parts : all ≡ g.parts ++ qs = w.whole ∙ ap (λ (x : List Part). x ++ left_over w.rest) e ∙ append_assoc g.parts others (left_over w.rest) in
+    record { later = with_titles (title_open false g.parts) qs; whole = ap (with_titles false) parts ∙ titles_on false g.parts qs }
+
+-- what was appended, and the characters of the run that were read, are those of the parts
+goes_front : {S : Type 0} (Gives : RuleOf S) (s : S) (read text : List ℕ) (last : Between S) (rest whole : List ℕ) (g : Goes Gives longest mode.Text false s [] [] read text last.bytes last.mode last.titled last.rule last.held)
+    → whole ≡ g.text ++ rest → GoesOnFrom rest (shown_chars g.read) → GoesOnFrom whole text
+goes_front Gives s read text last rest whole g e (more, f) =
+    (more, e ∙ ap (λ (t : List ℕ). g.text ++ t) f ∙ sym (append_assoc g.text (shown_chars g.read) more) ∙ ap (λ (t : List ℕ). t ++ more) (sym g.same))
+
+module _ {S : Type 0} where
+  pub strip_front : (s : S) (read more text : List ℕ) (last : Between S) → Takes drops (start_of s) read text last → IsFrontOf (Strips longest) (read ++ more) text
+  strip_front s read more text last h whole k =
+      let g = h.goes [] [] (read_none []) in
+      let b = behind drops s read more text last k.parts g k.whole in
+      let parts : whole ≡ g.text ++ stripped g.left b.later = k.left ∙ ap (stripped []) b.whole ∙ steps_stripped (with_titles false g.parts) b.later s last.rule [] g.text g.left g.steps in
+      goes_front drops s read text last (stripped g.left b.later) whole g parts (stripped_begins b.later g.left g.read last.held g.is_read)
+
+-- ---- with styles
+
+ended_begins : (run chars rest : List ℕ) (own others : List Item) → IsRead run chars rest → GoesOnFrom (item_texts (shown_items run ++ (own ++ others))) (shown_chars chars)
+ended_begins run chars rest own others h =
+    subst (λ (t : List ℕ). GoesOnFrom t (shown_chars chars)) (sym (part_texts run own others)) (further (shown_text run) (shown_chars chars) (item_texts own ++ item_texts others) (run_begins run chars rest h))
+
+part_begins : (d : Passing) (b : Begun) (k : Kind) (run bytes chars rest : List ℕ) (own others : List Item) → Leaves d b k bytes own → IsRead run chars rest
+    → ((cs r : List ℕ) → IsRead (run_behind k run bytes) cs r → GoesOnFrom (item_texts others) (shown_chars cs)) → GoesOnFrom (item_texts (items_behind k run ++ (own ++ others))) (shown_chars chars)
+part_begins d b kind.Text run bytes chars rest own others none h later = rw none (later chars (rest ++ bytes) (read_longer run chars rest bytes h))
+part_begins d b kind.Csi run bytes chars rest own others l h later = ended_begins run chars rest own others h
+part_begins d b kind.Esc run bytes chars rest own others l h later = ended_begins run chars rest own others h
+part_begins d b kind.Str run bytes chars rest own others l h later = ended_begins run chars rest own others h
+part_begins d b kind.Other run bytes chars rest own others l h later = ended_begins run chars rest own others h
+
+left_begins : (d : Passing) (b : Begun) (ps : List Part) (run chars rest : List ℕ) (items : List Item) → IsRead run chars rest → AreLeft d b run ps items → GoesOnFrom (item_texts items) (shown_chars chars)
+left_begins d b [] run chars rest items h e =
+    subst (λ (t : List ℕ). GoesOnFrom t (shown_chars chars)) (sym (ap item_texts e ∙ texts_chars (filter shown (lossy_chars run)))) (run_begins run chars rest h)
+left_begins d b (p ∷ ps) run chars rest items h (own, others, leaves, e, left) =
+    subst (λ (x : List Item). GoesOnFrom (item_texts x) (shown_chars chars)) (sym e)
+    (part_begins d b p.kind run p.bytes chars rest own others leaves h (λ cs r i. left_begins d (begun_behind d b p.kind p.bytes) ps (run_behind p.kind run p.bytes) cs r others i left))
+
+module _ {S : Type 0} (of : S → Keeping) where
+  -- what a step gave is the text of what the part leaves
+  record OneStep (k : Kind) (s mid : S) (run bytes first next : List ℕ) (own others : List Item) : Type 0 where
+    text : item_texts (items_behind k run ++ (own ++ others)) ≡ first ++ item_texts others
+    next_run : next ≡ run_behind k run bytes
+    passing : (of mid).passing ≡ (of s).passing
+    begun : (of mid).begun ≡ begun_behind (of s).passing (of s).begun k bytes
+
+  -- where a part ends the run
+  ended : (run first own_text : List ℕ) (own others : List Item) → first ≡ shown_text run ++ own_text → item_texts own ≡ own_text → item_texts (shown_items run ++ (own ++ others)) ≡ first ++ item_texts others
+  ended run first own_text own others e same =
+      part_texts run own others ∙ ap (λ (t : List ℕ). shown_text run ++ (t ++ item_texts others)) same ∙ sym (append_assoc (shown_text run) own_text (item_texts others)) ∙ ap (λ (t : List ℕ). t ++ item_texts others) (sym e)
+
+  bare : (run first : List ℕ) (own others : List Item) → first ≡ shown_text run → own ≡ [] → item_texts (shown_items run ++ (own ++ others)) ≡ first ++ item_texts others
+  bare run first own others e none = ended run first [] own others (e ∙ sym (append-nil (shown_text run))) (ap item_texts none)
+
+  step_left : (k : Kind) (s mid : S) (run bytes first next : List ℕ) (own others : List Item) → IsStep (keeps of) k s run bytes first mid next → Leaves (of s).passing (of s).begun k bytes own → OneStep k s mid run bytes first next own others
+  step_left kind.Text s mid run bytes first next own others (none, same, on) l =
+      record { text = rw (none, l) refl; next_run = on; passing = ap (λ (x : S). (of x).passing) same; begun = ap (λ (x : S). (of x).begun) same }
+  step_left kind.Csi s mid run bytes first next own others (given, (actions, one, same, state), e, left) (more, other, l) =
+      let d = (of s).passing.depth in
+      let text : item_texts own ≡ given = ap item_texts (l ∙ ap (λ (x : List Action). map Style (kept d x)) (of_once bytes more actions other one)) ∙ texts_styles (kept d actions) ∙ sym same in
+      record { text = ended run first given own others e text; next_run = left; passing = ap (λ (x : Keeping). x.passing) state; begun = ap (λ (x : Keeping). x.begun) state }
+  step_left kind.Str s mid run bytes first next own others (given, steps, e, left) l =
+      let g = given_string of bytes s mid given steps in
+      let text : item_texts own ≡ given = ap item_texts l ∙ texts_links (links_in (of s).passing.links (of s).begun bytes) ∙ sym g.told in
+      record { text = ended run first given own others e text; next_run = left; passing = ap (λ (x : Keeping). x.passing) g.state; begun = ap (λ (x : Keeping). x.begun) g.state }
+  step_left kind.Esc s mid run bytes first next own others (e, same, left) l =
+      record { text = bare run first own others e l; next_run = left; passing = ap (λ (x : S). (of x).passing) same; begun = ap (λ (x : S). (of x).begun) same }
+  step_left kind.Other s mid run bytes first next own others (e, same, left) l =
+      record { text = bare run first own others e l; next_run = left; passing = ap (λ (x : S). (of x).passing) same; begun = ap (λ (x : S). (of x).begun) same }
+
+  record Later (d : Passing) (qs : List Part) (last text : List ℕ) (items : List Item) : Type 0 where
+    others : List Item
+    begun : Begun
+    left : AreLeft d begun last qs others
+    all : item_texts items ≡ text ++ item_texts others
+
+  steps_left : (ps qs : List Part) (s after : S) (run text last : List ℕ) (items : List Item) → AreSteps (keeps of) s run ps text after last → AreLeft (of s).passing (of s).begun run (ps ++ qs) items → Later (of s).passing qs last text items
+  steps_left [] qs s after run text last items (none, same, e) l = record { others = items; begun = (of s).begun; left = rw e l; all = rw none refl }
+  steps_left (p ∷ ps) qs s after run text last items (first, mid, next, more, step, e, rest) (own, others, leaves, f, l) =
+      let one = step_left p.kind s mid run p.bytes first next own others step leaves in
+      let r = steps_left ps qs mid after next more last others rest (rw (one.passing, one.begun, one.next_run) l) in
+      record {
+        others = r.others;
+        begun = r.begun;
+        left = subst (λ (d : Passing). AreLeft d r.begun last qs r.others) one.passing r.left;
+        all = ap item_texts f ∙ one.text ∙ ap (λ (t : List ℕ). first ++ t) r.all ∙ sym (append_assoc first more (item_texts r.others)) ∙ ap (λ (t : List ℕ). t ++ item_texts r.others) (sym e);
+      }
+
+  pub clean_front : (s : S) (read more text : List ℕ) (last : Between S) → (of s).begun ≡ start → Takes (keeps of) (start_of s) read text last → IsFrontOf (StylesIn (of s).passing) (read ++ more) text
+  clean_front s read more text last first h whole k =
+      let g = h.goes [] [] (read_none []) in
+      let b = behind (keeps of) s read more text last k.parts g k.whole in
+      let left : AreLeft (of s).passing start [] (with_titles false g.parts ++ b.later) k.items = subst (λ (ps : List Part). AreLeft (of s).passing start [] ps k.items) b.whole k.left in
+      let r = steps_left (with_titles false g.parts) b.later s last.rule [] g.text g.left k.items g.steps (rw first left) in
+      let end : List Item = ends_of (is_linked false (links_of k.items)) (is_open false (styles_of k.items)) in
+      let parts : whole ≡ g.text ++ (item_texts r.others ++ item_texts end) = k.all ∙ texts_both k.items end ∙ ap (λ (t : List ℕ). t ++ item_texts end) r.all ∙ append_assoc g.text (item_texts r.others) (item_texts end) in
+      goes_front (keeps of) s read text last (item_texts r.others ++ item_texts end) whole g parts
+      (further (item_texts r.others) (shown_chars g.read) (item_texts end) (left_begins (of s).passing r.begun b.later g.left g.read last.held r.others g.is_read r.left))
+
+-- ---- from a reader to a writer
+
+shorter : (Out : List ℕ → List ℕ → Type 0) (bytes sent unsent : List ℕ) → IsFrontOf Out bytes (sent ++ unsent) → IsFrontOf Out bytes sent
+shorter Out bytes sent unsent h whole k = let (more, e) = h whole k in (unsent ++ more, e ∙ append_assoc sent unsent more)
+
+-- what went out of a run is a front of the text of the whole input
+abbrev pub SentFront : (List ℕ → List ℕ → Type 0) → Option (List ℕ) → Option (List ℕ) → Option (List ℕ) → Type 0
+SentFront Out i w y = IfSome i (λ bytes. (sent : List ℕ) × IsFrontOf Out bytes sent × Appends w y sent)
+
+same_front : (Out : List ℕ → List ℕ → Type 0) (bytes text : List ℕ) → ((other : List ℕ) → Out bytes other → other ≡ text) → IsFrontOf Out bytes text
+same_front Out bytes text one whole k = ([], one whole k ∙ sym (append-nil text))
+
+pub strip_sent : {S : Type 0} (s : S) (bytes more sent : List ℕ) (i k w y : Option (List ℕ)) → Consumes i k (bytes ++ more) → Begins drops ends_bare s ((more ≡ []) × IsAtEnd k) bytes sent → Appends w y sent
+    → SentFront (Strips longest) i w y
+strip_sent s = whole_front (Sends (Takes drops) (start_of s)) (Ends drops ends_bare longest s) (IsFrontOf (Strips longest)) (shorter (Strips longest)) (λ read more text (last, h). strip_front s read more text last h)
+    (λ bytes text e. same_front (Strips longest) bytes text (λ other k. one_text longest bytes other text k (strips longest s bytes text e)))
+
+pub clean_sent : {S : Type 0} (of : S → Keeping) (d : Passing) (s : S) → of s ≡ first_kept d → (bytes more sent : List ℕ) (i k w y : Option (List ℕ)) → Consumes i k (bytes ++ more)
+    → Begins (keeps of) (resets of) s ((more ≡ []) × IsAtEnd k) bytes sent → Appends w y sent → SentFront (StylesIn d) i w y
+clean_sent of d s begins =
+    let same : (of s).passing ≡ d = ap (λ (x : Keeping). x.passing) begins in
+    let first : (of s).begun ≡ start = ap (λ (x : Keeping). x.begun) begins in
+    whole_front (Sends (Takes (keeps of)) (start_of s)) (Ends (keeps of) (resets of) longest s) (IsFrontOf (StylesIn d)) (shorter (StylesIn d))
+    (λ read more text (last, h). subst (λ (x : Passing). IsFrontOf (StylesIn x) (read ++ more) text) same (clean_front of s read more text last first h))
+    (λ bytes text e. same_front (StylesIn d) bytes text (λ other k. one_styled d bytes other text k (styles of d s bytes text begins e)))

@@ -1,0 +1,149 @@
+-- A stream whose state the caller keeps, step by step.
+use Rattle.std.proofs.Common.{◌≡◌, ◌≤◌, ◌<◌, ℕ, Bool, true, false, cond, List, [], ◌∷◌, ◌++◌, length, length-append, take, drop, ◌+◌, ◌-◌, refl, sym, ap, subst, ◌∙◌, ⊎_elim, append_assoc, append-nil, arith}
+use Rattle.std.specs.List.{concat}
+use Rattle.std.proofs.lemmas.List.{length-take-le, take-append-drop, take-append-le, drop-append-le}
+use Rattle.std.proofs.Math.Seq.{take-append_seam, drop-append_seam}
+use Rattle.csicodec_actions.specs.Actions as action
+use Rattle.csicodec_actions.specs.Table.{text}
+use Rattle.csicodec_base.specs.declared.sgr.Sgr.TheVariants as sgr
+use Rattle.csicodec_spans.specs.declared.table.Kind.{Kind}
+use Rattle.csicodec_spans.specs.declared.table.Kind.TheVariants as kind
+use Rattle.csicodec_spans.specs.Parts.{Part, IsUnsure}
+use Rattle.csicodec_spans.proofs.Kept.{unsure_short}
+use Rattle.csicodec_spans.proofs.Spanned.{rest_is}
+use Rattle.csicodec_clean.specs.declared.colors.Depth.{Depth}
+use Rattle.csicodec_clean.specs.declared.pause.Pause.{Pause}
+use Rattle.csicodec_clean.specs.declared.whole.Dropped.{Dropped}
+use Rattle.csicodec_clean.specs.Shown.{IsRead, shown_text}
+use Rattle.csicodec_clean.specs.Titles.{with_titles}
+use Rattle.csicodec_clean.specs.Cleaned.{RuleOf, EndOf, AreGiven, AreSteps, IsStep, Strips, drops, ends_bare, longest}
+use Rattle.csicodec_clean.specs.Stream.{AreTaken, Between, Goes, Takes}
+use Rattle.csicodec_clean.specs.Styled.{Keeping, StylesIn, resets, resumed, keeps, without_links}
+use Rattle.csicodec_clean.specs.Steps.{AreStepped, Resumes, Steps, bare, beginning, between, ending}
+use Rattle.csicodec_clean.proofs.Chunks.{any_chunks}
+use Rattle.csicodec_clean.proofs.Plain.{strips}
+use Rattle.csicodec_clean.proofs.Styled.{styles}
+use Rattle.csicodec_clean.proofs.Sure.{read_none}
+
+-- what is held is the end of the bytes
+pub last_held : (held bytes front rest new : List ℕ) → length held ≡ 0 → bytes ≡ front ++ rest → new ≡ held ++ rest → held ++ bytes ≡ front ++ new
+last_held [] bytes front rest new none split e = split ∙ ap (λ (t : List ℕ). front ++ t) (sym e)
+last_held (h ∷ held) bytes front rest new none split e = absurd (omega (arith, none))
+
+pub none_held : (bytes held : List ℕ) → held ≡ [] → bytes ≡ bytes ++ held
+none_held bytes held e = sym (append-nil bytes) ∙ ap (λ (t : List ℕ). bytes ++ t) (sym e)
+
+-- what is held stands before the rest, a span more
+pub held_on : (before gone held span kept rest left all : List ℕ) → all ≡ before ++ (held ++ rest) → rest ≡ span ++ left → held ++ span ≡ gone ++ kept → all ≡ (before ++ gone) ++ (kept ++ left)
+held_on before gone held span kept rest left all e split now =
+    e ∙ ap (λ (t : List ℕ). before ++ (held ++ t)) split ∙ ap (λ (t : List ℕ). before ++ t) (sym (append_assoc held span left) ∙ ap (λ (t : List ℕ). t ++ left) now ∙ append_assoc gone kept left)
+    ∙ sym (append_assoc before gone (kept ++ left))
+
+-- the bytes that a step leaves
+parted : (n : ℕ) (bytes held behind before left : List ℕ) → held ≡ take n bytes → behind ≡ drop n bytes → held ++ behind ≡ before ++ left → bytes ≡ before ++ left
+parted n bytes held behind before left h b e = sym (take-append-drop n bytes) ∙ ap (λ (t : List ℕ). t ++ drop n bytes) (sym h) ∙ ap (λ (t : List ℕ). held ++ t) (sym b) ∙ e
+
+pub room : (n : ℕ) (bytes held behind before left rest : List ℕ) → held ≡ take n bytes → behind ≡ drop n bytes → held ++ behind ≡ before ++ (left ++ rest) → length left + length rest ≤ length bytes
+room n bytes held behind before left rest h b e =
+    let whole = parted n bytes held behind before (left ++ rest) h b e in
+    omega (arith, ap length whole, length-append before (left ++ rest), length-append left rest)
+
+module _ {S : Type 0} (Gives : RuleOf S) where
+  -- a step, by what goes behind the bytes that are held
+  pub resumes : (s t : S) (p q : Pause) (bytes held behind text left rest : List ℕ) → held ≡ take p.held bytes → behind ≡ drop p.held bytes → q.held ≡ length left → IsUnsure longest q.mode rest
+      → ((run chars : List ℕ) → IsRead run chars held → Goes Gives longest p.mode p.titled s run chars behind text rest q.mode q.titled t left)
+      → Resumes Gives s p bytes text t q (left ++ rest)
+  resumes s t p q bytes held behind text left rest h b n unsure goes again more e low =
+      let first : held ≡ take p.held again = h ∙ ap (λ (x : List ℕ). take p.held x) e ∙ take-append-le p.held again more low in
+      let others : behind ≡ drop p.held again ++ more = b ∙ ap (λ (x : List ℕ). drop p.held x) e ∙ drop-append-le p.held again more low in
+      let now : take q.held (left ++ rest) ≡ left = ap (λ (i : ℕ). take i (left ++ rest)) n ∙ take-append_seam left rest in
+      let later : drop q.held (left ++ rest) ≡ rest = ap (λ (i : ℕ). drop i (left ++ rest)) n ∙ drop-append_seam left rest in
+      record {
+        unsure = subst (λ (x : List ℕ). IsUnsure longest q.mode x) (sym later) unsure;
+        goes = λ run chars read.
+            let g = goes run chars (subst (λ (x : List ℕ). IsRead run chars x) (sym first) read) in
+            let g1 = subst (λ (x : List ℕ). Goes Gives longest p.mode p.titled s run chars x text rest q.mode q.titled t left) others g in
+            let g2 = subst (λ (x : List ℕ). Goes Gives longest p.mode p.titled s run chars (drop p.held again ++ more) text x q.mode q.titled t left) (sym later) g1 in
+            subst (λ (x : List ℕ). Goes Gives longest p.mode p.titled s run chars (drop p.held again ++ more) text (drop q.held (left ++ rest)) q.mode q.titled t x) (sym now) g2;
+      }
+
+  pub stepped : (s t : S) (p q : Pause) (bytes held behind text before left rest : List ℕ) (used : ℕ) → held ≡ take p.held bytes → behind ≡ drop p.held bytes → held ++ behind ≡ before ++ (left ++ rest)
+      → p.held ≤ length bytes → q.held ≡ length left → used ≡ length bytes - (length left + length rest) → (length held ≤ 3 → length left ≤ 3) → IsUnsure longest q.mode rest
+      → ((run chars : List ℕ) → IsRead run chars held → Goes Gives longest p.mode p.titled s run chars behind text rest q.mode q.titled t left)
+      → Steps Gives s p bytes text t q (drop used bytes)
+  stepped s t p q bytes held behind text before left rest used h b e fits n u few unsure goes =
+      let whole = parted p.held bytes held behind before (left ++ rest) h b e in
+      let size : length (left ++ rest) ≡ length left + length rest = length-append left rest in
+      let same : drop used bytes ≡ left ++ rest = ap (λ (i : ℕ). drop i bytes) (u ∙ ap (λ (i : ℕ). length bytes - i) (sym size)) ∙ rest_is bytes before (left ++ rest) whole in
+      let low : length rest < longest = ⊎_elim (λ x. x) (λ x. omega (arith, x)) (unsure_short longest q.mode rest unsure) in
+      let first : length held ≡ p.held = ap length h ∙ length-take-le p.held bytes fits in
+      subst (λ (x : List ℕ). Steps Gives s p bytes text t q x) (sym same) (record {
+        takes = resumes s t p q bytes held behind text left rest h b n unsure goes;
+        held = omega (arith, n, size);
+        few = λ three. omega (arith, n, few (omega (arith, three, first)));
+        short = omega (arith, low, n, size);
+      })
+
+  -- steps in turn are chunks in turn
+  pub stepped_taken : (rule : Bool → S) (p q : Pause) (again : List ℕ) (chunks : List (List ℕ)) (text rest : List ℕ) → p.held ≤ length again → AreStepped Gives rule p again chunks text q rest
+      → AreTaken Gives (between (rule p.styled) p again) chunks text (between (rule q.styled) q rest)
+  stepped_taken rule p q again [] text rest low (none, same, e) = (none, ap (λ (x : Pause). between (rule x.styled) x rest) same ∙ ap (λ (x : List ℕ). between (rule p.styled) p x) e)
+  stepped_taken rule p q again (chunk ∷ chunks) text rest low (mid, left, first, others, step, e, more) =
+      (between (rule mid.styled) mid left, first, others, step.takes again chunk refl low, e, stepped_taken rule mid q left chunks others rest step.held more)
+
+-- ---- the styles that stay, without links
+
+-- nothing comes of a link
+same_behind : (bytes : List ℕ) (d : Depth) (t : Bool) (text : List ℕ) (after : Keeping) → AreGiven (keeps (λ (k : Keeping). k)) (resumed d t) bytes text after → after ≡ resumed d t
+same_behind [] d t text after h = h.1
+same_behind (b ∷ bytes) d t text after (first, mid, others, byte, e, rest) =
+    same_behind bytes d t others after (subst (λ (k : Keeping). AreGiven (keeps (λ (x : Keeping). x)) k bytes others after) byte.1 rest)
+
+resumed_step : (k : Kind) (d : Depth) (t : Bool) (run bytes text : List ℕ) (after : Keeping) (left : List ℕ) → IsStep (keeps (λ (x : Keeping). x)) k (resumed d t) run bytes text after left → (u : Bool) × (after ≡ resumed d u)
+resumed_step kind.Text d t run bytes text after left h = (t, h.1)
+resumed_step kind.Csi d t run bytes text after left (own, (actions, is, out, same), e, none) = (_, same)
+resumed_step kind.Esc d t run bytes text after left h = (t, h.1)
+resumed_step kind.Str d t run bytes text after left (own, given, e, none) = (t, same_behind bytes d t own after given)
+resumed_step kind.Other d t run bytes text after left h = (t, h.1)
+
+resumed_steps : (ps : List Part) (d : Depth) (t : Bool) (run text : List ℕ) (after : Keeping) (left : List ℕ) → AreSteps (keeps (λ (x : Keeping). x)) (resumed d t) run ps text after left → (u : Bool) × (after ≡ resumed d u)
+resumed_steps [] d t run text after left h = (t, h.1)
+resumed_steps (p ∷ ps) d t run text after left (first, mid, next, others, step, e, rest) =
+    let (u, same) = resumed_step p.kind d t run p.bytes first mid next step in
+    resumed_steps ps d u next others after left (subst (λ (k : Keeping). AreSteps (keeps (λ (x : Keeping). x)) k next ps others after left) same rest)
+
+-- so the state behind a step is plain data, too
+pub styled_steps : (d : Depth) (t u : Bool) (s k : Keeping) (p q : Pause) (bytes made rest : List ℕ) → s ≡ resumed d t → u ≡ k.styled → p.held ≤ length bytes → Steps (keeps (λ (x : Keeping). x)) s p bytes made k q rest
+    → Steps (keeps (λ (x : Keeping). x)) (resumed d t) p bytes made (resumed d u) (record { mode = q.mode; titled = q.titled; styled = u; held = q.held }) rest
+styled_steps d t u s k p q bytes made rest is same_styled low h =
+    let began : Steps (keeps (λ (z : Keeping). z)) (resumed d t) p bytes made k q rest = subst (λ (x : Keeping). Steps (keeps (λ (z : Keeping). z)) x p bytes made k q rest) is h in
+    let held = take p.held bytes in
+    let g = (began.takes bytes [] (sym (append-nil bytes)) low).goes held [] (read_none held) in
+    let (v, same) = resumed_steps (with_titles p.titled g.parts) d t held g.text k g.left g.steps in
+    let last : k ≡ resumed d u = same ∙ ap (λ (b : Bool). resumed d b) (sym (ap (λ (x : Keeping). x.styled) same) ∙ sym same_styled) in
+    record {
+      takes = subst (λ (x : Keeping). Resumes (keeps (λ (z : Keeping). z)) (resumed d t) p bytes made x q rest) last began.takes;
+      held = h.held;
+      few = h.few;
+      short = h.short;
+    }
+
+-- ---- steps in turn, and the end
+
+bare_end : (b : Bool) (shown : List ℕ) → b ≡ false → shown ++ [] ≡ shown ++ cond b (text (action.Sgr sgr.Reset)) []
+bare_end b shown e = ap (λ (x : Bool). shown ++ cond x (text (action.Sgr sgr.Reset)) []) (sym e)
+
+pub stripped_steps : (chunks : List (List ℕ)) (made rest : List ℕ) (last : Pause) → AreStepped {S = Dropped} drops (λ _. bare) beginning [] chunks made last rest → last.styled ≡ false
+    → Strips longest (concat chunks) (made ++ ending last rest)
+stripped_steps chunks made rest last stepped none =
+    let taken = stepped_taken {S = Dropped} drops (λ (b : Bool). bare) beginning last [] chunks made rest (omega arith) stepped in
+    let all = strips longest bare (concat chunks) (made ++ (shown_text (take last.held rest) ++ [])) (any_chunks {S = Dropped} drops ends_bare bare chunks made [] (between bare last rest) taken refl) in
+    subst (λ (x : List ℕ). Strips longest (concat chunks) (made ++ x)) (bare_end last.styled (shown_text (take last.held rest)) none) all
+
+pub cleaned_steps : (d : Depth) (chunks : List (List ℕ)) (made rest : List ℕ) (last : Pause) → AreStepped (keeps (λ (k : Keeping). k)) (resumed d) beginning [] chunks made last rest
+    → StylesIn (without_links d) (concat chunks) (made ++ ending last rest)
+cleaned_steps d chunks made rest last stepped =
+    let taken = stepped_taken (keeps (λ (k : Keeping). k)) (resumed d) beginning last [] chunks made rest (omega arith) stepped in
+    let close = cond last.styled (text (action.Sgr sgr.Reset)) [] in
+    let ends = any_chunks (keeps (λ (k : Keeping). k)) (resets (λ (k : Keeping). k)) (resumed d false) chunks made close (between (resumed d last.styled) last rest) taken refl in
+    styles (λ (k : Keeping). k) (without_links d) (resumed d false) (concat chunks) (made ++ ending last rest) refl ends

@@ -1,0 +1,410 @@
+-- Styles and links that stay between the runs of text.
+use Rattle.std.proofs.Common.{◌≡◌, ℕ, Bool, true, false, List, [], ◌∷◌, ◌++◌, map, encode_utf8, encode_utf8_all, length, refl, sym, ap, subst, ◌∙◌, append_assoc, append-nil, arith}
+use Rattle.std.specs.Prelude.{filter, not, ◌==◌, if◌then◌else◌}
+use Rattle.std.specs.List.{AllByRecursion, Contains}
+use Rattle.std.specs.Str.{all_scalars}
+use Rattle.std.proofs.lemmas.Bool.{and_parts}
+use Rattle.std.proofs.lemmas.List.Elements.{Contains-append_right}
+use Rattle.std.proofs.lemmas.Grind.{flat_map-append}
+use lib.Utf8.{scalar}
+use Rattle.bstr.specs.Utf8.{lossy_chars}
+use Rattle.csicodec_tokens.specs.declared.param.CsiParam.{CsiParam}
+use Rattle.csicodec_tokens.specs.Sequence.{Seq}
+use Rattle.csicodec_base.specs.declared.sgr.Sgr.{Sgr}
+use Rattle.csicodec_base.specs.declared.sgr.Sgr.TheVariants as sgr
+use Rattle.csicodec_actions.specs.Actions.{Action}
+use Rattle.csicodec_actions.specs.Actions as action
+use Rattle.csicodec_actions.specs.Table.{text, texts}
+use Rattle.csicodec_parser.specs.Segments.{Actions}
+use Rattle.csicodec.specs.Exact.{ReadsAlone}
+use Rattle.csicodec.proofs.RoundTrip.{round_trip_lem}
+use Rattle.csicodec_spans.specs.declared.table.Kind.{Kind}
+use Rattle.csicodec_spans.specs.declared.table.Kind.TheVariants as kind
+use Rattle.csicodec_spans.specs.Parts.{Part}
+use Rattle.csicodec_clean.specs.Shown.{shown, shown_text, IsShown}
+use Rattle.csicodec_clean.specs.Titles.{with_titles}
+use Rattle.csicodec_clean.specs.Cleaned.{AreGiven, IsStep, AreSteps, Ends, longest}
+use Rattle.csicodec_clean.specs.declared.colors.Depth.{Depth}
+use Rattle.csicodec_clean.specs.Palette.{reduced}
+use Rattle.csicodec_clean.specs.declared.styles.Passing.{Passing}
+use Rattle.csicodec_clean.specs.Links.{Address, Begun, IsLink, all_behind, is_linked, link_text, link_texts, links_at, links_in, next, no_address, start}
+use Rattle.csicodec_clean.specs.Styled.{hides, is_reset, kept, Item, Shown, Style, Link, item_text, item_texts, shown_items, Leaves, begun_behind, run_behind, items_behind, AreLeft, is_open, styles_of, links_of, ends_of, closed, StylesIn, IsSafe, IsStyledIn, Keeping, keeping, first_kept, behind_styles, behind_byte, keeps, resets}
+use Rattle.csicodec_clean.proofs.Linked.{fine_behind, fine_links, linked_on, links_none}
+use Rattle.csicodec_clean.proofs.Palette.{reduced_alone, reduced_hides, reduced_twice}
+use Rattle.csicodec_clean.proofs.Plain.{kept_shown, scalars_lossy}
+
+-- ---- one action behind the other
+
+pub kept_on : (d : Depth) (xs ys : List Action) → kept d (xs ++ ys) ≡ kept d xs ++ kept d ys
+kept_on d [] ys = refl
+kept_on d (action.Sgr s ∷ xs) ys = by (kept_on d xs ys) (hides s)
+  where
+    by : kept d (xs ++ ys) ≡ kept d xs ++ kept d ys → (b : Bool) → (if b then kept d (xs ++ ys) else reduced d s ∷ kept d (xs ++ ys)) ≡ (if b then kept d xs else reduced d s ∷ kept d xs) ++ kept d ys
+    by rest true = rest
+    by rest false = ap (λ t. reduced d s ∷ t) rest
+kept_on d (action.Cursor c ∷ xs) ys = kept_on d xs ys
+kept_on d (action.Edit e ∷ xs) ys = kept_on d xs ys
+kept_on d (action.Mode m ∷ xs) ys = kept_on d xs ys
+kept_on d (action.Mouse m ∷ xs) ys = kept_on d xs ys
+kept_on d (action.Device e ∷ xs) ys = kept_on d xs ys
+kept_on d (action.Window w ∷ xs) ys = kept_on d xs ys
+kept_on d (action.Keyboard k ∷ xs) ys = kept_on d xs ys
+kept_on d (action.SelectCharacterPath p e ∷ xs) ys = kept_on d xs ys
+kept_on d (action.Unspecified p f c ∷ xs) ys = kept_on d xs ys
+
+pub texts_on : (xs ys : List Sgr) → texts (map action.Sgr (xs ++ ys)) ≡ texts (map action.Sgr xs) ++ texts (map action.Sgr ys)
+texts_on [] ys = refl
+texts_on (x ∷ xs) ys = ap (λ t. text (action.Sgr x) ++ t) (texts_on xs ys) ∙ sym (append_assoc (text (action.Sgr x)) (texts (map action.Sgr xs)) (texts (map action.Sgr ys)))
+
+pub open_on : (b : Bool) (xs ys : List Sgr) → is_open b (xs ++ ys) ≡ is_open (is_open b xs) ys
+open_on b [] ys = refl
+open_on b (x ∷ xs) ys = open_on (not (is_reset x)) xs ys
+
+-- ---- items
+
+pub texts_both : (xs ys : List Item) → item_texts (xs ++ ys) ≡ item_texts xs ++ item_texts ys
+texts_both [] ys = refl
+texts_both (x ∷ xs) ys = ap (λ t. item_text x ++ t) (texts_both xs ys) ∙ sym (append_assoc (item_text x) (item_texts xs) (item_texts ys))
+
+styles_both : (xs ys : List Item) → styles_of (xs ++ ys) ≡ styles_of xs ++ styles_of ys
+styles_both [] ys = refl
+styles_both (Shown c ∷ xs) ys = styles_both xs ys
+styles_both (Style s ∷ xs) ys = ap (λ t. s ∷ t) (styles_both xs ys)
+styles_both (Link a ∷ xs) ys = styles_both xs ys
+
+pub links_both : (xs ys : List Item) → links_of (xs ++ ys) ≡ links_of xs ++ links_of ys
+links_both [] ys = refl
+links_both (Shown c ∷ xs) ys = links_both xs ys
+links_both (Style s ∷ xs) ys = links_both xs ys
+links_both (Link a ∷ xs) ys = ap (λ (t : List Address). a ∷ t) (links_both xs ys)
+
+pub texts_chars : (cs : List ℕ) → item_texts (map Shown cs) ≡ encode_utf8_all cs
+texts_chars [] = refl
+texts_chars (c ∷ cs) = ap (λ t. encode_utf8 c ++ t) (texts_chars cs)
+
+pub texts_styles : (ss : List Sgr) → item_texts (map Style ss) ≡ texts (map action.Sgr ss)
+texts_styles [] = refl
+texts_styles (s ∷ ss) = ap (λ t. text (action.Sgr s) ++ t) (texts_styles ss)
+
+pub texts_links : (links : List Address) → item_texts (map Link links) ≡ link_texts links
+texts_links [] = refl
+texts_links (a ∷ links) = ap (λ (t : List ℕ). link_text a ++ t) (texts_links links)
+
+styles_chars : (cs : List ℕ) → styles_of (map Shown cs) ≡ []
+styles_chars [] = refl
+styles_chars (c ∷ cs) = styles_chars cs
+
+styles_styles : (ss : List Sgr) → styles_of (map Style ss) ≡ ss
+styles_styles [] = refl
+styles_styles (s ∷ ss) = ap (λ t. s ∷ t) (styles_styles ss)
+
+styles_links : (links : List Address) → styles_of (map Link links) ≡ []
+styles_links [] = refl
+styles_links (a ∷ links) = styles_links links
+
+pub links_chars : (cs : List ℕ) → links_of (map Shown cs) ≡ []
+links_chars [] = refl
+links_chars (c ∷ cs) = links_chars cs
+
+pub links_styles : (ss : List Sgr) → links_of (map Style ss) ≡ []
+links_styles [] = refl
+links_styles (s ∷ ss) = links_styles ss
+
+pub links_links : (links : List Address) → links_of (map Link links) ≡ links
+links_links [] = refl
+links_links (a ∷ links) = ap (λ (t : List Address). a ∷ t) (links_links links)
+
+-- what a part leaves, and then the others
+pub part_texts : (run : List ℕ) (own others : List Item) → item_texts (shown_items run ++ (own ++ others)) ≡ shown_text run ++ (item_texts own ++ item_texts others)
+part_texts run own others =
+    texts_both (shown_items run) (own ++ others) ∙ ap (λ (t : List ℕ). t ++ item_texts (own ++ others)) (texts_chars (filter shown (lossy_chars run))) ∙ ap (λ (t : List ℕ). shown_text run ++ t) (texts_both own others)
+
+part_styles : (run : List ℕ) (own others : List Item) → styles_of (shown_items run ++ (own ++ others)) ≡ styles_of own ++ styles_of others
+part_styles run own others =
+    styles_both (shown_items run) (own ++ others) ∙ ap (λ (t : List Sgr). t ++ styles_of (own ++ others)) (styles_chars (filter shown (lossy_chars run))) ∙ styles_both own others
+
+pub part_links : (run : List ℕ) (own others : List Item) → links_of (shown_items run ++ (own ++ others)) ≡ links_of own ++ links_of others
+part_links run own others =
+    links_both (shown_items run) (own ++ others) ∙ ap (λ (t : List Address). t ++ links_of (own ++ others)) (links_chars (filter shown (lossy_chars run))) ∙ links_both own others
+
+-- what ends a link and a style
+abbrev pub end_text : Bool → Bool → List ℕ
+end_text linked styled = (if linked then link_text no_address else []) ++ (if styled then text (action.Sgr sgr.Reset) else [])
+
+end_texts : (linked styled : Bool) → end_text linked styled ≡ item_texts (ends_of linked styled)
+end_texts true true = ap (λ (t : List ℕ). link_text no_address ++ t) (sym (append-nil (text (action.Sgr sgr.Reset))))
+end_texts true false = refl
+end_texts false true = sym (append-nil (text (action.Sgr sgr.Reset)))
+end_texts false false = refl
+
+-- behind bytes of a control string
+abbrev pub behind_string : Keeping → List ℕ → Keeping
+behind_string k bytes = keeping k.passing k.styled (is_linked k.linked (links_in k.passing.links k.begun bytes)) (all_behind k.passing.links k.begun bytes)
+
+behind_one : (k : Keeping) (c : ℕ) (bytes : List ℕ) → behind_string (behind_byte k c) bytes ≡ behind_string k (c ∷ bytes)
+behind_one k c bytes =
+    let l = k.passing.links in
+    ap (λ (x : Bool). keeping k.passing k.styled x (all_behind l (next l k.begun c) bytes)) (sym (linked_on k.linked (links_at l k.begun c) (links_in l (next l k.begun c) bytes)))
+
+links_texts_on : (k : Keeping) (c : ℕ) (bytes : List ℕ) → link_texts (links_in k.passing.links k.begun (c ∷ bytes)) ≡ link_texts (links_at k.passing.links k.begun c) ++ link_texts (links_in k.passing.links (next k.passing.links k.begun c) bytes)
+links_texts_on k c bytes = flat_map-append link_text (links_at k.passing.links k.begun c) (links_in k.passing.links (next k.passing.links k.begun c) bytes)
+
+-- the rule that keeps, on bytes of a control string
+pub gives_string : (bytes : List ℕ) (k : Keeping) → AreGiven (keeps (λ (x : Keeping). x)) k bytes (link_texts (links_in k.passing.links k.begun bytes)) (behind_string k bytes)
+gives_string [] k = (refl, refl)
+gives_string (c ∷ bytes) k =
+    let mid = behind_byte k c in
+    let rest = subst (AreGiven (keeps (λ (x : Keeping). x)) mid bytes (link_texts (links_in mid.passing.links mid.begun bytes))) (behind_one k c bytes) (gives_string bytes mid) in
+    (link_texts (links_at k.passing.links k.begun c), mid, link_texts (links_in mid.passing.links mid.begun bytes), (refl, refl), links_texts_on k c bytes, rest)
+
+-- where links pass, and where they don't
+pub gives_links : (bytes : List ℕ) (k : Keeping) → k.passing.links ≡ true
+    → AreGiven (keeps (λ (x : Keeping). x)) k bytes (link_texts (links_in true k.begun bytes)) (keeping k.passing k.styled (is_linked k.linked (links_in true k.begun bytes)) (all_behind true k.begun bytes))
+gives_links bytes k e =
+    subst (λ (l : Bool). AreGiven (keeps (λ (x : Keeping). x)) k bytes (link_texts (links_in l k.begun bytes)) (keeping k.passing k.styled (is_linked k.linked (links_in l k.begun bytes)) (all_behind l k.begun bytes))) e (gives_string bytes k)
+
+pub gives_none : (bytes : List ℕ) (k : Keeping) → k.passing.links ≡ false → AreGiven (keeps (λ (x : Keeping). x)) k bytes [] k
+gives_none [] k e = (refl, refl)
+gives_none (c ∷ bytes) k e =
+    let text : [] ≡ link_texts (links_at k.passing.links k.begun c) = ap (λ (l : Bool). link_texts (links_at l k.begun c)) (sym e) in
+    let state : k ≡ behind_byte k c = ap (λ (l : Bool). keeping k.passing k.styled (is_linked k.linked (links_at l k.begun c)) (next l k.begun c)) (sym e) in
+    ([], k, [], (text, state), refl, gives_none bytes k e)
+
+module _ {S : Type 0} (of : S → Keeping) where
+  pub record GivenString (s : S) (bytes text : List ℕ) (after : S) : Type 0 where
+    pub told : text ≡ link_texts (links_in (of s).passing.links (of s).begun bytes)
+    pub state : of after ≡ behind_string (of s) bytes
+
+  pub given_string : (bytes : List ℕ) (s after : S) (text : List ℕ) → AreGiven (keeps of) s bytes text after → GivenString s bytes text after
+  given_string [] s after text h = record { told = h.0; state = ap of h.1 }
+  given_string (c ∷ bytes) s after text (first, mid, others, here, e, rest) =
+      let r = given_string bytes mid after others rest in
+      let k = of s in
+      record {
+        told = e ∙ ap (λ (t : List ℕ). t ++ others) here.0 ∙ ap (λ (t : List ℕ). link_texts (links_at k.passing.links k.begun c) ++ t)
+            (r.told ∙ ap (λ (x : Keeping). link_texts (links_in x.passing.links x.begun bytes)) here.1) ∙ sym (links_texts_on k c bytes);
+        state = r.state ∙ ap (λ (x : Keeping). behind_string x bytes) here.1 ∙ behind_one k c bytes;
+      }
+
+  pub record Left (parts : List Part) (s : S) (run text : List ℕ) (after : S) (last : List ℕ) : Type 0 where
+    pub items : List Item
+    pub left : AreLeft (of s).passing (of s).begun run parts items
+    pub all : text ++ shown_text last ≡ item_texts items
+    pub styled : (of after).styled ≡ is_open (of s).styled (styles_of items)
+    pub linked : (of after).linked ≡ is_linked (of s).linked (links_of items)
+
+  -- behind what a part leaves
+  abbrev pub behind_part : S → Kind → List ℕ → List Item → Keeping
+  behind_part s k bytes own = keeping (of s).passing (is_open (of s).styled (styles_of own)) (is_linked (of s).linked (links_of own)) (begun_behind (of s).passing (of s).begun k bytes)
+
+  -- a part that ends the run
+  ends : (p : Part) (parts : List Part) (s mid after : S) (run first others text last : List ℕ) (own : List Item) → Leaves (of s).passing (of s).begun p.kind p.bytes own → items_behind p.kind run ≡ shown_items run
+      → run_behind p.kind run p.bytes ≡ [] → first ≡ shown_text run ++ item_texts own → of mid ≡ behind_part s p.kind p.bytes own → text ≡ first ++ others
+      → Left parts mid [] others after last → Left (p ∷ parts) s run text after last
+  ends p parts s mid after run first others text last own leaves before behind e state all r = record {
+    items = shown_items run ++ (own ++ r.items);
+    left = (own, r.items, leaves, ap (λ t. t ++ (own ++ r.items)) (sym before), rw behind (subst (λ (x : Keeping). AreLeft x.passing x.begun [] parts r.items) state r.left));
+    all = ap (λ t. t ++ shown_text last) (all ∙ ap (λ t. t ++ others) e) ∙ append_assoc (shown_text run ++ item_texts own) others (shown_text last)
+        ∙ ap (λ t. (shown_text run ++ item_texts own) ++ t) r.all ∙ append_assoc (shown_text run) (item_texts own) (item_texts r.items) ∙ sym (part_texts run own r.items);
+    styled = r.styled ∙ ap (λ (x : Keeping). is_open x.styled (styles_of r.items)) state ∙ sym (open_on (of s).styled (styles_of own) (styles_of r.items)) ∙ ap (is_open (of s).styled) (sym (part_styles run own r.items));
+    linked = r.linked ∙ ap (λ (x : Keeping). is_linked x.linked (links_of r.items)) state ∙ sym (linked_on (of s).linked (links_of own) (links_of r.items)) ∙ ap (is_linked (of s).linked) (sym (part_links run own r.items));
+  }
+
+  -- the state behind styles, behind links, and behind neither
+  state_styles : (s mid : S) (bytes : List ℕ) (ss : List Sgr) → of mid ≡ behind_styles (of s) ss → of mid ≡ behind_part s kind.Csi bytes (map Style ss)
+  state_styles s mid bytes ss e = e ∙ ap (λ (x : List Sgr). keeping (of s).passing (is_open (of s).styled x) (of s).linked (of s).begun) (sym (styles_styles ss))
+      ∙ ap (λ (x : List Address). keeping (of s).passing (is_open (of s).styled (styles_of (map Style ss))) (is_linked (of s).linked x) (of s).begun) (sym (links_styles ss))
+
+  state_links : (s mid : S) (bytes : List ℕ) → of mid ≡ behind_string (of s) bytes → of mid ≡ behind_part s kind.Str bytes (map Link (links_in (of s).passing.links (of s).begun bytes))
+  state_links s mid bytes e =
+      let links = links_in (of s).passing.links (of s).begun bytes in
+      let here = all_behind (of s).passing.links (of s).begun bytes in
+      e ∙ ap (λ (x : List Address). keeping (of s).passing (of s).styled (is_linked (of s).linked x) here) (sym (links_links links))
+      ∙ ap (λ (x : List Sgr). keeping (of s).passing (is_open (of s).styled x) (is_linked (of s).linked (links_of (map Link links))) here) (sym (styles_links links))
+
+  goes : (p : Part) (parts : List Part) (k : Kind) (s mid after : S) (run first next others text last : List ℕ) → p.kind ≡ k → IsStep (keeps of) k s run p.bytes first mid next → text ≡ first ++ others
+      → Left parts mid next others after last → Left (p ∷ parts) s run text after last
+  goes p parts kind.Text s mid after run first next others text last is (none, same, on) all r =
+      rw (← same) record {
+        items = r.items;
+        left = ([], r.items, rw is refl, rw is refl, rw (is, ← on) r.left);
+        all = ap (λ t. t ++ shown_text last) (all ∙ ap (λ t. t ++ others) none) ∙ r.all;
+        styled = r.styled;
+        linked = r.linked;
+      }
+  goes p parts kind.Csi s mid after run first next others text last is (own, (actions, isof, same, state), e, none) all r =
+      let ss = kept (of s).passing.depth actions in
+      ends p parts s mid after run first others text last (map Style ss) (rw is (actions, isof, refl)) (rw is refl) (rw is refl) (e ∙ ap (λ t. shown_text run ++ t) (same ∙ sym (texts_styles ss)))
+      (rw is (state_styles s mid p.bytes ss state)) all (rw none at r)
+  goes p parts kind.Str s mid after run first next others text last is (own, given, e, none) all r =
+      let g = given_string p.bytes s mid own given in
+      let links = links_in (of s).passing.links (of s).begun p.bytes in
+      ends p parts s mid after run first others text last (map Link links) (rw is refl) (rw is refl) (rw is refl) (e ∙ ap (λ t. shown_text run ++ t) (g.told ∙ sym (texts_links links)))
+      (rw is (state_links s mid p.bytes g.state)) all (rw none at r)
+  goes p parts kind.Esc s mid after run first next others text last is (e, same, none) all r =
+      ends p parts s mid after run first others text last [] (rw is refl) (rw is refl) (rw is refl) (e ∙ sym (append-nil (shown_text run))) (rw is (ap of same)) all (rw none at r)
+  goes p parts kind.Other s mid after run first next others text last is (e, same, none) all r =
+      ends p parts s mid after run first others text last [] (rw is refl) (rw is refl) (rw is refl) (e ∙ sym (append-nil (shown_text run))) (rw is (ap of same)) all (rw none at r)
+
+  left_of : (parts : List Part) (s after : S) (run text last : List ℕ) → AreSteps (keeps of) s run parts text after last → Left parts s run text after last
+  left_of [] s after run text last (none, same, e) =
+      let chars = filter shown (lossy_chars run) in
+      record {
+        items = shown_items run;
+        left = refl;
+        all = rw (none, e) (sym (texts_chars chars));
+        styled = rw (same, styles_chars chars) refl;
+        linked = rw (same, links_chars chars) refl;
+      }
+  left_of (p ∷ parts) s after run text last (first, mid, next, others, step, e, rest) =
+      goes p parts p.kind s mid after run first next others text last refl step e (left_of parts mid after next others last rest)
+
+  -- what the rule that keeps styles and links leaves, and what ends them where they are open
+  pub styles : (d : Passing) (s : S) (bytes out : List ℕ) → of s ≡ first_kept d → Ends (keeps of) (resets of) longest s bytes out → StylesIn d bytes out
+  styles d s bytes out begins e =
+      let c = e.cleans in
+      let l = left_of (with_titles false c.parts) s e.after [] c.before c.run c.steps in
+      let styled : (of e.after).styled ≡ is_open false (styles_of l.items) = l.styled ∙ ap (λ (x : Keeping). is_open x.styled (styles_of l.items)) begins in
+      let linked : (of e.after).linked ≡ is_linked false (links_of l.items) = l.linked ∙ ap (λ (x : Keeping). is_linked x.linked (links_of l.items)) begins in
+      record {
+        parts = c.parts;
+        whole = c.whole;
+        items = l.items;
+        left = subst (λ (x : Keeping). AreLeft x.passing x.begun [] (with_titles false c.parts) l.items) begins l.left;
+        all = e.all ∙ ap (λ t. e.before ++ t) (e.closes ∙ ap (λ b. end_text b (of e.after).styled) linked ∙ ap (end_text (is_linked false (links_of l.items))) styled)
+            ∙ ap (λ t. t ++ end_text (is_linked false (links_of l.items)) (is_open false (styles_of l.items))) (c.all ∙ l.all)
+            ∙ ap (λ t. item_texts l.items ++ t) (end_texts (is_linked false (links_of l.items)) (is_open false (styles_of l.items)))
+            ∙ sym (texts_both l.items (ends_of (is_linked false (links_of l.items)) (is_open false (styles_of l.items))));
+      }
+
+-- ---- safe
+
+safe_both : (d : Passing) (xs ys : List Item) → AllByRecursion (IsSafe d) xs → AllByRecursion (IsSafe d) ys → AllByRecursion (IsSafe d) (xs ++ ys)
+safe_both d [] ys h k = k
+safe_both d (x ∷ xs) ys h k = (h.0, safe_both d xs ys h.1 k)
+
+safe_chars : (d : Passing) (cs : List ℕ) → all_scalars cs ≡ true → AllByRecursion IsShown cs → AllByRecursion (IsSafe d) (map Shown cs)
+safe_chars d [] a h = tt
+safe_chars d (c ∷ cs) a h = let both = and_parts (scalar c) (all_scalars cs) a in ((h.0, both.0), safe_chars d cs both.1 h.1)
+
+safe_run : (d : Passing) (run : List ℕ) → AllByRecursion (IsSafe d) (shown_items run)
+safe_run d run = let k = kept_shown (lossy_chars run) (scalars_lossy run) in safe_chars d (filter shown (lossy_chars run)) k.0 k.1
+
+safe_kept : (d : Passing) (actions : List Action) → ((s : Sgr) → Contains actions (action.Sgr s) → ReadsAlone (action.Sgr s) false) → AllByRecursion (IsSafe d) (map Style (kept d.depth actions))
+safe_kept d [] f = tt
+safe_kept d (action.Sgr s ∷ xs) f = by (safe_kept d xs (λ t h. f t (Contains-append_right (action.Sgr s ∷ []) xs (action.Sgr t) h))) (hides s) refl
+  where
+    by : AllByRecursion (IsSafe d) (map Style (kept d.depth xs)) → (b : Bool) → hides s ≡ b → AllByRecursion (IsSafe d) (map Style (if b then kept d.depth xs else reduced d.depth s ∷ kept d.depth xs))
+    by rest true e = rest
+    by rest false e = ((reduced_hides d.depth s ∙ e, reduced_alone d.depth s (f s (0, omega arith, refl)), reduced_twice d.depth s), rest)
+safe_kept d (action.Cursor c ∷ xs) f = safe_kept d xs (λ t h. f t (Contains-append_right (action.Cursor c ∷ []) xs (action.Sgr t) h))
+safe_kept d (action.Edit e ∷ xs) f = safe_kept d xs (λ t h. f t (Contains-append_right (action.Edit e ∷ []) xs (action.Sgr t) h))
+safe_kept d (action.Mode m ∷ xs) f = safe_kept d xs (λ t h. f t (Contains-append_right (action.Mode m ∷ []) xs (action.Sgr t) h))
+safe_kept d (action.Mouse m ∷ xs) f = safe_kept d xs (λ t h. f t (Contains-append_right (action.Mouse m ∷ []) xs (action.Sgr t) h))
+safe_kept d (action.Device e ∷ xs) f = safe_kept d xs (λ t h. f t (Contains-append_right (action.Device e ∷ []) xs (action.Sgr t) h))
+safe_kept d (action.Window w ∷ xs) f = safe_kept d xs (λ t h. f t (Contains-append_right (action.Window w ∷ []) xs (action.Sgr t) h))
+safe_kept d (action.Keyboard k ∷ xs) f = safe_kept d xs (λ t h. f t (Contains-append_right (action.Keyboard k ∷ []) xs (action.Sgr t) h))
+safe_kept d (action.SelectCharacterPath p e ∷ xs) f = safe_kept d xs (λ t h. f t (Contains-append_right (action.SelectCharacterPath p e ∷ []) xs (action.Sgr t) h))
+safe_kept d (action.Unspecified p g c ∷ xs) f = safe_kept d xs (λ t h. f t (Contains-append_right (action.Unspecified p g c ∷ []) xs (action.Sgr t) h))
+
+alone : (list : List CsiParam) (final : ℕ) (bytes : List ℕ) (actions : List Action) → Seq bytes list final → Actions list false final actions → (s : Sgr) → Contains actions (action.Sgr s) → ReadsAlone (action.Sgr s) false
+alone list final bytes actions seq read s one = (round_trip_lem list false final seq.spellable seq.ends actions read).attributes s one
+
+safe_links : (d : Passing) (bytes : List ℕ) (b : Begun) → IsLink b.address → AllByRecursion (IsSafe d) (map Link (links_in d.links b bytes))
+safe_links d bytes b h = by d.links refl
+  where
+    all : (links : List Address) → d.links ≡ true → AllByRecursion IsLink links → AllByRecursion (IsSafe d) (map Link links)
+    all [] e k = tt
+    all (a ∷ links) e k = ((e, k.0), all links e k.1)
+
+    by : (l : Bool) → d.links ≡ l → AllByRecursion (IsSafe d) (map Link (links_in l b bytes))
+    by true e = all (links_in true b bytes) e (fine_links true bytes b h)
+    by false e = rw (links_none bytes b) tt
+
+safe_part : (d : Passing) (b : Begun) (k : Kind) (bytes : List ℕ) (own : List Item) → IsLink b.address → Leaves d b k bytes own → AllByRecursion (IsSafe d) own
+safe_part d b kind.Csi bytes own h (actions, (list, final, seq, read), e) = rw e (safe_kept d actions (alone list final bytes actions seq read))
+safe_part d b kind.Str bytes own h e = rw e (safe_links d bytes b h)
+safe_part d b kind.Text bytes own h e = rw e tt
+safe_part d b kind.Esc bytes own h e = rw e tt
+safe_part d b kind.Other bytes own h e = rw e tt
+
+safe_behind : (d : Passing) (k : Kind) (run : List ℕ) → AllByRecursion (IsSafe d) (items_behind k run)
+safe_behind d kind.Text run = tt
+safe_behind d kind.Csi run = safe_run d run
+safe_behind d kind.Esc run = safe_run d run
+safe_behind d kind.Str run = safe_run d run
+safe_behind d kind.Other run = safe_run d run
+
+fine_part : (d : Passing) (b : Begun) (k : Kind) (bytes : List ℕ) → IsLink b.address → IsLink (begun_behind d b k bytes).address
+fine_part d b kind.Str bytes h = fine_behind d.links bytes b h
+fine_part d b kind.Csi bytes h = h
+fine_part d b kind.Text bytes h = h
+fine_part d b kind.Esc bytes h = h
+fine_part d b kind.Other bytes h = h
+
+safe_left : (d : Passing) (b : Begun) (parts : List Part) (run : List ℕ) (items : List Item) → IsLink b.address → AreLeft d b run parts items → AllByRecursion (IsSafe d) items
+safe_left d b [] run items h e = rw e (safe_run d run)
+safe_left d b (p ∷ parts) run items h (own, others, leaves, e, rest) =
+    let later = safe_left d (begun_behind d b p.kind p.bytes) parts (run_behind p.kind run p.bytes) others (fine_part d b p.kind p.bytes h) rest in
+    rw e (safe_both d (items_behind p.kind run) (own ++ others) (safe_behind d p.kind run) (safe_both d own others (safe_part d b p.kind p.bytes own h leaves) later))
+
+reset_alone : ReadsAlone (action.Sgr sgr.Reset) false
+reset_alone = (round_trip_lem [] false 109 tt (omega arith, omega arith) (action.Sgr sgr.Reset ∷ []) refl).attributes sgr.Reset (0, omega arith, refl)
+
+none_fine : IsLink no_address
+none_fine = record { params = tt; few = omega arith; url = tt; short = omega arith }
+
+-- a link is open only where links pass
+linked_passes : (d : Passing) (items : List Item) (linked : Bool) → (linked ≡ true → d.links ≡ true) → AllByRecursion (IsSafe d) items → is_linked linked (links_of items) ≡ true → d.links ≡ true
+linked_passes d [] linked f h e = f e
+linked_passes d (Shown c ∷ items) linked f h e = linked_passes d items linked f h.1 e
+linked_passes d (Style s ∷ items) linked f h e = linked_passes d items linked f h.1 e
+linked_passes d (Link a ∷ items) linked f h e = linked_passes d items (not (length a.url == 0)) (λ _. h.0.0) h.1 e
+
+-- nothing is open behind what ends it
+styles_shut : (items : List Item) (linked styled : Bool) → is_open false (styles_of items) ≡ styled → is_open false (styles_of (items ++ ends_of linked styled)) ≡ false
+styles_shut items true true e = ap (is_open false) (styles_both items (ends_of true true)) ∙ open_on false (styles_of items) (sgr.Reset ∷ [])
+styles_shut items false true e = ap (is_open false) (styles_both items (ends_of false true)) ∙ open_on false (styles_of items) (sgr.Reset ∷ [])
+styles_shut items true false e = ap (is_open false) (styles_both items (ends_of true false) ∙ append-nil (styles_of items)) ∙ e
+styles_shut items false false e = ap (is_open false) (styles_both items (ends_of false false) ∙ append-nil (styles_of items)) ∙ e
+
+links_shut : (items : List Item) (linked styled : Bool) → is_linked false (links_of items) ≡ linked → is_linked false (links_of (items ++ ends_of linked styled)) ≡ false
+links_shut items true true e = ap (is_linked false) (links_both items (ends_of true true)) ∙ linked_on false (links_of items) (no_address ∷ [])
+links_shut items true false e = ap (is_linked false) (links_both items (ends_of true false)) ∙ linked_on false (links_of items) (no_address ∷ [])
+links_shut items false true e = ap (is_linked false) (links_both items (ends_of false true) ∙ append-nil (links_of items)) ∙ e
+links_shut items false false e = ap (is_linked false) (links_both items (ends_of false false) ∙ append-nil (links_of items)) ∙ e
+
+safe_ends : (d : Passing) (linked styled : Bool) → (linked ≡ true → d.links ≡ true) → AllByRecursion (IsSafe d) (ends_of linked styled)
+safe_ends d true true f = ((f refl, none_fine), ((refl, reset_alone, refl), tt))
+safe_ends d true false f = ((f refl, none_fine), tt)
+safe_ends d false true f = ((refl, reset_alone, refl), tt)
+safe_ends d false false f = tt
+
+pub safe_closed : (d : Passing) (bytes text : List ℕ) (s : StylesIn d bytes text) → AllByRecursion (IsSafe d) (closed s.items)
+safe_closed d bytes text s =
+    let safe = safe_left d start (with_titles false s.parts) [] s.items none_fine s.left in
+    let linked = is_linked false (links_of s.items) in
+    let styled = is_open false (styles_of s.items) in
+    safe_both d s.items (ends_of linked styled) safe (safe_ends d linked styled (λ e. linked_passes d s.items false (λ no. absurd cc) safe e))
+
+pub styled : (d : Passing) (bytes text : List ℕ) → StylesIn d bytes text → IsStyledIn d text
+styled d bytes text s =
+    let linked = is_linked false (links_of s.items) in
+    let styled = is_open false (styles_of s.items) in
+    record {
+      items = closed s.items;
+      safe = safe_closed d bytes text s;
+      texts = s.all;
+      none_open = styles_shut s.items linked styled refl;
+      none_linked = links_shut s.items linked styled refl;
+    }
+
+-- ---- an action more
+
+pub more_text : (d : Depth) (xs : List Action) (x : Action) (old out new : List ℕ) → out ≡ old ++ texts (map action.Sgr (kept d xs)) → new ≡ out ++ texts (map action.Sgr (kept d (x ∷ []))) → new ≡ old ++ texts (map action.Sgr (kept d (xs ++ x ∷ [])))
+more_text d xs x old out new e f =
+    f ∙ ap (λ t. t ++ texts (map action.Sgr (kept d (x ∷ [])))) e ∙ append_assoc old (texts (map action.Sgr (kept d xs))) (texts (map action.Sgr (kept d (x ∷ []))))
+    ∙ ap (λ t. old ++ t) (sym (texts_on (kept d xs) (kept d (x ∷ []))) ∙ ap (λ (ss : List Sgr). texts (map action.Sgr ss)) (sym (kept_on d xs (x ∷ []))))
+
+pub more_styles : (d : Depth) (xs : List Action) (x : Action) (b flag new : Bool) → flag ≡ is_open b (kept d xs) → new ≡ is_open flag (kept d (x ∷ [])) → new ≡ is_open b (kept d (xs ++ x ∷ []))
+more_styles d xs x b flag new e f = f ∙ ap (λ c. is_open c (kept d (x ∷ []))) e ∙ sym (open_on b (kept d xs) (kept d (x ∷ []))) ∙ ap (is_open b) (sym (kept_on d xs (x ∷ [])))

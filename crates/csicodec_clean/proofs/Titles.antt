@@ -1,0 +1,201 @@
+-- Titles, part by part and span by span.
+use Rattle.std.proofs.Common.{◌≡◌, ◌<◌, ◌⊎◌, ℕ, suc, Bool, true, false, List, [], ◌∷◌, ◌++◌, Some, length, refl, sym, ap, subst, ◌∙◌, inl, inr, arith}
+use Rattle.std.specs.Prelude.{◌==◌, ◌&&◌, not, slice_get}
+use Rattle.std.specs.List.{AllByRecursion, flat_map}
+use Rattle.std.proofs.lemmas.Bool.{and_parts, cond_both, eqb-true}
+use Rattle.csicodec_spans.specs.declared.table.Kind.{Kind}
+use Rattle.csicodec_spans.specs.declared.table.Kind.TheVariants as kind
+use Rattle.csicodec_spans.specs.declared.table.Mode.{Mode}
+use Rattle.csicodec_spans.specs.declared.table.Mode.TheVariants as mode
+use Rattle.csicodec_spans.specs.Table.{Answer, More, Anew, Sequence, Undecided, ModeRow, mode_table, fits_front, fitting, answer_of, ahead}
+use Rattle.csicodec_spans.specs.Iteration.{BeginsAs}
+use Rattle.csicodec_spans.specs.Parts.{Part, part, bytes_of, Allows, AreAll, AreFirstParts, IsFirstPart, IsSpan, IsWhole, left_over}
+use Rattle.csicodec_spans.proofs.Agrees.{only_row, sound}
+use Rattle.csicodec_spans.proofs.Missed.{front_is}
+use Rattle.csicodec_spans.proofs.OneSpan.{singles}
+use Rattle.csicodec_spans.proofs.Rows.{Sound}
+use Rattle.csicodec_clean.specs.Cleaned.{longest}
+use Rattle.csicodec_clean.specs.Titles.{InTitle, IsText, title_behind, title_open, read_as, with_titles}
+
+pub titles_on : (t : Bool) (ps qs : List Part) → with_titles t (ps ++ qs) ≡ with_titles t ps ++ with_titles (title_open t ps) qs
+titles_on t [] qs = refl
+titles_on t (p ∷ ps) qs = ap (λ (x : List Part). part (read_as p.kind t) p.bytes ∷ x) (titles_on (title_behind t p.kind p.bytes) ps qs)
+
+pub open_on : (t : Bool) (ps qs : List Part) → title_open t (ps ++ qs) ≡ title_open (title_open t ps) qs
+open_on t [] qs = refl
+open_on t (p ∷ ps) qs = open_on (title_behind t p.kind p.bytes) ps qs
+
+-- parts of one kind that keep what is open
+same_open : (k : Kind) (t : Bool) (ps : List Part) → ((b : List ℕ) → title_behind t k b ≡ t) → AllByRecursion (λ (p : Part). p.kind ≡ k) ps → title_open t ps ≡ t
+same_open k t [] f h = refl
+same_open k t (p ∷ ps) f h =
+    let step : title_behind t p.kind p.bytes ≡ t = ap (λ (x : Kind). title_behind t x p.bytes) h.0 ∙ f p.bytes in
+    ap (λ (b : Bool). title_open b ps) step ∙ same_open k t ps f h.1
+
+same_kind : (k : Kind) (t : Bool) (ps : List Part) → ((b : List ℕ) → title_behind t k b ≡ t) → AllByRecursion (λ (p : Part). p.kind ≡ k) ps → AllByRecursion (λ (p : Part). p.kind ≡ read_as k t) (with_titles t ps)
+same_kind k t [] f h = tt
+same_kind k t (p ∷ ps) f h =
+    let step : title_behind t p.kind p.bytes ≡ t = ap (λ (x : Kind). title_behind t x p.bytes) h.0 ∙ f p.bytes in
+    (ap (λ (x : Kind). read_as x t) h.0, rw step (same_kind k t ps f h.1))
+
+-- the bytes are the same
+pub same_bytes : (t : Bool) (ps : List Part) → flat_map bytes_of (with_titles t ps) ≡ flat_map bytes_of ps
+same_bytes t [] = refl
+same_bytes t (p ∷ ps) = ap (λ (x : List ℕ). p.bytes ++ x) (same_bytes (title_behind t p.kind p.bytes) ps)
+
+same_count : (t : Bool) (ps : List Part) → 0 < length ps → 0 < length (with_titles t ps)
+same_count t [] h = h
+same_count t (p ∷ ps) h = omega arith
+
+-- a span is one of the kind that it is read as
+pub record Titled (t : Bool) (k : Kind) (bytes : List ℕ) (ps : List Part) : Type 0 where
+  pub span : IsSpan (read_as k t) bytes (with_titles t ps)
+  pub behind : title_open t ps ≡ title_behind t k bytes
+
+all_kept : (k : Kind) (t : Bool) (bytes : List ℕ) (ps : List Part) → ((b : List ℕ) → title_behind t k b ≡ t) → AreAll k bytes ps → AreAll (read_as k t) bytes (with_titles t ps)
+all_kept k t bytes ps f a = record { some = same_count t ps a.some; all = same_kind k t ps f a.all; joined = same_bytes t ps ∙ a.joined }
+
+text_span : (t : Bool) (bytes : List ℕ) (ps : List Part) → AreAll kind.Text bytes ps → IsSpan (read_as kind.Text t) bytes (with_titles t ps)
+text_span true bytes ps a = all_kept kind.Text true bytes ps (λ b. refl) a
+text_span false bytes ps a = all_kept kind.Text false bytes ps (λ b. refl) a
+
+-- parts that end a title
+ended : (k : Kind) (t : Bool) (bytes : List ℕ) (ps : List Part) → ((x : Bool) → read_as k x ≡ k) → ((x : Bool) (b : List ℕ) → title_behind x k b ≡ false) → AreAll k bytes ps
+    → AreAll k bytes (with_titles t ps) × (title_open t ps ≡ false)
+ended k t bytes [] f g a = absurd (omega (arith, a.some))
+ended k t bytes (p ∷ ps) f g a =
+    let step : title_behind t p.kind p.bytes ≡ false = ap (λ (x : Kind). title_behind t x p.bytes) a.all.0 ∙ g t p.bytes in
+    let later : AllByRecursion (λ (q : Part). q.kind ≡ k) (with_titles false ps) = subst (λ (x : Kind). AllByRecursion (λ (q : Part). q.kind ≡ x) (with_titles false ps)) (f false) (same_kind k false ps (g false) a.all.1) in (
+      record { some = omega arith; all = (ap (λ (x : Kind). read_as x t) a.all.0 ∙ f t, rw step later); joined = same_bytes t (p ∷ ps) ∙ a.joined },
+      ap (λ (b : Bool). title_open b ps) step ∙ same_open k false ps (g false) a.all.1,
+    )
+
+pub titled : (t : Bool) (k : Kind) (bytes : List ℕ) (ps : List Part) → IsSpan k bytes ps → Titled t k bytes ps
+titled t kind.Text bytes ps h = record { span = text_span t bytes ps h; behind = same_open kind.Text t ps (λ b. refl) h.all }
+titled t kind.Csi bytes ps h = rw h record { span = refl; behind = refl }
+titled t kind.Esc bytes ps h = rw h record { span = refl; behind = refl }
+titled t kind.Str bytes ps h = let e = ended kind.Str t bytes ps (λ x. refl) (λ x b. refl) h in record { span = e.0; behind = e.1 }
+titled t kind.Other bytes ps h = let e = ended kind.Other t bytes ps (λ x. refl) (λ x b. refl) h in record { span = e.0; behind = e.1 }
+
+-- text alone
+pub single_texts : (bs : List ℕ) → with_titles false (singles kind.Text bs) ≡ singles kind.Text bs
+single_texts [] = refl
+single_texts (b ∷ bs) = ap (λ (x : List Part). part kind.Text (b ∷ []) ∷ x) (single_texts bs)
+
+-- ---- which parts are dropped
+
+-- an escape sequence begins with ESC, as `ESC k` does
+abbrev EscIsFirst : Part → Type 0
+EscIsFirst p = (c : ℕ) → p ≡ part kind.Esc (c ∷ 107 ∷ []) → c ≡ 27
+
+abbrev is_esc : Kind → Bool
+is_esc kind.Text = false
+is_esc kind.Csi = false
+is_esc kind.Esc = true
+is_esc kind.Str = false
+is_esc kind.Other = false
+
+-- no escape sequence goes on with what is open: each begins anew
+abbrev begins_anew : Answer → Bool
+begins_anew (More k n a) = not (is_esc k)
+begins_anew (Anew k n a) = true
+begins_anew Sequence = true
+begins_anew Undecided = true
+
+abbrev all_anew : List ModeRow → Bool
+all_anew [] = true
+all_anew (r ∷ rows) = begins_anew r.answer && all_anew rows
+
+row_anew : (rows : List ModeRow) (m : Mode) (bytes : List ℕ) → all_anew rows ≡ true → begins_anew (answer_of (fitting rows m bytes)) ≡ true
+row_anew [] m bytes e = refl
+row_anew (r ∷ rows) m bytes e =
+    let both = and_parts (begins_anew r.answer) (all_anew rows) e in
+    cond_both (fits_front m bytes r) (r ∷ []) [] (λ (rs : List ModeRow). begins_anew (answer_of (rs ++ fitting rows m bytes)) ≡ true) (λ f. both.0) (λ f. row_anew rows m bytes both.1)
+
+anew : (m : Mode) (bytes : List ℕ) → begins_anew (ahead m bytes) ≡ true
+anew m bytes =
+    let one = only_row m bytes in
+    ap begins_anew (one.answer ∙ sym (ap answer_of one.fits)) ∙ row_anew mode_table m bytes refl
+
+allows_esc : (f : Answer) (m : Mode) (limit : ℕ) (bytes text rest : List ℕ) (a : Mode) → begins_anew f ≡ true → bytes ≡ text ++ rest → Sound m bytes f → Allows f limit bytes kind.Esc text a → BeginsAs kind.Esc text
+allows_esc (More k n b) m limit bytes text rest a new e h s = let no : not (is_esc kind.Esc) ≡ true = ap (λ (j : Kind). not (is_esc j)) s.0 ∙ new in absurd cc
+allows_esc (Anew k n b) m limit bytes text rest a new e h s =
+    subst (λ (j : Kind). BeginsAs j text) (sym s.0) (subst (BeginsAs k) (front_is bytes text rest n e s.1) h.2)
+allows_esc Sequence m limit bytes text rest a new e h s = absurd s
+allows_esc Undecided m limit bytes text rest a new e h s = absurd s
+
+esc_first : (limit : ℕ) (m : Mode) (bytes rest : List ℕ) (a : Mode) (p : Part) → IsFirstPart limit m bytes p rest a → EscIsFirst p
+esc_first limit m bytes rest a p h c e =
+    let first : IsFirstPart limit m bytes (part kind.Esc (c ∷ 107 ∷ [])) rest a = subst (λ (q : Part). IsFirstPart limit m bytes q rest a) e h in
+    let begins = allows_esc (ahead m bytes) m limit bytes (c ∷ 107 ∷ []) rest a (anew m bytes) first.0 (sound m bytes) first.1 in
+    let same : c ∷ 107 ∷ [] ≡ 27 ∷ begins.0 = begins.1 in cc
+
+left_first : (rest : List ℕ) → AllByRecursion EscIsFirst (left_over rest)
+left_first [] = tt
+left_first (b ∷ rest) = ((λ c e. let k : kind.Other ≡ kind.Esc = ap (λ (p : Part). p.kind) e in absurd cc), tt)
+
+all_first : (limit : ℕ) (ps : List Part) (m a : Mode) (bytes rest end : List ℕ) → AreFirstParts limit m bytes ps rest a → AllByRecursion EscIsFirst (ps ++ left_over end)
+all_first limit [] m a bytes rest end h = left_first end
+all_first limit (p ∷ ps) m a bytes rest end (behind, mid, one, later) = (esc_first limit m bytes behind mid p one, all_first limit ps mid a behind rest end later)
+
+whole_first : (limit : ℕ) (bytes : List ℕ) (ps : List Part) → IsWhole limit mode.Text bytes ps → AllByRecursion EscIsFirst ps
+whole_first limit bytes ps w = subst (AllByRecursion EscIsFirst) (sym w.whole) (all_first limit w.sure mode.Text w.after bytes w.rest w.rest w.first)
+
+-- where a title is open, it was before, with text alone since then, or `ESC k` opened it
+abbrev Opened : Bool → List Part → Type 0
+Opened t ps = ((t ≡ true) × AllByRecursion IsText ps) ⊎ InTitle ps
+
+two_bytes : (bytes : List ℕ) → title_behind true kind.Esc bytes ≡ true → (c : ℕ) × (bytes ≡ c ∷ 107 ∷ [])
+two_bytes [] e = absurd cc
+two_bytes (b ∷ []) e = absurd cc
+two_bytes (b ∷ c ∷ []) e = (b, ap (λ (x : ℕ). b ∷ x ∷ []) (eqb-true c 107 e))
+two_bytes (b ∷ c ∷ d ∷ bytes) e = absurd (omega (arith, eqb-true (length (b ∷ c ∷ d ∷ bytes)) 2 (and_parts (length (b ∷ c ∷ d ∷ bytes) == 2) (c == 107) e).0))
+
+opened_on : (t : Bool) (k : Kind) (bytes : List ℕ) (ps : List Part) → EscIsFirst (part k bytes) → Opened (title_behind t k bytes) ps → Opened t (part k bytes ∷ ps)
+opened_on t k bytes ps f (inr (earlier, title, e, texts)) = inr (part k bytes ∷ earlier, title, ap (λ (x : List Part). part k bytes ∷ x) e, texts)
+opened_on t kind.Text bytes ps f (inl (is, texts)) = inl (is, (refl, texts))
+opened_on t kind.Esc bytes ps f (inl (is, texts)) =
+    let two = two_bytes bytes is in
+    let same : bytes ≡ 27 ∷ 107 ∷ [] = two.1 ∙ ap (λ (x : ℕ). x ∷ 107 ∷ []) (f two.0 (ap (part kind.Esc) two.1)) in
+    inr ([], ps, ap (λ (x : List ℕ). part kind.Esc x ∷ ps) same, texts)
+opened_on t kind.Csi bytes ps f (inl (is, texts)) = absurd cc
+opened_on t kind.Str bytes ps f (inl (is, texts)) = absurd cc
+opened_on t kind.Other bytes ps f (inl (is, texts)) = absurd cc
+
+opened : (t : Bool) (ps more : List Part) → AllByRecursion EscIsFirst (ps ++ more) → title_open t ps ≡ true → Opened t ps
+opened t [] more h e = inl (e, tt)
+opened t (p ∷ ps) more h e = opened_on t p.kind p.bytes ps h.0 (opened (title_behind t p.kind p.bytes) ps more h.1 e)
+
+in_title : (before : List Part) → InTitle before → title_open false before ≡ true
+in_title before (earlier, title, e, texts) = ap (title_open false) e ∙ open_on false earlier (part kind.Esc (27 ∷ 107 ∷ []) ∷ title) ∙ same_open kind.Text true title (λ b. refl) texts
+
+pub same_places : (t : Bool) (ps : List Part) → length (with_titles t ps) ≡ length ps
+same_places t [] = refl
+same_places t (p ∷ ps) = ap (λ (n : ℕ). suc n) (same_places (title_behind t p.kind p.bytes) ps)
+
+at_place : (t : Bool) (before behind : List Part) (p : Part) → slice_get (with_titles t (before ++ p ∷ behind)) (length before) ≡ Some (part (read_as p.kind (title_open t before)) p.bytes)
+at_place t [] behind p = refl
+at_place t (q ∷ before) behind p = at_place (title_behind t q.kind q.bytes) before behind p
+
+pub dropped : (before behind : List Part) (p : Part) → InTitle before → IsText p → slice_get (with_titles false (before ++ p ∷ behind)) (length before) ≡ Some (part kind.Other p.bytes)
+dropped before behind p h text = at_place false before behind p ∙ ap (λ (k : Kind). Some (part k p.bytes)) (ap (read_as p.kind) (in_title before h) ∙ ap (λ (k : Kind). read_as k true) text)
+
+-- a part that is no text of a title is read as what it is
+as_is : (k : Kind) (t : Bool) → (k ≡ kind.Text → t ≡ true → ⊥) → read_as k t ≡ k
+as_is kind.Text true f = absurd (f refl refl)
+as_is kind.Text false f = refl
+as_is kind.Csi t f = refl
+as_is kind.Esc t f = refl
+as_is kind.Str t f = refl
+as_is kind.Other t f = refl
+
+shut_before : (ps : List Part) → Opened false ps → InTitle ps
+shut_before ps (inl (is, texts)) = absurd cc
+shut_before ps (inr h) = h
+
+pub kept : (bytes : List ℕ) (before behind : List Part) (p : Part) → IsWhole longest mode.Text bytes (before ++ p ∷ behind) → (IsText p → ¬ InTitle before)
+    → slice_get (with_titles false (before ++ p ∷ behind)) (length before) ≡ Some p
+kept bytes before behind p w f =
+    let first = whole_first longest bytes (before ++ p ∷ behind) w in
+    let opens : title_open false before ≡ true → InTitle before = λ e. shut_before before (opened false before (p ∷ behind) first e) in
+    at_place false before behind p ∙ ap (λ (k : Kind). Some (part k p.bytes)) (as_is p.kind (title_open false before) (λ text e. f text (opens e)))

@@ -1,0 +1,62 @@
+-- A stream that is cleaned as it comes, chunk by chunk.
+use Rattle.std.specs.Prelude.{ℕ, ◌≡◌, Bool, false, List, [], ◌∷◌, ◌++◌}
+use Rattle.std.specs.List.{concat}
+use Rattle.csicodec_spans.specs.declared.table.Mode.{Mode}
+use Rattle.csicodec_spans.specs.declared.table.Mode.TheVariants as mode
+use Rattle.csicodec_spans.specs.Parts.{Part, AreFirstParts, IsUnsure}
+use Rattle.csicodec_filter.specs.Transform.{Begins as BeginsWith, EndsOf, Sends}
+use Rattle.csicodec_clean.specs.Shown.{IsRead, shown_chars, shown_text}
+use Rattle.csicodec_clean.specs.Titles.{title_open, with_titles}
+use Rattle.csicodec_clean.specs.Cleaned.{RuleOf, EndOf, AreSteps, Ends, longest}
+
+-- between two pushes: the rule, what is open and whether that is a title, the bytes of which nothing is sure yet, and those of a character before them
+pub record Between (S : Type 0) : Type 0 where
+  pub rule : S
+  pub mode : Mode
+  pub titled : Bool
+  pub bytes : List ℕ
+  pub held : List ℕ
+
+abbrev pub start_of : {S : Type 0} → S → Between S
+start_of s = record { rule = s; mode = mode.Text; titled = false; bytes = []; held = [] }
+
+-- Behind a run of text that reads as the characters and then the bytes that were held, of which the characters have been
+-- written: the parts in front of the bytes, and what was appended for them.
+pub record Goes {S : Type 0} (Gives : RuleOf S) (limit : ℕ) (m : Mode) (t : Bool) (s : S) (run chars bytes appended rest : List ℕ) (a : Mode) (later : Bool) (after : S) (held : List ℕ) : Type 0 where
+  pub parts : List Part
+  pub text : List ℕ
+  pub left : List ℕ
+  pub read : List ℕ
+  pub first : AreFirstParts limit m bytes parts rest a
+  pub titles : later ≡ title_open t parts
+  pub steps : AreSteps Gives s run (with_titles t parts) text after left
+  pub is_read : IsRead left read held
+  pub same : shown_chars chars ++ appended ≡ text ++ shown_chars read
+
+-- a push of these bytes appends the text
+pub record Takes {S : Type 0} (Gives : RuleOf S) (old : Between S) (bytes text : List ℕ) (new : Between S) : Type 0 where
+  pub unsure : IsUnsure longest new.mode new.bytes
+  pub goes : (run chars : List ℕ) → IsRead run chars old.held → Goes Gives longest old.mode old.titled old.rule run chars (old.bytes ++ bytes) text new.bytes new.mode new.titled new.rule new.held
+
+-- chunks pushed in turn, and all that they append
+abbrev pub AreTaken : {S : Type 0} → RuleOf S → Between S → List (List ℕ) → List ℕ → Between S → Type 0
+AreTaken Gives old [] text new = (text ≡ []) × (new ≡ old)
+AreTaken {S} Gives old (chunk ∷ chunks) text new =
+    (mid : Between S) × (first : List ℕ) × (others : List ℕ) × Takes Gives old chunk first mid × (text ≡ first ++ others) × AreTaken Gives mid chunks others new
+
+-- it doesn't matter how a stream is cut into chunks: what they append, and the end, is what is made of all of it at once
+abbrev pub AnyChunks : {S : Type 0} → RuleOf S → EndOf S → Type 0
+AnyChunks {S} Gives Closes = (s : S) (chunks : List (List ℕ)) (text close : List ℕ) (last : Between S) → AreTaken Gives (start_of s) chunks text last → Closes last.rule close
+    → Ends Gives Closes longest s (concat chunks) (text ++ (shown_text last.held ++ close))
+
+-- at the end: what is shown of the bytes that are held, and what the rule writes
+abbrev pub Closing : {S : Type 0} → EndOf S → EndsOf (Between S)
+Closing Closes last text = (close : List ℕ) × Closes last.rule close × (text ≡ shown_text last.held ++ close)
+
+-- what went out is a front of the text of these bytes: as far as it is sure, or, where they are all, with its end
+abbrev pub Begins : {S : Type 0} → RuleOf S → EndOf S → S → Type 0 → List ℕ → List ℕ → Type 0
+Begins Gives Closes s = BeginsWith (Sends (Takes Gives) (start_of s)) (Ends Gives Closes longest s)
+
+-- the text that the bytes have begins with what was sent
+abbrev pub IsFrontOf : (List ℕ → List ℕ → Type 0) → List ℕ → List ℕ → Type 0
+IsFrontOf Out bytes sent = (text : List ℕ) → Out bytes text → (unsent : List ℕ) × (text ≡ sent ++ unsent)

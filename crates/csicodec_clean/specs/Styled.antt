@@ -1,0 +1,185 @@
+-- What is left of a stream where its styles stay: characters that are shown, styles that hide nothing, and links, where they pass.
+use Rattle.std.specs.Prelude.{ℕ, ◌≡◌, Bool, true, false, not, List, [], ◌∷◌, ◌++◌, map, filter, if◌then◌else◌, encode_utf8}
+use Rattle.std.specs.List.{AllByRecursion, flat_map}
+use Rattle.std.specs.Char.{IsScalar}
+use Rattle.bstr.specs.Utf8.{lossy_chars}
+use Rattle.csicodec_tokens.specs.declared.param.CsiParam.{CsiParam}
+use Rattle.csicodec_tokens.specs.Sequence.{Seq}
+use Rattle.csicodec_base.specs.declared.sgr.Sgr.{Sgr}
+use Rattle.csicodec_base.specs.declared.sgr.Sgr.TheVariants as sgr
+use Rattle.csicodec_actions.specs.Actions.{Action}
+use Rattle.csicodec_actions.specs.Actions as action
+use Rattle.csicodec_actions.specs.Table.{text, texts}
+use Rattle.csicodec_parser.specs.Segments.{Actions}
+use Rattle.csicodec.specs.Exact.{ReadsAlone}
+use Rattle.csicodec_spans.specs.declared.table.Kind.{Kind}
+use Rattle.csicodec_spans.specs.declared.table.Kind.TheVariants as kind
+use Rattle.csicodec_spans.specs.declared.table.Mode.TheVariants as mode
+use Rattle.csicodec_spans.specs.Parts.{Part, IsWhole}
+use Rattle.csicodec_clean.specs.Shown.{shown, IsShown}
+use Rattle.csicodec_clean.specs.Titles.{with_titles}
+use Rattle.csicodec_clean.specs.declared.colors.Depth.{Depth}
+use Rattle.csicodec_clean.specs.declared.colors.Depth.TheVariants as depth
+use Rattle.csicodec_clean.specs.Palette.{reduced}
+use Rattle.csicodec_clean.specs.declared.styles.Passing.{Passing}
+use Rattle.csicodec_clean.specs.Links.{Address, Begun, IsLink, all_behind, is_linked, link_text, link_texts, links_at, links_in, next, no_address, start}
+use Rattle.csicodec_clean.specs.Cleaned.{RuleOf, EndOf, longest}
+
+-- the style hides what follows
+abbrev pub hides : Sgr → Bool
+hides (sgr.Invisible on) = on
+hides s = false
+
+abbrev pub is_reset : Sgr → Bool
+is_reset sgr.Reset = true
+is_reset s = false
+
+-- the styles among the actions that hide nothing, with the colours that stay
+abbrev pub kept : Depth → List Action → List Sgr
+kept d [] = []
+kept d (action.Sgr s ∷ actions) = if hides s then kept d actions else reduced d s ∷ kept d actions
+kept d (a ∷ actions) = kept d actions
+
+-- the bytes are one control sequence, of these actions
+abbrev pub IsOf : List ℕ → List Action → Type 0
+IsOf bytes actions = (list : List CsiParam) × (final : ℕ) × Seq bytes list final × Actions list false final actions
+
+-- a character, a style, or a link
+pub data Item : Type 0 where
+  Shown : ℕ → Item
+  Style : Sgr → Item
+  Link : Address → Item
+
+abbrev pub item_text : Item → List ℕ
+item_text (Shown c) = encode_utf8 c
+item_text (Style s) = text (action.Sgr s)
+item_text (Link a) = link_text a
+
+abbrev pub item_texts : List Item → List ℕ
+item_texts items = flat_map item_text items
+
+-- the characters of a run of text that are shown
+abbrev pub shown_items : List ℕ → List Item
+shown_items run = map Shown (filter shown (lossy_chars run))
+
+-- what a part leaves: a control sequence the styles that stay, a control string, where links pass, the link that is over with it,
+-- and any other nothing
+abbrev pub Leaves : Passing → Begun → Kind → List ℕ → List Item → Type 0
+Leaves d b kind.Csi bytes own = (actions : List Action) × IsOf bytes actions × (own ≡ map Style (kept d.depth actions))
+Leaves d b kind.Str bytes own = own ≡ map Link (links_in d.links b bytes)
+Leaves d b kind.Text bytes own = own ≡ []
+Leaves d b kind.Esc bytes own = own ≡ []
+Leaves d b kind.Other bytes own = own ≡ []
+
+abbrev pub begun_behind : Passing → Begun → Kind → List ℕ → Begun
+begun_behind d b kind.Str bytes = all_behind d.links b bytes
+begun_behind d b k bytes = b
+
+abbrev pub run_behind : Kind → List ℕ → List ℕ → List ℕ
+run_behind kind.Text run bytes = run ++ bytes
+run_behind k run bytes = []
+
+abbrev pub items_behind : Kind → List ℕ → List Item
+items_behind kind.Text run = []
+items_behind k run = shown_items run
+
+-- what is left of the parts, behind a run of text: text goes on with the run, and any other part ends it
+abbrev pub AreLeft : Passing → Begun → List ℕ → List Part → List Item → Type 0
+AreLeft d b run [] items = items ≡ shown_items run
+AreLeft d b run (p ∷ parts) items =
+    (own : List Item) × (others : List Item) × Leaves d b p.kind p.bytes own × (items ≡ items_behind p.kind run ++ (own ++ others))
+    × AreLeft d (begun_behind d b p.kind p.bytes) (run_behind p.kind run p.bytes) parts others
+
+-- whether the last of the styles is no reset
+abbrev pub is_open : Bool → List Sgr → Bool
+is_open styled [] = styled
+is_open styled (s ∷ styles) = is_open (not (is_reset s)) styles
+
+abbrev pub styles_of : List Item → List Sgr
+styles_of [] = []
+styles_of (Shown c ∷ items) = styles_of items
+styles_of (Style s ∷ items) = s ∷ styles_of items
+styles_of (Link a ∷ items) = styles_of items
+
+abbrev pub links_of : List Item → List Address
+links_of [] = []
+links_of (Shown c ∷ items) = links_of items
+links_of (Style s ∷ items) = links_of items
+links_of (Link a ∷ items) = a ∷ links_of items
+
+-- what ends a link and a style, where they are left open
+abbrev pub ends_of : Bool → Bool → List Item
+ends_of linked styled = (if linked then Link no_address ∷ [] else []) ++ (if styled then Style sgr.Reset ∷ [] else [])
+
+abbrev pub closed : List Item → List Item
+closed items = items ++ ends_of (is_linked false (links_of items)) (is_open false (styles_of items))
+
+-- what is left of the bytes where this passes
+pub record StylesIn (d : Passing) (bytes text : List ℕ) : Type 0 where
+  pub parts : List Part
+  pub whole : IsWhole longest mode.Text bytes parts
+  pub items : List Item
+  pub left : AreLeft d start [] (with_titles false parts) items
+  pub all : text ≡ item_texts (closed items)
+
+-- so many colours, and no links
+abbrev pub without_links : Depth → Passing
+without_links d = record { depth = d; links = false }
+
+-- what is left of the bytes where all colours stay
+abbrev pub Styles : List ℕ → List ℕ → Type 0
+Styles bytes text = StylesIn (without_links depth.Full) bytes text
+
+-- a character that is shown, a style that hides nothing, has a colour that stays, and whose text is read as it alone, or, where links
+-- pass, one that may
+abbrev pub IsSafe : Passing → Item → Type 0
+IsSafe d (Shown c) = IsShown c × IsScalar c
+IsSafe d (Style s) = (hides s ≡ false) × ReadsAlone (action.Sgr s) false × (reduced d.depth s ≡ s)
+IsSafe d (Link a) = (d.links ≡ true) × IsLink a
+
+-- a join of such texts, which leaves no style and no link open
+pub record IsStyledIn (d : Passing) (text : List ℕ) : Type 0 where
+  pub items : List Item
+  pub safe : AllByRecursion (IsSafe d) items
+  pub texts : text ≡ item_texts items
+  pub none_open : is_open false (styles_of items) ≡ false
+  pub none_linked : is_linked false (links_of items) ≡ false
+
+abbrev pub IsStyled : List ℕ → Type 0
+IsStyled text = IsStyledIn (without_links depth.Full) text
+
+-- what the rule that keeps those goes by: what passes, whether a style is open, whether a link is, and what has come of one
+pub record Keeping : Type 0 where
+  pub passing : Passing
+  pub styled : Bool
+  pub linked : Bool
+  pub begun : Begun
+
+abbrev pub keeping : Passing → Bool → Bool → Begun → Keeping
+keeping d styled linked b = record { passing = d; styled = styled; linked = linked; begun = b }
+
+abbrev pub first_kept : Passing → Keeping
+first_kept d = keeping d false false start
+
+-- where no links pass, nothing comes of one: all that changes is whether a style is open
+abbrev pub resumed : Depth → Bool → Keeping
+resumed d styled = keeping (without_links d) styled false start
+
+-- behind styles that stay, and behind a byte of a control string
+abbrev pub behind_styles : Keeping → List Sgr → Keeping
+behind_styles k styles = keeping k.passing (is_open k.styled styles) k.linked k.begun
+
+abbrev pub behind_byte : Keeping → ℕ → Keeping
+behind_byte k c = keeping k.passing k.styled (is_linked k.linked (links_at k.passing.links k.begun c)) (next k.passing.links k.begun c)
+
+-- the rule, over a state of which that is a part
+abbrev pub keeps : {S : Type 0} → (S → Keeping) → RuleOf S
+keeps of = record {
+  sequence = λ s bytes out after.
+      (actions : List Action) × IsOf bytes actions × (out ≡ texts (map action.Sgr (kept (of s).passing.depth actions))) × (of after ≡ behind_styles (of s) (kept (of s).passing.depth actions));
+  byte = λ s c out after. (out ≡ link_texts (links_at (of s).passing.links (of s).begun c)) × (of after ≡ behind_byte (of s) c);
+}
+
+-- at the end it ends the link that is open, and sets all back where a style is
+abbrev pub resets : {S : Type 0} → (S → Keeping) → EndOf S
+resets of s close = close ≡ (if (of s).linked then link_text no_address else []) ++ (if (of s).styled then text (action.Sgr sgr.Reset) else [])

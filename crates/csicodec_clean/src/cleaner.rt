@@ -1,0 +1,85 @@
+//! A stream that is cleaned as it comes.
+ghost use Rattle.std.specs.Prelude.{◌≡◌, ◌<◌, ◌≤◌, ◌++◌, ℕ, List, [], length, OnOk};
+ghost use Rattle.csicodec_clean.specs.Shown.{shown_text};
+ghost use Rattle.csicodec_clean.specs.Cleaned.{longest};
+ghost use Rattle.csicodec_clean.specs.Stream.{Takes, start_of};
+
+use crate::rule::Rule;
+use crate::spans::append_clean;
+use crate::text::append_shown;
+use csicodec_base::CsiParam;
+use csicodec_spans::{LIMIT, Mode};
+use csicodec_streams::keep_from;
+use std::alloc::{AllocError, Global};
+use std::marker::Model;
+
+/// A stream that is cleaned by a rule as it comes: in however many slices it is pushed, what these and the end append is what
+/// is made of all of them at once ([`any_chunks`](crate::laws::any_chunks)).
+///
+/// It holds a control sequence that isn't over, of fewer than 65536 bytes, and three bytes of a character at most, beside what its rule
+/// does. After an `Err` the cleaner and what was appended are of no more use.
+#[derive(Drop)]
+pub struct Cleaner<R> {
+    rule: R,
+    mode: Mode,
+    titled: bool,
+    pending: Vec<u8>,
+    held: Vec<u8>,
+    params: Vec<CsiParam>,
+}
+
+impl<R> Model for Cleaner<R> {
+    ghost use Rattle.csicodec_clean.specs.Stream.{Between};
+
+    ghost Value = { Between R };
+
+    ghost view = { λ c. record { rule = c.rule; mode = c.mode; titled = c.titled; bytes = c.pending.items; held = c.held.items } };
+}
+
+impl<R: Rule + Drop> Cleaner<R> {
+    /// A stream of which nothing has come.
+    pub fn new(alloc: Global, rule: R) -> Cleaner<R>
+        ensures { result ≡ start_of rule }
+    {
+        Cleaner {
+            rule,
+            mode: Mode::Text,
+            titled: false,
+            pending: Vec::new(alloc),
+            held: Vec::new(alloc),
+            params: Vec::new(alloc),
+        }
+    }
+
+    /// Takes the next bytes, and appends what is left of all that is sure now.
+    pub fn push(&mut self, bytes: &[u8], out: &mut Vec<u8>) -> Result<(), AllocError>
+        ensures takes { OnOk result ((text : List ℕ) × Takes R.gives self.old bytes.now text self.new × (out.new.items ≡ out.old.items ++ text)) }
+        // What is held is short.
+        ensures held { OnOk result (length self.old.held ≤ 3 → length self.new.held ≤ 3) }
+        ensures pending { OnOk result (length self.new.bytes < longest) }
+    {
+        self.pending.extend_from_slice(bytes)?;
+        let (rest, mode) = append_clean(
+            &mut self.rule,
+            &mut self.params,
+            &mut self.held,
+            &mut self.titled,
+            LIMIT,
+            self.mode,
+            &self.pending,
+            out,
+        )?;
+        let used = self.pending.len() - rest.len();
+        self.mode = mode;
+        keep_from(&mut self.pending, used);
+        Ok(())
+    }
+
+    /// Appends what is shown of the text that is held, and what ends the output: nothing comes any more.
+    pub fn finish(&mut self, out: &mut Vec<u8>) -> Result<(), AllocError>
+        ensures { OnOk result ((close : List ℕ) × R.closes self.old.rule close × (out.new.items ≡ out.old.items ++ (shown_text self.old.held ++ close))) }
+    {
+        append_shown(&self.held, out)?;
+        self.rule.close(out)
+    }
+}

@@ -1,0 +1,207 @@
+//! Links, read byte by byte.
+ghost use Rattle.std.specs.Prelude.{◌≡◌, ◌++◌, ℕ, List, Bool, true, [], OnOk, IfOk};
+ghost use Rattle.csicodec_clean.specs.declared.links.Place.TheVariants.{Params as InParams, Url as InUrl};
+ghost use Rattle.csicodec_clean.specs.Links.{all_behind, anew, begun, behind, ends_at, is_linked, is_param, is_visible, link_text, link_texts, links_at, links_in, no_address, opened, start};
+
+use std::alloc::{AllocError, Global};
+
+/// How far a control string is that of a link, `ESC ] 8 ; PARAMS ; URL` and then ST or BEL.
+#[derive(Clone, Copy, PartialEq, Eq, Debug)]
+pub(crate) enum Place {
+    /// It is none.
+    Outside,
+    /// Behind an ESC that may open it.
+    Escape,
+    /// Behind `]`.
+    Opened,
+    /// Behind `8`.
+    Eight,
+    /// In its parameters.
+    Params,
+    /// In where it leads.
+    Url,
+    /// Behind the ESC of ST.
+    Ending,
+}
+
+/// The most bytes that the parameters of a link have.
+const LONGEST_PARAMS: usize = 256;
+
+/// The most bytes that the URL of a link has.
+const LONGEST_URL: usize = 2083;
+
+/// A visible character of ASCII: no space, no control, and no part of a longer character.
+fn is_visible(byte: u8) -> bool
+    ensures { result ≡ is_visible byte }
+{
+    33 <= byte && byte <= 126
+}
+
+/// One that parameters may have.
+fn is_param(byte: u8) -> bool
+    ensures { result ≡ is_param byte }
+{
+    is_visible(byte) && byte != b';'
+}
+
+/// ESC begins anew.
+fn anew(byte: u8) -> Place
+    ensures { result ≡ anew byte }
+{
+    if byte == 0x1b {
+        Place::Escape
+    } else {
+        Place::Outside
+    }
+}
+
+/// Behind ESC.
+fn opened(byte: u8) -> Place
+    ensures { result ≡ opened byte }
+{
+    if byte == b']' {
+        Place::Opened
+    } else {
+        Place::Outside
+    }
+}
+
+/// Whether the byte ends a link.
+fn is_end(place: Place, byte: u8) -> bool
+    ensures { result ≡ ends_at place byte }
+{
+    match place {
+        Place::Outside | Place::Escape | Place::Opened | Place::Eight | Place::Params => false,
+        Place::Url => byte == 0x07,
+        Place::Ending => byte == b'\\',
+    }
+}
+
+/// Appends what ends a link.
+pub(crate) fn append_end(out: &mut Vec<u8>) -> Result<(), AllocError>
+    ensures { OnOk result (out.new.items ≡ out.old.items ++ link_text no_address) }
+{
+    out.extend_from_slice(b"\x1b]8;;\x1b\\")
+}
+
+/// What has come of a link.
+#[derive(Drop)]
+pub(crate) struct Partial {
+    pub(crate) place: Place,
+    pub(crate) params: Vec<u8>,
+    pub(crate) url: Vec<u8>,
+}
+
+impl Partial {
+    /// Where no control string is open.
+    pub(crate) fn new(alloc: Global) -> Partial
+        ensures { begun result.place result.params.items result.url.items ≡ start }
+    {
+        Partial {
+            place: Place::Outside,
+            params: Vec::new(alloc),
+            url: Vec::new(alloc),
+        }
+    }
+
+    /// Takes a byte of the parameters.
+    fn take_param(&mut self, byte: u8) -> Result<(), AllocError>
+        requires { self.now.place ≡ InParams }
+        ensures { OnOk result (begun self.new.place self.new.params.items self.new.url.items ≡ behind (begun self.old.place self.old.params.items self.old.url.items) byte) }
+    {
+        if byte == b';' {
+            self.url.clear();
+            self.place = Place::Url;
+        } else if is_param(byte) && self.params.len() < LONGEST_PARAMS {
+            self.params.push(byte)?;
+        } else {
+            self.place = anew(byte);
+        }
+        Ok(())
+    }
+
+    /// Takes a byte of the URL.
+    fn take_url(&mut self, byte: u8) -> Result<(), AllocError>
+        requires { self.now.place ≡ InUrl }
+        ensures { OnOk result (begun self.new.place self.new.params.items self.new.url.items ≡ behind (begun self.old.place self.old.params.items self.old.url.items) byte) }
+    {
+        if is_visible(byte) && self.url.len() < LONGEST_URL {
+            self.url.push(byte)?;
+        } else if byte == 0x1b {
+            self.place = Place::Ending;
+        } else {
+            self.place = Place::Outside;
+        }
+        Ok(())
+    }
+
+    /// Takes the next byte of a control string.
+    fn take(&mut self, byte: u8) -> Result<(), AllocError>
+        ensures { OnOk result (begun self.new.place self.new.params.items self.new.url.items ≡ behind (begun self.old.place self.old.params.items self.old.url.items) byte) }
+    {
+        match self.place {
+            Place::Outside => self.place = anew(byte),
+            Place::Escape | Place::Ending => self.place = opened(byte),
+            Place::Opened => self.place = if byte == b'8' {
+                Place::Eight
+            } else {
+                anew(byte)
+            },
+            Place::Eight => {
+                if byte == b';' {
+                    self.params.clear();
+                    self.place = Place::Params;
+                } else {
+                    self.place = anew(byte);
+                }
+            }
+            Place::Params => return self.take_param(byte),
+            Place::Url => return self.take_url(byte),
+        }
+        Ok(())
+    }
+
+    /// Appends the link in its normal form.
+    fn append(&self, out: &mut Vec<u8>) -> Result<(), AllocError>
+        ensures { OnOk result (out.new.items ≡ out.old.items ++ link_text (record { params = self.now.params.items; url = self.now.url.items })) }
+    {
+        out.extend_from_slice(b"\x1b]8;")?;
+        out.extend_from_slice(&self.params)?;
+        out.push(b';')?;
+        out.extend_from_slice(&self.url)?;
+        out.extend_from_slice(b"\x1b\\")
+    }
+
+    /// Takes the next byte of a control string, appends the link that is over with it, and answers whether one is open then.
+    fn append_byte(&mut self, byte: u8, linked: bool, out: &mut Vec<u8>) -> Result<bool, AllocError>
+        ensures text { OnOk result (out.new.items ≡ out.old.items ++ link_texts (links_at true (begun self.old.place self.old.params.items self.old.url.items) byte)) }
+        ensures linked { IfOk result (λ after. after ≡ is_linked linked (links_at true (begun self.old.place self.old.params.items self.old.url.items) byte)) }
+        ensures begun { OnOk result (begun self.new.place self.new.params.items self.new.url.items ≡ behind (begun self.old.place self.old.params.items self.old.url.items) byte) }
+    {
+        let mut linked = linked;
+        if is_end(self.place, byte) {
+            self.append(out)?;
+            linked = !self.url.is_empty();
+        }
+        self.take(byte)?;
+        Ok(linked)
+    }
+
+    /// The same of each of the bytes in turn.
+    pub(crate) fn append_links(
+        &mut self,
+        bytes: &[u8],
+        linked: bool,
+        out: &mut Vec<u8>,
+    ) -> Result<bool, AllocError>
+        ensures text { OnOk result (out.new.items ≡ out.old.items ++ link_texts (links_in true (begun self.old.place self.old.params.items self.old.url.items) bytes.now)) }
+        ensures linked { IfOk result (λ after. after ≡ is_linked linked (links_in true (begun self.old.place self.old.params.items self.old.url.items) bytes.now)) }
+        ensures begun { OnOk result (begun self.new.place self.new.params.items self.new.url.items ≡ all_behind true (begun self.old.place self.old.params.items self.old.url.items) bytes.now) }
+    {
+        let mut leads = linked;
+        for byte in bytes {
+            leads = self.append_byte(*byte, leads, out)?;
+        }
+        Ok(leads)
+    }
+}

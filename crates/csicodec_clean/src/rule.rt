@@ -1,0 +1,35 @@
+//! What is written for a control sequence, and for a control string.
+ghost use Rattle.std.specs.Prelude.{◌≡◌, ◌++◌, ℕ, List, OnOk};
+ghost use Rattle.csicodec_tokens.specs.Sequence.{Seq};
+ghost use Rattle.csicodec_clean.specs.Cleaned.{AreGiven, RuleOf};
+
+use csicodec_base::CsiParam;
+use std::alloc::AllocError;
+
+/// What is written in the place of a control sequence and of a control string, and at the end of the stream.
+pub trait Rule {
+    /// From a state, in the place of a control sequence or of a byte of a control string, a text, and the state then.
+    ghost gives: { RuleOf Self };
+
+    /// In this state, this text ends the output.
+    ghost closes: { Self → List ℕ → Type 0 };
+
+    /// Appends what stands in the place of one control sequence.
+    fn rewrite(
+        &mut self,
+        bytes: &[u8],
+        params: &[CsiParam],
+        control: char,
+        out: &mut Vec<u8>,
+    ) -> Result<(), AllocError>
+        requires { Seq bytes.now params.now control }
+        ensures { OnOk result ((text : List ℕ) × gives.sequence self.old bytes.now text self.new × (out.new.items ≡ out.old.items ++ text)) };
+
+    /// Appends what stands in the place of some bytes of a control string: one comes in any cut, from the ESC on that opens it.
+    fn string(&mut self, bytes: &[u8], out: &mut Vec<u8>) -> Result<(), AllocError>
+        ensures { OnOk result ((text : List ℕ) × AreGiven gives self.old bytes.now text self.new × (out.new.items ≡ out.old.items ++ text)) };
+
+    /// Appends what ends the output: nothing comes any more.
+    fn close(&self, out: &mut Vec<u8>) -> Result<(), AllocError>
+        ensures { OnOk result ((text : List ℕ) × closes self.now text × (out.new.items ≡ out.old.items ++ text)) };
+}

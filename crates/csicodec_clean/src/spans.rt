@@ -1,0 +1,94 @@
+//! The spans of a stream, and what is left of them.
+ghost use Rattle.std.specs.Prelude.{◌≡◌, ◌≢◌, ◌<◌, ◌≤◌, ◌++◌, ℕ, List, [], length, MatchOption, OnOk, IfOk};
+ghost use Rattle.csicodec_tokens.specs.Sequence.{Seq};
+ghost use Rattle.csicodec_spans.specs.declared.table.Kind.TheVariants.{Csi as Sequence};
+ghost use Rattle.csicodec_spans.specs.Parts.{IsUnsure};
+ghost use Rattle.csicodec_clean.specs.Shown.{shown_chars};
+ghost use Rattle.csicodec_clean.specs.Private.Steps.{IsAppended};
+ghost use Rattle.csicodec_clean.specs.Shown.{IsRead};
+ghost use Rattle.csicodec_clean.specs.Stream.{Goes};
+
+use crate::rule::Rule;
+use crate::text::{append_shown, append_sure};
+use crate::title::{read_as, title_behind};
+use csicodec_base::CsiParam;
+use csicodec_spans::{Cutter, Kind, Mode};
+use csicodec_streams::keep_from;
+use std::alloc::AllocError;
+
+/// Appends what is shown of the text, as far as it is sure; `held` are the bytes before it that aren't, and then those at its
+/// end.
+fn append_text(held: &mut Vec<u8>, bytes: &[u8], out: &mut Vec<u8>) -> Result<(), AllocError>
+    ensures chars { OnOk result ((chars : List ℕ) × IsRead (held.old.items ++ bytes.now) chars held.new.items × (out.new.items ≡ out.old.items ++ shown_chars chars)) }
+    ensures short { OnOk result (length held.new.items ≤ 3) }
+    ensures last { OnOk result ((front : List ℕ) × (held.old.items ++ bytes.now ≡ front ++ held.new.items)) }
+{
+    if held.is_empty() {
+        let rest = append_sure(bytes, out)?;
+        held.extend_from_slice(rest)?;
+        return Ok(());
+    }
+    held.extend_from_slice(bytes)?;
+    let sure = held.len() - append_sure(held, out)?.len();
+    keep_from(held, sure);
+    Ok(())
+}
+
+/// Appends what is left of a span. A span that is no text ends the run of text before it.
+fn append_span<T: Rule>(
+    rule: &mut T,
+    params: &[CsiParam],
+    control: Option<char>,
+    held: &mut Vec<u8>,
+    kind: Kind,
+    bytes: &[u8],
+    out: &mut Vec<u8>,
+) -> Result<(), AllocError>
+    requires { MatchOption control (kind ≢ Sequence) (λ final. (kind ≡ Sequence) × Seq bytes.now params.now final) }
+    ensures appended { OnOk result ((more : List ℕ) × IsAppended T.gives kind rule.old held.old.items bytes.now more rule.new held.new.items
+        × (out.new.items ≡ out.old.items ++ more)) }
+    ensures short { OnOk result (length held.new.items ≤ 3) }
+    ensures last { OnOk result ((front : List ℕ) × (held.old.items ++ bytes.now ≡ front ++ held.new.items)) }
+{
+    if kind == Kind::Text {
+        return append_text(held, bytes, out);
+    }
+    append_shown(held, out)?;
+    held.clear();
+    match control {
+        Some(control) => rule.rewrite(bytes, params, control, out),
+        None if kind == Kind::Str => rule.string(bytes, out),
+        None => Ok(()),
+    }
+}
+
+/// Appends what is left of all spans of the bytes that are sure, and answers the bytes that aren't, and the mode there.
+///
+/// `held` are the bytes of the run of text before them that aren't read yet, three at most; `titled` says whether a title is open.
+pub(crate) fn append_clean<'a, T: Rule>(
+    rule: &mut T,
+    params: &mut Vec<CsiParam>,
+    held: &mut Vec<u8>,
+    titled: &mut bool,
+    limit: usize,
+    mode: Mode,
+    bytes: &'a [u8],
+    out: &mut Vec<u8>,
+) -> Result<(&'a [u8], Mode), AllocError>
+    requires { 0 < limit }
+    ensures parts { IfOk result (λ (rest, after). (front : List ℕ) × (bytes.now ≡ front ++ rest.now)) }
+    ensures unsure { IfOk result (λ (rest, after). IsUnsure limit after rest.now) }
+    ensures goes { IfOk result (λ (rest, after). (appended : List ℕ) × (out.new.items ≡ out.old.items ++ appended)
+        × ((run chars : List ℕ) → IsRead run chars held.old.items → Goes T.gives limit mode titled.old rule.old run chars bytes.now appended rest.now after titled.new rule.new held.new.items)) }
+    ensures short { OnOk result (length held.old.items ≤ 3 → length held.new.items ≤ 3) }
+    // What is held stands directly before the rest.
+    ensures last { IfOk result (λ (rest, after). (front : List ℕ) × (held.old.items ++ bytes.now ≡ front ++ (held.new.items ++ rest.now))) }
+{
+    let mut cutter = Cutter { mode, rest: bytes };
+    while let Some((span, control)) = cutter.next(limit, params)? {
+        let kind = read_as(span.kind, *titled);
+        append_span(rule, params, control, held, kind, span.bytes, out)?;
+        *titled = title_behind(*titled, span.kind, span.bytes);
+    }
+    Ok((cutter.rest, cutter.mode))
+}

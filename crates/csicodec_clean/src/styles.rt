@@ -1,0 +1,243 @@
+//! Bytes that are all there, with the styles of their text, and its links.
+ghost use Rattle.std.specs.Prelude.{◌≡◌, ◌++◌, ◌∷◌, [], ℕ, List, Bool, map, drop, OnOk, IfOk, false};
+ghost use Rattle.csicodec_actions.specs.Actions.{Sgr as SgrAction};
+ghost use Rattle.csicodec_actions.specs.Table.{texts};
+ghost use Rattle.csicodec_parser.specs.ActionOf.{action_of};
+ghost use Rattle.csicodec_clean.specs.declared.colors.Depth.TheVariants.{Full as AllColors};
+ghost use Rattle.csicodec_clean.specs.Links.{begun};
+ghost use Rattle.csicodec_clean.specs.Styled.{Styles, StylesIn, IsStyled, IsStyledIn, Keeping, first_kept, hides, is_open, is_reset, keeping, kept, resumed, without_links};
+
+use crate::colors::{Depth, reduced};
+use crate::links::{Partial, append_end};
+use crate::rule::Rule;
+use crate::whole::clean_whole;
+use csicodec::{CSI, encode};
+use csicodec_base::{CsiParam, Sgr};
+use csicodec_streams::parse_into;
+use std::alloc::{AllocError, Global};
+use std::marker::Model;
+
+/// Whether the style hides what follows.
+fn is_hiding(style: &Sgr) -> bool
+    ensures { result ≡ hides style.now }
+{
+    matches!(style, Sgr::Invisible(true))
+}
+
+/// Whether the style sets all back.
+fn is_reset(style: &Sgr) -> bool
+    ensures { result ≡ is_reset style.now }
+{
+    matches!(style, Sgr::Reset)
+}
+
+/// Appends the text of the action, if it is a style that stays, and answers whether one is open behind it.
+fn append_style(
+    depth: Depth,
+    action: &CSI,
+    styled: bool,
+    out: &mut Vec<u8>,
+) -> Result<bool, AllocError>
+    ensures text { OnOk result (out.new.items ≡ out.old.items ++ texts (map SgrAction (kept depth (action_of action.now ∷ [])))) }
+    ensures styled { IfOk result (λ after. after ≡ is_open styled (kept depth (action_of action.now ∷ []))) }
+{
+    match action {
+        CSI::Sgr(style) => {
+            if is_hiding(style) {
+                return Ok(styled);
+            }
+            let style = reduced(depth, *style);
+            encode(&CSI::Sgr(style), out)?;
+            Ok(!is_reset(&style))
+        }
+        CSI::Cursor(_)
+        | CSI::Edit(_)
+        | CSI::Mode(_)
+        | CSI::Device(_)
+        | CSI::Keyboard(_)
+        | CSI::SelectCharacterPath(..)
+        | CSI::Mouse(_)
+        | CSI::Window(_)
+        | CSI::Unspecified(_) => Ok(styled),
+    }
+}
+
+/// The same of each of the actions in turn.
+fn append_styles(
+    depth: Depth,
+    actions: &[CSI],
+    styled: bool,
+    out: &mut Vec<u8>,
+) -> Result<bool, AllocError>
+    ensures text { OnOk result (out.new.items ≡ out.old.items ++ texts (map SgrAction (kept depth (map action_of actions.now)))) }
+    ensures styled { IfOk result (λ after. after ≡ is_open styled (kept depth (map action_of actions.now))) }
+{
+    let mut styled = styled;
+    for action in actions {
+        styled = append_style(depth, action, styled, out)?;
+    }
+    Ok(styled)
+}
+
+/// What passes beside text and styles.
+#[derive(Clone, Copy, PartialEq, Eq, Debug)]
+pub struct Passing {
+    /// Which colours stay.
+    pub depth: Depth,
+    /// Whether links pass (OSC 8) whose address is visible ASCII, of at most 2,083 bytes, with at most 256 bytes of parameters.
+    pub links: bool,
+}
+
+/// The rule that keeps the styles that hide nothing, in their normal form, and ends the output with a reset where one is open; and
+/// links, where they pass, of which none is left open either.
+#[derive(Drop)]
+pub struct Kept {
+    alloc: Global,
+    passing: Passing,
+    styled: bool,
+    linked: bool,
+    link: Partial,
+    /// A place that is kept for the actions of a sequence.
+    actions: Vec<CSI>,
+}
+
+impl Model for Kept {
+    ghost use Rattle.csicodec_clean.specs.Links.{begun};
+    ghost use Rattle.csicodec_clean.specs.Styled.{Keeping, keeping};
+
+    ghost Value = { Keeping };
+
+    ghost view = { λ k. keeping k.passing k.styled k.linked (begun k.link.place k.link.params.items k.link.url.items) };
+}
+
+impl Kept {
+    /// At the beginning of a stream, where no style is open. All colours stay, and no links.
+    pub fn new(alloc: Global) -> Kept
+        ensures { result ≡ first_kept (without_links AllColors) }
+    {
+        Kept::in_depth(alloc, Depth::Full)
+    }
+
+    /// The same with the colours that stay.
+    pub fn in_depth(alloc: Global, depth: Depth) -> Kept
+        ensures { result ≡ first_kept (without_links depth) }
+    {
+        let links = false;
+        Kept::letting(alloc, Passing { depth, links })
+    }
+
+    /// In the middle of a stream, where no links pass.
+    pub(crate) fn resumed(alloc: Global, depth: Depth, styled: bool) -> Kept
+        ensures { result ≡ resumed depth styled }
+    {
+        Kept {
+            styled,
+            ..Kept::in_depth(alloc, depth)
+        }
+    }
+
+    /// Whether a style is open.
+    pub(crate) fn is_styled(&self) -> bool
+        ensures { result ≡ self.now.styled }
+    {
+        self.styled
+    }
+
+    /// The same with what passes.
+    pub fn letting(alloc: Global, passing: Passing) -> Kept
+        ensures { result ≡ first_kept passing }
+    {
+        Kept {
+            alloc,
+            passing,
+            styled: false,
+            linked: false,
+            link: Partial::new(alloc),
+            actions: Vec::new(alloc),
+        }
+    }
+}
+
+impl Rule for Kept {
+    ghost use Rattle.csicodec_clean.specs.Styled.{resets, keeps};
+
+    ghost gives = { keeps (λ k. k) };
+
+    ghost closes = { resets (λ k. k) };
+
+    fn rewrite(
+        &mut self,
+        _bytes: &[u8],
+        params: &[CsiParam],
+        control: char,
+        out: &mut Vec<u8>,
+    ) -> Result<(), AllocError> {
+        self.actions.clear();
+        parse_into(self.alloc, params, false, control, &mut self.actions)?;
+        self.styled = append_styles(self.passing.depth, &self.actions, self.styled, out)?;
+        Ok(())
+    }
+
+    fn string(&mut self, bytes: &[u8], out: &mut Vec<u8>) -> Result<(), AllocError> {
+        if self.passing.links {
+            self.linked = self.link.append_links(bytes, self.linked, out)?;
+        }
+        Ok(())
+    }
+
+    fn close(&self, out: &mut Vec<u8>) -> Result<(), AllocError> {
+        if self.linked {
+            append_end(out)?;
+        }
+        if self.styled {
+            encode(&CSI::Sgr(Sgr::Reset), out)?;
+        }
+        Ok(())
+    }
+}
+
+/// The text of untrusted bytes and its styles: as [`strip`](crate::strip), but the attributes of text (SGR) stay, in their normal
+/// form, one sequence for each.
+///
+/// Those that are unknown are dropped, and `ESC [ 8 m`, which hides what follows. Where the last of them is no reset, a reset ends the
+/// output, so that nothing of it colours what is written next.
+///
+/// ```text
+/// clean(alloc, b"\x1b[01;31mred\x1b[2Jtext")?      // "\x1b[1m\x1b[31mredtext\x1b[0m"
+/// ```
+pub fn clean(alloc: Global, bytes: &[u8]) -> Result<Vec<u8>, AllocError>
+    // Run by run, it is what is shown of the text, and between them the styles that stay.
+    ensures exact { IfOk result (λ out. Styles bytes.now out.items) }
+    // It is texts of characters that are shown and of such styles, and leaves none open.
+    ensures safe { IfOk result (λ out. IsStyled out.items) }
+{
+    clean_in(alloc, Depth::Full, bytes)
+}
+
+/// The same with fewer colours: each that doesn't stay becomes the nearest that does.
+///
+/// ```text
+/// clean_in(alloc, Depth::Ansi, b"\x1b[38;2;250;5;5mred")?      // "\x1b[91mred\x1b[0m"
+/// ```
+pub fn clean_in(alloc: Global, depth: Depth, bytes: &[u8]) -> Result<Vec<u8>, AllocError>
+    ensures exact { IfOk result (λ out. StylesIn (without_links depth) bytes.now out.items) }
+    ensures safe { IfOk result (λ out. IsStyledIn (without_links depth) out.items) }
+{
+    let links = false;
+    clean_with(alloc, Passing { depth, links }, bytes)
+}
+
+/// The same with what passes: where links do, each whose address may, in its normal form, which ST ends. Where the last of them has
+/// an address, one without ends the output, so that what is written next leads nowhere.
+///
+/// ```text
+/// let passing = Passing { depth: Depth::Full, links: true };
+/// clean_with(alloc, passing, b"\x1b]8;;http://a.example\x07text")?      // "\x1b]8;;http://a.example\x1b\\text\x1b]8;;\x1b\\"
+/// ```
+pub fn clean_with(alloc: Global, passing: Passing, bytes: &[u8]) -> Result<Vec<u8>, AllocError>
+    ensures exact { IfOk result (λ out. StylesIn passing bytes.now out.items) }
+    // It is texts of characters that are shown, of such styles and of such links, and leaves none open.
+    ensures safe { IfOk result (λ out. IsStyledIn passing out.items) }
+{
+    clean_whole(alloc, &mut Kept::letting(alloc, passing), bytes)
+}

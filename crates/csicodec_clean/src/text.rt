@@ -1,0 +1,85 @@
+//! The characters of a run of text that are shown.
+ghost use Rattle.std.specs.Prelude.{◌≡◌, ◌<◌, ◌≤◌, ◌-◌, ◌++◌, ◌∷◌, [], ℕ, List, length, drop, OnOk, IfOk, IfSome, IfNone};
+ghost use Rattle.csicodec_clean.specs.Shown.{shown, shown_chars, shown_text};
+ghost use Rattle.csicodec_clean.specs.Private.Steps.{IsCut};
+ghost use Rattle.csicodec_clean.specs.Shown.{IsRead};
+
+use crate::ascii::behind_plain;
+use bstr::{ByteVec, decode_utf8};
+use std::alloc::AllocError;
+
+/// Whether the character is a newline, a tab, or no control.
+fn is_shown(char: char) -> bool
+    ensures { result ≡ shown char }
+{
+    char == '\n' || char == '\t' || ' ' <= char && (char < '\u{7f}' || '\u{a0}' <= char)
+}
+
+/// Appends the character, if it is shown.
+fn append_char(char: char, out: &mut Vec<u8>) -> Result<(), AllocError>
+    ensures { OnOk result (out.new.items ≡ out.old.items ++ shown_chars (char ∷ [])) }
+{
+    if is_shown(char) {
+        out.push_char(char)?;
+    }
+    Ok(())
+}
+
+/// The character in front, or U+FFFD for a piece that is none, and its length; none where it depends on what follows, and of
+/// no bytes.
+fn first_sure(bytes: &[u8]) -> Option<(char, usize)>
+    ensures none { IfNone result (IsCut bytes.now) }
+    ensures some { IfSome result (λ (char, size). IsRead bytes.now (char ∷ []) (drop size bytes.now) × (0 < size) × (size ≤ length bytes.now)) }
+{
+    if bytes.is_empty() {
+        return None;
+    }
+    let (found, size) = decode_utf8(bytes);
+    match found {
+        Some(char) => Some((char, size)),
+        None => {
+            if size == bytes.len() {
+                None
+            } else {
+                Some(('\u{FFFD}', size))
+            }
+        }
+    }
+}
+
+/// Appends the plain bytes in front as they are, and answers the others.
+fn append_plain<'a>(bytes: &'a [u8], out: &mut Vec<u8>) -> Result<&'a [u8], AllocError>
+    ensures parts { IfOk result (λ rest. (front : List ℕ) × (bytes.now ≡ front ++ rest.now)) }
+    ensures chars { IfOk result (λ rest. (chars : List ℕ) × IsRead bytes.now chars rest.now × (out.new.items ≡ out.old.items ++ shown_chars chars)) }
+{
+    let rest = behind_plain(bytes);
+    let count = bytes.len() - rest.len();
+    out.extend_from_slice(bytes.split_at(count).0)?;
+    Ok(rest)
+}
+
+/// Appends what is shown of the characters that are sure, whatever follows, and answers the others: three bytes at most.
+pub(crate) fn append_sure<'a>(bytes: &'a [u8], out: &mut Vec<u8>) -> Result<&'a [u8], AllocError>
+    ensures parts { IfOk result (λ rest. (front : List ℕ) × (bytes.now ≡ front ++ rest.now)) }
+    ensures chars { IfOk result (λ rest. (chars : List ℕ) × IsRead bytes.now chars rest.now × (out.new.items ≡ out.old.items ++ shown_chars chars)) }
+    ensures cut { IfOk result (λ rest. IsCut rest.now) }
+    ensures short { IfOk result (λ rest. length rest.now ≤ 3) }
+{
+    let mut rest = bytes;
+    while let Some((char, size)) = first_sure(rest) {
+        append_char(char, out)?;
+        rest = append_plain(rest.split_at(size).1, out)?;
+    }
+    Ok(rest)
+}
+
+/// Appends what is shown of the run: nothing follows it.
+pub(crate) fn append_shown(bytes: &[u8], out: &mut Vec<u8>) -> Result<(), AllocError>
+    ensures { OnOk result (out.new.items ≡ out.old.items ++ shown_text bytes.now) }
+{
+    let rest = append_sure(bytes, out)?;
+    if !rest.is_empty() {
+        append_char('\u{FFFD}', out)?;
+    }
+    Ok(())
+}

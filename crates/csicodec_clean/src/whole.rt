@@ -1,0 +1,87 @@
+//! Bytes that are all there, cleaned.
+ghost use Rattle.std.specs.Prelude.{◌≡◌, ◌≢◌, ◌<◌, ◌≤◌, ◌++◌, ℕ, List, [], All, IfOk};
+ghost use Rattle.csicodec_clean.specs.Shown.{IsPlain};
+ghost use Rattle.csicodec_clean.specs.Cleaned.{Ends, Strips, longest};
+
+use crate::rule::Rule;
+use crate::spans::append_clean;
+use crate::text::append_shown;
+use csicodec_base::CsiParam;
+use csicodec_spans::{LIMIT, Mode};
+use std::alloc::{AllocError, Global};
+
+/// What the rule leaves of the bytes, and what ends it. What isn't over at their end is dropped.
+pub(crate) fn clean_whole<T: Rule>(
+    alloc: Global,
+    rule: &mut T,
+    bytes: &[u8],
+) -> Result<Vec<u8>, AllocError>
+    ensures { IfOk result (λ out. Ends T.gives T.closes longest rule.old bytes.now out.items) }
+{
+    let mut out = Vec::new(alloc);
+    let mut params = Vec::new(alloc);
+    let mut held = Vec::new(alloc);
+    let (_rest, _mode) = append_clean(
+        rule,
+        &mut params,
+        &mut held,
+        &mut false,
+        LIMIT,
+        Mode::Text,
+        bytes,
+        &mut out,
+    )?;
+    append_shown(&held, &mut out)?;
+    rule.close(&mut out)?;
+    Ok(out)
+}
+
+/// The rule that drops every control sequence and every control string.
+#[derive(Drop)]
+pub struct Dropped;
+
+impl Rule for Dropped {
+    ghost use Rattle.csicodec_clean.specs.Cleaned.{drops, ends_bare};
+
+    ghost gives = { drops };
+
+    ghost closes = { ends_bare };
+
+    fn rewrite(
+        &mut self,
+        _bytes: &[u8],
+        _params: &[CsiParam],
+        _control: char,
+        _out: &mut Vec<u8>,
+    ) -> Result<(), AllocError> {
+        Ok(())
+    }
+
+    fn string(&mut self, _bytes: &[u8], _out: &mut Vec<u8>) -> Result<(), AllocError> {
+        Ok(())
+    }
+
+    fn close(&self, _out: &mut Vec<u8>) -> Result<(), AllocError> {
+        Ok(())
+    }
+}
+
+/// The plain text of untrusted bytes: what a terminal would show, and nothing that it would act on but newlines and tabs.
+///
+/// Every control sequence, escape sequence and control string is dropped, and every control but newline and tab, those of C1 (U+0080
+/// to U+009F) too, and text directly behind `ESC k`, which is a title in tmux and screen. What is no UTF-8 becomes U+FFFD. Each run of text is read by itself, so that no two halves of a character meet
+/// where a sequence between them was dropped.
+///
+/// ```text
+/// strip(alloc, b"a\x1b[31mb\x1b]0;title\x07\r\n")?      // "ab\n"
+/// strip(alloc, b"\xc2\x1b[m\x9b")?                      // "\u{FFFD}\u{FFFD}"
+/// ```
+pub fn strip(alloc: Global, bytes: &[u8]) -> Result<Vec<u8>, AllocError>
+    // Run by run, it is what is shown of the text, and nothing else.
+    ensures exact { IfOk result (λ out. Strips longest bytes.now out.items) }
+    // It is UTF-8 of characters that are shown.
+    ensures safe { IfOk result (λ out. IsPlain out.items) }
+    ensures no_escape { IfOk result (λ out. All (λ b. b ≢ 27) out.items) }
+{
+    clean_whole(alloc, &mut Dropped, bytes)
+}

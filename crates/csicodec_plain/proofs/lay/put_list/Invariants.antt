@@ -1,8 +1,0 @@
-use Rattle.std.proofs.Common.{take}
-use Rattle.csicodec_plain.specs.Private.Fronts.{PutsBehind, headed}
-use Rattle.csicodec_plain.specs.Rows.{params_of}
-use Rattle.csicodec_plain.proofs.lay.put_list.Given as goal
-
--- what the tokens up to here say is put
-abbrev pub invariant-loop-token : goal.invariant-loop-token
-invariant-loop-token l = PutsBehind l.fn.room l.room l.place (params_of (headed l.head (take l.token-index l.list))) l.end

@@ -1,5 +1,0 @@
-use Rattle.csicodec_plain.proofs.Fronts.{front_answer}
-use Rattle.csicodec_plain.proofs.next.lay_front.Goals as goal
-
-pub returns : goal.returns
-returns c = front_answer _ _ _ _ _ _ _ _ _ c.in-Ok.ensures.found c.answer.ensures

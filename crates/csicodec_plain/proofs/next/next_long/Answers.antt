@@ -1,5 +1,0 @@
-use Rattle.csicodec_plain.proofs.Fronts.{front_answer}
-use Rattle.csicodec_plain.proofs.next.next_long.Goals as goal
-
-pub returns : goal.returns
-returns c = front_answer _ _ _ _ _ _ _ _ _ c.in-Ok.ensures.found (rw c.deref.ensures.value at c.answer.ensures)

@@ -1,7 +1,0 @@
-use Rattle.std.proofs.Common.{map, take}
-use Rattle.csicodec_plain.specs.Private.Fronts.{PutsBehind}
-use Rattle.csicodec_plain.proofs.token.put_all.Given as goal
-
--- the tokens up to here are put
-abbrev pub invariant-loop-token : goal.invariant-loop-token
-invariant-loop-token g l = PutsBehind l.fn.room l.room l.place (map g.T.Token.crosses (take l.token-index l.tokens)) l.end

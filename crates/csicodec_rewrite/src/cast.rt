@@ -1,0 +1,147 @@
+//! Recordings of asciinema with other data.
+
+use csicodec_clean::{Cleaner, Dropped, Kept, Rule, strip};
+use csicodec_command::{Failure, Recording, time_of};
+use csicodec_compact::Compactor;
+use csicodec_filter::{Faithful, Filter, NormalForm};
+use csicodec_streams::{RunError, send};
+use serde_json::Value;
+use std::alloc::{AllocError, Global};
+use std::io::{BufRead, Write};
+
+/// What the data of all events go through, one after the other.
+#[derive(Drop)]
+pub enum Stage {
+    /// Each control sequence in its normal form.
+    Normal(Filter<NormalForm>),
+    /// The same, but of what terminals read otherwise.
+    Faithful(Filter<Faithful>),
+    /// Each in its shortest spelling, runs of attributes as one.
+    Short(Compactor),
+    /// Plain text.
+    Plain(Cleaner<Dropped>),
+    /// The same with its styles.
+    Styled(Cleaner<Kept>),
+}
+
+/// The next data, with a carriage return ahead of each newline that stays: they were dropped, and where a recording is played a
+/// newline alone leads down, and not to the begin of the line.
+fn push_lines<T: Rule + Drop>(
+    cleaner: &mut Cleaner<T>,
+    bytes: &[u8],
+    out: &mut Vec<u8>,
+) -> Result<(), AllocError> {
+    let mut text = Vec::new(*out.allocator());
+    cleaner.push(bytes, &mut text)?;
+    for line in text.split_inclusive(|byte| *byte == b'\n') {
+        match line.strip_suffix(b"\n".as_slice()) {
+            Some(line) => {
+                out.extend_from_slice(line)?;
+                out.extend_from_slice(b"\r\n")?;
+            }
+            None => out.extend_from_slice(line)?,
+        }
+    }
+    Ok(())
+}
+
+impl Stage {
+    /// The next data; what is sure is appended.
+    fn push(&mut self, bytes: &[u8], out: &mut Vec<u8>) -> Result<(), AllocError> {
+        match self {
+            Stage::Normal(filter) => filter.push(bytes, out),
+            Stage::Faithful(filter) => filter.push(bytes, out),
+            Stage::Short(filter) => filter.push(bytes, out),
+            Stage::Plain(cleaner) => push_lines(cleaner, bytes, out),
+            Stage::Styled(cleaner) => push_lines(cleaner, bytes, out),
+        }
+    }
+
+    /// Whether the data are made safe, so that nothing else of the recording may be a control either.
+    fn is_safe(&self) -> bool {
+        matches!(self, Stage::Plain(_) | Stage::Styled(_))
+    }
+
+    /// Nothing comes any more: what was held is appended.
+    fn finish(&mut self, out: &mut Vec<u8>) -> Result<(), AllocError> {
+        match self {
+            Stage::Normal(filter) => filter.finish(out),
+            Stage::Faithful(filter) => filter.finish(out),
+            Stage::Short(filter) => filter.finish(out),
+            Stage::Plain(cleaner) => cleaner.finish(out),
+            Stage::Styled(cleaner) => cleaner.finish(out),
+        }
+    }
+}
+
+/// What went wrong where memory ran out.
+fn no_memory(_: AllocError) -> Failure {
+    Failure::Run(RunError::Memory)
+}
+
+/// A line as it is; where the data are made safe as `strip` leaves it, since a comment, a header or an event of another kind may
+/// have controls of its own.
+fn send_line<W: Write>(
+    alloc: Global,
+    stage: &Stage,
+    line: &str,
+    output: &mut W,
+) -> Result<(), Failure> {
+    if !stage.is_safe() {
+        return Ok(send(output, line.as_bytes())?);
+    }
+    let mut text = strip(alloc, line.trim_end().as_bytes()).map_err(no_memory)?;
+    text.extend_from_slice(b"\n").map_err(no_memory)?;
+    Ok(send(output, &text)?)
+}
+
+/// An event of data that a program wrote, as a line.
+fn send_event<W: Write>(
+    alloc: Global,
+    stage: &Stage,
+    time: &str,
+    data: &[u8],
+    output: &mut W,
+) -> Result<(), Failure> {
+    let data = String::from_utf8_lossy(alloc, data).map_err(no_memory)?;
+    let data = Value::String(data).to_string(alloc).map_err(no_memory)?;
+    let line = format!(in alloc; "[{time}, \"o\", {data}]\n").map_err(no_memory)?;
+    send_line(alloc, stage, &line, output)
+}
+
+/// Writes a recording whose events have what becomes of their data, at the same times; all else stays as it is, but for controls
+/// where the data are made safe. What isn't over at the last event stands in one more, at its time.
+pub fn rewrite_cast<R: BufRead, W: Write>(
+    alloc: Global,
+    stage: &mut Stage,
+    input: &mut R,
+    output: &mut W,
+) -> Result<(), Failure> {
+    let mut reading = Recording::new(alloc);
+    let mut line = Vec::new(alloc);
+    let mut last = String::from_str(alloc, "0").map_err(no_memory)?;
+    let mut out = Vec::new(alloc);
+    for _ in 0..u64::MAX {
+        let Some(text) = reading.next_line(input, &mut line)? else {
+            break;
+        };
+        let Some(data) = reading.take(text)? else {
+            send_line(alloc, stage, text, output)?;
+            continue;
+        };
+        let time = time_of(text.trim());
+        out.clear();
+        stage.push(data.as_bytes(), &mut out).map_err(no_memory)?;
+        send_event(alloc, stage, time, &out, output)?;
+        if reading.counts_from_begin() {
+            last.clear();
+            last.push_str(time).map_err(no_memory)?;
+        }
+    }
+    out.clear();
+    stage.finish(&mut out).map_err(no_memory)?;
+    if !out.is_empty() {
+        send_event(alloc, stage, &last, &out, output)?;
+    }
+    reading.end()
+}

@@ -1,0 +1,145 @@
+//! The program of `csicodec filter`, `compact`, `strip` and `clean`: with `filter` it writes each control sequence in its normal
+//! form and all else as it came, with `compact` in a shorter spelling; with `strip` the plain text alone, with `clean` that and
+//! its styles.
+#![tactic(auto)]
+
+mod cast;
+
+use cast::{Stage, rewrite_cast};
+use csicodec_clean::{Cleaner, Depth, Dropped, Kept, Passing, clean_all_with, strip_all};
+use csicodec_command::{
+    Colors, Failure, Request, Task, Worker, Wrong, asked, refused, words_of, work_through,
+};
+use csicodec_compact::{Compact, Compactor, compact_all};
+use csicodec_filter::{Faithful, Filter, NormalForm, filter_all};
+use csicodec_spans::LIMIT;
+use csicodec_streams::RunError;
+use std::alloc::Global;
+use std::io::{BufRead, Read, Write};
+use std::process::ExitCode;
+
+/// What is made of one input after the other.
+#[derive(Drop)]
+enum Work {
+    Filter { faithful: bool },
+    Compact { semicolons: bool },
+    Strip,
+    Clean { passing: Passing },
+}
+
+/// The rule of `compact`.
+fn compact(alloc: Global, semicolons: bool) -> Compact {
+    if semicolons {
+        Compact::with_semicolons(alloc)
+    } else {
+        Compact::new(alloc)
+    }
+}
+
+/// The colours that `clean` keeps.
+fn depth_of(asked: Colors) -> Depth {
+    match asked {
+        Colors::Full => Depth::Full,
+        Colors::Palette => Depth::Palette,
+        Colors::Ansi => Depth::Ansi,
+    }
+}
+
+impl Work {
+    /// Of a run; none where another program does it.
+    fn new(run: &Request<'_>) -> Option<Work> {
+        match run.task {
+            Task::Filter => Some(Work::Filter {
+                faithful: run.faithful,
+            }),
+            Task::Compact => Some(Work::Compact {
+                semicolons: run.semicolons,
+            }),
+            Task::Strip => Some(Work::Strip),
+            Task::Clean => {
+                let (depth, links) = (depth_of(run.depth), run.links);
+                let passing = Passing { depth, links };
+                Some(Work::Clean { passing })
+            }
+            Task::Explain => None,
+        }
+    }
+
+    /// What the data of a recording go through.
+    fn stage(&self, alloc: Global) -> Stage {
+        match self {
+            Work::Filter { faithful: true } => {
+                let rule = Faithful::new(alloc);
+                Stage::Faithful(Filter::new(alloc, LIMIT, rule))
+            }
+            Work::Filter { .. } => {
+                let rule = NormalForm::new(alloc);
+                Stage::Normal(Filter::new(alloc, LIMIT, rule))
+            }
+            Work::Compact { semicolons } => {
+                let rule = compact(alloc, *semicolons);
+                Stage::Short(Compactor::new(alloc, LIMIT, rule))
+            }
+            Work::Strip => Stage::Plain(Cleaner::new(alloc, Dropped)),
+            Work::Clean { passing } => {
+                let rule = Kept::letting(alloc, *passing);
+                Stage::Styled(Cleaner::new(alloc, rule))
+            }
+        }
+    }
+}
+
+impl Worker for Work {
+    fn read<R: Read, W: Write>(
+        &mut self,
+        alloc: Global,
+        input: &mut R,
+        output: &mut W,
+    ) -> Result<(), Failure> {
+        match self {
+            Work::Filter { faithful: true } => {
+                filter_all(alloc, LIMIT, Faithful::new(alloc), input, output)?;
+            }
+            Work::Filter { .. } => filter_all(alloc, LIMIT, NormalForm::new(alloc), input, output)?,
+            Work::Compact { semicolons } => {
+                compact_all(alloc, LIMIT, compact(alloc, *semicolons), input, output)?;
+            }
+            Work::Strip => strip_all(alloc, input, output)?,
+            Work::Clean { passing } => clean_all_with(alloc, *passing, input, output)?,
+        }
+        Ok(())
+    }
+
+    fn read_cast<R: BufRead, W: Write>(
+        &mut self,
+        alloc: Global,
+        input: &mut R,
+        output: &mut W,
+    ) -> Result<(), Failure> {
+        let mut stage = self.stage(alloc);
+        rewrite_cast(alloc, &mut stage, input, output)
+    }
+
+    fn end<W: Write>(&mut self, _output: &mut W) -> Result<(), RunError> {
+        Ok(())
+    }
+}
+
+/// Does what the words of the command line say; the status, if that failed.
+fn started(rt: &HostRuntime) -> Result<(), u8> {
+    let words = words_of(rt)?;
+    let Some(run) = asked(rt, &words)? else {
+        return Ok(());
+    };
+    match Work::new(&run) {
+        Some(mut work) => work_through(rt, &mut work, &run.files),
+        None => Err(refused(rt, Wrong::Nothing)),
+    }
+}
+
+fn main(rt: HostRuntime) -> ExitCode {
+    match started(&rt) {
+        Ok(()) => ExitCode::SUCCESS,
+        Err(status) => ExitCode::from(status),
+    }
+}

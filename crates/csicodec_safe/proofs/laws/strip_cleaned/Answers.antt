@@ -1,5 +1,0 @@
-use Rattle.csicodec_safe.proofs.Again.{strip_cleaned}
-use Rattle.csicodec_safe.proofs.laws.strip_cleaned.Goals as goal
-
-pub returns : goal.returns
-returns c = strip_cleaned

@@ -1,5 +1,0 @@
-use Rattle.csicodec_safe.proofs.Again.{styled_stays}
-use Rattle.csicodec_safe.proofs.laws.styled_stays.Goals as goal
-
-pub returns : goal.returns
-returns c = styled_stays

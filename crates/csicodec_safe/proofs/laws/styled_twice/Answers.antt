@@ -1,5 +1,0 @@
-use Rattle.csicodec_safe.proofs.Again.{styled_twice}
-use Rattle.csicodec_safe.proofs.laws.styled_twice.Goals as goal
-
-pub returns : goal.returns
-returns c = styled_twice

@@ -1,0 +1,35 @@
+-- What is answered of the sequence at the front.
+use Rattle.std.proofs.Common.{◌⊎◌, ◌-◌, ℕ, List, length, refl, ap, inl, inr, arith}
+use Rattle.std.proofs.lemmas.List.{length-append}
+use Rattle.csicodec_tokens.specs.declared.param.CsiParam.{CsiParam}
+use Rattle.csicodec_tokens.specs.declared.reader.ReadError.TheVariants as reading
+use Rattle.csicodec_tokens.specs.Sequence.{Reads}
+use Rattle.csicodec_structs.specs.declared.next.Front.{Front}
+use Rattle.csicodec_structs.specs.declared.structs.Param.{Param}
+use Rattle.csicodec_structs.specs.declared.structs.Struct.{Struct}
+use Rattle.csicodec_structs.specs.Next.{IsDone, IsRefused}
+use Rattle.csicodec_structs.specs.Private.Fronts.{IsAnswer}
+use Rattle.csicodec_structs.proofs.Kept.{read_kept}
+
+pub front_answer : (bytes rest : List ℕ) (list : List CsiParam) (final : ℕ) (ao an : List Struct) (po pn : List Param) (answer : Front)
+    → Reads bytes list final rest → IsAnswer list final (length bytes - length rest) ao an po pn answer → IsDone bytes ao an po pn answer ⊎ IsRefused bytes ao an po pn answer
+front_answer bytes rest list final ao an po pn answer reads (inl laid) = inl (record {
+  actions = laid.all;
+  rest = rest;
+  front = record { list = list; final = final; reads = reads; are = laid.are };
+  in_range = (read_kept bytes list final rest laid.all reads laid.are).0;
+  named = (read_kept bytes list final rest laid.all reads laid.are).1;
+  ok = laid.ok;
+  used = omega (arith, laid.used_all, ap length reads.2, length-append reads.0 rest);
+  count = laid.lays.actions;
+  params = laid.lays.params;
+  lays_actions = laid.lays.lays_actions;
+  lays_params = laid.lays.lays_params;
+})
+front_answer bytes rest list final ao an po pn answer reads (inr memory) = inr (record {
+  error = reading.Memory;
+  why = (list, final, rest, reads);
+  tells = memory;
+  actions_stay = λ other. absurd (other refl);
+  params_stay = λ other. absurd (other refl);
+})

@@ -1,0 +1,55 @@
+-- What a mode's number is read as has this number, and is by its name.
+use Rattle.std.proofs.Common.{◌≡◌, ℕ, ◌<◌, List, Option, None, Some, refl, sym, ap, ◌∙◌, inl, inr, arith, pos, nat_lt}
+use Rattle.std.specs.Prelude.{ℤ, negsuc}
+use Rattle.std.specs.Int.{FitsUnsignedBits}
+use Rattle.std.proofs.lemmas.Bool.{cases_Bool, false≢true, lt-ltb, ltb-true}
+use Rattle.std.proofs.lemmas.Int.{to_z-of_z}
+use mir.Syntax.{w64}
+use mir.Val.{SFits, of_z, to_z}
+use Rattle.csicodec_names.proofs.Coded.{Coded, decs, listed-number, small, terminals}
+use Rattle.csicodec_names.specs.ModeNumbers.{dec_mode_number, dec_codes, terminal_mode_number, terminal_codes}
+use Rattle.csicodec_names.specs.Numbered.{with_number}
+use Rattle.csicodec_names.specs.declared.modes.DecPrivateModeCode.{DecPrivateModeCode}
+use Rattle.csicodec_names.specs.declared.modes.TerminalModeCode.{TerminalModeCode}
+use Rattle.csicodec_actions.specs.declared.mode.DecPrivateMode.{DecPrivateMode}
+use Rattle.csicodec_actions.specs.declared.mode.DecPrivateMode.TheVariants as dec
+use Rattle.csicodec_actions.specs.declared.mode.TerminalMode.{TerminalMode}
+use Rattle.csicodec_actions.specs.declared.mode.TerminalMode.TheVariants as terminal
+use Rattle.csicodec_actions.specs.Kinds.{Dec, Terminal, code_or, read, short}
+use Rattle.csicodec_actions.specs.Modes.{dec_number, terminal_number}
+use Rattle.csicodec_structs.specs.Private.Candidates.{Reads, ReadsNamed}
+use Rattle.csicodec_structs.specs.Values.{IsNamedDec, IsNamedTerminal}
+use Rattle.csicodec_structs.proofs.OneValue.{none-has}
+
+-- a number of 16 bits is itself
+short-reads : (z : ℤ) → Reads (λ n. n) (FitsUnsignedBits 16) z (short z)
+short-reads (pos n) = elim (cases_Bool (nat_lt n 65536)) [
+  | inl low ↦ rw low (refl, ltb-true n 65536 low)
+  | inr high ↦ rw high (λ fits. false≢true (sym high ∙ lt-ltb n 65536 fits))
+]
+short-reads (negsuc n) = λ fits. fits
+
+-- by its code, and by itself
+code-reads : {C M : Type 0} (code_number : C → ℕ) (all : List C) → Coded code_number all → (coded : C → M) (own : ℕ → M) (number : M → ℕ) (Named : M → Type 0) (z : ℤ)
+    → ((c : C) → number (coded c) ≡ code_number c) → ((n : ℕ) → number (own n) ≡ n) → ((c : C) → code_number c < 65536) → ((c : C) → Named (coded c)) → ((n : ℕ) → ((c : C) → n ≡ code_number c → ⊥) → Named (own n))
+    → ReadsNamed number Named (FitsUnsignedBits 16) z (code_or coded own (with_number code_number all z) (short z))
+code-reads code_number all is coded own number Named z by_code by_self fits named_code named_own = go (with_number code_number all z) (short z) refl (short-reads z)
+  where
+    go : (found : Option _) (n : Option ℕ) → with_number code_number all z ≡ found → Reads (λ n. n) (FitsUnsignedBits 16) z n → ReadsNamed number Named (FitsUnsignedBits 16) z (code_or coded own found n)
+    go (Some c) n found short = rw (by_code c) (listed-number code_number all z c found, fits c, named_code c)
+    go None (Some n) none short = rw (by_self n) (short.0, short.1, named_own n (λ c same. none-has code_number all is z none c (short.0 ∙ ap pos same)))
+    go None None none short = short
+
+pub dec-fits : (c : DecPrivateModeCode) → dec_mode_number c < 65536
+dec-fits c = omega (arith, small dec_mode_number dec_codes decs 65535 (search arith) c)
+
+pub terminal-fits : (c : TerminalModeCode) → terminal_mode_number c < 65536
+terminal-fits c = omega (arith, small terminal_mode_number terminal_codes terminals 65535 (search arith) c)
+
+pub dec_reads : (z : ℤ) (o : Option DecPrivateMode) → SFits w64 z → o ≡ read Dec (to_z w64 (of_z w64 z)) → ReadsNamed dec_number IsNamedDec (FitsUnsignedBits 16) z o
+unfolding read
+dec_reads z o fits is = rw (is, to_z-of_z w64 z fits) (code-reads dec_mode_number dec_codes decs (λ c. dec.Code c) (λ n. dec.Unspecified n) dec_number IsNamedDec z (λ c. refl) (λ n. refl) dec-fits (λ c. tt) (λ n h. h))
+
+pub terminal_reads : (z : ℤ) (o : Option TerminalMode) → SFits w64 z → o ≡ read Terminal (to_z w64 (of_z w64 z)) → ReadsNamed terminal_number IsNamedTerminal (FitsUnsignedBits 16) z o
+unfolding read
+terminal_reads z o fits is = rw (is, to_z-of_z w64 z fits) (code-reads terminal_mode_number terminal_codes terminals (λ c. terminal.Code c) (λ n. terminal.Unspecified n) terminal_number IsNamedTerminal z (λ c. refl) (λ n. refl) terminal-fits (λ c. tt) (λ n h. h))

@@ -1,0 +1,210 @@
+-- Values by their numbers and tokens: what is by its name is found again, and everything has its like that is.
+use Rattle.std.proofs.Common.{◌≡◌, ℕ, suc, ◌<◌, List, [], ◌∷◌, Option, None, Some, length, map, refl, sym, ap, ◌∙◌, pos, inl, inr, arith}
+use Rattle.std.specs.Prelude.{ℤ, Bool, true, false, nat_abs, ◌==◌, ◌||◌, if◌then◌else◌}
+use Rattle.std.specs.List.{All, AllByRecursion}
+use Rattle.std.proofs.lemmas.Bool.{cases_Bool, eq-eqb, false≢true}
+use Rattle.std.proofs.lemmas.List.Elements.{recursion_from_All}
+use Rattle.csicodec_tokens.specs.declared.param.CsiParam.{CsiParam}
+use Rattle.csicodec_tokens.specs.declared.param.CsiParam.TheVariants.{Integer, P}
+use Rattle.csicodec_names.proofs.Coded.{Coded, attributes, decs, is_number-pos, listed-number, none-found, terminals}
+use Rattle.csicodec_names.specs.DeviceNumbers.{device_attribute_codes, device_attribute_number}
+use Rattle.csicodec_names.specs.ModeNumbers.{dec_codes, dec_mode_number, terminal_codes, terminal_mode_number}
+use Rattle.csicodec_names.specs.Numbered.{is_number, with_number}
+use Rattle.csicodec_names.specs.declared.color.ColorSpec.{ColorSpec}
+use Rattle.csicodec_names.specs.declared.color.ColorSpec.TheVariants as color
+use Rattle.csicodec_names.specs.declared.device.DeviceAttributeCodes.{DeviceAttributeCodes}
+use Rattle.csicodec_base.specs.declared.sgr.Font.{Font}
+use Rattle.csicodec_base.specs.declared.sgr.Font.TheVariants as font
+use Rattle.csicodec_actions.specs.Devices.{attribute_of, attribute_token, code_or_token}
+use Rattle.csicodec_actions.specs.XtSmGraphics.{item_number, item_of}
+use Rattle.csicodec_actions.specs.Modes.{dec_number, terminal_number}
+use Rattle.csicodec_actions.specs.declared.device.DeviceAttribute.{DeviceAttribute}
+use Rattle.csicodec_actions.specs.declared.device.DeviceAttribute.TheVariants as attribute
+use Rattle.csicodec_actions.specs.declared.xtsmgraphics.XtSmGraphicsItem.{XtSmGraphicsItem}
+use Rattle.csicodec_actions.specs.declared.xtsmgraphics.XtSmGraphicsItem.TheVariants as item
+use Rattle.csicodec_actions.specs.declared.mode.DecPrivateMode.{DecPrivateMode}
+use Rattle.csicodec_actions.specs.declared.mode.DecPrivateMode.TheVariants as dec
+use Rattle.csicodec_actions.specs.declared.mode.TerminalMode.{TerminalMode}
+use Rattle.csicodec_actions.specs.declared.mode.TerminalMode.TheVariants as terminal
+use Rattle.csicodec_actions.specs.Actions.{Action}
+use Rattle.csicodec_structs.specs.declared.structs.Param.{Param}
+use Rattle.csicodec_structs.specs.declared.structs.Struct.{Struct}
+use Rattle.csicodec_structs.specs.Named.{IsNamed}
+use Rattle.csicodec_structs.specs.Structs.{attribute_param, flag_number, font_number, param_of, value_param}
+use Rattle.csicodec_structs.specs.Private.Candidates.{unless}
+use Rattle.csicodec_structs.specs.Ranges.{InRange}
+use Rattle.csicodec_structs.specs.Rows.{params_of, struct_of}
+use Rattle.csicodec_structs.specs.Values.{AttributeInRange, HasText, IsNamedAttribute, IsNamedDec, IsNamedItem, IsNamedTerminal}
+
+not-number : (k : ℕ) (z : ℤ) → (z ≡ pos k → ⊥) → is_number k z ≡ false
+not-number k z other = elim (cases_Bool (is_number k z)) [ inl here ↦ absurd (other (is_number-pos k z here)) | inr none ↦ none ]
+
+-- ---- numbers
+
+abbrev pub flag_at : ℤ → Bool
+flag_at z = is_number 1 z
+
+pub flag-back : (v : Bool) → flag_at (pos (flag_number v)) ≡ v
+flag-back true = refl
+flag-back false = refl
+
+abbrev pub first_at : Struct → Option ℤ
+first_at given = unless (given.absent == 1 || given.absent == 3) given.first
+
+abbrev pub second_at : Struct → Option ℤ
+second_at given = unless (given.absent == 2 || given.absent == 3) given.second
+
+abbrev pub color_at : Struct → ColorSpec
+color_at given =
+    if is_number 0 given.first then color.Default
+    else if is_number 1 given.first then color.PaletteIndex (nat_abs given.second)
+    else color.TrueColor (record { 0 = given.red; 1 = given.green; 2 = given.blue; 3 = given.alpha })
+
+abbrev pub font_at : ℤ → Font
+font_at z = if is_number 0 z then font.Default else font.Alternate (nat_abs z)
+
+pub font-back : (v : Font) → HasText v → font_at (pos (font_number v)) ≡ v
+font-back font.Default h = refl
+font-back (font.Alternate n) h = rw (not-number 0 (pos n) (λ e. (let zero : n ≡ 0 = ap nat_abs e in absurd (omega (arith, h.0, zero))))) refl
+
+-- ---- modes
+
+-- by its code, and else by itself
+abbrev pub coded_at : {C M : Type 0} → (C → M) → (ℕ → M) → Option C → ℤ → M
+coded_at coded own (Some c) z = coded c
+coded_at coded own None z = own (nat_abs z)
+
+abbrev pub dec_at : ℤ → DecPrivateMode
+dec_at z = coded_at (λ c. dec.Code c) (λ n. dec.Unspecified n) (with_number dec_mode_number dec_codes z) z
+
+abbrev pub terminal_at : ℤ → TerminalMode
+terminal_at z = coded_at (λ c. terminal.Code c) (λ n. terminal.Unspecified n) (with_number terminal_mode_number terminal_codes z) z
+
+pub dec-back : (m : DecPrivateMode) → IsNamedDec m → dec_at (pos (dec_number m)) ≡ m
+dec-back (dec.Code c) h = rw (decs.each c) refl
+dec-back (dec.Unspecified n) h = rw (none-found dec_mode_number dec_codes (pos n) (λ c same. h c (ap nat_abs same))) refl
+
+pub terminal-back : (m : TerminalMode) → IsNamedTerminal m → terminal_at (pos (terminal_number m)) ≡ m
+terminal-back (terminal.Code c) h = rw (terminals.each c) refl
+terminal-back (terminal.Unspecified n) h = rw (none-found terminal_mode_number terminal_codes (pos n) (λ c same. h c (ap nat_abs same))) refl
+
+-- what finds none has the number of none
+pub none-has : {C : Type 0} (number : C → ℕ) (all : List C) → Coded number all → (z : ℤ) → with_number number all z ≡ None → (c : C) → z ≡ pos (number c) → ⊥
+none-has number all is z none c same = (let both : None ≡ Some c = sym none ∙ ap (with_number number all) same ∙ is.each c in cc)
+
+-- the mode that a number counts as has the number, and is by its name
+at-named : {C M : Type 0} (number : C → ℕ) (all : List C) (coded : C → M) (own : ℕ → M) (written : M → ℕ) (Named : M → Type 0) → Coded number all
+    → ((c : C) → written (coded c) ≡ number c) → ((k : ℕ) → written (own k) ≡ k) → ((c : C) → Named (coded c)) → ((k : ℕ) → ((c : C) → k ≡ number c → ⊥) → Named (own k))
+    → (n : ℕ) → Named (coded_at coded own (with_number number all (pos n)) (pos n)) × (written (coded_at coded own (with_number number all (pos n)) (pos n)) ≡ n)
+at-named number all coded own written Named is by_code by_self named_code named_own n = go (with_number number all (pos n)) refl
+  where
+    go : (o : Option _) → with_number number all (pos n) ≡ o → Named (coded_at coded own o (pos n)) × (written (coded_at coded own o (pos n)) ≡ n)
+    go (Some c) found = (named_code c, by_code c ∙ sym (ap nat_abs (listed-number number all (pos n) c found)))
+    go None none = (named_own n (λ c same. none-has number all is (pos n) none c (ap pos same)), by_self n)
+
+pub dec-named : (m : DecPrivateMode) → IsNamedDec (dec_at (pos (dec_number m))) × (dec_number (dec_at (pos (dec_number m))) ≡ dec_number m)
+dec-named m = at-named dec_mode_number dec_codes (λ c. dec.Code c) (λ n. dec.Unspecified n) dec_number IsNamedDec decs (λ c. refl) (λ k. refl) (λ c. tt) (λ k h. h) (dec_number m)
+
+pub terminal-named : (m : TerminalMode) → IsNamedTerminal (terminal_at (pos (terminal_number m))) × (terminal_number (terminal_at (pos (terminal_number m))) ≡ terminal_number m)
+terminal-named m = at-named terminal_mode_number terminal_codes (λ c. terminal.Code c) (λ n. terminal.Unspecified n) terminal_number IsNamedTerminal terminals (λ c. refl) (λ k. refl) (λ c. tt) (λ k h. h) (terminal_number m)
+
+-- ---- items of graphics
+
+pub item-back : (i : XtSmGraphicsItem) → IsNamedItem i → item_of (item_number i) ≡ i
+item-back item.NumberOfColorRegisters h = refl
+item-back item.SixelGraphicsGeometry h = refl
+item-back item.RegisGraphicsGeometry h = refl
+item-back (item.Unspecified z) h = rw (not-number 1 z h.0, not-number 2 z h.1, not-number 3 z h.2) refl
+
+pub item-named : (z : ℤ) → IsNamedItem (item_of z) × (item_number (item_of z) ≡ z)
+item-named z = elim (cases_Bool (is_number 1 z)) [
+  | inl one ↦ rw one (tt, sym (is_number-pos 1 z one))
+  | inr no1 ↦ elim (cases_Bool (is_number 2 z)) [
+    | inl two ↦ rw (no1, two) (tt, sym (is_number-pos 2 z two))
+    | inr no2 ↦ elim (cases_Bool (is_number 3 z)) [
+      | inl three ↦ rw (no1, no2, three) (tt, sym (is_number-pos 3 z three))
+      | inr no3 ↦ rw (no1, no2, no3) ((other 1 no1, other 2 no2, other 3 no3), refl)
+    ]
+  ]
+]
+  where
+    other : (k : ℕ) → is_number k z ≡ false → z ≡ pos k → ⊥
+    other k not same = false≢true (sym not ∙ ap (is_number k) same ∙ eq-eqb k k refl)
+
+-- ---- tokens
+
+abbrev pub token_at : Param → CsiParam
+token_at p = if p.kind == 0 then Integer p.value else P (nat_abs p.value)
+
+pub tokens-back : (list : List CsiParam) → map token_at (map param_of list) ≡ list
+tokens-back [] = refl
+tokens-back (Integer z ∷ list) = rw (tokens-back list) refl
+tokens-back (P b ∷ list) = rw (tokens-back list) refl
+
+abbrev pub value_at : Param → ℤ
+value_at p = p.value
+
+pub values-back : (list : List ℤ) → map value_at (map value_param list) ≡ list
+values-back [] = refl
+values-back (z ∷ list) = rw (values-back list) refl
+
+abbrev pub attribute_at : Param → DeviceAttribute
+attribute_at p = attribute_of (token_at p)
+
+attribute-back : (a : DeviceAttribute) → IsNamedAttribute a → attribute_at (attribute_param a) ≡ a
+attribute-back (attribute.Code c) h = rw (attributes.each c) refl
+attribute-back (attribute.Unspecified (Integer z)) h = rw (none-found device_attribute_number device_attribute_codes z h) refl
+attribute-back (attribute.Unspecified (P b)) h = refl
+
+pub attributes-back : (list : List DeviceAttribute) → All IsNamedAttribute list → map attribute_at (map attribute_param list) ≡ list
+attributes-back list h = go list (recursion_from_All IsNamedAttribute list h)
+  where
+    go : (some : List DeviceAttribute) → AllByRecursion IsNamedAttribute some → map attribute_at (map attribute_param some) ≡ some
+    go [] each = refl
+    go (a ∷ others) each = rw (attribute-back a each.0, go others each.1) refl
+
+-- an extension by its name, of the same token
+record HasName (a b : DeviceAttribute) : Type 0 where
+  in_range : AttributeInRange b
+  named : IsNamedAttribute b
+  same : attribute_param b ≡ attribute_param a
+
+attribute-named : (a : DeviceAttribute) → AttributeInRange a → HasName a (attribute_of (attribute_token a))
+attribute-named (attribute.Code c) range = rw (attributes.each c) (record { in_range = tt; named = tt; same = refl })
+attribute-named (attribute.Unspecified (P b)) range = record { in_range = range; named = tt; same = refl }
+attribute-named (attribute.Unspecified (Integer z)) range = go (with_number device_attribute_number device_attribute_codes z) refl
+  where
+    go : (o : Option DeviceAttributeCodes) → with_number device_attribute_number device_attribute_codes z ≡ o → HasName (attribute.Unspecified (Integer z)) (code_or_token (Integer z) o)
+    go (Some c) found = record { in_range = tt; named = tt; same = ap (λ y. param_of (Integer y)) (sym (listed-number device_attribute_number device_attribute_codes z c found)) }
+    go None none = record { in_range = tt; named = none-has device_attribute_number device_attribute_codes attributes z none; same = refl }
+
+-- extensions so
+pub record HaveNames (list : List DeviceAttribute) : Type 0 where
+  pub others : List DeviceAttribute
+  pub in_range : AllByRecursion AttributeInRange others
+  pub named : AllByRecursion IsNamedAttribute others
+  pub same : map attribute_param others ≡ map attribute_param list
+  pub long : length others ≡ length list
+
+pub attributes-named : (list : List DeviceAttribute) → AllByRecursion AttributeInRange list → HaveNames list
+attributes-named [] range = record { others = []; in_range = tt; named = tt; same = refl; long = refl }
+attributes-named (a ∷ list) range =
+    let one = attribute-named a range.0 in
+    let more = attributes-named list range.1 in
+    record {
+      others = attribute_of (attribute_token a) ∷ more.others;
+      in_range = (one.in_range, more.in_range);
+      named = (one.named, more.named);
+      same = rw (one.same, more.same) refl;
+      long = ap suc more.long;
+    }
+
+-- ---- actions
+
+-- an action by its name, with the struct and the tokens of this one
+pub record ByName (place : ℕ) (a : Action) : Type 0 where
+  pub one : Action
+  pub in_range : InRange one
+  pub named : IsNamed one
+  pub given : struct_of place one ≡ struct_of place a
+  pub params : params_of one ≡ params_of a

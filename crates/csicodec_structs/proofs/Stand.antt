@@ -1,0 +1,82 @@
+-- Structs that stand for actions: one more, and for which one each.
+use Rattle.std.proofs.Common.{◌≡◌, ℕ, ◌+◌, ◌<◌, ◌≤◌, List, [], ◌∷◌, ◌++◌, length, map, take, drop, slice_index_or, subst, sym, ap, refl, ◌∙◌, arith, append-nil}
+use Rattle.std.proofs.lemmas.List.{flat_map_more, map-append, take_more}
+use Rattle.csicodec_parser.specs.declared.actions.CSI.{CSI}
+use Rattle.csicodec_parser.specs.ActionOf.{action_of}
+use Rattle.csicodec_actions.specs.Actions.{Action}
+use Rattle.csicodec_actions.specs.Table.{text}
+use Rattle.csicodec_structs.specs.declared.encode.Encoded.{Encoded}
+use Rattle.csicodec_structs.specs.declared.structs.Param.{Param}
+use Rattle.csicodec_structs.specs.declared.structs.Struct.{Struct}
+use Rattle.csicodec_structs.specs.Encode.{AllStand, IsDone, IsPut, OneAction, Stands}
+use Rattle.csicodec_structs.specs.Private.Candidates.{AreTexts}
+use Rattle.csicodec_structs.specs.Named.{IsNamed}
+use Rattle.csicodec_structs.specs.Ranges.{InRange}
+use Rattle.csicodec_structs.specs.Rows.{params_of, struct_of}
+use Rattle.csicodec_structs.proofs.OneAction.{action-named, same-action}
+
+stand_snoc : (structs : List Struct) (params : List Param) (actions : List Action) (p : Struct) (a : Action) → AllStand structs params actions → Stands p params a → AllStand (structs ++ p ∷ []) params (actions ++ a ∷ [])
+stand_snoc [] params [] p a all one = (one, tt)
+stand_snoc [] params (b ∷ actions) p a all one = absurd all
+stand_snoc (q ∷ structs) params [] p a all one = absurd all
+stand_snoc (q ∷ structs) params (b ∷ actions) p a all one = (all.0, stand_snoc structs params actions p a all.1 one)
+
+pub stand_more : (structs : List Struct) (params : List Param) (actions : List Action) (i : ℕ) (d : Struct) (a : Action) → i < length structs →
+    AllStand (take i structs) params actions → Stands (slice_index_or structs i d) params a → AllStand (take (i + 1) structs) params (actions ++ a ∷ [])
+stand_more structs params actions i d a low all one =
+    subst (λ (l : List Struct). AllStand l params (actions ++ a ∷ [])) (sym (take_more structs i d low)) (stand_snoc (take i structs) params actions (slice_index_or structs i d) a all one)
+
+pub stand_more_mapped : (structs : List Struct) (params : List Param) (list : List CSI) (i : ℕ) (d : Struct) (csi : CSI) → i < length structs →
+    AllStand (take i structs) params (map action_of list) → Stands (slice_index_or structs i d) params (action_of csi) → AllStand (take (i + 1) structs) params (map action_of (list ++ csi ∷ []))
+stand_more_mapped structs params list i d csi low all one =
+    subst (λ (l : List Action). AllStand (take (i + 1) structs) params l) (sym (map-append action_of list (csi ∷ []))) (stand_more structs params (map action_of list) i d (action_of csi) low all one)
+
+-- the texts of one action more
+pub texts_more : (structs : List Struct) (params : List Param) (before new : List ℕ) (i : ℕ) (d : Struct) (csi : CSI) → i < length structs →
+    AreTexts (take i structs) params before → Stands (slice_index_or structs i d) params (action_of csi) → new ≡ before ++ text (action_of csi) → AreTexts (take (i + 1) structs) params new
+texts_more structs params before new i d csi low are one is =
+    let a = action_of csi in
+    record {
+      actions = are.actions ++ a ∷ [];
+      stand = stand_more structs params are.actions i d a low are.stand one;
+      joined = is ∙ (ap (λ l. l ++ text a) are.joined ∙ flat_map_more text [] are.actions a);
+    }
+
+-- a struct without tokens stands for an action that has none
+pub short_stands : (given : Struct) (a : Action) (short : List ℕ) → given.len ≤ 0 → InRange a → IsNamed a → params_of a ≡ [] → struct_of given.place a ≡ given → short ≡ text a
+    → (params : List Param) → AreTexts (given ∷ []) params short
+short_stands given a short none in_range named bare same is params =
+    let zero : given.len ≡ 0 = omega arith in
+    record {
+      actions = a ∷ [];
+      stand = (((in_range, same, bare ∙ ap (λ n. take n (drop given.place params)) (sym zero)), named), tt);
+      joined = is ∙ sym (append-nil (text a));
+    }
+
+-- the one struct of a list
+one_struct : (structs : List Struct) (d : Struct) → length structs ≡ 1 → structs ≡ slice_index_or structs 0 d ∷ []
+one_struct [] d one = absurd (omega (arith, one))
+one_struct (x ∷ []) d one = refl
+one_struct (x ∷ y ∷ structs) d one = absurd (omega (arith, one))
+
+-- texts that are put
+pub texts_done : (structs : List Struct) (params : List Param) (old new all : List ℕ) (answer : Encoded) → AreTexts structs params all → IsPut old new all answer
+    → IsDone structs params old new answer
+texts_done structs params old new all answer are put = record {
+  actions = are.actions;
+  stand = are.stand;
+  put = subst (λ (l : List ℕ). IsPut old new l answer) are.joined put;
+}
+
+pub one_done : (structs : List Struct) (params : List Param) (old new all : List ℕ) (d : Struct) (answer : Encoded) → length structs ≡ 1
+    → AreTexts (slice_index_or structs 0 d ∷ []) params all → IsPut old new all answer → IsDone structs params old new answer
+one_done structs params old new all d answer one are put =
+    texts_done structs params old new all answer (subst (λ (l : List Struct). AreTexts l params all) (sym (one_struct structs d one)) are) put
+
+-- of the actions with one struct and its tokens there is one by its name
+pub one_stands : (given : Struct) (params : List Param) → OneAction given params
+one_stands given params a has =
+    let like = action-named given.place a has.0 in
+    let one : Stands given params like.one = ((like.in_range, like.given ∙ has.1, like.params ∙ has.2), like.named) in
+    let only = λ (c : Action) (other : Stands given params c). same-action given.place c like.one other.0.0 other.1 one.0.0 one.1 (other.0.1 ∙ sym one.0.1) (other.0.2 ∙ sym one.0.2) in
+    (like.one, one, only)

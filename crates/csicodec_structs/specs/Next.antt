@@ -1,0 +1,78 @@
+-- What the call for the sequence at the front answers a C program.
+use Rattle.std.specs.Prelude.{ℕ, ◌≡◌, ◌≢◌, ◌+◌, false, List, [], ◌∷◌, length}
+use Rattle.std.specs.List.{All, flat_map}
+use Rattle.csicodec_tokens.specs.declared.param.CsiParam.{CsiParam}
+use Rattle.csicodec_tokens.specs.declared.reader.ReadError.{ReadError}
+use Rattle.csicodec_tokens.specs.declared.reader.ReadError.TheVariants as reading
+use Rattle.csicodec_tokens.specs.Fault.{FaultOf}
+use Rattle.csicodec_tokens.specs.Sequence.{Reads}
+use Rattle.csicodec_actions.specs.Actions.{Action}
+use Rattle.csicodec_parser.specs.Segments.{Actions}
+use Rattle.csicodec_structs.specs.declared.lay.Counts.{Counts}
+use Rattle.csicodec_structs.specs.declared.next.Front.{Front}
+use Rattle.csicodec_structs.specs.declared.structs.Param.{Param}
+use Rattle.csicodec_structs.specs.declared.structs.Struct.{Struct}
+use Rattle.csicodec_structs.specs.Named.{IsNamed}
+use Rattle.csicodec_structs.specs.Ranges.{InRange}
+use Rattle.csicodec_structs.specs.Room.{laid}
+use Rattle.csicodec_structs.specs.Rows.{params_of, struct_of}
+use Rattle.csicodec_structs.specs.Status.{fault_of, status_number}
+use Rattle.csicodec_structs.specs.declared.status.Status.{Status}
+use Rattle.csicodec_structs.specs.declared.status.Status.TheVariants as status
+
+abbrev pub refused : Status → ℕ → Front
+refused why at = record { status = status_number why; at = at; used = 0; actions = 0; params = 0 }
+
+-- the answer of each refusal
+abbrev pub refusal : ReadError → Front
+refusal error = refused (fault_of error).0 (fault_of error).1
+
+-- why bytes may be refused so: their own fault; out of memory only for a sequence
+abbrev pub IsWhy : List ℕ → ReadError → Type 0
+IsWhy bytes reading.Memory = (list : List CsiParam) × (final : ℕ) × (rest : List ℕ) × Reads bytes list final rest
+IsWhy bytes error = FaultOf bytes error
+
+-- actions, and the bytes that are left, of the sequence at the front
+pub record IsFront (bytes : List ℕ) (actions : List Action) (rest : List ℕ) : Type 0 where
+  pub list : List CsiParam
+  pub final : ℕ
+  pub reads : Reads bytes list final rest
+  pub are : Actions list false final actions
+
+-- the structs of actions in turn, whose tokens stand one behind the other from this place on
+abbrev pub structs : ℕ → List Action → List Struct
+structs place [] = []
+structs place (a ∷ actions) = struct_of place a ∷ structs (place + length (params_of a)) actions
+
+-- and these tokens
+abbrev pub all_params : List Action → List Param
+all_params actions = flat_map params_of actions
+
+-- these actions and their tokens, as many as there is room for, and how many they are
+pub record Lays (actions_old actions_new : List Struct) (params_old params_new : List Param) (count : Counts) (all : List Action) : Type 0 where
+  pub actions : count.actions ≡ length all
+  pub params : count.params ≡ length (all_params all)
+  pub lays_actions : actions_new ≡ laid actions_old (structs 0 all)
+  pub lays_params : params_new ≡ laid params_old (all_params all)
+
+-- the same of the sequence at the front
+pub record IsDone (bytes : List ℕ) (actions_old actions_new : List Struct) (params_old params_new : List Param) (answer : Front) : Type 0 where
+  pub actions : List Action
+  pub rest : List ℕ
+  pub front : IsFront bytes actions rest
+  pub in_range : All InRange actions
+  pub named : All IsNamed actions
+  pub ok : answer.status ≡ status_number status.Done
+  pub used : answer.used + length rest ≡ length bytes
+  pub count : answer.actions ≡ length actions
+  pub params : answer.params ≡ length (all_params actions)
+  pub lays_actions : actions_new ≡ laid actions_old (structs 0 actions)
+  pub lays_params : params_new ≡ laid params_old (all_params actions)
+
+-- or the refusal of the bytes, and then nothing is put, unless memory is refused
+pub record IsRefused (bytes : List ℕ) (actions_old actions_new : List Struct) (params_old params_new : List Param) (answer : Front) : Type 0 where
+  pub error : ReadError
+  pub why : IsWhy bytes error
+  pub tells : answer ≡ refusal error
+  pub actions_stay : error ≢ reading.Memory → actions_new ≡ actions_old
+  pub params_stay : error ≢ reading.Memory → params_new ≡ params_old

@@ -1,0 +1,38 @@
+-- What the call that normalises answers a C program.
+use Rattle.std.specs.Prelude.{ℕ, ◌≡◌, false, List, length}
+use Rattle.csicodec_tokens.specs.declared.reader.ReadError.TheVariants as reading
+use Rattle.csicodec_streams.specs.declared.error.DecodeError.{DecodeError}
+use Rattle.csicodec_streams.specs.declared.error.DecodeError.TheVariants as decoding
+use Rattle.csicodec_streams.specs.Decoding.{NormalisesTo}
+use Rattle.csicodec_streams.specs.Refusals.{RefusesDecode}
+use Rattle.csicodec_structs.specs.declared.normalise.Normalised.{Normalised}
+use Rattle.csicodec_structs.specs.Room.{Fills}
+use Rattle.csicodec_structs.specs.Status.{fault_of, status_number}
+use Rattle.csicodec_structs.specs.declared.status.Status.{Status}
+use Rattle.csicodec_structs.specs.declared.status.Status.TheVariants as status
+
+abbrev pub normalised : ℕ → Normalised
+normalised needed = record { status = status_number status.Done; start = 0; at = 0; needed = needed }
+
+abbrev pub refused : Status → ℕ → ℕ → Normalised
+refused why start at = record { status = status_number why; start = start; at = at; needed = 0 }
+
+-- the answer of each refusal
+abbrev pub refusal : DecodeError → Normalised
+refusal (decoding.Read start reading.Memory) = refused status.Memory 0 0
+refusal (decoding.Read start error) = refused (fault_of error).0 start (fault_of error).1
+refusal decoding.Memory = refused status.Memory 0 0
+
+-- the length of the normal form, which is put where it fits
+pub record IsDone (bytes old new : List ℕ) (answer : Normalised) : Type 0 where
+  pub all : List ℕ
+  pub normal : NormalisesTo bytes all
+  pub tells : answer ≡ normalised (length all)
+  pub fills : Fills old new all
+
+-- or the refusal of the bytes, and then nothing is put
+pub record IsRefused (bytes old new : List ℕ) (answer : Normalised) : Type 0 where
+  pub error : DecodeError
+  pub why : RefusesDecode bytes false error
+  pub tells : answer ≡ refusal error
+  pub same : new ≡ old

@@ -1,0 +1,297 @@
+//! Structs as actions, and their texts.
+ghost use Rattle.std.specs.Prelude.{◌≡◌, ◌⊎◌, ◌↔◌, ◌<◌, List, [], ◌∷◌, drop, take, map, length, true, IfOk, IfErr, IfSome, MatchOption};
+ghost use Rattle.csicodec_parser.specs.ActionOf.{action_of};
+ghost use Rattle.csicodec_structs.specs.Encode.{AllStand, HasNone, IsDone, IsPut, IsRefused, Stands, StandsForNone, refused};
+ghost use Rattle.std.specs.Option.{option_map};
+ghost use Rattle.csicodec_structs.specs.Private.Candidates.{AreTexts, IsExtended, IsGraphics, IsUnknown, Makes};
+ghost use Rattle.csicodec_structs.specs.Named.{IsNamed};
+ghost use Rattle.csicodec_structs.specs.Ranges.{InRange};
+ghost use Rattle.csicodec_structs.specs.Rows.{params_of};
+ghost use Rattle.csicodec_structs.specs.declared.structs.Param.{Param};
+
+use crate::candidates::{
+    UNSPECIFIED, VT220, VT320, VT420, XT_SM_GRAPHICS, candidate, small_candidate,
+};
+use crate::numbers::item;
+use crate::room::fill;
+use crate::rows::struct_of;
+use crate::short::short_text;
+use crate::status::Status;
+use crate::structs::{Param, Struct};
+use crate::token::tokens;
+use csicodec::{
+    CSI, Device, DeviceAttributeFlags, DeviceAttributes, Text, Unspecified, XtSmGraphics,
+};
+use csicodec_base::TextBuffer;
+use csicodec_parser::append_text;
+use std::alloc::{AllocError, Global};
+
+/// How a writing of actions ended.
+#[repr(C)]
+#[derive(Clone, Copy, Debug, PartialEq, Eq)]
+pub struct Encoded {
+    /// The number of a `Status`: `Done`, `Memory`, or `NoAction` for a struct that stands for none.
+    pub status: u32,
+    /// Of `NoAction`, which of the structs.
+    pub at: usize,
+    /// Of `Done`, the length of the texts.
+    pub needed: usize,
+}
+
+/// Why nothing is put.
+pub fn refused(why: Status, at: usize) -> Encoded
+    ensures { result ≡ refused why at }
+{
+    Encoded {
+        status: why.number(),
+        at,
+        needed: 0,
+    }
+}
+
+/// Puts a text, where it fits.
+#[inline(always)]
+pub fn put_text(text: &[u8], out: &mut [u8]) -> Encoded
+    ensures { IsPut out.old out.new text.now result }
+{
+    fill(out, text);
+    Encoded {
+        status: Status::Done.number(),
+        at: 0,
+        needed: text.len(),
+    }
+}
+
+/// Whether two structs are the same.
+#[tactic(auto, using(crate::proofs::Same::same))]
+fn is_same(one: &Struct, other: &Struct) -> bool
+    ensures { result ≡ true ↔ one.now ≡ other.now }
+{
+    one.kind == other.kind
+        && one.final_char == other.final_char
+        && one.first == other.first
+        && one.second == other.second
+        && one.top == other.top
+        && one.left == other.left
+        && one.bottom == other.bottom
+        && one.right == other.right
+        && one.place == other.place
+        && one.len == other.len
+        && one.red == other.red
+        && one.green == other.green
+        && one.blue == other.blue
+        && one.alpha == other.alpha
+        && one.modifiers == other.modifiers
+        && one.button == other.button
+        && one.absent == other.absent
+}
+
+/// The items from this place on.
+fn from<T>(items: &[T], place: usize) -> &[T]
+    ensures { result.now ≡ drop place items.now }
+{
+    if place <= items.len() {
+        &items[place..]
+    } else {
+        &items[items.len()..]
+    }
+}
+
+/// The tokens of an action, unless they are fewer.
+fn part<T>(items: &[T], place: usize, len: usize) -> Option<&[T]>
+    ensures { MatchOption result (length (take len (drop place items.now)) < len) (λ part.
+        part.now ≡ take len (drop place items.now)) }
+{
+    let behind = from(items, place);
+    if len <= behind.len() {
+        Some(&behind[..len])
+    } else {
+        None
+    }
+}
+
+/// An unknown action of these tokens.
+fn unknown(alloc: Global, given: &Struct, params: &[Param]) -> Result<Option<CSI>, AllocError>
+    ensures in_range { IfOk result (λ r. IfSome r (λ csi. InRange (action_of csi))) }
+    ensures tokens { IfOk result (λ r. IfSome r (λ csi. params_of (action_of csi) ≡ params.now)) }
+    ensures named { IfOk result (λ r. IfSome r (λ csi. IsNamed (action_of csi))) }
+    ensures finds { IfOk result (λ r.
+        Makes IsUnknown given.now params.now (option_map action_of r)) }
+{
+    let Some(control) = char::from_u32(given.final_char) else {
+        return Ok(None);
+    };
+    let Some(params) = tokens(alloc, params)? else {
+        return Ok(None);
+    };
+    let unspecified = Unspecified {
+        params,
+        parameters_truncated: false,
+        control,
+    };
+    Ok(Some(CSI::Unspecified(Box::new(alloc, unspecified)?)))
+}
+
+/// The primary device attributes with these extensions.
+fn extended(alloc: Global, given: &Struct, params: &[Param]) -> Result<Option<CSI>, AllocError>
+    ensures in_range { IfOk result (λ r. IfSome r (λ csi. InRange (action_of csi))) }
+    ensures tokens { IfOk result (λ r. IfSome r (λ csi. params_of (action_of csi) ≡ params.now)) }
+    ensures named { IfOk result (λ r. IfSome r (λ csi. IsNamed (action_of csi))) }
+    ensures finds { IfOk result (λ r.
+        Makes IsExtended given.now params.now (option_map action_of r)) }
+{
+    let Some(attributes) = tokens(alloc, params)? else {
+        return Ok(None);
+    };
+    let flags = DeviceAttributeFlags { attributes };
+    let attributes = match given.kind {
+        VT220 => DeviceAttributes::Vt220(flags),
+        VT320 => DeviceAttributes::Vt320(flags),
+        _ => DeviceAttributes::Vt420(flags),
+    };
+    let device = Device::DeviceAttributes(attributes);
+    Ok(Some(CSI::Device(Box::new(alloc, device)?)))
+}
+
+/// Graphics of these values.
+fn graphics(alloc: Global, given: &Struct, params: &[Param]) -> Result<Option<CSI>, AllocError>
+    ensures in_range { IfOk result (λ r. IfSome r (λ csi. InRange (action_of csi))) }
+    ensures tokens { IfOk result (λ r. IfSome r (λ csi. params_of (action_of csi) ≡ params.now)) }
+    ensures named { IfOk result (λ r. IfSome r (λ csi. IsNamed (action_of csi))) }
+    ensures finds { IfOk result (λ r.
+        Makes IsGraphics given.now params.now (option_map action_of r)) }
+{
+    let Some(value) = tokens(alloc, params)? else {
+        return Ok(None);
+    };
+    let graphics = XtSmGraphics {
+        item: item(given),
+        action_or_status: given.second,
+        value,
+    };
+    let device = Device::XtSmGraphics(graphics);
+    Ok(Some(CSI::Device(Box::new(alloc, device)?)))
+}
+
+/// An action of the struct's kind that has these tokens.
+fn made(alloc: Global, given: &Struct, params: &[Param]) -> Result<Option<CSI>, AllocError>
+    ensures in_range { IfOk result (λ r. IfSome r (λ csi. InRange (action_of csi))) }
+    ensures tokens { IfOk result (λ r. IfSome r (λ csi. params_of (action_of csi) ≡ params.now)) }
+    ensures named { IfOk result (λ r. IfSome r (λ csi. IsNamed (action_of csi))) }
+    ensures finds { IfOk result (λ r. Makes InRange given.now params.now (option_map action_of r)) }
+{
+    match given.kind {
+        UNSPECIFIED => unknown(alloc, given, params),
+        VT220 | VT320 | VT420 => extended(alloc, given, params),
+        XT_SM_GRAPHICS => graphics(alloc, given, params),
+        _ if params.is_empty() => candidate(alloc, given),
+        _ => Ok(None),
+    }
+}
+
+/// The action that a struct stands for.
+pub(crate) fn action(
+    alloc: Global,
+    params: &[Param],
+    given: &Struct,
+) -> Result<Option<CSI>, AllocError>
+    ensures { IfOk result (λ r.
+        MatchOption r (StandsForNone given.now params.now) (λ csi.
+        Stands given.now params.now (action_of csi))) }
+{
+    let Some(items) = part(params, given.place, given.len) else {
+        return Ok(None);
+    };
+    let Some(csi) = made(alloc, given, items)? else {
+        return Ok(None);
+    };
+    if is_same(&struct_of(given.place, &csi), given) {
+        Ok(Some(csi))
+    } else {
+        Ok(None)
+    }
+}
+
+/// The actions that the structs stand for, or which of these stands for none.
+#[inline(always)]
+#[tactic(auto, using(crate::proofs::Stand::stand_more_mapped))]
+pub fn actions_of(
+    alloc: Global,
+    structs: &[Struct],
+    params: &[Param],
+) -> Result<Result<Vec<CSI>, usize>, AllocError>
+    ensures actions { IfOk result (λ r.
+        IfOk r (λ all. AllStand structs.now params.now (map action_of all.items))) }
+    ensures none { IfOk result (λ r. IfErr r (λ at. HasNone structs.now params.now at)) }
+{
+    let mut actions = Vec::new(alloc);
+    let mut at = 0;
+    for given in structs {
+        let Some(csi) = action(alloc, params, given)? else {
+            return Ok(Err(at));
+        };
+        actions.push(csi)?;
+        at += 1;
+    }
+    Ok(Ok(actions))
+}
+
+/// The joined texts of the actions that the structs stand for, or which of these stands for none.
+#[inline(always)]
+#[tactic(auto, using(crate::proofs::Stand::texts_more))]
+fn texts_of(
+    alloc: Global,
+    structs: &[Struct],
+    params: &[Param],
+) -> Result<Result<Vec<u8>, usize>, AllocError>
+    ensures texts { IfOk result (λ r. IfOk r (λ all. AreTexts structs.now params.now all.items)) }
+    ensures none { IfOk result (λ r. IfErr r (λ at. HasNone structs.now params.now at)) }
+{
+    let mut all = TextBuffer::new(alloc);
+    let mut at = 0;
+    for given in structs {
+        let Some(csi) = action(alloc, params, given)? else {
+            return Ok(Err(at));
+        };
+        append_text(alloc, &mut all, &csi)?;
+        at += 1;
+    }
+    Ok(Ok(all.into_vec()))
+}
+
+/// The text of the action that a struct stands for, where it has no tokens and takes no memory.
+#[inline(always)]
+#[tactic(auto, using(crate::proofs::Stand::short_stands))]
+fn short_of(given: &Struct) -> Option<Text>
+    ensures { IfSome result (λ text. (params : List Param) → AreTexts (given.now ∷ []) params text) }
+{
+    if given.len > 0 {
+        return None;
+    }
+    let csi = small_candidate(given)?;
+    if is_same(&struct_of(given.place, &csi), given) {
+        let text = short_text(&csi)?;
+        Some(text)
+    } else {
+        None
+    }
+}
+
+/// Puts the texts of the actions that the structs stand for, where they fit.
+#[tactic(auto, using(crate::proofs::Stand::texts_done))]
+pub fn put_texts(alloc: Global, actions: &[Struct], params: &[Param], out: &mut [u8]) -> Encoded
+    ensures { IsDone actions.now params.now out.old out.new result
+        ⊎ IsRefused actions.now params.now out.old out.new result }
+{
+    if actions.len() == 1 {
+        let given = &actions[0];
+        if let Some(text) = short_of(given) {
+            return put_text(text.as_bytes(), out);
+        }
+    }
+    match texts_of(alloc, actions, params) {
+        Ok(Ok(all)) => put_text(all.as_slice(), out),
+        Ok(Err(at)) => refused(Status::NoAction, at),
+        Err(_) => refused(Status::Memory, 0),
+    }
+}

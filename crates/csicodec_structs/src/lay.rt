@@ -1,0 +1,324 @@
+//! The actions of a list as structs, and their tokens, put into room that a caller lends: as many as there is room for.
+ghost use Rattle.std.specs.Prelude.{◌≡◌, false, List, [], ◌++◌, ◌∷◌, length, unwrap_or, Some, IfOk, IfSome};
+ghost use Rattle.csicodec_actions.specs.Actions.{Action, Unspecified as Unknown};
+ghost use Rattle.csicodec_actions.specs.Devices.{device_of};
+ghost use Rattle.csicodec_actions.specs.Table.{boxed};
+ghost use Rattle.csicodec_parser.specs.ActionOf.{action_of};
+ghost use Rattle.csicodec_parser.specs.Run.{IsRef};
+ghost use Rattle.csicodec_parser.specs.Segments.{Actions};
+ghost use Rattle.csicodec_structs.specs.Next.{Lays};
+ghost use Rattle.csicodec_structs.specs.Private.Fronts.{LaysOne, PutsBehind, headed, large_of};
+ghost use Rattle.csicodec_structs.specs.Rows.{device_params, params_of, struct_of};
+ghost use Rattle.csicodec_structs.specs.declared.structs.Param.{Param};
+ghost use Rattle.csicodec_tokens.specs.declared.param.CsiParam.{CsiParam};
+
+use crate::candidates::{VT220, VT320, VT420, XT_SM_GRAPHICS};
+use crate::numbers::item_number;
+use crate::room::put;
+use crate::rows::{device_struct, struct_of, window_struct};
+use crate::structs::{Param, Struct, list_row, unknown_row};
+use crate::token::{put_all, put_one};
+use csicodec::CsiParam::{Integer, P};
+use csicodec::laws::segmentation;
+use csicodec::{CSI, CsiParam, Device, DeviceAttributes, Window, XtSmGraphicsItem};
+use csicodec_lists::{device_action, graphics_ref, window_action};
+use csicodec_parser::ActionRef;
+use std::alloc::{AllocError, Global};
+
+/// How many actions there are, and how many tokens belong to them.
+#[derive(Clone, Copy)]
+pub(crate) struct Counts {
+    pub(crate) actions: usize,
+    pub(crate) params: usize,
+}
+
+/// Puts the extensions, or the values, that a terminal names behind the tokens that are there.
+fn put_device(room: &mut [Param], place: usize, device: &Device) -> Option<usize>
+    ensures { IfSome result (PutsBehind room.old room.new place
+        (device_params (device_of device.now))) }
+{
+    match device {
+        Device::DeviceAttributes(
+            DeviceAttributes::Vt220(flags)
+            | DeviceAttributes::Vt320(flags)
+            | DeviceAttributes::Vt420(flags),
+        ) => put_all(room, place, &flags.attributes),
+        Device::XtSmGraphics(graphics) => put_all(room, place, &graphics.value),
+        _ => Some(place),
+    }
+}
+
+/// Puts the tokens of an action behind those that are there.
+fn put_params(room: &mut [Param], place: usize, action: &CSI) -> Option<usize>
+    ensures { IfSome result (PutsBehind room.old room.new place (params_of (action_of action.now))) }
+{
+    match action {
+        CSI::Device(device) => put_device(room, place, device),
+        CSI::Unspecified(unknown) => put_all(room, place, &unknown.params),
+        _ => Some(place),
+    }
+}
+
+/// Puts the struct of an action, whose tokens end here, behind those that are there. There is nothing to answer where
+/// the structs can't be counted.
+#[inline(always)]
+fn lay_struct(given: Struct, end: usize, count: Counts, actions: &mut [Struct]) -> Option<Counts>
+    ensures { (old new : List Param) (a : Action) → given ≡ struct_of count.params a
+        → PutsBehind old new count.params (params_of a) end
+        → IfSome result (LaysOne count actions.old actions.new old new a) }
+{
+    let next = count.actions.checked_add(1)?;
+    put(actions, count.actions, given);
+    Some(Counts {
+        actions: next,
+        params: end,
+    })
+}
+
+/// Puts an action and its tokens behind those that are there.
+#[inline(always)]
+fn lay_one(
+    action: &CSI,
+    count: Counts,
+    actions: &mut [Struct],
+    params: &mut [Param],
+) -> Option<Counts>
+    ensures { IfSome result (LaysOne count actions.old actions.new params.old params.new
+        (action_of action.now)) }
+{
+    let end = put_params(params, count.params, action)?;
+    lay_struct(struct_of(count.params, action), end, count, actions)
+}
+
+/// The same of an unknown action of these tokens, with the mark ahead of them.
+fn lay_unknown(
+    mark: &[CsiParam],
+    tokens: &[CsiParam],
+    control: char,
+    count: Counts,
+    actions: &mut [Struct],
+    params: &mut [Param],
+) -> Option<Counts>
+    ensures { IfSome result (LaysOne count actions.old actions.new params.old params.new
+        (Unknown (mark.now ++ tokens.now) false control)) }
+{
+    let len = mark.len().checked_add(tokens.len())?;
+    let behind = put_all(params, count.params, mark)?;
+    let end = put_all(params, behind, tokens)?;
+    lay_struct(unknown_row(control, count.params, len), end, count, actions)
+}
+
+/// What an action says ahead of its extensions or values: a terminal its service class, by the first terminal that has
+/// it; graphics their item, and an action or a status.
+#[derive(Clone, Copy)]
+enum Head {
+    Vt220,
+    Vt320,
+    Vt420,
+    Graphics {
+        item: XtSmGraphicsItem,
+        action_or_status: i64,
+    },
+}
+
+/// The service class that a list names, and the tokens behind it.
+#[tactic(auto, unfolding(csicodec_actions::specs::Table::boxed, csicodec_actions::specs::Table::Device::as_device))]
+fn class_of(list: &[CsiParam], control: char) -> Option<(Head, &[CsiParam])>
+    ensures { IfSome result (λ x. boxed list.now control ≡ Some (headed x.0 x.1.now)) }
+{
+    match (list, control) {
+        ([P(b'?'), Integer(62), extensions @ ..], 'c') => Some((Head::Vt220, extensions)),
+        ([P(b'?'), Integer(63), extensions @ ..], 'c') => Some((Head::Vt320, extensions)),
+        ([P(b'?'), Integer(64), extensions @ ..], 'c') => Some((Head::Vt420, extensions)),
+        _ => None,
+    }
+}
+
+/// The struct of an action with so many extensions or values, which stand from this place on.
+fn head_struct(head: Head, place: usize, len: usize) -> Struct
+    ensures { (list : List CsiParam) → len ≡ length (params_of (headed head list))
+        → result ≡ struct_of place (headed head list) }
+{
+    match head {
+        Head::Vt220 => list_row(VT220, 0, 0, place, len),
+        Head::Vt320 => list_row(VT320, 0, 0, place, len),
+        Head::Vt420 => list_row(VT420, 0, 0, place, len),
+        Head::Graphics {
+            item,
+            action_or_status,
+        } => list_row(
+            XT_SM_GRAPHICS,
+            item_number(item),
+            action_or_status,
+            place,
+            len,
+        ),
+    }
+}
+
+/// Puts a token of the list, where it is an extension or a value: a `;` is no extension, and a byte no value.
+fn put_listed(room: &mut [Param], place: usize, head: Head, token: CsiParam) -> Option<usize>
+    ensures { IfSome result (PutsBehind room.old room.new place
+        (params_of (headed head (token ∷ [])))) }
+{
+    match (head, token) {
+        (Head::Graphics { .. }, P(_)) | (_, P(b';')) => Some(place),
+        _ => put_one(room, place, token),
+    }
+}
+
+/// Puts the extensions, or the values, that a list says behind the tokens that are there.
+fn put_list(room: &mut [Param], place: usize, head: Head, list: &[CsiParam]) -> Option<usize>
+    ensures { IfSome result (PutsBehind room.old room.new place (params_of (headed head list.now))) }
+{
+    let mut end = place;
+    for token in list {
+        end = put_listed(room, end, head, *token)?;
+    }
+    Some(end)
+}
+
+/// The same of an action with the extensions, or the values, that a list says.
+fn lay_listed(
+    head: Head,
+    list: &[CsiParam],
+    count: Counts,
+    actions: &mut [Struct],
+    params: &mut [Param],
+) -> Option<Counts>
+    ensures { IfSome result (LaysOne count actions.old actions.new params.old params.new
+        (headed head list.now)) }
+{
+    let end = put_list(params, count.params, head, list)?;
+    let len = end.checked_sub(count.params)?;
+    lay_struct(head_struct(head, count.params, len), end, count, actions)
+}
+
+/// The action of a list that is read whole, which takes memory in a `CSI`: that of its row, or an unknown one.
+#[derive(Drop)]
+enum Large<'a> {
+    Device(Device),
+    Window(Window),
+    Listed(Head, &'a [CsiParam]),
+    Unknown(&'a [CsiParam], char),
+}
+
+/// The same of such an action.
+fn lay_large(
+    large: &Large<'_>,
+    count: Counts,
+    actions: &mut [Struct],
+    params: &mut [Param],
+) -> Option<Counts>
+    ensures { IfSome result (LaysOne count actions.old actions.new params.old params.new
+        (large_of large.now)) }
+{
+    match large {
+        Large::Device(device) => {
+            let end = put_device(params, count.params, device)?;
+            lay_struct(device_struct(count.params, device), end, count, actions)
+        }
+        Large::Window(window) => lay_struct(window_struct(window), count.params, count, actions),
+        Large::Listed(head, list) => lay_listed(*head, list, count, actions, params),
+        Large::Unknown(list, control) => lay_unknown(&[], list, *control, count, actions, params),
+    }
+}
+
+/// The action of a list that is read whole, made with memory where its row takes it.
+#[tactic(auto, unfolding(csicodec_actions::specs::Table::boxed))]
+fn large_action<'a>(
+    alloc: Global,
+    list: &'a [CsiParam],
+    control: char,
+) -> Result<Large<'a>, AllocError>
+    ensures { IfOk result (λ large.
+        large_of large ≡ unwrap_or (boxed list.now control) (Unknown list.now false control)) }
+{
+    if let Some((class, extensions)) = class_of(list, control) {
+        return Ok(Large::Listed(class, extensions));
+    }
+    if let Some(device) = device_action(alloc, list, control)? {
+        return Ok(Large::Device(device));
+    }
+    if let Some(window) = window_action(list, control) {
+        return Ok(Large::Window(window));
+    }
+    let Some(graphics) = graphics_ref(list, control) else {
+        return Ok(Large::Unknown(list, control));
+    };
+    let head = Head::Graphics {
+        item: graphics.item,
+        action_or_status: graphics.action_or_status,
+    };
+    Ok(Large::Listed(head, graphics.values))
+}
+
+/// Puts the action of a list that is read whole, where none is made that takes no memory.
+#[cold]
+#[inline(never)]
+fn lay_whole(
+    alloc: Global,
+    list: &[CsiParam],
+    control: char,
+    count: Counts,
+    actions: &mut [Struct],
+    params: &mut [Param],
+) -> Result<Counts, AllocError>
+    ensures { IfOk result (LaysOne count actions.old actions.new params.old params.new
+        (unwrap_or (boxed list.now control) (Unknown list.now false control))) }
+{
+    let large = large_action(alloc, list, control)?;
+    lay_large(&large, count, actions, params).ok_or(AllocError)
+}
+
+/// Puts the action whose tokens are lent so, and these tokens.
+#[inline(always)]
+fn lay_ref(
+    alloc: Global,
+    action: ActionRef<'_>,
+    control: char,
+    count: Counts,
+    actions: &mut [Struct],
+    params: &mut [Param],
+) -> Result<Counts, AllocError>
+    ensures { IfOk result (λ next.
+        (a : Action) → IsRef action.entry false control a
+        → LaysOne count actions.old actions.new params.old params.new a next) }
+{
+    match action {
+        ActionRef::Small(csi) => lay_one(&csi, count, actions, params).ok_or(AllocError),
+        ActionRef::Whole(list) => lay_whole(alloc, list, control, count, actions, params),
+        ActionRef::Unknown(list) => {
+            lay_unknown(&[], list, control, count, actions, params).ok_or(AllocError)
+        }
+        ActionRef::UnknownMode(list) => {
+            let mark = [CsiParam::P(b'?')];
+            lay_unknown(&mark, list, control, count, actions, params).ok_or(AllocError)
+        }
+    }
+}
+
+/// Puts the actions of a list and their tokens.
+#[inline(always)]
+pub(crate) fn lay_list(
+    alloc: Global,
+    list: &[CsiParam],
+    control: char,
+    actions: &mut [Struct],
+    params: &mut [Param],
+) -> Result<Counts, AllocError>
+    ensures { IfOk result (λ count.
+        (all : List Action) × Actions list.now false control all
+        × Lays actions.old actions.new params.old params.new count all) }
+{
+    segmentation(list, false, control);
+    let mut count = Counts {
+        actions: 0,
+        params: 0,
+    };
+    let mut run = CSI::parse(alloc, list, false, control);
+    while let Some(action) = run.next_ref() {
+        count = lay_ref(alloc, action, control, count, actions, params)?;
+    }
+    Ok(count)
+}

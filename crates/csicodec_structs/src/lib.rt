@@ -1,0 +1,25 @@
+//! Actions as structs, of which other languages' calls are made.
+#![tactic(auto)]
+
+mod candidates;
+mod canonical;
+mod encode;
+pub mod laws;
+mod lay;
+mod next;
+mod normalise;
+mod numbers;
+mod room;
+mod rows;
+mod short;
+mod status;
+mod structs;
+mod token;
+
+pub use canonical::{Judged, judge};
+pub use encode::{Encoded, actions_of, put_text, put_texts, refused};
+pub use next::{Front, lay_front};
+pub use normalise::{Normalised, put_normal_form};
+pub use room::fill;
+pub use status::Status;
+pub use structs::{Param, Struct};

@@ -1,0 +1,107 @@
+//! The sequence at the front of some bytes.
+ghost use Rattle.std.specs.Prelude.{◌≡◌, ◌⊎◌};
+ghost use Rattle.csicodec_structs.specs.Private.Fronts.{IsAnswer};
+ghost use Rattle.csicodec_structs.specs.Next.{IsDone, IsRefused, refusal, refused};
+
+use crate::lay::lay_list;
+use crate::status::{Status, fault_of};
+use crate::structs::{Param, Struct};
+use csicodec::{CsiParam, ReadError, read_csi_into, read_csi_within};
+use std::alloc::Global;
+
+/// What stands at the front of some bytes, or why no sequence does.
+#[repr(C)]
+#[derive(Clone, Copy, Debug, PartialEq, Eq)]
+pub struct Front {
+    /// The number of a `Status`: `Done` where a sequence stands there, else as in `Normalised`.
+    pub status: u32,
+    /// Of a refusal, the place of the fault.
+    pub at: usize,
+    /// Of `Done`, how many bytes the sequence has.
+    pub used: usize,
+    /// Of `Done`, how many actions it has.
+    pub actions: usize,
+    /// Of `Done`, how many tokens belong to them.
+    pub params: usize,
+}
+
+fn refused(why: Status, at: usize) -> Front
+    ensures { result ≡ refused why at }
+{
+    Front {
+        status: why.number(),
+        at,
+        used: 0,
+        actions: 0,
+        params: 0,
+    }
+}
+
+fn refusal(error: ReadError) -> Front
+    ensures { result ≡ refusal error }
+{
+    let (why, at) = fault_of(error);
+    refused(why, at)
+}
+
+/// Puts the actions of this list and their tokens, as many as there is room for: of a sequence of so many bytes.
+#[inline(always)]
+fn answer(
+    alloc: Global,
+    list: &[CsiParam],
+    control: char,
+    used: usize,
+    actions: &mut [Struct],
+    params: &mut [Param],
+) -> Front
+    ensures { IsAnswer list.now control used actions.old actions.new params.old params.new result }
+{
+    match lay_list(alloc, list, control, actions, params) {
+        Ok(count) => Front {
+            status: Status::Done.number(),
+            at: 0,
+            used,
+            actions: count.actions,
+            params: count.params,
+        },
+        Err(_) => refused(Status::Memory, 0),
+    }
+}
+
+/// The same of the sequence at the front, whose tokens take memory.
+#[cold]
+#[inline(never)]
+fn next_long(alloc: Global, bytes: &[u8], actions: &mut [Struct], params: &mut [Param]) -> Front
+    ensures { IsDone bytes.now actions.old actions.new params.old params.new result
+        ⊎ IsRefused bytes.now actions.old actions.new params.old params.new result }
+{
+    let mut list = Vec::new(alloc);
+    let tail = match read_csi_into(&mut list, bytes) {
+        Ok(tail) => tail,
+        Err(error) => return refusal(error),
+    };
+    let used = bytes.len() - tail.rest.len();
+    answer(alloc, &list, tail.control, used, actions, params)
+}
+
+/// Puts the actions of the sequence at the front, and their tokens, as many as there is room for.
+pub fn lay_front(alloc: Global, bytes: &[u8], actions: &mut [Struct], params: &mut [Param]) -> Front
+    ensures { IsDone bytes.now actions.old actions.new params.old params.new result
+        ⊎ IsRefused bytes.now actions.old actions.new params.old params.new result }
+{
+    let mut room = [CsiParam::Integer(0); 32];
+    let read = match read_csi_within(&mut room, bytes) {
+        Ok(read) => read,
+        Err(ReadError::Memory) => return next_long(alloc, bytes, actions, params),
+        Err(error) => return refusal(error),
+    };
+    let used = bytes.len() - read.rest.len();
+    answer(
+        alloc,
+        &room[..read.count],
+        read.control,
+        used,
+        actions,
+        params,
+    )
+}

@@ -1,0 +1,140 @@
+//! The normal form of some bytes.
+ghost use Rattle.std.specs.Prelude.{◌≡◌, ◌⊎◌, ◌∷◌, [], false, IfSome};
+ghost use Rattle.csicodec_parser.specs.ActionOf.{action_of};
+ghost use Rattle.csicodec_parser.specs.declared.parser.ActionRef.TheVariants.{Small};
+ghost use Rattle.csicodec_parser.specs.Segments.{Actions};
+ghost use Rattle.csicodec_streams.specs.Decoding.{NormalisesTo};
+ghost use Rattle.csicodec_structs.specs.Normalise.{IsDone, IsRefused, normalised, refusal, refused};
+
+use crate::room::fill;
+use crate::short::short_text;
+use crate::status::{Status, fault_of};
+use csicodec::laws::segmentation;
+use csicodec::{CSI, CsiParam, DecodeError, ReadError, Text, normal_form, read_csi_within};
+use csicodec_parser::ActionRef;
+use std::alloc::Global;
+
+/// Of so many bytes it is tried whether they are one sequence with one action.
+const SHORT: usize = 32;
+
+/// How a normalisation ended, or why the bytes are refused.
+#[repr(C)]
+#[derive(Clone, Copy, Debug, PartialEq, Eq)]
+pub struct Normalised {
+    /// The number of a `Status`: `Done`, `NotCsi`, `BadByte`, `NumberTooLarge`, `Truncated` or `Memory`.
+    pub status: u32,
+    /// Of a refusal, where the sequence begins that is refused.
+    pub start: usize,
+    /// Of a refusal, the place of the fault, counted from there.
+    pub at: usize,
+    /// Of `Done`, the length of the normal form.
+    pub needed: usize,
+}
+
+fn done(needed: usize) -> Normalised
+    ensures { result ≡ normalised needed }
+{
+    Normalised {
+        status: Status::Done.number(),
+        start: 0,
+        at: 0,
+        needed,
+    }
+}
+
+fn refused(why: Status, start: usize, at: usize) -> Normalised
+    ensures { result ≡ refused why start at }
+{
+    Normalised {
+        status: why.number(),
+        start,
+        at,
+        needed: 0,
+    }
+}
+
+fn refusal(error: DecodeError) -> Normalised
+    ensures { result ≡ refusal error }
+{
+    match error {
+        DecodeError::Read {
+            error: ReadError::Memory,
+            ..
+        }
+        | DecodeError::Memory => refused(Status::Memory, 0, 0),
+        DecodeError::Read { start, error } => {
+            let (why, at) = fault_of(error);
+            refused(why, start, at)
+        }
+    }
+}
+
+/// The action, where it has no tokens that are lent.
+#[inline(always)]
+fn small(action: ActionRef<'_>) -> Option<CSI>
+    ensures { IfSome result (λ csi. action.entry ≡ Small csi) }
+{
+    match action {
+        ActionRef::Small(csi) => Some(csi),
+        ActionRef::Whole(_) => None,
+        ActionRef::Unknown(_) => None,
+        ActionRef::UnknownMode(_) => None,
+    }
+}
+
+/// The one action of a list, where it has no other and takes no memory.
+#[inline(always)]
+fn sole_action(alloc: Global, list: &[CsiParam], control: char) -> Option<CSI>
+    ensures { IfSome result (λ csi. Actions list.now false control (action_of csi ∷ [])) }
+{
+    segmentation(list, false, control);
+    let mut run = CSI::parse(alloc, list, false, control);
+    let Some(first) = run.next_ref() else {
+        return None;
+    };
+    let action = small(first)?;
+    match run.rest() {
+        None => Some(action),
+        Some(_) => None,
+    }
+}
+
+/// The normal form of bytes that are one sequence with one action, where it takes no memory.
+#[inline(always)]
+fn short_form(alloc: Global, bytes: &[u8]) -> Option<Text>
+    ensures { IfSome result (λ text. NormalisesTo bytes.now text) }
+{
+    if bytes.len() > SHORT {
+        return None;
+    }
+    let mut room = [CsiParam::P(0); 16];
+    let Ok(read) = read_csi_within(&mut room, bytes) else {
+        return None;
+    };
+    if read.rest.len() > 0 {
+        return None;
+    }
+    let action = sole_action(alloc, &room[..read.count], read.control)?;
+    let text = short_text(&action)?;
+    Some(text)
+}
+
+/// Puts the normal form of the bytes, where it fits.
+pub fn put_normal_form(alloc: Global, bytes: &[u8], out: &mut [u8]) -> Normalised
+    ensures { IsDone bytes.now out.old out.new result ⊎ IsRefused bytes.now out.old out.new result }
+{
+    if bytes.is_empty() {
+        return done(0);
+    }
+    if let Some(text) = short_form(alloc, bytes) {
+        fill(out, text.as_bytes());
+        return done(text.as_bytes().len());
+    }
+    match normal_form(alloc, bytes) {
+        Ok(all) => {
+            fill(out, all.as_slice());
+            done(all.len())
+        }
+        Err(error) => refusal(error),
+    }
+}

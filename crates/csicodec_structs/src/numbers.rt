@@ -1,0 +1,343 @@
+//! What stands as a number in a struct, both ways.
+ghost use Rattle.std.specs.Prelude.{◌≡◌, ◌↔◌, ◌==◌, ◌||◌, IfSome, MatchOption, pos};
+ghost use Rattle.std.specs.Int.{FitsUnsignedBits};
+ghost use Rattle.csicodec_names.specs.FlagBits.{kitty_bits};
+ghost use Rattle.csicodec_actions.specs.Devices.{attribute_token};
+ghost use Rattle.csicodec_actions.specs.Kinds.{IsOneBased};
+ghost use Rattle.csicodec_actions.specs.XtSmGraphics.{item_number};
+ghost use Rattle.csicodec_actions.specs.Modes.{dec_number, terminal_number};
+ghost use Rattle.csicodec_actions.specs.declared.mouse.MouseButton.{MouseButton};
+ghost use Rattle.csicodec_names.specs.declared.color.Blink.{Blink};
+ghost use Rattle.csicodec_names.specs.declared.color.Intensity.{Intensity};
+ghost use Rattle.csicodec_names.specs.declared.color.Underline.{Underline};
+ghost use Rattle.csicodec_names.specs.declared.color.VerticalAlign.{VerticalAlign};
+ghost use Rattle.csicodec_actions.specs.Ranges.{ColorInRange};
+ghost use Rattle.csicodec_structs.specs.Values.{HasText, IsNamedDec, IsNamedItem, IsNamedTerminal};
+ghost use Rattle.csicodec_structs.specs.Private.Candidates.{IsPlace, IsTen, Reads, ReadsNamed, color_of, itself, unless};
+ghost use Rattle.csicodec_structs.specs.Structs.{align_number, blink_number, button_number, flag_number, font_number, intensity_number, underline_number};
+
+use crate::structs::Struct;
+use bitflags::Flags;
+use csicodec::{
+    Blink, ColorSpec, CsiParam, DecPrivateMode, DeviceAttribute, Font, Intensity,
+    KittyKeyboardFlags, MouseButton, OneBased, SrgbaTuple, TerminalMode, Underline, VerticalAlign,
+    XtSmGraphicsItem,
+};
+
+pub(crate) fn flag_number(on: bool) -> i64
+    ensures { result ≡ pos (flag_number on) }
+{
+    if on { 1 } else { 0 }
+}
+
+pub(crate) fn font_number(font: Font) -> i64
+    ensures { result ≡ pos (font_number font) }
+{
+    match font {
+        Font::Default => 0,
+        Font::Alternate(number) => i64::from(number),
+    }
+}
+
+pub(crate) fn intensity_number(value: Intensity) -> i64
+    ensures { result ≡ pos (intensity_number value) }
+{
+    match value {
+        Intensity::Normal => 0,
+        Intensity::Bold => 1,
+        Intensity::Half => 2,
+    }
+}
+
+pub(crate) fn underline_number(value: Underline) -> i64
+    ensures { result ≡ pos (underline_number value) }
+{
+    match value {
+        Underline::None => 0,
+        Underline::Single => 1,
+        Underline::Double => 2,
+        Underline::Curly => 3,
+        Underline::Dotted => 4,
+        Underline::Dashed => 5,
+    }
+}
+
+pub(crate) fn blink_number(value: Blink) -> i64
+    ensures { result ≡ pos (blink_number value) }
+{
+    match value {
+        Blink::None => 0,
+        Blink::Slow => 1,
+        Blink::Rapid => 2,
+    }
+}
+
+pub(crate) fn align_number(value: VerticalAlign) -> i64
+    ensures { result ≡ pos (align_number value) }
+{
+    match value {
+        VerticalAlign::BaseLine => 0,
+        VerticalAlign::SuperScript => 1,
+        VerticalAlign::SubScript => 2,
+    }
+}
+
+pub(crate) fn button_number(button: MouseButton) -> u8
+    ensures { result ≡ button_number button }
+{
+    match button {
+        MouseButton::None => 0,
+        MouseButton::Button1Press => 1,
+        MouseButton::Button2Press => 2,
+        MouseButton::Button3Press => 3,
+        MouseButton::Button4Press => 4,
+        MouseButton::Button5Press => 5,
+        MouseButton::Button6Press => 6,
+        MouseButton::Button7Press => 7,
+        MouseButton::Button1Release => 11,
+        MouseButton::Button2Release => 12,
+        MouseButton::Button3Release => 13,
+        MouseButton::Button4Release => 14,
+        MouseButton::Button5Release => 15,
+        MouseButton::Button6Release => 16,
+        MouseButton::Button7Release => 17,
+        MouseButton::Button1Drag => 21,
+        MouseButton::Button2Drag => 22,
+        MouseButton::Button3Drag => 23,
+    }
+}
+
+pub(crate) fn item_number(item: XtSmGraphicsItem) -> i64
+    ensures { result ≡ item_number item }
+{
+    match item {
+        XtSmGraphicsItem::NumberOfColorRegisters => 1,
+        XtSmGraphicsItem::SixelGraphicsGeometry => 2,
+        XtSmGraphicsItem::RegisGraphicsGeometry => 3,
+        XtSmGraphicsItem::Unspecified(number) => number,
+    }
+}
+
+/// The token that says an extension.
+pub(crate) fn attribute_token(attribute: DeviceAttribute) -> CsiParam
+    ensures { result ≡ attribute_token attribute }
+{
+    match attribute {
+        DeviceAttribute::Code(code) => CsiParam::Integer(code.to_i64()),
+        DeviceAttribute::Unspecified(token) => token,
+    }
+}
+
+/// The first number, as a count.
+pub(crate) fn count(given: &Struct) -> Option<u32>
+    ensures { Reads itself (FitsUnsignedBits 32) given.now.first result }
+{
+    u32::try_from(given.first).ok()
+}
+
+/// The first number, of 16 bits.
+pub(crate) fn first_word(given: &Struct) -> Option<u16>
+    ensures { Reads itself (FitsUnsignedBits 16) given.now.first result }
+{
+    u16::try_from(given.first).ok()
+}
+
+/// The second number, of 16 bits.
+pub(crate) fn second_word(given: &Struct) -> Option<u16>
+    ensures { Reads itself (FitsUnsignedBits 16) given.now.second result }
+{
+    u16::try_from(given.second).ok()
+}
+
+/// A side of an area.
+pub(crate) fn side(number: u32) -> Option<OneBased>
+    ensures { MatchOption result (number ≡ 0) (λ place. (number ≡ place) × IsOneBased place) }
+{
+    OneBased::try_from(number).ok()
+}
+
+/// The first number, as a line or a column.
+pub(crate) fn first_place(given: &Struct) -> Option<OneBased>
+    ensures { Reads itself IsPlace given.now.first result }
+{
+    side(u32::try_from(given.first).ok()?)
+}
+
+/// The second number, as a line or a column.
+pub(crate) fn second_place(given: &Struct) -> Option<OneBased>
+    ensures { Reads itself IsPlace given.now.second result }
+{
+    side(u32::try_from(given.second).ok()?)
+}
+
+/// The first number, as 1 for on and 0 for off.
+pub(crate) fn flag(given: &Struct) -> Option<bool>
+    ensures { Reads flag_number (FitsUnsignedBits 1) given.now.first result }
+{
+    match given.first {
+        0 => Some(false),
+        1 => Some(true),
+        _ => None,
+    }
+}
+
+/// The first number, as flags of the keyboard.
+pub(crate) fn flags(given: &Struct) -> Option<KittyKeyboardFlags>
+    ensures { Reads kitty_bits (FitsUnsignedBits 16) given.now.first result }
+{
+    Some(KittyKeyboardFlags::from_bits_retain(first_word(given)?))
+}
+
+/// The first number, as that of a private mode, by its code where it has one.
+#[tactic(auto, using(crate::proofs::ModeNumbers::dec_reads))]
+pub(crate) fn private_mode(given: &Struct) -> Option<DecPrivateMode>
+    ensures { ReadsNamed dec_number IsNamedDec (FitsUnsignedBits 16) given.now.first result }
+{
+    DecPrivateMode::at(given.first)
+}
+
+/// The first number, as that of a mode, by its code where it has one.
+#[tactic(auto, using(crate::proofs::ModeNumbers::terminal_reads))]
+pub(crate) fn terminal_mode(given: &Struct) -> Option<TerminalMode>
+    ensures { ReadsNamed terminal_number IsNamedTerminal
+        (FitsUnsignedBits 16) given.now.first result }
+{
+    TerminalMode::at(given.first)
+}
+
+/// The first number, unless it is absent.
+pub(crate) fn first(given: &Struct) -> Option<i64>
+    ensures { result ≡ unless (given.now.absent == 1 || given.now.absent == 3) given.now.first }
+{
+    match given.absent {
+        1 | 3 => None,
+        _ => Some(given.first),
+    }
+}
+
+/// The second number, unless it is absent.
+pub(crate) fn second(given: &Struct) -> Option<i64>
+    ensures { result ≡ unless (given.now.absent == 2 || given.now.absent == 3) given.now.second }
+{
+    match given.absent {
+        2 | 3 => None,
+        _ => Some(given.second),
+    }
+}
+
+/// Its colour.
+pub(crate) fn color(given: &Struct) -> Option<ColorSpec>
+    ensures value { result ≡ color_of given.now }
+    ensures in_range { IfSome result ColorInRange }
+{
+    match given.first {
+        0 => Some(ColorSpec::Default),
+        1 => Some(ColorSpec::PaletteIndex(u8::try_from(given.second).ok()?)),
+        2 => {
+            let red = given.red;
+            let green = given.green;
+            let blue = given.blue;
+            let alpha = given.alpha;
+            Some(ColorSpec::TrueColor(SrgbaTuple(red, green, blue, alpha)))
+        }
+        _ => None,
+    }
+}
+
+/// The first number, as that of a font that has a text.
+pub(crate) fn font(given: &Struct) -> Option<Font>
+    ensures value { Reads font_number IsTen given.now.first result }
+    ensures text { IfSome result HasText }
+{
+    match given.first {
+        0 => Some(Font::Default),
+        1..=9 => Some(Font::Alternate(u8::try_from(given.first).ok()?)),
+        _ => None,
+    }
+}
+
+pub(crate) fn intensity(number: i64) -> Option<Intensity>
+    ensures { (value : Intensity) → (result ≡ Some value) ↔ (number ≡ pos (intensity_number value)) }
+{
+    match number {
+        0 => Some(Intensity::Normal),
+        1 => Some(Intensity::Bold),
+        2 => Some(Intensity::Half),
+        _ => None,
+    }
+}
+
+pub(crate) fn underline(number: i64) -> Option<Underline>
+    ensures { (value : Underline) → (result ≡ Some value) ↔ (number ≡ pos (underline_number value)) }
+{
+    match number {
+        0 => Some(Underline::None),
+        1 => Some(Underline::Single),
+        2 => Some(Underline::Double),
+        3 => Some(Underline::Curly),
+        4 => Some(Underline::Dotted),
+        5 => Some(Underline::Dashed),
+        _ => None,
+    }
+}
+
+pub(crate) fn blink(number: i64) -> Option<Blink>
+    ensures { (value : Blink) → (result ≡ Some value) ↔ (number ≡ pos (blink_number value)) }
+{
+    match number {
+        0 => Some(Blink::None),
+        1 => Some(Blink::Slow),
+        2 => Some(Blink::Rapid),
+        _ => None,
+    }
+}
+
+pub(crate) fn align(number: i64) -> Option<VerticalAlign>
+    ensures { (value : VerticalAlign) → (result ≡ Some value) ↔ (number ≡ pos (align_number value)) }
+{
+    match number {
+        0 => Some(VerticalAlign::BaseLine),
+        1 => Some(VerticalAlign::SuperScript),
+        2 => Some(VerticalAlign::SubScript),
+        _ => None,
+    }
+}
+
+pub(crate) fn button(number: u8) -> Option<MouseButton>
+    ensures { (value : MouseButton) → (result ≡ Some value) ↔ (number ≡ button_number value) }
+{
+    match number {
+        0 => Some(MouseButton::None),
+        1 => Some(MouseButton::Button1Press),
+        2 => Some(MouseButton::Button2Press),
+        3 => Some(MouseButton::Button3Press),
+        4 => Some(MouseButton::Button4Press),
+        5 => Some(MouseButton::Button5Press),
+        6 => Some(MouseButton::Button6Press),
+        7 => Some(MouseButton::Button7Press),
+        11 => Some(MouseButton::Button1Release),
+        12 => Some(MouseButton::Button2Release),
+        13 => Some(MouseButton::Button3Release),
+        14 => Some(MouseButton::Button4Release),
+        15 => Some(MouseButton::Button5Release),
+        16 => Some(MouseButton::Button6Release),
+        17 => Some(MouseButton::Button7Release),
+        21 => Some(MouseButton::Button1Drag),
+        22 => Some(MouseButton::Button2Drag),
+        23 => Some(MouseButton::Button3Drag),
+        _ => None,
+    }
+}
+
+/// The first number, as that of an item of graphics, by its name where it has one.
+pub(crate) fn item(given: &Struct) -> XtSmGraphicsItem
+    ensures number { item_number result ≡ given.now.first }
+    ensures named { IsNamedItem result }
+{
+    match given.first {
+        1 => XtSmGraphicsItem::NumberOfColorRegisters,
+        2 => XtSmGraphicsItem::SixelGraphicsGeometry,
+        3 => XtSmGraphicsItem::RegisGraphicsGeometry,
+        number => XtSmGraphicsItem::Unspecified(number),
+    }
+}

@@ -145,7 +145,7 @@ def folder_that_keeps(kit, room, module):
 def object_of(kit, place, name):
     """Where a crate's object for a processor lies, or its archive, what its stamp must say, and whether it was built of these sources."""
     to = f"{TOP}/out/release/{place}/{name}.{'a' if name == LIBRARY else 'o'}"
-    stamp, is_there = f"{contents(name)} {kit.line} {' '.join(TARGETS[place][1])}", False
+    stamp, is_there = f"{shared(f'sum_of_crates {name}')} {kit.line} {' '.join(TARGETS[place][1])}", False
     if os.path.isfile(f"{to}.stamp") and os.path.isfile(to):
         with open(f"{to}.stamp", encoding="utf-8") as file:
             is_there = file.read() == f"{stamp} {sum_of(to)}"

@@ -187,9 +187,9 @@ def link_program(kit, place, made, to, room):
     target = TARGETS[place][0]
     own = tempfile.mkdtemp(dir=room)
     texts = [f'-DSTREAM_WORDS="{STREAM_WORDS}"', f'-DVALUED_WORDS="{VALUED_WORDS}"']
-    files = [kit.c_object(target, "program", f"{own}/program.o", "-fPIE", *texts), kit.c_object(target, "heap", f"{own}/heap.o", "-fPIE")]
-    if place == HERE:
-        files.append(kit.c_object(target, "copy", f"{own}/copy.o", "-fPIE"))
+    files = [kit.c_object(target, "program", f"{own}/program.o", "-fPIE", *texts)]
+    for name in ("heap", "wide", *(["copy"] if place == HERE else [])):
+        files.append(kit.c_object(target, name, f"{own}/{name}.o", "-fPIE"))
     for name, entry in ENTRIES.items():
         kit.tool("llvm-objcopy", "--redefine-sym", f"main={entry}", made[place, name], f"{own}/{name}.o")
         files.append(f"{own}/{name}.o")

@@ -85,10 +85,11 @@ def module(kit, made, name, to, room):
     with open(f"{own}/it.ll", "w", encoding="utf-8") as file:
         file.write(text)
     run(kit.clang, f"--target={TARGET}", "-O3", *FEATURES, "-w", "-ffunction-sections", "-c", f"{own}/it.ll", "-o", f"{own}/it.o")
-    kit.c_object(TARGET, "web", f"{own}/web.o", "-fno-builtin", *FEATURES, *(["-DPROGRAM"] if is_program else []))
+    for part in ("web", "wide"):
+        kit.c_object(TARGET, part, f"{own}/{part}.o", "-fno-builtin", *FEATURES, *(["-DPROGRAM"] if is_program else []))
     exports = ["run"] if is_program else calls()
     how = ["--no-entry", "--gc-sections", "--strip-all", "--stack-first", "-z", "stack-size=1048576", *(f"--export={it}" for it in exports)]
-    kit.tool("wasm-ld", "-mwasm64", *how, "-o", f"{own}/it.wasm", f"{own}/it.o", f"{own}/web.o")
+    kit.tool("wasm-ld", "-mwasm64", *how, "-o", f"{own}/it.wasm", f"{own}/it.o", f"{own}/web.o", f"{own}/wide.o")
     with open(f"{own}/it.wasm", "rb") as file:
         held = table_of_32_bits(file.read())
     with open(f"{own}/it.wasm", "wb") as file:

@@ -83,7 +83,7 @@ fn by_point<'a>(
 }
 
 /// What is held down, and what happens to the key.
-#[derive(Clone, Copy, Debug, PartialEq, Eq)]
+#[derive(Clone, Copy)]
 struct Press {
     /// 1, and the sum of the bits of the modifiers.
     modifiers: i64,
@@ -127,7 +127,7 @@ impl Press {
 }
 
 /// Which key it is.
-#[derive(Clone, Copy, Debug, PartialEq, Eq)]
+#[derive(Clone, Copy)]
 enum Code {
     Name(&'static str),
     /// The key of a character, by its number.
@@ -135,7 +135,7 @@ enum Code {
 }
 
 /// A key, with what is held down, and the text that it gives.
-#[derive(Clone, Copy, Debug)]
+#[derive(Clone, Copy)]
 pub struct Key<'a> {
     key: Code,
     press: Press,
@@ -152,10 +152,9 @@ impl<'a> fmt::Display for Key<'a> {
             Code::Point(code) => character(f, code)?,
         }
         if !self.text.is_empty() {
-            f.write_str(if self.key == Code::Name("") {
-                "text "
-            } else {
-                ", text "
+            f.write_str(match self.key {
+                Code::Name("") => "text ",
+                Code::Name(_) | Code::Point(_) => ", text ",
             })?;
             write_text(f, self.text)?;
         }

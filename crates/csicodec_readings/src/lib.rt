@@ -21,7 +21,7 @@ use crate::keys::key_of;
 use crate::list::{intermediate, is_regular, marker, number};
 use crate::otherwise::{Otherwise, read_otherwise};
 use crate::sets::Escape;
-use crate::table::{Key, words};
+use crate::table::{Parts, words};
 use crate::template::fill;
 use crate::told::tell_numbers;
 use csicodec_base::{CsiParam, Esc};
@@ -118,7 +118,7 @@ fn unread<W: fmt::Write>(f: &mut fmt::Formatter<W>, unknown: &Unspecified) -> fm
     if let Some(key) = key_of(params, control) {
         return write!(f, "{key}");
     }
-    let form = Key {
+    let form = Parts {
         marker: marker(params),
         between: intermediate(params),
         control,

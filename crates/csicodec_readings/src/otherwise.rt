@@ -5,7 +5,7 @@ use csicodec_base::CsiParam;
 use std::fmt;
 
 /// How a terminal reads a sequence otherwise.
-#[derive(Clone, Copy, Debug, PartialEq, Eq)]
+#[derive(Clone, Copy)]
 pub enum Otherwise {
     /// In place of the action.
     Instead(Instead),
@@ -14,7 +14,7 @@ pub enum Otherwise {
 }
 
 /// What a terminal reads in place of the action.
-#[derive(Clone, Copy, Debug, PartialEq, Eq)]
+#[derive(Clone, Copy)]
 pub enum Instead {
     /// A mouse's button from 8 on: bit 128 of its code stands for 8 to 11 (xterm's ctlseqs, Mouse Tracking).
     Mouse {

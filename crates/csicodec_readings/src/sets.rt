@@ -3,7 +3,7 @@
 use std::fmt;
 
 /// What an escape sequence is that has no code.
-#[derive(Clone, Copy, Debug, PartialEq, Eq)]
+#[derive(Clone, Copy)]
 pub enum Escape {
     /// One whose name and deed stand in a table.
     Named(&'static str),

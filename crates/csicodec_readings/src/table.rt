@@ -6,8 +6,8 @@ use crate::ecma::ECMA;
 use crate::others::{KITTY, LINUX, XTERM};
 
 /// A control sequence by its parts: the marker and the intermediate byte, 0 where there is none, and the final character.
-#[derive(Clone, Copy, Debug, PartialEq, Eq)]
-pub struct Key {
+#[derive(Clone, Copy, PartialEq, Eq)]
+pub struct Parts {
     /// One of `< = > ?`.
     pub marker: u8,
     /// The last byte before the final one, from `' '` to `'/'`.
@@ -20,9 +20,9 @@ pub struct Key {
 pub type Row = (u8, u8, char, Option<i64>, &'static str);
 
 /// The words of the first row of a table that has this form, and this first number where it has one.
-fn find(rows: &[Row], form: Key, first: i64) -> Option<&'static str> {
+fn find(rows: &[Row], form: Parts, first: i64) -> Option<&'static str> {
     for (marker, between, control, number, words) in rows {
-        let same = Key {
+        let same = Parts {
             marker: *marker,
             between: *between,
             control: *control,
@@ -35,7 +35,7 @@ fn find(rows: &[Row], form: Key, first: i64) -> Option<&'static str> {
 }
 
 /// The words of a control sequence of this form whose first number is this, 0 where it is left out.
-pub fn words(form: Key, first: i64) -> Option<&'static str> {
+pub fn words(form: Parts, first: i64) -> Option<&'static str> {
     for rows in [
         KITTY.as_slice(),
         XTERM.as_slice(),

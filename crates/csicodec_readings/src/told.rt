@@ -2,7 +2,7 @@
 
 use crate::list::{count_fields, marker, number, positive};
 use crate::otherwise::held;
-use crate::table::Key;
+use crate::table::Parts;
 use crate::template::fill;
 use csicodec_base::CsiParam;
 use csicodec_words::{private_mode_name, tell_extension, terminal_mode_name};
@@ -11,7 +11,7 @@ use std::fmt;
 /// Tells a sequence of this form; false, and nothing is written, where it is none of these.
 pub fn tell_numbers<W: fmt::Write>(
     f: &mut fmt::Formatter<W>,
-    form: Key,
+    form: Parts,
     params: &[CsiParam],
 ) -> Result<bool, fmt::Error> {
     let first = number(params, 0).unwrap_or(0);

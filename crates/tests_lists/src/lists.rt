@@ -106,9 +106,13 @@ fn keeps_flag(
     actions: &[CSI],
 ) -> Result<bool, AllocError> {
     let cut = parse_all(alloc, list, true, control)?;
+    for (at, one) in cut.iter().enumerate() {
+        if !actions.get(at).is_some_and(|other| is_flagged(one, other)) {
+            return Ok(false);
+        }
+    }
     let same = encode_all(alloc, &cut)? == encode_all(alloc, actions)?;
-    let mut pairs = cut.iter().zip(actions);
-    Ok(same && cut.len() == actions.len() && pairs.all(|(one, other)| is_flagged(one, other)))
+    Ok(same && cut.len() == actions.len())
 }
 
 /// `list TOKEN.. CONTROL`: the actions, all at once, and their texts; one by one and with the flag they are the same.

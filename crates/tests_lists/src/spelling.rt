@@ -41,13 +41,12 @@ pub(crate) fn list_of(alloc: Global, words: &str) -> Result<(Vec<CsiParam>, char
 /// The bytes that a word spells, with `\e` for ESC.
 pub(crate) fn bytes_of(alloc: Global, word: &str) -> Result<Vec<u8>, AllocError> {
     let mut bytes = Vec::new(alloc);
-    let mut rest = word;
-    while let Some((front, behind)) = rest.split_once("\\e") {
-        bytes.extend_from_slice(front.as_bytes())?;
-        bytes.push(0x1b)?;
-        rest = behind;
+    for (at, part) in word.split("\\e").enumerate() {
+        if at > 0 {
+            bytes.push(0x1b)?;
+        }
+        bytes.extend_from_slice(part.as_bytes())?;
     }
-    bytes.extend_from_slice(rest.as_bytes())?;
     Ok(bytes)
 }
 

@@ -1,4 +1,5 @@
 //! Normal forms, of sequences alone and in streams; and the lines of the errors.
+ghost use Rattle.std.specs.Prelude.{◌<◌};
 
 use crate::spelling::{bytes_of, law, spelled};
 use csicodec_base::ReadError;

@@ -1,4 +1,5 @@
 //! Streams cut into spans.
+ghost use Rattle.std.specs.Prelude.{◌<◌};
 
 use crate::spelling::{bytes_of, law, spelled};
 use csicodec_spans::{Kind, Mode, Spans, next_span};

@@ -1,10 +1,13 @@
 //! How a row spells bytes.
+ghost use Rattle.std.specs.Prelude.{◌<◌};
 
 use csicodec_strings::append_escaped;
 use std::alloc::{AllocError, Global};
 
 /// The number that a digit of base 16 is.
-fn digit(byte: u8) -> u8 {
+fn digit(byte: u8) -> u8
+    ensures { result < 16 }
+{
     match byte {
         b'0'..=b'9' => byte - b'0',
         b'a'..=b'f' => byte - b'a' + 10,

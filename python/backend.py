@@ -47,7 +47,7 @@ def write_wheel(dist, place, folder, licences, epoch):
     for name in sorted(os.listdir(f"{HERE}/csicodec")):
         if name.endswith((".py", ".typed")):
             files[f"csicodec/{name}"] = (f"{HERE}/csicodec/{name}", 0o644)
-    files["csicodec/libcsicodec.so"] = (f"{dist}/{place}/python.so", 0o755)
+    files["csicodec/libcsicodec.so"] = (f"{dist}/{place}/libcsicodec.so", 0o755)
     files["csicodec/program"] = (f"{dist}/{place}/csicodec", 0o755)
     for path in licences:
         files[f"{info}/licenses/{os.path.basename(path)}"] = (path, 0o644)

@@ -1,5 +1,5 @@
-/* For languages where a call of C is dear, as Python: many events of a stream by one call, over csicodec_next_event of the headers. It is
- * a part of Python's library alone. */
+/* For languages where a call of C is dear, as Python: many events of a stream by one call, over csicodec_next_event of the headers. The
+ * shared library has these calls beside those of the headers, which promise nothing of them. */
 #include "csicodec.h"
 
 /* An event, in 40 bytes without gaps: enum csicodec_event_kind; a status, or of an escape sequence its code; where its bytes are; its

@@ -17,7 +17,7 @@ TARGETS = {HERE: ("x86_64-unknown-linux-gnu", ["--cpu", "x86-64"]), "aarch64-lin
 # Which version of C's calls the shared library asks for: the oldest that the processor has.
 GLIBC = {HERE: "2.2.5", "aarch64-linux": "2.17"}
 LOADER = {HERE: "x86_64", "aarch64-linux": "aarch64"}
-PYTHON_CALLS = ["csicodec_size_of_stream", "csicodec_begin", "csicodec_tell"]
+MANY_EVENTS = ["csicodec_size_of_stream", "csicodec_begin", "csicodec_tell"]
 C_CALLS = ("malloc", "realloc", "free", "memcpy", "memmove", "memset", "memcmp", "memchr", "bcmp")
 C_FLAGS = ["-O2", "-ffreestanding", "-ffunction-sections", "-fno-asynchronous-unwind-tables", "-Wall", "-Wextra", "-Werror"]
 
@@ -198,8 +198,8 @@ def link_program(kit, place, made, to, room):
 
 
 def link_library(kit, place, made, folder, room):
-    """The archive, with the calls of the heap in it; the shared library, which exports the calls of the header and nothing else; and
-    Python's, which has also those of system/events.c."""
+    """The archive, with the calls of the heap in it; and the shared library, which exports the calls of the header and of
+    system/events.c, and nothing else."""
     target, major = TARGETS[place][0], version().split(".")[0]
     own = tempfile.mkdtemp(dir=room)
     kit.tool("llvm-ar", "x", made[place, LIBRARY], cwd=own)
@@ -219,12 +219,11 @@ def link_library(kit, place, made, folder, room):
     run(kit.clang, f"--target={target}", "-ffreestanding", "-fPIC", "-fno-builtin", "-w", "-c", f"{own}/calls.c", "-o", f"{own}/calls.o")
     kit.tool("ld.lld", "-shared", "-soname", "libc.so.6", "--version-script", f"{own}/versions", "-o", f"{own}/libc.so.6", f"{own}/calls.o")
     kit.c_object(target, "events", f"{own}/events.o", "-fPIC", f"-I{TOP}/system/headers", f"-I{TOP}/include")
-    for name, more, others in (("libcsicodec.so", [], []), ("python.so", PYTHON_CALLS, [f"{own}/events.o"])):
-        with open(f"{own}/names", "w", encoding="utf-8") as file:
-            file.write(f"CSICODEC_{major} {{ global: {'; '.join([*calls(), *more])}; local: *; }};\n")
-        how = ["-shared", "-soname", f"libcsicodec.so.{major}", "--version-script", f"{own}/names", "-z", "relro", "-z", "now", "-z", "defs"]
-        how += ["-z", "noexecstack", "--gc-sections", "--icf=safe", "--build-id=none", "--hash-style=gnu", "-s"]
-        kit.tool("ld.lld", *how, "-o", f"{folder}/{name}", f"{own}/csicodec.o", f"{own}/heap.o", *others, f"{own}/libc.so.6")
+    with open(f"{own}/names", "w", encoding="utf-8") as file:
+        file.write(f"CSICODEC_{major} {{ global: {'; '.join([*calls(), *MANY_EVENTS])}; local: *; }};\n")
+    how = ["-shared", "-soname", f"libcsicodec.so.{major}", "--version-script", f"{own}/names", "-z", "relro", "-z", "now", "-z", "defs", "-z", "noexecstack"]
+    how += ["--gc-sections", "--icf=safe", "--build-id=none", "--hash-style=gnu", "-s"]
+    kit.tool("ld.lld", *how, "-o", f"{folder}/libcsicodec.so", f"{own}/csicodec.o", f"{own}/heap.o", f"{own}/events.o", f"{own}/libc.so.6")
 
 
 def calls():
@@ -251,7 +250,7 @@ def manifest(kit, to, tools):
     found = sorted(os.path.relpath(f"{at}/{name}", to) for at, _, names in os.walk(to) for name in names if name != "MANIFEST")
     with open(f"{to}/MANIFEST", "w", encoding="utf-8") as file:
         file.write(f"version {version()}\nkit {kit.line}\n" + "".join(f"tool {tool}\n" for tool in tools))
-        file.writelines(f"sources {contents(name)} {name}\n" for name in MADE)
+        file.writelines(f"sources {contents(name)} {name}\n" for name in [*MADE, "web"])
         file.writelines(f"file {sum_of(f'{to}/{name}')} {os.path.getsize(f'{to}/{name}')} {name}\n" for name in found)
 
 
@@ -270,10 +269,10 @@ def read_manifest(folder):
     return sources, files, tools
 
 
-def is_of_these_sources(folder):
+def is_of_these_sources(folder, names):
     """Whether what lies there was made of the sources as they stand."""
     sources = read_manifest(folder)[0]
-    return sources == {name: contents(name) for name in MADE}
+    return all(sources.get(name) == contents(name) for name in names)
 
 
 def faults(folder):

@@ -108,7 +108,7 @@ def python(dist, out, room):
         file.write(backend.metadata())
     copy(["LICENSE", f"{dist}/NOTICE"], folder)
     for place in TARGETS:
-        copy([f"{dist}/{place}/python.so", f"{dist}/{place}/csicodec"], f"{folder}/dist/{place}")
+        copy([f"{dist}/{place}/libcsicodec.so", f"{dist}/{place}/csicodec"], f"{folder}/dist/{place}")
     pack(folder, name, f"{out}/{name}.tar.gz")
 
 

@@ -6,14 +6,16 @@ import gzip
 import os
 import re
 import shutil
+import sys
 import tempfile
 
-from release_build import EXPLAIN, LIBRARY, TOP, Stop, calls, run, version
+from release_build import EXPLAIN, LIBRARY, TOP, Stop, calls, run, sum_of, version
 
 TARGET = "wasm64-unknown-unknown"
 FEATURES = ["-mbulk-memory", "-mnontrapping-fptoint", "-msign-ext"]
 ENABLED = ["--enable-bulk-memory", "--enable-nontrapping-float-to-int", "--enable-sign-ext", "--enable-mutable-globals", "--enable-memory64"]
 LAYOUT = 'target datalayout = "e-m:e-p:64:64-p10:8:8-p20:8:8-i64:64-i128:128-n32:64-S128"'
+PARTS = ("web", "wide")
 # The page, with what stands in place of each line <!-- NAME -->.
 PAGE = {"csicodec.mjs": "module", "worker.mjs": "worker"}
 
@@ -78,14 +80,30 @@ def table_of_32_bits(held):
 
 
 def module(kit, made, name, to, room):
-    """The module of a crate."""
+    """The module of a crate, or what was made of the same."""
+    source = f"{os.path.splitext(made['aarch64-linux', name])[0]}.ll"
+    kept, stamp = f"{TOP}/out/release/web/{name}.wasm", " ".join(map(sum_of, (source, __file__, *(f"{TOP}/system/{part}.c" for part in PARTS)))) + tool()
+    os.makedirs(os.path.dirname(kept), exist_ok=True)
+    if os.path.isfile(f"{kept}.stamp") and os.path.isfile(kept):
+        with open(f"{kept}.stamp", encoding="utf-8") as file:
+            if file.read() == f"{stamp} {sum_of(kept)}":
+                shutil.copy(kept, to)
+                return
+    print(f"release: {name} for WebAssembly", file=sys.stderr, flush=True)
+    build_module(kit, name, source, kept, room)
+    with open(f"{kept}.stamp", "w", encoding="utf-8") as file:
+        file.write(f"{stamp} {sum_of(kept)}")
+    shutil.copy(kept, to)
+
+
+def build_module(kit, name, source, to, room):
     own, is_program = tempfile.mkdtemp(dir=room), name == EXPLAIN
-    with open(f"{os.path.splitext(made['aarch64-linux', name])[0]}.ll", encoding="utf-8") as file:
+    with open(source, encoding="utf-8") as file:
         text = lowered(file.read())
     with open(f"{own}/it.ll", "w", encoding="utf-8") as file:
         file.write(text)
     run(kit.clang, f"--target={TARGET}", "-O3", *FEATURES, "-w", "-ffunction-sections", "-c", f"{own}/it.ll", "-o", f"{own}/it.o")
-    for part in ("web", "wide"):
+    for part in PARTS:
         kit.c_object(TARGET, part, f"{own}/{part}.o", "-fno-builtin", *FEATURES, *(["-DPROGRAM"] if is_program else []))
     exports = ["run"] if is_program else calls()
     how = ["--no-entry", "--gc-sections", "--strip-all", "--stack-first", "-z", "stack-size=1048576", *(f"--export={it}" for it in exports)]

@@ -24,6 +24,45 @@ static void *block(size_t size) {
     return made;
 }
 
+/* What is told, as one number: each byte of text, of a string and of what is malformed alone, since these may be cut anywhere. */
+static uint64_t told;
+
+static void tell(uint64_t kind, uint64_t value) {
+    told = (told ^ (kind << 56 ^ value)) * 1099511628211u;
+}
+
+static void tell_event(const struct csicodec_stream *stream, const struct csicodec_event *event) {
+    size_t i;
+    if (event->kind == CSICODEC_EVENT_ACTIONS) {
+        tell(1, event->actions);
+        for (i = 0; i < event->actions && i < stream->actions_room; i++) tell(stream->actions[i].kind, (uint64_t)stream->actions[i].first);
+    } else if (event->kind == CSICODEC_EVENT_ESC) {
+        tell(2, (uint64_t)event->code << 16 | (uint64_t)event->intermediate << 8 | event->final_byte);
+    } else {
+        if (event->first) tell(3, event->string);
+        for (i = 0; i < event->len; i++) tell(event->used ? 4 + event->kind : 4, event->bytes[i]);
+        if (event->last) tell(10, event->string);
+    }
+}
+
+/* The same events in one piece and in two, and as many bytes that wait. */
+static int any_pieces(const uint8_t *bytes, size_t len) {
+    struct csicodec_action actions[3];
+    size_t limit = 1 + any(20), cut = any((uint32_t)len + 1), waits[2];
+    uint64_t all[2];
+    for (int pieces = 0; pieces < 2; pieces++) {
+        struct csicodec_stream stream = csicodec_stream_of(limit, actions, 3, NULL, 0);
+        struct csicodec_event event;
+        size_t at = 0;
+        told = 0;
+        if (pieces)
+            for (; csicodec_next_event(&stream, bytes + at, cut - at, &event); at += event.used) tell_event(&stream, &event);
+        for (; csicodec_next_event(&stream, bytes + at, len - at, &event); at += event.used) tell_event(&stream, &event);
+        all[pieces] = told, waits[pieces] = len - at;
+    }
+    return all[0] == all[1] && waits[0] == waits[1];
+}
+
 static int all_calls(const uint8_t *bytes, size_t len) {
     size_t room = any(40), actions_room = any(4), params_room = any(6);
     uint8_t *out = block(room);
@@ -72,7 +111,7 @@ int main(int count, char **words) {
         size_t len = any(40);
         uint8_t *bytes = block(len);
         for (size_t j = 0; j < len; j++) bytes[j] = any_byte();
-        if (!all_calls(bytes, len)) {
+        if (!all_calls(bytes, len) || !any_pieces(bytes, len)) {
             fprintf(stderr, "random: turn %ld isn't as promised\n", i);
             return 1;
         }

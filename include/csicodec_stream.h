@@ -168,11 +168,12 @@ static inline int csicodec_without_controls(struct csicodec_stream *stream, cons
 }
 
 /* A malformed sequence behind ESC [. If it has C0 controls, each is an event of text, and then the sequence without them and without
- * DEL is read, as DEC's terminals and xterm do: this waits for its final byte. */
+ * DEL is read, as DEC's terminals and xterm do: this waits for its final byte. Beyond the limit all is malformed, controls too, in
+ * whatever pieces it comes. */
 static inline int csicodec_wrong_event(struct csicodec_stream *stream, const uint8_t *bytes, struct csicodec_spanned span,
                                        struct csicodec_event *event) {
-    size_t i;
-    for (i = stream->inside ? stream->inside : 2; i < span.used; i++) {
+    size_t i, end = span.used < stream->limit ? span.used : stream->limit;
+    for (i = stream->inside ? stream->inside : 2; i < end; i++) {
         if (bytes[i] >= 0x20) continue;
         event->kind = CSICODEC_EVENT_TEXT;
         event->bytes = bytes + i;

@@ -311,11 +311,13 @@ impl Reader {
     }
 
     /// What went wrong behind `ESC [`. Where it is for controls of C0, each is told, and then the sequence without them and
-    /// without DEL is read, as DEC's terminals and xterm do.
+    /// without DEL is read, as DEC's terminals and xterm do. Beyond the limit all is malformed, controls too, in whatever pieces it
+    /// comes.
     fn wrong<'a>(&mut self, bytes: &'a [u8], wrong: Wrong) -> (Event<'a>, usize) {
         let Wrong { told, used, mode } = wrong;
         let bytes = &bytes[..used];
-        if let Some(place) = bytes[told..].iter().position(|byte| *byte < 0x20) {
+        let near = &bytes[told..used.min(self.limit)];
+        if let Some(place) = near.iter().position(|byte| *byte < 0x20) {
             let told = told + place + 1;
             self.wrong = Some(Wrong { told, ..wrong });
             return (Event::Text(&bytes[told - 1..told]), 0);

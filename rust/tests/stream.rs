@@ -75,6 +75,21 @@ fn every_cut() {
 }
 
 #[test]
+fn controls_at_the_limit() {
+    let stream = [b"\x1b[".as_slice(), &b"1\n".repeat(40_000), b"m"].concat();
+    let mut wanted = Vec::new();
+    events(&stream).for_each(|event| tell(&mut wanted, event));
+    for size in [1_000, 65_536, 70_000] {
+        let mut all = Vec::new();
+        let mut parser = Parser::new();
+        for piece in stream.chunks(size) {
+            parser.advance(piece, &mut |event| tell(&mut all, event));
+        }
+        assert!(all == wanted, "in pieces of {size}");
+    }
+}
+
+#[test]
 fn parts_and_names() {
     let all: Vec<_> = spans(STREAM).collect();
     assert_eq!(

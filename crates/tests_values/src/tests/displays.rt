@@ -60,39 +60,18 @@ fn escapes(rt: HostRuntime) -> Result<(), Fail> {
     Ok(())
 }
 
-const OPAQUE: ColorSpec = ColorSpec::TrueColor(SrgbaTuple(255, 255, 255, 255));
-
-const SEEN_THROUGH: ColorSpec = ColorSpec::TrueColor(SrgbaTuple(255, 255, 255, 254));
-
-static COLORS: [Sgr; 6] = [
-    Sgr::Foreground(SEEN_THROUGH),
-    Sgr::Background(SEEN_THROUGH),
-    Sgr::UnderlineColor(SEEN_THROUGH),
-    Sgr::Foreground(OPAQUE),
-    Sgr::Background(OPAQUE),
-    Sgr::UnderlineColor(OPAQUE),
-];
-
-static TOKENS: [CsiParam; 5] = [
-    CsiParam::P(0),
-    CsiParam::P(255),
-    CsiParam::Integer(0),
-    CsiParam::Integer(i64::MIN),
-    CsiParam::Integer(i64::MAX),
-];
-
-static ITEMS: [XtSmGraphicsItem; 4] = [
-    XtSmGraphicsItem::NumberOfColorRegisters,
-    XtSmGraphicsItem::SixelGraphicsGeometry,
-    XtSmGraphicsItem::RegisGraphicsGeometry,
-    XtSmGraphicsItem::Unspecified(i64::MIN),
-];
-
 /// The longest attributes and the longest of the cursor, and the parts that stand in other texts.
 #[test]
 fn longest(rt: HostRuntime) -> Result<(), Fail> {
-    for sgr in &COLORS {
-        let _said = sgr.to_string(rt.alloc())?;
+    for alpha in [254, 255] {
+        let color = ColorSpec::TrueColor(SrgbaTuple(255, 255, 255, alpha));
+        for sgr in [
+            Sgr::Foreground(color),
+            Sgr::Background(color),
+            Sgr::UnderlineColor(color),
+        ] {
+            let _said = sgr.to_string(rt.alloc())?;
+        }
     }
     let most = place(MOST);
     for cursor in [
@@ -120,10 +99,21 @@ fn longest(rt: HostRuntime) -> Result<(), Fail> {
         let _said = cursor.to_string(rt.alloc())?;
     }
     let _said = most.to_string(rt.alloc())?;
-    for token in &TOKENS {
+    for token in [
+        CsiParam::P(0),
+        CsiParam::P(255),
+        CsiParam::Integer(0),
+        CsiParam::Integer(i64::MIN),
+        CsiParam::Integer(i64::MAX),
+    ] {
         let _said = token.to_string(rt.alloc())?;
     }
-    for item in &ITEMS {
+    for item in [
+        XtSmGraphicsItem::NumberOfColorRegisters,
+        XtSmGraphicsItem::SixelGraphicsGeometry,
+        XtSmGraphicsItem::RegisGraphicsGeometry,
+        XtSmGraphicsItem::Unspecified(i64::MIN),
+    ] {
         let _said = item.to_string(rt.alloc())?;
     }
     Ok(())

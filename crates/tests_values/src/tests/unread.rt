@@ -40,29 +40,26 @@ fn attributes_and_edits(rt: HostRuntime) -> Result<(), Fail> {
     Ok(())
 }
 
-/// Counts of 0, which are read as 1.
-static CURSORS: [(Cursor, &str); 14] = [
-    (Cursor::Up(0), "\x1b[0A"),
-    (Cursor::Down(0), "\x1b[0B"),
-    (Cursor::Right(0), "\x1b[0C"),
-    (Cursor::Left(0), "\x1b[0D"),
-    (Cursor::NextLine(0), "\x1b[0E"),
-    (Cursor::PrecedingLine(0), "\x1b[0F"),
-    (Cursor::ForwardTabulation(0), "\x1b[0I"),
-    (Cursor::BackwardTabulation(0), "\x1b[0Z"),
-    (Cursor::LineTabulation(0), "\x1b[0Y"),
-    (Cursor::CharacterPositionForward(0), "\x1b[0a"),
-    (Cursor::CharacterPositionBackward(0), "\x1b[0j"),
-    (Cursor::LinePositionAbsolute(0), "\x1b[0d"),
-    (Cursor::LinePositionForward(0), "\x1b[0e"),
-    (Cursor::LinePositionBackward(0), "\x1b[0k"),
-];
-
-/// These, and the margins at the edges, whose text saves the cursor.
+/// Counts of 0, and the margins at the edges, whose text saves the cursor.
 #[test]
 fn cursor(rt: HostRuntime) -> Result<(), Fail> {
-    for (value, text) in &CURSORS {
-        check(&rt, rt.alloc(), CSI::Cursor(*value), false, text, false)?;
+    for (value, text) in [
+        (Cursor::Up(0), "\x1b[0A"),
+        (Cursor::Down(0), "\x1b[0B"),
+        (Cursor::Right(0), "\x1b[0C"),
+        (Cursor::Left(0), "\x1b[0D"),
+        (Cursor::NextLine(0), "\x1b[0E"),
+        (Cursor::PrecedingLine(0), "\x1b[0F"),
+        (Cursor::ForwardTabulation(0), "\x1b[0I"),
+        (Cursor::BackwardTabulation(0), "\x1b[0Z"),
+        (Cursor::LineTabulation(0), "\x1b[0Y"),
+        (Cursor::CharacterPositionForward(0), "\x1b[0a"),
+        (Cursor::CharacterPositionBackward(0), "\x1b[0j"),
+        (Cursor::LinePositionAbsolute(0), "\x1b[0d"),
+        (Cursor::LinePositionForward(0), "\x1b[0e"),
+        (Cursor::LinePositionBackward(0), "\x1b[0k"),
+    ] {
+        check(&rt, rt.alloc(), CSI::Cursor(value), false, text, false)?;
     }
     let margins = Cursor::SetLeftAndRightMargins {
         left: place(1),

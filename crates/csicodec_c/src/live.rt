@@ -1,9 +1,8 @@
 //! Untrusted text as it comes, by a state that the caller keeps.
 ghost use Rattle.std.specs.Prelude.{◌≡◌, ◌≤◌, ◌⊎◌, Bool, length, IfSome, IfNone};
 ghost use Rattle.csicodec_clean.specs.declared.pause.Pause.{Pause};
-ghost use Rattle.csicodec_c.specs.Live.{IsCleanRefused, IsCleanStep, IsEnd, IsEndRefused, IsState, IsStripRefused, IsStripStep, cleaned, numbers, refused};
+ghost use Rattle.csicodec_c.specs.Live.{IsCleanRefused, IsCleanStep, IsEnd, IsEndRefused, IsState, IsStripRefused, IsStripStep, numbers, refused};
 ghost use Rattle.csicodec_c.specs.Strip.{bit};
-ghost use Rattle.csicodec_structs.specs.Room.{Fills};
 
 use crate::filter::{mode_at, number_of};
 use crate::strip::{Stripped, bit_at, depth_at, put, refused as nothing};
@@ -92,21 +91,6 @@ fn numbers(pause: Pause) -> Cleaning
     }
 }
 
-/// Puts what a step left, where it fits: of so many bytes, with the state behind them.
-fn put_step(text: &[u8], used: usize, after: Pause, out: &mut [u8]) -> Cleaned
-    requires { after.held ≤ 3 }
-    ensures tells { result ≡ cleaned after used (length text.now) }
-    ensures fills { Fills out.old out.new text.now }
-{
-    fill(out, text);
-    Cleaned {
-        status: Status::Done.number(),
-        state: numbers(after),
-        used,
-        needed: text.len(),
-    }
-}
-
 /// Puts what is left of the bytes that are sure, as plain text, where it fits.
 #[unsafe(no_mangle)]
 pub extern "C" fn csicodec_strip_step(
@@ -125,7 +109,13 @@ pub extern "C" fn csicodec_strip_step(
     let Ok((used, after)) = strip_step(alloc, pause, bytes, &mut text) else {
         return refused(Status::Memory);
     };
-    put_step(text.as_slice(), used, after, out)
+    fill(out, text.as_slice());
+    Cleaned {
+        status: Status::Done.number(),
+        state: numbers(after),
+        used,
+        needed: text.len(),
+    }
 }
 
 /// The same with the styles that stay, in the colours of a depth.
@@ -147,7 +137,13 @@ pub extern "C" fn csicodec_clean_step(
     let Ok((used, after)) = clean_step(alloc, depth, pause, bytes, &mut text) else {
         return refused(Status::Memory);
     };
-    put_step(text.as_slice(), used, after, out)
+    fill(out, text.as_slice());
+    Cleaned {
+        status: Status::Done.number(),
+        state: numbers(after),
+        used,
+        needed: text.len(),
+    }
 }
 
 /// Puts what ends a stream behind its last step, where it fits: `bytes` are those that no step used.

@@ -1,6 +1,6 @@
 //! What the words of a command line ask for.
 
-use csicodec_command::{Color, Command, Depth, USAGE, command_of};
+use csicodec_command::{ColorWhen, Colors, Command, USAGE, command_of};
 use std::alloc::{AllocError, Global};
 
 /// `command WORD..`: what the words of a command line ask for.
@@ -15,7 +15,7 @@ pub(crate) fn command(alloc: Global, line: &str) -> Result<String, AllocError> {
             let (task, files, wanted) = (run.task, run.files.as_slice(), run.wanted);
             let (count, full, json) = (wanted.count, wanted.full, wanted.json);
             let (unknown, only) = (wanted.unknown, wanted.only.unwrap_or("all"));
-            if run.depth != Depth::Full {
+            if run.depth != Colors::Full {
                 let depth = run.depth;
                 return format!(in alloc; "{task:?} {files:?} {depth:?}");
             }
@@ -25,7 +25,7 @@ pub(crate) fn command(alloc: Global, line: &str) -> Result<String, AllocError> {
             if run.faithful {
                 return format!(in alloc; "{task:?} {files:?} faithful");
             }
-            if run.color != Color::Auto || run.timing.is_some() || wanted.decode {
+            if run.color != ColorWhen::Auto || run.timing.is_some() || wanted.decode {
                 let (color, timing) = (run.color, run.timing.unwrap_or("none"));
                 let decode = wanted.decode;
                 return format!(in alloc; "{color:?} {timing} {decode}");

@@ -67,7 +67,7 @@ export class Codec {
     /** A whole stream with each control sequence in its normal form. */
     filter(input: string): string;
     filter(input: ArrayBuffer | ArrayBufferView): Uint8Array;
-    /** A whole stream in the shortest spelling that is found, never longer. */
+    /** A whole stream, each control sequence in the shortest spelling that is found, never longer. */
     compact(input: string, options?: { semicolons?: boolean }): string;
     compact(input: ArrayBuffer | ArrayBufferView, options?: { semicolons?: boolean }): Uint8Array;
     /** The spans of a stream, in words. */

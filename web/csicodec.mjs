@@ -159,7 +159,8 @@ export class Codec {
     /** Any whole stream with each control sequence in its normal form. */
     filter(input) { return this.#stream(input, (calls, ...words) => calls.csicodec_filter(...words)); }
 
-    /** The same stream for a terminal in the shortest spelling that is found, never longer. */
+    /** The same stream for a terminal, each control sequence in the shortest spelling that is found, never longer. (The program also puts
+     * attributes of several sequences side by side.) */
     compact(input, { semicolons = false } = {}) {
         return this.#stream(input, (calls, ...words) => semicolons ? calls.csicodec_compact_semicolons(...words) : calls.csicodec_compact(...words));
     }

@@ -33,14 +33,16 @@ let modules, worker, number = 0, url;
 async function prepare() {
     const [library, explain] = await Promise.all(['csicodec-wasm', 'explain-wasm'].map(async id => WebAssembly.compile(await packed(id))));
     modules = { library, explain };
-    const source = $('module').textContent.replaceAll(/^export (?=class|function|async)/gm, '') + $('worker').textContent.replace(/^import .*$/m, '');
+    // One script and no module, which a page that comes from a file may not start.
+    const source = $('module').textContent.replaceAll(/^export (?=class|function|async)/gm, '').replaceAll('import.meta.url', 'location.href')
+        + $('worker').textContent.replace(/^import .*$/m, '');
     url = URL.createObjectURL(new Blob([source], { type: 'text/javascript' }));
 }
 /** Asks the worker; one that is busy with an older request is ended. */
 function ask(task, told) {
     if (worker?.busy) { worker.terminate(); worker = undefined; }
     if (!worker) {
-        worker = new Worker(url, { type: 'module' });
+        worker = new Worker(url);
         worker.onerror = event => { worker.busy = false; told({ done: true, fault: event.message ?? 'the worker failed' }); };
     }
     const id = ++number;
@@ -153,7 +155,7 @@ function save() {
     if (!result) return;
     const it = document.createElement('a');
     it.href = URL.createObjectURL(result);
-    it.download = { explain: 'spans.jsonl', strip: 'plain.txt', compact: 'shortest.bin' }[view()];
+    it.download = { explain: 'spans.jsonl', strip: 'plain.txt', compact: 'shorter.bin' }[view()];
     it.click();
     setTimeout(() => URL.revokeObjectURL(it.href), 10_000);
 }

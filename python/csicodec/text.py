@@ -119,7 +119,8 @@ def filter(stream: AnyStr) -> AnyStr:
 
 
 def compact(stream: AnyStr, *, semicolons: bool = False) -> AnyStr:
-    """A whole stream for a terminal, in the shortest spelling that is found, never longer.
+    """A whole stream for a terminal, each control sequence in the shortest spelling that is found, never longer. (The program `csicodec
+    compact` also puts attributes of several sequences side by side.)
 
     >>> compact("\\x1b[0;01mred\\x1b[10;1H")
     '\\x1b[;1mred\\x1b[10H'

@@ -68,7 +68,8 @@ function cell(row, className, text) {
 }
 function rowsOf(line) {
     const span = JSON.parse(line), kind = { csi: 'csi', escape: 'esc', string: 'string', control: 'control' }[span.kind] ?? (span.kind === 'text' ? '' : 'bad');
-    const raw = span.text === undefined ? (span.hex ?? '').replace(/../g, it => `\\x${it}`) : visible(span.text);
+    const seen = span.text === undefined ? (span.hex ?? '').replace(/../g, it => `\\x${it}`) : visible(span.text);
+    const raw = span.kind === 'text' ? `"${seen}"` : seen;
     const shown = raw.length > 400 ? `${raw.slice(0, 400)} ..` : raw;
     const actions = span.actions?.length ? span.actions : [{ name: span.name ?? span.kind, words: span.words ?? '' }];
     actions.forEach((action, i) => {
@@ -76,7 +77,7 @@ function rowsOf(line) {
         cell(row, 'at', i ? '' : span.time === undefined ? String(span.at) : `${span.time} s`);
         cell(row, `bytes ${kind}`, i ? '' : shown);
         cell(row, 'name', visible(action.name ?? span.kind));
-        const isUnknown = !action.words && span.kind !== 'text' && span.kind !== 'control';
+        const isUnknown = action.name === 'unknown' || span.kind === 'malformed' || (!action.words && span.kind !== 'text' && span.kind !== 'control');
         cell(row, `words${isUnknown ? ' bad' : ''}`, action.words ? visible(action.words) : isUnknown ? 'not known' : '');
         if (action.name && !known.has(action.name)) {
             known.add(action.name);

@@ -14,9 +14,11 @@ _ACTION = struct.Struct("=IIqqIIIIQQBBBBHBB")
 _PARAM = struct.Struct("=Qq")
 _TOLD = struct.Struct("=IIQQIIII")
 _LIMIT = 65536
-#: The most actions that are kept by the bytes of their structs: streams repeat few of them.
+#: The most actions that are kept by the bytes of their structs, and short texts by theirs: streams repeat few of them.
 _KEPT = 4096
+_SHORT = 24
 _kept: Dict[bytes, Action] = {}
+_texts: Dict[bytes, Text] = {}
 
 
 @dataclass(frozen=True)
@@ -73,6 +75,16 @@ class Malformed:
 Event = Union[Text, Action, Esc, UnknownEsc, ControlString, Malformed]
 _STRINGS = {ord("]"): "OSC", ord("P"): "DCS", ord("X"): "SOS", ord("^"): "PM", ord("_"): "APC"}
 _CODES: Dict[int, Esc] = {int(code): Esc(code) for code in EscCode}
+
+
+def _text(held: bytes) -> Text:
+    """The text of some bytes, kept if it is short."""
+    made = Text(held.decode("utf-8", "surrogateescape"))
+    if len(held) <= _SHORT:
+        if len(_texts) >= _KEPT:
+            _texts.clear()
+        _texts[held] = made
+    return made
 
 
 def _action(row: bytes, params: memoryview) -> Action:
@@ -146,20 +158,23 @@ class Parser:
 
     def _tell(self, held: bytes, count: int, events: List[Event]) -> None:
         """Appends what was told."""
-        actions, params, kept, size = bytes(self._actions), memoryview(self._params), _kept, _ACTION.size
+        actions, params, kept, texts, size = bytes(self._actions), memoryview(self._params), _kept, _texts, _ACTION.size
+        append = events.append
         for kind, status, at, length, first, many, begins, ends in _TOLD.iter_unpack(memoryview(self._told)[: count * _TOLD.size]):
             if kind == 2:
-                for place in range(first * size, (first + many) * size, size):
+                place = first * size
+                for place in range(place, place + many * size, size):
                     row = actions[place : place + size]
-                    events.append(kept.get(row) or _action(row, params))
+                    append(kept.get(row) or _action(row, params))
             elif kind == 1:
-                events.append(Text(held[at : at + length].decode("utf-8", "surrogateescape")))
+                text = held[at : at + length]
+                append(texts.get(text) or _text(text))
             elif kind == 3:
-                events.append(_CODES.get(status) or UnknownEsc(chr(first) if first else "", chr(many)))
+                append(_CODES.get(status) or UnknownEsc(chr(first) if first else "", chr(many)))
             elif kind == 4:
-                events.append(ControlString(_STRINGS[first], held[at : at + length], bool(begins), bool(ends)))
+                append(ControlString(_STRINGS[first], held[at : at + length], bool(begins), bool(ends)))
             else:
-                events.append(Malformed(held[at : at + length]))
+                append(Malformed(held[at : at + length]))
 
 
 def events(data: Union[bytes, bytearray, memoryview, str]) -> Iterator[Event]:

@@ -52,13 +52,13 @@ fn read_event(alloc: Global, params: &[CsiParam], control: char) -> Result<Event
     }
 }
 
-/// Appends the events of all sequences that are whole, and answers the bytes behind them, to which the next read appends.
+/// Appends an event for each whole sequence at the front, and returns the bytes behind them, to which the next read appends.
 fn read_events<'a>(
     alloc: Global,
     bytes: &'a [u8],
     out: &mut Vec<Event>,
 ) -> Result<&'a [u8], ReadError>
-    // No byte is lost: what is left is an end of what came.
+    // What is left is an end of what came.
     ensures { IfOk result (λ rest. (front : List ℕ) × (bytes.now ≡ front ++ rest.now)) }
 {
     let mut params = Vec::new(alloc);

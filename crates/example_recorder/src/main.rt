@@ -1,6 +1,4 @@
-//! A recorder: it keeps each sequence in its normal form, and counts what the sequences do.
-//!
-//! The program reads control sequences, writes them in their normal form, and then a line with the counts.
+//! A recorder: it reads control sequences, writes their normal forms, and then a line that counts their actions by sorts.
 #![tactic(auto)]
 
 ghost use Rattle.std.specs.Prelude.{◌≡◌, length};
@@ -18,9 +16,9 @@ struct Counts {
     others: usize,
 }
 
-/// Counts actions.
+/// How many of the actions are of each sort.
 fn count(actions: &[CSI]) -> Counts
-    // Each is counted once.
+    // The counts add up to the number of actions.
     ensures { total result ≡ length actions.now }
 {
     let mut counts = Counts::default();

@@ -1,4 +1,4 @@
-//! A renderer, which builds its actions by hand: the status line of an editor. What it draws reads back as what it drew.
+//! A renderer, which builds its actions by hand: the status line of an editor.
 #![tactic(auto)]
 
 ghost use Rattle.std.specs.Prelude.{false, map, IfOk};

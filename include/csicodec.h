@@ -42,7 +42,7 @@ enum csicodec_status {
     /* A struct stands for no action: its kind doesn't exist, one of its numbers is out of range, or an unused field isn't 0. */
     CSICODEC_NO_ACTION = 6,
     /* An argument is wrong: a mode that isn't in enum csicodec_filter_mode, a limit of 0, a depth that isn't in enum csicodec_depth, links
-     * above 1, a struct csicodec_cleaning that no step returns. */
+     * above 1, a struct csicodec_cleaning with a number out of range, or with more bytes held than are passed. */
     CSICODEC_BAD_STATE = 7
 };
 
@@ -217,13 +217,13 @@ struct csicodec_filtered {
 struct csicodec_filtered csicodec_filter(uint32_t mode, size_t limit, const uint8_t *bytes, size_t len, uint8_t *out,
                                          size_t room);
 
-/* The same step of a filter that writes each control sequence in the shortest spelling that it finds, with the same actions, and
- * as it came if none is shorter. */
+/* A step as csicodec_filter, of a filter that writes each control sequence in the shortest spelling that it finds, with the same
+ * actions, and as it came if none is shorter. */
 struct csicodec_filtered csicodec_compact(uint32_t mode, size_t limit, const uint8_t *bytes, size_t len, uint8_t *out,
                                           size_t room);
 
-/* The same with semicolons in foreground and background colours (38;2;R;G;B), even if that is no shorter: for terminals and
- * tools that don't know colons. A colour with an alpha has no such spelling, and stays as it came. */
+/* As csicodec_compact, with semicolons in foreground and background colours (38;2;R;G;B), even if that is no shorter: for terminals
+ * and tools that don't know colons. A colour with an alpha has no such spelling. */
 struct csicodec_filtered csicodec_compact_semicolons(uint32_t mode, size_t limit, const uint8_t *bytes, size_t len, uint8_t *out,
                                                      size_t room);
 
@@ -243,8 +243,8 @@ struct csicodec_stripped {
  * UTF-8 become U+FFFD. It is written to out if needed <= room; otherwise nothing is written. */
 struct csicodec_stripped csicodec_strip(const uint8_t *bytes, size_t len, uint8_t *out, size_t room);
 
-/* The same with the attributes (SGR) that hide nothing, in their normal form; if the last of them isn't a reset, a reset ends the
- * text. */
+/* Writes the text as csicodec_strip, with the attributes (SGR) that hide nothing, in their normal form; if the last of them isn't a
+ * reset, a reset ends the text. */
 struct csicodec_stripped csicodec_clean(const uint8_t *bytes, size_t len, uint8_t *out, size_t room);
 
 /* Which colours stay. */
@@ -257,9 +257,9 @@ enum csicodec_depth {
     CSICODEC_DEPTH_ANSI = 2
 };
 
-/* The same with the colours of a depth (enum csicodec_depth), and with links if `links` is 1, without if it is 0. A link is an OSC 8
- * whose address is at most 2,083 visible ASCII characters, and its parameters at most 256. If a link is open at the end, a link without
- * an address closes it. For another depth, and for links above 1, the status is CSICODEC_BAD_STATE. */
+/* As csicodec_clean, with the colours of a depth (enum csicodec_depth), and with links if `links` is 1, without if it is 0. A link is
+ * an OSC 8 whose address is at most 2,083 visible ASCII characters, and its parameters at most 256. If a link is open at the end, a link
+ * without an address closes it. For another depth, and for links above 1, the status is CSICODEC_BAD_STATE. */
 struct csicodec_stripped csicodec_clean_with(uint32_t depth, uint32_t links, const uint8_t *bytes, size_t len, uint8_t *out,
                                              size_t room);
 

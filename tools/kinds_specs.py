@@ -14,7 +14,7 @@ def spec_use(crate, file, text):
 
 
 def own_use(file, text):
-    """The same of the files that are written here."""
+    """The `use` line of what the text says of the definitions of a file that is written here."""
     names = {
         "Rows": ["struct_of", "params_of"] + [f"{low(group)}_{what}" for group in IN_TURN for what in ("struct", "params")],
         "Ranges": ["InRange"] + [f"{group}InRange" for group in IN_TURN],

@@ -25,7 +25,7 @@ impl Filter {
         }
     }
 
-    /// The same, with each control sequence in the shortest spelling that is found, with the same actions.
+    /// A new stream, with each control sequence in the shortest spelling that is found, with the same actions.
     pub fn compact(limit: NonZeroUsize) -> Self {
         Filter {
             step: raw::compact,
@@ -33,8 +33,8 @@ impl Filter {
         }
     }
 
-    /// The same, with semicolons in foreground and background colours (`38;2;R;G;B`), even if that is no shorter: for terminals
-    /// and tools that don't know colons. A colour with an alpha has no such spelling.
+    /// As [`Filter::compact`], with semicolons in foreground and background colours (`38;2;R;G;B`), even if that is no shorter: for
+    /// terminals and tools that don't know colons. A colour with an alpha has no such spelling.
     pub fn compact_semicolons(limit: NonZeroUsize) -> Self {
         Filter {
             step: raw::compact_semicolons,

@@ -15,8 +15,8 @@ pub fn strip(bytes: &[u8]) -> Result<String, Error> {
     left(raw::strip, bytes)
 }
 
-/// The same with the attributes (SGR) that hide nothing, in their normal form. If the last of them isn't a reset, a reset ends the
-/// text, so that it doesn't colour later output.
+/// The text of untrusted bytes as [`strip`], with the attributes (SGR) that hide nothing, in their normal form. If the last of them
+/// isn't a reset, a reset ends the text, so that it doesn't colour later output.
 ///
 /// ```
 /// assert_eq!(csicodec::clean(b"\x1b[01;31mred\x1b[2Jtext")?, "\x1b[1m\x1b[31mredtext\x1b[0m");
@@ -127,7 +127,7 @@ impl Cleaner {
         }
     }
 
-    /// The same with styles, in these colours.
+    /// A new stream, of which text and styles are left, in these colours.
     pub fn clean(depth: Depth) -> Self {
         Cleaner {
             depth: Some(depth),

@@ -28,7 +28,7 @@ pub extern "C" fn csicodec_compact(
     step(alloc, Compact::new(alloc), mode, limit, bytes, out)
 }
 
-/// The same, with semicolons in the colours of the character and the ground, also where that is no shorter.
+/// As [`csicodec_compact`], with semicolons in the colours of the character and the ground, also where that is no shorter.
 #[unsafe(no_mangle)]
 pub extern "C" fn csicodec_compact_semicolons(
     alloc: Global,

@@ -118,7 +118,7 @@ pub extern "C" fn csicodec_strip_step(
     }
 }
 
-/// The same with the styles that stay, in the colours of a depth.
+/// Puts what is left of the bytes that are sure, with the styles that stay, in the colours of a depth, where it fits.
 #[unsafe(no_mangle)]
 pub extern "C" fn csicodec_clean_step(
     alloc: Global,

@@ -90,7 +90,7 @@ fn lay_one(
     lay_struct(struct_of(count.params, action), end, count, actions)
 }
 
-/// The same of an unknown action of these tokens, with the mark ahead of them.
+/// Puts an unknown action, and its tokens: the mark and then these.
 fn lay_unknown(
     mark: &[CsiParam],
     tokens: &[CsiParam],
@@ -178,7 +178,7 @@ fn put_list(room: &mut [Param], place: usize, head: Head, list: &[CsiParam]) -> 
     Some(end)
 }
 
-/// The same of an action with the extensions, or the values, that a list says.
+/// Puts an action with the extensions, or the values, of a list.
 fn lay_listed(
     head: Head,
     list: &[CsiParam],
@@ -203,7 +203,7 @@ enum Large<'a> {
     Unknown(&'a [CsiParam], char),
 }
 
-/// The same of such an action.
+/// Puts such an action and its tokens.
 fn lay_large(
     large: &Large<'_>,
     count: Counts,

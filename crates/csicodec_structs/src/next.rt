@@ -68,7 +68,7 @@ fn answer(
     }
 }
 
-/// The same of the sequence at the front, whose tokens take memory.
+/// Puts the actions of the sequence at the front, however many tokens it has: they take memory here.
 #[cold]
 #[inline(never)]
 fn next_long(alloc: Global, bytes: &[u8], actions: &mut [Struct], params: &mut [Param]) -> Front

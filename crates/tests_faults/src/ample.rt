@@ -9,7 +9,7 @@ use std::alloc::{AllocError, Global};
 /// An attribute, and an unknown action with no parameters.
 pub(crate) const NO_PARAMETERS: &[u8] = b"\x1b[1m\x1b[z";
 
-/// The same, and then the beginning of a sequence.
+/// `NO_PARAMETERS`, and then the beginning of a sequence.
 pub(crate) const CUT_SHORT: &[u8] = b"\x1b[1m\x1b[z\x1b[";
 
 /// Its fault.

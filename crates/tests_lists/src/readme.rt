@@ -1,9 +1,9 @@
-//! The use as a library of docs/CALLING.md.
+//! The use as a library of README.md.
 
 use csicodec::{CSI, ReadError, Sgr, encode, read_csi_into};
 use std::alloc::Global;
 
-/// The same sequences without blinking.
+/// The normal form of the sequences, without what sets or ends blinking.
 pub fn without_blink(alloc: Global, bytes: &[u8]) -> Result<Vec<u8>, ReadError> {
     let mut out = Vec::new(alloc);
     let mut params = Vec::new(alloc);

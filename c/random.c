@@ -73,14 +73,17 @@ static int all_calls(const uint8_t *bytes, size_t len) {
     if (front.status == CSICODEC_OK && front.actions <= actions_room && front.params <= params_room) {
         struct csicodec_encoded texts = csicodec_encode(actions, front.actions, params, front.params, out, room);
         struct csicodec_normalised normal = csicodec_normalise(bytes, front.used, out, room);
+        struct csicodec_encoded shorter = csicodec_encode_compact(actions, front.actions, params, front.params, out, room);
         good &= texts.status == CSICODEC_OK && normal.status == CSICODEC_OK && texts.needed == normal.needed;
+        good &= shorter.status == CSICODEC_OK && shorter.needed <= texts.needed;
         good &= csicodec_is_canonical(&actions[0], params, front.params).status == CSICODEC_OK;
     }
     for (size_t i = 0; i < actions_room * sizeof *actions; i++) ((uint8_t *)actions)[i] = any(3) ? 0 : any_byte();
     good &= csicodec_encode(actions, actions_room, params, 0, out, room).status != CSICODEC_MEMORY;
     struct csicodec_filtered passed = csicodec_filter(any(7), any(20), bytes, len, out, room);
     struct csicodec_spanned span = csicodec_span(any(7), any(20), bytes, len);
-    struct csicodec_filtered compacted = csicodec_compact_semicolons(any(7), any(20), bytes, len, out, room);
+    struct csicodec_filtered compacted = any(2) ? csicodec_compact(any(7), any(20), bytes, len, out, room)
+                                                : csicodec_compact_semicolons(any(7), any(20), bytes, len, out, room);
     struct csicodec_cleaning state = {any(7), any(3), any(3), any(5)};
     struct csicodec_cleaned step = any(2) ? csicodec_strip_step(&state, bytes, len, out, room)
                                           : csicodec_clean_step(any(4), &state, bytes, len, out, room);
@@ -88,6 +91,7 @@ static int all_calls(const uint8_t *bytes, size_t len) {
     good &= step.used + step.state.held <= len && step.state.held <= 3 && (is_state || step.status == CSICODEC_BAD_STATE);
     good &= csicodec_clean_end(&state, bytes, len, out, room).status == (is_state ? CSICODEC_OK : CSICODEC_BAD_STATE);
     good &= csicodec_clean_with(any(3), any(2), bytes, len, out, room).status == CSICODEC_OK;
+    good &= csicodec_clean(bytes, len, out, room).status == CSICODEC_OK;
     good &= csicodec_strip(bytes, len, out, room).status == CSICODEC_OK && compacted.used <= len;
     good &= passed.used <= len && span.used <= len && (span.status != CSICODEC_OK || span.used > 0);
     good &= csicodec_esc(any_byte(), any_byte()) < 65536;

@@ -34,7 +34,7 @@ pub record IsStep (Writes : List ℕ → List ℕ → Type 0) (number limit : �
   pub needed : answer.needed ≡ length text
   pub fills : Fills old new text
 
--- the same of a filter that writes normal forms
+-- a step of a filter that writes normal forms
 abbrev pub IsDone : ℕ → ℕ → List ℕ → List ℕ → List ℕ → Filtered → Type 0
 IsDone number limit bytes old new answer = IsStep NormalisesTo number limit bytes old new answer
 

@@ -34,7 +34,7 @@ pub record IsStripped (bytes old new : List ℕ) (answer : Stripped) : Type 0 wh
   pub tells : answer ≡ stripped (length text)
   pub fills : Fills old new text
 
--- the same of the text with what passes beside it
+-- the length of the text with what passes beside it, which is put where it fits
 pub record IsCleanedIn (passing : Passing) (bytes old new : List ℕ) (answer : Stripped) : Type 0 where
   pub text : List ℕ
   pub styles : StylesIn passing bytes text

@@ -16,8 +16,8 @@ pub fn any_steps()
         → AreCalls IsStripStep zeros [] chunks all last left → IsEnd last left old new answer
         → answer.needed ≤ length old
         → Strips longest (concat chunks) (all ++ take answer.needed new) }
-    ensures clean { (d : Depth) (chunks : List (List ℕ)) (all left old new : List ℕ) (last : Cleaning)
-        (answer : Stripped)
+    ensures clean { (d : Depth) (chunks : List (List ℕ)) (all left old new : List ℕ)
+        (last : Cleaning) (answer : Stripped)
         → AreCalls (IsCleanStep (depth_number d)) zeros [] chunks all last left
         → IsEnd last left old new answer → answer.needed ≤ length old
         → StylesIn (without_links d) (concat chunks) (all ++ take answer.needed new) }

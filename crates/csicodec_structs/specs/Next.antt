@@ -55,7 +55,7 @@ pub record Lays (actions_old actions_new : List Struct) (params_old params_new :
   pub lays_actions : actions_new ≡ laid actions_old (structs 0 all)
   pub lays_params : params_new ≡ laid params_old (all_params all)
 
--- the same of the sequence at the front
+-- the actions of the sequence at the front and their tokens, as many as there is room for, how many they are, and its length
 pub record IsDone (bytes : List ℕ) (actions_old actions_new : List Struct) (params_old params_new : List Param) (answer : Front) : Type 0 where
   pub actions : List Action
   pub rest : List ℕ

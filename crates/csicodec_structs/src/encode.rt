@@ -263,7 +263,7 @@ fn texts_of(
 #[inline(always)]
 #[tactic(auto, using(crate::proofs::Stand::short_stands))]
 fn short_of(given: &Struct) -> Option<Text>
-    ensures { IfSome result (λ text. (params : List Param) → AreTexts (given.now ∷ []) params text) }
+    ensures { IfSome result (λ t. (params : List Param) → AreTexts (given.now ∷ []) params t) }
 {
     if given.len > 0 {
         return None;

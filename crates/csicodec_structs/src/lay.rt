@@ -50,7 +50,8 @@ fn put_device(room: &mut [Param], place: usize, device: &Device) -> Option<usize
 
 /// Puts the tokens of an action behind those that are there.
 fn put_params(room: &mut [Param], place: usize, action: &CSI) -> Option<usize>
-    ensures { IfSome result (PutsBehind room.old room.new place (params_of (action_of action.now))) }
+    ensures { IfSome result (PutsBehind room.old room.new place
+        (params_of (action_of action.now))) }
 {
     match action {
         CSI::Device(device) => put_device(room, place, device),
@@ -90,7 +91,7 @@ fn lay_one(
     lay_struct(struct_of(count.params, action), end, count, actions)
 }
 
-/// Puts an unknown action, and its tokens: the mark and then these.
+/// Puts an unknown action of these tokens, the mark ahead of them, and its tokens behind those that are there.
 fn lay_unknown(
     mark: &[CsiParam],
     tokens: &[CsiParam],
@@ -169,7 +170,8 @@ fn put_listed(room: &mut [Param], place: usize, head: Head, token: CsiParam) -> 
 
 /// Puts the extensions, or the values, that a list says behind the tokens that are there.
 fn put_list(room: &mut [Param], place: usize, head: Head, list: &[CsiParam]) -> Option<usize>
-    ensures { IfSome result (PutsBehind room.old room.new place (params_of (headed head list.now))) }
+    ensures { IfSome result (PutsBehind room.old room.new place
+        (params_of (headed head list.now))) }
 {
     let mut end = place;
     for token in list {
@@ -178,7 +180,7 @@ fn put_list(room: &mut [Param], place: usize, head: Head, list: &[CsiParam]) -> 
     Some(end)
 }
 
-/// Puts an action with the extensions, or the values, of a list.
+/// Puts an action with the extensions, or the values, that a list says, and these behind the tokens that are there.
 fn lay_listed(
     head: Head,
     list: &[CsiParam],
@@ -203,7 +205,7 @@ enum Large<'a> {
     Unknown(&'a [CsiParam], char),
 }
 
-/// Puts such an action and its tokens.
+/// Puts such an action and its tokens behind those that are there.
 fn lay_large(
     large: &Large<'_>,
     count: Counts,

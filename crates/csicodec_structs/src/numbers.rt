@@ -257,7 +257,7 @@ pub(crate) fn font(given: &Struct) -> Option<Font>
 }
 
 pub(crate) fn intensity(number: i64) -> Option<Intensity>
-    ensures { (value : Intensity) → (result ≡ Some value) ↔ (number ≡ pos (intensity_number value)) }
+    ensures { (v : Intensity) → (result ≡ Some v) ↔ (number ≡ pos (intensity_number v)) }
 {
     match number {
         0 => Some(Intensity::Normal),
@@ -268,7 +268,7 @@ pub(crate) fn intensity(number: i64) -> Option<Intensity>
 }
 
 pub(crate) fn underline(number: i64) -> Option<Underline>
-    ensures { (value : Underline) → (result ≡ Some value) ↔ (number ≡ pos (underline_number value)) }
+    ensures { (v : Underline) → (result ≡ Some v) ↔ (number ≡ pos (underline_number v)) }
 {
     match number {
         0 => Some(Underline::None),
@@ -282,7 +282,7 @@ pub(crate) fn underline(number: i64) -> Option<Underline>
 }
 
 pub(crate) fn blink(number: i64) -> Option<Blink>
-    ensures { (value : Blink) → (result ≡ Some value) ↔ (number ≡ pos (blink_number value)) }
+    ensures { (v : Blink) → (result ≡ Some v) ↔ (number ≡ pos (blink_number v)) }
 {
     match number {
         0 => Some(Blink::None),
@@ -293,7 +293,7 @@ pub(crate) fn blink(number: i64) -> Option<Blink>
 }
 
 pub(crate) fn align(number: i64) -> Option<VerticalAlign>
-    ensures { (value : VerticalAlign) → (result ≡ Some value) ↔ (number ≡ pos (align_number value)) }
+    ensures { (v : VerticalAlign) → (result ≡ Some v) ↔ (number ≡ pos (align_number v)) }
 {
     match number {
         0 => Some(VerticalAlign::BaseLine),
@@ -304,7 +304,7 @@ pub(crate) fn align(number: i64) -> Option<VerticalAlign>
 }
 
 pub(crate) fn button(number: u8) -> Option<MouseButton>
-    ensures { (value : MouseButton) → (result ≡ Some value) ↔ (number ≡ button_number value) }
+    ensures { (v : MouseButton) → (result ≡ Some v) ↔ (number ≡ button_number v) }
 {
     match number {
         0 => Some(MouseButton::None),

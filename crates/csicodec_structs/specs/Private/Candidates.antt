@@ -22,7 +22,7 @@ use Rattle.csicodec_structs.specs.Values.{AttributeInRange}
 abbrev pub Reads : {A : Type 0} → (A → ℕ) → (ℤ → Type 0) → ℤ → Option A → Type 0
 Reads number Fits z found = MatchOption found (¬ Fits z) (λ a. (z ≡ pos (number a)) × Fits (pos (number a)))
 
--- the same of what is by its name
+-- what has this number and is by its name, and none where there can be none
 abbrev pub ReadsNamed : {A : Type 0} → (A → ℕ) → (A → Type 0) → (ℤ → Type 0) → ℤ → Option A → Type 0
 ReadsNamed number Named Fits z found = MatchOption found (¬ Fits z) (λ a. (z ≡ pos (number a)) × Fits (pos (number a)) × Named a)
 

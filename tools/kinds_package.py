@@ -53,7 +53,7 @@ def rust_to(number, group, variant, form, names):
         "flag": ("(value)", f"row({number}, i64::from(*value), 0)"),
         "color": ("(color)", f"color_row({number}, color)"),
         "keys": (" { resource, value }", f"sized_row({number}, Some(resource.to_i64()), *value)"),
-        "area": (" { request_id, page_number, top, left, bottom, right }", f"Plain {{ top: top.as_one_based(), left: left.as_one_based(), bottom: bottom.as_one_based(), right: right.as_one_based(), ..row({number}, *request_id, *page_number) }}"),
+        "area": (" { request_id, page_number, top, left, bottom, right }", f"Action {{ top: top.as_one_based(), left: left.as_one_based(), bottom: bottom.as_one_based(), right: right.as_one_based(), ..row({number}, *request_id, *page_number) }}"),
         "report": (f" {{ {a}, {b}, button, modifiers }}", f"report_row({number}, *{a}, *{b}, *button, *modifiers)"),
         "state": (" { flags, mode }", f"row({number}, i64::from(flags.bits()), mode.to_i64())"),
         "bits": ("(flags)", f"row({number}, i64::from(flags.bits()), 0)"),
@@ -68,22 +68,22 @@ def rust_of(number, group, variant, form, names):
     a, b = names_in(names)
     right = {
         "unit": "",
-        "count": "(plain.first.try_into().ok()?)",
-        "place": "(place(plain.first)?)",
-        "places": f" {{ {a}: place(plain.first)?, {b}: place(plain.second)? }}",
-        "int": "(plain.first)",
-        "ints": f" {{ {a}: plain.first, {b}: plain.second }}",
-        "sizes": f" {{ {a}: first(plain), {b}: second(plain) }}",
-        "enum": f"({names[0] if names else ''}::{'at' if names and names[0].endswith('Mode') else 'from_i64'}(plain.first)?)" if names != ["Font"] else "(font(plain.first)?)",
-        "flag": "(plain.first != 0)",
-        "color": "(color(plain)?)",
-        "keys": " { resource: XtermKeyModifierResource::from_i64(plain.first)?, value: second(plain) }",
-        "area": " { request_id: plain.first, page_number: plain.second, top: OneBased::new(plain.top)?, left: OneBased::new(plain.left)?, bottom: OneBased::new(plain.bottom)?, right: OneBased::new(plain.right)? }",
-        "report": f" {{ {a}: plain.first.try_into().ok()?, {b}: plain.second.try_into().ok()?, button: MouseButton::from_i64(i64::from(plain.button))?, modifiers: Modifiers::from_bits_retain(plain.modifiers) }}",
-        "state": " { flags: flags(plain.first)?, mode: KittyKeyboardMode::from_i64(plain.second)? }",
-        "bits": "(flags(plain.first)?)",
+        "count": "(given.first.try_into().ok()?)",
+        "place": "(place(given.first)?)",
+        "places": f" {{ {a}: place(given.first)?, {b}: place(given.second)? }}",
+        "int": "(given.first)",
+        "ints": f" {{ {a}: given.first, {b}: given.second }}",
+        "sizes": f" {{ {a}: first(given), {b}: second(given) }}",
+        "enum": f"({names[0] if names else ''}::{'at' if names and names[0].endswith('Mode') else 'from_i64'}(given.first)?)" if names != ["Font"] else "(font(given.first)?)",
+        "flag": "(given.first != 0)",
+        "color": "(color(given)?)",
+        "keys": " { resource: XtermKeyModifierResource::from_i64(given.first)?, value: second(given) }",
+        "area": " { request_id: given.first, page_number: given.second, top: OneBased::new(given.top)?, left: OneBased::new(given.left)?, bottom: OneBased::new(given.bottom)?, right: OneBased::new(given.right)? }",
+        "report": f" {{ {a}: given.first.try_into().ok()?, {b}: given.second.try_into().ok()?, button: MouseButton::from_i64(i64::from(given.button))?, modifiers: Modifiers::from_bits_retain(given.modifiers) }}",
+        "state": " { flags: flags(given.first)?, mode: KittyKeyboardMode::from_i64(given.second)? }",
+        "bits": "(flags(given.first)?)",
         "extensions": "(extensions(params))",
-        "graphics": "(graphics(plain, params)?)",
+        "graphics": "(graphics(given, params)?)",
     }[form]
     return f"{number} => {name}{right}{tail},\n"
 
@@ -92,25 +92,25 @@ def rust_rows():
     out = """//! The struct of each action, and the action of each struct. Written by tools/kinds.
 
 use crate::numbers::{color, color_row, extended_row, extensions, first, flags, font, font_number, graphics, graphics_row, place, report_row, row, second, sized_row, unknown_row};
-use crate::raw::{Param, Plain};
+use crate::raw::{Action, Param};
 use crate::*;
 """
     for group in BY_NUMBER:
         more = ", params: &mut Vec<Param>" if has_tokens(group) else ""
-        out += f"\nfn {low(group)}_plain({low(group)}: &{type_of(group)}{more}) -> Plain {{\n    match {low(group)} {{\n"
+        out += f"\nfn {low(group)}_struct({low(group)}: &{type_of(group)}{more}) -> Action {{\n    match {low(group)} {{\n"
         out += "".join(rust_to(*kind) for kind in of(group))
         out += "    }\n}\n"
         more = ", params: &[Param]" if has_tokens(group) else ""
-        out += f"\nfn {low(group)}_of(plain: &Plain{more}) -> Option<{type_of(group)}> {{\n    Some(match plain.kind {{\n"
+        out += f"\nfn {low(group)}_of(given: &Action{more}) -> Option<{type_of(group)}> {{\n    Some(match given.kind {{\n"
         out += "".join(rust_of(*kind) for kind in of(group))
         out += "        _ => return None,\n    })\n}\n"
     out += """
 /// The struct of an action; its tokens go behind those that are there.
-pub(crate) fn plain_of(action: &CSI, params: &mut Vec<Param>) -> Plain {
+pub(crate) fn struct_of(action: &CSI, params: &mut Vec<Param>) -> Action {
     match action {
 """
     for group in IN_TURN:
-        out += f"        CSI::{group}({low(group)}) => {low(group)}_plain({low(group)}{', params' if has_tokens(group) else ''}),\n"
+        out += f"        CSI::{group}({low(group)}) => {low(group)}_struct({low(group)}{', params' if has_tokens(group) else ''}),\n"
     out += f"""        CSI::SelectCharacterPath(path, effect) => row({PATH}, path.to_i64(), *effect),
         CSI::Unspecified(unknown) => unknown_row(unknown, params),
     }}
@@ -118,14 +118,14 @@ pub(crate) fn plain_of(action: &CSI, params: &mut Vec<Param>) -> Plain {
 
 /// The action of a struct that the library made; `params` are its own tokens. It makes no other one.
 #[inline(always)]
-pub(crate) fn action_of(plain: &Plain, params: &[Param]) -> Option<CSI> {{
-    Some(match plain.kind {{
-        0 => CSI::Unspecified(Box::new(Unspecified::of(plain, params)?)),
+pub(crate) fn action_of(given: &Action, params: &[Param]) -> Option<CSI> {{
+    Some(match given.kind {{
+        0 => CSI::Unspecified(Box::new(Unspecified::of(given, params)?)),
 """
     for group in BY_NUMBER:
-        value = f"{low(group)}_of(plain{', params' if has_tokens(group) else ''})?"
+        value = f"{low(group)}_of(given{', params' if has_tokens(group) else ''})?"
         out += f"        {span(group)} => CSI::{group}({f'Box::new({value})' if is_boxed(group) else value}),\n"
-    out += f"""        {PATH} => CSI::SelectCharacterPath(CharacterPath::from_i64(plain.first)?, plain.second),
+    out += f"""        {PATH} => CSI::SelectCharacterPath(CharacterPath::from_i64(given.first)?, given.second),
         _ => return None,
     }})
 }}

@@ -205,16 +205,16 @@ pub struct Front {
 /// # Ok::<(), Error>(())
 /// ```
 pub fn front(bytes: &[u8]) -> Result<Front, Error> {
-    let mut near = [raw::Plain::default(); 4];
+    let mut near = [raw::Action::default(); 4];
     let mut params = [raw::Param::default(); 4];
     let answer = raw::next(bytes, &mut near, &mut params);
     if answer.status != 0 {
         return Err(refusal(answer.status, 0, answer.at));
     }
     if answer.actions <= near.len() && answer.params <= params.len() {
-        let plains = near[..answer.actions].iter();
+        let structs = near[..answer.actions].iter();
         return Ok(Front {
-            actions: plains.map(|plain| room::action(plain, &params)).collect(),
+            actions: structs.map(|given| room::action(given, &params)).collect(),
             used: answer.used,
         });
     }
@@ -232,11 +232,11 @@ pub fn front(bytes: &[u8]) -> Result<Front, Error> {
 /// Appends the joined texts of the actions. After an `Err` nothing is appended.
 pub fn encode_to(actions: &[CSI], out: &mut Vec<u8>) -> Result<(), Error> {
     let mut params = Vec::new();
-    let plains: Vec<_> = actions
+    let structs: Vec<_> = actions
         .iter()
-        .map(|action| rows::plain_of(action, &mut params))
+        .map(|action| rows::struct_of(action, &mut params))
         .collect();
-    encode_plains(raw::encode, &plains, &params, actions.len() * 12 + 16, out)
+    encode_structs(raw::encode, &structs, &params, actions.len() * 12 + 16, out)
 }
 
 /// The same in fewer bytes: a text that is no longer than that of [`encode_to`], with attributes side by side in one sequence. It has
@@ -252,21 +252,21 @@ pub fn encode_to(actions: &[CSI], out: &mut Vec<u8>) -> Result<(), Error> {
 /// ```
 pub fn encode_compact_to(actions: &[CSI], out: &mut Vec<u8>) -> Result<(), Error> {
     let mut params = Vec::new();
-    let plains: Vec<_> = actions
+    let structs: Vec<_> = actions
         .iter()
-        .map(|action| rows::plain_of(action, &mut params))
+        .map(|action| rows::struct_of(action, &mut params))
         .collect();
     let room = actions.len() * 12 + 16;
-    encode_plains(raw::encode_compact, &plains, &params, room, out)
+    encode_structs(raw::encode_compact, &structs, &params, room, out)
 }
 
 /// A call that writes structs and their tokens.
-type Encoding = fn(&[raw::Plain], &[raw::Param], &mut [u8]) -> raw::Encoded;
+type Encoding = fn(&[raw::Action], &[raw::Param], &mut [u8]) -> raw::Encoded;
 
 /// Appends what the call writes for these structs and tokens, with so much room at first.
-fn encode_plains(
+fn encode_structs(
     call: Encoding,
-    plains: &[raw::Plain],
+    structs: &[raw::Action],
     params: &[raw::Param],
     room: usize,
     out: &mut Vec<u8>,
@@ -275,7 +275,7 @@ fn encode_plains(
     let mut room = room;
     loop {
         out.resize(start + room, 0);
-        let answer = call(plains, params, &mut out[start..]);
+        let answer = call(structs, params, &mut out[start..]);
         let error = match answer.status {
             0 if answer.needed <= room => {
                 out.truncate(start + answer.needed);
@@ -341,8 +341,8 @@ impl CSI {
     /// item of graphics with the number of a named one counts as the named one.
     pub fn is_canonical(&self) -> Result<bool, Error> {
         let mut params = Vec::new();
-        let plain = rows::plain_of(self, &mut params);
-        let answer = raw::is_canonical(&plain, &params);
+        let given = rows::struct_of(self, &mut params);
+        let answer = raw::is_canonical(&given, &params);
         match answer.status {
             0 => Ok(answer.canonical == 1),
             6 => Err(Error::NoAction { at: 0 }),
@@ -355,14 +355,14 @@ impl CSI {
 impl fmt::Display for CSI {
     fn fmt(&self, f: &mut fmt::Formatter<'_>) -> fmt::Result {
         let mut params = Vec::new();
-        let plain = [rows::plain_of(self, &mut params)];
+        let given = [rows::struct_of(self, &mut params)];
         let mut near = [0; 64];
         let mut far = Vec::new();
-        let answer = raw::encode(&plain, &params, &mut near);
+        let answer = raw::encode(&given, &params, &mut near);
         let text = match answer.status {
             0 if answer.needed <= near.len() => &near[..answer.needed],
             0 => {
-                encode_plains(raw::encode, &plain, &params, answer.needed, &mut far)
+                encode_structs(raw::encode, &given, &params, answer.needed, &mut far)
                     .map_err(|_| fmt::Error)?;
                 &far[..]
             }

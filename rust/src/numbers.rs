@@ -1,34 +1,34 @@
 //! What stands as numbers and tokens in a struct, both ways.
 
-use crate::raw::{Param, Plain};
+use crate::raw::{Action, Param};
 use crate::{
     ColorSpec, CsiParam, DeviceAttribute, DeviceAttributeCodes, DeviceAttributeFlags, Font,
     KittyKeyboardFlags, Modifiers, MouseButton, OneBased, SrgbaTuple, Unspecified, XtSmGraphics,
     XtSmGraphicsItem,
 };
 
-pub(crate) fn row(kind: u32, first: i64, second: i64) -> Plain {
-    Plain {
+pub(crate) fn row(kind: u32, first: i64, second: i64) -> Action {
+    Action {
         kind,
         first,
         second,
-        ..Plain::default()
+        ..Action::default()
     }
 }
 
-pub(crate) fn sized_row(kind: u32, first: Option<i64>, second: Option<i64>) -> Plain {
-    Plain {
+pub(crate) fn sized_row(kind: u32, first: Option<i64>, second: Option<i64>) -> Action {
+    Action {
         absent: u8::from(first.is_none()) + 2 * u8::from(second.is_none()),
         ..row(kind, first.unwrap_or(0), second.unwrap_or(0))
     }
 }
 
-pub(crate) fn first(plain: &Plain) -> Option<i64> {
-    (plain.absent & 1 == 0).then_some(plain.first)
+pub(crate) fn first(given: &Action) -> Option<i64> {
+    (given.absent & 1 == 0).then_some(given.first)
 }
 
-pub(crate) fn second(plain: &Plain) -> Option<i64> {
-    (plain.absent & 2 == 0).then_some(plain.second)
+pub(crate) fn second(given: &Action) -> Option<i64> {
+    (given.absent & 2 == 0).then_some(given.second)
 }
 
 pub(crate) fn report_row(
@@ -37,19 +37,19 @@ pub(crate) fn report_row(
     y: u16,
     button: MouseButton,
     modifiers: Modifiers,
-) -> Plain {
-    Plain {
+) -> Action {
+    Action {
         modifiers: modifiers.bits(),
         button: button.to_i64() as u8,
         ..row(kind, i64::from(x), i64::from(y))
     }
 }
 
-pub(crate) fn color_row(kind: u32, color: &ColorSpec) -> Plain {
+pub(crate) fn color_row(kind: u32, color: &ColorSpec) -> Action {
     match *color {
         ColorSpec::Default => row(kind, 0, 0),
         ColorSpec::PaletteIndex(index) => row(kind, 1, i64::from(index)),
-        ColorSpec::TrueColor(SrgbaTuple(red, green, blue, alpha)) => Plain {
+        ColorSpec::TrueColor(SrgbaTuple(red, green, blue, alpha)) => Action {
             red,
             green,
             blue,
@@ -59,11 +59,11 @@ pub(crate) fn color_row(kind: u32, color: &ColorSpec) -> Plain {
     }
 }
 
-pub(crate) fn color(plain: &Plain) -> Option<ColorSpec> {
-    Some(match plain.first {
+pub(crate) fn color(given: &Action) -> Option<ColorSpec> {
+    Some(match given.first {
         0 => ColorSpec::Default,
-        1 => ColorSpec::PaletteIndex(plain.second.try_into().ok()?),
-        2 => ColorSpec::TrueColor(SrgbaTuple(plain.red, plain.green, plain.blue, plain.alpha)),
+        1 => ColorSpec::PaletteIndex(given.second.try_into().ok()?),
+        2 => ColorSpec::TrueColor(SrgbaTuple(given.red, given.green, given.blue, given.alpha)),
         _ => return None,
     })
 }
@@ -112,26 +112,30 @@ fn token_of(param: &Param) -> CsiParam {
 }
 
 /// A row whose tokens go behind those that are there.
-fn with_tokens(row: Plain, tokens: impl Iterator<Item = Param>, params: &mut Vec<Param>) -> Plain {
+fn with_tokens(
+    row: Action,
+    tokens: impl Iterator<Item = Param>,
+    params: &mut Vec<Param>,
+) -> Action {
     let place = params.len();
     params.extend(tokens);
     let len = params.len() - place;
-    Plain { place, len, ..row }
+    Action { place, len, ..row }
 }
 
-pub(crate) fn unknown_row(unknown: &Unspecified, params: &mut Vec<Param>) -> Plain {
-    let row = Plain {
+pub(crate) fn unknown_row(unknown: &Unspecified, params: &mut Vec<Param>) -> Action {
+    let row = Action {
         final_char: u32::from(unknown.control),
-        ..Plain::default()
+        ..Action::default()
     };
     with_tokens(row, unknown.params.iter().map(param_of), params)
 }
 
 impl Unspecified {
-    pub(crate) fn of(plain: &Plain, params: &[Param]) -> Option<Unspecified> {
+    pub(crate) fn of(given: &Action, params: &[Param]) -> Option<Unspecified> {
         Some(Unspecified {
             params: params.iter().map(token_of).collect(),
-            control: char::from_u32(plain.final_char)?,
+            control: char::from_u32(given.final_char)?,
         })
     }
 }
@@ -140,7 +144,7 @@ pub(crate) fn extended_row(
     kind: u32,
     flags: &DeviceAttributeFlags,
     params: &mut Vec<Param>,
-) -> Plain {
+) -> Action {
     let tokens = flags.attributes.iter().map(|attribute| match attribute {
         DeviceAttribute::Code(code) => param_of(&CsiParam::Integer(code.to_i64())),
         DeviceAttribute::Unspecified(token) => param_of(token),
@@ -162,7 +166,7 @@ pub(crate) fn extensions(params: &[Param]) -> DeviceAttributeFlags {
     }
 }
 
-pub(crate) fn graphics_row(kind: u32, graphics: &XtSmGraphics, params: &mut Vec<Param>) -> Plain {
+pub(crate) fn graphics_row(kind: u32, graphics: &XtSmGraphics, params: &mut Vec<Param>) -> Action {
     let item = match graphics.item {
         XtSmGraphicsItem::NumberOfColorRegisters => 1,
         XtSmGraphicsItem::SixelGraphicsGeometry => 2,
@@ -176,15 +180,15 @@ pub(crate) fn graphics_row(kind: u32, graphics: &XtSmGraphics, params: &mut Vec<
     with_tokens(row(kind, item, graphics.action_or_status), values, params)
 }
 
-pub(crate) fn graphics(plain: &Plain, params: &[Param]) -> Option<XtSmGraphics> {
+pub(crate) fn graphics(given: &Action, params: &[Param]) -> Option<XtSmGraphics> {
     Some(XtSmGraphics {
-        item: match plain.first {
+        item: match given.first {
             1 => XtSmGraphicsItem::NumberOfColorRegisters,
             2 => XtSmGraphicsItem::SixelGraphicsGeometry,
             3 => XtSmGraphicsItem::RegisGraphicsGeometry,
             number => XtSmGraphicsItem::Unspecified(number),
         },
-        action_or_status: plain.second,
+        action_or_status: given.second,
         value: params.iter().map(|param| param.value).collect(),
     })
 }

@@ -5,14 +5,14 @@ use crate::{CSI, raw, rows};
 /// Structs of actions and tokens, as many as any sequence so far had.
 #[derive(Clone, Debug)]
 pub(crate) struct Room {
-    actions: Vec<raw::Plain>,
+    actions: Vec<raw::Action>,
     params: Vec<raw::Param>,
 }
 
 impl Room {
     pub(crate) fn new() -> Self {
         Room {
-            actions: vec![raw::Plain::default(); 16],
+            actions: vec![raw::Action::default(); 16],
             params: vec![raw::Param::default(); 16],
         }
     }
@@ -32,7 +32,7 @@ impl Room {
     #[cold]
     fn grow(&mut self, front: &raw::Front) {
         let actions = front.actions.max(self.actions.len());
-        self.actions.resize(actions, raw::Plain::default());
+        self.actions.resize(actions, raw::Action::default());
         let params = front.params.max(self.params.len());
         self.params.resize(params, raw::Param::default());
     }
@@ -46,10 +46,10 @@ impl Room {
 
 /// The action of a struct that the library made, with the tokens that were put beside it.
 #[inline(always)]
-pub(crate) fn action(plain: &raw::Plain, params: &[raw::Param]) -> CSI {
-    let params = match plain.len {
+pub(crate) fn action(given: &raw::Action, params: &[raw::Param]) -> CSI {
+    let params = match given.len {
         0 => &[],
-        len => &params[plain.place..][..len],
+        len => &params[given.place..][..len],
     };
-    rows::action_of(plain, params).expect("the library makes no other struct")
+    rows::action_of(given, params).expect("the library makes no other struct")
 }

@@ -4,10 +4,10 @@ use crate::numbers::{
     color, color_row, extended_row, extensions, first, flags, font, font_number, graphics,
     graphics_row, place, report_row, row, second, sized_row, unknown_row,
 };
-use crate::raw::{Param, Plain};
+use crate::raw::{Action, Param};
 use crate::*;
 
-fn sgr_plain(sgr: &Sgr) -> Plain {
+fn sgr_struct(sgr: &Sgr) -> Action {
     match sgr {
         Sgr::Reset => row(1, 0, 0),
         Sgr::Intensity(value) => row(2, value.to_i64(), 0),
@@ -26,27 +26,27 @@ fn sgr_plain(sgr: &Sgr) -> Plain {
     }
 }
 
-fn sgr_of(plain: &Plain) -> Option<Sgr> {
-    Some(match plain.kind {
+fn sgr_of(given: &Action) -> Option<Sgr> {
+    Some(match given.kind {
         1 => Sgr::Reset,
-        2 => Sgr::Intensity(Intensity::from_i64(plain.first)?),
-        3 => Sgr::Underline(Underline::from_i64(plain.first)?),
-        4 => Sgr::UnderlineColor(color(plain)?),
-        5 => Sgr::Blink(Blink::from_i64(plain.first)?),
-        6 => Sgr::Italic(plain.first != 0),
-        7 => Sgr::Inverse(plain.first != 0),
-        8 => Sgr::Invisible(plain.first != 0),
-        9 => Sgr::StrikeThrough(plain.first != 0),
-        10 => Sgr::Font(font(plain.first)?),
-        11 => Sgr::Foreground(color(plain)?),
-        12 => Sgr::Background(color(plain)?),
-        13 => Sgr::Overline(plain.first != 0),
-        14 => Sgr::VerticalAlign(VerticalAlign::from_i64(plain.first)?),
+        2 => Sgr::Intensity(Intensity::from_i64(given.first)?),
+        3 => Sgr::Underline(Underline::from_i64(given.first)?),
+        4 => Sgr::UnderlineColor(color(given)?),
+        5 => Sgr::Blink(Blink::from_i64(given.first)?),
+        6 => Sgr::Italic(given.first != 0),
+        7 => Sgr::Inverse(given.first != 0),
+        8 => Sgr::Invisible(given.first != 0),
+        9 => Sgr::StrikeThrough(given.first != 0),
+        10 => Sgr::Font(font(given.first)?),
+        11 => Sgr::Foreground(color(given)?),
+        12 => Sgr::Background(color(given)?),
+        13 => Sgr::Overline(given.first != 0),
+        14 => Sgr::VerticalAlign(VerticalAlign::from_i64(given.first)?),
         _ => return None,
     })
 }
 
-fn cursor_plain(cursor: &Cursor) -> Plain {
+fn cursor_struct(cursor: &Cursor) -> Action {
     match cursor {
         Cursor::Up(count) => row(101, i64::from(*count), 0),
         Cursor::Down(count) => row(102, i64::from(*count), 0),
@@ -98,55 +98,55 @@ fn cursor_plain(cursor: &Cursor) -> Plain {
     }
 }
 
-fn cursor_of(plain: &Plain) -> Option<Cursor> {
-    Some(match plain.kind {
-        101 => Cursor::Up(plain.first.try_into().ok()?),
-        102 => Cursor::Down(plain.first.try_into().ok()?),
-        103 => Cursor::Right(plain.first.try_into().ok()?),
-        104 => Cursor::Left(plain.first.try_into().ok()?),
-        105 => Cursor::NextLine(plain.first.try_into().ok()?),
-        106 => Cursor::PrecedingLine(plain.first.try_into().ok()?),
-        107 => Cursor::CharacterAbsolute(place(plain.first)?),
-        108 => Cursor::CharacterPositionAbsolute(place(plain.first)?),
+fn cursor_of(given: &Action) -> Option<Cursor> {
+    Some(match given.kind {
+        101 => Cursor::Up(given.first.try_into().ok()?),
+        102 => Cursor::Down(given.first.try_into().ok()?),
+        103 => Cursor::Right(given.first.try_into().ok()?),
+        104 => Cursor::Left(given.first.try_into().ok()?),
+        105 => Cursor::NextLine(given.first.try_into().ok()?),
+        106 => Cursor::PrecedingLine(given.first.try_into().ok()?),
+        107 => Cursor::CharacterAbsolute(place(given.first)?),
+        108 => Cursor::CharacterPositionAbsolute(place(given.first)?),
         109 => Cursor::Position {
-            line: place(plain.first)?,
-            col: place(plain.second)?,
+            line: place(given.first)?,
+            col: place(given.second)?,
         },
         110 => Cursor::ActivePositionReport {
-            line: place(plain.first)?,
-            col: place(plain.second)?,
+            line: place(given.first)?,
+            col: place(given.second)?,
         },
         111 => Cursor::CharacterAndLinePosition {
-            line: place(plain.first)?,
-            col: place(plain.second)?,
+            line: place(given.first)?,
+            col: place(given.second)?,
         },
-        112 => Cursor::ForwardTabulation(plain.first.try_into().ok()?),
-        113 => Cursor::BackwardTabulation(plain.first.try_into().ok()?),
-        114 => Cursor::LineTabulation(plain.first.try_into().ok()?),
-        115 => Cursor::CharacterPositionForward(plain.first.try_into().ok()?),
-        116 => Cursor::CharacterPositionBackward(plain.first.try_into().ok()?),
-        117 => Cursor::LinePositionAbsolute(plain.first.try_into().ok()?),
-        118 => Cursor::LinePositionForward(plain.first.try_into().ok()?),
-        119 => Cursor::LinePositionBackward(plain.first.try_into().ok()?),
-        120 => Cursor::TabulationControl(CursorTabulationControl::from_i64(plain.first)?),
-        121 => Cursor::TabulationClear(TabulationClear::from_i64(plain.first)?),
+        112 => Cursor::ForwardTabulation(given.first.try_into().ok()?),
+        113 => Cursor::BackwardTabulation(given.first.try_into().ok()?),
+        114 => Cursor::LineTabulation(given.first.try_into().ok()?),
+        115 => Cursor::CharacterPositionForward(given.first.try_into().ok()?),
+        116 => Cursor::CharacterPositionBackward(given.first.try_into().ok()?),
+        117 => Cursor::LinePositionAbsolute(given.first.try_into().ok()?),
+        118 => Cursor::LinePositionForward(given.first.try_into().ok()?),
+        119 => Cursor::LinePositionBackward(given.first.try_into().ok()?),
+        120 => Cursor::TabulationControl(CursorTabulationControl::from_i64(given.first)?),
+        121 => Cursor::TabulationClear(TabulationClear::from_i64(given.first)?),
         122 => Cursor::SetTopAndBottomMargins {
-            top: place(plain.first)?,
-            bottom: place(plain.second)?,
+            top: place(given.first)?,
+            bottom: place(given.second)?,
         },
         123 => Cursor::SetLeftAndRightMargins {
-            left: place(plain.first)?,
-            right: place(plain.second)?,
+            left: place(given.first)?,
+            right: place(given.second)?,
         },
         124 => Cursor::SaveCursor,
         125 => Cursor::RestoreCursor,
         126 => Cursor::RequestActivePositionReport,
-        127 => Cursor::CursorStyle(CursorStyle::from_i64(plain.first)?),
+        127 => Cursor::CursorStyle(CursorStyle::from_i64(given.first)?),
         _ => return None,
     })
 }
 
-fn edit_plain(edit: &Edit) -> Plain {
+fn edit_struct(edit: &Edit) -> Action {
     match edit {
         Edit::InsertCharacter(count) => row(201, i64::from(*count), 0),
         Edit::InsertLine(count) => row(202, i64::from(*count), 0),
@@ -161,23 +161,23 @@ fn edit_plain(edit: &Edit) -> Plain {
     }
 }
 
-fn edit_of(plain: &Plain) -> Option<Edit> {
-    Some(match plain.kind {
-        201 => Edit::InsertCharacter(plain.first.try_into().ok()?),
-        202 => Edit::InsertLine(plain.first.try_into().ok()?),
-        203 => Edit::DeleteCharacter(plain.first.try_into().ok()?),
-        204 => Edit::DeleteLine(plain.first.try_into().ok()?),
-        205 => Edit::EraseCharacter(plain.first.try_into().ok()?),
-        206 => Edit::ScrollUp(plain.first.try_into().ok()?),
-        207 => Edit::ScrollDown(plain.first.try_into().ok()?),
-        208 => Edit::Repeat(plain.first.try_into().ok()?),
-        209 => Edit::EraseInDisplay(EraseInDisplay::from_i64(plain.first)?),
-        210 => Edit::EraseInLine(EraseInLine::from_i64(plain.first)?),
+fn edit_of(given: &Action) -> Option<Edit> {
+    Some(match given.kind {
+        201 => Edit::InsertCharacter(given.first.try_into().ok()?),
+        202 => Edit::InsertLine(given.first.try_into().ok()?),
+        203 => Edit::DeleteCharacter(given.first.try_into().ok()?),
+        204 => Edit::DeleteLine(given.first.try_into().ok()?),
+        205 => Edit::EraseCharacter(given.first.try_into().ok()?),
+        206 => Edit::ScrollUp(given.first.try_into().ok()?),
+        207 => Edit::ScrollDown(given.first.try_into().ok()?),
+        208 => Edit::Repeat(given.first.try_into().ok()?),
+        209 => Edit::EraseInDisplay(EraseInDisplay::from_i64(given.first)?),
+        210 => Edit::EraseInLine(EraseInLine::from_i64(given.first)?),
         _ => return None,
     })
 }
 
-fn mode_plain(mode: &Mode) -> Plain {
+fn mode_struct(mode: &Mode) -> Action {
     match mode {
         Mode::SetDecPrivateMode(value) => row(301, i64::from(value.number()), 0),
         Mode::ResetDecPrivateMode(value) => row(302, i64::from(value.number()), 0),
@@ -191,25 +191,25 @@ fn mode_plain(mode: &Mode) -> Plain {
     }
 }
 
-fn mode_of(plain: &Plain) -> Option<Mode> {
-    Some(match plain.kind {
-        301 => Mode::SetDecPrivateMode(DecPrivateMode::at(plain.first)?),
-        302 => Mode::ResetDecPrivateMode(DecPrivateMode::at(plain.first)?),
-        303 => Mode::SaveDecPrivateMode(DecPrivateMode::at(plain.first)?),
-        304 => Mode::RestoreDecPrivateMode(DecPrivateMode::at(plain.first)?),
-        305 => Mode::QueryDecPrivateMode(DecPrivateMode::at(plain.first)?),
-        306 => Mode::SetMode(TerminalMode::at(plain.first)?),
-        307 => Mode::ResetMode(TerminalMode::at(plain.first)?),
-        308 => Mode::QueryMode(TerminalMode::at(plain.first)?),
+fn mode_of(given: &Action) -> Option<Mode> {
+    Some(match given.kind {
+        301 => Mode::SetDecPrivateMode(DecPrivateMode::at(given.first)?),
+        302 => Mode::ResetDecPrivateMode(DecPrivateMode::at(given.first)?),
+        303 => Mode::SaveDecPrivateMode(DecPrivateMode::at(given.first)?),
+        304 => Mode::RestoreDecPrivateMode(DecPrivateMode::at(given.first)?),
+        305 => Mode::QueryDecPrivateMode(DecPrivateMode::at(given.first)?),
+        306 => Mode::SetMode(TerminalMode::at(given.first)?),
+        307 => Mode::ResetMode(TerminalMode::at(given.first)?),
+        308 => Mode::QueryMode(TerminalMode::at(given.first)?),
         309 => Mode::XtermKeyMode {
-            resource: XtermKeyModifierResource::from_i64(plain.first)?,
-            value: second(plain),
+            resource: XtermKeyModifierResource::from_i64(given.first)?,
+            value: second(given),
         },
         _ => return None,
     })
 }
 
-fn device_plain(device: &Device, params: &mut Vec<Param>) -> Plain {
+fn device_struct(device: &Device, params: &mut Vec<Param>) -> Action {
     match device {
         Device::DeviceAttributes(DeviceAttributes::Vt100WithAdvancedVideoOption) => row(401, 0, 0),
         Device::DeviceAttributes(DeviceAttributes::Vt101WithNoOptions) => row(402, 0, 0),
@@ -234,8 +234,8 @@ fn device_plain(device: &Device, params: &mut Vec<Param>) -> Plain {
     }
 }
 
-fn device_of(plain: &Plain, params: &[Param]) -> Option<Device> {
-    Some(match plain.kind {
+fn device_of(given: &Action, params: &[Param]) -> Option<Device> {
+    Some(match given.kind {
         401 => Device::DeviceAttributes(DeviceAttributes::Vt100WithAdvancedVideoOption),
         402 => Device::DeviceAttributes(DeviceAttributes::Vt101WithNoOptions),
         403 => Device::DeviceAttributes(DeviceAttributes::Vt102),
@@ -247,14 +247,14 @@ fn device_of(plain: &Plain, params: &[Param]) -> Option<Device> {
         409 => Device::RequestSecondaryDeviceAttributes,
         410 => Device::RequestTertiaryDeviceAttributes,
         411 => Device::RequestTerminalNameAndVersion,
-        412 => Device::RequestTerminalParameters(plain.first),
+        412 => Device::RequestTerminalParameters(given.first),
         413 => Device::StatusReport,
-        414 => Device::XtSmGraphics(graphics(plain, params)?),
+        414 => Device::XtSmGraphics(graphics(given, params)?),
         _ => return None,
     })
 }
 
-fn mouse_plain(mouse: &MouseReport) -> Plain {
+fn mouse_struct(mouse: &MouseReport) -> Action {
     match mouse {
         MouseReport::SGR1006 {
             x,
@@ -271,25 +271,25 @@ fn mouse_plain(mouse: &MouseReport) -> Plain {
     }
 }
 
-fn mouse_of(plain: &Plain) -> Option<MouseReport> {
-    Some(match plain.kind {
+fn mouse_of(given: &Action) -> Option<MouseReport> {
+    Some(match given.kind {
         501 => MouseReport::SGR1006 {
-            x: plain.first.try_into().ok()?,
-            y: plain.second.try_into().ok()?,
-            button: MouseButton::from_i64(i64::from(plain.button))?,
-            modifiers: Modifiers::from_bits_retain(plain.modifiers),
+            x: given.first.try_into().ok()?,
+            y: given.second.try_into().ok()?,
+            button: MouseButton::from_i64(i64::from(given.button))?,
+            modifiers: Modifiers::from_bits_retain(given.modifiers),
         },
         502 => MouseReport::SGR1016 {
-            x_pixels: plain.first.try_into().ok()?,
-            y_pixels: plain.second.try_into().ok()?,
-            button: MouseButton::from_i64(i64::from(plain.button))?,
-            modifiers: Modifiers::from_bits_retain(plain.modifiers),
+            x_pixels: given.first.try_into().ok()?,
+            y_pixels: given.second.try_into().ok()?,
+            button: MouseButton::from_i64(i64::from(given.button))?,
+            modifiers: Modifiers::from_bits_retain(given.modifiers),
         },
         _ => return None,
     })
 }
 
-fn window_plain(window: &Window) -> Plain {
+fn window_struct(window: &Window) -> Action {
     match window {
         Window::DeIconify => row(601, 0, 0),
         Window::Iconify => row(602, 0, 0),
@@ -331,7 +331,7 @@ fn window_plain(window: &Window) -> Plain {
             left,
             bottom,
             right,
-        } => Plain {
+        } => Action {
             top: top.as_one_based(),
             left: left.as_one_based(),
             bottom: bottom.as_one_based(),
@@ -341,28 +341,28 @@ fn window_plain(window: &Window) -> Plain {
     }
 }
 
-fn window_of(plain: &Plain) -> Option<Window> {
-    Some(match plain.kind {
+fn window_of(given: &Action) -> Option<Window> {
+    Some(match given.kind {
         601 => Window::DeIconify,
         602 => Window::Iconify,
         603 => Window::MoveWindow {
-            x: plain.first,
-            y: plain.second,
+            x: given.first,
+            y: given.second,
         },
         604 => Window::ResizeWindowPixels {
-            width: first(plain),
-            height: second(plain),
+            width: first(given),
+            height: second(given),
         },
         605 => Window::RaiseWindow,
         606 => Window::LowerWindow,
         607 => Window::ReportCellSizePixelsResponse {
-            width: first(plain),
-            height: second(plain),
+            width: first(given),
+            height: second(given),
         },
         608 => Window::RefreshWindow,
         609 => Window::ResizeWindowCells {
-            width: first(plain),
-            height: second(plain),
+            width: first(given),
+            height: second(given),
         },
         610 => Window::RestoreMaximizedWindow,
         611 => Window::MaximizeWindow,
@@ -389,18 +389,18 @@ fn window_of(plain: &Plain) -> Option<Window> {
         632 => Window::PopIconTitle,
         633 => Window::PopWindowTitle,
         634 => Window::ChecksumRectangularArea {
-            request_id: plain.first,
-            page_number: plain.second,
-            top: OneBased::new(plain.top)?,
-            left: OneBased::new(plain.left)?,
-            bottom: OneBased::new(plain.bottom)?,
-            right: OneBased::new(plain.right)?,
+            request_id: given.first,
+            page_number: given.second,
+            top: OneBased::new(given.top)?,
+            left: OneBased::new(given.left)?,
+            bottom: OneBased::new(given.bottom)?,
+            right: OneBased::new(given.right)?,
         },
         _ => return None,
     })
 }
 
-fn keyboard_plain(keyboard: &Keyboard) -> Plain {
+fn keyboard_struct(keyboard: &Keyboard) -> Action {
     match keyboard {
         Keyboard::SetKittyState { flags, mode } => row(701, i64::from(flags.bits()), mode.to_i64()),
         Keyboard::PushKittyState { flags, mode } => {
@@ -412,34 +412,34 @@ fn keyboard_plain(keyboard: &Keyboard) -> Plain {
     }
 }
 
-fn keyboard_of(plain: &Plain) -> Option<Keyboard> {
-    Some(match plain.kind {
+fn keyboard_of(given: &Action) -> Option<Keyboard> {
+    Some(match given.kind {
         701 => Keyboard::SetKittyState {
-            flags: flags(plain.first)?,
-            mode: KittyKeyboardMode::from_i64(plain.second)?,
+            flags: flags(given.first)?,
+            mode: KittyKeyboardMode::from_i64(given.second)?,
         },
         702 => Keyboard::PushKittyState {
-            flags: flags(plain.first)?,
-            mode: KittyKeyboardMode::from_i64(plain.second)?,
+            flags: flags(given.first)?,
+            mode: KittyKeyboardMode::from_i64(given.second)?,
         },
-        703 => Keyboard::PopKittyState(plain.first.try_into().ok()?),
+        703 => Keyboard::PopKittyState(given.first.try_into().ok()?),
         704 => Keyboard::QueryKittySupport,
-        705 => Keyboard::ReportKittyState(flags(plain.first)?),
+        705 => Keyboard::ReportKittyState(flags(given.first)?),
         _ => return None,
     })
 }
 
 /// The struct of an action; its tokens go behind those that are there.
-pub(crate) fn plain_of(action: &CSI, params: &mut Vec<Param>) -> Plain {
+pub(crate) fn struct_of(action: &CSI, params: &mut Vec<Param>) -> Action {
     match action {
-        CSI::Sgr(sgr) => sgr_plain(sgr),
-        CSI::Cursor(cursor) => cursor_plain(cursor),
-        CSI::Edit(edit) => edit_plain(edit),
-        CSI::Mode(mode) => mode_plain(mode),
-        CSI::Mouse(mouse) => mouse_plain(mouse),
-        CSI::Device(device) => device_plain(device, params),
-        CSI::Window(window) => window_plain(window),
-        CSI::Keyboard(keyboard) => keyboard_plain(keyboard),
+        CSI::Sgr(sgr) => sgr_struct(sgr),
+        CSI::Cursor(cursor) => cursor_struct(cursor),
+        CSI::Edit(edit) => edit_struct(edit),
+        CSI::Mode(mode) => mode_struct(mode),
+        CSI::Mouse(mouse) => mouse_struct(mouse),
+        CSI::Device(device) => device_struct(device, params),
+        CSI::Window(window) => window_struct(window),
+        CSI::Keyboard(keyboard) => keyboard_struct(keyboard),
         CSI::SelectCharacterPath(path, effect) => row(801, path.to_i64(), *effect),
         CSI::Unspecified(unknown) => unknown_row(unknown, params),
     }
@@ -447,18 +447,18 @@ pub(crate) fn plain_of(action: &CSI, params: &mut Vec<Param>) -> Plain {
 
 /// The action of a struct that the library made; `params` are its own tokens. It makes no other one.
 #[inline(always)]
-pub(crate) fn action_of(plain: &Plain, params: &[Param]) -> Option<CSI> {
-    Some(match plain.kind {
-        0 => CSI::Unspecified(Box::new(Unspecified::of(plain, params)?)),
-        1..=100 => CSI::Sgr(sgr_of(plain)?),
-        101..=200 => CSI::Cursor(cursor_of(plain)?),
-        201..=300 => CSI::Edit(edit_of(plain)?),
-        301..=400 => CSI::Mode(mode_of(plain)?),
-        401..=500 => CSI::Device(Box::new(device_of(plain, params)?)),
-        501..=600 => CSI::Mouse(mouse_of(plain)?),
-        601..=700 => CSI::Window(Box::new(window_of(plain)?)),
-        701..=800 => CSI::Keyboard(keyboard_of(plain)?),
-        801 => CSI::SelectCharacterPath(CharacterPath::from_i64(plain.first)?, plain.second),
+pub(crate) fn action_of(given: &Action, params: &[Param]) -> Option<CSI> {
+    Some(match given.kind {
+        0 => CSI::Unspecified(Box::new(Unspecified::of(given, params)?)),
+        1..=100 => CSI::Sgr(sgr_of(given)?),
+        101..=200 => CSI::Cursor(cursor_of(given)?),
+        201..=300 => CSI::Edit(edit_of(given)?),
+        301..=400 => CSI::Mode(mode_of(given)?),
+        401..=500 => CSI::Device(Box::new(device_of(given, params)?)),
+        501..=600 => CSI::Mouse(mouse_of(given)?),
+        601..=700 => CSI::Window(Box::new(window_of(given)?)),
+        701..=800 => CSI::Keyboard(keyboard_of(given)?),
+        801 => CSI::SelectCharacterPath(CharacterPath::from_i64(given.first)?, given.second),
         _ => return None,
     })
 }

@@ -4,7 +4,7 @@
 
 #[repr(C)]
 #[derive(Clone, Copy, Debug, Default, PartialEq, Eq)]
-pub struct Plain {
+pub struct Action {
     pub kind: u32,
     pub final_char: u32,
     pub first: i64,
@@ -23,6 +23,10 @@ pub struct Plain {
     pub button: u8,
     pub absent: u8,
 }
+
+/// Its name up to 1.1.
+#[deprecated(note = "it is Action, as `struct csicodec_action` in C")]
+pub type Plain = Action;
 
 #[repr(C)]
 #[derive(Clone, Copy, Debug, Default, PartialEq, Eq)]
@@ -108,7 +112,7 @@ pub struct Spanned {
     pub used: usize,
 }
 
-const _: () = assert!(size_of::<Plain>() == 64 && size_of::<Param>() == 16);
+const _: () = assert!(size_of::<Action>() == 64 && size_of::<Param>() == 16);
 const _: () = assert!(size_of::<Cleaning>() == 16 && size_of::<Cleaned>() == 40);
 
 unsafe extern "C" {
@@ -116,13 +120,13 @@ unsafe extern "C" {
     fn csicodec_next(
         bytes: *const u8,
         len: usize,
-        actions: *mut Plain,
+        actions: *mut Action,
         actions_room: usize,
         params: *mut Param,
         params_room: usize,
     ) -> Front;
     fn csicodec_encode(
-        actions: *const Plain,
+        actions: *const Action,
         count: usize,
         params: *const Param,
         params_count: usize,
@@ -130,7 +134,7 @@ unsafe extern "C" {
         room: usize,
     ) -> Encoded;
     fn csicodec_is_canonical(
-        action: *const Plain,
+        action: *const Action,
         params: *const Param,
         params_count: usize,
     ) -> Judged;
@@ -159,7 +163,7 @@ unsafe extern "C" {
         room: usize,
     ) -> Filtered;
     fn csicodec_encode_compact(
-        actions: *const Plain,
+        actions: *const Action,
         count: usize,
         params: *const Param,
         params_count: usize,
@@ -211,7 +215,7 @@ pub fn normalise(bytes: &[u8], out: &mut [u8]) -> Normalised {
     unsafe { csicodec_normalise(bytes.as_ptr(), bytes.len(), out.as_mut_ptr(), out.len()) }
 }
 
-pub fn next(bytes: &[u8], actions: &mut [Plain], params: &mut [Param]) -> Front {
+pub fn next(bytes: &[u8], actions: &mut [Action], params: &mut [Param]) -> Front {
     // SAFETY: as above.
     unsafe {
         csicodec_next(
@@ -225,7 +229,7 @@ pub fn next(bytes: &[u8], actions: &mut [Plain], params: &mut [Param]) -> Front 
     }
 }
 
-pub fn encode(actions: &[Plain], params: &[Param], out: &mut [u8]) -> Encoded {
+pub fn encode(actions: &[Action], params: &[Param], out: &mut [u8]) -> Encoded {
     // SAFETY: as above.
     unsafe {
         csicodec_encode(
@@ -239,7 +243,7 @@ pub fn encode(actions: &[Plain], params: &[Param], out: &mut [u8]) -> Encoded {
     }
 }
 
-pub fn is_canonical(action: &Plain, params: &[Param]) -> Judged {
+pub fn is_canonical(action: &Action, params: &[Param]) -> Judged {
     // SAFETY: as above.
     unsafe { csicodec_is_canonical(action, params.as_ptr(), params.len()) }
 }
@@ -286,7 +290,7 @@ pub fn compact_semicolons(mode: u32, limit: usize, bytes: &[u8], out: &mut [u8])
     }
 }
 
-pub fn encode_compact(actions: &[Plain], params: &[Param], out: &mut [u8]) -> Encoded {
+pub fn encode_compact(actions: &[Action], params: &[Param], out: &mut [u8]) -> Encoded {
     // SAFETY: as above.
     unsafe {
         csicodec_encode_compact(

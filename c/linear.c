@@ -70,7 +70,7 @@ static int filtered(size_t len) {
     return at == len;
 }
 
-/* Whether all is used, stripped byte by byte. */
+/* Whether csicodec_strip_step uses all of a sequence that comes byte by byte. */
 static int stripped(size_t len) {
     struct csicodec_cleaned step = {0, {0, 0, 0, 0}, 0, 0};
     size_t at = 0, end = 1, looked = 0, held = 0;

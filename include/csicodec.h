@@ -217,13 +217,13 @@ struct csicodec_filtered {
 struct csicodec_filtered csicodec_filter(uint32_t mode, size_t limit, const uint8_t *bytes, size_t len, uint8_t *out,
                                          size_t room);
 
-/* A step as csicodec_filter, of a filter that writes each control sequence in the shortest spelling that it finds, with the same
+/* A step as csicodec_filter's, of a filter that writes each control sequence in the shortest spelling that it finds, with the same
  * actions, and as it came if none is shorter. */
 struct csicodec_filtered csicodec_compact(uint32_t mode, size_t limit, const uint8_t *bytes, size_t len, uint8_t *out,
                                           size_t room);
 
 /* As csicodec_compact, with semicolons in foreground and background colours (38;2;R;G;B), even if that is no shorter: for terminals
- * and tools that don't know colons. A colour with an alpha has no such spelling. */
+ * and tools that don't know colons. A colour with an alpha has no such spelling, and stays as it came. */
 struct csicodec_filtered csicodec_compact_semicolons(uint32_t mode, size_t limit, const uint8_t *bytes, size_t len, uint8_t *out,
                                                      size_t room);
 
@@ -243,8 +243,8 @@ struct csicodec_stripped {
  * UTF-8 become U+FFFD. It is written to out if needed <= room; otherwise nothing is written. */
 struct csicodec_stripped csicodec_strip(const uint8_t *bytes, size_t len, uint8_t *out, size_t room);
 
-/* Writes the text as csicodec_strip, with the attributes (SGR) that hide nothing, in their normal form; if the last of them isn't a
- * reset, a reset ends the text. */
+/* As csicodec_strip, with the attributes (SGR) that hide nothing, in their normal form; if the last of them isn't a reset, a reset
+ * ends the text. */
 struct csicodec_stripped csicodec_clean(const uint8_t *bytes, size_t len, uint8_t *out, size_t room);
 
 /* Which colours stay. */
@@ -258,8 +258,8 @@ enum csicodec_depth {
 };
 
 /* As csicodec_clean, with the colours of a depth (enum csicodec_depth), and with links if `links` is 1, without if it is 0. A link is
- * an OSC 8 whose address is at most 2,083 visible ASCII characters, and its parameters at most 256. If a link is open at the end, a link
- * without an address closes it. For another depth, and for links above 1, the status is CSICODEC_BAD_STATE. */
+ * an OSC 8 whose address is at most 2,083 visible ASCII characters, and its parameters at most 256. If a link is open at the end, a
+ * link without an address closes it. For another depth, and for links above 1, the status is CSICODEC_BAD_STATE. */
 struct csicodec_stripped csicodec_clean_with(uint32_t depth, uint32_t links, const uint8_t *bytes, size_t len, uint8_t *out,
                                              size_t room);
 
@@ -313,8 +313,8 @@ struct csicodec_cleaned {
 struct csicodec_cleaned csicodec_strip_step(const struct csicodec_cleaning *state, const uint8_t *bytes, size_t len, uint8_t *out,
                                             size_t room);
 
-/* The same step of csicodec_clean_with without links. Pass the same depth in each step; for an unknown depth the status is
- * CSICODEC_BAD_STATE. There are no steps with links, whose addresses would have to be kept between two steps. */
+/* A step of csicodec_clean_with without links, as csicodec_strip_step. Pass the same depth in each step; for an unknown depth the
+ * status is CSICODEC_BAD_STATE. There are no steps with links, whose addresses would have to be kept between two steps. */
 struct csicodec_cleaned csicodec_clean_step(uint32_t depth, const struct csicodec_cleaning *state, const uint8_t *bytes, size_t len,
                                             uint8_t *out, size_t room);
 

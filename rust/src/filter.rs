@@ -25,7 +25,7 @@ impl Filter {
         }
     }
 
-    /// A new stream, with each control sequence in the shortest spelling that is found, with the same actions.
+    /// A new stream, in which each control sequence is written in the shortest spelling that is found, with the same actions.
     pub fn compact(limit: NonZeroUsize) -> Self {
         Filter {
             step: raw::compact,

@@ -263,7 +263,7 @@ pub fn encode_compact_to(actions: &[CSI], out: &mut Vec<u8>) -> Result<(), Error
 /// A call that writes structs and their tokens.
 type Encoding = fn(&[raw::Action], &[raw::Param], &mut [u8]) -> raw::Encoded;
 
-/// Appends what the call writes for these structs and tokens, with so much room at first.
+/// Appends what the call writes for structs and their tokens, with so much room at first.
 fn encode_structs(
     call: Encoding,
     structs: &[raw::Action],

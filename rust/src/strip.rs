@@ -127,7 +127,7 @@ impl Cleaner {
         }
     }
 
-    /// A new stream, of which text and styles are left, in these colours.
+    /// A new stream, which becomes text with its styles, in these colours.
     pub fn clean(depth: Depth) -> Self {
         Cleaner {
             depth: Some(depth),

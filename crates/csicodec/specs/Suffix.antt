@@ -29,7 +29,9 @@ abbrev pub EndsUnknown : Bool → List CsiParam → Bool → ℕ → List Action
 EndsUnknown behind list flag final [] = Unit {0}
 EndsUnknown behind list flag final (Unspecified params own last ∷ more) =
     (more ≡ []) × (own ≡ flag) × (last ≡ final) × HoldsEnd behind list params
-EndsUnknown behind list flag final (action ∷ more) = EndsUnknown (changes_private action) list flag final more
+EndsUnknown behind list flag final (action ∷ more) =
+    EndsUnknown (changes_private action) list flag final more
 
 abbrev pub SuffixLaw : List CsiParam → Bool → ℕ → Type 0
-SuffixLaw list flag final = (actions : List Action) → Actions list flag final actions → EndsUnknown false list flag final actions
+SuffixLaw list flag final = (actions : List Action) → Actions list flag final actions
+    → EndsUnknown false list flag final actions

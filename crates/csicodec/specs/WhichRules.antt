@@ -57,7 +57,8 @@ is_final c final = final == code c
 
 -- `h`, `l`, `s` or `r`
 abbrev pub changes_modes : ℕ → Bool
-changes_modes final = is_final "h" final || (is_final "l" final || (is_final "s" final || is_final "r" final))
+changes_modes final =
+    is_final "h" final || (is_final "l" final || (is_final "s" final || is_final "r" final))
 
 -- the first line that fits decides
 abbrev pub rules_of : List CsiParam → ℕ → Rules

@@ -14,7 +14,8 @@ abbrev pub IsCompacted : ℕ → ℕ → List ℕ → List ℕ → List ℕ → 
 IsCompacted number limit bytes old new answer = IsStep Compacts number limit bytes old new answer
 
 -- a text of these actions is put
-pub record IsCompact (structs : List Struct) (params : List Param) (old new : List ℕ) (answer : Encoded) : Type 0 where
+pub record IsCompact (structs : List Struct) (params : List Param) (old new : List ℕ)
+    (answer : Encoded) : Type 0 where
   pub actions : List Action
   pub stand : AllStand structs params actions
   pub text : List ℕ

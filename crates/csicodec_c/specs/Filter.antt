@@ -22,7 +22,8 @@ abbrev pub refused : Status → Filtered
 refused why = record { status = status_number why; mode = 0; used = 0; needed = 0 }
 
 -- the text of the parts that are sure, which is put where it fits; the bytes behind them are held, in this mode
-pub record IsStep (Writes : List ℕ → List ℕ → Type 0) (number limit : ℕ) (bytes old new : List ℕ) (answer : Filtered) : Type 0 where
+pub record IsStep (Writes : List ℕ → List ℕ → Type 0) (number limit : ℕ) (bytes old new : List ℕ)
+    (answer : Filtered) : Type 0 where
   pub before : Mode
   pub after : Mode
   pub text : List ℕ
@@ -44,5 +45,6 @@ IsBadState number limit = (limit ≡ 0) ⊎ ((mode : Mode) → number ≡ mode_n
 
 -- or a refusal, and then nothing is put
 pub record IsRefused (number limit : ℕ) (old new : List ℕ) (answer : Filtered) : Type 0 where
-  pub why : (answer ≡ refused status.Memory) ⊎ ((answer ≡ refused status.BadState) × IsBadState number limit)
+  pub why : (answer ≡ refused status.Memory)
+      ⊎ ((answer ≡ refused status.BadState) × IsBadState number limit)
   pub same : new ≡ old

@@ -33,14 +33,16 @@ abbrev pub zeros : Cleaning
 zeros = record { mode = 0; titled = 0; styled = 0; held = 0 }
 
 abbrev pub cleaned : Pause → ℕ → ℕ → Cleaned
-cleaned p used needed = record { status = status_number status.Done; state = numbers p; used = used; needed = needed }
+cleaned p used needed =
+    record { status = status_number status.Done; state = numbers p; used = used; needed = needed }
 
 abbrev pub refused : Status → Cleaned
 refused why = record { status = status_number why; state = zeros; used = 0; needed = 0 }
 
 -- a step by a rule, whose state is told by whether a style is open: the text of what is sure, which is put where it fits, how many bytes
 -- were used, and the state behind them, which the others can go on from
-pub record IsStep {S : Type 0} (Gives : RuleOf S) (rule : Bool → S) (state : Cleaning) (bytes old new : List ℕ) (answer : Cleaned) : Type 0 where
+pub record IsStep {S : Type 0} (Gives : RuleOf S) (rule : Bool → S) (state : Cleaning)
+    (bytes old new : List ℕ) (answer : Cleaned) : Type 0 where
   pub before : Pause
   pub after : Pause
   pub text : List ℕ
@@ -54,12 +56,14 @@ pub record IsStep {S : Type 0} (Gives : RuleOf S) (rule : Bool → S) (state : C
 
 -- a step of strip, which opens no style
 abbrev pub IsStripStep : Cleaning → List ℕ → List ℕ → List ℕ → Cleaned → Type 0
-IsStripStep state bytes old new answer = IsStep drops (λ _. bare) state bytes old new answer × (answer.state.styled ≡ state.styled)
+IsStripStep state bytes old new answer =
+    IsStep drops (λ _. bare) state bytes old new answer × (answer.state.styled ≡ state.styled)
 
 -- a step of clean, with the colours that stay
 abbrev pub IsCleanStep : ℕ → Cleaning → List ℕ → List ℕ → List ℕ → Cleaned → Type 0
 IsCleanStep number state bytes old new answer =
-    (d : Depth) × (number ≡ depth_number d) × IsStep (keeps (λ (k : Keeping). k)) (resumed d) state bytes old new answer
+    (d : Depth) × (number ≡ depth_number d)
+    × IsStep (keeps (λ (k : Keeping). k)) (resumed d) state bytes old new answer
 
 -- what ends a stream behind its steps, which is put where it fits
 pub record IsEnd (state : Cleaning) (bytes old new : List ℕ) (answer : Stripped) : Type 0 where
@@ -70,26 +74,35 @@ pub record IsEnd (state : Cleaning) (bytes old new : List ℕ) (answer : Strippe
 
 -- calls in turn, each over the bytes that the one before it didn't use and then a chunk, with room enough: all that they put, the state
 -- behind them, and the bytes that are left there
-abbrev pub AreCalls : (Cleaning → List ℕ → List ℕ → List ℕ → Cleaned → Type 0) → Cleaning → List ℕ → List (List ℕ) → List ℕ → Cleaning → List ℕ → Type 0
+abbrev pub AreCalls : (Cleaning → List ℕ → List ℕ → List ℕ → Cleaned → Type 0) → Cleaning → List ℕ
+    → List (List ℕ) → List ℕ → Cleaning → List ℕ → Type 0
 AreCalls IsCall state again [] all last left = (all ≡ []) × (last ≡ state) × (left ≡ again)
 AreCalls IsCall state again (chunk ∷ chunks) all last left =
-    (answer : Cleaned) × (old : List ℕ) × (new : List ℕ) × (others : List ℕ) × IsCall state (again ++ chunk) old new answer × (answer.needed ≤ length old)
-    × (all ≡ take answer.needed new ++ others) × AreCalls IsCall answer.state (drop answer.used (again ++ chunk)) chunks others last left
+    (answer : Cleaned) × (old : List ℕ) × (new : List ℕ) × (others : List ℕ)
+    × IsCall state (again ++ chunk) old new answer × (answer.needed ≤ length old)
+    × (all ≡ take answer.needed new ++ others)
+    × AreCalls IsCall answer.state (drop answer.used (again ++ chunk)) chunks others last left
 
 -- or memory ran out, or the state is none, and then nothing is put
-pub record IsStripRefused (state : Cleaning) (len : ℕ) (old new : List ℕ) (answer : Cleaned) : Type 0 where
-  pub why : (answer ≡ refused status.Memory) ⊎ ((answer ≡ refused status.BadState) × IsBadState state len)
+pub record IsStripRefused (state : Cleaning) (len : ℕ) (old new : List ℕ)
+    (answer : Cleaned) : Type 0 where
+  pub why : (answer ≡ refused status.Memory)
+      ⊎ ((answer ≡ refused status.BadState) × IsBadState state len)
   pub same : new ≡ old
 
 -- or the depth is none
 abbrev pub IsBadDepth : ℕ → Type 0
 IsBadDepth number = (d : Depth) → number ≡ depth_number d → ⊥
 
-pub record IsCleanRefused (number : ℕ) (state : Cleaning) (len : ℕ) (old new : List ℕ) (answer : Cleaned) : Type 0 where
-  pub why : (answer ≡ refused status.Memory) ⊎ ((answer ≡ refused status.BadState) × (IsBadDepth number ⊎ IsBadState state len))
+pub record IsCleanRefused (number : ℕ) (state : Cleaning) (len : ℕ) (old new : List ℕ)
+    (answer : Cleaned) : Type 0 where
+  pub why : (answer ≡ refused status.Memory)
+      ⊎ ((answer ≡ refused status.BadState) × (IsBadDepth number ⊎ IsBadState state len))
   pub same : new ≡ old
 
 -- so at the end
-pub record IsEndRefused (state : Cleaning) (len : ℕ) (old new : List ℕ) (answer : Stripped) : Type 0 where
-  pub why : (answer ≡ nothing status.Memory) ⊎ ((answer ≡ nothing status.BadState) × IsBadState state len)
+pub record IsEndRefused (state : Cleaning) (len : ℕ) (old new : List ℕ)
+    (answer : Stripped) : Type 0 where
+  pub why : (answer ≡ nothing status.Memory)
+      ⊎ ((answer ≡ nothing status.BadState) × IsBadState state len)
   pub same : new ≡ old

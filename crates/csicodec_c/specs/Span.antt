@@ -53,5 +53,6 @@ IsRefused number limit answer = (answer ≡ refused status.BadState) × IsBadSta
 
 -- the number of the code that an intermediate byte, where 0 is none, and a final byte are; and 0 where no code is written so
 pub record IsCode (intermediate final answer : ℕ) : Type 0 where
-  pub code : (known : EscCode) → packed (Some intermediate) final ≡ esc_number known → answer ≡ esc_number known
+  pub code : (known : EscCode) → packed (Some intermediate) final ≡ esc_number known
+      → answer ≡ esc_number known
   pub other : ((known : EscCode) → packed (Some intermediate) final ≢ esc_number known) → answer ≡ 0

@@ -35,7 +35,8 @@ pub record IsStripped (bytes old new : List ℕ) (answer : Stripped) : Type 0 wh
   pub fills : Fills old new text
 
 -- the length of the text with what passes beside it, which is put where it fits
-pub record IsCleanedIn (passing : Passing) (bytes old new : List ℕ) (answer : Stripped) : Type 0 where
+pub record IsCleanedIn (passing : Passing) (bytes old new : List ℕ)
+    (answer : Stripped) : Type 0 where
   pub text : List ℕ
   pub styles : StylesIn passing bytes text
   pub styled : IsStyledIn passing text
@@ -51,7 +52,8 @@ abbrev pub IsPassing : ℕ → ℕ → Passing → Type 0
 IsPassing depth links passing = (depth ≡ depth_number passing.depth) × (links ≡ bit passing.links)
 
 abbrev pub IsCleanedWith : ℕ → ℕ → List ℕ → List ℕ → List ℕ → Stripped → Type 0
-IsCleanedWith depth links bytes old new answer = (passing : Passing) × IsPassing depth links passing × IsCleanedIn passing bytes old new answer
+IsCleanedWith depth links bytes old new answer =
+    (passing : Passing) × IsPassing depth links passing × IsCleanedIn passing bytes old new answer
 
 abbrev pub refused : Status → Stripped
 refused why = record { status = status_number why; needed = 0 }
@@ -63,5 +65,7 @@ pub record IsRefused (old new : List ℕ) (answer : Stripped) : Type 0 where
 
 -- or the numbers stand for nothing that passes, and then nothing is put either
 pub record IsRefusedWith (depth links : ℕ) (old new : List ℕ) (answer : Stripped) : Type 0 where
-  pub why : (answer ≡ refused status.Memory) ⊎ ((answer ≡ refused status.BadState) × ((passing : Passing) → IsPassing depth links passing → ⊥))
+  pub why : (answer ≡ refused status.Memory)
+      ⊎ ((answer ≡ refused status.BadState)
+      × ((passing : Passing) → IsPassing depth links passing → ⊥))
   pub same : new ≡ old

@@ -27,7 +27,8 @@ pub record IsPut (old new text : List ℕ) (answer : Encoded) : Type 0 where
 
 -- the action has this struct, and its tokens stand at the place of the struct
 abbrev pub Has : Struct → List Param → Action → Type 0
-Has given params a = InRange a × (struct_of given.place a ≡ given) × (params_of a ≡ take given.len (drop given.place params))
+Has given params a = InRange a × (struct_of given.place a ≡ given)
+    × (params_of a ≡ take given.len (drop given.place params))
 
 -- the struct stands for the one of these that is by its name
 abbrev pub Stands : Struct → List Param → Action → Type 0
@@ -39,17 +40,20 @@ StandsForNone given params = (a : Action) → Has given params a → ⊥
 
 -- where any action has the struct and the tokens, they stand for one action, and for no other
 abbrev pub OneAction : Struct → List Param → Type 0
-OneAction given params = (a : Action) → Has given params a → (b : Action) × Stands given params b × ((c : Action) → Stands given params c → c ≡ b)
+OneAction given params = (a : Action) → Has given params a → (b : Action) × Stands given params b
+    × ((c : Action) → Stands given params c → c ≡ b)
 
 -- so in turn
 abbrev pub AllStand : List Struct → List Param → List Action → Type 0
 AllStand [] params [] = Unit {0}
 AllStand [] params (a ∷ actions) = ⊥
 AllStand (given ∷ structs) params [] = ⊥
-AllStand (given ∷ structs) params (a ∷ actions) = Stands given params a × AllStand structs params actions
+AllStand (given ∷ structs) params (a ∷ actions) =
+    Stands given params a × AllStand structs params actions
 
 -- the texts of these actions are put
-pub record IsDone (structs : List Struct) (params : List Param) (old new : List ℕ) (answer : Encoded) : Type 0 where
+pub record IsDone (structs : List Struct) (params : List Param) (old new : List ℕ)
+    (answer : Encoded) : Type 0 where
   pub actions : List Action
   pub stand : AllStand structs params actions
   pub put : IsPut old new (texts actions) answer
@@ -63,8 +67,10 @@ pub record HasNone (structs : List Struct) (params : List Param) (at : ℕ) : Ty
   pub none : StandsForNone given params
 
 -- or a refusal, of memory or of a struct that stands for no action, and then nothing is put
-pub record IsRefused (structs : List Struct) (params : List Param) (old new : List ℕ) (answer : Encoded) : Type 0 where
-  pub status : (answer.status ≡ status_number status.Memory) ⊎ ((answer.status ≡ status_number status.NoAction) × HasNone structs params answer.at)
+pub record IsRefused (structs : List Struct) (params : List Param) (old new : List ℕ)
+    (answer : Encoded) : Type 0 where
+  pub status : (answer.status ≡ status_number status.Memory)
+      ⊎ ((answer.status ≡ status_number status.NoAction) × HasNone structs params answer.at)
   pub same : new ≡ old
 
 abbrev pub judgement : Status → ℕ → Judged
@@ -72,9 +78,12 @@ judgement why canonical = record { status = status_number why; canonical = canon
 
 -- whether the action that the struct stands for is read back from its text
 abbrev pub IsJudged : Struct → List Param → Judged → Type 0
-IsJudged given params answer = (a : Action) × Stands given params a × (answer.status ≡ status_number status.Done) × (answer.canonical ≡ 1 ↔ Canonical a false) × (answer.canonical < 2)
+IsJudged given params answer = (a : Action) × Stands given params a
+    × (answer.status ≡ status_number status.Done) × (answer.canonical ≡ 1 ↔ Canonical a false)
+    × (answer.canonical < 2)
 
 -- or why that isn't known: memory ran out, or the struct stands for no action
 abbrev pub IsUnjudged : Struct → List Param → Judged → Type 0
 IsUnjudged given params answer =
-    (answer ≡ judgement status.Memory 0) ⊎ ((answer ≡ judgement status.NoAction 0) × StandsForNone given params)
+    (answer ≡ judgement status.Memory 0)
+    ⊎ ((answer ≡ judgement status.NoAction 0) × StandsForNone given params)

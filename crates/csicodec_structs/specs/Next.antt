@@ -29,7 +29,8 @@ refusal error = refused (fault_of error).0 (fault_of error).1
 
 -- why bytes may be refused so: their own fault; out of memory only for a sequence
 abbrev pub IsWhy : List ℕ → ReadError → Type 0
-IsWhy bytes reading.Memory = (list : List CsiParam) × (final : ℕ) × (rest : List ℕ) × Reads bytes list final rest
+IsWhy bytes reading.Memory =
+    (list : List CsiParam) × (final : ℕ) × (rest : List ℕ) × Reads bytes list final rest
 IsWhy bytes error = FaultOf bytes error
 
 -- actions, and the bytes that are left, of the sequence at the front
@@ -49,14 +50,16 @@ abbrev pub all_params : List Action → List Param
 all_params actions = flat_map params_of actions
 
 -- these actions and their tokens, as many as there is room for, and how many they are
-pub record Lays (actions_old actions_new : List Struct) (params_old params_new : List Param) (count : Counts) (all : List Action) : Type 0 where
+pub record Lays (actions_old actions_new : List Struct) (params_old params_new : List Param)
+    (count : Counts) (all : List Action) : Type 0 where
   pub actions : count.actions ≡ length all
   pub params : count.params ≡ length (all_params all)
   pub lays_actions : actions_new ≡ laid actions_old (structs 0 all)
   pub lays_params : params_new ≡ laid params_old (all_params all)
 
 -- the actions of the sequence at the front and their tokens, as many as there is room for, how many they are, and its length
-pub record IsDone (bytes : List ℕ) (actions_old actions_new : List Struct) (params_old params_new : List Param) (answer : Front) : Type 0 where
+pub record IsDone (bytes : List ℕ) (actions_old actions_new : List Struct)
+    (params_old params_new : List Param) (answer : Front) : Type 0 where
   pub actions : List Action
   pub rest : List ℕ
   pub front : IsFront bytes actions rest
@@ -70,7 +73,8 @@ pub record IsDone (bytes : List ℕ) (actions_old actions_new : List Struct) (pa
   pub lays_params : params_new ≡ laid params_old (all_params actions)
 
 -- or the refusal of the bytes, and then nothing is put, unless memory is refused
-pub record IsRefused (bytes : List ℕ) (actions_old actions_new : List Struct) (params_old params_new : List Param) (answer : Front) : Type 0 where
+pub record IsRefused (bytes : List ℕ) (actions_old actions_new : List Struct)
+    (params_old params_new : List Param) (answer : Front) : Type 0 where
   pub error : ReadError
   pub why : IsWhy bytes error
   pub tells : answer ≡ refusal error

@@ -12,7 +12,8 @@ use Rattle.csicodec_structs.specs.declared.status.Status.{Status}
 use Rattle.csicodec_structs.specs.declared.status.Status.TheVariants as status
 
 abbrev pub normalised : ℕ → Normalised
-normalised needed = record { status = status_number status.Done; start = 0; at = 0; needed = needed }
+normalised needed =
+    record { status = status_number status.Done; start = 0; at = 0; needed = needed }
 
 abbrev pub refused : Status → ℕ → ℕ → Normalised
 refused why start at = record { status = status_number why; start = start; at = at; needed = 0 }

@@ -45,7 +45,8 @@ unknown_row final place len = record empty { final_char = final; place = place; 
 abbrev pub color_row : ℕ → ColorSpec → Struct
 color_row kind color.Default = row kind (pos 0) (pos 0)
 color_row kind (color.PaletteIndex i) = row kind (pos 1) (pos i)
-color_row kind (color.TrueColor c) = record (row kind (pos 2) (pos 0)) { red = c.0; green = c.1; blue = c.2; alpha = c.3 }
+color_row kind (color.TrueColor c) =
+    record (row kind (pos 2) (pos 0)) { red = c.0; green = c.1; blue = c.2; alpha = c.3 }
 
 -- an absent number is 0
 abbrev pub number_or_zero : Option ℤ → ℤ
@@ -65,7 +66,8 @@ sized_row kind first second = record (row kind (number_or_zero first) (number_or
 
 -- four sides, with two numbers
 abbrev pub area_row : ℕ → ℤ → ℤ → ℕ → ℕ → ℕ → ℕ → Struct
-area_row kind first second top left bottom right = record (row kind first second) { top = top; left = left; bottom = bottom; right = right }
+area_row kind first second top left bottom right =
+    record (row kind first second) { top = top; left = left; bottom = bottom; right = right }
 
 -- ---- numbers
 

@@ -21,22 +21,30 @@ use Rattle.csicodec_structs.specs.Status.{status_number}
 use Rattle.csicodec_structs.specs.declared.status.Status.TheVariants as status
 
 -- behind what is laid lies one action more, and so many there are then
-abbrev pub LaysOne : Counts → List Struct → List Struct → List Param → List Param → Action → Counts → Type 0
+abbrev pub LaysOne : Counts → List Struct → List Struct → List Param → List Param → Action → Counts
+    → Type 0
 LaysOne count actions_old actions_new params_old params_new a next =
     (old_actions : List Struct) (old_params : List Param) (before : List Action) →
-    Lays old_actions actions_old old_params params_old count before → Lays old_actions actions_new old_params params_new next (before ++ a ∷ [])
+    Lays old_actions actions_old old_params params_old count before
+    → Lays old_actions actions_new old_params params_new next (before ++ a ∷ [])
 
 -- these tokens stand behind those that were there up to the place, as many as there is room for, and end here
-pub record PutsBehind (room_old room_new : List Param) (place : ℕ) (items : List Param) (end : ℕ) : Type 0 where
+pub record PutsBehind (room_old room_new : List Param) (place : ℕ) (items : List Param)
+    (end : ℕ) : Type 0 where
   pub ends : end ≡ place + length items
-  pub puts : (old before : List Param) → room_old ≡ laid old before → place ≡ length before → room_new ≡ laid old (before ++ items)
+  pub puts : (old before : List Param) → room_old ≡ laid old before → place ≡ length before
+      → room_new ≡ laid old (before ++ items)
 
 -- the action that says this ahead of a list of extensions or values
 abbrev pub headed : Head → List CsiParam → Action
-headed head.Vt220 list = action.Device (device.DeviceAttributes (device.Vt220 (listed_attributes list)))
-headed head.Vt320 list = action.Device (device.DeviceAttributes (device.Vt320 (listed_attributes list)))
-headed head.Vt420 list = action.Device (device.DeviceAttributes (device.Vt420 (listed_attributes list)))
-headed (head.Graphics item action_or_status) list = action.Device (device.XtSmGraphics item action_or_status (integers list))
+headed head.Vt220 list =
+    action.Device (device.DeviceAttributes (device.Vt220 (listed_attributes list)))
+headed head.Vt320 list =
+    action.Device (device.DeviceAttributes (device.Vt320 (listed_attributes list)))
+headed head.Vt420 list =
+    action.Device (device.DeviceAttributes (device.Vt420 (listed_attributes list)))
+headed (head.Graphics item action_or_status) list =
+    action.Device (device.XtSmGraphics item action_or_status (integers list))
 
 -- the action of a list that is read whole, which takes memory
 abbrev pub large_of : Large → Action
@@ -46,7 +54,8 @@ large_of (large.Listed h list) = headed h list.now
 large_of (large.Unknown list final) = action.Unspecified list.now false final
 
 -- its actions are put
-pub record IsLaid (list : List CsiParam) (final used : ℕ) (actions_old actions_new : List Struct) (params_old params_new : List Param) (answer : Front) : Type 0 where
+pub record IsLaid (list : List CsiParam) (final used : ℕ) (actions_old actions_new : List Struct)
+    (params_old params_new : List Param) (answer : Front) : Type 0 where
   pub all : List Action
   pub are : Actions list false final all
   pub ok : answer.status ≡ status_number status.Done
@@ -54,6 +63,8 @@ pub record IsLaid (list : List CsiParam) (final used : ℕ) (actions_old actions
   pub lays : Lays actions_old actions_new params_old params_new (record { actions = answer.actions; params = answer.params }) all
 
 -- so, or out of memory
-abbrev pub IsAnswer : List CsiParam → ℕ → ℕ → List Struct → List Struct → List Param → List Param → Front → Type 0
+abbrev pub IsAnswer : List CsiParam → ℕ → ℕ → List Struct → List Struct → List Param → List Param
+    → Front → Type 0
 IsAnswer list final used actions_old actions_new params_old params_new answer =
-    IsLaid list final used actions_old actions_new params_old params_new answer ⊎ (answer ≡ refused status.Memory 0)
+    IsLaid list final used actions_old actions_new params_old params_new answer
+    ⊎ (answer ≡ refused status.Memory 0)

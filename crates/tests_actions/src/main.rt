@@ -1,46 +1,21 @@
-//! Sequences, what each stands for, and how that is written: a table.
+//! Sequences, what each stands for, and how that is written; and calls of the library with their answers: a table.
 //!
-//! Each line of standard input is a sequence, or bytes that are none, with `\e` for ESC, `\a` for BEL and `\\` for `\`. The program
-//! writes the line, and behind it, with tabs between, the actions that the sequence stands for, as `{:?}` writes them, and the
-//! text of these; `read otherwise` where that text stands for others, and `parsed otherwise` where `parse_all` of its list does. Of a
-//! refusal it writes the error. An empty line, and one that
-//! begins with `#`, stays as it is. The files `stdin` and `stdout` beside `src/` are the table, which was written by hand.
+//! A line of standard input that begins with `\` is a sequence, or bytes that are none. The program writes the line, and behind it, with tabs
+//! between, the actions that the sequence stands for, as `{:?}` writes them, and the text of these; `read otherwise` where that text stands
+//! for others, and `parsed otherwise` where `parse_all` of its list does. Of a refusal it writes the error. Any other line is a word for a call
+//! and what it is made with (`calls.rt`); behind it stand the answers. An empty line, and one that begins with `#`, stays as it is.
+//!
+//! Bytes are spelled with `\e` for ESC, `\a` for BEL and `\\` for `\`, in the answers those from 80 on as `\x` and two digits; tokens
+//! stand between spaces: a number, or one character for a byte, with a `'` before it where it is a digit, and `\s` for the space. The files
+//! `stdin` and `stdout` beside `src/` are the table, which was written by hand.
 #![tactic(auto)]
 
+mod calls;
+mod spell;
+
 use csicodec::{CSI, Esc, decode_all, encode_all, parse_all, read_csi};
+use spell::{bytes_of, spelled};
 use std::alloc::{AllocError, Global};
-
-/// The bytes that a line spells.
-fn bytes_of(alloc: Global, line: &str) -> Result<Vec<u8>, AllocError> {
-    let mut bytes = Vec::new(alloc);
-    let mut escaped = false;
-    for byte in line.bytes() {
-        if escaped || byte != b'\\' {
-            bytes.push(match byte {
-                b'e' if escaped => 0x1b,
-                b'a' if escaped => 0x07,
-                _ => byte,
-            })?;
-            escaped = false;
-        } else {
-            escaped = true;
-        }
-    }
-    Ok(bytes)
-}
-
-/// A text as a line spells it.
-fn spelled(alloc: Global, text: &[u8]) -> Result<String, AllocError> {
-    let mut line = String::new(alloc);
-    for byte in text {
-        match *byte {
-            0x1b => line.push_str("\\e")?,
-            b'\\' => line.push_str("\\\\")?,
-            byte => line.push(char::from(byte))?,
-        }
-    }
-    Ok(line)
-}
 
 /// Whether bytes that are one sequence stand for these actions by its list alone, too.
 fn is_parsed(alloc: Global, bytes: &[u8], actions: &[CSI]) -> Result<bool, AllocError> {
@@ -96,9 +71,12 @@ fn main(rt: HostRuntime) -> anyhow::Result<()> {
         let line = line?;
         if line.is_empty() || line.starts_with('#') {
             println!(rt; "{line}")?;
-        } else {
+        } else if line.starts_with('\\') {
             let bytes = bytes_of(rt.alloc(), line.as_str())?;
             println!(rt; "{line}\t{}", told(rt.alloc(), &bytes)?)?;
+        } else {
+            let answers = calls::told(rt.alloc(), line.as_str())?;
+            println!(rt; "{line}\t{answers}")?;
         }
     }
     Ok(())

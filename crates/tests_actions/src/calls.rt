@@ -1,7 +1,4 @@
-//! Calls of the library, a line each: a table.
-//!
-//! A line of standard input is a word for the call, and what it is made with. The program writes the line, and behind it, with
-//! tabs between, the answers, as `{:?}` writes them.
+//! Calls of the library, a line each.
 //!
 //! | word | what follows | the answers |
 //! |---|---|---|
@@ -10,71 +7,9 @@
 //! | `read` | bytes | `read_csi`: the list, the final, and what is left |
 //! | `fronts` | bytes | `read_csi` of each of their fronts but themselves, the empty one first |
 //! | `twice` | bytes | what `normalise` writes, and `again the same` where it writes that of its own output |
-//!
-//! Tokens stand between spaces: a number, or one character for a byte, with a `'` before it where it is a digit, and `\s` for the
-//! space. Bytes are spelled as in `tests_actions`, and in the answers those from 80 on as `\x` and two digits. An empty line, and one that begins with `#`, stays as it is. The files `stdin` and
-//! `stdout` beside `src/` are the table, which was written by hand.
-#![tactic(auto)]
-
-use csicodec::{Cracked, CsiParam, decode_all, encode_all, normalise, parse_all, read_csi};
+use crate::spell::{bytes_of, spelled, tokens_of};
+use csicodec::{Cracked, decode_all, encode_all, normalise, parse_all, read_csi};
 use std::alloc::{AllocError, Global};
-
-/// The bytes that a line spells.
-fn bytes_of(alloc: Global, line: &str) -> Result<Vec<u8>, AllocError> {
-    let mut bytes = Vec::new(alloc);
-    let mut escaped = false;
-    for byte in line.bytes() {
-        if escaped || byte != b'\\' {
-            bytes.push(match byte {
-                b'e' if escaped => 0x1b,
-                b'a' if escaped => 0x07,
-                _ => byte,
-            })?;
-            escaped = false;
-        } else {
-            escaped = true;
-        }
-    }
-    Ok(bytes)
-}
-
-/// A text as a line spells it.
-fn spelled(alloc: Global, text: &[u8]) -> Result<String, AllocError> {
-    let mut line = String::new(alloc);
-    for byte in text {
-        match *byte {
-            0x1b => line.push_str("\\e")?,
-            b'\\' => line.push_str("\\\\")?,
-            0x80.. => line.push_str(format!(in alloc; "\\x{byte:02x}")?.as_str())?,
-            byte => line.push(char::from(byte))?,
-        }
-    }
-    Ok(line)
-}
-
-/// The token that a word spells, if it spells one.
-fn token_of(word: &str) -> Option<CsiParam> {
-    if let Ok(number) = word.parse() {
-        return Some(CsiParam::Integer(number));
-    }
-    let quoted = word.strip_prefix('\'').unwrap_or(word);
-    match quoted.chars().next() {
-        Some('\\') => Some(CsiParam::P(b' ')),
-        Some(character) => Some(CsiParam::P(u8::try_from(character).ok()?)),
-        None => None,
-    }
-}
-
-/// The tokens of a line.
-fn tokens_of(alloc: Global, line: &str) -> Result<Vec<CsiParam>, AllocError> {
-    let mut tokens = Vec::new(alloc);
-    for word in line.split(' ') {
-        if let Some(token) = token_of(word) {
-            tokens.push(token)?;
-        }
-    }
-    Ok(tokens)
-}
 
 /// A list before its final character: what it stands for, how that is written, and whether this is read as the same.
 fn list(alloc: Global, line: &str) -> Result<String, AllocError> {
@@ -149,7 +84,7 @@ fn twice(alloc: Global, bytes: &[u8]) -> Result<String, AllocError> {
 }
 
 /// The answers to a line.
-fn told(alloc: Global, line: &str) -> Result<String, AllocError> {
+pub fn told(alloc: Global, line: &str) -> Result<String, AllocError> {
     let (word, rest) = line.split_once(' ').unwrap_or((line, ""));
     match word {
         "list" => list(alloc, rest),
@@ -159,17 +94,4 @@ fn told(alloc: Global, line: &str) -> Result<String, AllocError> {
         "twice" => twice(alloc, &bytes_of(alloc, rest)?),
         _ => format!(in alloc; "no such call"),
     }
-}
-
-fn main(rt: HostRuntime) -> anyhow::Result<()> {
-    for line in rt.lines(rt.alloc()) {
-        let line = line?;
-        if line.is_empty() || line.starts_with('#') {
-            println!(rt; "{line}")?;
-        } else {
-            let told = told(rt.alloc(), line.as_str())?;
-            println!(rt; "{line}\t{told}")?;
-        }
-    }
-    Ok(())
 }

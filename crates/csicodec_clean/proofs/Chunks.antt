@@ -1,39 +1,32 @@
 -- Chunk by chunk.
-use Rattle.std.proofs.Common.{◌≡◌, ℕ, Bool, false, List, [], ◌∷◌, ◌++◌, sym, ap, subst, ◌∙◌, ⊎_elim, append_assoc, append-nil}
+use Rattle.std.proofs.Common.{ℕ, Bool, false, List, [], ◌∷◌, ◌++◌, sym, subst, ⊎_elim, append_assoc, append-nil}
 use Rattle.std.specs.List.{concat}
 use Rattle.csicodec_spans.specs.declared.table.Mode.{Mode}
 use Rattle.csicodec_spans.specs.declared.table.Mode.TheVariants as mode
-use Rattle.csicodec_spans.specs.Parts.{Part}
 use Rattle.csicodec_spans.proofs.OneSpan.{none_unsure}
-use Rattle.csicodec_spans.proofs.Kept.{parts_more, parts_on}
+use Rattle.csicodec_spans.proofs.Kept.{parts_more}
 use Rattle.csicodec_filter.specs.Transform.{Sends, Transforms}
-use Rattle.csicodec_clean.specs.Shown.{shown_chars, shown_text}
-use Rattle.csicodec_clean.specs.Titles.{title_open, with_titles}
-use Rattle.csicodec_clean.specs.Cleaned.{RuleOf, EndOf, AreSteps, Ends, longest}
+use Rattle.csicodec_clean.specs.Shown.{shown_text}
+use Rattle.csicodec_clean.specs.Cleaned.{RuleOf, EndOf, Ends, longest}
 use Rattle.csicodec_clean.specs.Stream.{Between, start_of, Goes, Takes, AreTaken, Closing, Begins}
-use Rattle.csicodec_clean.proofs.Titles.{open_on, titles_on}
 use Rattle.csicodec_clean.proofs.Sure.{read_none}
-use Rattle.csicodec_clean.proofs.Stepped.{cleans, goes_none, steps_on}
+use Rattle.csicodec_clean.proofs.Stepped.{cleans, goes_none, goes_then}
 
 module _ {S : Type 0} (Gives : RuleOf S) where
-  chunk_on : (limit : ℕ) (m n a : Mode) (t u v : Bool) (s mid after : S) (run chars first one left held second two rest last : List ℕ) → (g : Goes Gives limit m t s run chars first one left n u mid held)
-      → Goes Gives limit n u mid g.left g.read (left ++ second) two rest a v after last → Goes Gives limit m t s run chars (first ++ second) (one ++ two) rest a v after last
-  chunk_on limit m n a t u v s mid after run chars first one left held second two rest last g k =
-      let all : with_titles t (g.parts ++ k.parts) ≡ with_titles t g.parts ++ with_titles u k.parts =
-      titles_on t g.parts k.parts ∙ ap (λ (b : Bool). with_titles t g.parts ++ with_titles b k.parts) (sym g.titles) in
-      record {
-        parts = g.parts ++ k.parts;
-        text = g.text ++ k.text;
-        left = k.left;
-        read = k.read;
-        first = parts_on limit g.parts k.parts m (first ++ second) (left ++ second) rest n a (parts_more limit g.parts m first second left n g.first) k.first;
-        titles = k.titles ∙ ap (λ (b : Bool). title_open b k.parts) g.titles ∙ sym (open_on t g.parts k.parts);
-        steps = subst (λ (ps : List Part). AreSteps Gives s run ps (g.text ++ k.text) after k.left) (sym all)
-            (steps_on Gives (with_titles t g.parts) (with_titles u k.parts) s mid after run g.left k.left g.text k.text g.steps k.steps);
-        is_read = k.is_read;
-        same = sym (append_assoc (shown_chars chars) one two) ∙ ap (λ t. t ++ two) g.same ∙ append_assoc g.text (shown_chars g.read) two ∙ ap (λ t. g.text ++ t) k.same
-            ∙ sym (append_assoc g.text k.text (shown_chars k.read));
-      }
+  -- with other bytes behind
+  abbrev goes_more : (limit : ℕ) (m n : Mode) (t u : Bool) (s mid : S) (run chars first one left held second : List ℕ) → Goes Gives limit m t s run chars first one left n u mid held
+      → Goes Gives limit m t s run chars (first ++ second) one (left ++ second) n u mid held
+  goes_more limit m n t u s mid run chars first one left held second g = record {
+    parts = g.parts;
+    text = g.text;
+    left = g.left;
+    read = g.read;
+    first = parts_more limit g.parts m first second left n g.first;
+    titles = g.titles;
+    steps = g.steps;
+    is_read = g.is_read;
+    same = g.same;
+  }
 
   -- nothing came yet
   pub takes_none : (s : S) → Takes Gives (start_of s) [] [] (start_of s)
@@ -45,7 +38,8 @@ module _ {S : Type 0} (Gives : RuleOf S) where
     unsure = k.unsure;
     goes = λ run chars read.
         let g = h.goes run chars read in
-        let all = chunk_on longest old.mode mid.mode new.mode old.titled mid.titled new.titled old.rule mid.rule new.rule run chars (old.bytes ++ first) one mid.bytes mid.held second two new.bytes new.held g (k.goes g.left g.read g.is_read) in
+        let all = goes_then Gives longest old.mode mid.mode new.mode old.titled mid.titled new.titled old.rule mid.rule new.rule run chars ((old.bytes ++ first) ++ second) one (mid.bytes ++ second) mid.held two new.bytes new.held
+        (goes_more longest old.mode mid.mode old.titled mid.titled old.rule mid.rule run chars (old.bytes ++ first) one mid.bytes mid.held second g) (k.goes g.left g.read g.is_read) in
         subst (λ (bs : List ℕ). Goes Gives longest old.mode old.titled old.rule run chars bs (one ++ two) new.bytes new.mode new.titled new.rule new.held) (append_assoc old.bytes first second) all;
   }
 

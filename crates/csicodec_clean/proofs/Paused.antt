@@ -1,5 +1,5 @@
 -- A stream whose state the caller keeps, step by step.
-use Rattle.std.proofs.Common.{◌≡◌, ◌≤◌, ◌<◌, ℕ, Bool, true, false, cond, List, [], ◌∷◌, ◌++◌, length, length-append, take, drop, ◌+◌, ◌-◌, refl, sym, ap, subst, ◌∙◌, ⊎_elim, append_assoc, append-nil, arith}
+use Rattle.std.proofs.Common.{◌≡◌, ◌≤◌, ◌<◌, ℕ, Bool, false, cond, List, [], ◌∷◌, ◌++◌, length, length-append, take, drop, ◌+◌, ◌-◌, refl, sym, ap, subst, ◌∙◌, ⊎_elim, append_assoc, append-nil, arith}
 use Rattle.std.specs.List.{concat}
 use Rattle.std.proofs.lemmas.List.{length-take-le, take-append-drop, take-append-le, drop-append-le}
 use Rattle.std.proofs.Math.Seq.{take-append_seam, drop-append_seam}
@@ -16,8 +16,8 @@ use Rattle.csicodec_clean.specs.declared.pause.Pause.{Pause}
 use Rattle.csicodec_clean.specs.declared.whole.Dropped.{Dropped}
 use Rattle.csicodec_clean.specs.Shown.{IsRead, shown_text}
 use Rattle.csicodec_clean.specs.Titles.{with_titles}
-use Rattle.csicodec_clean.specs.Cleaned.{RuleOf, EndOf, AreGiven, AreSteps, IsStep, Strips, drops, ends_bare, longest}
-use Rattle.csicodec_clean.specs.Stream.{AreTaken, Between, Goes, Takes}
+use Rattle.csicodec_clean.specs.Cleaned.{RuleOf, AreGiven, AreSteps, IsStep, Strips, drops, ends_bare, longest}
+use Rattle.csicodec_clean.specs.Stream.{AreTaken, Goes}
 use Rattle.csicodec_clean.specs.Styled.{Keeping, StylesIn, resets, resumed, keeps, without_links}
 use Rattle.csicodec_clean.specs.Steps.{AreStepped, Resumes, Steps, bare, beginning, between, ending}
 use Rattle.csicodec_clean.proofs.Chunks.{any_chunks}

@@ -7,14 +7,12 @@ use Rattle.std.proofs.lemmas.Bool.{cases_lt}
 use Rattle.std.proofs.lemmas.Bool.Decides.{nat_tests}
 use Rattle.std.proofs.lemmas.List.Elements.{All-from_recursion}
 use Rattle.csicodec_clean.specs.Shown.{IsShown, IsPlain}
-
-abbrev pub Other : ℕ → Type 0
-Other b = b ≢ 27
+use Rattle.csicodec_clean.specs.Private.Steps.{IsOther}
 
 apart : (c : ℕ) → IsShown c → c ≢ 27
 apart c h = λ e. absurd (grind (arith, nat_tests))
 
-pub one_char : (c : ℕ) → IsShown c → AllByRecursion Other (encode_utf8 c)
+pub one_char : (c : ℕ) → IsShown c → AllByRecursion IsOther (encode_utf8 c)
 unfolding encode_utf8
 one_char c h =
     ⊎_elim
@@ -28,16 +26,16 @@ one_char c h =
     (cases_lt c 2048))
     (cases_lt c 128)
 
-both : (xs ys : List ℕ) → AllByRecursion Other xs → AllByRecursion Other ys → AllByRecursion Other (xs ++ ys)
-both [] ys h k = k
-both (x ∷ xs) ys h k = (h.0, both xs ys h.1 k)
+pub other_both : (xs ys : List ℕ) → AllByRecursion IsOther xs → AllByRecursion IsOther ys → AllByRecursion IsOther (xs ++ ys)
+other_both [] ys h k = k
+other_both (x ∷ xs) ys h k = (h.0, other_both xs ys h.1 k)
 
-chars : (cs : List ℕ) → AllByRecursion IsShown cs → AllByRecursion Other (encode_utf8_all cs)
+chars : (cs : List ℕ) → AllByRecursion IsShown cs → AllByRecursion IsOther (encode_utf8_all cs)
 chars [] h = tt
-chars (c ∷ cs) h = both (encode_utf8 c) (encode_utf8_all cs) (one_char c h.0) (chars cs h.1)
+chars (c ∷ cs) h = other_both (encode_utf8 c) (encode_utf8_all cs) (one_char c h.0) (chars cs h.1)
 
-pub plain_bytes : (text : List ℕ) → IsPlain text → AllByRecursion Other text
-plain_bytes text (cs, scalars, all, e) = subst (AllByRecursion Other) (sym e) (chars cs all)
+pub plain_bytes : (text : List ℕ) → IsPlain text → AllByRecursion IsOther text
+plain_bytes text (cs, scalars, all, e) = subst (AllByRecursion IsOther) (sym e) (chars cs all)
 
-pub no_escape : (text : List ℕ) → IsPlain text → All Other text
-no_escape text p = All-from_recursion Other text (plain_bytes text p)
+pub no_escape : (text : List ℕ) → IsPlain text → All IsOther text
+no_escape text p = All-from_recursion IsOther text (plain_bytes text p)

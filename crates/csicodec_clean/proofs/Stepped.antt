@@ -133,27 +133,40 @@ module _ {S : Type 0} (Gives : RuleOf S) where
   goes_none limit m t s run chars bytes held read =
       record { parts = []; text = []; left = run; read = chars; first = (refl, refl); titles = refl; steps = (refl, refl, refl); is_read = read; same = append-nil (shown_chars chars) }
 
+  -- and then more
+  pub goes_then : (limit : ℕ) (m n a : Mode) (t u v : Bool) (s mid after : S) (run chars bytes one behind held two rest last : List ℕ) → (g : Goes Gives limit m t s run chars bytes one behind n u mid held)
+      → Goes Gives limit n u mid g.left g.read behind two rest a v after last → Goes Gives limit m t s run chars bytes (one ++ two) rest a v after last
+  goes_then limit m n a t u v s mid after run chars bytes one behind held two rest last g k =
+      let all : with_titles t (g.parts ++ k.parts) ≡ with_titles t g.parts ++ with_titles u k.parts =
+      titles_on t g.parts k.parts ∙ ap (λ (b : Bool). with_titles t g.parts ++ with_titles b k.parts) (sym g.titles) in
+      record {
+        parts = g.parts ++ k.parts;
+        text = g.text ++ k.text;
+        left = k.left;
+        read = k.read;
+        first = parts_on limit g.parts k.parts m bytes behind rest n a g.first k.first;
+        titles = k.titles ∙ ap (λ (b : Bool). title_open b k.parts) g.titles ∙ sym (open_on t g.parts k.parts);
+        steps = subst (λ (ps : List Part). AreSteps Gives s run ps (g.text ++ k.text) after k.left) (sym all)
+            (steps_on (with_titles t g.parts) (with_titles u k.parts) s mid after run g.left k.left g.text k.text g.steps k.steps);
+        is_read = k.is_read;
+        same = sym (append_assoc (shown_chars chars) one two) ∙ ap (λ (x : List ℕ). x ++ two) g.same ∙ append_assoc g.text (shown_chars g.read) two
+            ∙ ap (λ (x : List ℕ). g.text ++ x) k.same ∙ sym (append_assoc g.text k.text (shown_chars k.read));
+      }
+
+  -- a span
+  pub goes_span : (limit : ℕ) (m a : Mode) (t : Bool) (k : Kind) (s after : S) (run chars bytes held span rest more left : List ℕ) → IsRead run chars held → Cuts limit m bytes k span rest a
+      → IsAppended Gives (read_as k t) s held span more after left → Goes Gives limit m t s run chars bytes more rest a (title_behind t k span) after left
+  goes_span limit m a t k s after run chars bytes held span rest more left read cut h =
+      let now = titled t k span cut.parts cut.span in
+      let x = spanned (read_as k t) s run chars held span more (with_titles t cut.parts) after left now.span read h in
+      record { parts = cut.parts; text = x.text; left = x.left; read = x.read; first = cut.first; titles = sym now.behind; steps = x.steps; is_read = x.is_read; same = x.same }
+
   -- a span more
   pub goes_on : (limit : ℕ) (m n a : Mode) (t u : Bool) (k : Kind) (s mid after : S) (run chars bytes appended behind held span rest more left : List ℕ) → Goes Gives limit m t s run chars bytes appended behind n u mid held
       → Cuts limit n behind k span rest a → IsAppended Gives (read_as k u) mid held span more after left → Goes Gives limit m t s run chars bytes (appended ++ more) rest a (title_behind u k span) after left
   goes_on limit m n a t u k s mid after run chars bytes appended behind held span rest more left g cut h =
-      let now = titled u k span cut.parts cut.span in
-      let x = spanned (read_as k u) mid g.left g.read held span more (with_titles u cut.parts) after left now.span g.is_read h in
-      let all : with_titles t (g.parts ++ cut.parts) ≡ with_titles t g.parts ++ with_titles u cut.parts =
-      titles_on t g.parts cut.parts ∙ ap (λ (b : Bool). with_titles t g.parts ++ with_titles b cut.parts) (sym g.titles) in
-      record {
-        parts = g.parts ++ cut.parts;
-        text = g.text ++ x.text;
-        left = x.left;
-        read = x.read;
-        first = parts_on limit g.parts cut.parts m bytes behind rest n a g.first cut.first;
-        titles = sym now.behind ∙ ap (λ (b : Bool). title_open b cut.parts) g.titles ∙ sym (open_on t g.parts cut.parts);
-        steps = subst (λ (ps : List Part). AreSteps Gives s run ps (g.text ++ x.text) after x.left) (sym all)
-            (steps_on (with_titles t g.parts) (with_titles u cut.parts) s mid after run g.left x.left g.text x.text g.steps x.steps);
-        is_read = x.is_read;
-        same = sym (append_assoc (shown_chars chars) appended more) ∙ ap (λ (y : List ℕ). y ++ more) g.same ∙ append_assoc g.text (shown_chars g.read) more
-            ∙ ap (λ (y : List ℕ). g.text ++ y) x.same ∙ sym (append_assoc g.text x.text (shown_chars x.read));
-      }
+      goes_then limit m n a t u (title_behind u k span) s mid after run chars bytes appended behind held more rest left g
+      (goes_span limit n a u k mid after g.left g.read behind held span rest more left g.is_read cut h)
 
   -- the whole stream
   pub cleans : (limit : ℕ) (a : Mode) (u : Bool) (s after : S) (bytes appended rest held : List ℕ) → Goes Gives limit mode.Text false s [] [] bytes appended rest a u after held → IsUnsure limit a rest

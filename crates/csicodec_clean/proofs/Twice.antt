@@ -13,16 +13,17 @@ use Rattle.csicodec_spans.proofs.Once.{whole_once}
 use Rattle.csicodec_clean.specs.Shown.{shown, shown_chars, shown_text, IsShown, IsPlain}
 use Rattle.csicodec_clean.specs.Titles.{with_titles}
 use Rattle.csicodec_clean.specs.Cleaned.{Strips, stripped}
+use Rattle.csicodec_clean.specs.Private.Steps.{IsOther}
 use Rattle.csicodec_clean.proofs.Titles.{single_texts}
 use Rattle.csicodec_clean.proofs.Plain.{strips_plain}
-use Rattle.csicodec_clean.proofs.PlainBytes.{Other, plain_bytes}
+use Rattle.csicodec_clean.proofs.PlainBytes.{plain_bytes}
 
-pub all_text : (limit : ℕ) (bs : List ℕ) → AllByRecursion Other bs → AreFirstParts limit mode.Text bs (singles kind.Text bs) [] mode.Text
+pub all_text : (limit : ℕ) (bs : List ℕ) → AllByRecursion IsOther bs → AreFirstParts limit mode.Text bs (singles kind.Text bs) [] mode.Text
 all_text limit [] h = (refl, refl)
 all_text limit (b ∷ bs) h =
     (bs, mode.Text, (refl, subst (λ (f : Answer). Allows f limit (b ∷ bs) kind.Text (b ∷ []) mode.Text) (sym (text_goes_on b bs h.0)) (refl, refl, refl)), all_text limit bs h.1)
 
-whole_text : (limit : ℕ) (bs : List ℕ) → AllByRecursion Other bs → IsWhole limit mode.Text bs (singles kind.Text bs)
+whole_text : (limit : ℕ) (bs : List ℕ) → AllByRecursion IsOther bs → IsWhole limit mode.Text bs (singles kind.Text bs)
 whole_text limit bs h = record {
   sure = singles kind.Text bs;
   rest = [];

@@ -8,6 +8,7 @@ ghost use Rattle.csicodec_clean.specs.Private.Steps.{IsAppended};
 ghost use Rattle.csicodec_clean.specs.Shown.{IsRead};
 ghost use Rattle.csicodec_clean.specs.Stream.{Goes};
 
+use crate::glance::append_front;
 use crate::rule::Rule;
 use crate::text::{append_shown, append_sure};
 use crate::title::{read_as, title_behind};
@@ -85,10 +86,15 @@ pub(crate) fn append_clean<'a, T: Rule>(
     ensures last { IfOk result (λ (rest, after). (front : List ℕ) × (held.old.items ++ bytes.now ≡ front ++ (held.new.items ++ rest.now))) }
 {
     let mut cutter = Cutter { mode, rest: bytes };
-    while let Some((span, control)) = cutter.next(limit, params)? {
+    loop {
+        let open = cutter.mode;
+        let rest = append_front(rule, limit, open, *titled, held, cutter.rest, out)?;
+        cutter.rest = rest;
+        let Some((span, control)) = cutter.next(limit, params)? else {
+            return Ok((rest, open));
+        };
         let kind = read_as(span.kind, *titled);
         append_span(rule, params, control, held, kind, span.bytes, out)?;
         *titled = title_behind(*titled, span.kind, span.bytes);
     }
-    Ok((cutter.rest, cutter.mode))
 }

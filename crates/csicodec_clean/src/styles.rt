@@ -178,6 +178,15 @@ impl Rule for Kept {
         Ok(())
     }
 
+    fn take_at_once(
+        &mut self,
+        _limit: usize,
+        _bytes: &[u8],
+        _out: &mut Vec<u8>,
+    ) -> Result<usize, AllocError> {
+        Ok(0)
+    }
+
     fn string(&mut self, bytes: &[u8], out: &mut Vec<u8>) -> Result<(), AllocError> {
         if self.passing.links {
             self.linked = self.link.append_links(bytes, self.linked, out)?;

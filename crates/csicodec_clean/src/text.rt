@@ -1,10 +1,11 @@
 //! The characters of a run of text that are shown.
-ghost use Rattle.std.specs.Prelude.{◌≡◌, ◌<◌, ◌≤◌, ◌-◌, ◌++◌, ◌∷◌, [], ℕ, List, length, drop, OnOk, IfOk, IfSome, IfNone};
+ghost use Rattle.std.specs.Prelude.{◌≡◌, ◌<◌, ◌≤◌, ◌-◌, ◌++◌, ◌∷◌, [], ℕ, List, length, take, drop, OnOk, IfOk, IfSome, IfNone};
 ghost use Rattle.csicodec_clean.specs.Shown.{shown, shown_chars, shown_text};
-ghost use Rattle.csicodec_clean.specs.Private.Steps.{IsCut};
+ghost use Rattle.csicodec_clean.specs.Private.Steps.{IsCut, Tells};
 ghost use Rattle.csicodec_clean.specs.Shown.{IsRead};
 
-use crate::ascii::behind_plain;
+use crate::ascii::{LANES, is_dropped};
+use crate::wide::behind_shown;
 use bstr::{ByteVec, decode_utf8};
 use std::alloc::AllocError;
 
@@ -47,15 +48,50 @@ fn first_sure(bytes: &[u8]) -> Option<(char, usize)>
     }
 }
 
-/// Appends the plain bytes in front as they are, and answers the others.
-fn append_plain<'a>(bytes: &'a [u8], out: &mut Vec<u8>) -> Result<&'a [u8], AllocError>
-    ensures parts { IfOk result (λ rest. (front : List ℕ) × (bytes.now ≡ front ++ rest.now)) }
-    ensures chars { IfOk result (λ rest. (chars : List ℕ) × IsRead bytes.now chars rest.now × (out.new.items ≡ out.old.items ++ shown_chars chars)) }
+/// Appends so many of the first bytes, a few of them by one copy of sixteen.
+#[inline(always)]
+fn append_front(bytes: &[u8], len: usize, out: &mut Vec<u8>) -> Result<(), AllocError>
+    requires { len ≤ length bytes.now }
+    ensures { OnOk result (out.new.items ≡ out.old.items ++ take len bytes.now) }
 {
-    let rest = behind_plain(bytes);
-    let count = bytes.len() - rest.len();
-    out.extend_from_slice(bytes.split_at(count).0)?;
+    if len > LANES || bytes.len() < LANES {
+        return out.extend_from_slice(bytes.split_at(len).0);
+    }
+    let end = out.len() + len;
+    out.extend_from_slice(bytes.split_at(LANES).0)?;
+    out.truncate(end);
+    Ok(())
+}
+
+/// Appends the bytes in front that are shown as they are, and answers the others.
+#[inline(always)]
+fn append_plain<'a>(bytes: &'a [u8], out: &mut Vec<u8>) -> Result<&'a [u8], AllocError>
+    ensures { IfOk result (λ rest. Tells bytes.now rest.now out.old.items out.new.items) }
+{
+    let rest = behind_shown(bytes);
+    append_front(bytes, bytes.len() - rest.len(), out)?;
     Ok(rest)
+}
+
+/// Appends what is shown of the text in front, up to an ESC, a control of C1 or what is no UTF-8, and answers what is behind it.
+#[inline(always)]
+pub(crate) fn append_told<'a>(bytes: &'a [u8], out: &mut Vec<u8>) -> Result<&'a [u8], AllocError>
+    ensures { IfOk result (λ rest. Tells bytes.now rest.now out.old.items out.new.items) }
+{
+    if bytes.first() == Some(&0x1b) {
+        return Ok(bytes);
+    }
+    let mut rest = bytes;
+    loop {
+        let behind = append_plain(rest, out)?;
+        let Some((byte, others)) = behind.split_first() else {
+            return Ok(behind);
+        };
+        if !is_dropped(*byte) {
+            return Ok(behind);
+        }
+        rest = others;
+    }
 }
 
 /// Appends what is shown of the characters that are sure, whatever follows, and answers the others: three bytes at most.
@@ -65,10 +101,11 @@ pub(crate) fn append_sure<'a>(bytes: &'a [u8], out: &mut Vec<u8>) -> Result<&'a 
     ensures cut { IfOk result (λ rest. IsCut rest.now) }
     ensures short { IfOk result (λ rest. length rest.now ≤ 3) }
 {
-    let mut rest = bytes;
+    let told = append_told(bytes, out)?;
+    let mut rest = told;
     while let Some((char, size)) = first_sure(rest) {
         append_char(char, out)?;
-        rest = append_plain(rest.split_at(size).1, out)?;
+        rest = append_told(rest.split_at(size).1, out)?;
     }
     Ok(rest)
 }

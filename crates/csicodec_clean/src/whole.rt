@@ -1,5 +1,6 @@
 //! Bytes that are all there, cleaned.
-ghost use Rattle.std.specs.Prelude.{◌≡◌, ◌≢◌, ◌<◌, ◌≤◌, ◌++◌, ℕ, List, [], All, IfOk};
+ghost use Rattle.std.specs.Prelude.{◌≡◌, ◌≢◌, ◌<◌, ◌≤◌, ◌++◌, ℕ, List, [], All, IfOk, length, take};
+ghost use Rattle.csicodec_spans.specs.Parts.{IsSequence};
 ghost use Rattle.csicodec_clean.specs.Shown.{IsPlain};
 ghost use Rattle.csicodec_clean.specs.Cleaned.{Ends, Strips, longest};
 
@@ -8,6 +9,7 @@ use crate::spans::append_clean;
 use crate::text::append_shown;
 use csicodec_base::CsiParam;
 use csicodec_spans::{LIMIT, Mode};
+use csicodec_tokens::behind_csi;
 use std::alloc::{AllocError, Global};
 
 /// What the rule leaves of the bytes, and what ends it. What isn't over at their end is dropped.
@@ -36,6 +38,26 @@ pub(crate) fn clean_whole<T: Rule>(
     Ok(out)
 }
 
+/// As many of the first bytes as a sequence may have.
+fn near(limit: usize, bytes: &[u8]) -> &[u8]
+    ensures { result.now ≡ take limit bytes.now }
+{
+    bytes.get(..limit).unwrap_or(bytes)
+}
+
+/// How many bytes the control sequence in front has, at most `limit`; 0 where none stands there.
+#[inline(always)]
+fn sequence_len(limit: usize, bytes: &[u8]) -> usize
+    ensures within { (result ≤ limit) × (result ≤ length bytes.now) }
+    ensures sequence { 0 < result → IsSequence (take result bytes.now) }
+{
+    let front = near(limit, bytes);
+    match behind_csi(front) {
+        Ok(behind) => front.len() - behind.len(),
+        Err(_) => 0,
+    }
+}
+
 /// The rule that drops every control sequence and every control string.
 #[derive(Drop)]
 pub struct Dropped;
@@ -55,6 +77,16 @@ impl Rule for Dropped {
         _out: &mut Vec<u8>,
     ) -> Result<(), AllocError> {
         Ok(())
+    }
+
+    #[inline(always)]
+    fn take_at_once(
+        &mut self,
+        limit: usize,
+        bytes: &[u8],
+        _out: &mut Vec<u8>,
+    ) -> Result<usize, AllocError> {
+        Ok(sequence_len(limit, bytes))
     }
 
     fn string(&mut self, _bytes: &[u8], _out: &mut Vec<u8>) -> Result<(), AllocError> {

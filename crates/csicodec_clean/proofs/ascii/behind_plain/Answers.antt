@@ -1,15 +1,15 @@
-use Rattle.std.proofs.Common.{◌++◌, ◌∷◌, [], sym, ap, ◌∙◌, append_assoc}
-use Rattle.csicodec_clean.proofs.Copied.{plain_both}
+use Rattle.csicodec_clean.proofs.Told.{behind_front, behind_on}
 use Rattle.csicodec_clean.proofs.ascii.behind_plain.Goals as goal
 
-pub loop-byte-preserved : goal.loop-byte-preserved
-loop-byte-preserved c =
-    let (front, split, plain) = c.loop-byte.invariant.plain in
-    let one = c.in-Some.byte.now ∷ [] in
-    record {
-      plain = (
-        front ++ one,
-        split ∙ ap (λ t. front ++ t) c.in-Some.ensures.cases.0 ∙ sym (append_assoc front one c.in-Some.behind.now),
-        plain_both front one plain (sym c.is_plain.ensures ∙ c.if-not-is_plain.false, tt),
-      );
-    }
+pub loop-rest-preserved : goal.loop-rest-preserved
+loop-rest-preserved c =
+    let rest = c.loop-rest.rest.now in
+    rw c.split_at.ensures.back (record { plain = behind_on c.args.bytes.now rest _ c.loop-rest.invariant.plain (behind_front rest _ c.plain_lanes-count.ensures.1) })
+
+pub returns-then-count-lt-LANES : goal.returns-then-count-lt-LANES
+returns-then-count-lt-LANES c =
+    let rest = c.loop-rest.rest.now in
+    rw c.split_at.ensures.back (behind_on c.args.bytes.now rest _ c.loop-rest.invariant.plain (behind_front rest _ c.plain_lanes-count.ensures.1))
+
+pub returns : goal.returns
+returns c = behind_on c.args.bytes.now c.loop-rest.rest.now _ c.loop-rest.invariant.plain c.behind_few.ensures

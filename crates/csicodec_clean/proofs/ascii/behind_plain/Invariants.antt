@@ -3,8 +3,8 @@ use Rattle.csicodec_clean.specs.Private.Steps.{IsBehindPlain}
 use Rattle.csicodec_clean.proofs.ascii.behind_plain.Given as goal
 
 -- some plain bytes were passed
-abbrev pub invariant-loop-byte : goal.invariant-loop-byte
-invariant-loop-byte l = record { plain : IsBehindPlain l.bytes l.rest }
+abbrev pub invariant-loop-rest : goal.invariant-loop-rest
+invariant-loop-rest l = record { plain : IsBehindPlain l.bytes l.rest }
 
-abbrev pub decreases-loop-byte : goal.decreases-loop-byte
-decreases-loop-byte l = length l.rest
+abbrev pub decreases-loop-rest : goal.decreases-loop-rest
+decreases-loop-rest l = length l.rest

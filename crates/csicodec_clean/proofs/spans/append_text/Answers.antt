@@ -1,7 +1,7 @@
 use Rattle.std.proofs.Common.{◌≡◌, ◌++◌, ◌∙◌, ap, sym, length, arith, rules}
 use Rattle.std.proofs.lemmas.Grind.{common_steps}
 use Rattle.csicodec_spans.proofs.Spanned.{rest_is}
-use Rattle.csicodec_clean.proofs.Copied.{none_held}
+use Rattle.csicodec_clean.proofs.Told.{none_held}
 use Rattle.csicodec_clean.proofs.Paused.{last_held}
 use Rattle.csicodec_clean.proofs.spans.append_text.Goals as goal
 

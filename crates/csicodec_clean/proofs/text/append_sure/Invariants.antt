@@ -7,7 +7,7 @@ use Rattle.csicodec_clean.proofs.text.append_sure.Given as goal
 abbrev pub invariant-loop-char : goal.invariant-loop-char
 invariant-loop-char l = record {
   parts : (front : List ℕ) × (l.bytes ≡ front ++ l.rest);
-  chars : (chars : List ℕ) × IsRead l.bytes chars l.rest × (l.out.items ≡ l.initial.out.items ++ shown_chars chars);
+  chars : (chars : List ℕ) × IsRead l.bytes chars l.rest × (l.out.items ≡ l.fn.out.items ++ shown_chars chars);
 }
 
 abbrev pub decreases-loop-char : goal.decreases-loop-char

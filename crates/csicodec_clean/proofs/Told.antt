@@ -1,0 +1,160 @@
+-- Text that is told by its bytes.
+use Rattle.std.proofs.Common.{◌≡◌, ◌+◌, ◌-◌, ◌<◌, ◌≤◌, ℕ, true, false, cond, List, [], ◌∷◌, ◌++◌, length, length-append, drop, take, slice_index, encode_utf8_all, refl, sym, ap, ◌∙◌, arith, lt-ltb, append_assoc, append-nil, take-append-drop}
+use Rattle.std.specs.List.{AllByRecursion}
+use Rattle.std.specs.Str.{all_scalars}
+use Rattle.std.specs.Char.{encode_utf8}
+use Rattle.std.proofs.lemmas.Bool.{and_from, and_parts}
+use Rattle.std.proofs.lemmas.List.{take-take}
+use Rattle.std.proofs.lemmas.Bool.Decides.{nat_tests}
+use lib.Utf8.{scalar, low_scalar}
+use Rattle.bstr.specs.Utf8.{Decoded, decoded, good, or_replacement, lossy_chars}
+use Rattle.bstr.proofs.lemmas.EncodeLemmas.{decoded-encode}
+use Rattle.bstr.proofs.lemmas.PieceLemmas.{lossy_chars-step, value-1}
+use Rattle.std.proofs.Math.Seq.{take-append_seam, take-append-add, drop-append_seam}
+use Rattle.csicodec_clean.specs.Shown.{shown, shown_chars, IsPlain, IsRead, IsShown}
+use Rattle.csicodec_clean.specs.Private.Steps.{IsBehindPlain, IsBehindShown, IsOther, IsPlainByte, IsTold, Tells, dropped_byte}
+use Rattle.csicodec_clean.proofs.Plain.{plain_on}
+use Rattle.csicodec_clean.proofs.PlainBytes.{other_both, plain_bytes}
+use Rattle.csicodec_clean.proofs.Shows.{shown_on}
+use Rattle.csicodec_clean.proofs.Sure.{read_more, read_none}
+use Rattle.csicodec_clean.proofs.Twice.{all_kept}
+
+-- ---- plain bytes
+
+low : (b : ℕ) → IsPlainByte b → b < 128
+low b h = grind (arith, nat_tests)
+
+is_shown : (b : ℕ) → IsPlainByte b → shown b ≡ true
+is_shown b h = grind (arith, nat_tests)
+
+alone : (b : ℕ) → b < 128 → encode_utf8 b ≡ b ∷ []
+unfolding encode_utf8
+alone b a = rw (lt-ltb b 128 a) refl
+
+scalars : (bs : List ℕ) → AllByRecursion IsPlainByte bs → all_scalars bs ≡ true
+scalars [] h = refl
+scalars (b ∷ bs) h = and_from (scalar b) (all_scalars bs) (low_scalar b (omega (arith, low b h.0))) (scalars bs h.1)
+
+all_shown : (bs : List ℕ) → AllByRecursion IsPlainByte bs → AllByRecursion IsShown bs
+all_shown [] h = tt
+all_shown (b ∷ bs) h = (is_shown b h.0, all_shown bs h.1)
+
+encoded : (bs : List ℕ) → AllByRecursion IsPlainByte bs → bs ≡ encode_utf8_all bs
+encoded [] h = refl
+encoded (b ∷ bs) h = ap (λ t. b ∷ t) (encoded bs h.1) ∙ ap (λ t. t ++ encode_utf8_all bs) (sym (alone b (low b h.0)))
+
+ascii_shown : (bs : List ℕ) → AllByRecursion IsPlainByte bs → IsPlain bs
+ascii_shown bs h = (bs, scalars bs h, all_shown bs h, encoded bs h)
+
+pub plain_both : (xs ys : List ℕ) → AllByRecursion IsPlainByte xs → AllByRecursion IsPlainByte ys → AllByRecursion IsPlainByte (xs ++ ys)
+plain_both [] ys h k = k
+plain_both (x ∷ xs) ys h k = (h.0, plain_both xs ys h.1 k)
+
+-- ---- behind them, and behind characters that are shown
+
+pub behind_none : (bytes : List ℕ) → IsBehindPlain bytes bytes
+behind_none bytes = ([], refl, tt)
+
+pub behind_on : (bytes mid rest : List ℕ) → IsBehindPlain bytes mid → IsBehindPlain mid rest → IsBehindPlain bytes rest
+behind_on bytes mid rest (xs, e, h) (ys, f, k) = (xs ++ ys, e ∙ ap (λ t. xs ++ t) f ∙ sym (append_assoc xs ys rest), plain_both xs ys h k)
+
+pub behind_front : (bytes : List ℕ) (n : ℕ) → AllByRecursion IsPlainByte (take n bytes) → IsBehindPlain bytes (drop n bytes)
+behind_front bytes n h = (take n bytes, sym (take-append-drop n bytes), h)
+
+pub shown_behind : (bytes rest : List ℕ) → IsBehindPlain bytes rest → IsBehindShown bytes rest
+shown_behind bytes rest (xs, e, h) = (xs, e, ascii_shown xs h)
+
+pub none_behind : (bytes : List ℕ) → IsBehindShown bytes bytes
+none_behind bytes = ([], refl, ascii_shown [] tt)
+
+pub shown_further : (bytes mid rest : List ℕ) → IsBehindShown bytes mid → IsBehindShown mid rest → IsBehindShown bytes rest
+shown_further bytes mid rest (xs, e, h) (ys, f, k) = (xs ++ ys, e ∙ ap (λ t. xs ++ t) f ∙ sym (append_assoc xs ys rest), plain_on xs ys h k)
+
+pub front_shown : (bytes : List ℕ) (n : ℕ) → IsPlain (take n bytes) → IsBehindShown bytes (drop n bytes)
+front_shown bytes n h = (take n bytes, sym (take-append-drop n bytes), h)
+
+-- ---- what is read of them
+
+some_encoded : (c : ℕ) → 0 < length (encode_utf8 c)
+unfolding encode_utf8
+some_encoded c = grind (arith, nat_tests)
+
+read_encoded : (cs more : List ℕ) → all_scalars cs ≡ true → lossy_chars (encode_utf8_all cs ++ more) ≡ cs ++ lossy_chars more
+read_encoded [] more all = refl
+read_encoded (c ∷ cs) more all =
+    let both : (scalar c ≡ true) × (all_scalars cs ≡ true) = and_parts (scalar c) (all_scalars cs) all in
+    let first = encode_utf8 c in
+    let behind = encode_utf8_all cs ++ more in
+    let some : 0 < length (first ++ behind) = omega (arith, some_encoded c, length-append first behind) in
+    ap lossy_chars (append_assoc first (encode_utf8_all cs) more) ∙ lossy_chars-step (first ++ behind) some
+    ∙ ap (λ (p : Decoded). or_replacement p.char ∷ lossy_chars (drop p.size (first ++ behind))) (decoded-encode c behind both.0)
+    ∙ ap (λ t. c ∷ lossy_chars t) (drop-append_seam first behind) ∙ ap (λ t. c ∷ t) (read_encoded cs more both.1)
+
+-- characters that are shown are told, and shown as they are
+plain_told : (text : List ℕ) (p : IsPlain text) → IsTold text p.0 × (shown_chars p.0 ≡ text)
+plain_told text (cs, scalars, all, e) = (
+  (plain_bytes text (cs, scalars, all, e), λ more. ap (λ t. lossy_chars (t ++ more)) e ∙ read_encoded cs more scalars),
+  ap encode_utf8_all (all_kept cs all) ∙ sym e,
+)
+
+one_read : (b : ℕ) (bs : List ℕ) → b < 128 → lossy_chars (b ∷ bs) ≡ b ∷ lossy_chars bs
+one_read b bs a =
+    let all = b ∷ bs in
+    let first : decoded all ≡ good b 1 = value-1 (length all) b (slice_index all 1) (slice_index all 2) (slice_index all 3) (omega arith, a) in
+    lossy_chars-step all (omega arith) ∙ ap (λ (p : Decoded). or_replacement p.char ∷ lossy_chars (drop p.size all)) first
+
+low_dropped : (b : ℕ) → dropped_byte b ≡ true → b < 128
+low_dropped b h = grind (arith, nat_tests)
+
+other_dropped : (b : ℕ) → dropped_byte b ≡ true → IsOther b
+other_dropped b h = λ e. absurd (grind (arith, nat_tests))
+
+hidden_dropped : (b : ℕ) → dropped_byte b ≡ true → shown b ≡ false
+hidden_dropped b h = grind (arith, nat_tests)
+
+-- ---- what is appended for it
+
+pub tells_none : (bytes old : List ℕ) → Tells bytes bytes old old
+tells_none bytes old = ([], [], refl, (tt, read_none []), sym (append-nil old))
+
+pub tells_on : (bytes mid rest old one new : List ℕ) → Tells bytes mid old one → Tells mid rest one new → Tells bytes rest old new
+tells_on bytes mid rest old one new (xs, cs, e, (h, r), o) (ys, ds, f, (k, t), n) = (
+  xs ++ ys,
+  cs ++ ds,
+  e ∙ ap (λ l. xs ++ l) f ∙ sym (append_assoc xs ys rest),
+  (other_both xs ys h k, read_more xs [] ys [] cs ds r t),
+  n ∙ ap (λ l. l ++ shown_chars ds) o ∙ append_assoc old (shown_chars cs) (shown_chars ds) ∙ ap (λ l. old ++ l) (sym (shown_on cs ds)),
+)
+
+-- the plain bytes in front are what is before the others
+front_taken : (bytes front rest : List ℕ) → bytes ≡ front ++ rest → take (length bytes - length rest) bytes ≡ front
+front_taken bytes front rest e =
+    let n : length bytes - length rest ≡ length front = omega (arith, ap length e, length-append front rest) in
+    ap (λ (i : ℕ). take i bytes) n ∙ ap (λ (t : List ℕ). take (length front) t) e ∙ take-append_seam front rest
+
+pub tells_shown : (bytes rest old new : List ℕ) → IsBehindShown bytes rest → new ≡ old ++ take (length bytes - length rest) bytes → Tells bytes rest old new
+tells_shown bytes rest old new (text, e, p) n =
+    let told = plain_told text p in
+    (text, p.0, e, told.0, n ∙ ap (λ t. old ++ t) (front_taken bytes text rest e ∙ sym told.1))
+
+pub tells_dropped : (b : ℕ) (bytes rest old : List ℕ) → bytes ≡ b ∷ rest → dropped_byte b ≡ true → Tells bytes rest old old
+tells_dropped b bytes rest old e d = (
+  b ∷ [],
+  b ∷ [],
+  e,
+  ((other_dropped b d, tt), λ more. one_read b more (low_dropped b d)),
+  sym (append-nil old) ∙ ap (λ x. old ++ encode_utf8_all (cond x (b ∷ []) [])) (sym (hidden_dropped b d)),
+)
+
+-- what is told is read in front of the rest
+pub read_front : (text rest chars : List ℕ) → IsRead text chars [] → IsRead (text ++ rest) chars rest
+read_front text rest chars read more = ap lossy_chars (append_assoc text rest more) ∙ read (rest ++ more)
+
+-- a copy of sixteen bytes, of which the first ones stay
+pub copied : (old bytes : List ℕ) (len : ℕ) → len ≤ 16 → take (length old + len) (old ++ take 16 bytes) ≡ old ++ take len bytes
+copied old bytes len few = take-append-add old (take 16 bytes) len ∙ ap (λ t. old ++ t) (take-take len 16 bytes few)
+
+-- where nothing was held
+pub none_held : (held bytes chars rest new : List ℕ) → length held ≡ 0 → IsRead bytes chars rest → new ≡ held ++ rest → IsRead (held ++ bytes) chars new
+none_held [] bytes chars rest new none read e = rw e read
+none_held (h ∷ held) bytes chars rest new none read e = absurd (omega (arith, none))

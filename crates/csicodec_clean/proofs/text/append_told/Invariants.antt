@@ -1,0 +1,10 @@
+use Rattle.std.proofs.Common.{length}
+use Rattle.csicodec_clean.specs.Private.Steps.{Tells}
+use Rattle.csicodec_clean.proofs.text.append_told.Given as goal
+
+-- some text was told
+abbrev pub invariant-loop-behind : goal.invariant-loop-behind
+invariant-loop-behind l = record { tells : Tells l.bytes l.rest l.initial.out.items l.out.items }
+
+abbrev pub decreases-loop-behind : goal.decreases-loop-behind
+decreases-loop-behind l = length l.rest

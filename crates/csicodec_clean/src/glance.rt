@@ -1,0 +1,91 @@
+//! What is taken at a glance, where nothing is open and no byte is held: text, escape sequences, and control sequences that a rule
+//! takes at once.
+ghost use Rattle.std.specs.Prelude.{◌≡◌, ◌≤◌, ◌++◌, ℕ, List, [], length, drop, true, false, IfOk};
+ghost use Rattle.csicodec_clean.specs.Private.Steps.{BeginsWithEscape, GoesOver};
+ghost use Rattle.csicodec_spans.specs.declared.table.Mode.TheVariants.{Text as NothingOpen};
+
+use crate::rule::Rule;
+use crate::text::append_told;
+use csicodec_spans::Mode;
+use std::alloc::AllocError;
+
+/// Whether an escape sequence of three bytes stands in front: ESC, an intermediate byte and a final byte.
+#[inline(always)]
+fn begins_with_escape(bytes: &[u8]) -> bool
+    ensures { result ≡ true → BeginsWithEscape bytes.now }
+{
+    if bytes.len() < 3 {
+        return false;
+    }
+    let (first, second, third) = (bytes[0], bytes[1], bytes[2]);
+    first == 0x1b && b' ' <= second && second <= b'/' && b'0' <= third && third <= b'~'
+}
+
+/// Takes the control sequence in front that the rule takes at once, or the escape sequence of three bytes, and answers how many
+/// bytes it has; 0 where neither stands there.
+#[inline(always)]
+fn take_control<T: Rule>(
+    rule: &mut T,
+    limit: usize,
+    bytes: &[u8],
+    out: &mut Vec<u8>,
+) -> Result<usize, AllocError>
+    ensures within { IfOk result (λ len. len ≤ length bytes.now) }
+    ensures goes { IfOk result (λ len. GoesOver T.gives limit NothingOpen false [] rule.old bytes.now (drop len bytes.now) rule.new out.old.items out.new.items) }
+{
+    if begins_with_escape(bytes) {
+        return Ok(3);
+    }
+    let len = rule.take_at_once(limit, bytes, out)?;
+    Ok(len)
+}
+
+/// Appends what is left of the text and the sequences in front, and answers the bytes behind them.
+fn append_glance<'a, T: Rule>(
+    rule: &mut T,
+    limit: usize,
+    bytes: &'a [u8],
+    out: &mut Vec<u8>,
+) -> Result<&'a [u8], AllocError>
+    ensures parts { IfOk result (λ rest. (front : List ℕ) × (bytes.now ≡ front ++ rest.now)) }
+    ensures goes { IfOk result (λ rest. GoesOver T.gives limit NothingOpen false [] rule.old bytes.now rest.now rule.new out.old.items out.new.items) }
+{
+    let mut rest = bytes;
+    let mut more = true;
+    while more {
+        let told = append_told(rest, out)?;
+        let len = take_control(rule, limit, told, out)?;
+        rest = told.split_at(len).1;
+        more = len > 0;
+    }
+    Ok(rest)
+}
+
+/// Whether nothing is open and no byte is held.
+fn is_bare(mode: Mode, titled: bool, held: &[u8]) -> bool
+    ensures { result ≡ true → (mode ≡ NothingOpen) × (titled ≡ false) × (held.now ≡ []) }
+{
+    mode == Mode::Text && !titled && held.is_empty()
+}
+
+/// The same where nothing is open and no byte is held; else nothing is taken.
+pub(crate) fn append_front<'a, T: Rule>(
+    rule: &mut T,
+    limit: usize,
+    mode: Mode,
+    titled: bool,
+    held: &[u8],
+    bytes: &'a [u8],
+    out: &mut Vec<u8>,
+) -> Result<&'a [u8], AllocError>
+    ensures parts { IfOk result (λ rest. (front : List ℕ) × (bytes.now ≡ front ++ rest.now)) }
+    ensures goes { IfOk result (λ rest. GoesOver T.gives limit mode titled held.now rule.old bytes.now rest.now rule.new out.old.items out.new.items) }
+    // What is held stands directly before the rest.
+    ensures last { IfOk result (λ rest. (front : List ℕ) × (held.now ++ bytes.now ≡ front ++ (held.now ++ rest.now))) }
+{
+    if !is_bare(mode, titled, held) {
+        return Ok(bytes);
+    }
+    let rest = append_glance(rule, limit, bytes, out)?;
+    Ok(rest)
+}

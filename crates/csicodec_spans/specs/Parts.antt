@@ -1,5 +1,5 @@
 -- The parts of a stream, as the table of modes says: what stands in front of bytes, whatever follows them.
-use Rattle.std.specs.Prelude.{ℕ, ◌≡◌, ◌≢◌, ◌<◌, ◌≤◌, ◌⊎◌, List, [], ◌∷◌, ◌++◌, length, take}
+use Rattle.std.specs.Prelude.{ℕ, ◌≡◌, ◌≢◌, ◌<◌, ◌≤◌, ◌⊎◌, List, [], ◌∷◌, ◌++◌, length, take, drop}
 use Rattle.std.specs.List.{AllByRecursion, flat_map}
 use Rattle.csicodec_tokens.specs.declared.param.CsiParam.{CsiParam}
 use Rattle.csicodec_tokens.specs.declared.reader.ReadError.{ReadError}
@@ -102,6 +102,17 @@ pub record Cuts (limit : ℕ) (m : Mode) (bytes : List ℕ) (kind : Kind) (text 
   pub span : IsSpan kind text parts
   pub one : AreOne limit m bytes [] parts
   pub first : AreFirstParts limit m bytes parts rest next
+
+-- where nothing is open: text, or a whole escape sequence
+abbrev pub IsPlain : Answer → Type 0
+IsPlain (More k n a) = Unit {0}
+IsPlain (Anew k n a) = k ≡ kind.Esc
+IsPlain Sequence = ⊥
+IsPlain Undecided = ⊥
+
+-- where nothing is open, the first n bytes are a span that is no control sequence, and nothing is open behind it
+abbrev pub IsPlainFront : List ℕ → ℕ → Type 0
+IsPlainFront bytes n = (k : Kind) × (k ≢ kind.Csi) × ((limit : ℕ) → Cuts limit mode.Text bytes k (take n bytes) (drop n bytes) mode.Text)
 
 -- behind these bytes, the text is a part of this kind
 pub record IsPartAt (parts : List Part) (before : List ℕ) (kind : Kind) (text : List ℕ) : Type 0 where

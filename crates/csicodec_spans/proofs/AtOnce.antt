@@ -1,0 +1,117 @@
+-- Bytes before the first ESC, found many at once.
+use Rattle.std.proofs.Common.{◌≡◌, ◌<◌, ◌≤◌, ◌+◌, ◌-◌, ◌%◌, ◌^◌, ◌∙◌, ℕ, zero, suc, min, Bool, true, false, not, cond, eqb, w8, map, List, [], ◌∷◌, length, take, drop, get_or, replicate, inl, inr, ◌⊎◌, refl, sym, ap, subst, arith}
+use Rattle.std.specs.Prelude.{nat_lt}
+use Rattle.std.proofs.lemmas.Bool.Decides.{nat_tests}
+use Rattle.std.proofs.lemmas.List.{get_or-drop, get_or-take, length-replicate, map-id}
+use Rattle.std.proofs.lemmas.Simd.{get_or-replicate, get_or-zip2, leading_from_mask_l, length-zip2, mask_l-mod, tops_compared, trailing_mask_l}
+use Rattle.std.specs.List.{prefix_len}
+use Rattle.std.specs.Simd.Lanes.{mask_l, top, zip2}
+use lib.Count.{count_trailing_zeros}
+use Rattle.csicodec_spans.specs.declared.table.Ahead.{Ahead}
+use Rattle.csicodec_spans.specs.declared.table.Ahead.TheVariants.{GoesOn, Ends, New, Esc, Csi, Unsure}
+use Rattle.csicodec_spans.specs.declared.table.Kind.TheVariants as kind
+use Rattle.csicodec_spans.specs.declared.table.Mode.{Mode}
+use Rattle.csicodec_spans.specs.declared.table.Mode.TheVariants as mode
+use Rattle.csicodec_spans.specs.Parts.{IsPlain, IsPlainFront}
+use Rattle.csicodec_spans.specs.Private.TableBy.{kind_in, look, stays}
+use Rattle.csicodec_spans.specs.Table.{ahead}
+use Rattle.csicodec_spans.proofs.Agrees.{Agrees, agrees, found}
+use Rattle.csicodec_spans.proofs.OneSpan.{run_cut, taken_cut, taken_within}
+
+-- the lanes before the first that is set aren't
+unset_before : (ms : List Bool) (i : ℕ) → i < prefix_len not ms → get_or ms i true ≡ false
+unset_before [] i lt = absurd (omega (arith, lt))
+unset_before (true ∷ ms) i lt = absurd (omega (arith, lt))
+unset_before (false ∷ ms) zero lt = refl
+unset_before (false ∷ ms) (suc i) lt = unset_before ms i (omega (arith, lt))
+
+unset_lanes : (ms : List Bool) (w : ℕ) → w < 64 → length ms ≡ w → (k : ℕ) → k ≡ count_trailing_zeros 64 (mask_l ms) → (i : ℕ) → i < k → i < w → get_or ms i true ≡ false
+unset_lanes ms w few long k is i before within = go (mask_l ms) refl
+  where
+    go : (m : ℕ) → mask_l ms ≡ m → get_or ms i true ≡ false
+    go zero none =
+        let all : prefix_len not ms ≡ length ms = leading_from_mask_l (λ (b : Bool). b) ms (ap mask_l (map-id ms) ∙ none) in
+        unset_before ms i (omega (arith, all, long, within))
+    go (suc m) some =
+        let first : count_trailing_zeros 64 (mask_l ms) ≡ prefix_len not ms =
+        ap (λ (l : List Bool). count_trailing_zeros 64 (mask_l l)) (sym (map-id ms))
+        ∙ trailing_mask_l (λ (b : Bool). b) 64 ms (omega (arith, long, few)) (rw (map-id ms) (omega (arith, some))) in
+        unset_before ms i (omega (arith, before, is, first))
+
+-- those that are ESC
+abbrev pub are_esc : List ℕ → ℕ → List Bool
+are_esc xs w = zip2 eqb xs (replicate w 27)
+
+esc_at : (xs : List ℕ) (w i : ℕ) → length xs ≡ w → i < w → get_or (are_esc xs w) i true ≡ eqb (get_or xs i 0) 27
+esc_at xs w i long within =
+    get_or-zip2 eqb xs (replicate w 27) i 0 0 true (omega (arith, long, within)) (omega (arith, length-replicate {A = ℕ} w 27, within))
+    ∙ ap (λ (n : ℕ). eqb (get_or xs i 0) n) (get_or-replicate w i 27 0 within)
+
+pub text_lanes : (xs : List ℕ) (w : ℕ) → w < 64 → length xs ≡ w → (k : ℕ) → k ≡ count_trailing_zeros 64 (mask_l (are_esc xs w)) → (i : ℕ) → i < k → i < w → stays mode.Text (get_or xs i 0) ≡ true
+text_lanes xs w few long k is i before within =
+    let many : length (are_esc xs w) ≡ w = length-zip2 eqb xs (replicate w 27) (long ∙ sym (length-replicate {A = ℕ} w 27)) ∙ long in
+    ap not (sym (esc_at xs w i long within) ∙ unset_lanes (are_esc xs w) w few many k is i before within)
+
+-- a comparison's mask, of lanes of bytes
+pub esc_mask : (xs : List ℕ) (w : ℕ) → w < 64 → length xs ≡ w
+    → count_trailing_zeros 64 (mask_l (map (top 7) (zip2 (λ a b. cond (eqb a b) 255 0) xs (replicate w 27))) % 2 ^ 64) ≡ count_trailing_zeros 64 (mask_l (are_esc xs w))
+esc_mask xs w few long =
+    ap (λ (ms : List Bool). count_trailing_zeros 64 (mask_l ms % 2 ^ 64)) (tops_compared w8 eqb xs (replicate w 27))
+    ∙ ap (count_trailing_zeros 64) (mask_l-mod (are_esc xs w) 64 (omega (arith, length-zip2 eqb xs (replicate w 27) (long ∙ sym (length-replicate {A = ℕ} w 27)), long, few)))
+
+-- of 48 bytes, where the first 16 stay, and so many behind them
+pub far_stays : (bytes : List ℕ) (near far : ℕ) → 16 ≤ near → ((k : ℕ) → k < near → k < 16 → stays mode.Text (get_or (take 16 bytes) k 0) ≡ true)
+    → ((k : ℕ) → k < far → k < 32 → stays mode.Text (get_or (take 32 (drop 16 bytes)) k 0) ≡ true) → (k : ℕ) → k < 16 + min far 32 → stays mode.Text (get_or bytes k 0) ≡ true
+far_stays bytes near far some front back k within = by (nat_lt k 16) refl
+  where
+    by : (b : Bool) → nat_lt k 16 ≡ b → stays mode.Text (get_or bytes k 0) ≡ true
+    by true is =
+        let low : k < 16 = grind (arith, nat_tests, is) in
+        subst (λ (n : ℕ). stays mode.Text n ≡ true) (get_or-take 16 bytes k 0 low) (front k (omega (arith, low, some)) low)
+    by false is =
+        let high : 16 ≤ k = grind (arith, nat_tests, is) in
+        let i = k - 16 in
+        let at : 16 + i ≡ k = omega (arith, high) in
+        let same : get_or (take 32 (drop 16 bytes)) i 0 ≡ get_or bytes k 0 =
+        get_or-take 32 (drop 16 bytes) i 0 (omega (arith, within, high)) ∙ get_or-drop 16 bytes i 0 ∙ ap (λ (n : ℕ). get_or bytes n 0) at in
+        subst (λ (n : ℕ). stays mode.Text n ≡ true) same (back i (omega (arith, within, high)) (omega (arith, within, high)))
+
+pub near_stays : (bytes : List ℕ) (near : ℕ) → near < 16 → ((k : ℕ) → k < near → k < 16 → stays mode.Text (get_or (take 16 bytes) k 0) ≡ true) → (k : ℕ) → k < near → stays mode.Text (get_or bytes k 0) ≡ true
+near_stays bytes near few front k within =
+    let low : k < 16 = omega (arith, few, within) in
+    subst (λ (n : ℕ). stays mode.Text n ≡ true) (get_or-take 16 bytes k 0 low) (front k within low)
+
+-- text in front
+pub text_front : (bytes : List ℕ) (n : ℕ) → ((k : ℕ) → k < n → stays mode.Text (get_or bytes k 0) ≡ true) → n ≤ length bytes → 0 < n → IsPlainFront bytes n
+text_front bytes n stay within some = (kind.Text, (λ e. absurd cc), λ limit. run_cut limit n mode.Text bytes stay within some)
+
+-- a byte of text, or an escape sequence
+pub byte_front : (bytes : List ℕ) (n : ℕ) → look mode.Text bytes ≡ GoesOn n → IsPlainFront bytes n
+byte_front bytes n is = (kind.Text, (λ e. absurd cc), λ limit. taken_cut limit mode.Text bytes (GoesOn n) kind.Text n mode.Text is (inl refl))
+
+pub escape_front : (bytes : List ℕ) (n : ℕ) → look mode.Text bytes ≡ Esc n → IsPlainFront bytes n
+escape_front bytes n is = (kind.Esc, (λ e. absurd cc), λ limit. taken_cut limit mode.Text bytes (Esc n) kind.Esc n mode.Text is (inr refl))
+
+-- so many bytes as were found, and at least one
+pub byte_within : (bytes : List ℕ) (n : ℕ) → look mode.Text bytes ≡ GoesOn n → (0 < n) × (n ≤ length bytes)
+byte_within bytes n is = taken_within mode.Text bytes (GoesOn n) kind.Text n mode.Text is (inl refl)
+
+pub escape_within : (bytes : List ℕ) (n : ℕ) → look mode.Text bytes ≡ Esc n → (0 < n) × (n ≤ length bytes)
+escape_within bytes n is = taken_within mode.Text bytes (Esc n) kind.Esc n mode.Text is (inr refl)
+
+-- neither
+abbrev pub IsNeither : Ahead → Type 0
+IsNeither f = ((n : ℕ) × (f ≡ Ends n)) ⊎ (((n : ℕ) × (a : Mode) × (f ≡ New n a)) ⊎ ((f ≡ Csi) ⊎ (f ≡ Unsure)))
+
+no_escape : (a : Mode) → kind_in a ≡ kind.Esc → ⊥
+no_escape mode.Text e = absurd cc
+no_escape mode.Osc e = absurd cc
+no_escape mode.BadCsi e = absurd cc
+no_escape mode.BadEsc e = absurd cc
+no_escape _ e = absurd cc
+
+pub none_plain : (bytes : List ℕ) (f : Ahead) → look mode.Text bytes ≡ f → IsNeither f → IsPlain (ahead mode.Text bytes) → ⊥
+none_plain bytes f is (inl (n, e)) plain = (subst (Agrees mode.Text bytes) (is ∙ e) (agrees mode.Text bytes)).ends refl
+none_plain bytes f is (inr (inl (n, a, e))) plain = no_escape a (subst IsPlain (found mode.Text bytes (New n a) (is ∙ e)) plain)
+none_plain bytes f is (inr (inr (inl e))) plain = subst IsPlain (found mode.Text bytes Csi (is ∙ e)) plain
+none_plain bytes f is (inr (inr (inr e))) plain = subst IsPlain (found mode.Text bytes Unsure (is ∙ e)) plain

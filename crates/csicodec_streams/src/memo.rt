@@ -7,16 +7,19 @@ use std::alloc::Global;
 use std::marker::{Model, PhantomData};
 use std::simd::prelude::*;
 
-/// How many bytes a slot has for a sequence, and how many for its note. Of fewer bytes no place is told.
+/// How many bytes a slot has for a sequence, and how many for its note. In fewer bytes none is looked for.
 pub const WIDE: usize = 48;
 
 /// How many new sequences come before a table is made.
 const FIRST: usize = 16;
 
-/// How many slots there are at first, and how many at most.
-const FEWEST: usize = 64;
+/// How many slots there are at first, and how many then.
+const FEWEST: usize = 128;
 
 const MOST: usize = 4096;
+
+/// In how many slots, side by side, a sequence may stand.
+const WAYS: usize = 8;
 
 /// After so many new sequences in a row, only each `STEP`th is looked for.
 const PATIENCE: u32 = 1024;
@@ -28,6 +31,11 @@ const WORTH: u8 = 4;
 
 /// A number without a pattern, by which a hash is multiplied.
 const SPREAD: u64 = 0x9e37_79b9_7f4a_7c15;
+
+/// The lowest bit of each byte, and the highest.
+const LOWEST: u64 = 0x0101_0101_0101_0101;
+
+const HIGHEST: u64 = 0x8080_8080_8080_8080;
 
 /// What is noted of sequences: some bytes for each.
 pub trait Note {
@@ -99,19 +107,30 @@ impl Noted {
     }
 }
 
-/// A table of control sequences that came before, each with its note. It takes no memory at first, and grows while much of what
-/// comes is new; without memory it stays as it is. Each sequence may stand in one of eight slots, which are neighbours.
+/// Where a sequence may stand: in eight slots, those of a group, and there in one with this mark.
+#[derive(Clone, Copy)]
+struct Place {
+    group: usize,
+    /// The mark, in each byte.
+    marks: u64,
+}
+
+/// A table of control sequences that came before, each with its note. It takes no memory at first, and grows twice, when much of what
+/// comes is new; without memory it stays as it is. Each sequence may stand in one of eight slots, which are neighbours: a byte of
+/// its hash, its mark, is compared with those of all eight at once.
 ///
-/// A caller asks for the [`place`](Memo::place) of what stands in front, then whether it is known there
-/// ([`recall`](Memo::recall), [`find`](Memo::find)), and if not, tells its note once that was found ([`keep`](Memo::keep)).
+/// A caller asks whether the sequence in front is known ([`recall`](Memo::recall), [`find`](Memo::find)), and if not, tells its note
+/// once that was found ([`keep`](Memo::keep)).
 #[derive(Drop)]
 pub struct Memo<N> {
     slots: Vec<Slot>,
+    /// The marks of eight slots, from the lowest byte on; 0 where a slot is empty.
+    marks: Vec<u64>,
     /// How often others have to want each slot before one has it.
     worth: Vec<u8>,
     /// How many are kept before it grows.
     spare: usize,
-    /// How many were new, of late.
+    /// How many were new, one after the other.
     missed: u32,
     /// How many are passed over before one is looked for.
     passed: u32,
@@ -125,6 +144,7 @@ impl<N: Note> Memo<N> {
     {
         Memo {
             slots: Vec::new(alloc),
+            marks: Vec::new(alloc),
             worth: Vec::new(alloc),
             spare: FIRST,
             missed: 0,
@@ -133,41 +153,80 @@ impl<N: Note> Memo<N> {
         }
     }
 
-    /// Where the sequence in front of the bytes would be. Beyond the table where it isn't short, or isn't to be looked for.
+    /// Where the sequence in front of the bytes may stand, if it is short.
     #[inline(always)]
-    pub fn place(&mut self, bytes: &[u8]) -> usize
+    fn place(&self, bytes: &[u8]) -> Option<Place> {
+        let Some(hash) = hash(bytes) else {
+            return None;
+        };
+        let group = (hash >> 52) as usize & self.marks.len().wrapping_sub(1);
+        let mark = hash >> 40 & 0xff | 1;
+        Some(Place {
+            group,
+            marks: mark.wrapping_mul(LOWEST),
+        })
+    }
+
+    /// The slot in which the sequence in front stands, if it is to be looked for.
+    #[inline(always)]
+    fn seek(&mut self, bytes: &[u8]) -> Option<usize>
         requires { AreKnown N.notes self.old.slots.items }
-        ensures { AreKnown N.notes self.new.slots.items }
+        ensures found { IfSome result (λ at. StandsAt N.notes bytes.now self.new.slots.items at) }
+        ensures known { AreKnown N.notes self.new.slots.items }
     {
         if self.passed > 0 {
             self.passed -= 1;
-            return usize::MAX;
+            return None;
         }
-        match hash(bytes) {
-            Some(hash) => hash & self.slots.len().wrapping_sub(2),
-            None => usize::MAX,
+        let Some(place) = self.place(bytes) else {
+            return None;
+        };
+        let Some(marks) = self.marks.get(place.group) else {
+            return None;
+        };
+        let same = same_marks(*marks, place.marks);
+        if same == 0 {
+            return None;
         }
+        let at = first_of(place.group, same);
+        if self.has(at, bytes) {
+            return Some(at);
+        }
+        self.seek_beside(place.group, same, bytes)
+    }
+
+    /// The same of the others with that mark.
+    #[cold]
+    #[inline(never)]
+    fn seek_beside(&self, group: usize, same: u64, bytes: &[u8]) -> Option<usize>
+        requires { AreKnown N.notes self.now.slots.items }
+        ensures { IfSome result (λ at. StandsAt N.notes bytes.now self.now.slots.items at) }
+    {
+        let mut left = same;
+        for _ in 1..WAYS {
+            left &= left.wrapping_sub(1);
+            if left == 0 {
+                return None;
+            }
+            let at = first_of(group, left);
+            if self.has(at, bytes) {
+                return Some(at);
+            }
+        }
+        None
     }
 
     /// Appends the note of the sequence in front, if it is known, and answers how many bytes that has; 0 where it isn't.
     #[inline(always)]
-    pub fn recall(&mut self, place: usize, bytes: &[u8], out: &mut TextBuffer) -> usize
+    pub fn recall(&mut self, bytes: &[u8], out: &mut TextBuffer) -> usize
         requires { AreKnown N.notes self.old.slots.items }
         ensures within { result ≤ length bytes.now }
+        ensures short { result ≤ 48 }
         ensures noted { 0 < result → (text : List ℕ) × N.notes (take result bytes.now) text × (out.new ≡ out.old ++ text) }
         ensures none { result ≡ 0 → out.new ≡ out.old }
         ensures known { AreKnown N.notes self.new.slots.items }
     {
-        if place >= self.slots.len() || bytes.len() < WIDE {
-            return 0;
-        }
-        if self.has(place, bytes) {
-            return self.append(place, bytes, out);
-        }
-        if self.has(place ^ 1, bytes) {
-            return self.append(place ^ 1, bytes, out);
-        }
-        match self.beside(place, bytes) {
+        match self.seek(bytes) {
             Some(at) => self.append(at, bytes, out),
             None => 0,
         }
@@ -179,6 +238,7 @@ impl<N: Note> Memo<N> {
         requires known { AreKnown N.notes self.old.slots.items }
         requires stands { StandsAt N.notes _bytes.now self.old.slots.items at }
         ensures within { result ≤ length _bytes.now }
+        ensures short { result ≤ 48 }
         ensures noted { 0 < result → (text : List ℕ) × N.notes (take result _bytes.now) text × (out.new ≡ out.old ++ text) }
         ensures none { result ≡ 0 → out.new ≡ out.old }
         ensures known { AreKnown N.notes self.new.slots.items }
@@ -196,22 +256,14 @@ impl<N: Note> Memo<N> {
 
     /// The same as [`recall`](Memo::recall), and the note is put into a place of its own.
     #[inline(always)]
-    pub fn find(&mut self, place: usize, bytes: &[u8], out: &mut Noted) -> usize
+    pub fn find(&mut self, bytes: &[u8], out: &mut Noted) -> usize
         requires { AreKnown N.notes self.old.slots.items }
         ensures within { result ≤ length bytes.now }
+        ensures short { result ≤ 48 }
         ensures noted { 0 < result → N.notes (take result bytes.now) out.new }
         ensures known { AreKnown N.notes self.new.slots.items }
     {
-        if place >= self.slots.len() || bytes.len() < WIDE {
-            return 0;
-        }
-        if self.has(place, bytes) {
-            return self.copy(place, bytes, out);
-        }
-        if self.has(place ^ 1, bytes) {
-            return self.copy(place ^ 1, bytes, out);
-        }
-        match self.beside(place, bytes) {
+        match self.seek(bytes) {
             Some(at) => self.copy(at, bytes, out),
             None => 0,
         }
@@ -223,6 +275,7 @@ impl<N: Note> Memo<N> {
         requires known { AreKnown N.notes self.old.slots.items }
         requires stands { StandsAt N.notes _bytes.now self.old.slots.items at }
         ensures within { result ≤ length _bytes.now }
+        ensures short { result ≤ 48 }
         ensures noted { 0 < result → N.notes (take result _bytes.now) out.new }
         ensures known { AreKnown N.notes self.new.slots.items }
     {
@@ -238,57 +291,25 @@ impl<N: Note> Memo<N> {
 
     /// Notes that a sequence came again.
     #[inline(always)]
-    fn hit(&mut self, place: usize)
+    fn hit(&mut self, at: usize)
         ensures { self.new.slots.items ≡ self.old.slots.items }
     {
-        self.missed /= 2;
-        if let Some(worth) = self.worth.get_mut(place) {
+        self.missed = 0;
+        if let Some(worth) = self.worth.get_mut(at) {
             *worth = WORTH;
         }
     }
 
-    /// Where the sequence in front stands, if it is in one of the six slots beside its place and the neighbour of that.
-    #[inline(never)]
-    fn beside(&self, place: usize, bytes: &[u8]) -> Option<usize>
-        requires { AreKnown N.notes self.now.slots.items }
-        ensures { IfSome result (λ at. StandsAt N.notes bytes.now self.now.slots.items at) }
-    {
-        let second = self.of_two(place ^ 2, bytes);
-        if second.is_some() {
-            return second;
-        }
-        let third = self.of_two(place ^ 4, bytes);
-        if third.is_some() {
-            return third;
-        }
-        self.of_two(place ^ 6, bytes)
-    }
-
-    /// The same of a slot and its neighbour.
-    #[inline(always)]
-    fn of_two(&self, place: usize, bytes: &[u8]) -> Option<usize>
-        requires { AreKnown N.notes self.now.slots.items }
-        ensures { IfSome result (λ at. StandsAt N.notes bytes.now self.now.slots.items at) }
-    {
-        if self.has(place, bytes) {
-            return Some(place);
-        }
-        if self.has(place ^ 1, bytes) {
-            return Some(place ^ 1);
-        }
-        None
-    }
-
     /// Whether the sequence in front stands in this slot.
     #[inline(always)]
-    fn has(&self, place: usize, bytes: &[u8]) -> bool
+    fn has(&self, at: usize, bytes: &[u8]) -> bool
         requires { AreKnown N.notes self.now.slots.items }
-        ensures { result ≡ true → StandsAt N.notes bytes.now self.now.slots.items place }
+        ensures { result ≡ true → StandsAt N.notes bytes.now self.now.slots.items at }
     {
-        if place >= self.slots.len() || bytes.len() < WIDE {
+        if at >= self.slots.len() || bytes.len() < WIDE {
             return false;
         }
-        let slot = &self.slots[place];
+        let slot = &self.slots[at];
         let len = usize::from(slot.len);
         if len == 0 || same_front(bytes, &slot.bytes, len) < len {
             return false;
@@ -296,21 +317,9 @@ impl<N: Note> Memo<N> {
         true
     }
 
-    /// Keeps the sequence in front, of so many bytes, and its note, unless one of them is long, or it was not looked for.
-    #[inline(always)]
-    pub fn keep(&mut self, place: usize, bytes: &[u8], len: usize, text: &[u8])
-        requires known { AreKnown N.notes self.old.slots.items }
-        requires noted { N.notes (take len bytes.now) text.now }
-        ensures { AreKnown N.notes self.new.slots.items }
-    {
-        if place < MOST {
-            self.put(place, bytes, len, text);
-        }
-    }
-
-    /// Keeps them where one of the eight slots is free.
+    /// Keeps the sequence in front, of so many bytes, and its note, unless one of them is long, or such are passed over.
     #[inline(never)]
-    fn put(&mut self, place: usize, bytes: &[u8], len: usize, text: &[u8])
+    pub fn keep(&mut self, bytes: &[u8], len: usize, text: &[u8])
         requires known { AreKnown N.notes self.old.slots.items }
         requires noted { N.notes (take len bytes.now) text.now }
         ensures { AreKnown N.notes self.new.slots.items }
@@ -318,11 +327,17 @@ impl<N: Note> Memo<N> {
         let Some(front) = bytes.first_chunk::<WIDE>() else {
             return;
         };
+        if self.passed > 0 {
+            return;
+        }
+        let Some(place) = self.place(bytes) else {
+            return;
+        };
         if self.spare == 0 {
             return self.grow();
         }
         self.miss();
-        let own = self.free(place);
+        let own = free(&mut self.worth, place.group);
         if own < self.slots.len() && len <= WIDE && text.len() <= WIDE {
             let mut wide = [0; WIDE];
             wide[..text.len()].copy_from_slice(text);
@@ -332,6 +347,7 @@ impl<N: Note> Memo<N> {
                 len: len as u8,
                 text_len: text.len() as u8,
             };
+            set_mark(&mut self.marks, own, place.marks);
         }
     }
 
@@ -348,53 +364,6 @@ impl<N: Note> Memo<N> {
         }
     }
 
-    /// The one of eight slots that another sequence has from now on. Beyond the table where all are worth more.
-    fn free(&mut self, place: usize) -> usize
-        requires { AreKnown N.notes self.old.slots.items }
-        ensures { AreKnown N.notes self.new.slots.items }
-    {
-        let near = self.free_of_four(place);
-        if near < MOST {
-            return near;
-        }
-        self.free_of_four(place ^ 4)
-    }
-
-    /// The same of four slots.
-    fn free_of_four(&mut self, place: usize) -> usize
-        requires { AreKnown N.notes self.old.slots.items }
-        ensures { AreKnown N.notes self.new.slots.items }
-    {
-        if self.is_free(place) {
-            return place;
-        }
-        if self.is_free(place ^ 1) {
-            return place ^ 1;
-        }
-        if self.is_free(place ^ 2) {
-            return place ^ 2;
-        }
-        if self.is_free(place ^ 3) {
-            return place ^ 3;
-        }
-        usize::MAX
-    }
-
-    /// Whether another sequence has the slot from now on. If not, the slot is worth less.
-    fn is_free(&mut self, place: usize) -> bool
-        requires { AreKnown N.notes self.old.slots.items }
-        ensures { AreKnown N.notes self.new.slots.items }
-    {
-        match self.worth.get_mut(place) {
-            Some(worth) => {
-                let is_free = *worth == 0;
-                *worth = if is_free { WORTH } else { *worth - 1 };
-                is_free
-            }
-            None => false,
-        }
-    }
-
     /// Takes a larger table, which is empty. Without memory for it the table stays for good, as it does when it is large.
     #[cold]
     #[inline(never)]
@@ -406,7 +375,7 @@ impl<N: Note> Memo<N> {
         let len = self.slots.len();
         if len < MOST {
             let alloc = *self.slots.allocator();
-            let larger = (8 * len).max(FEWEST);
+            let larger = if len < FEWEST { FEWEST } else { MOST };
             let empty = Slot {
                 bytes: [0; WIDE],
                 text: [0; WIDE],
@@ -416,8 +385,12 @@ impl<N: Note> Memo<N> {
             let Ok(worth) = vec![in alloc; 0; larger] else {
                 return;
             };
+            let Ok(marks) = vec![in alloc; 0; larger / WAYS] else {
+                return;
+            };
             if let Ok(slots) = vec![in alloc; empty; larger] {
                 self.slots = slots;
+                self.marks = marks;
                 self.worth = worth;
                 self.spare = larger;
             }
@@ -425,10 +398,48 @@ impl<N: Note> Memo<N> {
     }
 }
 
+/// Where the marks of a group are these: the highest bit of the first byte that is the same is set, and none of those before it.
+#[inline(always)]
+fn same_marks(group: u64, marks: u64) -> u64 {
+    let apart = group ^ marks;
+    apart.wrapping_sub(LOWEST) & !apart & HIGHEST
+}
+
+/// The slot of a group to which the lowest bit belongs.
+#[inline(always)]
+fn first_of(group: usize, same: u64) -> usize {
+    let way = (same.trailing_zeros() / 8) as usize;
+    group.wrapping_mul(WAYS).wrapping_add(way)
+}
+
+/// Writes the mark of a slot.
+fn set_mark(marks: &mut Vec<u64>, at: usize, mark: u64) {
+    if let Some(group) = marks.get_mut(at / WAYS) {
+        let own = 0xffu64.wrapping_shl(8 * (at % WAYS) as u32);
+        *group = *group & !own | mark & own;
+    }
+}
+
+/// The one of eight slots that another sequence has from now on. Beyond the table where all are worth more; each is worth less then.
+fn free(worth: &mut Vec<u8>, group: usize) -> usize {
+    for way in 0..WAYS {
+        let at = group.wrapping_mul(WAYS).wrapping_add(way);
+        let Some(own) = worth.get_mut(at) else {
+            return usize::MAX;
+        };
+        if *own == 0 {
+            *own = WORTH;
+            return at;
+        }
+        *own -= 1;
+    }
+    usize::MAX
+}
+
 /// A number for the sequence in front, by its bytes up to the final one, which is the first from 40 on behind ESC and '['. None
 /// where it isn't short.
 #[inline(always)]
-fn hash(bytes: &[u8]) -> Option<usize> {
+fn hash(bytes: &[u8]) -> Option<u64> {
     if bytes.len() < WIDE {
         return None;
     }
@@ -436,7 +447,7 @@ fn hash(bytes: &[u8]) -> Option<usize> {
     let letters = front & 0x4040_4040_4040_4040;
     if letters != 0 {
         let all = front & (letters ^ letters.wrapping_sub(1));
-        return Some((all.wrapping_mul(SPREAD) >> 51) as usize);
+        return Some(all.wrapping_mul(SPREAD));
     }
     let behind = u8x32::from_slice(bytes.split_at(10).1);
     let letters = (behind & u8x32::splat(0x40)).simd_ne(u8x32::splat(0));
@@ -446,7 +457,7 @@ fn hash(bytes: &[u8]) -> Option<usize> {
     }
     let (mid, end) = (word(bytes, 3 + last / 2), word(bytes, 3 + last));
     let all = front ^ mid.rotate_left(7) ^ end.wrapping_mul(0xff51_afd7_ed55_8ccd);
-    Some((all.wrapping_mul(SPREAD) >> 51) as usize)
+    Some(all.wrapping_mul(SPREAD))
 }
 
 /// Eight bytes from a place on.

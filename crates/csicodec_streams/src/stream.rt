@@ -40,8 +40,7 @@ fn texts_into<'a>(
 {
     let mut rest = bytes;
     while !rest.is_empty() {
-        let place = memo.place(rest);
-        let known = memo.recall(place, rest, &mut sink.bytes);
+        let known = memo.recall(rest, &mut sink.bytes);
         if known > 0 {
             rest = &rest[known..];
             continue;
@@ -53,7 +52,7 @@ fn texts_into<'a>(
                 list_into(alloc, &mut tokens, false, tail.control, sink)?;
                 let len = rest.len() - tail.rest.len();
                 let (_, text) = sink.bytes.as_slice().split_at(before);
-                memo.keep(place, rest, len, text);
+                memo.keep(rest, len, text);
                 rest = tail.rest;
             }
             Err(error) => {

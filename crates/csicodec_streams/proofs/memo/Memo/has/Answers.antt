@@ -9,12 +9,12 @@ pub returns : goal.returns
 returns g c = λ yes.
     let slot = c.index-slot.result.now in
     let items = c.args.self.now.slots.items in
-    let within : c.args.place < length items = omega (arith, c.if-place-len.false, c.len.ensures) in
-    let known : IsKnown g.N.Note.notes slot = subst (IsKnown g.N.Note.notes) (sym c.index-slot.ensures) (All-get_or (IsKnown g.N.Note.notes) items c.args.place slot within c.requires) in
+    let within : c.args.at < length items = omega (arith, c.if-at-len.false, c.len.ensures) in
+    let known : IsKnown g.N.Note.notes slot = subst (IsKnown g.N.Note.notes) (sym c.index-slot.ensures) (All-get_or (IsKnown g.N.Note.notes) items c.args.at slot within c.requires) in
     let some : 0 < slot.len = omega (arith, c.if-len-eq0.false, c.from-len.ensures) in
     let same : slot.len ≤ c.same_front.result = omega (arith, c.if-same_front-len.false, c.from-len.ensures) in (
       slot,
-      slice_get_read items (length items) c.args.place slot refl within c.index-slot.ensures,
+      slice_get_read items (length items) c.args.at slot refl within c.index-slot.ensures,
       some,
       omega (arith, known.0, c.if-bytes-lt-WIDE.false),
       known.1,

@@ -24,10 +24,16 @@ impl<T: Rule + Drop> Transform for Cleaner<T> {
 
     ghost passes = { λ first bytes text last. Takes T.gives first bytes text last };
 
+    ghost rests = { λ _. ⊤ };
+
     ghost ends = { Closing T.closes };
 
     fn take(&mut self, bytes: &[u8], out: &mut Vec<u8>) -> Result<(), AllocError> {
         self.push(bytes, out)?;
+        Ok(())
+    }
+
+    fn pause(&mut self, _out: &mut Vec<u8>) -> Result<(), AllocError> {
         Ok(())
     }
 

@@ -19,19 +19,19 @@ use Rattle.csicodec_spans.specs.declared.table.Kind.{Kind}
 use Rattle.csicodec_spans.specs.declared.table.Kind.TheVariants as kind
 use Rattle.csicodec_spans.specs.declared.table.Mode.{Mode}
 use Rattle.csicodec_spans.specs.declared.table.Mode.TheVariants as mode
-use Rattle.csicodec_spans.specs.Parts.{Part, part, bytes_of, left_over, AreAll, AreFirstParts, IsSpan, IsUnsure}
+use Rattle.csicodec_spans.specs.Parts.{Part, part, bytes_of, left_over, AreAll, AreFirstParts, IsPlainFront, IsSpan, IsUnsure}
 use Rattle.csicodec_spans.proofs.OneSpan.{none_unsure}
 use Rattle.csicodec_spans.proofs.Kept.{parts_more, parts_on}
 use Rattle.csicodec_filter.specs.Faithful.{stays}
 use Rattle.csicodec_filter.specs.Transform.{Begins as BeginsWith, Sends, Transforms}
 use Rattle.csicodec_filter.proofs.Filtered.{one_first}
 use Rattle.csicodec_compact.specs.Compacts.{Compacts, ReadsAlike}
-use Rattle.csicodec_compact.specs.Runs.{IsStaying, NoneStays, Shortens, AreRuns, IsShortened, PassesShort, CompactsAll}
+use Rattle.csicodec_compact.specs.Runs.{IsStaying, NoneStays, Shortens, AreRuns, IsShortened, Open, PassesShort, CompactsAll}
 use Rattle.csicodec_compact.specs.declared.form.Form.{Form}
 use Rattle.csicodec_compact.specs.declared.form.Form.TheVariants as forms
 use Rattle.csicodec_compact.specs.declared.all.Compacting.{Compacting}
 use Rattle.csicodec_compact.specs.Private.Run.{Leaves, PassesSince}
-use Rattle.csicodec_compact.specs.Private.Steps.{Begins, form_of, closing, is_semicolon, joint, behind, is_joined, may_join, opened, list_of, IsTail, IsListed, IsOwn, IsNotedList, IsNoted, IsNote, GoesOnFrom, IsHeld, Follows, GoesOn}
+use Rattle.csicodec_compact.specs.Private.Steps.{Begins, form_of, closing, is_semicolon, joint, behind, is_joined, may_join, opened, list_of, IsTail, IsListed, IsOwn, IsNotedList, IsNoted, IsNote, GoesOnFrom, IsHeld, Extends, GoesOnBy, WritesFront}
 use Rattle.csicodec_compact.proofs.JoinedLists.{tail_joined, tail_decodes, joint_short}
 
 -- ---- bytes in front of others
@@ -306,72 +306,69 @@ note_of bytes text note form one made own free whole list = by_form form own fre
 pub note_long : (bytes note : List ℕ) → IsNote bytes note → 2 ≤ length note
 note_long bytes note n = omega (arith, ap length n.3)
 
--- ---- a sequence more, or something else
+-- ---- what is written for more parts
 
-pub follows_one : (run : List Part) (bytes held : List ℕ) (form : Form) → IsHeld (run ++ part kind.Csi bytes ∷ []) held form → Follows run (part kind.Csi bytes ∷ []) [] held form
-follows_one run bytes held form h = record { done = []; left = run ++ part kind.Csi bytes ∷ []; whole = refl; written = shortened_none; still = h }
+-- a text that stands by itself
+pub extends_one : (st form : Form) (bytes text : List ℕ) → IsOne bytes → IsNoted form bytes text → Extends st (part kind.Csi bytes ∷ []) (closing st ++ opened form text) form
+extends_one st form bytes text one n run before h =
+    subst (λ (l : List ℕ). IsHeld (run ++ part kind.Csi bytes ∷ []) l form) (append_assoc before (closing st) (opened form text)) (begun run bytes before text st h one form n)
 
-pub follows_plain : (run parts : List Part) (k : Kind) (bytes held : List ℕ) (form : Form) → IsHeld run held form → k ≢ kind.Csi → IsSpan k bytes parts → Follows run parts ((held ++ closing form) ++ bytes) [] forms.Whole
-follows_plain run parts k bytes held form h ne span = record {
-  done = run ++ parts;
-  left = [];
-  whole = sym (append-nil (run ++ parts));
-  written = shortened_on run parts (held ++ closing form) bytes (closed run held form h) (shortened_span k bytes parts ne span);
-  still = none_held;
-}
+-- one in the same list
+pub extends_joined : (st form : Form) (bytes text : List ℕ) → IsOne bytes → IsNoted form bytes text → may_join st form text ≡ true → Extends st (part kind.Csi bytes ∷ []) (joint st form text) (behind st form)
+extends_joined st form bytes text one n may run before h = joined run bytes before text st form h one n may
 
--- the same where the span is held too
-pub follows_held : (run parts : List Part) (k : Kind) (bytes held : List ℕ) (form : Form) → IsHeld run held form → k ≢ kind.Csi → IsSpan k bytes parts → Follows run parts [] ((held ++ closing form) ++ bytes) forms.Whole
-follows_held run parts k bytes held form h ne span = record {
-  done = [];
-  left = run ++ parts;
-  whole = refl;
-  written = shortened_none;
-  still = held_whole (run ++ parts) ((held ++ closing form) ++ bytes) (shortened_on run parts (held ++ closing form) bytes (closed run held form h) (shortened_span k bytes parts ne span));
-}
+-- what is no control sequence
+pub extends_plain : (st : Form) (k : Kind) (bytes : List ℕ) (parts : List Part) → k ≢ kind.Csi → IsSpan k bytes parts → Extends st parts (closing st ++ bytes) forms.Whole
+extends_plain st k bytes parts ne span run before h =
+    subst (λ (l : List ℕ). IsHeld (run ++ parts) l forms.Whole) (append_assoc before (closing st) bytes)
+    (held_whole (run ++ parts) ((before ++ closing st) ++ bytes) (shortened_on run parts (before ++ closing st) bytes (closed run before st h) (shortened_span k bytes parts ne span)))
 
--- ---- a piece of a stream
+-- nothing
+extends_none : (st : Form) → Extends st [] [] st
+extends_none st run before h = rw (append-nil run, append-nil before) h
 
-pub goes_none : (limit : ℕ) (m : Mode) (bytes : List ℕ) → GoesOn limit m bytes [] [] forms.Whole bytes m
-goes_none limit m bytes = record { done = []; left = []; first = (refl, refl); written = shortened_none; still = none_held }
+-- some, and then others
+extends_on : (f g h : Form) (ps qs : List Part) (s t : List ℕ) → Extends f ps s g → Extends g qs t h → Extends f (ps ++ qs) (s ++ t) h
+extends_on f g h ps qs s t a b run before x = rw (← append_assoc run ps qs, ← append_assoc before s t) (b (run ++ ps) (before ++ s) (a run before x))
 
-pub goes_parts : (limit : ℕ) (m n a : Mode) (bytes text held rest behind more later : List ℕ) (parts : List Part) (form after : Form) → (g : GoesOn limit m bytes text held form rest n) → AreFirstParts limit n rest parts behind a
-    → Follows g.left parts more later after → GoesOn limit m bytes (text ++ more) later after behind a
-goes_parts limit m n a bytes text held rest behind more later parts form after g found f =
-    let first = parts_on limit (g.done ++ g.left) parts m bytes rest behind n a g.first found in
-    let whole : (g.done ++ g.left) ++ parts ≡ (g.done ++ f.done) ++ f.left = append_assoc g.done g.left parts ∙ ap (λ (x : List Part). g.done ++ x) f.whole ∙ sym (append_assoc g.done f.done f.left) in
+-- ---- the front of a piece
+
+pub front_none : (limit : ℕ) (m : Mode) (bytes : List ℕ) (form : Form) (out : List ℕ) → WritesFront limit m bytes form out out form bytes m
+front_none limit m bytes form out = record { parts = []; first = (refl, refl); goes = ([], sym (append-nil out), extends_none form) }
+
+pub front_on : (limit : ℕ) (m n a : Mode) (bytes mid rest : List ℕ) (f g h : Form) (old now new : List ℕ) → WritesFront limit m bytes f old now g mid n → WritesFront limit n mid g now new h rest a
+    → WritesFront limit m bytes f old new h rest a
+front_on limit m n a bytes mid rest f g h old now new x y =
+    let (s, first, before) = x.goes in
+    let (t, second, behind) = y.goes in
     record {
-      done = g.done ++ f.done;
-      left = f.left;
-      first = subst (λ (x : List Part). AreFirstParts limit m bytes x behind a) whole first;
-      written = shortened_on g.done f.done text more g.written f.written;
-      still = f.still;
+      parts = x.parts ++ y.parts;
+      first = parts_on limit x.parts y.parts m bytes mid rest n a x.first y.first;
+      goes = (s ++ t, second ∙ ap (λ (l : List ℕ). l ++ t) first ∙ append_assoc old s t, extends_on f g h x.parts y.parts s t before behind);
     }
 
+-- text, or an escape sequence
+pub front_plain : (limit n : ℕ) (bytes : List ℕ) (f g : Form) (old new : List ℕ) → IsPlainFront bytes n
+    → ((parts : List Part) (k : Kind) → IsSpan k (take n bytes) parts → k ≢ kind.Csi → GoesOnBy f parts old new g) → WritesFront limit mode.Text bytes f old new g (drop n bytes) mode.Text
+front_plain limit n bytes f g old new (k, other, cuts) goes =
+    let found = cuts limit in
+    record { parts = found.parts; first = found.first; goes = goes found.parts k found.span other }
+
 -- a sequence that is known
-pub goes_one : (limit : ℕ) (m n : Mode) (bytes text held rest later : List ℕ) (len : ℕ) (form after : Form) → (g : GoesOn limit m bytes text held form rest n) → IsOne (take len rest) → len ≤ limit → len ≤ length rest
-    → IsHeld (g.left ++ part kind.Csi (take len rest) ∷ []) later after → GoesOn limit m bytes text later after (drop len rest) mode.Text
-goes_one limit m n bytes text held rest later len form after g one short within h =
-    subst (λ (t : List ℕ). GoesOn limit m bytes t later after (drop len rest) mode.Text) (append-nil text)
-    (goes_parts limit m n mode.Text bytes text held rest (drop len rest) [] later (part kind.Csi (take len rest) ∷ []) form after g (one_first limit n rest len one short within) (follows_one g.left (take len rest) later after h))
+pub front_known : (limit : ℕ) (m : Mode) (len : ℕ) (bytes : List ℕ) (f g : Form) (old new : List ℕ) → IsOne (take len bytes) → len ≤ limit → len ≤ length bytes
+    → GoesOnBy f (part kind.Csi (take len bytes) ∷ []) old new g → WritesFront limit m bytes f old new g (drop len bytes) mode.Text
+front_known limit m len bytes f g old new one short within goes =
+    record { parts = part kind.Csi (take len bytes) ∷ []; first = one_first limit m bytes len one short within; goes = goes }
 
--- the end of a piece: the run that is held is over
-pub goes_over : (limit : ℕ) (m a : Mode) (bytes text held rest : List ℕ) (form : Form) → GoesOn limit m bytes text held form rest a → IsUnsure limit a rest → PassesShort limit m bytes (text ++ (held ++ closing form)) rest a
-goes_over limit m a bytes text held rest form g unsure = record {
-  parts = g.done ++ g.left;
-  first = g.first;
-  unsure = unsure;
-  shortened = shortened_on g.done g.left text (held ++ closing form) g.written (closed g.left held form g.still);
-}
-
--- a piece more
-pub passes_on : (limit : ℕ) (m n a : Mode) (first second left rest s t : List ℕ) → PassesShort limit m first s left n → PassesShort limit n (left ++ second) t rest a → PassesShort limit m (first ++ second) (s ++ t) rest a
-passes_on limit m n a first second left rest s t h k = record {
-  parts = h.parts ++ k.parts;
-  first = parts_on limit h.parts k.parts m (first ++ second) (left ++ second) rest n a (parts_more limit h.parts m first second left n h.first) k.first;
-  unsure = k.unsure;
-  shortened = shortened_on h.parts k.parts s t h.shortened k.shortened;
-}
+-- at the end of a push the list is over
+pub front_over : (limit : ℕ) (m a : Mode) (bytes old new rest : List ℕ) (form : Form) → WritesFront limit m bytes forms.Whole old new form rest a → IsUnsure limit a rest
+    → (text : List ℕ) × PassesShort limit m bytes text rest a × (new ++ closing form ≡ old ++ text)
+front_over limit m a bytes old new rest form x unsure =
+    let (s, out, goes) = x.goes in (
+      s ++ closing form,
+      record { parts = x.parts; first = x.first; unsure = unsure; shortened = closed x.parts s form (goes [] [] none_held) },
+      ap (λ (l : List ℕ). l ++ closing form) out ∙ append_assoc old s (closing form),
+    )
 
 -- the end
 pub compacts_all : (limit : ℕ) (m a : Mode) (bytes text rest : List ℕ) → PassesShort limit m bytes text rest a → CompactsAll limit m bytes (text ++ rest)
@@ -381,16 +378,65 @@ compacts_all limit m a bytes text rest h = record {
   shortened = shortened_on h.parts (left_over rest) text rest h.shortened (shortened_left rest);
 }
 
--- nothing came yet
-pub passes_none : (limit : ℕ) → PassesShort limit mode.Text [] [] [] mode.Text
-passes_none limit = record { parts = []; first = (refl, refl); unsure = none_unsure limit mode.Text; shortened = shortened_none }
-
 -- ---- a run, from state to state
+
+-- nothing came yet
+pub since_none : (first : Compacting) → first.written.form ≡ forms.Whole → first.compactor.mode ≡ mode.Text → first.compactor.bytes ≡ [] → PassesSince first [] [] first
+since_none first whole text none = record {
+  limit = refl;
+  parts = [];
+  cut = (none, text);
+  unsure = rw (none, text) (none_unsure first.compactor.limit mode.Text);
+  held = rw whole none_held;
+}
+
+-- a piece more
+pub since_on : (first last new : Compacting) (read chunk text old out : List ℕ) → (since : PassesSince first read text last)
+    → (x : WritesFront last.compactor.limit last.compactor.mode (last.compactor.bytes ++ chunk) last.written.form old out new.written.form new.compactor.bytes new.compactor.mode)
+    → IsUnsure last.compactor.limit new.compactor.mode new.compactor.bytes → new.compactor.limit ≡ last.compactor.limit → PassesSince first (read ++ chunk) (text ++ x.goes.0) new
+since_on first last new read chunk text old out since x unsure same =
+    let limit = first.compactor.limit in
+    let later : AreFirstParts limit last.compactor.mode (last.compactor.bytes ++ chunk) x.parts new.compactor.bytes new.compactor.mode = rw since.limit at x.first in
+    record {
+      limit = same ∙ since.limit;
+      parts = since.parts ++ x.parts;
+      cut = parts_on limit since.parts x.parts mode.Text (read ++ chunk) (last.compactor.bytes ++ chunk) new.compactor.bytes last.compactor.mode new.compactor.mode
+          (parts_more limit since.parts mode.Text read chunk last.compactor.bytes last.compactor.mode since.cut) later;
+      unsure = rw since.limit at unsure;
+      held = x.goes.2 since.parts text since.held;
+    }
+
+-- the list is closed
+pub since_closed : (first last new : Compacting) (read text : List ℕ) → PassesSince first read text last → new.compactor ≡ last.compactor → new.written.form ≡ forms.Whole
+    → PassesSince first (read ++ []) (text ++ closing last.written.form) new
+since_closed first last new read text since same whole = record {
+  limit = ap (λ (c : Open). c.limit) same ∙ since.limit;
+  parts = since.parts;
+  cut = rw (append-nil read, same) since.cut;
+  unsure = rw same since.unsure;
+  held = rw whole (held_whole since.parts (text ++ closing last.written.form) (closed since.parts text last.written.form since.held));
+}
+
+-- what passed, with what closes it
+pub since_passes : (first last : Compacting) (bytes text : List ℕ) → PassesSince first bytes text last
+    → PassesShort first.compactor.limit mode.Text bytes (text ++ closing last.written.form) last.compactor.bytes last.compactor.mode
+since_passes first last bytes text since =
+    record { parts = since.parts; first = since.cut; unsure = since.unsure; shortened = closed since.parts text last.written.form since.held }
+
+-- what passed, where nothing goes on
+pub since_rests : (first last : Compacting) (bytes text : List ℕ) → PassesSince first bytes text last → last.written.form ≡ forms.Whole
+    → PassesShort first.compactor.limit mode.Text bytes text last.compactor.bytes last.compactor.mode
+since_rests first last bytes text since whole =
+    let none : text ++ closing last.written.form ≡ text = ap (λ (f : Form). text ++ closing f) whole ∙ append-nil text in
+    subst (λ (t : List ℕ). PassesShort first.compactor.limit mode.Text bytes t last.compactor.bytes last.compactor.mode) none (since_passes first last bytes text since)
 
 -- all bytes, and what was held
 pub compacted : (first : Compacting) (bytes text : List ℕ) → Transforms PassesSince Leaves first bytes text → CompactsAll first.compactor.limit mode.Text bytes text
 compacted first bytes text (last, sure, rest, since, left, split) =
-    rw (split, left) (compacts_all first.compactor.limit mode.Text last.compactor.mode bytes sure last.compactor.bytes since.passed)
+    let close = closing last.written.form in
+    let all = compacts_all first.compactor.limit mode.Text last.compactor.mode bytes (sure ++ close) last.compactor.bytes (since_passes first last bytes sure since) in
+    let same : (sure ++ close) ++ last.compactor.bytes ≡ text = append_assoc sure close last.compactor.bytes ∙ ap (λ (t : List ℕ). sure ++ t) (sym left) ∙ sym split in
+    subst (λ (t : List ℕ). CompactsAll first.compactor.limit mode.Text bytes t) same all
 
 -- what went out is a front of what is made of the bytes
 pub begun_compacts : (first : Compacting) (AreAll : Type 0) (bytes sent : List ℕ) → BeginsWith (Sends PassesSince first) (Transforms PassesSince Leaves first) AreAll bytes sent
@@ -398,8 +444,11 @@ pub begun_compacts : (first : Compacting) (AreAll : Type 0) (bytes sent : List �
 begun_compacts first AreAll bytes sent (unsent, h) = ⊎_elim
     (λ (k : Sends PassesSince first bytes (sent ++ unsent)).
     let (last, since) = k in
-    let all = compacts_all first.compactor.limit mode.Text last.compactor.mode bytes (sent ++ unsent) last.compactor.bytes since.passed in
-    (unsent ++ last.compactor.bytes, subst (λ (t : List ℕ). CompactsAll first.compactor.limit mode.Text bytes t) (append_assoc sent unsent last.compactor.bytes) all))
+    let close = closing last.written.form in
+    let held = last.compactor.bytes in
+    let all = compacts_all first.compactor.limit mode.Text last.compactor.mode bytes ((sent ++ unsent) ++ close) held (since_passes first last bytes (sent ++ unsent) since) in
+    let same : ((sent ++ unsent) ++ close) ++ held ≡ sent ++ (unsent ++ (close ++ held)) = append_assoc (sent ++ unsent) close held ∙ append_assoc sent unsent (close ++ held) in
+    (unsent ++ (close ++ held), subst (λ (t : List ℕ). CompactsAll first.compactor.limit mode.Text bytes t) same all))
     (λ (k : AreAll × Transforms PassesSince Leaves first bytes (sent ++ unsent)). (unsent, compacted first bytes (sent ++ unsent) k.1))
     h
 

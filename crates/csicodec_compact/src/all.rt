@@ -7,21 +7,25 @@ ghost use Rattle.csicodec_compact.specs.Runs.{CompactsAll, PassesShort};
 
 use crate::compact::Compact;
 use crate::notes::Short;
+use crate::runs::Written;
 use crate::stream::Compactor;
 use csicodec_filter::{Known, Transform, transform_all};
 use csicodec_streams::RunError;
 use std::alloc::{AllocError, Global};
 use std::io::{Read, Write};
 
-/// A compactor, and the sequences that came before, which it keeps from piece to piece.
+/// A compactor, the sequences that came before, and how what was written ends, which it keeps from piece to piece.
 #[derive(Drop)]
 struct Compacting {
     compactor: Compactor,
     known: Known<Short>,
+    written: Written,
 }
 
 impl Transform for Compacting {
+    ghost use Rattle.std.specs.Prelude.{◌≡◌};
     ghost use Rattle.csicodec_streams.specs.Known.{AreKnown};
+    ghost use Rattle.csicodec_compact.specs.declared.form.Form.TheVariants as Form;
     ghost use Rattle.csicodec_compact.specs.Private.Run.{Leaves, PassesSince};
     ghost use Rattle.csicodec_compact.specs.Private.Steps.{IsNote};
 
@@ -29,14 +33,22 @@ impl Transform for Compacting {
 
     ghost passes = { PassesSince };
 
+    ghost rests = { λ now. now.written.form ≡ Form.Whole };
+
     ghost ends = { Leaves };
 
     fn take(&mut self, bytes: &[u8], out: &mut Vec<u8>) -> Result<(), AllocError> {
-        self.compactor.push_known(&mut self.known, bytes, out)?;
+        self.compactor
+            .push_on(&mut self.known, &mut self.written, bytes, out)?;
         Ok(())
     }
 
+    fn pause(&mut self, out: &mut Vec<u8>) -> Result<(), AllocError> {
+        self.written.close_into(out)
+    }
+
     fn end(&mut self, out: &mut Vec<u8>) -> Result<(), AllocError> {
+        self.written.close_into(out)?;
         self.compactor.finish(out)
     }
 }
@@ -74,5 +86,11 @@ pub fn compact_all<R: Read, W: Write>(
 {
     let compactor = Compactor::new(alloc, limit, compact);
     let known = Known::new(alloc);
-    transform_all(alloc, Compacting { compactor, known }, input, output)
+    let written = Written::new();
+    let compacting = Compacting {
+        compactor,
+        known,
+        written,
+    };
+    transform_all(alloc, compacting, input, output)
 }

@@ -1,5 +1,5 @@
 //! The forms of a text that is written for a sequence: what may be joined to it.
-ghost use Rattle.std.specs.Prelude.{◌≡◌, length};
+ghost use Rattle.std.specs.Prelude.{◌≡◌};
 ghost use Rattle.csicodec_compact.specs.Private.Steps.{closing, form_of, is_bare, is_joined, is_open};
 
 /// How a text that is held ends.
@@ -67,16 +67,16 @@ impl Form {
         matches!(self, Form::Open)
     }
 
-    /// How many bytes close it.
-    pub(crate) fn closing_len(self) -> usize
-        ensures { result ≡ length (closing self) }
+    /// What closes it.
+    pub(crate) fn closing(self) -> &'static [u8]
+        ensures { result.now ≡ closing self }
     {
         match self {
-            Form::Whole => 0,
-            Form::Last => 0,
-            Form::Open => 1,
-            Form::Blank => 2,
-            Form::Bare => 1,
+            Form::Whole => b"",
+            Form::Last => b"",
+            Form::Open => b"m",
+            Form::Blank => b"0m",
+            Form::Bare => b"m",
         }
     }
 }

@@ -36,7 +36,7 @@ fn list_of(text: &[u8], form: Form) -> &[u8]
     ensures { result.now ≡ list_of form text.now }
 {
     let (_, rest) = text.split_at(2);
-    let (list, _) = rest.split_at(rest.len() - form.closing_len());
+    let (list, _) = rest.split_at(rest.len() - form.closing().len());
     list
 }
 

@@ -5,15 +5,14 @@ ghost use Rattle.csicodec_spans.specs.declared.table.Kind.{Kind};
 ghost use Rattle.csicodec_spans.specs.declared.table.Kind.TheVariants.{Csi as Sequence};
 ghost use Rattle.csicodec_spans.specs.Parts.{IsSpan, Part, part};
 ghost use Rattle.csicodec_streams.specs.Known.{AreKnown};
-ghost use Rattle.csicodec_compact.specs.Private.Steps.{Begins, Follows, IsHeld, IsNote, behind, closing, is_semicolon, joint, may_join, opened};
+ghost use Rattle.csicodec_compact.specs.Private.Steps.{Begins, GoesOnBy, IsNote, behind, closing, is_semicolon, joint, may_join, opened};
 
-use crate::compact::Compact;
 use crate::encode::NUMBERS;
 use crate::form::Form;
 use crate::notes::{Notes, Short};
 use csicodec_base::{CsiParam, TextBuffer};
-use csicodec_filter::Known;
-use std::alloc::{AllocError, Global};
+use csicodec_filter::{Known, append_front};
+use std::alloc::AllocError;
 
 /// Whether a list begins with `;`, which stands ahead of it too.
 #[inline(always)]
@@ -52,11 +51,6 @@ fn may_join(held: Form, form: Form, text: &[u8]) -> bool
     }
 }
 
-/// How many bytes a text between two sequences has at most that is held with them, and from how many bytes on no more is held.
-const SHORT: usize = 48;
-
-const MOST: usize = 4096;
-
 /// Appends a text, with which `wide` begins: by one copy of a fixed length, if it is short.
 #[inline(always)]
 fn append_text(text: &[u8], wide: &[u8], out: &mut TextBuffer) -> Result<(), AllocError>
@@ -69,108 +63,116 @@ fn append_text(text: &[u8], wide: &[u8], out: &mut TextBuffer) -> Result<(), All
     }
 }
 
-/// What is to be written for sequences that came: the last of them may be a list of attributes that goes on.
+/// How what was written ends: the last of it may be a list of attributes that goes on.
 #[derive(Drop)]
-pub(crate) struct Held {
-    text: TextBuffer,
+pub(crate) struct Written {
     form: Form,
     /// How many numbers may still be joined.
     room: usize,
 }
 
-impl Held {
-    /// With nothing held.
-    fn new(alloc: Global) -> Held {
-        Held {
-            text: TextBuffer::new(alloc),
+impl Written {
+    /// Nothing goes on.
+    pub(crate) fn new() -> Written
+        ensures { result.form ≡ Form.Whole }
+    {
+        Written {
             form: Form::Whole,
             room: 0,
         }
     }
 
-    /// Holds nothing.
-    pub(crate) fn begin(&mut self)
-        ensures text { self.new.text ≡ [] }
-        ensures form { self.new.form ≡ Form.Whole }
-    {
-        self.text.clear();
-        self.form = Form::Whole;
-    }
-
     /// Ends the list that goes on.
     #[inline(always)]
-    fn close(&mut self) -> Result<(), AllocError>
-        ensures { OnOk result (self.new.text ≡ self.old.text ++ closing self.old.form) }
+    pub(crate) fn close(&mut self, out: &mut TextBuffer) -> Result<(), AllocError>
+        ensures text { OnOk result (out.new ≡ out.old ++ closing self.old.form) }
+        ensures form { self.new.form ≡ Form.Whole }
     {
-        match self.form {
+        let form = self.form;
+        self.form = Form::Whole;
+        match form {
             Form::Whole => Ok(()),
             Form::Last => Ok(()),
-            Form::Open => self.text.push_front(b"m", 1),
-            Form::Blank => self.text.push_front(b"0m", 2),
-            Form::Bare => self.text.push_front(b"m", 1),
+            Form::Open => out.push_front(b"m", 1),
+            Form::Blank => out.push_front(b"0m", 2),
+            Form::Bare => out.push_front(b"m", 1),
         }
     }
 
-    /// Appends what is held: the run is over.
-    pub(crate) fn flush(&mut self, out: &mut Vec<u8>) -> Result<(), AllocError>
-        ensures out { OnOk result (out.new.items ≡ out.old.items ++ (self.old.text ++ closing self.old.form)) }
-        ensures text { OnOk result (self.new.text ≡ []) }
-        ensures form { OnOk result (self.new.form ≡ Form.Whole) }
+    /// The same of a vector.
+    pub(crate) fn close_into(&mut self, out: &mut Vec<u8>) -> Result<(), AllocError>
+        ensures text { OnOk result (out.new.items ≡ out.old.items ++ closing self.old.form) }
+        ensures form { self.new.form ≡ Form.Whole }
     {
-        self.close()?;
-        out.extend_from_slice(self.text.as_slice())?;
-        self.begin();
-        Ok(())
+        let form = self.form;
+        self.form = Form::Whole;
+        out.extend_from_slice(form.closing())
     }
 
     /// Goes on with a text that stands by itself.
     #[inline(always)]
-    fn start(&mut self, form: Form, text: &[u8], wide: &[u8]) -> Result<(), AllocError>
+    fn start(
+        &mut self,
+        form: Form,
+        text: &[u8],
+        wide: &[u8],
+        out: &mut TextBuffer,
+    ) -> Result<(), AllocError>
         requires { Begins text.now wide.now }
-        ensures text { OnOk result (self.new.text ≡ (self.old.text ++ closing self.old.form) ++ opened form text.now) }
+        ensures text { OnOk result (out.new ≡ (out.old ++ closing self.old.form) ++ opened form text.now) }
         ensures form { OnOk result (self.new.form ≡ form) }
     {
-        self.close()?;
+        self.close(out)?;
         self.form = form;
         if form.is_joined() {
-            self.text.push_front(b"\x1b[", 2)?;
-            append_text(behind_mark(text), behind_mark(wide), &mut self.text)?;
+            out.push_front(b"\x1b[", 2)?;
+            append_text(behind_mark(text), behind_mark(wide), out)?;
             return Ok(());
         }
-        append_text(text, wide, &mut self.text)?;
+        append_text(text, wide, out)?;
         Ok(())
     }
 
     /// Goes on with a text in the same list. Behind a list that ends in `;` an empty one is written as 0.
     #[inline(always)]
-    fn join(&mut self, form: Form, text: &[u8], wide: &[u8]) -> Result<(), AllocError>
+    fn join(
+        &mut self,
+        form: Form,
+        text: &[u8],
+        wide: &[u8],
+        out: &mut TextBuffer,
+    ) -> Result<(), AllocError>
         requires { Begins text.now wide.now }
-        ensures text { OnOk result (self.new.text ≡ self.old.text ++ joint self.old.form form text.now) }
+        ensures text { OnOk result (out.new ≡ out.old ++ joint self.old.form form text.now) }
         ensures form { OnOk result (self.new.form ≡ behind self.old.form form) }
     {
         if !form.is_bare() {
             self.form = form;
-            append_text(text, wide, &mut self.text)?;
+            append_text(text, wide, out)?;
             return Ok(());
         }
         if self.form.is_open() {
             self.form = Form::Blank;
-            append_text(text, wide, &mut self.text)?;
+            append_text(text, wide, out)?;
             return Ok(());
         }
         self.form = Form::Open;
-        self.text.push_front(b";0", 2)?;
+        out.push_front(b";0", 2)?;
         Ok(())
     }
 
-    /// Takes one control sequence, of which this is noted: it is joined to what is held, or stands behind it. `wide` begins with
-    /// the note.
+    /// Writes what is noted of one control sequence: joined to what was written, or behind it. `wide` begins with the note.
     #[inline(always)]
-    pub(crate) fn take(&mut self, note: &[u8], wide: &[u8]) -> Result<(), AllocError>
+    pub(crate) fn take(
+        &mut self,
+        note: &[u8],
+        wide: &[u8],
+        out: &mut TextBuffer,
+    ) -> Result<(), AllocError>
         requires long { 2 ≤ length note.now }
         requires wide { Begins note.now wide.now }
-        ensures { OnOk result ((run : List Part) (bytes : List ℕ) → IsHeld run self.old.text self.old.form → IsNote bytes note.now
-            → IsHeld (run ++ part Sequence bytes ∷ []) self.new.text self.new.form) }
+        ensures { OnOk result ((bytes : List ℕ) → IsNote bytes note.now
+            → GoesOnBy self.old.form (part Sequence bytes ∷ []) out.old out.new self.new.form) }
     {
         let (marks, text) = note.split_at(2);
         let (_, wide) = wide.split_at(2);
@@ -178,91 +180,84 @@ impl Held {
         let numbers = usize::from(marks[1]);
         if numbers <= self.room && may_join(self.form, form, text) {
             self.room -= numbers;
-            self.join(form, text, wide)?;
+            self.join(form, text, wide, out)?;
             return Ok(());
         }
         self.room = NUMBERS.saturating_sub(numbers);
-        self.start(form, text, wide)?;
+        self.start(form, text, wide, out)?;
         Ok(())
     }
 
-    /// Takes a span that is no control sequence: the run before it is over.
-    fn pass(&mut self, span: &[u8], out: &mut Vec<u8>) -> Result<(), AllocError>
-        ensures { OnOk result ((run parts : List Part) (kind : Kind) → IsHeld run self.old.text self.old.form → IsSpan kind span.now parts → kind ≢ Sequence
-            → (more : List ℕ) × (out.new.items ≡ out.old.items ++ more) × Follows run parts more self.new.text self.new.form) }
+    /// Writes a span that is no control sequence: the list before it is over.
+    fn pass(&mut self, span: &[u8], out: &mut TextBuffer) -> Result<(), AllocError>
+        ensures { OnOk result ((parts : List Part) (kind : Kind) → IsSpan kind span.now parts → kind ≢ Sequence
+            → GoesOnBy self.old.form parts out.old out.new self.new.form) }
     {
-        if span.len() > SHORT || self.text.as_slice().len() > MOST {
-            self.flush(out)?;
-            out.extend_from_slice(span)?;
-            return Ok(());
-        }
-        self.close()?;
-        self.form = Form::Whole;
-        self.text.push_slice(span)?;
-        Ok(())
+        self.close(out)?;
+        out.push_slice(span)
+    }
+
+    /// The same of the first bytes.
+    #[inline(always)]
+    pub(crate) fn pass_front(
+        &mut self,
+        bytes: &[u8],
+        len: usize,
+        out: &mut TextBuffer,
+    ) -> Result<(), AllocError>
+        requires { len ≤ length bytes.now }
+        ensures { OnOk result ((parts : List Part) (kind : Kind) → IsSpan kind (take len bytes.now) parts → kind ≢ Sequence
+            → GoesOnBy self.old.form parts out.old out.new self.new.form) }
+    {
+        self.close(out)?;
+        append_front(bytes, len, out)
     }
 }
 
-/// What is held of the sequences that came last, and what finds the texts of new ones.
-#[derive(Drop)]
-pub(crate) struct Runs {
-    pub(crate) held: Held,
-    notes: Notes,
+/// Writes a control sequence that isn't known, the one in front of the bytes, and keeps what is noted of it.
+fn take_sequence(
+    notes: &mut Notes,
+    known: &mut Known<Short>,
+    written: &mut Written,
+    bytes: &[u8],
+    span: &[u8],
+    params: &[CsiParam],
+    control: char,
+    out: &mut TextBuffer,
+) -> Result<(), AllocError>
+    requires known { AreKnown IsNote known.old.memo.slots.items }
+    requires front { span.now ≡ take (length span.now) bytes.now }
+    requires seq { Seq span.now params.now control }
+    ensures goes { OnOk result (GoesOnBy written.old.form (part Sequence span.now ∷ []) out.old out.new written.new.form) }
+    ensures known { OnOk result (AreKnown IsNote known.new.memo.slots.items) }
+{
+    notes.find(span, params, control)?;
+    written.take(notes.note(), notes.note(), out)?;
+    known.keep(bytes, span.len(), notes.note());
+    Ok(())
 }
 
-impl Runs {
-    /// With nothing held.
-    pub(crate) fn new(alloc: Global, compact: Compact) -> Runs {
-        Runs {
-            held: Held::new(alloc),
-            notes: Notes::new(alloc, compact),
-        }
-    }
-
-    /// Takes a control sequence that isn't known, the one in front of the bytes, and keeps what is noted of it.
-    fn take_sequence(
-        &mut self,
-        known: &mut Known<Short>,
-        bytes: &[u8],
-        span: &[u8],
-        params: &[CsiParam],
-        control: char,
-    ) -> Result<(), AllocError>
-        requires known { AreKnown IsNote known.old.memo.slots.items }
-        requires front { span.now ≡ take (length span.now) bytes.now }
-        requires seq { Seq span.now params.now control }
-        ensures held { OnOk result ((run : List Part) → IsHeld run self.old.held.text self.old.held.form
-            → IsHeld (run ++ part Sequence span.now ∷ []) self.new.held.text self.new.held.form) }
-        ensures known { OnOk result (AreKnown IsNote known.new.memo.slots.items) }
-    {
-        self.notes.find(span, params, control)?;
-        self.held.take(self.notes.note(), self.notes.note())?;
-        known.keep(bytes, span.len(), self.notes.note());
-        Ok(())
-    }
-
-    /// Takes a span that isn't known, and appends what is sure then. One that is no control sequence ends the run before it.
-    #[inline(never)]
-    pub(crate) fn take(
-        &mut self,
-        known: &mut Known<Short>,
-        bytes: &[u8],
-        span: &[u8],
-        params: &[CsiParam],
-        control: Option<char>,
-        out: &mut Vec<u8>,
-    ) -> Result<(), AllocError>
-        requires known { AreKnown IsNote known.old.memo.slots.items }
-        requires front { span.now ≡ take (length span.now) bytes.now }
-        requires seq { IfSome control (λ final. Seq span.now params.now final) }
-        ensures follows { OnOk result ((run parts : List Part) (kind : Kind) → IsHeld run self.old.held.text self.old.held.form → IsSpan kind span.now parts
-            → MatchOption control (kind ≢ Sequence) (λ _. kind ≡ Sequence)
-            → (more : List ℕ) × (out.new.items ≡ out.old.items ++ more) × Follows run parts more self.new.held.text self.new.held.form) }
-        ensures known { OnOk result (AreKnown IsNote known.new.memo.slots.items) }
-    {
-        match control {
-            Some(control) => self.take_sequence(known, bytes, span, params, control),
-            None => self.held.pass(span, out),
-        }
+/// Writes a span that isn't known. One that is no control sequence ends the list before it.
+#[inline(never)]
+pub(crate) fn take_span(
+    notes: &mut Notes,
+    known: &mut Known<Short>,
+    written: &mut Written,
+    bytes: &[u8],
+    span: &[u8],
+    params: &[CsiParam],
+    control: Option<char>,
+    out: &mut TextBuffer,
+) -> Result<(), AllocError>
+    requires known { AreKnown IsNote known.old.memo.slots.items }
+    requires front { span.now ≡ take (length span.now) bytes.now }
+    requires seq { IfSome control (λ final. Seq span.now params.now final) }
+    ensures goes { OnOk result ((parts : List Part) (kind : Kind) → IsSpan kind span.now parts
+        → MatchOption control (kind ≢ Sequence) (λ _. kind ≡ Sequence) → GoesOnBy written.old.form parts out.old out.new written.new.form) }
+    ensures known { OnOk result (AreKnown IsNote known.new.memo.slots.items) }
+{
+    match control {
+        Some(control) => { take_sequence(notes, known, written, bytes, span, params, control, out) }
+        None => written.pass(span, out),
     }
 }

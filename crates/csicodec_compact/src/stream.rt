@@ -4,24 +4,125 @@ ghost use Rattle.csicodec_spans.specs.declared.table.Mode.TheVariants.{Text as P
 ghost use Rattle.csicodec_spans.specs.Parts.{IsUnsure};
 ghost use Rattle.csicodec_compact.specs.Runs.{CompactsAll, PassesShort};
 ghost use Rattle.csicodec_streams.specs.Known.{AreKnown};
-ghost use Rattle.csicodec_compact.specs.Private.Steps.{GoesOn, IsNote};
+ghost use Rattle.csicodec_compact.specs.Private.Steps.{IsNote, WritesFront};
 
 use crate::compact::Compact;
-use crate::notes::Short;
-use crate::runs::Runs;
-use csicodec_base::CsiParam;
+use crate::notes::{Notes, Short};
+use crate::runs::{Written, take_span};
+use csicodec_base::{CsiParam, TextBuffer};
 use csicodec_filter::Known;
-use csicodec_spans::{Cutter, Mode};
+use csicodec_spans::{Cutter, Mode, plain_len};
 use csicodec_streams::keep_from;
 use std::alloc::{AllocError, Global};
 use std::marker::Model;
 
-/// Appends what is made of all spans of the bytes that are sure, but for the run of control sequences at their end, and answers how
-/// many bytes are sure, and the mode behind them.
+/// Whether the bytes begin as a control sequence does.
+#[inline(always)]
+fn is_csi(bytes: &[u8]) -> bool {
+    matches!(bytes, [0x1b, b'[', ..])
+}
+
+/// Writes what passes at a glance where nothing is open, text, an escape sequence, or a control sequence that is known; how many bytes
+/// that is, 0 where nothing does.
+#[inline(always)]
+fn pass_one(
+    known: &mut Known<Short>,
+    written: &mut Written,
+    limit: usize,
+    bytes: &[u8],
+    out: &mut TextBuffer,
+) -> Result<usize, AllocError>
+    requires { AreKnown IsNote known.old.memo.slots.items }
+    ensures within { IfOk result (λ len. len ≤ length bytes.now) }
+    ensures passed { IfOk result (λ len. 0 < len → WritesFront limit Plain bytes.now written.old.form out.old out.new written.new.form (drop len bytes.now) Plain) }
+    ensures none { IfOk result (λ len. len ≡ 0 → (out.new ≡ out.old) × (written.new.form ≡ written.old.form)) }
+    ensures known { AreKnown IsNote known.new.memo.slots.items }
+{
+    if is_csi(bytes) {
+        let len = known.look(limit, bytes);
+        if len > 0 {
+            written.take(known.noted(), known.wide(), out)?;
+        }
+        return Ok(len);
+    }
+    let len = plain_len(bytes);
+    if len > 0 {
+        written.pass_front(bytes, len, out)?;
+    }
+    Ok(len)
+}
+
+/// The same as long as something passes, from this place on; the place behind it.
+#[inline(never)]
+fn pass_front<'a>(
+    known: &mut Known<Short>,
+    written: &mut Written,
+    limit: usize,
+    mode: Mode,
+    bytes: &'a [u8],
+    out: &mut TextBuffer,
+) -> Result<Cutter<'a>, AllocError>
+    requires { AreKnown IsNote known.old.memo.slots.items }
+    ensures cut { IfOk result (λ to. (before : List ℕ) × (bytes.now ≡ before ++ to.rest.now)) }
+    ensures passed { IfOk result (λ to. WritesFront limit mode bytes.now written.old.form out.old out.new written.new.form to.rest.now to.mode) }
+    ensures known { AreKnown IsNote known.new.memo.slots.items }
+{
+    let Mode::Text = mode else {
+        return Ok(Cutter { mode, rest: bytes });
+    };
+    let mut rest = bytes;
+    loop {
+        let len = pass_one(known, written, limit, rest, out)?;
+        if len == 0 {
+            return Ok(Cutter {
+                mode: Mode::Text,
+                rest,
+            });
+        }
+        rest = rest.split_at(len).1;
+    }
+}
+
+/// Appends what is made of all spans of the bytes that are sure; the list of attributes at their end may go on. It answers how many bytes
+/// are sure, and the mode behind them.
 #[inline(never)]
 fn append_short(
-    runs: &mut Runs,
+    notes: &mut Notes,
     known: &mut Known<Short>,
+    written: &mut Written,
+    params: &mut Vec<CsiParam>,
+    limit: usize,
+    mode: Mode,
+    bytes: &[u8],
+    out: &mut TextBuffer,
+) -> Result<(usize, Mode), AllocError>
+    requires limit { 0 < limit }
+    requires known { AreKnown IsNote known.old.memo.slots.items }
+    ensures within { IfOk result (λ (used, after). used ≤ length bytes.now) }
+    ensures unsure { IfOk result (λ (used, after). IsUnsure limit after (drop used bytes.now)) }
+    ensures goes { IfOk result (λ (used, after).
+        WritesFront limit mode bytes.now written.old.form out.old out.new written.new.form (drop used bytes.now) after) }
+    ensures known { OnOk result (AreKnown IsNote known.new.memo.slots.items) }
+{
+    let mut left = Cutter { mode, rest: bytes };
+    loop {
+        let mut cutter = pass_front(known, written, limit, left.mode, left.rest, out)?;
+        let Cutter { mode, rest } = cutter;
+        let Some((span, control)) = cutter.next(limit, params)? else {
+            return Ok((bytes.len() - rest.len(), mode));
+        };
+        take_span(
+            notes, known, written, rest, span.bytes, params, control, out,
+        )?;
+        left = cutter;
+    }
+}
+
+/// The same, appended to a vector.
+fn append_into(
+    notes: &mut Notes,
+    known: &mut Known<Short>,
+    written: &mut Written,
     params: &mut Vec<CsiParam>,
     limit: usize,
     mode: Mode,
@@ -32,29 +133,17 @@ fn append_short(
     requires known { AreKnown IsNote known.old.memo.slots.items }
     ensures within { IfOk result (λ (used, after). used ≤ length bytes.now) }
     ensures unsure { IfOk result (λ (used, after). IsUnsure limit after (drop used bytes.now)) }
-    ensures goes { IfOk result (λ (used, after). (text : List ℕ) × (out.new.items ≡ out.old.items ++ text)
-        × GoesOn limit mode bytes.now text runs.new.held.text runs.new.held.form (drop used bytes.now) after) }
+    ensures goes { IfOk result (λ (used, after).
+        WritesFront limit mode bytes.now written.old.form out.old.items out.new.items written.new.form (drop used bytes.now) after) }
     ensures known { OnOk result (AreKnown IsNote known.new.memo.slots.items) }
 {
-    runs.held.begin();
-    let mut rest = bytes;
-    let mut mode = mode;
-    loop {
-        let len = known.look(limit, rest);
-        if len > 0 {
-            runs.held.take(known.noted(), known.wide())?;
-            rest = rest.split_at(len).1;
-            mode = Mode::Text;
-            continue;
-        }
-        let mut cutter = Cutter { mode, rest };
-        let Some((span, control)) = cutter.next(limit, params)? else {
-            return Ok((bytes.len() - rest.len(), mode));
-        };
-        runs.take(known, rest, span.bytes, params, control, out)?;
-        rest = cutter.rest;
-        mode = cutter.mode;
-    }
+    let alloc = *out.allocator();
+    let mut texts = TextBuffer::of(std::mem::replace(out, Vec::new(alloc)));
+    let appended = append_short(
+        notes, known, written, params, limit, mode, bytes, &mut texts,
+    );
+    *out = texts.into_vec();
+    appended
 }
 
 /// A stream that is made shorter as it comes: each control sequence of at most `limit` bytes in the shortest of its spellings that is
@@ -72,7 +161,7 @@ fn append_short(
 /// ```
 #[derive(Drop)]
 pub struct Compactor {
-    runs: Runs,
+    notes: Notes,
     limit: usize,
     mode: Mode,
     pending: Vec<u8>,
@@ -97,7 +186,7 @@ impl Compactor {
         ensures { result ≡ record { limit = limit; mode = Plain; bytes = [] } }
     {
         Compactor {
-            runs: Runs::new(alloc, compact),
+            notes: Notes::new(alloc, compact),
             limit,
             mode: Mode::Text,
             pending: Vec::new(alloc),
@@ -105,31 +194,32 @@ impl Compactor {
         }
     }
 
-    /// The same with what is known from the bytes before.
-    pub(crate) fn push_known(
+    /// Takes the next bytes, with what is known from those before. The list of attributes at the end of what is written may go on.
+    pub(crate) fn push_on(
         &mut self,
         known: &mut Known<Short>,
+        written: &mut Written,
         bytes: &[u8],
         out: &mut Vec<u8>,
     ) -> Result<(), AllocError>
         requires { AreKnown IsNote known.old.memo.slots.items }
-        ensures passes { OnOk result ((text : List ℕ) × PassesShort self.old.limit self.old.mode (self.old.bytes ++ bytes.now) text self.new.bytes self.new.mode
-            × (out.new.items ≡ out.old.items ++ text)) }
+        ensures goes { OnOk result (WritesFront self.old.limit self.old.mode (self.old.bytes ++ bytes.now) written.old.form out.old.items out.new.items written.new.form
+            self.new.bytes self.new.mode) }
+        ensures unsure { OnOk result (IsUnsure self.old.limit self.new.mode self.new.bytes) }
         ensures limit { OnOk result (self.new.limit ≡ self.old.limit) }
-        ensures short { OnOk result ((length self.new.bytes < self.new.limit) ⊎ (length self.new.bytes < 3)) }
         ensures known { OnOk result (AreKnown IsNote known.new.memo.slots.items) }
     {
         self.pending.extend_from_slice(bytes)?;
-        let (used, mode) = append_short(
-            &mut self.runs,
+        let (used, mode) = append_into(
+            &mut self.notes,
             known,
+            written,
             &mut self.params,
             self.limit,
             self.mode,
             &self.pending,
             out,
         )?;
-        self.runs.held.flush(out)?;
         self.mode = mode;
         keep_from(&mut self.pending, used);
         Ok(())
@@ -144,7 +234,9 @@ impl Compactor {
         ensures short { OnOk result ((length self.new.bytes < self.new.limit) ⊎ (length self.new.bytes < 3)) }
     {
         let mut known: Known<Short> = Known::new(*self.params.allocator());
-        self.push_known(&mut known, bytes, out)
+        let mut written = Written::new();
+        self.push_on(&mut known, &mut written, bytes, out)?;
+        written.close_into(out)
     }
 
     /// Appends what is held: nothing comes any more.

@@ -1,5 +1,5 @@
 -- The texts of parts, span by span.
-use Rattle.std.proofs.Common.{◌≡◌, ◌≢◌, ◌<◌, ◌≤◌, ◌⊎◌, ℕ, Option, None, Some, IfSome, MatchOption, List, [], ◌∷◌, ◌++◌, length, take, drop, refl, sym, ap, subst, ◌∙◌, append_assoc, append-nil, arith}
+use Rattle.std.proofs.Common.{◌≡◌, ◌≢◌, ◌<◌, ◌≤◌, ◌⊎◌, ℕ, Bool, true, Option, None, Some, IfSome, MatchOption, List, [], ◌∷◌, ◌++◌, length, take, drop, refl, sym, ap, subst, ◌∙◌, append_assoc, append-nil, arith}
 use Rattle.std.proofs.lemmas.List.{length-take, take-append-drop}
 use Rattle.std.specs.List.{AllByRecursion, flat_map}
 use Rattle.std.specs.Io.KnownBytes.{Appends, Consumes, IsAtEnd}
@@ -9,16 +9,17 @@ use Rattle.csicodec_spans.specs.declared.table.Kind.{Kind}
 use Rattle.csicodec_spans.specs.declared.table.Kind.TheVariants as kind
 use Rattle.csicodec_spans.specs.declared.table.Mode.{Mode}
 use Rattle.csicodec_spans.specs.declared.table.Mode.TheVariants as mode
-use Rattle.csicodec_spans.specs.Parts.{Part, part, left_over, bytes_of, AreAll, Allows, AreFirstParts, IsSpan}
+use Rattle.csicodec_spans.specs.Parts.{Part, part, left_over, bytes_of, AreAll, Allows, AreFirstParts, IsPlainFront, IsSpan}
 use Rattle.csicodec_spans.specs.Table.{Sequence, ahead}
 use Rattle.csicodec_spans.proofs.Agrees.{opens}
 use Rattle.csicodec_spans.proofs.OneSpan.{none_unsure}
 use Rattle.csicodec_spans.proofs.Kept.{unsure_short, parts_more, parts_on}
 use Rattle.csicodec_spans.proofs.Once.{parts_front, whole_once}
 use Rattle.csicodec_streams.specs.Decoding.{NormalisesTo}
-use Rattle.csicodec_streams.specs.Known.{IsOne}
+use Rattle.csicodec_streams.specs.Known.{IsNormal, IsOne}
 use Rattle.csicodec_filter.specs.declared.run.Filtering.{Filtering}
 use Rattle.csicodec_filter.specs.Filter.{WritesOne, IsWritten, AreWritten, Passes, Filters, IsFrontOf}
+use Rattle.csicodec_filter.specs.Private.Front.{PassesFront, WritesNormal}
 use Rattle.csicodec_filter.specs.Private.Run.{Leaves, PassesSince}
 use Rattle.csicodec_filter.specs.Transform.{Begins, Sends, Transforms}
 use Rattle.csicodec_filter.proofs.Sent.{whole_front}
@@ -185,3 +186,46 @@ module _ {R : Type 0} (Writes : R → List ℕ → List ℕ → Type 0) (first :
       whole_front (Sends (PassesSince Writes) first) (Transforms (PassesSince Writes) Leaves first) (IsFrontOf Own limit mode.Text) (shorter_front Own limit mode.Text)
       (λ read more text (last, since). passes_front Own limit mode.Text last.filter.mode read more text last.filter.bytes since.passed)
       (λ bytes text whole. filters_front Own limit mode.Text bytes text (filtered bytes text whole))
+
+-- ---- what passes at a glance
+
+module _ (wanted : Bool) where
+  plain_text : (k : Kind) (bytes : List ℕ) → k ≢ kind.Csi → IsWritten (WritesNormal wanted) k bytes bytes
+  plain_text kind.Csi bytes other = absurd (other refl)
+  plain_text kind.Text bytes other = refl
+  plain_text _ bytes other = refl
+
+  -- a text or an escape sequence
+  pub plain_passes : (limit n : ℕ) (bytes : List ℕ) → IsPlainFront bytes n → PassesFront wanted limit mode.Text bytes (take n bytes) (drop n bytes) mode.Text
+  plain_passes limit n bytes (k, other, cuts) =
+      let found = cuts limit in
+      record { parts = found.parts; first = found.first; written = written_span (WritesNormal wanted) k (take n bytes) (take n bytes) found.parts found.span (plain_text k (take n bytes) other) }
+
+  -- a sequence that is known
+  pub known_passes : (limit len : ℕ) (bytes text : List ℕ) → wanted ≡ true → IsNormal (take len bytes) text → len ≤ limit → len ≤ length bytes → PassesFront wanted limit mode.Text bytes text (drop len bytes) mode.Text
+  known_passes limit len bytes text is normal short within = record {
+    parts = part kind.Csi (take len bytes) ∷ [];
+    first = one_first limit mode.Text bytes len normal.1 short within;
+    written = (text, [], sym (append-nil text), (is, normal), refl);
+  }
+
+  -- nothing yet
+  pub none_passes : (limit : ℕ) (m : Mode) (bytes : List ℕ) → PassesFront wanted limit m bytes [] bytes m
+  none_passes limit m bytes = record { parts = []; first = (refl, refl); written = refl }
+
+  -- some, and then more
+  pub passes_both : (limit : ℕ) (m n a : Mode) (bytes mid rest s t : List ℕ) → PassesFront wanted limit m bytes s mid n → PassesFront wanted limit n mid t rest a → PassesFront wanted limit m bytes (s ++ t) rest a
+  passes_both limit m n a bytes mid rest s t h k = record {
+    parts = h.parts ++ k.parts;
+    first = parts_on limit h.parts k.parts m bytes mid rest n a h.first k.first;
+    written = written_on (WritesNormal wanted) h.parts k.parts s t h.written k.written;
+  }
+
+-- behind some parts, what passes at a glance where its normal forms are written
+pub passes_ahead : (Writes : List ℕ → List ℕ → Type 0) (wanted : Bool) (limit : ℕ) (m n a : Mode) (bytes mid rest s t : List ℕ) (parts : List Part) → ((b x : List ℕ) → WritesNormal wanted b x → Writes b x)
+    → AreFirstParts limit m bytes parts mid n → AreWritten Writes parts s → (k : PassesFront wanted limit n mid t rest a)
+    → AreFirstParts limit m bytes (parts ++ k.parts) rest a × AreWritten Writes (parts ++ k.parts) (s ++ t)
+passes_ahead Writes wanted limit m n a bytes mid rest s t parts normal first written k = (
+  parts_on limit parts k.parts m bytes mid rest n a first k.first,
+  written_on Writes parts k.parts s t written (weaker (WritesNormal wanted) Writes k.parts t normal k.written),
+)

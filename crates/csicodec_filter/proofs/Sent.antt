@@ -1,14 +1,35 @@
 -- What went out of a run from a reader to a writer, by what is known of both.
-use Rattle.std.proofs.Common.{◌≡◌, ℕ, Option, None, Some, IfSome, List, [], ◌++◌, take, refl, subst, sym, ap, ◌∙◌, inl, inr, ⊎_elim, append_assoc, append-nil}
+use Rattle.std.proofs.Common.{◌≡◌, ℕ, Option, None, Some, IfSome, List, [], ◌∷◌, ◌++◌, length, take, refl, subst, sym, ap, ◌∙◌, inl, inr, ⊎_elim, append_assoc, append-nil, arith}
 use Rattle.std.specs.Io.KnownBytes.{Appends, Consumes, IsAtEnd}
 use Rattle.std.proofs.KnownBytes.{Appends-trans, Consumes-nil, Consumes-trans}
-use Rattle.csicodec_filter.specs.Transform.{Begins, EndsOf, PassesOf, Sends, Transforms}
+use Rattle.csicodec_filter.specs.Transform.{Begins, EndsOf, GoesOn, PassesOf, Sends, Transforms}
 
 -- nothing came with the last read
 pub none_more : (read buf : List ℕ) (count : ℕ) (i j k : Option (List ℕ)) → Consumes i j read → Consumes j k (take count buf) → count ≡ 0 → Consumes i k read
 none_more read buf count i j k consumed more none =
     let same : read ++ take count buf ≡ read = ap (λ (n : ℕ). read ++ take n buf) none ∙ append-nil read in
     subst (Consumes i k) same (Consumes-trans i j k read (take count buf) consumed more)
+
+-- all of some bytes, where none are left
+pub none_left : (bytes taken rest : List ℕ) → bytes ≡ taken ++ rest → length rest ≡ 0 → taken ≡ bytes
+none_left bytes taken [] e none = sym (e ∙ append-nil taken)
+none_left bytes taken (b ∷ rest) e none = absurd (omega (arith, none))
+
+-- nothing more
+pub goes_none : {S : Type 0} (P : PassesOf S) (s : S) → GoesOn P s [] [] s
+goes_none P s first bytes text passed = rw (append-nil bytes, append-nil text) passed
+
+-- one chunk, and then another
+pub goes_on : {S : Type 0} (P : PassesOf S) (s t u : S) (chunk next more later : List ℕ) → GoesOn P s chunk more t → GoesOn P t next later u → GoesOn P s (chunk ++ next) (more ++ later) u
+goes_on P s t u chunk next more later h k first bytes text passed = rw (← append_assoc bytes chunk next, ← append_assoc text more later) (k first (bytes ++ chunk) (text ++ more) (h first bytes text passed))
+
+-- a chunk that is over
+pub goes_over : {S : Type 0} (P : PassesOf S) (s t u : S) (chunk more later : List ℕ) → GoesOn P s chunk more t → GoesOn P t [] later u → GoesOn P s chunk (more ++ later) u
+goes_over P s t u chunk more later h k = subst (λ (c : List ℕ). GoesOn P s c (more ++ later) u) (append-nil chunk) (goes_on P s t u chunk [] more later h k)
+
+-- and what passed before
+pub goes_behind : {S : Type 0} (P : PassesOf S) (s t first : S) (bytes text more : List ℕ) → GoesOn P s [] more t → P first bytes text s → P first bytes (text ++ more) t
+goes_behind P s t first bytes text more h passed = subst (λ (c : List ℕ). P first c (text ++ more) t) (append-nil bytes) (h first bytes text passed)
 
 module _ {S : Type 0} (P : PassesOf S) (E : EndsOf S) (s : S) where
   -- what went out of a run that read some bytes
@@ -35,6 +56,12 @@ module _ {S : Type 0} (P : PassesOf S) (E : EndsOf S) (s : S) where
         (unsent, inl (last, subst (λ (t : List ℕ). P s read t last) split passed)),
         Appends-trans w x y text sent written some,
       )
+
+  -- some of what was put off
+  pub went_off : (read text more sent unsent : List ℕ) (now last : S) (i k w x y : Option (List ℕ)) → Consumes i k read → P s read text now → GoesOn P now [] more last → Appends w x text
+      → more ≡ sent ++ unsent → Appends x y sent → Went i k w y
+  went_off read text more sent unsent now last i k w x y consumed passed goes written parts some =
+      went_some read text more sent unsent last i k w x y consumed (goes_behind P now last s read text more goes passed) written parts some
 
   -- some of the end
   pub went_end : (read text rest sent unsent : List ℕ) (last : S) (i k w x y : Option (List ℕ)) → Consumes i k read → P s read text last → E last rest → Appends w x text

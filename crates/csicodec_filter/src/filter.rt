@@ -5,11 +5,12 @@ ghost use Rattle.csicodec_spans.specs.declared.table.Mode.{Mode};
 ghost use Rattle.csicodec_spans.specs.declared.table.Mode.TheVariants.{Text as Plain};
 ghost use Rattle.csicodec_streams.specs.Known.{AreKnown, IsNormal};
 ghost use Rattle.csicodec_filter.specs.Filter.{Passes};
+ghost use Rattle.csicodec_filter.specs.Private.Front.{PassesFront};
 
-use crate::known::{Known, recall};
+use crate::known::{Known, append_front};
 use crate::rewrite::Rewrite;
-use csicodec_base::CsiParam;
-use csicodec_spans::{Cutter, Mode};
+use csicodec_base::{CsiParam, TextBuffer};
+use csicodec_spans::{Cutter, Mode, plain_len};
 use csicodec_streams::{Normal, keep_from};
 use std::alloc::{AllocError, Global};
 use std::marker::Model;
@@ -53,11 +54,110 @@ fn keep_span(
     }
 }
 
-/// The same of some bytes, with what is known from those before.
+/// Whether the bytes begin as a control sequence does.
+#[inline(always)]
+fn is_csi(bytes: &[u8]) -> bool {
+    matches!(bytes, [0x1b, b'[', ..])
+}
+
+/// Appends what passes at a glance where nothing is open, text, an escape sequence, or the normal form of a control sequence that is
+/// known, if that is wanted; how many bytes that is, 0 where nothing does.
+#[inline(always)]
+fn pass_one(
+    known: &mut Known<Normal>,
+    wanted: bool,
+    limit: usize,
+    bytes: &[u8],
+    out: &mut TextBuffer,
+) -> Result<usize, AllocError>
+    requires { AreKnown IsNormal known.old.memo.slots.items }
+    ensures within { IfOk result (λ len. len ≤ length bytes.now) }
+    ensures passed { IfOk result (λ len. 0 < len → (text : List ℕ) × PassesFront wanted limit Plain bytes.now text (drop len bytes.now) Plain × (out.new ≡ out.old ++ text)) }
+    ensures none { IfOk result (λ len. len ≡ 0 → out.new ≡ out.old) }
+    ensures known { AreKnown IsNormal known.new.memo.slots.items }
+{
+    if is_csi(bytes) {
+        if wanted {
+            return Ok(known.recall(limit, bytes, out));
+        }
+        return Ok(0);
+    }
+    let len = plain_len(bytes);
+    append_front(bytes, len, out)?;
+    Ok(len)
+}
+
+/// The same as long as something passes, from this place on; the place behind it.
 #[inline(never)]
-pub(crate) fn append_known<T: Rewrite>(
+fn pass_front<'a>(
+    known: &mut Known<Normal>,
+    wanted: bool,
+    limit: usize,
+    mode: Mode,
+    bytes: &'a [u8],
+    out: &mut TextBuffer,
+) -> Result<Cutter<'a>, AllocError>
+    requires { AreKnown IsNormal known.old.memo.slots.items }
+    ensures cut { IfOk result (λ to. (before : List ℕ) × (bytes.now ≡ before ++ to.rest.now)) }
+    ensures passed { IfOk result (λ to. (text : List ℕ) × PassesFront wanted limit mode bytes.now text to.rest.now to.mode × (out.new ≡ out.old ++ text)) }
+    ensures known { AreKnown IsNormal known.new.memo.slots.items }
+{
+    let Mode::Text = mode else {
+        return Ok(Cutter { mode, rest: bytes });
+    };
+    let mut rest = bytes;
+    loop {
+        let len = pass_one(known, wanted, limit, rest, out)?;
+        if len == 0 {
+            return Ok(Cutter {
+                mode: Mode::Text,
+                rest,
+            });
+        }
+        rest = rest.split_at(len).1;
+    }
+}
+
+/// Appends the texts of some bytes, with what is known from those before. `text` is a buffer.
+#[inline(never)]
+fn append_known<T: Rewrite>(
     rewrite: &mut T,
     params: &mut Vec<CsiParam>,
+    text: &mut Vec<u8>,
+    known: &mut Known<Normal>,
+    limit: usize,
+    mode: Mode,
+    bytes: &[u8],
+    out: &mut TextBuffer,
+) -> Result<(usize, Mode), AllocError>
+    requires limit { 0 < limit }
+    requires known { AreKnown IsNormal known.old.memo.slots.items }
+    ensures passes { IfOk result (λ (used, after). (used ≤ length bytes.now) × (text : List ℕ)
+        × Passes (T.writes rewrite.old) limit mode bytes.now text (drop used bytes.now) after × (out.new ≡ out.old ++ text)) }
+    ensures same { OnOk result ((bytes text : List ℕ) → T.writes rewrite.new bytes text → T.writes rewrite.old bytes text) }
+    ensures known { OnOk result (AreKnown IsNormal known.new.memo.slots.items) }
+{
+    let wanted = rewrite.writes_normal_forms();
+    let mut left = Cutter { mode, rest: bytes };
+    loop {
+        let mut cutter = pass_front(known, wanted, limit, left.mode, left.rest, out)?;
+        let Cutter { mode, rest } = cutter;
+        let Some((span, control)) = cutter.next(limit, params)? else {
+            return Ok((bytes.len() - rest.len(), mode));
+        };
+        text.clear();
+        append_span(rewrite, params, control, span.bytes, text)?;
+        out.push_slice(text)?;
+        keep_span(known, wanted, control, rest, span.bytes, text);
+        left = cutter;
+    }
+}
+
+/// The same, appended to a vector.
+pub(crate) fn append_texts<T: Rewrite>(
+    rewrite: &mut T,
+    params: &mut Vec<CsiParam>,
+    text: &mut Vec<u8>,
     known: &mut Known<Normal>,
     limit: usize,
     mode: Mode,
@@ -71,24 +171,11 @@ pub(crate) fn append_known<T: Rewrite>(
     ensures same { OnOk result ((bytes text : List ℕ) → T.writes rewrite.new bytes text → T.writes rewrite.old bytes text) }
     ensures known { OnOk result (AreKnown IsNormal known.new.memo.slots.items) }
 {
-    let normal = rewrite.writes_normal_forms();
-    let mut cutter = Cutter { mode, rest: bytes };
-    loop {
-        let Cutter { mode, rest } = cutter;
-        let len = recall(known, normal, limit, rest, out)?;
-        if len > 0 {
-            cutter.rest = rest.split_at(len).1;
-            cutter.mode = Mode::Text;
-            continue;
-        }
-        let Some((span, control)) = cutter.next(limit, params)? else {
-            return Ok((bytes.len() - rest.len(), mode));
-        };
-        let before = out.len();
-        append_span(rewrite, params, control, span.bytes, out)?;
-        let text = out.split_at(before).1;
-        keep_span(known, normal, control, rest, span.bytes, text);
-    }
+    let alloc = *out.allocator();
+    let mut texts = TextBuffer::of(std::mem::replace(out, Vec::new(alloc)));
+    let appended = append_known(rewrite, params, text, known, limit, mode, bytes, &mut texts);
+    *out = texts.into_vec();
+    appended
 }
 
 /// Appends the texts of all spans of the bytes that are sure, and answers how many bytes they are, and the mode behind them.
@@ -115,8 +202,12 @@ pub fn append_spans<T: Rewrite>(
         × Passes (T.writes rewrite.old) limit mode bytes.now text (drop used bytes.now) after × (out.new.items ≡ out.old.items ++ text)) }
     ensures same { OnOk result ((bytes text : List ℕ) → T.writes rewrite.new bytes text → T.writes rewrite.old bytes text) }
 {
-    let mut known: Known<Normal> = Known::new(*params.allocator());
-    append_known(rewrite, params, &mut known, limit, mode, bytes, out)
+    let alloc = *params.allocator();
+    let mut known: Known<Normal> = Known::new(alloc);
+    let mut text = Vec::new(alloc);
+    append_texts(
+        rewrite, params, &mut text, &mut known, limit, mode, bytes, out,
+    )
 }
 
 /// A stream that is rewritten as it comes: each control sequence of at most `limit` bytes becomes what `R` writes for it, and
@@ -138,6 +229,7 @@ pub struct Filter<R> {
     mode: Mode,
     pending: Vec<u8>,
     params: Vec<CsiParam>,
+    text: Vec<u8>,
 }
 
 impl<R> Model for Filter<R> {
@@ -163,6 +255,7 @@ impl<R: Rewrite + Drop> Filter<R> {
             mode: Mode::Text,
             pending: Vec::new(alloc),
             params: Vec::new(alloc),
+            text: Vec::new(alloc),
         }
     }
 
@@ -182,9 +275,10 @@ impl<R: Rewrite + Drop> Filter<R> {
         ensures known { OnOk result (AreKnown IsNormal known.new.memo.slots.items) }
     {
         self.pending.extend_from_slice(bytes)?;
-        let (used, mode) = append_known(
+        let (used, mode) = append_texts(
             &mut self.rewrite,
             &mut self.params,
+            &mut self.text,
             known,
             self.limit,
             self.mode,

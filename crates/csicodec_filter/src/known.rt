@@ -1,16 +1,16 @@
 //! What is looked up in a stream: control sequences that came before, and what was noted of them.
-ghost use Rattle.std.specs.Prelude.{◌≡◌, ◌++◌, ◌<◌, ◌≤◌, ℕ, List, true, length, take, IfOk};
-ghost use Rattle.csicodec_streams.specs.Known.{AreKnown, IsNormal};
+ghost use Rattle.std.specs.Prelude.{◌≡◌, ◌++◌, ◌<◌, ◌≤◌, ℕ, List, length, take, OnOk};
+ghost use Rattle.csicodec_streams.specs.Known.{AreKnown};
 
-use csicodec_streams::{Memo, Normal, Note, Noted, WIDE};
+use csicodec_base::TextBuffer;
+use csicodec_streams::{Memo, Note, Noted, WIDE};
 use std::alloc::{AllocError, Global};
 
-/// A table of control sequences that came before, and where the last one that was looked for would be.
+/// A table of control sequences that came before, and what is noted of the one that was found last.
 #[derive(Drop)]
 pub struct Known<N> {
     memo: Memo<N>,
     note: Noted,
-    place: usize,
 }
 
 impl<N: Note> Known<N> {
@@ -21,7 +21,6 @@ impl<N: Note> Known<N> {
         Known {
             memo: Memo::new(alloc),
             note: Noted::none(),
-            place: usize::MAX,
         }
     }
 
@@ -31,38 +30,70 @@ impl<N: Note> Known<N> {
     pub fn look(&mut self, limit: usize, bytes: &[u8]) -> usize
         requires { AreKnown N.notes self.old.memo.slots.items }
         ensures noted { 0 < result → N.notes (take result bytes.now) self.new.note }
-        ensures short { 0 < result → (result ≤ limit) × (result ≤ length bytes.now) }
+        ensures within { result ≤ length bytes.now }
+        ensures short { result ≤ limit }
         ensures known { AreKnown N.notes self.new.memo.slots.items }
     {
-        self.place = usize::MAX;
-        if bytes.first() != Some(&0x1b) {
-            return 0;
+        if bytes.len() < WIDE || limit < WIDE {
+            return self.look_at_end(limit, bytes);
         }
-        let front = near(limit, bytes);
-        if front.len() < WIDE {
-            return self.look_at_end(front);
-        }
-        self.place = self.memo.place(front);
-        self.memo.find(self.place, front, &mut self.note)
+        self.memo.find(bytes, &mut self.note)
     }
 
-    /// The same of so few bytes that no place is told for them: with others behind.
+    /// The same of fewer bytes than a place is told for: with others behind.
     #[inline(never)]
-    fn look_at_end(&mut self, bytes: &[u8]) -> usize
-        requires few { length bytes.now < 48 }
-        requires known { AreKnown N.notes self.old.memo.slots.items }
+    fn look_at_end(&mut self, limit: usize, bytes: &[u8]) -> usize
+        requires { AreKnown N.notes self.old.memo.slots.items }
         ensures noted { 0 < result → N.notes (take result bytes.now) self.new.note }
-        ensures short { result ≤ length bytes.now }
+        ensures within { result ≤ length bytes.now }
+        ensures short { result ≤ limit }
         ensures known { AreKnown N.notes self.new.memo.slots.items }
     {
+        let front = near(limit.min(WIDE), bytes);
         let mut wide = [0; WIDE];
-        wide[..bytes.len()].copy_from_slice(bytes);
-        let place = self.memo.place(&wide);
-        let len = self.memo.find(place, &wide, &mut self.note);
-        if len > bytes.len() {
+        wide[..front.len()].copy_from_slice(front);
+        let len = self.memo.find(&wide, &mut self.note);
+        if len > front.len() {
             return 0;
         }
         len
+    }
+
+    /// Appends what is noted of the control sequence in front, if it is known, and answers how many bytes it has, at most `limit`;
+    /// 0 where it isn't, and where there is no memory.
+    #[inline(always)]
+    pub fn recall(&mut self, limit: usize, bytes: &[u8], out: &mut TextBuffer) -> usize
+        requires { AreKnown N.notes self.old.memo.slots.items }
+        ensures noted { 0 < result → (text : List ℕ) × N.notes (take result bytes.now) text × (out.new ≡ out.old ++ text) }
+        ensures none { result ≡ 0 → out.new ≡ out.old }
+        ensures within { result ≤ length bytes.now }
+        ensures short { result ≤ limit }
+        ensures known { AreKnown N.notes self.new.memo.slots.items }
+    {
+        if bytes.len() < WIDE || limit < WIDE {
+            return self.recall_at_end(limit, bytes, out);
+        }
+        self.memo.recall(bytes, out)
+    }
+
+    /// The same of fewer bytes than a place is told for.
+    #[inline(never)]
+    fn recall_at_end(&mut self, limit: usize, bytes: &[u8], out: &mut TextBuffer) -> usize
+        requires { AreKnown N.notes self.old.memo.slots.items }
+        ensures noted { 0 < result → (text : List ℕ) × N.notes (take result bytes.now) text × (out.new ≡ out.old ++ text) }
+        ensures none { result ≡ 0 → out.new ≡ out.old }
+        ensures within { result ≤ length bytes.now }
+        ensures short { result ≤ limit }
+        ensures known { AreKnown N.notes self.new.memo.slots.items }
+    {
+        let len = self.look_at_end(limit, bytes);
+        if len == 0 {
+            return 0;
+        }
+        match out.push_slice(self.note.as_slice()) {
+            Ok(()) => len,
+            Err(_) => 0,
+        }
     }
 
     /// What is noted of the sequence that was found last.
@@ -81,41 +112,26 @@ impl<N: Note> Known<N> {
         self.note.wide()
     }
 
-    /// Keeps the control sequence in front, which was looked for, and its note.
-    #[inline(always)]
+    /// Keeps the control sequence in front, of so many bytes, and its note.
     pub fn keep(&mut self, bytes: &[u8], len: usize, text: &[u8])
         requires known { AreKnown N.notes self.old.memo.slots.items }
         requires noted { N.notes (take len bytes.now) text.now }
         ensures { AreKnown N.notes self.new.memo.slots.items }
     {
-        self.memo.keep(self.place, bytes, len, text);
+        self.memo.keep(bytes, len, text);
     }
 }
 
-/// Appends the normal form of the control sequence in front, if that is wanted and known, and answers how many bytes it has,
-/// at most `limit`.
+/// Appends so many of the first bytes: by one copy of a fixed length where they are few, and others stand behind them.
 #[inline(always)]
-pub(crate) fn recall(
-    known: &mut Known<Normal>,
-    wanted: bool,
-    limit: usize,
-    bytes: &[u8],
-    out: &mut Vec<u8>,
-) -> Result<usize, AllocError>
-    requires { AreKnown IsNormal known.old.memo.slots.items }
-    ensures text { IfOk result (λ len. 0 < len → (text : List ℕ) × IsNormal (take len bytes.now) text × (out.new.items ≡ out.old.items ++ text)) }
-    ensures short { IfOk result (λ len. 0 < len → (len ≤ limit) × (len ≤ length bytes.now) × (wanted ≡ true)) }
-    ensures none { IfOk result (λ len. len ≡ 0 → out.new.items ≡ out.old.items) }
-    ensures known { AreKnown IsNormal known.new.memo.slots.items }
+pub fn append_front(bytes: &[u8], len: usize, out: &mut TextBuffer) -> Result<(), AllocError>
+    requires { len ≤ length bytes.now }
+    ensures { OnOk result (out.new ≡ out.old ++ take len bytes.now) }
 {
-    if !wanted {
-        return Ok(0);
+    match bytes.first_chunk::<WIDE>() {
+        Some(front) if len <= WIDE => out.push_front(front, len),
+        _ => out.push_slice(bytes.split_at(len).0),
     }
-    let len = known.look(limit, bytes);
-    if len > 0 {
-        out.extend_from_slice(known.noted())?;
-    }
-    Ok(len)
 }
 
 /// As many of the first bytes as a sequence may have.

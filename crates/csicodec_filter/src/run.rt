@@ -21,6 +21,7 @@ struct Filtering<T> {
 }
 
 impl<T: Rewrite + Drop> Transform for Filtering<T> {
+    ghost use Rattle.std.specs.Prelude.{⊤};
     ghost use Rattle.csicodec_streams.specs.Known.{AreKnown, IsNormal};
     ghost use Rattle.csicodec_filter.specs.Private.Run.{Leaves, PassesSince};
 
@@ -28,10 +29,16 @@ impl<T: Rewrite + Drop> Transform for Filtering<T> {
 
     ghost passes = { PassesSince T.writes };
 
+    ghost rests = { λ _. ⊤ };
+
     ghost ends = { Leaves };
 
     fn take(&mut self, bytes: &[u8], out: &mut Vec<u8>) -> Result<(), AllocError> {
         self.filter.push_known(&mut self.known, bytes, out)?;
+        Ok(())
+    }
+
+    fn pause(&mut self, _out: &mut Vec<u8>) -> Result<(), AllocError> {
         Ok(())
     }
 

@@ -15,6 +15,9 @@ pub trait Transform {
     /// From one state, which has just begun, to another, by these bytes, with this text.
     ghost passes: { PassesOf Self };
 
+    /// Nothing is put off until more comes.
+    ghost rests: { Self → Type 0 };
+
     /// In this state, where nothing comes any more, this text is still to be written.
     ghost ends: { EndsOf Self };
 
@@ -24,12 +27,80 @@ pub trait Transform {
         ensures stands { OnOk result (stands self.new) }
         ensures passes { OnOk result ((more : List ℕ) × GoesOn passes self.old bytes.now more self.new × (out.new.items ≡ out.old.items ++ more)) };
 
+    /// Appends what was put off: nothing more is there to read at once.
+    fn pause(&mut self, out: &mut Vec<u8>) -> Result<(), AllocError>
+        requires { stands self.old }
+        ensures stands { OnOk result (stands self.new) }
+        ensures passes { OnOk result ((more : List ℕ) × GoesOn passes self.old [] more self.new × (out.new.items ≡ out.old.items ++ more)) }
+        ensures rests { OnOk result (rests self.new) };
+
     /// Appends what is held, and what ends the output: nothing comes any more.
     fn end(&mut self, out: &mut Vec<u8>) -> Result<(), AllocError>
         ensures { OnOk result ((rest : List ℕ) × ends self.old rest × (out.new.items ≡ out.old.items ++ rest)) };
 }
 
-/// Reads to the end, and writes what the stream becomes; after each read all that is sure is written and flushed.
+/// How many bytes are asked of a reader at once.
+const READ: usize = 65536;
+
+/// Takes some bytes in pieces: a longer copy costs more for each byte.
+fn take_pieces<T: Transform>(
+    transform: &mut T,
+    bytes: &[u8],
+    out: &mut Vec<u8>,
+) -> Result<(), AllocError>
+    requires { T.stands transform.old }
+    ensures stands { OnOk result (T.stands transform.new) }
+    ensures passes { OnOk result ((more : List ℕ) × GoesOn T.passes transform.old bytes.now more transform.new × (out.new.items ≡ out.old.items ++ more)) }
+{
+    let mut rest = bytes;
+    while !rest.is_empty() {
+        let (piece, behind) = rest.split_at(rest.len().min(CHUNK));
+        transform.take(piece, out)?;
+        rest = behind;
+    }
+    Ok(())
+}
+
+/// Takes what was read; if that is all that is there now, nothing is put off.
+fn take_read<T: Transform>(
+    transform: &mut T,
+    bytes: &[u8],
+    is_all: bool,
+    out: &mut Vec<u8>,
+) -> Result<(), AllocError>
+    requires { T.stands transform.old }
+    ensures stands { OnOk result (T.stands transform.new) }
+    ensures passes { OnOk result ((more : List ℕ) × GoesOn T.passes transform.old bytes.now more transform.new × (out.new.items ≡ out.old.items ++ more)) }
+{
+    take_pieces(transform, bytes, out)?;
+    if is_all {
+        return transform.pause(out);
+    }
+    Ok(())
+}
+
+/// A read failed: writes what was put off, and answers the error.
+#[cold]
+#[inline(never)]
+fn fail<T: Transform, W: Write>(transform: &mut T, out: &mut Vec<u8>, output: &mut W) -> RunError
+    requires { T.stands transform.old }
+    ensures read { result ≡ RunError.Read → (more : List ℕ) × GoesOn T.passes transform.old [] more transform.new × T.rests transform.new
+        × Appends (W.contents output.old) (W.contents output.new) more }
+    ensures front { (last : T) × (more : List ℕ) × (sent : List ℕ) × (unsent : List ℕ) × GoesOn T.passes transform.old [] more last × (more ≡ sent ++ unsent)
+        × Appends (W.contents output.old) (W.contents output.new) sent }
+{
+    out.clear();
+    let Ok(()) = transform.pause(out) else {
+        return RunError::Memory;
+    };
+    let Ok(()) = send(output, out.as_slice()) else {
+        return RunError::Write;
+    };
+    RunError::Read
+}
+
+/// Reads to the end, and writes what the stream becomes; after each read all that is sure is written and flushed. What is put off until
+/// more comes, is so only while more is there to read at once.
 ///
 /// A read or a write that answers `Interrupted` is tried again. Any other error of a read is `RunError::Read`; any of a write or the
 /// flush, or a write that takes no byte, is `RunError::Write`; `RunError::Decode` never comes.
@@ -44,9 +115,9 @@ pub fn transform_all<T: Transform + Drop, R: Read, W: Write>(
     // All was read, and what was written is what it becomes, with its end.
     ensures ok { OnOk result ((bytes : List ℕ) × (text : List ℕ) × Consumes (R.remaining input.old) (R.remaining input.new) bytes × IsAtEnd (R.remaining input.new)
         × Transforms T.passes T.ends transform bytes text × Appends (W.contents output.old) (W.contents output.new) text) }
-    // When a read fails, all that was sure of the bytes before it has been written.
+    // When a read fails, all that was sure of the bytes before it has been written, and nothing is put off.
     ensures failed { IfErr result (λ e. e ≡ RunError.Read → (bytes : List ℕ) × (text : List ℕ) × (last : T)
-        × Consumes (R.remaining input.old) (R.remaining input.new) bytes × T.passes transform bytes text last
+        × Consumes (R.remaining input.old) (R.remaining input.new) bytes × T.passes transform bytes text last × T.rests last
         × Appends (W.contents output.old) (W.contents output.new) text) }
     // After any error, what went out is a front of the text of bytes that were read, and has of its end only where they are all.
     ensures front { OnErr result ((bytes : List ℕ) × (more : List ℕ) × (sent : List ℕ) × Consumes (R.remaining input.old) (R.remaining input.new) (bytes ++ more)
@@ -54,10 +125,10 @@ pub fn transform_all<T: Transform + Drop, R: Read, W: Write>(
 {
     let mut now = transform;
     let mut out = Vec::new(alloc);
-    let mut chunk = [0u8; CHUNK];
+    let mut chunk = [0u8; READ];
     for _ in 0..u64::MAX {
         let Ok(count) = receive(input, &mut chunk) else {
-            return Err(RunError::Read);
+            return Err(fail(&mut now, &mut out, output));
         };
         out.clear();
         if count == 0 {
@@ -66,12 +137,12 @@ pub fn transform_all<T: Transform + Drop, R: Read, W: Write>(
             };
             return send(output, &out);
         }
-        let Ok(()) = now.take(&chunk[..count], &mut out) else {
+        let Ok(()) = take_read(&mut now, &chunk[..count], count < READ, &mut out) else {
             return Err(RunError::Memory);
         };
         let Ok(()) = send(output, &out) else {
             return Err(RunError::Write);
         };
     }
-    Err(RunError::Read)
+    Err(fail(&mut now, &mut out, output))
 }

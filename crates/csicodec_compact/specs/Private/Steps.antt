@@ -200,18 +200,16 @@ pub record IsHeld (run : List Part) (held : List ℕ) (form : Form) : Type 0 whe
   pub written : IsShortened front text
   pub end : IsEnd form left tail
 
--- behind parts of which some text is held come more: what is appended, and what is held then
-pub record Follows (run parts : List Part) (more held : List ℕ) (form : Form) : Type 0 where
-  pub done : List Part
-  pub left : List Part
-  pub whole : run ++ parts ≡ done ++ left
-  pub written : IsShortened done more
-  pub still : IsHeld left held form
+-- What is written for more parts goes on with what was: whatever was written before them, and for which parts, so far this text is held.
+abbrev pub Extends : Form → List Part → List ℕ → Form → Type 0
+Extends form parts text after = (run : List Part) (before : List ℕ) → IsHeld run before form → IsHeld (run ++ parts) (before ++ text) after
 
--- The parts in front of the bytes: what was appended for them, and what is held.
-pub record GoesOn (limit : ℕ) (m : Mode) (bytes text held : List ℕ) (form : Form) (rest : List ℕ) (after : Mode) : Type 0 where
-  pub done : List Part
-  pub left : List Part
-  pub first : AreFirstParts limit m bytes (done ++ left) rest after
-  pub written : IsShortened done text
-  pub still : IsHeld left held form
+-- and this was appended
+abbrev pub GoesOnBy : Form → List Part → List ℕ → List ℕ → Form → Type 0
+GoesOnBy form parts old new after = (text : List ℕ) × (new ≡ old ++ text) × Extends form parts text after
+
+-- The parts in front of the bytes, and what is appended for them.
+pub record WritesFront (limit : ℕ) (m : Mode) (bytes : List ℕ) (form : Form) (old new : List ℕ) (after : Form) (rest : List ℕ) (n : Mode) : Type 0 where
+  pub parts : List Part
+  pub first : AreFirstParts limit m bytes parts rest n
+  pub goes : GoesOnBy form parts old new after

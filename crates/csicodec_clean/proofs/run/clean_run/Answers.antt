@@ -1,5 +1,5 @@
 use Rattle.std.proofs.Common.{inl, inr, ⊎_elim}
-use Rattle.std.proofs.lemmas.Result.{on_err_weaker, on_ok_weaker}
+use Rattle.std.proofs.lemmas.Result.{MatchResult-weaker, on_err_weaker, on_ok_weaker}
 use Rattle.csicodec_clean.proofs.Chunks.{closed, takes_none}
 use Rattle.csicodec_clean.proofs.run.clean_run.Goals as goal
 
@@ -15,7 +15,10 @@ pub returns-clause-end : goal.returns-clause-end
 returns-clause-end g c = on_ok_weaker c.transform_all.result (λ (bytes, text, consumed, end, whole, appended). end) c.transform_all.ensures.ok
 
 pub returns-clause-failed : goal.returns-clause-failed
-returns-clause-failed g c = rw c.new-cleaner.ensures at c.transform_all.ensures.failed
+returns-clause-failed g c = MatchResult-weaker c.transform_all.result (rw c.new-cleaner.ensures at c.transform_all.ensures.failed) (λ x h. h)
+    (λ e h is.
+    let (bytes, text, last, consumed, passed, rests, appended) = h is in
+    (bytes, text, last, consumed, passed, appended))
 
 pub returns-clause-front : goal.returns-clause-front
 returns-clause-front g c = on_err_weaker c.transform_all.result

@@ -1,13 +1,13 @@
 use Rattle.std.proofs.Common.{refl}
 use Rattle.std.proofs.lemmas.Result.{MatchResult-weaker, on_err_weaker, on_ok_weaker}
-use Rattle.csicodec_compact.proofs.Beside.{begun_compacts, compacted, passes_none}
+use Rattle.csicodec_compact.proofs.Beside.{begun_compacts, compacted, since_none, since_rests}
 use Rattle.csicodec_compact.proofs.all.compact_all.Goals as goal
 
 pub transform_all-requires-clause-stands : goal.transform_all-requires-clause-stands
 transform_all-requires-clause-stands g c = c.new-known.ensures
 
 pub transform_all-requires-clause-begun : goal.transform_all-requires-clause-begun
-transform_all-requires-clause-begun g c = rw c.new-compactor.ensures (record { limit = refl; passed = passes_none c.args.limit })
+transform_all-requires-clause-begun g c = rw c.new-compactor.ensures (since_none _ c.new-written.ensures refl refl)
 
 pub returns-clause-ok : goal.returns-clause-ok
 returns-clause-ok g c = on_ok_weaker c.transform_all.result
@@ -20,8 +20,8 @@ returns-clause-end g c = on_ok_weaker c.transform_all.result (λ (bytes, text, c
 pub returns-clause-failed : goal.returns-clause-failed
 returns-clause-failed g c = MatchResult-weaker c.transform_all.result (rw c.new-compactor.ensures at c.transform_all.ensures.failed) (λ x h. h)
     (λ e h is.
-    let (bytes, text, last, consumed, since, appended) = h is in
-    (bytes, text, last.compactor.bytes, last.compactor.mode, consumed, since.passed, appended))
+    let (bytes, text, last, consumed, since, rests, appended) = h is in
+    (bytes, text, last.compactor.bytes, last.compactor.mode, consumed, since_rests _ last bytes text since rests, appended))
 
 pub returns-clause-front : goal.returns-clause-front
 returns-clause-front g c = on_err_weaker c.transform_all.result

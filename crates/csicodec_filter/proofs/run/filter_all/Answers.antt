@@ -26,7 +26,7 @@ returns-clause-end g c = on_ok_weaker c.transform_all.result (λ (bytes, text, c
 pub returns-clause-failed : goal.returns-clause-failed
 returns-clause-failed g c = MatchResult-weaker c.transform_all.result (rw c.new-filter.ensures at c.transform_all.ensures.failed) (λ x h. h)
     (λ e h is.
-    let (bytes, text, last, consumed, since, appended) = h is in
+    let (bytes, text, last, consumed, since, rests, appended) = h is in
     (bytes, text, last.filter.bytes, last.filter.mode, consumed, since.passed, appended))
 
 pub returns-clause-front : goal.returns-clause-front

@@ -1,0 +1,18 @@
+use Rattle.std.proofs.Common.{◌++◌, ap, take, ◌∙◌, append_assoc}
+use Rattle.std.proofs.lemmas.Result.{on_ok_weaker}
+use Rattle.csicodec_compact.specs.Private.Steps.{closing}
+use Rattle.csicodec_compact.proofs.Beside.{extends_plain}
+use Rattle.csicodec_compact.proofs.runs.Written.pass_front.Goals as goal
+
+pub returns : goal.returns
+returns c =
+    let st = c.args.self.now.form in
+    let old = c.args.out.now in
+    let bytes = (take c.args.len c.args.bytes.now) in
+    on_ok_weaker c.append_front.result
+    (λ e parts k span other. (
+      closing st ++ bytes,
+      e ∙ ap (λ t. t ++ bytes) c.in_ok-close.ensures.text ∙ append_assoc old (closing st) bytes,
+      rw c.close.ensures.form (extends_plain st k bytes parts other span),
+    ))
+    c.append_front.ensures

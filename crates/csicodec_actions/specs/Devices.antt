@@ -82,7 +82,8 @@ code_or_token t (Some c) = Code c
 
 -- the number of a code is the code, and any other token is itself
 abbrev pub attribute_of : CsiParam → DeviceAttribute
-attribute_of (Integer z) = code_or_token (Integer z) (with_number device_attribute_number device_attribute_codes z)
+attribute_of (Integer z) =
+    code_or_token (Integer z) (with_number device_attribute_number device_attribute_codes z)
 attribute_of (P b) = Unspecified (P b)
 
 -- none for `;`

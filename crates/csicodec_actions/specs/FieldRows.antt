@@ -99,8 +99,10 @@ made (Empty ∷ row) make fs = made row make (behind fs)
 made (End ∷ row) make fs = made row make (behind fs)
 made (Maybe ∷ row) make fs = made row (make (first fs)) (behind fs)
 made (There ∷ row) make fs = made row (make (first fs)) (behind fs)
-made (Must k ∷ row) make fs = option_and_then (λ v. made row (make v) (behind fs)) (option_and_then (read k) (first fs))
-made (Or k missing ∷ row) make fs = option_and_then (λ v. made row (make v) (behind fs)) (value_or k missing (first fs))
+made (Must k ∷ row) make fs =
+    option_and_then (λ v. made row (make v) (behind fs)) (option_and_then (read k) (first fs))
+made (Or k missing ∷ row) make fs =
+    option_and_then (λ v. made row (make v) (behind fs)) (value_or k missing (first fs))
 made (Rest ∷ row) make fs = made row (make (numbers fs)) (behind fs)
 
 -- ---- rows
@@ -156,7 +158,8 @@ over ahead end final rows = record { ahead = ahead; end = end; final = code fina
 
 -- the fields of a list, without these bytes
 abbrev pub fields_over : {R : Type 0} → Over R → List CsiParam → Option (List (Option ℤ))
-fields_over o list = option_and_then fields_of (option_and_then (ahead_of_byte o.end) (behind_byte o.ahead list))
+fields_over o list =
+    option_and_then fields_of (option_and_then (ahead_of_byte o.end) (behind_byte o.ahead list))
 
 abbrev pub read_over : {R : Type 0} → Over R → List CsiParam → Option R
 read_over o list = option_and_then (given o.rows) (fields_over o list)
@@ -164,4 +167,5 @@ read_over o list = option_and_then (given o.rows) (fields_over o list)
 -- what is read by these entries
 abbrev pub read_fields : {R : Type 0} → List (Over R) → List CsiParam → ℕ → Option R
 read_fields [] list final = None
-read_fields (o ∷ others) list final = option_or (if final == o.final then read_over o list else None) (read_fields others list final)
+read_fields (o ∷ others) list final =
+    option_or (if final == o.final then read_over o list else None) (read_fields others list final)

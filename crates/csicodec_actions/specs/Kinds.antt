@@ -50,7 +50,8 @@ path_number path.RightToLeftOrBottomToTop = 2
 
 -- all paths: the list must be complete, a place for each variant
 abbrev pub paths : List CharacterPath
-paths = path.ImplementationDefault ∷ path.LeftToRightOrTopToBottom ∷ path.RightToLeftOrBottomToTop ∷ []
+paths =
+    path.ImplementationDefault ∷ path.LeftToRightOrTopToBottom ∷ path.RightToLeftOrBottomToTop ∷ []
 
 -- ---- the kinds
 
@@ -123,8 +124,10 @@ read Control z = with_number tabulation_control_number tabulation_controls z
 read Clear z = with_number tabulation_clear_number tabulation_clears z
 read InDisplay z = with_number erase_in_display_number erases_in_display z
 read InLine z = with_number erase_in_line_number erases_in_line z
-read Dec z = code_or (λ c. dec.Code c) (λ n. dec.Unspecified n) (with_number dec_mode_number dec_codes z) (short z)
-read Terminal z = code_or (λ c. terminal.Code c) (λ n. terminal.Unspecified n) (with_number terminal_mode_number terminal_codes z) (short z)
+read Dec z = code_or (λ c. dec.Code c) (λ n.
+    dec.Unspecified n) (with_number dec_mode_number dec_codes z) (short z)
+read Terminal z = code_or (λ c. terminal.Code c) (λ n.
+    terminal.Unspecified n) (with_number terminal_mode_number terminal_codes z) (short z)
 read Resource z = with_number resource_number resources z
 read Flags z = option_map (λ n. record { bits = bit_and n 31 }) (short z)
 read Way z = with_number kitty_mode_number kitty_modes z

@@ -34,7 +34,8 @@ resource_number resource.OtherKeys = 4
 
 -- all resources: the list must be complete, a line for each variant
 abbrev pub resources : List XtermKeyModifierResource
-resources = resource.Keyboard ∷ resource.CursorKeys ∷ resource.FunctionKeys ∷ resource.OtherKeys ∷ []
+resources =
+    resource.Keyboard ∷ resource.CursorKeys ∷ resource.FunctionKeys ∷ resource.OtherKeys ∷ []
 
 -- ---- what is done
 

@@ -71,7 +71,8 @@ has m bit = bit_and (modifier_bits m) bit == bit
 
 -- 4 for SHIFT, 8 for ALT and 16 for CTRL, each where the set has it; other bits of a set are in no report
 abbrev pub modifiers_code : Modifiers → ℕ
-modifiers_code m = (if has m 2 then 4 else 0) + (if has m 4 then 8 else 0) + (if has m 8 then 16 else 0)
+modifiers_code m =
+    (if has m 2 then 4 else 0) + (if has m 4 then 8 else 0) + (if has m 8 then 16 else 0)
 
 abbrev pub report_code : MouseButton × Modifiers → ℕ
 report_code v = button_code v.0 + modifiers_code v.1

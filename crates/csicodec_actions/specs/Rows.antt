@@ -54,12 +54,14 @@ ended true make list = make list
 ended false whole list = whole
 
 -- what is made of a list of this shape; nothing where a number counts as no value of its kind
-abbrev pub made : {R : Type 0} → (tail : Bool) (shape : List Slot) → Makes (AtEnd tail R) shape → List CsiParam → Option R
+abbrev pub made : {R : Type 0} → (tail : Bool) (shape : List Slot) → Makes (AtEnd tail R) shape
+    → List CsiParam → Option R
 made tail [] end list = Some (ended tail end list)
 made tail (s ∷ shape) make [] = None
 made tail (Byte b ∷ shape) make (t ∷ ts) = made tail shape make ts
 made tail (Number n ∷ shape) make (t ∷ ts) = made tail shape make ts
-made tail (One k ∷ shape) make (Integer z ∷ ts) = option_and_then (λ v. made tail shape (make v) ts) (read k z)
+made tail (One k ∷ shape) make (Integer z ∷ ts) =
+    option_and_then (λ v. made tail shape (make v) ts) (read k z)
 made tail (One k ∷ shape) make (P c ∷ ts) = None
 
 pub record Row (R : Type 0) : Type 0 where
@@ -94,7 +96,8 @@ abbrev pub chosen : {R : Type 0} → (k : Kind) → Value k → (Value k → R) 
 chosen k missing make = row [] (make missing) ∷ row (One k ∷ []) make ∷ []
 
 -- one half or both: the first is a count, 1 where it is left out, and this the second where it is left out
-abbrev pub halves : {R : Type 0} → (second : Kind) → Value second → (ℕ → Value second → R) → List (Row R)
+abbrev pub halves : {R : Type 0} → (second : Kind) → Value second → (ℕ → Value second → R)
+    → List (Row R)
 halves second missing make =
     row (One Count ∷ []) (λ a. make a missing)
     ∷ row (One Count ∷ mark ";" ∷ One second ∷ []) make
@@ -117,7 +120,8 @@ before final rows = record { final = code final; rows = rows }
 -- those of all entries with this final
 abbrev pub rows_before : {R : Type 0} → List (Before R) → ℕ → List (Row R)
 rows_before [] final = []
-rows_before (b ∷ others) final = (if final == b.final then b.rows else []) ++ rows_before others final
+rows_before (b ∷ others) final =
+    (if final == b.final then b.rows else []) ++ rows_before others final
 
 -- what is read by these rows
 abbrev pub read_by : {R : Type 0} → List (Before R) → List CsiParam → ℕ → Option R

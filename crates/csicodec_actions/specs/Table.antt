@@ -41,7 +41,8 @@ unboxed list final =
 
 -- the same, where its value holds memory
 unfoldable pub boxed : List CsiParam → ℕ → Option Action
-boxed list final = option_or (as_device list final) (option_or (as_window list final) (as_graphics list final))
+boxed list final =
+    option_or (as_device list final) (option_or (as_window list final) (as_graphics list final))
 
 -- the action of a list before a final character: what a row of any subject gives
 unfoldable pub whole : List CsiParam → ℕ → Option Action
@@ -66,7 +67,8 @@ field_table = window_fields ++ graphics_fields
 -- The order of rows and subjects doesn't matter (law `rows` of csicodec_lists): what any row of the final gives is the action, and so is what
 -- any row over fields gives.
 abbrev pub RowsDecide : List CsiParam → ℕ → Type 0
-RowsDecide list final = (r : Row Action) (action : Action) → Contains (rows_before table final) r → gives r list ≡ Some action → Whole list final action
+RowsDecide list final = (r : Row Action) (action : Action) → Contains (rows_before table final) r
+    → gives r list ≡ Some action → Whole list final action
 
 abbrev pub FieldRowsDecide : List CsiParam → ℕ → Type 0
 FieldRowsDecide list final = (o : Over Action) (r : FieldRow Action) (fields : List (Option ℤ)) (action : Action) → Contains field_table o → o.final ≡ final → Contains o.rows r

@@ -38,7 +38,8 @@ abbrev pub tokens : List Item → List CsiParam
 tokens [] = []
 tokens (Byte b ∷ items) = P b ∷ tokens items
 tokens (The k v ∷ items) = Integer (number k v) ∷ tokens items
-tokens (Unless n k v ∷ items) = if is_number n (number k v) then tokens items else Integer (number k v) ∷ tokens items
+tokens (Unless n k v ∷ items) =
+    if is_number n (number k v) then tokens items else Integer (number k v) ∷ tokens items
 tokens (Attribute a ∷ items) = attribute_token a ∷ tokens items
 
 -- its text, and this behind it

@@ -24,7 +24,8 @@ impl KittyKeyboardMode {
     /// The way of 1, 2 or 3, and none for another number.
     #[tactic(auto, unfolding(crate::specs::Kinds::read))]
     pub fn from_i64(number: i64) -> Option<Self>
-        ensures each { (mode : KittyKeyboardMode) → (result ≡ Some mode) ↔ (number ≡ pos (kitty_mode_number mode)) }
+        ensures each { (mode : KittyKeyboardMode) → (result ≡ Some mode)
+            ↔ (number ≡ pos (kitty_mode_number mode)) }
         ensures read { result ≡ read Way number }
     {
         match number {

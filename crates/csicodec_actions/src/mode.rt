@@ -145,7 +145,8 @@ impl XtermKeyModifierResource {
     /// The resource that has this number: 0, 1, 2 or 4. None has another one.
     #[tactic(auto, unfolding(crate::specs::Kinds::read))]
     pub fn parse(value: i64) -> Option<Self>
-        ensures each { (resource : XtermKeyModifierResource) → (result ≡ Some resource) ↔ (value ≡ pos (resource_number resource)) }
+        ensures each { (resource : XtermKeyModifierResource) → (result ≡ Some resource)
+            ↔ (value ≡ pos (resource_number resource)) }
         ensures read { result ≡ read Resource value }
     {
         match value {

@@ -189,7 +189,8 @@ impl MouseReport {
 
     /// A report in pixels is read as one in cells.
     pub fn is_canonical(&self) -> bool
-        ensures { IsTrue result ↔ (AllGood (written_mouse self.now).items × ¬ IsNeverRead (Reports self.now)) }
+        ensures { IsTrue result
+            ↔ (AllGood (written_mouse self.now).items × ¬ IsNeverRead (Reports self.now)) }
     {
         match self {
             MouseReport::SGR1006 {

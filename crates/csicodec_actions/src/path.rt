@@ -22,7 +22,8 @@ impl CharacterPath {
     /// The path of 0, 1 or 2, and none for another number.
     #[tactic(auto, unfolding(crate::specs::Kinds::read))]
     pub fn from_i64(number: i64) -> Option<Self>
-        ensures each { (path : CharacterPath) → (result ≡ Some path) ↔ (number ≡ pos (path_number path)) }
+        ensures each { (path : CharacterPath) → (result ≡ Some path)
+            ↔ (number ≡ pos (path_number path)) }
         ensures read { result ≡ read Path number }
     {
         match number {

@@ -142,7 +142,8 @@ pub struct XtSmGraphics {
 impl XtSmGraphics {
     /// What is done, where it is a request: `None` for a number that no action has.
     pub fn action(&self) -> Option<XtSmGraphicsAction>
-        ensures { (action : XtSmGraphicsAction) → (result ≡ Some action) ↔ (self.now.action_or_status ≡ pos (action_number action)) }
+        ensures { (action : XtSmGraphicsAction) → (result ≡ Some action)
+            ↔ (self.now.action_or_status ≡ pos (action_number action)) }
     {
         match self.action_or_status {
             1 => Some(XtSmGraphicsAction::ReadAttribute),
@@ -155,7 +156,8 @@ impl XtSmGraphics {
 
     /// What became of it, where it is an answer: `None` for a number that no status has.
     pub fn status(&self) -> Option<XtSmGraphicsStatus>
-        ensures { (status : XtSmGraphicsStatus) → (result ≡ Some status) ↔ (self.now.action_or_status ≡ pos (status_number status)) }
+        ensures { (status : XtSmGraphicsStatus) → (result ≡ Some status)
+            ↔ (self.now.action_or_status ≡ pos (status_number status)) }
     {
         match self.action_or_status {
             0 => Some(XtSmGraphicsStatus::Success),
@@ -182,7 +184,8 @@ impl XtSmGraphics {
 
     /// Whether each number of graphics is read as itself.
     pub fn is_canonical(&self) -> bool
-        ensures { IsTrue result ↔ AllGood (written_graphics self.now.item self.now.action_or_status self.now.value.items).items }
+        ensures { IsTrue result
+            ↔ AllGood (written_graphics self.now.item self.now.action_or_status self.now.value.items).items }
     {
         is_item(self.item) && is_said(self.action_or_status) && are_said(&self.value)
     }
@@ -225,7 +228,8 @@ pub struct GraphicsRef<'a> {
 impl<'a> GraphicsRef<'a> {
     /// What is asked or said, with its values in memory of its own. `Err` is out of memory.
     pub fn to_graphics(&self, alloc: Global) -> Result<XtSmGraphics, AllocError>
-        ensures { IfOk result (λ graphics. Devices (graphics_of graphics) ≡ lent_graphics self.now) }
+        ensures { IfOk result (λ graphics.
+            Devices (graphics_of graphics) ≡ lent_graphics self.now) }
     {
         Ok(XtSmGraphics {
             item: self.item,
@@ -252,7 +256,8 @@ pub fn graphics_action(
     params: &[CsiParam],
     control: char,
 ) -> Result<Option<XtSmGraphics>, AllocError>
-    ensures ok { IfOk result (λ graphics. option_map (λ g. Devices (graphics_of g)) graphics ≡ as_graphics params.now control) }
+    ensures ok { IfOk result (λ graphics.
+        option_map (λ g. Devices (graphics_of g)) graphics ≡ as_graphics params.now control) }
     ensures err { OnErr result (IsSome (as_graphics params.now control)) }
 {
     match graphics_ref(params, control) {
@@ -266,7 +271,8 @@ impl XtSmGraphics {
     /// exactly where the list is empty, or lacks the number of an item or of an action behind that token; otherwise `Memory`,
     /// if there is none. `parse`, which answers an action, stands beside `CSI`.
     pub fn of_list(alloc: Global, params: &[CsiParam]) -> Result<XtSmGraphics, ParseRefusal>
-        ensures read { IfOk result (λ graphics. graphics_behind params.now ≡ Some (Devices (graphics_of graphics))) }
+        ensures read { IfOk result (λ graphics.
+            graphics_behind params.now ≡ Some (Devices (graphics_of graphics))) }
         ensures refused { IfErr result (RefusesGraphics params.now) }
     {
         match behind_mark(params) {

@@ -11,7 +11,8 @@ abbrev pub front_by : ℕ → List Row → List CsiParam → Option (Sgr × ℕ)
 front_by before [] rest = None
 front_by before (row ∷ rows) rest =
     if begins_with row.shape rest
-    then option_and_then (λ s. Some (s, length row.shape + before)) (given row.gives (taken row.shape rest))
+    then option_and_then (λ s.
+    Some (s, length row.shape + before)) (given row.gives (taken row.shape rest))
     else front_by before rows rest
 
 -- the piece at the front, by going through the table

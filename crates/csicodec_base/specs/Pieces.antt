@@ -10,7 +10,8 @@ use Rattle.csicodec_base.specs.Shapes.{Row, colon, begins_with, taken, given, sg
 pub record Longest (rows : List Row) (rest : List CsiParam) (row : Row) : Type 0 where
   pub listed : Contains rows row
   pub fits : begins_with row.shape rest ≡ true
-  pub no_longer : (other : Row) → Contains rows other → begins_with other.shape rest ≡ true → length other.shape ≤ length row.shape
+  pub no_longer : (other : Row) → Contains rows other → begins_with other.shape rest ≡ true
+      → length other.shape ≤ length row.shape
 
 -- the longest row has k tokens and gives the action; where a part of its colour is no byte it gives none,
 -- and no shorter row is asked
@@ -22,7 +23,8 @@ pub record Piece (rest : List CsiParam) (k : ℕ) (action : Sgr) : Type 0 where
 
 -- the answer is the piece at the front, and none only where there is no piece
 abbrev pub IsFront : List CsiParam → Option (Sgr × ℕ) → Type 0
-IsFront rest answer = MatchOption answer ((k : ℕ) (action : Sgr) → Piece rest k action → ⊥) (λ f. Piece rest f.1 f.0)
+IsFront rest answer =
+    MatchOption answer ((k : ℕ) (action : Sgr) → Piece rest k action → ⊥) (λ f. Piece rest f.1 f.0)
 
 -- the list doesn't begin with `:`
 abbrev pub NoColon : List CsiParam → Type 0

@@ -83,7 +83,8 @@ byte_of (P b) = None
 -- the parts of a colour; none if one token is no part
 abbrev pub bytes_of : List CsiParam → Option (List ℕ)
 bytes_of [] = Some []
-bytes_of (t ∷ ts) = option_and_then (λ b. option_and_then (λ bs. Some (b ∷ bs)) (bytes_of ts)) (byte_of t)
+bytes_of (t ∷ ts) =
+    option_and_then (λ b. option_and_then (λ bs. Some (b ∷ bs)) (bytes_of ts)) (byte_of t)
 
 -- one part is a place in the palette; three are red, green and blue, opaque; four have their alpha
 abbrev pub color_of : List ℕ → Option ColorSpec

@@ -12,13 +12,15 @@ pub use csicodec_tokens::laws::{
 
 /// The piece at a front is found by going through the table row by row. So there is at most one.
 pub fn piece_by_row()
-    ensures { (rest : List CsiParam) (k : ℕ) (action : Sgr) → Piece rest k action ↔ (piece rest ≡ Some (action, k)) }
+    ensures { (rest : List CsiParam) (k : ℕ) (action : Sgr) → Piece rest k action
+        ↔ (piece rest ≡ Some (action, k)) }
 {}
 
 /// The piece at the front of a list is the piece at the front of its first 13 tokens.
 #[tactic(auto, using(crate::proofs::Table::first_tokens))]
 pub fn first_tokens()
-    ensures { (rest : List CsiParam) (k : ℕ) (action : Sgr) → Piece rest k action ↔ Piece (take 13 rest) k action }
+    ensures { (rest : List CsiParam) (k : ℕ) (action : Sgr) → Piece rest k action
+        ↔ Piece (take 13 rest) k action }
 {}
 
 /// Whatever follows the list, the piece at its front stays, unless a `:` comes directly after the piece.

@@ -18,7 +18,8 @@ pub fn device_action(
     params: &[CsiParam],
     control: char,
 ) -> Result<Option<Device>, AllocError>
-    ensures ok { IfOk result (λ device. option_map (λ d. Devices (device_of d)) device ≡ as_device params.now control) }
+    ensures ok { IfOk result (λ device.
+        option_map (λ d. Devices (device_of d)) device ≡ as_device params.now control) }
     ensures err { OnErr result (IsSome (as_device params.now control)) }
 {
     match control {
@@ -33,7 +34,8 @@ pub fn device_action(
 
 /// What stands before `c`.
 fn attributes(alloc: Global, params: &[CsiParam]) -> Result<Option<Device>, AllocError>
-    ensures ok { IfOk result (λ device. option_map (λ d. Devices (device_of d)) device ≡ as_device params.now 99) }
+    ensures ok { IfOk result (λ device.
+        option_map (λ d. Devices (device_of d)) device ≡ as_device params.now 99) }
     ensures err { OnErr result (IsSome (as_device params.now 99)) }
 {
     if let Some(device) = request(params) {
@@ -77,7 +79,8 @@ fn terminal(params: &[CsiParam]) -> Option<Device>
 
 /// The answers that name a service class and extensions.
 fn class(alloc: Global, params: &[CsiParam]) -> Result<Option<Device>, AllocError>
-    ensures ok { IfOk result (λ device. option_map (λ d. Devices (device_of d)) device ≡ given classes params.now) }
+    ensures ok { IfOk result (λ device.
+        option_map (λ d. Devices (device_of d)) device ≡ given classes params.now) }
     ensures err { OnErr result (IsSome (given classes params.now)) }
 {
     let [P(b'?'), Integer(class), list @ ..] = params else {

@@ -12,7 +12,8 @@ packed intermediate final = 256 * unwrap_or intermediate 0 + final
 -- an intermediate and a final are a code exactly where they pack its number, and stay as they are where they pack no code's
 pub record EscOf (intermediate : Option ℕ) (final : ℕ) (esc : Esc) : Type 0 where
   pub code : (known : EscCode) → (esc ≡ Code known) ↔ (packed intermediate final ≡ esc_number known)
-  pub other : ((known : EscCode) → packed intermediate final ≢ esc_number known) → esc ≡ Unspecified intermediate final
+  pub other : ((known : EscCode) → packed intermediate final ≢ esc_number known)
+      → esc ≡ Unspecified intermediate final
 
 -- the intermediate, if any, and the final
 abbrev pub in_turn : Option ℕ → ℕ → List ℕ

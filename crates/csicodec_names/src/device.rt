@@ -46,7 +46,8 @@ impl DeviceAttributeCodes {
     /// DeviceAttributeCodes::from_i64(4)        // Some(SixelGraphics)
     /// ```
     pub fn from_i64(number: i64) -> Option<Self>
-        ensures { (code : DeviceAttributeCodes) → (result ≡ Some code) ↔ (number ≡ pos (device_attribute_number code)) }
+        ensures { (code : DeviceAttributeCodes) → (result ≡ Some code)
+            ↔ (number ≡ pos (device_attribute_number code)) }
     {
         match number {
             1 => Some(DeviceAttributeCodes::Columns132),

@@ -33,7 +33,8 @@ impl CursorStyle {
 
     /// The style that has this number, 0 to 6, and none for another one.
     pub fn from_i64(number: i64) -> Option<Self>
-        ensures each { (style : CursorStyle) → (result ≡ Some style) ↔ (number ≡ pos (cursor_style_number style)) }
+        ensures each { (style : CursorStyle) → (result ≡ Some style)
+            ↔ (number ≡ pos (cursor_style_number style)) }
         ensures listed { result ≡ with_number cursor_style_number cursor_styles number }
     {
         match number {
@@ -88,7 +89,8 @@ impl CursorTabulationControl {
 
     /// The control that has this number, 0 to 6, and none for another one.
     pub fn from_i64(number: i64) -> Option<Self>
-        ensures each { (control : CursorTabulationControl) → (result ≡ Some control) ↔ (number ≡ pos (tabulation_control_number control)) }
+        ensures each { (control : CursorTabulationControl) → (result ≡ Some control)
+            ↔ (number ≡ pos (tabulation_control_number control)) }
         ensures listed { result ≡ with_number tabulation_control_number tabulation_controls number }
     {
         match number {
@@ -131,7 +133,8 @@ impl TabulationClear {
 
     /// The choice that has this number, 0 to 5, and none for another one.
     pub fn from_i64(number: i64) -> Option<Self>
-        ensures each { (clear : TabulationClear) → (result ≡ Some clear) ↔ (number ≡ pos (tabulation_clear_number clear)) }
+        ensures each { (clear : TabulationClear) → (result ≡ Some clear)
+            ↔ (number ≡ pos (tabulation_clear_number clear)) }
         ensures listed { result ≡ with_number tabulation_clear_number tabulation_clears number }
     {
         match number {
@@ -167,7 +170,8 @@ impl EraseInLine {
 
     /// The part that has this number, 0 to 2, and none for another one.
     pub fn from_i64(number: i64) -> Option<Self>
-        ensures each { (part : EraseInLine) → (result ≡ Some part) ↔ (number ≡ pos (erase_in_line_number part)) }
+        ensures each { (part : EraseInLine) → (result ≡ Some part)
+            ↔ (number ≡ pos (erase_in_line_number part)) }
         ensures listed { result ≡ with_number erase_in_line_number erases_in_line number }
     {
         match number {
@@ -202,7 +206,8 @@ impl EraseInDisplay {
 
     /// The part that has this number, 0 to 3, and none for another one.
     pub fn from_i64(number: i64) -> Option<Self>
-        ensures each { (part : EraseInDisplay) → (result ≡ Some part) ↔ (number ≡ pos (erase_in_display_number part)) }
+        ensures each { (part : EraseInDisplay) → (result ≡ Some part)
+            ↔ (number ≡ pos (erase_in_display_number part)) }
         ensures listed { result ≡ with_number erase_in_display_number erases_in_display number }
     {
         match number {

@@ -86,7 +86,8 @@ impl DecPrivateModeCode {
 
     /// The mode that has this number, and none where no mode has it.
     pub fn from_i64(number: i64) -> Option<Self>
-        ensures { (mode : DecPrivateModeCode) → (result ≡ Some mode) ↔ (number ≡ pos (dec_mode_number mode)) }
+        ensures { (mode : DecPrivateModeCode) → (result ≡ Some mode)
+            ↔ (number ≡ pos (dec_mode_number mode)) }
     {
         match number {
             1 => Some(DecPrivateModeCode::ApplicationCursorKeys),
@@ -155,7 +156,8 @@ impl TerminalModeCode {
 
     /// The mode that has this number, and none where no mode has it.
     pub fn from_i64(number: i64) -> Option<Self>
-        ensures { (mode : TerminalModeCode) → (result ≡ Some mode) ↔ (number ≡ pos (terminal_mode_number mode)) }
+        ensures { (mode : TerminalModeCode) → (result ≡ Some mode)
+            ↔ (number ≡ pos (terminal_mode_number mode)) }
     {
         match number {
             2 => Some(TerminalModeCode::KeyboardAction),

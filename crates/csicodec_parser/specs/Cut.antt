@@ -24,7 +24,8 @@ pub record IsBlock (g : Group) (block more : List CsiParam) (action : Action) : 
 abbrev pub Cut : Group → List CsiParam → List Action → List CsiParam → Type 0
 Cut g body [] rest = body ≡ rest
 Cut g body (action ∷ actions) rest =
-    (block : List CsiParam) × (more : List CsiParam) × (body ≡ block ++ more) × IsBlock g block more action × Cut g more actions rest
+    (block : List CsiParam) × (more : List CsiParam) × (body ≡ block ++ more)
+    × IsBlock g block more action × Cut g more actions rest
 
 -- no piece stands at the front, so that a cut can't be continued here
 abbrev pub IsStuck : Group → List CsiParam → Type 0
@@ -38,4 +39,5 @@ body g list = drop (start g) list
 abbrev pub IsRestAfter : List CsiParam → ℕ → ℕ → List CsiParam → Type 0
 IsRestAfter list final zero rest = rest ≡ list
 IsRestAfter list final (suc given) rest =
-    (actions : List Action) × Cut (group list final) (body (group list final) list) actions rest × (length actions ≡ suc given)
+    (actions : List Action) × Cut (group list final) (body (group list final) list) actions rest
+    × (length actions ≡ suc given)

@@ -34,7 +34,8 @@ dec_group final =
 
 -- without one modes, before h and l
 abbrev pub plain_group : ℕ → Group
-plain_group final = if final == 104 then Modes switch.Set else if final == 108 then Modes switch.Reset else Whole
+plain_group final =
+    if final == 104 then Modes switch.Set else if final == 108 then Modes switch.Reset else Whole
 
 -- before m stand styles, unless the list begins with `>` or `<`
 abbrev pub style_group : Option CsiParam → Group
@@ -75,8 +76,10 @@ BeginsWith n rest = (more : List CsiParam) × (rest ≡ Integer (pos n) ∷ more
 abbrev pub Piece : Group → List CsiParam → ℕ → Action → Type 0
 Piece Whole rest k action = ⊥
 Piece Styles rest k action = (s : sgr_type.Sgr) × sgr_pieces.Piece rest k s × (action ≡ Sgr s)
-Piece (Modes s) rest k action = (n : ℕ) × (m : TerminalMode) × BeginsWith n rest × (k ≡ 1) × (read Terminal (pos n) ≡ Some m) × (action ≡ Mode (switched s m))
-Piece (DecModes c) rest k action = (n : ℕ) × (m : DecPrivateMode) × BeginsWith n rest × (k ≡ 1) × (read Dec (pos n) ≡ Some m) × (action ≡ Mode (changed c m))
+Piece (Modes s) rest k action = (n : ℕ) × (m : TerminalMode) × BeginsWith n rest × (k ≡ 1)
+    × (read Terminal (pos n) ≡ Some m) × (action ≡ Mode (switched s m))
+Piece (DecModes c) rest k action = (n : ℕ) × (m : DecPrivateMode) × BeginsWith n rest × (k ≡ 1)
+    × (read Dec (pos n) ≡ Some m) × (action ≡ Mode (changed c m))
 
 -- ---- what makes a whole list unknown
 

@@ -28,7 +28,8 @@ ActionsOf p actions = Actions p.list p.flag p.final actions
 
 -- memory was refused, or all actions are given
 abbrev pub HasEnded : Progress → Type 0
-HasEnded p = (p.failed ≡ true) ⊎ ((actions : List Action) × ActionsOf p actions × (length actions ≤ p.given))
+HasEnded p =
+    (p.failed ≡ true) ⊎ ((actions : List Action) × ActionsOf p actions × (length actions ≤ p.given))
 
 -- at most so many actions are still to come: one for each unread token, and one for an empty list
 abbrev pub most_left : Progress → ℕ

@@ -16,13 +16,16 @@ abbrev pub Answers : List Action → Progress → Option (Result CSI AllocError)
 Answers actions old None new = HasEnded old × (new ≡ old)
 -- the next action
 Answers actions old (Some (Ok action)) new =
-    (old.failed ≡ false) × (slice_get actions old.given ≡ Some (action_of action)) × (new.given ≡ old.given + 1) × (new.failed ≡ false)
+    (old.failed ≡ false) × (slice_get actions old.given ≡ Some (action_of action))
+    × (new.given ≡ old.given + 1) × (new.failed ≡ false)
 -- memory was refused, where the next action takes some
 Answers actions old (Some (Err e)) new =
-    (old.failed ≡ false) × ((action : Action) × (slice_get actions old.given ≡ Some action) × TakesMemory action) × (new.given ≡ old.given) × (new.failed ≡ true)
+    (old.failed ≡ false) × ((action : Action) × (slice_get actions old.given ≡ Some action)
+    × TakesMemory action) × (new.given ≡ old.given) × (new.failed ≡ true)
 
 -- the run stays one over its list, answers the next action, and the looks stay within their bound
-pub record Nexts (old : Progress) (answer : Option (Result CSI AllocError)) (new : Progress) : Type 0 where
+pub record Nexts (old : Progress) (answer : Option (Result CSI AllocError))
+    (new : Progress) : Type 0 where
   pub list : new.list ≡ old.list
   pub flag : new.flag ≡ old.flag
   pub final : new.final ≡ old.final
@@ -33,7 +36,8 @@ pub record Nexts (old : Progress) (answer : Option (Result CSI AllocError)) (new
 -- the action that lends its tokens so, with the flag and the final character of the list
 abbrev pub IsRef : ActionRef → Bool → ℕ → Action → Type 0
 IsRef (refs.Small csi) flag final action = action ≡ action_of csi
-IsRef (refs.Whole list) flag final action = action ≡ unwrap_or (boxed list.now final) (Unspecified list.now flag final)
+IsRef (refs.Whole list) flag final action =
+    action ≡ unwrap_or (boxed list.now final) (Unspecified list.now flag final)
 IsRef (refs.Unknown list) flag final action = action ≡ Unspecified list.now flag final
 IsRef (refs.UnknownMode list) flag final action = action ≡ Unspecified (P 63 ∷ list.now) flag final
 
@@ -41,7 +45,8 @@ IsRef (refs.UnknownMode list) flag final action = action ≡ Unspecified (P 63 �
 abbrev pub AnswersRef : List Action → Progress → Option ActionRef → Progress → Type 0
 AnswersRef actions old None new = HasEnded old × (new ≡ old)
 AnswersRef actions old (Some r) new =
-    (old.failed ≡ false) × ((action : Action) × (slice_get actions old.given ≡ Some action) × IsRef r old.flag old.final action) × (new.given ≡ old.given + 1) × (new.failed ≡ false)
+    (old.failed ≡ false) × ((action : Action) × (slice_get actions old.given ≡ Some action)
+    × IsRef r old.flag old.final action) × (new.given ≡ old.given + 1) × (new.failed ≡ false)
 
 pub record NextsRef (old : Progress) (answer : Option ActionRef) (new : Progress) : Type 0 where
   pub list : new.list ≡ old.list

@@ -15,7 +15,8 @@ remainder g [] flag final = []
 remainder g (t ∷ ts) flag final = Unspecified (marked g (t ∷ ts)) flag final ∷ []
 
 -- the actions of a cut that can't be continued, and then what is left
-pub record Segmented (g : Group) (list : List CsiParam) (flag : Bool) (final : ℕ) (actions : List Action) : Type 0 where
+pub record Segmented (g : Group) (list : List CsiParam) (flag : Bool) (final : ℕ)
+    (actions : List Action) : Type 0 where
   pub pieces : List Action
   pub rest : List CsiParam
   pub cut : Cut g list pieces rest
@@ -52,8 +53,10 @@ WholeActions list flag final actions =
 abbrev pub ActionsIn : Group → List CsiParam → Bool → ℕ → List Action → Type 0
 ActionsIn groups.Whole list flag final actions = WholeActions list flag final actions
 ActionsIn groups.Styles list flag final actions = CutActions groups.Styles list flag final actions
-ActionsIn (groups.Modes s) list flag final actions = CutActions (groups.Modes s) list flag final actions
-ActionsIn (groups.DecModes c) list flag final actions = CutActions (groups.DecModes c) list flag final actions
+ActionsIn (groups.Modes s) list flag final actions =
+    CutActions (groups.Modes s) list flag final actions
+ActionsIn (groups.DecModes c) list flag final actions =
+    CutActions (groups.DecModes c) list flag final actions
 
 -- these are the actions of the list before the final character
 abbrev pub Actions : List CsiParam → Bool → ℕ → List Action → Type 0

@@ -161,7 +161,8 @@ impl CSI {
         alloc: Global,
         parameters_truncated: bool,
     ) -> Result<bool, AllocError>
-        ensures exact { IfOk result (λ yes. IsTrue yes ↔ Canonical (action_of self.now) parameters_truncated) }
+        ensures exact { IfOk result (λ yes. IsTrue yes
+            ↔ Canonical (action_of self.now) parameters_truncated) }
         ensures memory { IsUnspecified (action_of self.now) ⊎ IsOk result }
     {
         match self {

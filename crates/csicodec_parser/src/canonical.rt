@@ -78,7 +78,8 @@ fn is_uncut(group: Group, params: &[CsiParam], control: char) -> bool
 
 /// None of the rules of its group reads even the front of the list.
 fn is_unknown(alloc: Global, params: &[CsiParam], control: char) -> Result<bool, AllocError>
-    ensures { IfOk result (λ yes. IsTrue yes ↔ IsUnknownIn (group_of_list params.now control) params.now control) }
+    ensures { IfOk result (λ yes. IsTrue yes
+        ↔ IsUnknownIn (group_of_list params.now control) params.now control) }
 {
     match group_of(params, control) {
         Group::Whole => is_unread(alloc, params, control),
@@ -89,7 +90,8 @@ fn is_unknown(alloc: Global, params: &[CsiParam], control: char) -> Result<bool,
 
 /// A sequence can have the list and the final character, and they are read with the same flag.
 fn is_written(unknown: &Unspecified, parameters_truncated: bool) -> bool
-    ensures { IsTrue result ↔ ((unknown.now.parameters_truncated ≡ parameters_truncated) × Spellable unknown.now.params.items × IsFinal unknown.now.control) }
+    ensures { IsTrue result ↔ ((unknown.now.parameters_truncated ≡ parameters_truncated)
+        × Spellable unknown.now.params.items × IsFinal unknown.now.control) }
 {
     unknown.parameters_truncated == parameters_truncated
         && is_final(unknown.control)
@@ -101,7 +103,8 @@ pub(crate) fn is_canonical_unknown(
     unknown: &Unspecified,
     parameters_truncated: bool,
 ) -> Result<bool, AllocError>
-    ensures { IfOk result (λ yes. IsTrue yes ↔ IsCanonicalUnknown unknown.now.params.items unknown.now.parameters_truncated parameters_truncated unknown.now.control) }
+    ensures { IfOk result (λ yes. IsTrue yes
+        ↔ IsCanonicalUnknown unknown.now.params.items unknown.now.parameters_truncated parameters_truncated unknown.now.control) }
 {
     if !is_written(unknown, parameters_truncated) {
         return Ok(false);

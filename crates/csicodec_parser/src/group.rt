@@ -70,7 +70,8 @@ impl Group {
 /// The attribute at the front, and its number of tokens.
 #[inline(always)]
 pub(crate) fn style_front(rest: &[CsiParam]) -> Option<(Sgr, usize)>
-    ensures answer { (list : List CsiParam) → take 13 list ≡ take 13 rest.now → styled result ≡ front Styles list }
+    ensures answer { (list : List CsiParam) → take 13 list ≡ take 13 rest.now
+        → styled result ≡ front Styles list }
     ensures within { IfSome result (λ f. (0 < f.1) × (f.1 ≤ length rest.now)) }
 {
     sgr_front(rest)
@@ -79,7 +80,8 @@ pub(crate) fn style_front(rest: &[CsiParam]) -> Option<(Sgr, usize)>
 /// The known piece at the front, and its number of tokens.
 #[inline(always)]
 pub(crate) fn front(group: Group, rest: &[CsiParam]) -> Option<(CSI, usize)>
-    ensures answer { (list : List CsiParam) → take 13 list ≡ take 13 rest.now → found result ≡ front group list }
+    ensures answer { (list : List CsiParam) → take 13 list ≡ take 13 rest.now
+        → found result ≡ front group list }
     ensures within { IfSome result (λ f. (0 < f.1) × (f.1 ≤ length rest.now)) }
 {
     match group {

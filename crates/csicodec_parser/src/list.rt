@@ -32,7 +32,9 @@ pub fn list_into<L: Look, S: Sink>(
     sink: &mut S,
 ) -> Result<(), AllocError>
     requires { L.passed look.old ≡ 0 }
-    ensures taken { OnOk result ((all : List Action) × Actions (L.tokens look.old) truncated control all × ((before : List Action) → S.holds sink.old before → S.holds sink.new (before ++ all))) }
+    ensures taken { OnOk result ((all : List Action)
+        × Actions (L.tokens look.old) truncated control all
+        × ((before : List Action) → S.holds sink.old before → S.holds sink.new (before ++ all))) }
     ensures list { L.tokens look.new ≡ L.tokens look.old }
     ensures counted { L.looks look.old ≤ L.looks look.new }
     ensures cheap { L.looks look.new ≤ L.looks look.old + 128 * (length (L.tokens look.old) + 1) }
@@ -58,7 +60,8 @@ pub fn list_into<L: Look, S: Sink>(
 #[inline(never)]
 fn rest_into<L: Look, S: Sink>(look: &mut L, end: End, sink: &mut S) -> Result<(), AllocError>
     requires { L.passed look.old ≡ 0 }
-    ensures taken { OnOk result ((before : List Action) → S.holds sink.old before → S.holds sink.new (before ++ rest_action Whole (L.tokens look.old) end.truncated end.control ∷ [])) }
+    ensures taken { OnOk result ((before : List Action) → S.holds sink.old before
+        → S.holds sink.new (before ++ rest_action Whole (L.tokens look.old) end.truncated end.control ∷ [])) }
     ensures list { L.tokens look.new ≡ L.tokens look.old }
     ensures counted { L.looks look.old ≤ L.looks look.new }
     ensures costs { L.looks look.new ≤ L.looks look.old + 8 * length (L.tokens look.old) }
@@ -100,7 +103,8 @@ fn pieces_into<L: Look, S: Sink>(
     requires passed { L.passed look.old ≡ 0 }
     requires group { group ≡ group_of_list (L.tokens look.old) end.control }
     requires cut { group ≡ Whole → ⊥ }
-    ensures taken { OnOk result ((before : List Action) → S.holds sink.old before → S.holds sink.new (before ++ actions (L.tokens look.old) end.truncated end.control)) }
+    ensures taken { OnOk result ((before : List Action) → S.holds sink.old before
+        → S.holds sink.new (before ++ actions (L.tokens look.old) end.truncated end.control)) }
     ensures list { L.tokens look.new ≡ L.tokens look.old }
     ensures counted { L.looks look.old ≤ L.looks look.new }
     ensures costs { L.looks look.new ≤ L.looks look.old + 124 * length (L.tokens look.old) }
@@ -131,11 +135,16 @@ fn block_into<L: Look, S: Sink>(
     sink: &mut S,
 ) -> Result<bool, AllocError>
     requires { L.passed look.old ≤ length (L.tokens look.old) }
-    ensures some { IfOk result (λ known. known ≡ true → (action : Action) × (len : ℕ) × (front group (drop (L.passed look.old) (L.tokens look.old)) ≡ Some (action, len)) × (0 < len)
+    ensures some { IfOk result (λ known. known ≡ true → (action : Action) × (len : ℕ)
+        × (front group (drop (L.passed look.old) (L.tokens look.old)) ≡ Some (action, len))
+        × (0 < len)
         × (drop (L.passed look.new) (L.tokens look.old) ≡ drop (with_semicolon len (slice_get (drop (L.passed look.old) (L.tokens look.old)) len)) (drop (L.passed look.old) (L.tokens look.old)))
-        × ((before : List Action) → S.holds sink.old before → S.holds sink.new (before ++ action ∷ []))) }
+        × ((before : List Action) → S.holds sink.old before
+        → S.holds sink.new (before ++ action ∷ []))) }
     ensures forward { IfOk result (λ known. known ≡ true → L.passed look.old < L.passed look.new) }
-    ensures none { IfOk result (λ known. known ≡ false → (front group (drop (L.passed look.old) (L.tokens look.old)) ≡ None) × (sink.new ≡ sink.old) × (L.passed look.new ≡ L.passed look.old)) }
+    ensures none { IfOk result (λ known. known ≡ false
+        → (front group (drop (L.passed look.old) (L.tokens look.old)) ≡ None)
+        × (sink.new ≡ sink.old) × (L.passed look.new ≡ L.passed look.old)) }
     ensures list { L.tokens look.new ≡ L.tokens look.old }
     ensures within { L.passed look.new ≤ length (L.tokens look.new) }
     ensures counted { L.looks look.old ≤ L.looks look.new }
@@ -156,9 +165,13 @@ fn piece_into<L: Look, S: Sink>(
     look: &mut L,
     sink: &mut S,
 ) -> Result<Option<usize>, AllocError>
-    ensures none { IfOk result (λ len. len ≡ None → (front group (drop (L.passed look.old) (L.tokens look.old)) ≡ None) × (sink.new ≡ sink.old)) }
-    ensures some { IfOk result (λ o. IfSome o (λ len. (action : Action) × (front group (drop (L.passed look.old) (L.tokens look.old)) ≡ Some (action, len))
-        × ((before : List Action) → S.holds sink.old before → S.holds sink.new (before ++ action ∷ [])))) }
+    ensures none { IfOk result (λ len. len ≡ None
+        → (front group (drop (L.passed look.old) (L.tokens look.old)) ≡ None)
+        × (sink.new ≡ sink.old)) }
+    ensures some { IfOk result (λ o. IfSome o (λ len. (action : Action)
+        × (front group (drop (L.passed look.old) (L.tokens look.old)) ≡ Some (action, len))
+        × ((before : List Action) → S.holds sink.old before
+        → S.holds sink.new (before ++ action ∷ [])))) }
     ensures short { IfOk result (λ o. IfSome o (λ len. (0 < len) × (len ≤ 13))) }
     ensures list { L.tokens look.new ≡ L.tokens look.old }
     ensures passes { L.passed look.new ≡ L.passed look.old }
@@ -179,9 +192,12 @@ fn first_into<L: Look, S: Sink>(
     look: &mut L,
     sink: &mut S,
 ) -> Result<bool, AllocError>
-    ensures some { IfOk result (λ known. known ≡ true → (action : Action) × (front group (drop (L.passed look.old) (L.tokens look.old)) ≡ Some (action, 1))
-        × ((before : List Action) → S.holds sink.old before → S.holds sink.new (before ++ action ∷ []))) }
-    ensures there { IfOk result (λ known. known ≡ true → L.passed look.old < length (L.tokens look.old)) }
+    ensures some { IfOk result (λ known. known ≡ true → (action : Action)
+        × (front group (drop (L.passed look.old) (L.tokens look.old)) ≡ Some (action, 1))
+        × ((before : List Action) → S.holds sink.old before
+        → S.holds sink.new (before ++ action ∷ []))) }
+    ensures there { IfOk result (λ known. known ≡ true
+        → L.passed look.old < length (L.tokens look.old)) }
     ensures none { IfOk result (λ known. known ≡ false → sink.new ≡ sink.old) }
     ensures list { L.tokens look.new ≡ L.tokens look.old }
     ensures passes { L.passed look.new ≡ L.passed look.old }

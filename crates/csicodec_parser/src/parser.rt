@@ -216,7 +216,8 @@ fn rest_action<L: Look>(
 /// The action of all unread tokens, with these lent. They are passed.
 fn rest_ref<'a>(group: Group, look: &mut Tokens<'a>) -> ActionRef<'a>
     requires { look.old.passed ≤ length look.old.list }
-    ensures is { (flag : Bool) (final : ℕ) → IsRef result flag final (rest_action group (drop look.old.passed look.old.list) flag final) }
+    ensures is { (flag : Bool) (final : ℕ)
+        → IsRef result flag final (rest_action group (drop look.old.passed look.old.list) flag final) }
     ensures all { look.new.passed ≡ length look.new.list }
     ensures list { look.new.list ≡ look.old.list }
     ensures costs { look.new.looks + look.old.passed ≡ look.old.looks + length look.old.list }
@@ -235,7 +236,8 @@ fn rest_ref<'a>(group: Group, look: &mut Tokens<'a>) -> ActionRef<'a>
 #[inline(always)]
 pub(crate) fn whole_list<L: Look>(look: &mut L, control: char) -> Option<CSI>
     requires { L.passed look.old ≡ 0 }
-    ensures some { IfSome result (λ action. whole (L.tokens look.old) control ≡ Some (action_of action)) }
+    ensures some { IfSome result (λ action.
+        whole (L.tokens look.old) control ≡ Some (action_of action)) }
     ensures all { IfSome result (λ _. L.passed look.new ≡ length (L.tokens look.new)) }
     ensures none { IfNone result (unboxed (L.tokens look.old) control ≡ None) }
     ensures stays { IfNone result (L.passed look.new ≡ 0) }
@@ -257,7 +259,8 @@ pub(crate) fn whole_list<L: Look>(look: &mut L, control: char) -> Option<CSI>
 fn first_action<L: Look>(group: Group, look: &mut L, control: char) -> Option<CSI>
     requires passed { L.passed look.old ≡ 0 }
     requires group { group ≡ group_of_list (L.tokens look.old) control }
-    ensures some { IfSome result (λ action. BeginsAs group (L.tokens look.old) control (L.passed look.new) (action_of action)) }
+    ensures some { IfSome result (λ action.
+        BeginsAs group (L.tokens look.old) control (L.passed look.new) (action_of action)) }
     ensures none { IfNone result (IsRestAlone group (L.tokens look.old) control (L.passed look.new)) }
     ensures list { L.tokens look.new ≡ L.tokens look.old }
     ensures cut { IfSome result (λ _. L.passed look.new < length (L.tokens look.new) →
@@ -280,14 +283,16 @@ fn body_action<L: Look>(group: Group, look: &mut L) -> Option<CSI>
     requires passed { L.passed look.old ≡ 0 }
     requires start { start group ≤ length (L.tokens look.old) }
     requires cut { group ≡ Group.Whole → ⊥ }
-    ensures some { IfSome result (λ action. BodyBeginsAs group (L.tokens look.old) (L.passed look.new) (action_of action)) }
+    ensures some { IfSome result (λ action.
+        BodyBeginsAs group (L.tokens look.old) (L.passed look.new) (action_of action)) }
     ensures none { IfNone result (BodyIsRestAlone group (L.tokens look.old) (L.passed look.new)) }
     ensures list { L.tokens look.new ≡ L.tokens look.old }
     ensures cut { IfSome result (λ _. L.passed look.new < length (L.tokens look.new) →
         CutsOn group (L.tokens look.old) (start group) (L.passed look.new)) }
     ensures within { L.passed look.new ≤ length (L.tokens look.new) }
     ensures counted { L.looks look.old ≤ L.looks look.new }
-    ensures going { IfSome result (λ _. L.looks look.new ≤ L.looks look.old + 115 * L.passed look.new) }
+    ensures going { IfSome result (λ _.
+        L.looks look.new ≤ L.looks look.old + 115 * L.passed look.new) }
     ensures left { IfNone result (PaysRest 115 (length (L.tokens look.old)) (L.passed look.new) (L.looks look.old) (L.looks look.new)) }
 {
     look.pass(group.start());
@@ -305,8 +310,10 @@ fn body_action<L: Look>(group: Group, look: &mut L) -> Option<CSI>
 fn group_at<L: Look>(stage: Stage, look: &mut L, control: char) -> Option<Group>
     requires fresh { stage ≡ Stage.Fresh → L.passed look.old ≡ 0 }
     ensures none { IfNone result (
-        ((flag : Bool) → left_at stage flag control (L.tokens look.old) (L.passed look.old) ≡ []) × (look.new ≡ look.old)) }
-    ensures some { IfSome result (λ _. CanGo stage (L.passed look.old) (length (L.tokens look.old))) }
+        ((flag : Bool) → left_at stage flag control (L.tokens look.old) (L.passed look.old) ≡ [])
+        × (look.new ≡ look.old)) }
+    ensures some { IfSome result (λ _.
+        CanGo stage (L.passed look.old) (length (L.tokens look.old))) }
     ensures group { IfSome result (λ g. GoesBy stage (L.tokens look.old) control g) }
     ensures list { L.tokens look.new ≡ L.tokens look.old }
     ensures passes { L.passed look.new ≡ L.passed look.old }
@@ -332,7 +339,8 @@ fn action_at<L: Look>(stage: Stage, group: Group, look: &mut L, control: char) -
     ensures list { L.tokens look.new ≡ L.tokens look.old }
     ensures cut { IfSome result (λ _. L.passed look.new < length (L.tokens look.new) →
         CutsOn group (L.tokens look.old) (from_at stage group (L.passed look.old)) (L.passed look.new)) }
-    ensures forward { IfSome result (λ _. L.passed look.old < length (L.tokens look.old) → L.passed look.old < L.passed look.new) }
+    ensures forward { IfSome result (λ _. L.passed look.old < length (L.tokens look.old)
+        → L.passed look.old < L.passed look.new) }
     ensures within { L.passed look.new ≤ length (L.tokens look.new) }
     ensures counted { L.looks look.old ≤ L.looks look.new }
     ensures going { IfSome result (λ _.
@@ -469,7 +477,8 @@ impl<'a> Run<Tokens<'a>> {
     /// run.rest()        // None
     /// ```
     pub fn rest(&self) -> Option<&'a [CsiParam]>
-        ensures cut { IfSome result (λ rest. IsRestAfter self.now.list self.now.final self.now.given rest.now) }
+        ensures cut { IfSome result (λ rest.
+            IsRestAfter self.now.list self.now.final self.now.given rest.now) }
         ensures suffix { IfSome result (λ rest. rest.now ≡ drop self.now.passed self.now.list) }
         ensures ended { IsNone result ↔ HasEnded self.now }
     {

@@ -23,21 +23,27 @@ pub trait Sink {
 
     /// Takes one more. After an `Err` nothing is said of what it holds.
     fn take(&mut self, action: CSI) -> Result<(), AllocError>
-        ensures { OnOk result ((before : List Action) → holds self.old before → holds self.new (before ++ action_of action ∷ [])) };
+        ensures { OnOk result ((before : List Action) → holds self.old before
+            → holds self.new (before ++ action_of action ∷ [])) };
 
     /// Takes the first token of a list, where it is a piece by itself, whatever follows it. After `false` nothing was taken,
     /// and a piece may stand there all the same. After an `Err` nothing is said of what it holds.
     fn take_first(&mut self, group: Group, first: CsiParam) -> Result<bool, AllocError>
-        ensures some { IfOk result (λ known. known ≡ true → (action : Action) × ((others : List CsiParam) → Piece group (first ∷ others) 1 action)
-            × ((before : List Action) → holds self.old before → holds self.new (before ++ action ∷ []))) }
+        ensures some { IfOk result (λ known. known ≡ true → (action : Action)
+            × ((others : List CsiParam) → Piece group (first ∷ others) 1 action)
+            × ((before : List Action) → holds self.old before
+            → holds self.new (before ++ action ∷ []))) }
         ensures none { IfOk result (λ known. known ≡ false → self.new ≡ self.old) };
 
     /// Takes the known piece at the front, and answers its number of tokens. After an `Err` nothing is said of what it
     /// holds.
     fn take_piece(&mut self, group: Group, rest: &[CsiParam]) -> Result<Option<usize>, AllocError>
-        ensures none { IfOk result (λ len. len ≡ None → IsStuck group rest.now × (self.new ≡ self.old)) }
-        ensures some { IfOk result (λ o. IfSome o (λ len. (action : Action) × Piece group rest.now len action
-            × ((before : List Action) → holds self.old before → holds self.new (before ++ action ∷ [])))) }
+        ensures none { IfOk result (λ len. len ≡ None → IsStuck group rest.now
+            × (self.new ≡ self.old)) }
+        ensures some { IfOk result (λ o. IfSome o (λ len. (action : Action)
+            × Piece group rest.now len action
+            × ((before : List Action) → holds self.old before
+            → holds self.new (before ++ action ∷ [])))) }
         ensures within { IfOk result (λ o. IfSome o (λ len. (0 < len) × (len ≤ length rest.now))) };
 
     /// Takes an unknown action of these tokens, with what stands before the pieces of the group ahead of them. After an
@@ -50,7 +56,8 @@ pub trait Sink {
         truncated: bool,
         control: char,
     ) -> Result<(), AllocError>
-        ensures { OnOk result ((before : List Action) → holds self.old before → holds self.new (before ++ Unknown (marked group rest.now) truncated control ∷ [])) };
+        ensures { OnOk result ((before : List Action) → holds self.old before
+            → holds self.new (before ++ Unknown (marked group rest.now) truncated control ∷ [])) };
 }
 
 impl Sink for Vec<CSI> {
@@ -122,7 +129,8 @@ impl Texts {
     /// Takes an attribute.
     #[inline(always)]
     fn take_style(&mut self, sgr: &Sgr) -> Result<(), AllocError>
-        ensures { OnOk result ((before : List Action) → self.old.bytes ≡ texts before → self.new.bytes ≡ texts (before ++ Styled sgr.now ∷ [])) }
+        ensures { OnOk result ((before : List Action) → self.old.bytes ≡ texts before
+            → self.new.bytes ≡ texts (before ++ Styled sgr.now ∷ [])) }
     {
         append_style(&mut self.bytes, sgr)
     }
@@ -203,7 +211,8 @@ fn append_mode(mark: &str, number: i64, end: u8, out: &mut TextBuffer) -> Result
     requires short { length mark.now ≤ 1 }
     requires ascii { IsAscii mark.now }
     requires end { end < 128 }
-    ensures known { IfOk result (λ known. known ≡ true → (n : ℕ) × (number ≡ pos n) × (n < 65536) × (out.new ≡ out.old ++ 27 ∷ 91 ∷ (mark.now ++ (decimal n ++ end ∷ [])))) }
+    ensures known { IfOk result (λ known. known ≡ true → (n : ℕ) × (number ≡ pos n) × (n < 65536)
+        × (out.new ≡ out.old ++ 27 ∷ 91 ∷ (mark.now ++ (decimal n ++ end ∷ [])))) }
     ensures other { IfOk result (λ known. known ≡ false → out.new ≡ out.old) }
     ensures none { IfOk result (λ known. known ≡ false → (n : ℕ) → number ≡ pos n → 65536 ≤ n) }
 {
@@ -248,7 +257,8 @@ fn append_unknown(
     rest: &[CsiParam],
     control: char,
 ) -> Result<(), AllocError>
-    ensures { OnOk result ((flag : Bool) → out.new ≡ out.old ++ text (Unknown (marked group rest.now) flag control)) }
+    ensures { OnOk result ((flag : Bool)
+        → out.new ≡ out.old ++ text (Unknown (marked group rest.now) flag control)) }
 {
     out.push_slice(b"\x1b[")?;
     if let Group::DecModes(_) = group {

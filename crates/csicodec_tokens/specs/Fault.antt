@@ -10,11 +10,13 @@ use Rattle.csicodec_tokens.specs.Sequence.{IsBodyByte, Reads}
 -- intermediate and parameter bytes in any order, in which no run of digits has a value above the largest
 pub record IsBody (text : List ℕ) : Type 0 where
   pub bytes : AllByRecursion IsBodyByte text
-  pub runs : (before run after : List ℕ) → text ≡ before ++ (run ++ after) → AreDigits run → value run ≤ largest
+  pub runs : (before run after : List ℕ) → text ≡ before ++ (run ++ after) → AreDigits run
+      → value run ≤ largest
 
 -- the beginning of some sequence, without its final byte
 abbrev pub Begins : List ℕ → Type 0
-Begins bytes = (bytes ≡ []) ⊎ (bytes ≡ 27 ∷ []) ⊎ ((body : List ℕ) × (bytes ≡ 27 ∷ 91 ∷ body) × IsBody body)
+Begins bytes =
+    (bytes ≡ []) ⊎ (bytes ≡ 27 ∷ []) ⊎ ((body : List ℕ) × (bytes ≡ 27 ∷ 91 ∷ body) × IsBody body)
 
 -- no front is a sequence
 abbrev pub NoSeq : List ℕ → Type 0
@@ -34,7 +36,8 @@ IsBad b = (b < 32) ⊎ (126 < b)
 abbrev pub Fault : List ℕ → ReadError → Type 0
 Fault bytes (NotCsi place) = IsLeast bytes place × (place < 2)
 Fault bytes (BadByte place) = IsLeast bytes place × (2 ≤ place) × IsBad (slice_index bytes place)
-Fault bytes (NumberTooLarge place) = IsLeast bytes place × (2 ≤ place) × ¬ IsBad (slice_index bytes place)
+Fault bytes (NumberTooLarge place) =
+    IsLeast bytes place × (2 ≤ place) × ¬ IsBad (slice_index bytes place)
 Fault bytes (Truncated place) = Begins bytes × (place ≡ length bytes)
 Fault bytes Memory = ⊥
 
@@ -52,5 +55,6 @@ IsMetAt Memory n = ⊥
 
 -- why these bytes may be refused so, where there is room for a number of tokens already
 abbrev pub Refuses : List ℕ → ℕ → ReadError → Type 0
-Refuses bytes room Memory = (list : List CsiParam) × (final : ℕ) × (rest : List ℕ) × Reads bytes list final rest × (room < length list)
+Refuses bytes room Memory = (list : List CsiParam) × (final : ℕ) × (rest : List ℕ)
+    × Reads bytes list final rest × (room < length list)
 Refuses bytes room e = FaultOf bytes e

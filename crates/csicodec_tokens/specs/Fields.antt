@@ -18,12 +18,14 @@ BeginsEmpty (Some z ∷ f) = ⊥
 -- an empty field is `;`; a number has the `;` behind it, or stands alone where the next field isn't empty
 abbrev pub IsBlock : List CsiParam → Option ℤ → List (Option ℤ) → Type 0
 IsBlock block None next = block ≡ separator ∷ []
-IsBlock block (Some z) next = (block ≡ Integer z ∷ separator ∷ []) ⊎ ((block ≡ Integer z ∷ []) × ¬ BeginsEmpty next)
+IsBlock block (Some z) next =
+    (block ≡ Integer z ∷ separator ∷ []) ⊎ ((block ≡ Integer z ∷ []) × ¬ BeginsEmpty next)
 
 -- the list is the join of one block for each field
 abbrev pub Fields : List CsiParam → List (Option ℤ) → Type 0
 Fields list [] = list ≡ []
-Fields list (x ∷ f) = (block : List CsiParam) × (rest : List CsiParam) × (list ≡ block ++ rest) × IsBlock block x f × Fields rest f
+Fields list (x ∷ f) = (block : List CsiParam) × (rest : List CsiParam) × (list ≡ block ++ rest)
+    × IsBlock block x f × Fields rest f
 
 -- the fields with one more ahead, if there are any
 abbrev pub with_field : Option ℤ → Option (List (Option ℤ)) → Option (List (Option ℤ))

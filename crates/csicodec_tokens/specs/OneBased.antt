@@ -14,6 +14,7 @@ or_default default (suc n) = suc n
 
 -- what a token counts as: a number from 0 to the largest by itself, 0 as the default, and nothing else
 abbrev pub number_or : ℕ → CsiParam → Option ℕ
-number_or default (Integer (pos n)) = if nat_lt n (2 ^ 32) then Some (or_default default n) else None
+number_or default (Integer (pos n)) =
+    if nat_lt n (2 ^ 32) then Some (or_default default n) else None
 number_or default (Integer (negsuc n)) = None
 number_or default (P b) = None

@@ -20,7 +20,8 @@ SpellsToken text (P b) = text ≡ b ∷ []
 -- the text is one spelling for each token, in turn
 abbrev pub Spells : List ℕ → List CsiParam → Type 0
 Spells text [] = text ≡ []
-Spells text (t ∷ list) = (front : List ℕ) × (rest : List ℕ) × (text ≡ front ++ rest) × SpellsToken front t × Spells rest list
+Spells text (t ∷ list) = (front : List ℕ) × (rest : List ℕ) × (text ≡ front ++ rest)
+    × SpellsToken front t × Spells rest list
 
 -- a number from 0 to the largest, or an intermediate or parameter byte that is no digit
 abbrev pub IsSpellable : CsiParam → Type 0

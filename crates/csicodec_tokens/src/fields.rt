@@ -46,7 +46,8 @@ impl Cracked {
         // What is answered are fields of the list.
         ensures found { IfOk result (λ cracked. Fields params.now cracked) }
         // Where a list has fields, they are answered, unless there is no memory for them.
-        ensures only { (f : List (Option ℤ)) → Fields params.now f → MatchResult result (λ cracked. cracked ≡ f) (λ e. (e ≡ Memory) × (0 < length f)) }
+        ensures only { (f : List (Option ℤ)) → Fields params.now f
+            → MatchResult result (λ cracked. cracked ≡ f) (λ e. (e ≡ Memory) × (0 < length f)) }
         ensures refused { IfErr result (RefusesFields params.now) }
     {
         if !are_field_tokens(params) {
@@ -113,7 +114,8 @@ fn first_field(params: &[CsiParam]) -> Option<(Option<CsiParam>, &[CsiParam])>
 /// Each field in turn.
 fn all_fields(alloc: Global, params: &[CsiParam]) -> Result<Vec<Option<CsiParam>>, AllocError>
     requires { list_all is_field_token params.now ≡ true }
-    ensures ok { IfOk result (λ v. AllByRecursion IsField v.items × (fields_of params.now ≡ Some (map number_in v.items))) }
+    ensures ok { IfOk result (λ v. AllByRecursion IsField v.items
+        × (fields_of params.now ≡ Some (map number_in v.items))) }
     ensures err { OnErr result (0 < length params.now) }
 {
     let mut fields = Vec::new(alloc);

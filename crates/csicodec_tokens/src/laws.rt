@@ -22,7 +22,8 @@ pub fn one_fault()
 /// The beginnings of sequences are the bytes that go on to a sequence, by at least its final byte.
 pub fn beginnings_go_on()
     ensures { (bytes : List ℕ) → Begins bytes ↔
-        ((byte : ℕ) × (more : List ℕ) × (list : List CsiParam) × (final : ℕ) × Seq (bytes ++ byte ∷ more) list final) }
+        ((byte : ℕ) × (more : List ℕ) × (list : List CsiParam) × (final : ℕ)
+        × Seq (bytes ++ byte ∷ more) list final) }
 {}
 
 /// What a spellable list prints is one of its spellings.
@@ -34,11 +35,13 @@ pub fn printed_is_spelled()
 /// A list has at most one list of fields.
 #[tactic(auto, using(crate::proofs::FieldsOf::one_fields))]
 pub fn one_fields()
-    ensures { (list : List CsiParam) (f g : List (Option ℤ)) → Fields list f → Fields list g → f ≡ g }
+    ensures { (list : List CsiParam) (f g : List (Option ℤ)) → Fields list f → Fields list g
+        → f ≡ g }
 {}
 
 /// The fields of a list are found by going through it, token by token; a list that has none gives none so.
 #[tactic(auto, using(crate::proofs::FieldsOf::fields_in_turn))]
 pub fn fields_in_turn()
-    ensures { (list : List CsiParam) (f : List (Option ℤ)) → Fields list f ↔ (fields_of list ≡ Some f) }
+    ensures { (list : List CsiParam) (f : List (Option ℤ)) → Fields list f
+        ↔ (fields_of list ≡ Some f) }
 {}

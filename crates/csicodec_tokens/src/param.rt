@@ -119,7 +119,8 @@ impl OneBased {
     /// The number of a parameter that may be left out, which gives 1. `NotSpelled` where `from_esc_param` refuses it.
     pub fn from_optional_esc_param(param: Option<&CsiParam>) -> Result<Self, NotSpelled>
         ensures none { IsNone param.entry → result ≡ Ok 1 }
-        ensures some { IfSome param.entry (λ token. result ≡ ok_or (number_or 1 token.now) (record {})) }
+        ensures some { IfSome param.entry (λ token.
+            result ≡ ok_or (number_or 1 token.now) (record {})) }
     {
         match param {
             None => Ok(OneBased::new(1)),

@@ -97,7 +97,8 @@ const FEW: u64 = 100_000_000;
 /// The number with one more digit of that value, if it isn't too large.
 #[cold]
 fn with_last_digit(number: u64, value: u64) -> Option<u64>
-    ensures { MatchOption result (largest < 10 * number + value) (λ n. (n ≡ 10 * number + value) × (n ≤ largest)) }
+    ensures { MatchOption result (largest < 10 * number + value) (λ n. (n ≡ 10 * number + value)
+        × (n ≤ largest)) }
 {
     let longer = number.checked_mul(10)?.checked_add(value)?;
     if longer <= LARGEST {
@@ -111,7 +112,8 @@ fn with_last_digit(number: u64, value: u64) -> Option<u64>
 #[inline(always)]
 fn with_digit(number: u64, digit: u8) -> Option<u64>
     requires { IsDigit digit }
-    ensures { MatchOption result (largest < 10 * number + (digit - 48)) (λ n. (n ≡ 10 * number + (digit - 48)) × (n ≤ largest)) }
+    ensures { MatchOption result (largest < 10 * number + (digit - 48)) (λ n.
+        (n ≡ 10 * number + (digit - 48)) × (n ≤ largest)) }
 {
     let value = u64::from(digit - b'0');
     if number < FEW {
@@ -127,7 +129,8 @@ fn with_digit(number: u64, digit: u8) -> Option<u64>
 #[tactic(auto, using(crate::proofs::Reading::first_cut, crate::proofs::Reading::one_digit, crate::proofs::Reading::one_more_digit))]
 fn number_front(first: u8, text: &[u8]) -> Result<(u64, &[u8]), &[u8]>
     requires { IsDigit first }
-    ensures { MatchResult result (λ x. IsNumber first text.now x.0 x.1.now) (λ left. IsTooLarge first text.now left.now) }
+    ensures { MatchResult result (λ x.
+        IsNumber first text.now x.0 x.1.now) (λ left. IsTooLarge first text.now left.now) }
 {
     let mut number = u64::from(first - b'0');
     let mut rest = text;
@@ -153,7 +156,8 @@ enum Part<'a> {
 fn part_front<'a>(bytes: &[u8], rest: &'a [u8]) -> Result<Part<'a>, ReadError>
     requires { length rest.now ≤ length bytes.now }
     ensures part { IfOk result (IsPart rest.now) }
-    ensures fault { IfErr result (λ e. (list : List CsiParam) → HasRead bytes.now list rest.now → FaultOf bytes.now e) }
+    ensures fault { IfErr result (λ e. (list : List CsiParam) → HasRead bytes.now list rest.now
+        → FaultOf bytes.now e) }
 {
     let at = bytes.len() - rest.len();
     if let [digit @ b'0'..=b'9', others @ ..] = rest {
@@ -175,7 +179,8 @@ fn part_front<'a>(bytes: &[u8], rest: &'a [u8]) -> Result<Part<'a>, ReadError>
 
 /// The bytes behind ESC and '['.
 fn behind_introducer(bytes: &[u8]) -> Result<&[u8], ReadError>
-    ensures { MatchResult result (λ body. bytes.now ≡ 27 ∷ 91 ∷ body.now) (λ e. FaultOf bytes.now e) }
+    ensures { MatchResult result (λ body.
+        bytes.now ≡ 27 ∷ 91 ∷ body.now) (λ e. FaultOf bytes.now e) }
 {
     match bytes {
         [0x1b, b'[', body @ ..] => Ok(body),
@@ -224,7 +229,8 @@ fn tokens_from(bytes: &[u8], start: &[u8]) -> Result<usize, ReadError>
 /// ```
 pub fn behind_csi(bytes: &[u8]) -> Result<&[u8], ReadError>
     // What stands before them is a sequence.
-    ensures found { IfOk result (λ rest. (list : List CsiParam) × (final : ℕ) × Reads bytes.now list final rest.now) }
+    ensures found { IfOk result (λ rest. (list : List CsiParam) × (final : ℕ)
+        × Reads bytes.now list final rest.now) }
     // An error is the fault of bytes with none in front.
     ensures refused { IfErr result (FaultOf bytes.now) }
 {
@@ -242,7 +248,8 @@ pub fn behind_csi(bytes: &[u8]) -> Result<&[u8], ReadError>
 #[inline(never)]
 fn refusal(bytes: &[u8], rest: &[u8]) -> ReadError
     requires { length rest.now ≤ length bytes.now }
-    ensures { (list : List CsiParam) (room : ℕ) → HasRead bytes.now list rest.now → room < length list → Refuses bytes.now room result }
+    ensures { (list : List CsiParam) (room : ℕ) → HasRead bytes.now list rest.now
+        → room < length list → Refuses bytes.now room result }
 {
     match tokens_from(bytes, rest) {
         Ok(_) => ReadError::Memory,
@@ -298,9 +305,11 @@ pub fn read_csi_into<'a>(
     bytes: &'a [u8],
 ) -> Result<CsiTail<'a>, ReadError>
     // What is read is a sequence, and the bytes behind it are left.
-    ensures found { IfOk result (λ tail. Reads bytes.now params.new.items tail.control tail.rest.now) }
+    ensures found { IfOk result (λ tail.
+        Reads bytes.now params.new.items tail.control tail.rest.now) }
     // Where a front is a sequence, this one is read, unless it needs more room than there was.
-    ensures only { (list : List CsiParam) (final : ℕ) (rest : List ℕ) → Reads bytes.now list final rest → MatchResult result
+    ensures only { (list : List CsiParam) (final : ℕ) (rest : List ℕ)
+        → Reads bytes.now list final rest → MatchResult result
         (λ tail. (params.new.items ≡ list) × (tail.control ≡ final) × (tail.rest.now ≡ rest))
         (λ e. (e ≡ Memory) × (vec_capacity params.old < length list)) }
     // Memory is refused only to a sequence, and any other error is the fault of bytes with none in front.
@@ -323,7 +332,8 @@ pub fn read_csi_within<'a>(
     bytes: &'a [u8],
 ) -> Result<ShortCsi<'a>, ReadError>
     // What is read is a sequence, and the bytes behind it are left.
-    ensures found { IfOk result (λ read. Reads bytes.now (take read.count room.new) read.control read.rest.now) }
+    ensures found { IfOk result (λ read.
+        Reads bytes.now (take read.count room.new) read.control read.rest.now) }
     ensures fits { IfOk result (λ read. read.count ≤ length room.new) }
     // Memory is refused only to a sequence with more tokens, and any other error is the fault of bytes with none in front.
     ensures refused { IfErr result (λ e. Refuses bytes.now (length room.new) e) }
@@ -367,7 +377,8 @@ fn last_within<'a>(
     requires fits { before ≤ length room.old }
     requires within { length start.now ≤ length bytes.now }
     requires read { HasRead bytes.now (take before room.old) start.now }
-    ensures found { IfOk result (λ read. Reads bytes.now (take read.count room.new) read.control read.rest.now) }
+    ensures found { IfOk result (λ read.
+        Reads bytes.now (take read.count room.new) read.control read.rest.now) }
     ensures fits { IfOk result (λ read. read.count ≤ length room.new) }
     ensures refused { IfErr result (λ e. Refuses bytes.now (length room.new) e) }
 {
@@ -396,7 +407,8 @@ fn last_within<'a>(
 
 /// The same with a list of its own.
 fn read(alloc: Global, bytes: &[u8]) -> Result<ReadCsi<'_>, ReadError>
-    ensures { MatchResult result (λ read. Reads bytes.now read.params.items read.control read.rest.now) (λ e. Refuses bytes.now 0 e) }
+    ensures { MatchResult result (λ read.
+        Reads bytes.now read.params.items read.control read.rest.now) (λ e. Refuses bytes.now 0 e) }
 {
     let tokens = tokens_from(bytes, behind_introducer(bytes)?)?;
     let mut params = Vec::with_capacity(alloc, tokens)?;
@@ -422,9 +434,11 @@ fn read(alloc: Global, bytes: &[u8]) -> Result<ReadCsi<'_>, ReadError>
 /// ```
 pub fn read_csi<'a>(alloc: Global, bytes: &'a [u8]) -> Result<ReadCsi<'a>, ReadError>
     // What is read is a sequence, and the bytes behind it are left.
-    ensures found { IfOk result (λ read. Reads bytes.now read.params.items read.control read.rest.now) }
+    ensures found { IfOk result (λ read.
+        Reads bytes.now read.params.items read.control read.rest.now) }
     // Where a front is a sequence, this one is read, unless there is no memory for its tokens.
-    ensures only { (list : List CsiParam) (final : ℕ) (rest : List ℕ) → Reads bytes.now list final rest → MatchResult result
+    ensures only { (list : List CsiParam) (final : ℕ) (rest : List ℕ)
+        → Reads bytes.now list final rest → MatchResult result
         (λ read. (read.params.items ≡ list) × (read.control ≡ final) × (read.rest.now ≡ rest))
         (λ e. (e ≡ Memory) × (0 < length list)) }
     // Memory is refused only to a sequence, and any other error is the fault of bytes with none in front.

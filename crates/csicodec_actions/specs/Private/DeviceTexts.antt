@@ -27,7 +27,8 @@ terminal_front (Devices.Vt420 attributes) = decimal 64
 abbrev pub device_front : Devices.Device → List ℕ
 device_front (Devices.DeviceAttributes a) = 63 ∷ terminal_front a
 device_front (Devices.RequestTerminalParameters n) = signed_decimal (n +ℤ pos 2)
-device_front (Devices.XtSmGraphics item action_or_status value) = 63 ∷ signed_decimal (item_number item)
+device_front (Devices.XtSmGraphics item action_or_status value) =
+    63 ∷ signed_decimal (item_number item)
 device_front d = written_text (written_device d)
 
 -- extensions
@@ -40,5 +41,6 @@ attributes_behind a = []
 abbrev pub device_behind : Devices.Device → List ℕ
 device_behind (Devices.DeviceAttributes a) = attributes_behind a
 device_behind (Devices.RequestTerminalParameters n) = shown line (120 ∷ [])
-device_behind (Devices.XtSmGraphics item action_or_status value) = listed_text Integer (action_or_status ∷ []) ++ (listed_text Integer value ++ 83 ∷ [])
+device_behind (Devices.XtSmGraphics item action_or_status value) =
+    listed_text Integer (action_or_status ∷ []) ++ (listed_text Integer value ++ 83 ∷ [])
 device_behind d = []

@@ -9,4 +9,5 @@ abbrev pub written_numbers : Numbers → Written
 written_numbers (Alone code) = alone code
 written_numbers (Which code number) = which code number
 written_numbers (Two code a b) = two code a b
-written_numbers (Area request page top left bottom right) = written_window (window.ChecksumRectangularArea request page top left bottom right)
+written_numbers (Area request page top left bottom right) =
+    written_window (window.ChecksumRectangularArea request page top left bottom right)

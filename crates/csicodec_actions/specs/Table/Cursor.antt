@@ -13,11 +13,13 @@ use Rattle.csicodec_actions.specs.Written.{Written, The, count, choice, two, fix
 
 -- the top, and a bottom that is 4294967295 where it is left out or 0
 abbrev pub top_and_bottom : List (Row Action)
-top_and_bottom = row [] (Cursor (cursor.SetTopAndBottomMargins 1 most)) ∷ halves Last most (λ a b. Cursor (cursor.SetTopAndBottomMargins a b))
+top_and_bottom = row [] (Cursor (cursor.SetTopAndBottomMargins 1 most)) ∷ halves Last most (λ a b.
+    Cursor (cursor.SetTopAndBottomMargins a b))
 
 -- nothing saves the cursor; the left, and a right that is 4294967295 where it is left out
 abbrev pub left_and_right : List (Row Action)
-left_and_right = row [] (Cursor cursor.SaveCursor) ∷ halves Count most (λ a b. Cursor (cursor.SetLeftAndRightMargins a b))
+left_and_right = row [] (Cursor cursor.SaveCursor) ∷ halves Count most (λ a b.
+    Cursor (cursor.SetLeftAndRightMargins a b))
 
 -- a line for each final character
 abbrev pub cursor_rows : List (Before Action)
@@ -41,8 +43,10 @@ cursor_rows =
     ∷ before "d" (counted (λ n. Cursor (cursor.LinePositionAbsolute n)))
     ∷ before "e" (counted (λ n. Cursor (cursor.LinePositionForward n)))
     ∷ before "k" (counted (λ n. Cursor (cursor.LinePositionBackward n)))
-    ∷ before "W" (chosen Control control.SetCharacterTabStopAtActivePosition (λ c. Cursor (cursor.TabulationControl c)))
-    ∷ before "g" (chosen Clear clear.ClearCharacterTabStopAtActivePosition (λ c. Cursor (cursor.TabulationClear c)))
+    ∷ before "W" (chosen Control control.SetCharacterTabStopAtActivePosition (λ c.
+    Cursor (cursor.TabulationControl c)))
+    ∷ before "g" (chosen Clear clear.ClearCharacterTabStopAtActivePosition (λ c.
+    Cursor (cursor.TabulationClear c)))
     ∷ before "r" top_and_bottom
     ∷ before "s" left_and_right
     ∷ before "u" (row [] (Cursor cursor.RestoreCursor) ∷ [])
@@ -76,8 +80,10 @@ written_cursor (cursor.LinePositionForward n) = count n "e"
 written_cursor (cursor.LinePositionBackward n) = count n "k"
 written_cursor (cursor.TabulationControl c) = choice Control c "W"
 written_cursor (cursor.TabulationClear c) = choice Clear c "g"
-written_cursor (cursor.SetTopAndBottomMargins a b) = write (if a == 1 && b == most then [] else two Last a b) "r"
-written_cursor (cursor.SetLeftAndRightMargins a b) = write (if a == 1 && b == most then [] else two Count a b) "s"
+written_cursor (cursor.SetTopAndBottomMargins a b) =
+    write (if a == 1 && b == most then [] else two Last a b) "r"
+written_cursor (cursor.SetLeftAndRightMargins a b) =
+    write (if a == 1 && b == most then [] else two Count a b) "s"
 written_cursor cursor.SaveCursor = write [] "s"
 written_cursor cursor.RestoreCursor = write [] "u"
 written_cursor cursor.RequestActivePositionReport = write (fixed 6 ∷ []) "n"

@@ -34,9 +34,12 @@ terminals =
 -- behind `?` the service class of a terminal, and then its extensions
 abbrev pub classes : List (Row Action)
 classes =
-    open_row (mark "?" ∷ Number 62 ∷ []) (λ rest. answer (devices.Vt220 (devices.listed_attributes rest)))
-    ∷ open_row (mark "?" ∷ Number 63 ∷ []) (λ rest. answer (devices.Vt320 (devices.listed_attributes rest)))
-    ∷ open_row (mark "?" ∷ Number 64 ∷ []) (λ rest. answer (devices.Vt420 (devices.listed_attributes rest)))
+    open_row (mark "?" ∷ Number 62 ∷ []) (λ rest.
+    answer (devices.Vt220 (devices.listed_attributes rest)))
+    ∷ open_row (mark "?" ∷ Number 63 ∷ []) (λ rest.
+    answer (devices.Vt320 (devices.listed_attributes rest)))
+    ∷ open_row (mark "?" ∷ Number 64 ∷ []) (λ rest.
+    answer (devices.Vt420 (devices.listed_attributes rest)))
     ∷ []
 
 -- nothing is 0
@@ -66,8 +69,10 @@ written_class class attributes = write (put "?" ∷ fixed class ∷ listed Attri
 
 -- a line for each variant
 abbrev pub written_attributes : devices.Attributes → Written
-written_attributes devices.Vt100WithAdvancedVideoOption = write (put "?" ∷ fixed 1 ∷ put ";" ∷ fixed 2 ∷ []) "c"
-written_attributes devices.Vt101WithNoOptions = write (put "?" ∷ fixed 1 ∷ put ";" ∷ fixed 0 ∷ []) "c"
+written_attributes devices.Vt100WithAdvancedVideoOption =
+    write (put "?" ∷ fixed 1 ∷ put ";" ∷ fixed 2 ∷ []) "c"
+written_attributes devices.Vt101WithNoOptions =
+    write (put "?" ∷ fixed 1 ∷ put ";" ∷ fixed 0 ∷ []) "c"
 written_attributes devices.Vt102 = write (put "?" ∷ fixed 6 ∷ []) "c"
 written_attributes (devices.Vt220 attributes) = written_class 62 attributes
 written_attributes (devices.Vt320 attributes) = written_class 63 attributes
@@ -91,4 +96,5 @@ written_device devices.RequestTertiaryDeviceAttributes = write (put "=" ∷ []) 
 written_device devices.RequestTerminalNameAndVersion = write (put ">" ∷ []) "q"
 written_device (devices.RequestTerminalParameters n) = written_parameters n
 written_device devices.StatusReport = write (fixed 5 ∷ []) "n"
-written_device (devices.XtSmGraphics item action_or_status value) = written_graphics item action_or_status value
+written_device (devices.XtSmGraphics item action_or_status value) =
+    written_graphics item action_or_status value

@@ -17,10 +17,12 @@ no_flags = record { bits = 0 }
 abbrev pub keyboards : List (Row Action)
 keyboards =
     row (mark "=" ∷ One Flags ∷ []) (λ f. Keyboard (keyboard.SetKittyState f way.AssignAll))
-    ∷ row (mark "=" ∷ One Flags ∷ mark ";" ∷ One Way ∷ []) (λ f m. Keyboard (keyboard.SetKittyState f m))
+    ∷ row (mark "=" ∷ One Flags ∷ mark ";" ∷ One Way ∷ []) (λ f m.
+    Keyboard (keyboard.SetKittyState f m))
     ∷ row (mark ">" ∷ []) (Keyboard (keyboard.PushKittyState no_flags way.AssignAll))
     ∷ row (mark ">" ∷ One Flags ∷ []) (λ f. Keyboard (keyboard.PushKittyState f way.AssignAll))
-    ∷ row (mark ">" ∷ One Flags ∷ mark ";" ∷ One Way ∷ []) (λ f m. Keyboard (keyboard.PushKittyState f m))
+    ∷ row (mark ">" ∷ One Flags ∷ mark ";" ∷ One Way ∷ []) (λ f m.
+    Keyboard (keyboard.PushKittyState f m))
     ∷ row (mark "?" ∷ []) (Keyboard keyboard.QueryKittySupport)
     ∷ row (mark "?" ∷ One Flags ∷ []) (λ f. Keyboard (keyboard.ReportKittyState f))
     ∷ row (mark "<" ∷ One Pops ∷ []) (λ n. Keyboard (keyboard.PopKittyState n))
@@ -38,8 +40,10 @@ as_keyboard list final = read_by keyboard_rows list final
 
 -- a line for each variant
 abbrev pub written_keyboard : keyboard_type.Keyboard → Written
-written_keyboard (keyboard.SetKittyState f m) = write (put "=" ∷ The Flags f ∷ put ";" ∷ The Way m ∷ []) "u"
-written_keyboard (keyboard.PushKittyState f m) = write (put ">" ∷ The Flags f ∷ put ";" ∷ The Way m ∷ []) "u"
+written_keyboard (keyboard.SetKittyState f m) =
+    write (put "=" ∷ The Flags f ∷ put ";" ∷ The Way m ∷ []) "u"
+written_keyboard (keyboard.PushKittyState f m) =
+    write (put ">" ∷ The Flags f ∷ put ";" ∷ The Way m ∷ []) "u"
 written_keyboard (keyboard.PopKittyState n) = write (put "<" ∷ The Pops n ∷ []) "u"
 written_keyboard keyboard.QueryKittySupport = write (put "?" ∷ []) "u"
 written_keyboard (keyboard.ReportKittyState f) = write (put "?" ∷ The Flags f ∷ []) "u"

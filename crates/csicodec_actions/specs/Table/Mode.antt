@@ -21,7 +21,8 @@ abbrev pub key_modes : List (Row Action)
 key_modes =
     row (mark ">" ∷ One Resource ∷ []) (λ keys. Mode (mode.XtermKeyMode keys None))
     ∷ row (mark ">" ∷ One Resource ∷ mark ";" ∷ []) (λ keys. Mode (mode.XtermKeyMode keys None))
-    ∷ row (mark ">" ∷ One Resource ∷ mark ";" ∷ One Any ∷ []) (λ keys value. Mode (mode.XtermKeyMode keys (Some value)))
+    ∷ row (mark ">" ∷ One Resource ∷ mark ";" ∷ One Any ∷ []) (λ keys value.
+    Mode (mode.XtermKeyMode keys (Some value)))
     ∷ []
 
 -- a line for each final character
@@ -45,4 +46,5 @@ written_mode (mode.SetMode m) = write (The Terminal m ∷ []) "h"
 written_mode (mode.ResetMode m) = write (The Terminal m ∷ []) "l"
 written_mode (mode.QueryMode m) = write (The Terminal m ∷ put "$" ∷ []) "p"
 written_mode (mode.XtermKeyMode keys None) = write (put ">" ∷ The Resource keys ∷ put ";" ∷ []) "m"
-written_mode (mode.XtermKeyMode keys (Some z)) = write (put ">" ∷ The Resource keys ∷ put ";" ∷ The Any z ∷ []) "m"
+written_mode (mode.XtermKeyMode keys (Some z)) =
+    write (put ">" ∷ The Resource keys ∷ put ";" ∷ The Any z ∷ []) "m"

@@ -50,11 +50,15 @@ which_rows =
 -- `code ; x ; y` and `code ; height ; width`; 6 alone is an operation, and with any field behind it an answer
 abbrev pub two_rows : List (FieldRow Action)
 two_rows =
-    field_row (This 3 ∷ Or Any (pos 0) ∷ Or Any (pos 0) ∷ []) (λ x y. Window (window.MoveWindow x y))
-    ∷ field_row (This 4 ∷ Maybe ∷ Maybe ∷ []) (λ height width. Window (window.ResizeWindowPixels width height))
+    field_row (This 3 ∷ Or Any (pos 0) ∷ Or Any (pos 0) ∷ []) (λ x y.
+    Window (window.MoveWindow x y))
+    ∷ field_row (This 4 ∷ Maybe ∷ Maybe ∷ []) (λ height width.
+    Window (window.ResizeWindowPixels width height))
     ∷ field_row (This 6 ∷ End ∷ []) (Window window.LowerWindow)
-    ∷ field_row (This 6 ∷ There ∷ Maybe ∷ []) (λ height width. Window (window.ReportCellSizePixelsResponse width height))
-    ∷ field_row (This 8 ∷ Maybe ∷ Maybe ∷ []) (λ height width. Window (window.ResizeWindowCells width height))
+    ∷ field_row (This 6 ∷ There ∷ Maybe ∷ []) (λ height width.
+    Window (window.ReportCellSizePixelsResponse width height))
+    ∷ field_row (This 8 ∷ Maybe ∷ Maybe ∷ []) (λ height width.
+    Window (window.ResizeWindowCells width height))
     ∷ []
 
 abbrev pub windows : List (FieldRow Action)
@@ -64,7 +68,8 @@ windows = alone_rows ++ (which_rows ++ two_rows)
 abbrev pub areas : List (FieldRow Action)
 areas =
     field_row (Must Any ∷ Must Any ∷ Or Count 1 ∷ Or Count 1 ∷ Or Count 1 ∷ Or Count 1 ∷ [])
-    (λ request page top left bottom right. Window (window.ChecksumRectangularArea request page top left bottom right))
+    (λ request page top left bottom right.
+    Window (window.ChecksumRectangularArea request page top left bottom right))
     ∷ []
 
 abbrev pub window_fields : List (Over Action)

@@ -14,7 +14,8 @@ use Rattle.csicodec_actions.specs.Written.{The, Written, any_number, listed, wri
 -- `item ; action or status ; values`
 abbrev pub graphics_rows : List (FieldRow Action)
 graphics_rows =
-    field_row (Must GraphicsItem ∷ Must Any ∷ Rest ∷ []) (λ item action_or_status value. Device (XtSmGraphics item action_or_status value))
+    field_row (Must GraphicsItem ∷ Must Any ∷ Rest ∷ []) (λ item action_or_status value.
+    Device (XtSmGraphics item action_or_status value))
     ∷ []
 
 abbrev pub graphics_fields : List (Over Action)
@@ -35,4 +36,5 @@ RefusesGraphics list Memory = IsSome (graphics_behind list)
 -- ---- what is written
 
 abbrev pub written_graphics : XtSmGraphicsItem → ℤ → List ℤ → Written
-written_graphics item action_or_status value = write (put "?" ∷ The GraphicsItem item ∷ listed any_number (action_or_status ∷ value)) "S"
+written_graphics item action_or_status value =
+    write (put "?" ∷ The GraphicsItem item ∷ listed any_number (action_or_status ∷ value)) "S"

@@ -39,8 +39,10 @@ one_token make (Some m) = Some (make m, 1)
 abbrev pub front : Group → List CsiParam → Option (Action × ℕ)
 front Whole rest = None
 front Styles rest = styled (piece rest)
-front (Modes s) rest = one_token (λ m. Mode (switched s m)) (option_and_then (read Terminal) (number_at rest))
-front (DecModes c) rest = one_token (λ m. Mode (changed c m)) (option_and_then (read Dec) (number_at rest))
+front (Modes s) rest =
+    one_token (λ m. Mode (switched s m)) (option_and_then (read Terminal) (number_at rest))
+front (DecModes c) rest =
+    one_token (λ m. Mode (changed c m)) (option_and_then (read Dec) (number_at rest))
 
 -- what was found, as an action
 abbrev pub found : Option (CSI × ℕ) → Option (Action × ℕ)
@@ -65,18 +67,21 @@ abbrev pub block : Group → List CsiParam → Option (Action × ℕ)
 block g rest = block_of rest (front g rest)
 
 -- The actions of what follows `skip` more tokens of a block: one for each block, and `unknown` of a rest at whose front no piece stands.
-abbrev pub segments_at : (List CsiParam → Action) → List CsiParam → (ℕ → List Action) → Option (Action × ℕ) → List Action
+abbrev pub segments_at : (List CsiParam → Action) → List CsiParam → (ℕ → List Action)
+    → Option (Action × ℕ) → List Action
 segments_at unknown rest after None = unknown rest ∷ []
 segments_at unknown rest after (Some b) = b.0 ∷ after (pred b.1)
 
 abbrev pub segments : Group → (List CsiParam → Action) → List CsiParam → ℕ → List Action
 segments g unknown [] skip = []
 segments g unknown (t ∷ ts) (suc skip) = segments g unknown ts skip
-segments g unknown (t ∷ ts) zero = segments_at unknown (t ∷ ts) (segments g unknown ts) (block g (t ∷ ts))
+segments g unknown (t ∷ ts) zero =
+    segments_at unknown (t ∷ ts) (segments g unknown ts) (block g (t ∷ ts))
 
 -- the action of a rest that takes memory: that of a row, or else an unknown one, with what stands before the pieces ahead of it
 abbrev pub rest_action : Group → List CsiParam → Bool → ℕ → Action
-rest_action Whole rest flag final = unwrap_or (boxed rest final) (Unspecified (marked Whole rest) flag final)
+rest_action Whole rest flag final =
+    unwrap_or (boxed rest final) (Unspecified (marked Whole rest) flag final)
 rest_action Styles rest flag final = Unspecified (marked Styles rest) flag final
 rest_action (Modes s) rest flag final = Unspecified (marked (Modes s) rest) flag final
 rest_action (DecModes c) rest flag final = Unspecified (marked (DecModes c) rest) flag final
@@ -146,17 +151,20 @@ has_failed Failed = true
 
 -- the next block stands from here to there
 abbrev pub CutsOn : Group → List CsiParam → ℕ → ℕ → Type 0
-CutsOn g list from to = (x : Action) × (block g (drop from list) ≡ Some (x, to - from)) × (from < to)
+CutsOn g list from to =
+    (x : Action) × (block g (drop from list) ≡ Some (x, to - from)) × (from < to)
 
 -- ---- what a step of a run says: of the list, how many tokens are passed before it and after it, and the looks before and after
 
 -- the actions of the list are this one, and those of what is unread
 abbrev pub BeginsAs : Group → List CsiParam → ℕ → ℕ → Action → Type 0
-BeginsAs g list final passed x = (flag : Bool) → actions_in g list flag final ≡ x ∷ actions_after g flag final (drop passed list)
+BeginsAs g list final passed x =
+    (flag : Bool) → actions_in g list flag final ≡ x ∷ actions_after g flag final (drop passed list)
 
 -- they are one, that of what is unread
 abbrev pub IsRestAlone : Group → List CsiParam → ℕ → ℕ → Type 0
-IsRestAlone g list final passed = (flag : Bool) → actions_in g list flag final ≡ rest_action g (drop passed list) flag final ∷ []
+IsRestAlone g list final passed =
+    (flag : Bool) → actions_in g list flag final ≡ rest_action g (drop passed list) flag final ∷ []
 
 -- the same of what is cut of the list
 abbrev pub BodyBeginsAs : Group → List CsiParam → ℕ → Action → Type 0
@@ -169,10 +177,12 @@ BodyIsRestAlone g list passed =
 
 -- the same of what is left at a stage
 abbrev pub LeftBeginsAs : Stage → Group → List CsiParam → ℕ → ℕ → ℕ → Action → Type 0
-LeftBeginsAs stage g list final from to x = (flag : Bool) → left_at stage flag final list from ≡ x ∷ left_at (Going g) flag final list to
+LeftBeginsAs stage g list final from to x =
+    (flag : Bool) → left_at stage flag final list from ≡ x ∷ left_at (Going g) flag final list to
 
 abbrev pub LeftIsRestAlone : Stage → Group → List CsiParam → ℕ → ℕ → ℕ → Type 0
-LeftIsRestAlone stage g list final from to = (flag : Bool) → left_at stage flag final list from ≡ rest_action g (drop to list) flag final ∷ []
+LeftIsRestAlone stage g list final from to = (flag : Bool)
+    → left_at stage flag final list from ≡ rest_action g (drop to list) flag final ∷ []
 
 -- the looks of a first call, where what is unread is one action, for which 10 a token are kept
 abbrev pub PaysRest : (share len passed before after : ℕ) → Type 0
@@ -180,11 +190,13 @@ PaysRest share len passed before after = after + 10 * len ≤ before + share * l
 
 -- the looks of any call that passes a block
 abbrev pub PaysBlock : (fresh len from to before after : ℕ) → Type 0
-PaysBlock fresh len from to before after = after + 115 * from + fresh ≤ before + (1 + len) * fresh + 115 * to
+PaysBlock fresh len from to before after =
+    after + 115 * from + fresh ≤ before + (1 + len) * fresh + 115 * to
 
 -- and of one where what is unread is one action
 abbrev pub PaysAll : (fresh len from to before after : ℕ) → Type 0
-PaysAll fresh len from to before after = after + 115 * from + 10 * len + fresh ≤ before + (1 + len) * fresh + 115 * len + 10 * to
+PaysAll fresh len from to before after =
+    after + 115 * from + 10 * len + fresh ≤ before + (1 + len) * fresh + 115 * len + 10 * to
 
 -- all actions of the run's list
 abbrev pub all_of : Progress → List Action

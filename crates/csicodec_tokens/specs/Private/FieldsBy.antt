@@ -23,7 +23,8 @@ IsField (Some (Integer z)) = Unit {0}
 IsField (Some (P b)) = ⊥
 
 -- the field at the front of a list of numbers and `;`, and the tokens behind its block
-pub record IsFirstField (list : List CsiParam) (field : Option CsiParam) (others : List CsiParam) : Type 0 where
+pub record IsFirstField (list : List CsiParam) (field : Option CsiParam)
+    (others : List CsiParam) : Type 0 where
   pub kept : IsField field
   pub tokens : list_all is_field_token others ≡ true
   pub shorter : length others < length list

@@ -12,7 +12,8 @@ use csicodec_filter::{Rewrite, stays};
 use csicodec_streams::Note;
 use std::alloc::{AllocError, Global};
 
-/// The note of a sequence: the number of its form, how many numbers it has, and its text. Of a list that is `;`, and the list.
+/// The note of a sequence: the number of its form, how many numbers it has, and its text. Of a list that is `;`, and the list; what is
+/// no list has as many numbers as are joined to none.
 #[derive(Drop)]
 pub(crate) struct Short;
 
@@ -47,12 +48,12 @@ fn write_note(note: &mut TextBuffer, form: Form, text: &[u8]) -> Result<(), Allo
     ensures list { OnOk result (is_joined form ≡ true → (mark : ℕ) × (count : ℕ) × (form_of mark ≡ form) × (note.new ≡ mark ∷ count ∷ 59 ∷ list_of form text.now)) }
 {
     note.clear();
-    note.push_slice(&[form.mark(), numbers(text)])?;
     if form.is_joined() {
-        note.push_slice(b";")?;
+        note.push_front(&[form.mark(), numbers(text), b';'], 3)?;
         note.push_slice(list_of(text, form))?;
         return Ok(());
     }
+    note.push_front(&[form.mark(), u8::MAX], 2)?;
     note.push_slice(text)?;
     Ok(())
 }

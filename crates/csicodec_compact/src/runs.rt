@@ -67,7 +67,7 @@ fn append_text(text: &[u8], wide: &[u8], out: &mut TextBuffer) -> Result<(), All
 #[derive(Drop)]
 pub(crate) struct Written {
     form: Form,
-    /// How many numbers may still be joined.
+    /// How many numbers may still be joined; none where nothing goes on.
     room: usize,
 }
 
@@ -90,6 +90,7 @@ impl Written {
     {
         let form = self.form;
         self.form = Form::Whole;
+        self.room = 0;
         match form {
             Form::Whole => Ok(()),
             Form::Last => Ok(()),
@@ -106,6 +107,7 @@ impl Written {
     {
         let form = self.form;
         self.form = Form::Whole;
+        self.room = 0;
         out.extend_from_slice(form.closing())
     }
 

@@ -175,12 +175,12 @@ fn append_styles(params: &[CsiParam], out: &mut TextBuffer) -> Result<(), AllocE
 
 /// Whether a number begins with 0, or there is a colon.
 fn has_zero_or_colon(bytes: &[u8]) -> bool {
-    let mut inside = false;
-    for byte in bytes {
-        if *byte == b'0' && !inside || *byte == b':' {
-            return true;
+    for (i, byte) in bytes.iter().enumerate().skip(2) {
+        match *byte {
+            b':' => return true,
+            b'0' if !bytes[i - 1].is_ascii_digit() => return true,
+            _ => {}
         }
-        inside = byte.is_ascii_digit();
     }
     false
 }

@@ -1,0 +1,6 @@
+pub mod Sequences
+pub mod Steps
+pub mod Stops
+pub mod Texts
+pub mod Spans
+pub mod Run

@@ -1,0 +1,82 @@
+-- From the span in front to what a step promises.
+use Rattle.std.proofs.Common.{◌≡◌, ℕ, ◌<◌, ◌≤◌, true, List, [], ◌∷◌, ◌++◌, length, take, drop, refl, sym, ap, subst, ◌∙◌, inl, inr, append_assoc, append-nil, arith}
+use Rattle.std.proofs.Math.Seq.{take-append_seam, drop-append_seam}
+use Rattle.std.proofs.lemmas.List.{length-take, take-append-drop, take-append-le, drop-append-le}
+use Rattle.csicodec_tokens.specs.declared.param.CsiParam.{CsiParam}
+use Rattle.csicodec_spans.specs.declared.table.Kind.{Kind}
+use Rattle.csicodec_spans.specs.declared.table.Kind.TheVariants as kind
+use Rattle.csicodec_spans.specs.declared.table.Mode.{Mode}
+use Rattle.csicodec_spans.specs.Parts.{Cuts, IsMaximal, IsSequence, IsUnsure}
+use Rattle.csicodec_spans.proofs.Spanned.{cut_parts, cut_some}
+use Rattle.csicodec_events.specs.declared.event.Event.{Event}
+use Rattle.csicodec_events.specs.declared.event.Event.TheVariants as event
+use Rattle.csicodec_events.specs.declared.event.Events.{Events}
+use Rattle.csicodec_events.specs.declared.event.Told.{Told}
+use Rattle.csicodec_events.specs.Characters.{is_unfinished}
+use Rattle.csicodec_events.specs.Events.{BeginsCsi, IsHeld, IsSpan, IsTold, onward}
+use Rattle.csicodec_events.specs.Private.Steps.{HasTold, HasWaited}
+use Rattle.csicodec_events.proofs.Steps.{told_on}
+
+-- where no ESC and `[` stand in front no sequence does
+pub no_csi : (bytes text rest : List ℕ) → (BeginsCsi bytes → ⊥) → bytes ≡ text ++ rest → IsSequence text → ⊥
+no_csi bytes text rest other parts s =
+    let seq = s.2 in
+    other ((seq.body ++ s.1 ∷ []) ++ rest, parts ∙ ap (λ (x : List ℕ). x ++ rest) seq.whole)
+
+-- ---- spans but text
+
+pub span_told : (e : Events) (bytes : List ℕ) (t : Told) (list : List CsiParam) (after : Events) (m : Mode) (k : Kind) (x : Event) (text rest : List ℕ) → 0 < e.limit → e.looked ≡ 0 → t.event ≡ x
+    → t.bytes.now ≡ take (length text) bytes → t.rest.now ≡ drop (length text) bytes → after ≡ onward e m 0 → Cuts e.limit e.mode bytes k text rest m → IsMaximal k m rest
+    → (IsSpan e k bytes t.bytes.now t.rest.now after → IsTold x e bytes t.bytes.now t.rest.now list after) → HasTold e bytes t list after
+span_told e bytes t list after m k x text rest limit none is front back on cuts maximal tells =
+    let parts = cut_parts e.limit e.mode bytes k text rest m cuts in
+    let some = cut_some e.limit e.mode bytes k text rest m limit cuts in
+    let front' : t.bytes.now ≡ text = front ∙ ap (λ (l : List ℕ). take (length text) l) parts ∙ take-append_seam text rest in
+    let back' : t.rest.now ≡ rest = back ∙ ap (λ (l : List ℕ). drop (length text) l) parts ∙ drop-append_seam text rest in
+    let span : IsSpan e k bytes t.bytes.now t.rest.now after = record { next = m; cuts = rw (front', back') cuts; maximal = rw back' maximal; on = on } in
+    told_on e bytes t list after m x is on (tells span) (record {
+      parts = rw (front', back') parts;
+      some = omega (arith, some, ap length front');
+      further = omega (arith, some, none, ap length front');
+    })
+
+-- nothing is sure of the bytes, or they are the beginning of a character
+pub unsure_waits : (e : Events) (bytes : List ℕ) → e.looked ≡ 0 → (BeginsCsi bytes → ⊥) → IsUnsure e.limit e.mode bytes → HasWaited e bytes e
+unsure_waits e bytes none other unsure = record { waits = inr (inr (other, unsure, refl)); again = λ more. inl none; limit = refl }
+
+-- ---- text
+
+pub text_told : (e : Events) (bytes : List ℕ) (t : Told) (list : List CsiParam) (after : Events) (m : Mode) (n : ℕ) (span behind : List ℕ) → e.looked ≡ 0 → t.event ≡ event.Text
+    → t.bytes.now ≡ take n bytes → t.rest.now ≡ drop n bytes → after ≡ onward e m 0 → Cuts e.limit e.mode bytes kind.Text span behind m → IsMaximal kind.Text m behind
+    → n ≤ length span → 0 < n → IsHeld (take n span) (drop n span) behind → HasTold e bytes t list after
+text_told e bytes t list after m n span behind none is front back on cuts maximal le some holds =
+    let parts = cut_parts e.limit e.mode bytes kind.Text span behind m cuts in
+    let halves = take-append-drop n span in
+    let front' : t.bytes.now ≡ take n span = front ∙ ap (λ (l : List ℕ). take n l) parts ∙ take-append-le n span behind le in
+    let back' : t.rest.now ≡ drop n span ++ behind = back ∙ ap (λ (l : List ℕ). drop n l) parts ∙ drop-append-le n span behind le in
+    let whole : bytes ≡ take n span ++ (drop n span ++ behind) = parts ∙ ap (λ (l : List ℕ). l ++ behind) (sym halves) ∙ append_assoc (take n span) (drop n span) behind in
+    let long : length t.bytes.now ≡ n = omega (arith, ap length front', length-take n span, le) in
+    told_on e bytes t list after m event.Text is on (record {
+      held = drop n span;
+      behind = behind;
+      span = record { next = m; cuts = rw (front', halves) cuts; maximal = maximal; on = on };
+      holds = rw front' holds;
+      goes_on = back';
+    }) (record { parts = rw (front', back') whole; some = omega (arith, long, some); further = omega (arith, long, some, none) })
+
+all_held : (bytes text held behind : List ℕ) → bytes ≡ held ++ behind → 0 < length held → IsHeld text held behind → is_unfinished bytes ≡ true
+all_held bytes text held [] parts some (inl h) = ap is_unfinished (parts ∙ append-nil held) ∙ h
+all_held bytes text held [] parts some (inr h) = absurd (omega (arith, some, ap length h.0))
+all_held bytes text held (b ∷ behind) parts some h = absurd (omega (arith, some, ap length h))
+
+pub text_waits : (e : Events) (bytes : List ℕ) (m : Mode) (n : ℕ) (span behind : List ℕ) → 0 < e.limit → e.looked ≡ 0 → (BeginsCsi bytes → ⊥) → Cuts e.limit e.mode bytes kind.Text span behind m
+    → n ≡ 0 → IsHeld (take n span) (drop n span) behind → HasWaited e bytes e
+text_waits e bytes m n span behind limit none other cuts zero holds =
+    let parts = cut_parts e.limit e.mode bytes kind.Text span behind m cuts in
+    let some = cut_some e.limit e.mode bytes kind.Text span behind m limit cuts in
+    let here = subst (λ (k : ℕ). IsHeld (take k span) (drop k span) behind) zero holds in
+    record {
+      waits = inr (inl (other, all_held bytes [] span behind parts some here, refl));
+      again = λ more. inl none;
+      limit = refl;
+    }

@@ -1,0 +1,7 @@
+use Rattle.std.proofs.Common.{arith}
+use Rattle.std.proofs.lemmas.Bool.Decides.{nat_tests}
+use Rattle.csicodec_events.proofs.Texts.{held_at_end}
+use Rattle.csicodec_events.proofs.text.held_len.Goals as goal
+
+pub returns-then-is_empty-clause-holds : goal.returns-then-is_empty-clause-holds
+returns-then-is_empty-clause-holds c = held_at_end c.args.span.now c.args.behind.now c.unfinished_len.result (grind (arith, nat_tests)) c.unfinished_len.ensures.some c.unfinished_len.ensures.none

@@ -1,0 +1,175 @@
+-- The events of a stream: what is told of the bytes in front, by what the bytes before them leave open.
+--
+-- All but control sequences are as the table of modes cuts them (`Cuts` of csicodec_spans). Of a control sequence DEC's terminals
+-- and xterm carry out each C0 control within it when it comes, ignore DEL, and read the sequence as if neither were there.
+use Rattle.std.specs.Prelude.{ℕ, ◌≡◌, ◌+◌, ◌-◌, ◌*◌, ◌<◌, ◌≤◌, ◌⊎◌, max, Bool, true, false, not, filter, List, [], ◌∷◌, ◌++◌, length, take, drop}
+use Rattle.std.specs.List.{prefix_len}
+use Rattle.csicodec_tokens.specs.declared.param.CsiParam.{CsiParam}
+use Rattle.csicodec_tokens.specs.Sequence.{Seq}
+use Rattle.csicodec_spans.specs.declared.table.Kind.{Kind}
+use Rattle.csicodec_spans.specs.declared.table.Kind.TheVariants as kind
+use Rattle.csicodec_spans.specs.declared.table.Mode.{Mode}
+use Rattle.csicodec_spans.specs.declared.table.Mode.TheVariants as mode
+use Rattle.csicodec_spans.specs.Table.{controls, csi_finals, del, intermediates, parameters, within}
+use Rattle.csicodec_spans.specs.Parts.{Cuts, IsMaximal, IsUnsure}
+use Rattle.csicodec_events.specs.declared.event.Event.{Event}
+use Rattle.csicodec_events.specs.declared.event.Event.TheVariants as event
+use Rattle.csicodec_events.specs.declared.event.Events.{Events}
+use Rattle.csicodec_events.specs.declared.event.Told.{Told}
+use Rattle.csicodec_events.specs.Characters.{EndsWhole, is_unfinished}
+
+-- the stream goes on in this mode, with so many bytes looked at
+abbrev pub onward : Events → Mode → ℕ → Events
+onward e m looked = record { limit = e.limit; mode = m; looked = looked }
+
+-- ---- control sequences
+
+abbrev pub BeginsCsi : List ℕ → Type 0
+BeginsCsi bytes = (more : List ℕ) × (bytes ≡ 27 ∷ 91 ∷ more)
+
+-- a C0 control that is carried out within a sequence: all but CAN, SUB and ESC, which end it
+abbrev pub is_control : ℕ → Bool
+is_control b = within controls b
+
+-- nothing is told at such a byte: an intermediate byte, a parameter byte, or DEL
+abbrev pub is_passed : ℕ → Bool
+is_passed b = within (intermediates ++ (parameters ++ del)) b
+
+abbrev pub is_final : ℕ → Bool
+is_final b = within csi_finals b
+
+-- what is read of a sequence: all but controls and DEL
+abbrev pub is_read : ℕ → Bool
+is_read b = not (within (controls ++ del) b)
+
+abbrev pub without_controls : List ℕ → List ℕ
+without_controls bytes = filter is_read bytes
+
+-- Where a sequence stops: the first place behind `ESC [`, and behind what was looked at, whose byte isn't passed over, or the end.
+abbrev pub stop : ℕ → List ℕ → ℕ
+stop looked bytes = max 2 looked + prefix_len is_passed (drop (max 2 looked) bytes)
+
+-- what stands before the place where it stops, and from there on
+abbrev pub before_stop : Events → List ℕ → List ℕ
+before_stop e bytes = take (stop e.looked bytes) bytes
+
+abbrev pub from_stop : Events → List ℕ → List ℕ
+from_stop e bytes = drop (stop e.looked bytes) bytes
+
+-- The sequence waits: the bytes end, and there are fewer than it may have.
+pub record IsOpen (e : Events) (over behind : List ℕ) (after : Events) : Type 0 where
+  pub ends : behind ≡ []
+  pub short : length over < e.limit
+  pub looked : after ≡ onward e e.mode (length over)
+
+-- A control stands there: it is told, no byte is used, and all up to it have been looked at.
+pub record IsControl (e : Events) (over behind : List ℕ) (b : ℕ) (bytes text rest : List ℕ) (after : Events) : Type 0 where
+  pub more : List ℕ
+  pub stands : behind ≡ b ∷ more
+  pub control : is_control b ≡ true
+  pub short : length over < e.limit
+  pub none : text ≡ []
+  pub stays : rest ≡ bytes
+  pub looked : after ≡ onward e e.mode (length over + 1)
+
+-- Without its controls what stands up to there is a sequence of this list and this final byte.
+pub record IsCsi (e : Events) (over behind : List ℕ) (list : List CsiParam) (final : ℕ) (text rest : List ℕ) (after : Events) : Type 0 where
+  pub last : ℕ
+  pub stands : behind ≡ last ∷ rest
+  pub whole : text ≡ over ++ last ∷ []
+  pub short : length over < e.limit
+  pub seq : Seq (without_controls text) list final
+  pub closed : after ≡ onward e mode.Text 0
+
+-- Why it goes wrong: it is too long, or the byte there is no control, and ends no sequence.
+abbrev pub IsWrongAt : ℕ → List ℕ → List ℕ → Type 0
+IsWrongAt limit over [] = limit ≤ length over
+IsWrongAt limit over (b ∷ more) = length over < limit
+    → (is_control b ≡ false) × ((list : List CsiParam) (final : ℕ) → Seq (without_controls (over ++ b ∷ [])) list final → ⊥)
+
+-- How far what goes wrong goes: up to a final byte there, and with it; else up to there, and it may go on.
+abbrev pub GoesWrong : List ℕ → List ℕ → List ℕ → List ℕ → Mode → Type 0
+GoesWrong over [] text rest m = (text ≡ over) × (rest ≡ []) × (m ≡ mode.BadCsi)
+GoesWrong over (b ∷ more) text rest m =
+    ((is_final b ≡ true) × (text ≡ over ++ b ∷ []) × (rest ≡ more) × (m ≡ mode.Text))
+    ⊎ ((is_final b ≡ false) × (text ≡ over) × (rest ≡ b ∷ more) × (m ≡ mode.BadCsi))
+
+pub record IsWrong (e : Events) (over behind : List ℕ) (text rest : List ℕ) (after : Events) : Type 0 where
+  pub next : Mode
+  pub why : IsWrongAt e.limit over behind
+  pub goes : GoesWrong over behind text rest next
+  pub on : after ≡ onward e next 0
+
+-- ---- all else
+
+-- A span of this kind, as long as it can be.
+pub record IsSpan (e : Events) (k : Kind) (bytes text rest : List ℕ) (after : Events) : Type 0 where
+  pub next : Mode
+  pub cuts : Cuts e.limit e.mode bytes k text rest next
+  pub maximal : IsMaximal k next rest
+  pub on : after ≡ onward e next 0
+
+-- Where text goes up to the end of the bytes, the beginning of a character at its end is held; else nothing is.
+abbrev pub IsHeld : List ℕ → List ℕ → List ℕ → Type 0
+IsHeld text held [] = (is_unfinished held ≡ true) ⊎ ((held ≡ []) × EndsWhole text)
+IsHeld text held (b ∷ behind) = held ≡ []
+
+-- A span of text, without what is held of it.
+pub record IsText (e : Events) (bytes text rest : List ℕ) (after : Events) : Type 0 where
+  pub held : List ℕ
+  pub behind : List ℕ
+  pub span : IsSpan e kind.Text bytes (text ++ held) behind after
+  pub holds : IsHeld text held behind
+  pub goes_on : rest ≡ held ++ behind
+
+-- ---- the events
+
+-- The event of these bytes, with the tokens of a sequence; the bytes behind it; and how it goes on.
+abbrev pub IsTold : Event → Events → List ℕ → List ℕ → List ℕ → List CsiParam → Events → Type 0
+IsTold event.Text e bytes text rest list after = IsText e bytes text rest after
+IsTold (event.Control b) e bytes text rest list after = BeginsCsi bytes × IsControl e (before_stop e bytes) (from_stop e bytes) b bytes text rest after
+IsTold (event.Csi final) e bytes text rest list after = BeginsCsi bytes × IsCsi e (before_stop e bytes) (from_stop e bytes) list final text rest after
+IsTold event.Esc e bytes text rest list after = IsSpan e kind.Esc bytes text rest after
+IsTold event.Str e bytes text rest list after = IsSpan e kind.Str bytes text rest after
+IsTold event.Other e bytes text rest list after =
+    ((BeginsCsi bytes → ⊥) × IsSpan e kind.Other bytes text rest after)
+    ⊎ (BeginsCsi bytes × IsWrong e (before_stop e bytes) (from_stop e bytes) text rest after)
+
+abbrev pub Tells : Events → List ℕ → Told → List CsiParam → Events → Type 0
+Tells e bytes told list after = IsTold told.event e bytes told.bytes.now told.rest.now list after
+
+-- Nothing is told before more bytes come: a sequence isn't over, or the bytes are the beginning of a character, or nothing is
+-- sure of them.
+abbrev pub Waits : Events → List ℕ → Events → Type 0
+Waits e bytes after =
+    (BeginsCsi bytes × IsOpen e (before_stop e bytes) (from_stop e bytes) after)
+    ⊎ (((BeginsCsi bytes → ⊥) × (is_unfinished bytes ≡ true) × (after ≡ e))
+    ⊎ ((BeginsCsi bytes → ⊥) × IsUnsure e.limit e.mode bytes × (after ≡ e)))
+
+-- ---- from call to call
+
+-- The bytes begin with those that wait.
+abbrev pub IsMet : Events → List ℕ → Type 0
+IsMet e bytes = (e.looked ≡ 0) ⊎ (BeginsCsi bytes × (e.looked ≤ length bytes))
+
+-- twice what is left, without what was looked at: each event makes it less
+abbrev pub left : Events → List ℕ → ℕ
+left e bytes = 2 * length bytes - e.looked
+
+-- ---- a stream
+
+abbrev pub bytes_of : Told → List ℕ
+bytes_of told = told.bytes.now
+
+-- events one after the other, each in front of what those before it left
+abbrev pub AreTold : Events → List ℕ → List Told → List ℕ → Events → Type 0
+AreTold e bytes [] rest after = (rest ≡ bytes) × (after ≡ e)
+AreTold e bytes (t ∷ told) rest after = (list : List CsiParam) × (mid : Events) × Tells e bytes t list mid × AreTold mid t.rest.now told rest after
+
+-- A stream that comes chunk by chunk: events are told of each with what the ones before it left, until it waits, and what is left
+-- is passed on.
+abbrev pub InChunks : Events → List ℕ → List (List ℕ) → List Told → List ℕ → Events → Type 0
+InChunks e held [] told rest after = (told ≡ []) × (rest ≡ held) × (after ≡ e)
+InChunks e held (chunk ∷ chunks) told rest after =
+    (now : List Told) × (later : List Told) × (kept : List ℕ) × (mid : Events) × (waiting : Events) × (told ≡ now ++ later)
+    × AreTold e (held ++ chunk) now kept mid × Waits mid kept waiting × InChunks waiting kept chunks later rest after

@@ -1,0 +1,22 @@
+//! Laws of the definitions. Each is the contract of a function that does nothing.
+ghost use Rattle.std.specs.Prelude.{◌≡◌, ◌++◌, ℕ, List};
+ghost use Rattle.std.specs.List.{concat, flat_map};
+ghost use Rattle.csicodec_tokens.specs.declared.param.CsiParam.{CsiParam};
+ghost use Rattle.csicodec_events.specs.declared.event.Events.{Events};
+ghost use Rattle.csicodec_events.specs.declared.event.Told.{Told};
+ghost use Rattle.csicodec_events.specs.Events.{BeginsCsi, InChunks, IsMet, Tells, Waits, bytes_of};
+
+/// In whatever chunks a stream comes, the bytes of its events joined, and then what waits, are its bytes: nothing is lost, added or
+/// moved.
+#[tactic(auto, using(crate::proofs::Run::chunks_joined))]
+pub fn joined()
+    ensures { (e after : Events) (held rest : List ℕ) (chunks : List (List ℕ)) (told : List Told) →
+        InChunks e held chunks told rest after → held ++ concat chunks ≡ flat_map bytes_of told ++ rest }
+{}
+
+/// What is told of a control sequence that waited is told of it where it comes at once.
+#[tactic(auto, using(crate::proofs::Run::told_at_once))]
+pub fn waited()
+    ensures { (e waiting after : Events) (bytes more : List ℕ) (told : Told) (list : List CsiParam) →
+        IsMet e bytes → BeginsCsi bytes → Waits e bytes waiting → Tells waiting (bytes ++ more) told list after → Tells e (bytes ++ more) told list after }
+{}

@@ -4,9 +4,9 @@
 
 ghost use Rattle.std.specs.Prelude.{◌<◌};
 
-use csicodec::{CSI, ColorSpec, Cursor, DecodeError, Sgr, decode_all};
-use csicodec_spans::{Kind, Spans};
-use std::alloc::Global;
+use csicodec::{CSI, ColorSpec, CsiParam, Cursor, Sgr};
+use csicodec_events::{Event, Events};
+use std::alloc::{AllocError, Global};
 use std::io::Read;
 
 /// Lines and columns are counted from 0.
@@ -39,15 +39,6 @@ impl Screen {
         }
     }
 
-    fn apply(&mut self, action: &CSI) {
-        match action {
-            CSI::Cursor(cursor) => self.move_by(cursor),
-            CSI::Sgr(Sgr::Reset) => self.pen = ColorSpec::Default,
-            CSI::Sgr(Sgr::Foreground(color)) => self.pen = *color,
-            _ => {}
-        }
-    }
-
     fn show(&mut self, byte: u8) {
         match byte {
             b'\n' => self.go(self.line.saturating_add(1), self.column),
@@ -57,17 +48,30 @@ impl Screen {
         }
     }
 
-    fn play(&mut self, alloc: Global, bytes: &[u8]) -> Result<(), DecodeError> {
-        for span in Spans::new(65536, bytes) {
-            match span.kind {
-                Kind::Text => span.bytes.iter().for_each(|byte| self.show(*byte)),
-                Kind::Csi => {
-                    for action in decode_all(alloc, span.bytes, false)? {
-                        self.apply(&action);
-                    }
-                }
+    fn act(&mut self, alloc: Global, params: &[CsiParam], control: char) -> Result<(), AllocError> {
+        for action in CSI::parse(alloc, params, false, control) {
+            match &action? {
+                CSI::Cursor(cursor) => self.move_by(cursor),
+                CSI::Sgr(Sgr::Reset) => self.pen = ColorSpec::Default,
+                CSI::Sgr(Sgr::Foreground(color)) => self.pen = *color,
                 _ => {}
             }
+        }
+        Ok(())
+    }
+
+    fn play(&mut self, alloc: Global, bytes: &[u8]) -> Result<(), AllocError> {
+        let mut events = Events::new(65536);
+        let mut params = Vec::new(alloc);
+        let mut rest = bytes;
+        while let Some(told) = events.next(rest, &mut params)? {
+            match told.event {
+                Event::Text => told.bytes.iter().for_each(|byte| self.show(*byte)),
+                Event::Control(byte) => self.show(byte),
+                Event::Csi(control) => self.act(alloc, &params, control)?,
+                _ => {}
+            }
+            rest = told.rest;
         }
         Ok(())
     }

@@ -45,22 +45,58 @@ static void tell_event(const struct csicodec_stream *stream, const struct csicod
     }
 }
 
-/* The same events in one piece and in two, and as many bytes that wait. */
-static int any_pieces(const uint8_t *bytes, size_t len) {
+/* What the library itself tells of all the bytes; answers how many wait. */
+static size_t all_told(const uint8_t *bytes, size_t len, size_t limit) {
     struct csicodec_action actions[3];
-    size_t limit = 1 + any(20), cut = any((uint32_t)len + 1), waits[2];
-    uint64_t all[2];
-    for (int pieces = 0; pieces < 2; pieces++) {
-        struct csicodec_stream stream = csicodec_stream_of(limit, actions, 3, NULL, 0);
-        struct csicodec_event event;
-        size_t at = 0;
-        told = 0;
-        if (pieces)
-            for (; csicodec_next_event(&stream, bytes + at, cut - at, &event); at += event.used) tell_event(&stream, &event);
-        for (; csicodec_next_event(&stream, bytes + at, len - at, &event); at += event.used) tell_event(&stream, &event);
-        all[pieces] = told, waits[pieces] = len - at;
+    struct csicodec_stream stream = csicodec_stream_of(limit, actions, 3, NULL, 0);
+    struct csicodec_event event;
+    size_t at = 0;
+    told = 0;
+    for (;;) {
+        struct csicodec_told next = csicodec_event(stream.mode, limit, stream.looked, bytes + at, len - at, actions, 3, NULL, 0);
+        if (next.status != CSICODEC_OK) return len - at;
+        memset(&event, 0, sizeof event);
+        stream.mode = next.mode, stream.looked = next.looked;
+        event.kind = next.kind, event.bytes = bytes + at, event.len = event.used = next.used, event.actions = next.actions;
+        if (next.kind > CSICODEC_EVENT_ACTIONS) csicodec_event_says(&stream, &event);
+        tell_event(&stream, &event);
+        at += next.used;
     }
-    return all[0] == all[1] && waits[0] == waits[1];
+}
+
+/* The same in pieces that end at the cut, and then every so many bytes. */
+static int in_pieces(const uint8_t *bytes, size_t len, size_t limit, size_t cut, size_t piece) {
+    struct csicodec_action actions[3];
+    struct csicodec_stream stream = csicodec_stream_of(limit, actions, 3, NULL, 0);
+    struct csicodec_event event;
+    size_t at = 0, waits = all_told(bytes, len, limit);
+    uint64_t all = told;
+    for (told = 0;; cut = cut + piece < len ? cut + piece : len) {
+        for (; csicodec_next_event(&stream, bytes + at, cut - at, &event); at += event.used) tell_event(&stream, &event);
+        if (cut == len) break;
+    }
+    return all == told && waits == len - at;
+}
+
+static int every_cut(const uint8_t *bytes, size_t len) {
+    size_t limit = 1 + any(20);
+    for (size_t cut = 0; cut <= len; cut++)
+        if (!in_pieces(bytes, len, limit, cut, len)) return 0;
+    return 1;
+}
+
+/* A long sequence with controls in it, of which the last bytes may be beyond the limit. */
+static int of_a_long_sequence(void) {
+    static const char body[] = "0123456789;;;:\x07\x08\n\x7f";
+    size_t len = 3 + any(600);
+    uint8_t *bytes = block(len);
+    int good;
+    for (size_t i = 0; i < len; i++) bytes[i] = (uint8_t)body[any(sizeof body - 1)];
+    memcpy(bytes, "\x1b[", 2);
+    bytes[len - 1] = any(8) ? 'm' : any_byte();
+    good = in_pieces(bytes, len, len + 5 - any(8), any((uint32_t)len), 1 + any(60));
+    free(bytes);
+    return good;
 }
 
 static int all_calls(const uint8_t *bytes, size_t len) {
@@ -115,7 +151,7 @@ int main(int count, char **words) {
         size_t len = any(40);
         uint8_t *bytes = block(len);
         for (size_t j = 0; j < len; j++) bytes[j] = any_byte();
-        if (!all_calls(bytes, len) || !any_pieces(bytes, len)) {
+        if (!all_calls(bytes, len) || !every_cut(bytes, len) || !of_a_long_sequence()) {
             fprintf(stderr, "random: turn %ld isn't as promised\n", i);
             return 1;
         }

@@ -60,8 +60,11 @@ static int waits(void) {
         {"\xf0\x9f\x98\x80", 4, 4}, {"\xc3" "a", 2, 2}, {"\xc0", 1, 1}, {"\xe0\x80", 2, 2}, {"\xed\xa0", 2, 2}, {"\xf4\x90", 2, 2},
         {"\xff", 1, 1}, {"\x82\x82\x82\x82", 4, 4}};
     int good = 1;
-    for (size_t i = 0; i < sizeof cases / sizeof cases[0]; i++)
-        good &= csicodec_whole_text((const uint8_t *)cases[i].text, cases[i].len) == cases[i].whole;
+    for (size_t i = 0; i < sizeof cases / sizeof cases[0]; i++) {
+        struct csicodec_stream stream = csicodec_stream_of(64, NULL, 0, NULL, 0);
+        struct csicodec_event event;
+        good &= csicodec_next_event(&stream, (const uint8_t *)cases[i].text, cases[i].len, &event) && event.used == cases[i].whole;
+    }
     return good;
 }
 

@@ -353,6 +353,47 @@ struct csicodec_spanned {
  * where the bytes end, and may continue in the next ones. It takes no memory. */
 struct csicodec_spanned csicodec_span(uint32_t mode, size_t limit, const uint8_t *bytes, size_t len);
 
+enum csicodec_event_kind {
+    /* No event yet: pass the bytes again, before the bytes that come next. */
+    CSICODEC_EVENT_NONE = 0,
+    /* Characters, C0 controls other than ESC, and DEL. A UTF-8 character is cut only by a control within it. */
+    CSICODEC_EVENT_TEXT = 1,
+    /* A control sequence: its actions are in the caller's room. */
+    CSICODEC_EVENT_ACTIONS = 2,
+    /* An escape sequence. */
+    CSICODEC_EVENT_ESC = 3,
+    /* A piece of the data of a control string, without what opens and closes it. */
+    CSICODEC_EVENT_STRING = 4,
+    /* A malformed control, or a piece of it. */
+    CSICODEC_EVENT_OTHER = 5,
+    /* A C0 control within a control sequence; from csicodec_next_event it is a text of one byte. */
+    CSICODEC_EVENT_CONTROL = 6
+};
+
+struct csicodec_told {
+    /* CSICODEC_OK, CSICODEC_TRUNCATED, CSICODEC_MEMORY or CSICODEC_BAD_STATE. */
+    uint32_t status;
+    /* Of CSICODEC_OK, enum csicodec_event_kind. */
+    uint32_t kind;
+    /* Of CSICODEC_OK and CSICODEC_TRUNCATED, the mode and `looked` of the next call. */
+    uint32_t mode;
+    size_t looked;
+    /* Of CSICODEC_OK, how many bytes the event has: 0 of a control within a control sequence, which is bytes[looked - 1]. */
+    size_t used;
+    /* Of CSICODEC_EVENT_ACTIONS, the number of actions and of tokens. */
+    size_t actions;
+    size_t params;
+};
+
+/* The event at the front of len bytes of a stream, whose state the caller keeps: the mode, how many bytes of a control sequence at the
+ * front were looked at, and the bytes that wait. At the beginning both numbers are 0. After CSICODEC_TRUNCATED pass the same bytes with
+ * more behind them, otherwise what is behind the event. Of a control sequence the actions and tokens are written, as many as there is
+ * room for; the same call with more room writes all. After CSICODEC_MEMORY the state is as before. The status is CSICODEC_BAD_STATE for an unknown mode, a limit of 0, and a `looked` above 0
+ * if the bytes don't begin with ESC [ or are fewer. */
+struct csicodec_told csicodec_event(uint32_t mode, size_t limit, size_t looked, const uint8_t *bytes, size_t len,
+                                    struct csicodec_action *actions, size_t actions_room, struct csicodec_param *params,
+                                    size_t params_room);
+
 /* enum csicodec_esc_code: the code of an escape sequence, by its intermediate byte, or 0 for none, and its final byte; 0 if there
  * is no code. */
 uint32_t csicodec_esc(uint8_t intermediate, uint8_t final_byte);

@@ -1,5 +1,6 @@
 pub mod Filter
 pub mod Span
+pub mod Event
 pub mod Strip
 pub mod Live
 pub mod Compact

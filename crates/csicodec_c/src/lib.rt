@@ -2,6 +2,7 @@
 #![tactic(auto)]
 
 mod compact;
+mod event;
 mod filter;
 pub mod laws;
 mod live;
@@ -11,6 +12,7 @@ mod strip;
 mod version;
 
 pub use compact::{csicodec_compact, csicodec_compact_semicolons, csicodec_encode_compact};
+pub use event::{Evented, csicodec_event};
 pub use filter::{Filtered, csicodec_filter};
 pub use live::{Cleaned, Cleaning, csicodec_clean_end, csicodec_clean_step, csicodec_strip_step};
 pub use sequences::{csicodec_encode, csicodec_is_canonical, csicodec_next, csicodec_normalise};

@@ -1,0 +1,105 @@
+-- The answers of the call for an event, from the event and what the structs were laid into.
+use Rattle.std.proofs.Common.{◌≡◌, ◌⊎◌, ℕ, ◌-◌, List, [], length, take, drop, refl, sym, ap, subst, ◌∙◌, inl, inr, append-nil, arith}
+use Rattle.std.proofs.lemmas.List.{length-take, take-append-drop}
+use Rattle.csicodec_tokens.specs.declared.param.CsiParam.{CsiParam}
+use Rattle.csicodec_tokens.specs.declared.reader.ReadError.{ReadError}
+use Rattle.csicodec_tokens.specs.declared.reader.ReadError.TheVariants as reading
+use Rattle.csicodec_tokens.specs.Sequence.{Seq}
+use Rattle.csicodec_tokens.proofs.Unique.{one_seq}
+use Rattle.csicodec_spans.specs.declared.table.Mode.{Mode}
+use Rattle.csicodec_spans.specs.declared.table.Mode.TheVariants as modes
+use Rattle.csicodec_spans.proofs.Sequences.{short, whole}
+use Rattle.csicodec_events.specs.declared.event.Event.{Event}
+use Rattle.csicodec_events.specs.declared.event.Event.TheVariants as event
+use Rattle.csicodec_events.specs.declared.event.Events.{Events}
+use Rattle.csicodec_events.specs.Events.{BeginsCsi, onward, without_controls}
+use Rattle.csicodec_events.proofs.Sequences.{at_once}
+use Rattle.csicodec_structs.specs.declared.next.Front.{Front}
+use Rattle.csicodec_structs.specs.declared.structs.Param.{Param}
+use Rattle.csicodec_structs.specs.declared.structs.Struct.{Struct}
+use Rattle.csicodec_structs.specs.Next.{IsDone as IsLaid, IsRefused as IsUnlaid, refusal}
+use Rattle.csicodec_c.specs.declared.event.Evented.{Evented}
+use Rattle.csicodec_c.specs.Filter.{mode_number}
+use Rattle.csicodec_c.specs.Event.{HasPut, IsDone, IsRefused, IsWaiting, Puts, read_at_once, stream}
+
+-- ---- what was laid
+
+no_done : (error : ReadError) → (refusal error).status ≡ 0 → ⊥
+no_done (reading.NotCsi at) e = omega (arith, e)
+no_done (reading.BadByte at) e = omega (arith, e)
+no_done (reading.NumberTooLarge at) e = omega (arith, e)
+no_done (reading.Truncated at) e = omega (arith, e)
+no_done reading.Memory e = omega (arith, e)
+
+-- it was laid where the status says so
+pub laid : (bytes : List ℕ) (a b : List Struct) (p q : List Param) (front : Front) → (IsLaid bytes a b p q front ⊎ IsUnlaid bytes a b p q front) → front.status ≡ 0 → IsLaid bytes a b p q front
+laid bytes a b p q front (inl d) ok = d
+laid bytes a b p q front (inr r) ok = absurd (no_done r.error (ap (λ (f : Front). f.status) (sym r.tells) ∙ ok))
+
+-- and nothing was where it says neither this nor that memory ran out
+pub unlaid : (bytes : List ℕ) (a b : List Struct) (p q : List Param) (front : Front) → (IsLaid bytes a b p q front ⊎ IsUnlaid bytes a b p q front) → (front.status ≡ 0 → ⊥) → (front.status ≡ 5 → ⊥)
+    → (b ≡ a) × (q ≡ p)
+unlaid bytes a b p q front (inl d) done memory = absurd (done d.ok)
+unlaid bytes a b p q front (inr r) done memory =
+    let other : r.error ≡ reading.Memory → ⊥ = λ m. memory (ap (λ (f : Front). f.status) r.tells ∙ ap (λ (x : ReadError). (refusal x).status) m) in
+    (r.actions_stay other, r.params_stay other)
+
+-- ---- a sequence whose controls were left out
+
+pub put_read : (read bytes : List ℕ) (list : List CsiParam) (final : ℕ) (a b : List Struct) (p q : List Param) (front : Front) → read ≡ without_controls bytes → Seq (without_controls bytes) list final
+    → IsLaid read a b p q front → HasPut list final a b p q front.actions front.params
+put_read read bytes list final a b p q front is s d =
+    let f = d.front in
+    let (text, seq, split) = f.reads in
+    let here : Seq read list final = subst (λ (x : List ℕ). Seq x list final) (sym is) s in
+    let same = one_seq text read d.rest [] f.list list f.final final seq here (sym split ∙ sym (append-nil read)) in
+    (d.actions, rw (← same.1, ← same.2) f.are, record { actions = d.count; params = d.params; lays_actions = d.lays_actions; lays_params = d.lays_params })
+
+-- ---- a sequence that is read at once
+
+pub read_done : (number limit looked : ℕ) (bytes near : List ℕ) (m : Mode) (a b : List Struct) (p q : List Param) (front : Front) (answer : Evented) → number ≡ mode_number m → looked ≡ 0 → BeginsCsi bytes
+    → near ≡ take limit bytes → IsLaid near a b p q front → answer ≡ read_at_once front → IsDone number limit looked bytes a b p q answer
+read_done number limit looked bytes near m a b p q front answer began none begins is laid e =
+    let d = subst (λ (x : List ℕ). IsLaid x a b p q front) is laid in
+    let f = d.front in
+    let s : Events = stream limit m looked in
+    let n = length (take limit bytes) - length d.rest in
+    let seq = whole limit bytes d.rest f.list f.final f.reads in
+    let csi = at_once s bytes (take n bytes) (drop n bytes) f.list f.final none seq (sym (take-append-drop n bytes)) (short limit bytes d.rest) in
+    rw e (record {
+      before = m;
+      after = onward s modes.Text 0;
+      told = event.Csi f.final;
+      list = f.list;
+      text = take n bytes;
+      rest = drop n bytes;
+      began = began;
+      tells = (begins, csi);
+      parts = sym (take-append-drop n bytes);
+      ok = refl;
+      is = refl;
+      mode = refl;
+      looks = refl;
+      used = omega (arith, d.used, length-take limit bytes, length-take n bytes);
+      puts = (d.actions, f.are, record { actions = d.count; params = d.params; lays_actions = d.lays_actions; lays_params = d.lays_params });
+    })
+
+-- ---- any other event
+
+pub puts_none : (x : Event) (list : List CsiParam) (a : List Struct) (p : List Param) (answer : Evented) → ((final : ℕ) → x ≡ event.Csi final → ⊥) → answer.actions ≡ 0 → answer.params ≡ 0
+    → Puts x list a a p p answer
+puts_none (event.Csi final) list a p answer other actions params = absurd (other final refl)
+puts_none event.Text list a p answer other actions params = (actions, params, refl, refl)
+puts_none (event.Control b) list a p answer other actions params = (actions, params, refl, refl)
+puts_none event.Esc list a p answer other actions params = (actions, params, refl, refl)
+puts_none event.Str list a p answer other actions params = (actions, params, refl, refl)
+puts_none event.Other list a p answer other actions params = (actions, params, refl, refl)
+
+-- how the call for an event ends
+abbrev pub Ends : ℕ → ℕ → ℕ → List ℕ → List Struct → List Struct → List Param → List Param → Evented → Type 0
+Ends number limit looked bytes a b p q answer =
+    IsDone number limit looked bytes a b p q answer ⊎ (IsWaiting number limit looked bytes a b p q answer ⊎ IsRefused number limit looked bytes answer)
+
+pub same_room : (number limit looked : ℕ) (bytes : List ℕ) (m : Mode) (a c b : List Struct) (p r q : List Param) (answer : Evented) → number ≡ mode_number m → c ≡ a → r ≡ p
+    → Ends (mode_number m) limit looked bytes c b r q answer → Ends number limit looked bytes a b p q answer
+same_room number limit looked bytes m a c b p r q answer began actions params h = rw (began, ← actions, ← params) h

@@ -7,6 +7,7 @@
 #![tactic(auto)]
 
 mod commands;
+mod events;
 mod explain;
 mod forms;
 mod reads;
@@ -37,6 +38,7 @@ fn told(alloc: Global, row: &str) -> Result<String, AllocError> {
         "pieces" => shortest::pieces(alloc, rest),
         "encode" => shortest::encode(alloc, rest),
         "spans" => spans::spans(alloc, rest),
+        "events" => events::events(alloc, rest),
         "string" => words::string(alloc, rest),
         "words" => words::words(alloc, rest),
         "value" => words::value(alloc, rest),

@@ -1,0 +1,88 @@
+//! Streams told event by event.
+ghost use Rattle.std.specs.Prelude.{◌<◌};
+
+use crate::spelling::{bytes_of, law, spelled};
+use csicodec_base::CsiParam;
+use csicodec_events::{Event, Events, Told};
+use csicodec_streams::keep_from;
+use std::alloc::{AllocError, Global};
+
+fn letter(event: Event) -> char {
+    match event {
+        Event::Text => 'T',
+        Event::Control(_) => 'B',
+        Event::Csi(_) => 'C',
+        Event::Esc => 'E',
+        Event::Str => 'S',
+        Event::Other => 'O',
+    }
+}
+
+/// The letter of an event, and its bytes; of a sequence its tokens and its final byte. What goes on has no letter of its own.
+fn append_told(
+    all: &mut String,
+    before: Option<char>,
+    told: &Told<'_>,
+    params: &[CsiParam],
+) -> Result<(), AllocError> {
+    let alloc = *all.allocator();
+    let now = letter(told.event);
+    if before != Some(now) || !matches!(now, 'T' | 'S' | 'O') {
+        if !all.is_empty() {
+            all.push(' ')?;
+        }
+        all.push(now)?;
+    }
+    match told.event {
+        Event::Control(byte) => all.push_str(spelled(alloc, &[byte])?.as_str()),
+        Event::Csi(control) => {
+            for token in params {
+                all.push_str(format!(in alloc; "{token}")?.as_str())?;
+            }
+            all.push(control)
+        }
+        _ => all.push_str(spelled(alloc, told.bytes)?.as_str()),
+    }
+}
+
+/// The events of bytes that come by so many at a time, and how many wait.
+fn told_by(alloc: Global, limit: usize, bytes: &[u8], step: usize) -> Result<String, AllocError>
+    requires limit { 0 < limit }
+    requires step { 0 < step }
+{
+    let mut all = String::new(alloc);
+    let mut params = Vec::new(alloc);
+    let mut pending = Vec::new(alloc);
+    let mut events = Events::new(limit);
+    let mut before = None;
+    for chunk in bytes.chunks(step) {
+        pending.extend_from_slice(chunk)?;
+        for _ in 0..=2 * pending.len() {
+            let held = pending.as_slice();
+            if !events.is_met(held) {
+                break;
+            }
+            let Some(told) = events.next(held, &mut params)? else {
+                break;
+            };
+            append_told(&mut all, before, &told, &params)?;
+            before = Some(letter(told.event));
+            let used = pending.len().saturating_sub(told.rest.len());
+            keep_from(&mut pending, used);
+        }
+    }
+    let waits = pending.len();
+    format!(in alloc; "{all} {waits}")
+}
+
+/// `events LIMIT BYTES`: the events of the bytes, with sequences of at most so many; and in any chunks the same.
+pub(crate) fn events(alloc: Global, words: &str) -> Result<String, AllocError> {
+    let (limit, word) = words.split_once(' ').unwrap_or((words, ""));
+    let bytes = bytes_of(alloc, word)?;
+    let limit = limit.parse().unwrap_or(0usize).max(1);
+    let told = told_by(alloc, limit, &bytes, 64)?;
+    let by_one = told_by(alloc, limit, &bytes, 1)?;
+    let by_seven = told_by(alloc, limit, &bytes, 7)?;
+    let end = law(by_one.as_str() == told.as_str() && by_seven.as_str() == told.as_str());
+    format!(in alloc; "{told}{end}")
+}

@@ -94,20 +94,6 @@ static inline struct csicodec_stream csicodec_stream_of(size_t limit, struct csi
     return stream;
 }
 
-/* How many bytes stand ahead of the first ESC, by eight at a time. */
-static inline size_t csicodec_ahead_of_esc(const uint8_t *bytes, size_t len) {
-    size_t ahead = 0;
-    for (; len - ahead >= 8; ahead += 8) {
-        uint64_t word;
-        memcpy(&word, bytes + ahead, 8);
-        /* A byte that is 0 now is an ESC. */
-        word ^= UINT64_C(0x1b1b1b1b1b1b1b1b);
-        if ((word - UINT64_C(0x0101010101010101)) & ~word & UINT64_C(0x8080808080808080)) break;
-    }
-    while (ahead < len && bytes[ahead] != 0x1b) ahead++;
-    return ahead;
-}
-
 /* A piece of a string: without ESC and what opened it in the first, and without BEL or ST in the last. */
 static inline void csicodec_string_event(struct csicodec_stream *stream, struct csicodec_event *event) {
     const uint8_t *bytes = event->bytes;
@@ -139,37 +125,56 @@ static inline void csicodec_event_says(struct csicodec_stream *stream, struct cs
     }
 }
 
-/* The next event of a stream at the front of len bytes. If it returns 0 there is none, and the bytes wait; otherwise continue at
- * bytes + event->used. At the end of the stream the bytes that wait are an unfinished control or an incomplete character. */
-static inline int csicodec_next_event(struct csicodec_stream *stream, const uint8_t *bytes, size_t len,
-                                      struct csicodec_event *event) {
-    struct csicodec_told told;
-    memset(event, 0, sizeof *event);
-    if (!len) return 0;
+/* The event of so many bytes at the front, behind which the stream goes on in the mode. */
+static inline int csicodec_event_of(struct csicodec_stream *stream, struct csicodec_event *event, uint32_t kind, const uint8_t *bytes,
+                                    size_t used, uint32_t mode) {
+    stream->mode = mode;
+    event->kind = kind;
     event->bytes = bytes;
-    if (stream->mode == CSICODEC_FILTER_TEXT && bytes[0] != 0x1b && stream->limit) {
-        size_t ahead = csicodec_ahead_of_esc(bytes, len);
-        if (ahead < len || bytes[len - 1] < 0x80) {
-            event->kind = CSICODEC_EVENT_TEXT;
-            event->len = event->used = ahead;
-            return 1;
-        }
-    }
-    told = csicodec_event(stream->mode, stream->limit, stream->looked, bytes, len, stream->actions, stream->actions_room,
-                          stream->params, stream->params_room);
+    event->len = event->used = used;
+    return 1;
+}
+
+/* What csicodec_event tells. */
+static inline int csicodec_told_event(struct csicodec_stream *stream, const uint8_t *bytes, size_t len, struct csicodec_event *event) {
+    struct csicodec_told told = csicodec_event(stream->mode, stream->limit, stream->looked, bytes, len, stream->actions,
+                                               stream->actions_room, stream->params, stream->params_room);
     if (told.status != CSICODEC_OK) {
         if (told.status == CSICODEC_TRUNCATED) stream->looked = told.looked;
         else event->status = told.status;
         return 0;
     }
-    stream->mode = told.mode;
     stream->looked = told.looked;
-    event->kind = told.kind;
-    event->len = event->used = told.used;
     event->actions = told.actions;
     event->params = told.params;
+    csicodec_event_of(stream, event, told.kind, bytes, told.used, told.mode);
     if (told.kind > CSICODEC_EVENT_ACTIONS) csicodec_event_says(stream, event);
     return 1;
+}
+
+/* The next event of a stream at the front of len bytes. If it returns 0 there is none, and the bytes wait; otherwise continue at
+ * bytes + event->used. At the end of the stream the bytes that wait are an unfinished control or an incomplete character.
+ *
+ * It is a call of csicodec_event, but for what needs none: text up to an ESC, or up to ASCII, while no control is open, and a control
+ * sequence that csicodec_next reads at once. */
+static inline int csicodec_next_event(struct csicodec_stream *stream, const uint8_t *bytes, size_t len,
+                                      struct csicodec_event *event) {
+    memset(event, 0, sizeof *event);
+    if (!len) return 0;
+    if (bytes[0] != 0x1b && stream->mode == CSICODEC_FILTER_TEXT && stream->limit) {
+        const uint8_t *esc = (const uint8_t *)memchr(bytes, 0x1b, len);
+        if (esc || bytes[len - 1] < 0x80)
+            return csicodec_event_of(stream, event, CSICODEC_EVENT_TEXT, bytes, esc ? (size_t)(esc - bytes) : len, CSICODEC_FILTER_TEXT);
+    } else if (len > 1 && bytes[0] == 0x1b && bytes[1] == '[' && !stream->looked && stream->mode <= CSICODEC_FILTER_BAD_ESC) {
+        struct csicodec_front front = csicodec_next(bytes, len < stream->limit ? len : stream->limit, stream->actions,
+                                                    stream->actions_room, stream->params, stream->params_room);
+        if (front.status == CSICODEC_OK) {
+            event->actions = front.actions;
+            event->params = front.params;
+            return csicodec_event_of(stream, event, CSICODEC_EVENT_ACTIONS, bytes, front.used, CSICODEC_FILTER_TEXT);
+        }
+    }
+    return csicodec_told_event(stream, bytes, len, event);
 }
 
 #endif

@@ -1,5 +1,5 @@
 /* A hostile control sequence that comes byte by byte is looked at a fixed number of times, however long it is: how many bytes all
- * calls are passed. Link with -Wl,--wrap=csicodec_next,--wrap=csicodec_span,--wrap=csicodec_filter. */
+ * calls are passed. Link with -Wl,--wrap=csicodec_next,--wrap=csicodec_event,--wrap=csicodec_span,--wrap=csicodec_filter. */
 #include "csicodec.h"
 
 #include <stdio.h>
@@ -9,6 +9,9 @@ enum { LONGEST = 60000, LIMIT = 65536 };
 
 struct csicodec_front __real_csicodec_next(const uint8_t *bytes, size_t len, struct csicodec_action *actions, size_t actions_room,
                                            struct csicodec_param *params, size_t params_room);
+struct csicodec_told __real_csicodec_event(uint32_t mode, size_t limit, size_t looked, const uint8_t *bytes, size_t len,
+                                           struct csicodec_action *actions, size_t actions_room, struct csicodec_param *params,
+                                           size_t params_room);
 struct csicodec_spanned __real_csicodec_span(uint32_t mode, size_t limit, const uint8_t *bytes, size_t len);
 struct csicodec_filtered __real_csicodec_filter(uint32_t mode, size_t limit, const uint8_t *bytes, size_t len, uint8_t *out, size_t room);
 
@@ -18,6 +21,15 @@ struct csicodec_front __wrap_csicodec_next(const uint8_t *bytes, size_t len, str
                                            struct csicodec_param *params, size_t params_room) {
     passed += len;
     return __real_csicodec_next(bytes, len, actions, actions_room, params, params_room);
+}
+
+/* It is passed all that waits, but begins where the call before it ended. */
+struct csicodec_told __wrap_csicodec_event(uint32_t mode, size_t limit, size_t looked, const uint8_t *bytes, size_t len,
+                                           struct csicodec_action *actions, size_t actions_room, struct csicodec_param *params,
+                                           size_t params_room) {
+    struct csicodec_told told = __real_csicodec_event(mode, limit, looked, bytes, len, actions, actions_room, params, params_room);
+    passed += told.used ? told.used : told.looked - looked;
+    return told;
 }
 
 struct csicodec_spanned __wrap_csicodec_span(uint32_t mode, size_t limit, const uint8_t *bytes, size_t len) {

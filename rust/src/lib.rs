@@ -13,13 +13,16 @@
 
 mod actions;
 mod esc;
+mod event;
 mod filter;
 mod numbers;
 mod page;
+mod parser;
 mod pen;
 mod pending;
 mod room;
 mod rows;
+mod spans;
 mod stream;
 mod strip;
 mod text;
@@ -28,9 +31,12 @@ mod values;
 
 pub use actions::*;
 pub use esc::{Esc, EscCode};
+pub use event::{Event, StringKind};
 pub use filter::Filter;
+pub use parser::Parser;
 pub use pen::Pen;
-pub use stream::{Event, Events, Parser, Span, SpanKind, Spans, StringKind, events, spans};
+pub use spans::{Span, SpanKind, Spans, spans};
+pub use stream::{Events, events};
 pub use strip::{Cleaner, Depth, Passing, clean, clean_with, strip};
 pub use text::characters;
 pub use types::*;

@@ -1,7 +1,6 @@
 //! Bytes of a stream that wait for more.
 
 use crate::Error;
-use crate::stream::goes_on;
 
 /// The most bytes that a control sequence may have.
 pub(crate) const LIMIT: usize = 65536;
@@ -47,8 +46,7 @@ impl Pending {
         self.bytes.extend_from_slice(bytes);
         let sequence = &self.bytes[self.held..];
         let looked = std::mem::replace(&mut self.looked, sequence.len());
-        let stays = |byte| matches!(byte, 0x20..=0x3f);
-        if sequence.len() < limit && goes_on(sequence, looked, stays) {
+        if sequence.len() < limit && goes_on(sequence, looked) {
             return Ok(None);
         }
         self.looked = 0;
@@ -71,4 +69,10 @@ impl Pending {
             room = answer.needed;
         }
     }
+}
+
+/// Whether a control sequence isn't over, of whose bytes so many were looked at: none of the others can end it.
+fn goes_on(bytes: &[u8], looked: usize) -> bool {
+    let stays = |byte: &u8| matches!(byte, 0x20..=0x3f);
+    looked >= 2 && bytes.starts_with(b"\x1b[") && bytes[looked..].iter().all(stays)
 }

@@ -22,18 +22,43 @@ impl Room {
     pub(crate) fn next(&mut self, bytes: &[u8]) -> raw::Front {
         let mut front = raw::next(bytes, &mut self.actions, &mut self.params);
         if front.actions > self.actions.len() || front.params > self.params.len() {
-            self.grow(&front);
+            self.grow(front.actions, front.params);
             front = raw::next(bytes, &mut self.actions, &mut self.params);
         }
         front
     }
 
+    /// The event at the front of the bytes. Where it is a control sequence, all its actions stand here.
+    #[inline]
+    pub(crate) fn event(
+        &mut self,
+        mode: u32,
+        limit: usize,
+        looked: usize,
+        bytes: &[u8],
+    ) -> raw::Told {
+        let (actions, params) = (&mut self.actions, &mut self.params);
+        let told = raw::event(mode, limit, looked, bytes, actions, params);
+        if told.actions <= actions.len() && told.params <= params.len() {
+            return told;
+        }
+        self.grow(told.actions, told.params);
+        raw::event(
+            mode,
+            limit,
+            looked,
+            bytes,
+            &mut self.actions,
+            &mut self.params,
+        )
+    }
+
     /// Makes as much room as a sequence needs.
     #[cold]
-    fn grow(&mut self, front: &raw::Front) {
-        let actions = front.actions.max(self.actions.len());
+    fn grow(&mut self, actions: usize, params: usize) {
+        let actions = actions.max(self.actions.len());
         self.actions.resize(actions, raw::Action::default());
-        let params = front.params.max(self.params.len());
+        let params = params.max(self.params.len());
         self.params.resize(params, raw::Param::default());
     }
 

@@ -15,41 +15,24 @@ pub fn characters(text: &[u8]) -> impl Iterator<Item = char> + Clone {
     })
 }
 
-/// How many bytes of the text there are before an incomplete character at its end: all, if there is none.
-pub(crate) fn whole(text: &[u8]) -> usize {
-    let last = &text[text.len().saturating_sub(3)..];
-    let Some(start) = last.iter().rposition(|byte| *byte >= 0xc0) else {
-        return text.len();
-    };
-    match std::str::from_utf8(&last[start..]) {
-        Err(error) if error.error_len().is_none() => text.len() - last.len() + start,
-        _ => text.len(),
-    }
-}
-
-#[cfg(test)]
-mod tests {
-    use super::whole;
-
-    #[test]
-    fn cut_characters_wait() {
-        for (text, wanted) in [
-            (b"".as_slice(), 0),
-            (b"a", 1),
-            (b"a\xc3", 1),
-            (b"\xc3\xa9", 2),
-            (b"ab\xe2\x82", 2),
-            (b"\xe2\x82\xac", 3),
-            (b"a\xf0\x9f\x98", 1),
-            (b"\xf0\x9f\x98\x80", 4),
-            // No character begins so.
-            (b"\xc3a", 2),
-            (b"\xc0", 1),
-            (b"\xe0\x80", 2),
-            (b"\xff", 1),
-            (b"\x82\x82\x82\x82", 4),
-        ] {
-            assert_eq!(whole(text), wanted, "{text:?}");
+/// How many bytes stand ahead of the first ESC, or all, by eight at a time.
+pub(crate) fn ahead_of_esc(bytes: &[u8]) -> usize {
+    const ONES: u64 = u64::from_ne_bytes([1; 8]);
+    let mut ahead = 0;
+    let mut rest = bytes;
+    while let Some((word, others)) = rest.split_first_chunk() {
+        // What is 0 now is an ESC; the lowest bit that is set stands in the first of them.
+        let word = u64::from_le_bytes(*word) ^ (ONES * 0x1b);
+        let found = word.wrapping_sub(ONES) & !word & (ONES << 7);
+        if found != 0 {
+            return ahead + found.trailing_zeros() as usize / 8;
         }
+        ahead += 8;
+        rest = others;
     }
+    ahead
+        + rest
+            .iter()
+            .position(|byte| *byte == 0x1b)
+            .unwrap_or(rest.len())
 }

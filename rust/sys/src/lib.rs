@@ -112,6 +112,18 @@ pub struct Spanned {
     pub used: usize,
 }
 
+#[repr(C)]
+#[derive(Clone, Copy, Debug, PartialEq, Eq)]
+pub struct Told {
+    pub status: u32,
+    pub kind: u32,
+    pub mode: u32,
+    pub looked: usize,
+    pub used: usize,
+    pub actions: usize,
+    pub params: usize,
+}
+
 const _: () = assert!(size_of::<Action>() == 64 && size_of::<Param>() == 16);
 const _: () = assert!(size_of::<Cleaning>() == 16 && size_of::<Cleaned>() == 40);
 
@@ -125,6 +137,17 @@ unsafe extern "C" {
         params: *mut Param,
         params_room: usize,
     ) -> Front;
+    fn csicodec_event(
+        mode: u32,
+        limit: usize,
+        looked: usize,
+        bytes: *const u8,
+        len: usize,
+        actions: *mut Action,
+        actions_room: usize,
+        params: *mut Param,
+        params_room: usize,
+    ) -> Told;
     fn csicodec_encode(
         actions: *const Action,
         count: usize,
@@ -219,6 +242,30 @@ pub fn next(bytes: &[u8], actions: &mut [Action], params: &mut [Param]) -> Front
     // SAFETY: as above.
     unsafe {
         csicodec_next(
+            bytes.as_ptr(),
+            bytes.len(),
+            actions.as_mut_ptr(),
+            actions.len(),
+            params.as_mut_ptr(),
+            params.len(),
+        )
+    }
+}
+
+pub fn event(
+    mode: u32,
+    limit: usize,
+    looked: usize,
+    bytes: &[u8],
+    actions: &mut [Action],
+    params: &mut [Param],
+) -> Told {
+    // SAFETY: as above.
+    unsafe {
+        csicodec_event(
+            mode,
+            limit,
+            looked,
             bytes.as_ptr(),
             bytes.len(),
             actions.as_mut_ptr(),

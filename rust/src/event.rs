@@ -1,0 +1,86 @@
+//! An event of a stream.
+
+use crate::{CSI, Esc};
+
+/// What opened a control string.
+#[derive(Clone, Copy, Debug, PartialEq, Eq, Hash)]
+#[non_exhaustive]
+pub enum StringKind {
+    /// `ESC P`, a device control string.
+    Dcs,
+    /// `ESC X`, a string of characters.
+    Sos,
+    /// `ESC ]`, an operating system command.
+    Osc,
+    /// `ESC ^`, a privacy message.
+    Pm,
+    /// `ESC _`, a command to a program.
+    Apc,
+}
+
+/// An event of a stream.
+#[derive(Clone, Debug, PartialEq, Eq)]
+#[non_exhaustive]
+pub enum Event<'a> {
+    /// Characters, C0 controls other than ESC, and DEL: [`characters`](crate::characters) gives them one by one. A UTF-8 character is
+    /// cut only by a control within it.
+    Text(&'a [u8]),
+    /// An action of a control sequence. Its further actions follow.
+    Csi(CSI),
+    /// An escape sequence.
+    Esc(Esc),
+    /// A piece of a control string. A cancelled string has no last piece: another event follows.
+    Str {
+        /// What opened it.
+        kind: StringKind,
+        /// The data, without what opens and closes the string.
+        bytes: &'a [u8],
+        /// Whether it is the first piece.
+        first: bool,
+        /// Whether it is the last piece.
+        last: bool,
+    },
+    /// A malformed control, or a piece of it.
+    Other(&'a [u8]),
+}
+
+impl StringKind {
+    /// What opened the string that the bytes begin, if they do.
+    pub(crate) fn of(bytes: &[u8]) -> Option<Self> {
+        match bytes {
+            [0x1b, b'P', ..] => Some(StringKind::Dcs),
+            [0x1b, b'X', ..] => Some(StringKind::Sos),
+            [0x1b, b']', ..] => Some(StringKind::Osc),
+            [0x1b, b'^', ..] => Some(StringKind::Pm),
+            [0x1b, b'_', ..] => Some(StringKind::Apc),
+            _ => None,
+        }
+    }
+}
+
+/// A piece of a control string, without what opens and closes it. It is of the string that was opened last.
+pub(crate) fn piece<'a>(string: &mut StringKind, bytes: &'a [u8], last: bool) -> Event<'a> {
+    let opened = StringKind::of(bytes);
+    *string = opened.unwrap_or(*string);
+    let start = if opened.is_some() { 2 } else { 0 };
+    let end = match bytes {
+        [.., 0x07] if last => 1,
+        _ if last => 2,
+        _ => 0,
+    };
+    Event::Str {
+        kind: *string,
+        bytes: &bytes[start..bytes.len() - end],
+        first: opened.is_some(),
+        last,
+    }
+}
+
+/// The escape sequence that the bytes are.
+pub(crate) fn escape(bytes: &[u8]) -> Esc {
+    match bytes {
+        [_, intermediate, control] => Esc::parse(Some(*intermediate), *control),
+        [.., control] => Esc::parse(None, *control),
+        [] => Esc::parse(None, 0),
+    }
+}

@@ -1,0 +1,94 @@
+//! A stream that comes in pieces.
+
+use crate::Event;
+use crate::stream::Reader;
+use std::io::{self, ErrorKind, Read};
+
+/// Reads a stream that comes in pieces. How it is cut changes only where text, strings and malformed controls are cut; it never cuts
+/// a character of text.
+///
+/// ```
+/// use csicodec::{Event, Parser};
+///
+/// let mut parser = Parser::new();
+/// let mut texts = 0;
+/// for piece in [b"a\x1b[".as_slice(), b"1mb"] {
+///     parser.advance(piece, &mut |event| texts += u32::from(matches!(event, Event::Text(_))));
+/// }
+/// assert_eq!(texts, 2);
+/// ```
+#[derive(Clone, Debug)]
+pub struct Parser {
+    reader: Reader,
+    held: Vec<u8>,
+}
+
+impl Default for Parser {
+    fn default() -> Self {
+        Parser::new()
+    }
+}
+
+impl Parser {
+    /// A new stream. A control sequence of more than 65,536 bytes is `Other`.
+    pub fn new() -> Self {
+        Parser {
+            reader: Reader::new(false),
+            held: Vec::new(),
+        }
+    }
+
+    /// Takes the next bytes, and passes each event that is sure now. The other bytes are held: fewer than 65,536.
+    pub fn advance<F: FnMut(Event<'_>)>(&mut self, bytes: &[u8], tell: &mut F) {
+        if self.held.is_empty() {
+            let used = run(&mut self.reader, bytes, tell);
+            self.held.extend_from_slice(&bytes[used..]);
+        } else {
+            self.held.extend_from_slice(bytes);
+            let used = run(&mut self.reader, &self.held, tell);
+            self.held.drain(..used);
+        }
+    }
+
+    /// The bytes that are held. At the end of the stream they are an unfinished control or an incomplete character.
+    pub fn held(&self) -> &[u8] {
+        &self.held
+    }
+
+    /// The end of the stream: passes what is held as an event.
+    pub fn finish<F: FnMut(Event<'_>)>(mut self, tell: &mut F) {
+        self.reader.ends = true;
+        let used = run(&mut self.reader, &self.held, tell);
+        if used < self.held.len() {
+            tell(Event::Other(&self.held[used..]));
+        }
+    }
+
+    /// Reads to the end, in pieces, and passes each event, at last what is held. After an `Err`, which is the reader's, what is held
+    /// isn't passed.
+    pub fn read_to_end<F: FnMut(Event<'_>)>(
+        mut self,
+        mut from: impl Read,
+        tell: &mut F,
+    ) -> io::Result<()> {
+        let mut piece = [0; 4096];
+        loop {
+            match from.read(&mut piece) {
+                Ok(0) => break,
+                Ok(count) => self.advance(&piece[..count], tell),
+                Err(error) if error.kind() == ErrorKind::Interrupted => {}
+                Err(error) => return Err(error),
+            }
+        }
+        self.finish(tell);
+        Ok(())
+    }
+}
+
+fn run<F: FnMut(Event<'_>)>(reader: &mut Reader, bytes: &[u8], tell: &mut F) -> usize {
+    let mut rest = bytes;
+    while let Some(event) = reader.next(&mut rest) {
+        tell(event);
+    }
+    bytes.len() - rest.len()
+}

@@ -5,6 +5,8 @@ typedef __SIZE_TYPE__ size_t;
 typedef __PTRDIFF_TYPE__ ptrdiff_t;
 char *getenv(const char *);
 int *__errno_location(void);
+void (*signal(int, void (*)(int)))(int);
+ptrdiff_t write(int, const void *, size_t);
 extern char **environ;
 
 static int count;
@@ -42,10 +44,8 @@ static int is_among(const char *word, const char *list) {
 int run_normal(void), run_explain(void), run_stream(void);
 
 /* The first word that is no option, and no value of one, says which program runs, as program_of in tools/programs has it. */
-int main(int n, char **v) {
+static int run(int n, char **v) {
     int i;
-    count = n;
-    words = v;
     if (n < 2) return run_normal();
     for (i = 1; i < n; i++) {
         if (is_among(v[i], STREAM_WORDS)) return run_stream();
@@ -53,4 +53,20 @@ int main(int n, char **v) {
         else if (v[i][0] != '-' || !v[i][1]) break;
     }
     return run_explain();
+}
+
+/* The status that a program ends with where the reader of its output went away (GONE in csicodec_command), and SIGPIPE. */
+enum { GONE = 141, PIPE = 13 };
+
+int main(int n, char **v) {
+    int status;
+    count = n;
+    words = v;
+    status = run(n, v);
+    if (status == GONE) {
+        /* Other programs end by the signal then, which one more write brings. */
+        signal(PIPE, 0);
+        write(1, "", 1);
+    }
+    return status;
 }

@@ -6,10 +6,10 @@ mod command;
 mod recording;
 mod report;
 mod run;
+mod words;
 
-pub use command::{
-    ColorWhen, Colors, Command, Request, Task, USAGE, VERSION, Wanted, Wrong, command_of,
-};
+pub use command::{ColorWhen, Colors, Command, Request, Task, Wanted, Wrong, command_of};
 pub use recording::{Recording, micros, time_of};
 pub use report::Failure;
 pub use run::{Worker, asked, failed, refused, text_of, words_of, work_through};
+pub use words::{USAGE, VERSION};

@@ -6,6 +6,10 @@ ghost use Rattle.csicodec_command.specs.declared.report.Failure.TheVariants.{Run
 use csicodec_streams::RunError;
 use std::fmt;
 
+/// The status where the reader of the output went away: the one that a shell tells of a program that SIGPIPE ended (128 + 13), as
+/// most programs end then.
+pub const GONE: u8 = 141;
+
 /// Why a run failed.
 #[derive(Clone, Copy)]
 pub enum Failure {

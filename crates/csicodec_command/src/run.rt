@@ -1,12 +1,13 @@
 //! A run of a program: its words, its inputs one after the other, and what it tells of what failed.
 
-use crate::command::{Command, HINT, Request, USAGE, VERSION, Wrong, command_of};
-use crate::report::Failure;
+use crate::command::{Command, Request, Wrong, command_of};
+use crate::report::{Failure, GONE};
+use crate::words::{HINT, USAGE, VERSION, WAITS};
 use csicodec_streams::RunError;
 use std::alloc::Global;
 use std::env;
 use std::fs::File;
-use std::io::{self, BufRead, BufReader, ErrorKind, Read, Stdout, Write};
+use std::io::{self, BufRead, BufReader, ErrorKind, IsTerminal, Read, Stdout, Write};
 
 /// The name of standard input.
 const INPUT: &str = "-";
@@ -33,6 +34,11 @@ pub trait Worker {
     fn end<W: Write>(&mut self, output: &mut W) -> Result<(), RunError>;
 }
 
+/// Whether a write failed since the reader went away.
+fn is_gone(error: io::Error) -> bool {
+    error.kind() == ErrorKind::BrokenPipe
+}
+
 /// Standard output, and why its last write failed, if it did.
 #[derive(Drop)]
 struct Output {
@@ -41,10 +47,9 @@ struct Output {
 }
 
 impl Output {
-    /// Whether who read it went away.
+    /// Whether its reader went away.
     fn is_gone(&self) -> bool {
-        self.fault
-            .is_some_and(|error| error.kind() == ErrorKind::BrokenPipe)
+        self.fault.is_some_and(is_gone)
     }
 }
 
@@ -102,7 +107,7 @@ pub fn failed(rt: &HostRuntime, failure: Failure, name: &str, reason: Option<io:
     failure.status()
 }
 
-/// Says what failed, unless who read the output went away: then there is nobody to tell.
+/// Says what failed, unless the reader of the output went away: then there is nobody to tell.
 fn stopped(
     rt: &HostRuntime,
     failure: Failure,
@@ -111,7 +116,7 @@ fn stopped(
     output: &Output,
 ) -> u8 {
     if output.is_gone() {
-        return failure.status();
+        return GONE;
     }
     let reason = match failure {
         Failure::Run(RunError::Read) => read,
@@ -187,6 +192,13 @@ fn work_on<T: Worker>(
     }
 }
 
+/// Says what a run without a file waits for, where that is someone at a terminal.
+fn say_waits(rt: &HostRuntime) {
+    if rt.stdin().is_terminal() {
+        let _told = eprintln!(rt; "{WAITS}");
+    }
+}
+
 /// Works on these inputs, or on standard input where there are none; the status, if it failed.
 pub fn work_through<T: Worker>(rt: &HostRuntime, work: &mut T, files: &[&str]) -> Result<(), u8> {
     let mut output = Output {
@@ -194,6 +206,7 @@ pub fn work_through<T: Worker>(rt: &HostRuntime, work: &mut T, files: &[&str]) -
         fault: None,
     };
     if files.is_empty() {
+        say_waits(rt);
         work_on(rt, work, INPUT, &mut output)?;
     }
     for name in files {
@@ -205,11 +218,22 @@ pub fn work_through<T: Worker>(rt: &HostRuntime, work: &mut T, files: &[&str]) -
     }
 }
 
+/// Whether a word is the path of a file that can be read.
+fn is_file(rt: &HostRuntime, word: &str) -> bool {
+    File::open(rt, word).is_ok()
+}
+
 /// Says what is wrong with the command line, and how the program is used; the status that it ends with.
 pub fn refused(rt: &HostRuntime, wrong: Wrong<'_>) -> u8 {
     let failure = wrong.failure();
     let _told = match wrong {
         Wrong::Nothing => eprintln!(rt; "{failure}\n{USAGE}"),
+        Wrong::NoCommand(word, _) if is_file(rt, word) => {
+            let word = word.escape_debug();
+            eprintln!(rt;
+                "{failure}: {word} (a file: csicodec explain {word} tells what is in it)\n{USAGE}"
+            )
+        }
         Wrong::NoCommand(word, Some(known)) => {
             let word = word.escape_debug();
             eprintln!(rt; "{failure}: {word} (the nearest is {known})\n{USAGE}")
@@ -226,10 +250,7 @@ pub fn refused(rt: &HostRuntime, wrong: Wrong<'_>) -> u8 {
             let word = word.escape_debug();
             eprintln!(rt; "{failure}: {word}\n{HINT}")
         }
-        Wrong::Misplaced(word, of) => {
-            let (word, of) = (word.escape_debug(), of.word());
-            eprintln!(rt; "{failure}: {word} (of {of})\n{HINT}")
-        }
+        Wrong::Misplaced(option, of) => eprintln!(rt; "{failure}: {option} (of {of})\n{HINT}"),
         Wrong::NoValue(word, values) => { eprintln!(rt; "{failure}: {word} ({values})\n{HINT}") }
         Wrong::NotValue(word, value, values) => {
             let value = value.escape_debug();
@@ -243,7 +264,11 @@ pub fn refused(rt: &HostRuntime, wrong: Wrong<'_>) -> u8 {
 /// Writes a text of its own.
 fn say(rt: &HostRuntime, text: &str) -> Result<(), u8> {
     let failure = Failure::Run(RunError::Write);
-    println!(rt; "{text}").map_err(|error| failed(rt, failure, INPUT, Some(error)))
+    match println!(rt; "{text}") {
+        Ok(()) => Ok(()),
+        Err(error) if is_gone(error) => Err(GONE),
+        Err(error) => Err(failed(rt, failure, INPUT, Some(error))),
+    }
 }
 
 /// The words of the command line behind the program's name; the status, if they can't be had.

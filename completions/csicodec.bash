@@ -1,0 +1,29 @@
+# Completions of csicodec for bash, written by tools/completions.
+_csicodec() {
+    local word=${COMP_WORDS[COMP_CWORD]} before=${COMP_WORDS[COMP_CWORD-1]} task= of= it
+    # An option and its value are three words where = is between them.
+    [ "$word" != = ] || word=
+    [ "$before" != = ] || before=${COMP_WORDS[COMP_CWORD-2]}
+    [ "${COMP_WORDS[COMP_CWORD]}" != = ] || before=${COMP_WORDS[COMP_CWORD-1]}
+    for it in "${COMP_WORDS[@]:1:COMP_CWORD-1}"; do
+        case $it in filter|compact|strip|clean|explain|help) task=$it; break ;; esac
+    done
+    COMPREPLY=()
+    case $before in
+        --color) COMPREPLY=($(compgen -W "always never auto" -- "$word")); return ;;
+        --colors) COMPREPLY=($(compgen -W "256 16" -- "$word")); return ;;
+        --only) COMPREPLY=(); return ;;
+        --timing) COMPREPLY=($(compgen -f -- "$word")); return ;;
+    esac
+    case $task in
+        filter) of="--faithful --help" ;;
+        compact) of="--semicolons --help" ;;
+        strip) of="--help" ;;
+        clean) of="--colors --links --help" ;;
+        explain) of="--color --count --decode --full --json --only --timing --unknown --help" ;;
+        help) COMPREPLY=($(compgen -W "filter compact strip clean explain" -- "$word")); return ;;
+        *) of="filter compact strip clean explain help --help --version" ;;
+    esac
+    if [ ! "$task" ] || [ "${word#-}" != "$word" ]; then COMPREPLY=($(compgen -W "$of" -- "$word")); fi
+}
+complete -o bashdefault -o default -F _csicodec csicodec

@@ -1,0 +1,113 @@
+//! The words and options of a command line, and what `--help` says of them. Completions and the manual page's parts are of this file.
+
+use crate::command::Task;
+
+/// The words that say what is to be done, with what `--help` behind one says.
+pub(crate) static TASKS: [(&str, Task, &str); 5] = [
+    ("filter", Task::Filter, FILTER),
+    ("compact", Task::Compact, COMPACT),
+    ("strip", Task::Strip, STRIP),
+    ("clean", Task::Clean, CLEAN),
+    ("explain", Task::Explain, EXPLAIN),
+];
+
+/// The options: how each stands in a command line, the words that have it, none where all have, and which values it has, none
+/// where it has no value.
+pub(crate) static OPTIONS: [(&str, &str, &str); 14] = [
+    ("--color", "explain", "always, never or auto"),
+    ("--colors", "clean", "256 or 16"),
+    ("--count", "explain", ""),
+    ("--decode", "explain", ""),
+    ("--faithful", "filter", ""),
+    ("--full", "explain", ""),
+    ("--help", "", ""),
+    ("--json", "explain", ""),
+    ("--links", "clean", ""),
+    ("--only", "explain", "names, as SGR,CUP"),
+    ("--semicolons", "compact", ""),
+    ("--timing", "explain", "the file of times that script wrote"),
+    ("--unknown", "explain", ""),
+    ("--version", "", ""),
+];
+
+/// How the program is used.
+pub const USAGE: &str = "\
+usage: csicodec                                 control sequences from standard input, in their normal form
+       csicodec filter [OPTION ..] [FILE ..]    any terminal stream, with each control sequence in its normal form
+       csicodec compact [OPTION ..] [FILE ..]   the same stream for terminals, no longer than it came
+       csicodec strip [FILE ..]                 plain text of any stream: nothing that steers a terminal
+       csicodec clean [OPTION ..] [FILE ..]     the same with its colours and styles
+       csicodec explain [OPTION ..] [FILE ..]   what stands in a stream, in words
+       csicodec help [WORD]                     this text, or the options of a word
+       csicodec --version";
+
+/// Where the options of a word are told.
+pub const HINT: &str = "csicodec WORD --help tells the options of WORD";
+
+/// What is said where nobody named a file, and a terminal is standard input.
+pub const WAITS: &str =
+    "csicodec: reads what is typed here, up to Ctrl-D at the start of a line; csicodec help says what else it can";
+
+/// How `filter` is used.
+pub const FILTER: &str = "\
+usage: csicodec filter [--faithful] [FILE ..]
+
+Writes each FILE, or standard input where there is none or it is -, with each control sequence in its normal form, and every
+other byte as it was. The normal form is for comparing: it is termwiz's, and terminals read a few sequences otherwise. A FILE
+whose name ends in .cast is a recording of asciinema, and a recording with the same times comes out; so it does with compact,
+strip and clean.
+
+  --faithful     for a terminal: what it reads otherwise, and colours, as they came
+  -h, --help     this text";
+
+/// How `compact` is used.
+pub const COMPACT: &str = "\
+usage: csicodec compact [--semicolons] [FILE ..]
+
+Writes each FILE, or standard input where there is none or it is -, with each control sequence in a shorter spelling of the same
+actions, where one is found, attributes side by side in one sequence, and every other byte as it was.
+
+  --semicolons   colours with semicolons, as 38;5;9, also where colons are as short
+  -h, --help     this text";
+
+/// How `strip` is used.
+pub const STRIP: &str = "\
+usage: csicodec strip [FILE ..]
+
+Writes the plain text of each FILE, or of standard input where there is none or it is -: no control sequence, escape sequence or
+string, and of the controls newline and tab alone. What is no UTF-8 becomes U+FFFD.
+
+  -h, --help     this text";
+
+/// How `clean` is used.
+pub const CLEAN: &str = "\
+usage: csicodec clean [OPTION ..] [FILE ..]
+
+Writes the same as strip, with colours and styles, but none that hides text, and none left open at the end.
+
+  --colors=256   colours by their parts become the nearest of the palette
+  --colors=16    all colours become the nearest of the first 16
+  --links        links too (OSC 8) whose address is visible ASCII of at most 2,083 bytes, and none left open at the end
+  -h, --help     this text";
+
+/// How `explain` is used.
+pub const EXPLAIN: &str = "\
+usage: csicodec explain [OPTION ..] [FILE ..]
+
+Tells what stands in each FILE, or in standard input where there is none or it is -: its place, its bytes, and what it does, for
+each text, control character, sequence and string, as soon as it is over.
+
+A FILE whose name ends in .cast is a recording of asciinema: what its programs wrote is told, with the time of each.
+
+  --color WHEN    colours: always, never, or auto (in a terminal, unless NO_COLOR is set), as if left out
+  --count         totals at the end: of each kind, and of each name
+  --decode        what is put into the clipboard (OSC 52) too, decoded from base64
+  --full          all bytes of each, however many
+  --json          an object of JSON a line: at, kind, text or hex, and actions with name, words, action and its fields
+  --only NAMES    only those with one of these names, with commas between: SGR,DECSET 2004
+  --timing TIMES  when each came, by the file of times that script wrote
+  --unknown       only what isn't known, and what is malformed
+  -h, --help      this text";
+
+/// The program's name and version.
+pub const VERSION: &str = "csicodec 1.1.0";

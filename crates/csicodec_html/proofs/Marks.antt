@@ -1,0 +1,76 @@
+-- Pieces as the first step marks them are, byte by byte, what stands on the page.
+use Rattle.std.proofs.Common.{◌≡◌, ◌≤◌, ◌<◌, ◌+◌, ◌/◌, ℕ, Bool, true, false, List, [], ◌∷◌, ◌++◌, refl, sym, ap, ◌∙◌, ⊎_elim, append-nil, arith, lt-ltb, le-ltb}
+use Rattle.std.specs.Prelude.{codes, ◌==◌}
+use Rattle.std.specs.Char.{encode_utf8}
+use lib.Utf8.{next}
+use Rattle.std.specs.List.{AllByRecursion}
+use Rattle.std.proofs.lemmas.Bool.{cases_lt, false≢true}
+use Rattle.std.proofs.lemmas.Grind.{flat_map-append}
+use Rattle.csicodec_clean.specs.Shown.{IsShown, shown}
+use Rattle.csicodec_html.specs.declared.look.Look.{Look}
+use Rattle.csicodec_html.specs.Look.{css}
+use Rattle.csicodec_html.specs.Page.{IsHarmless, is_harmless, IsSafe, Piece, Char, Begin, End, escaped, piece_text, piece_texts}
+use Rattle.csicodec_html.specs.Private.Marked.{all_marked, marked, page_byte, page_bytes}
+use Rattle.csicodec_html.proofs.Harmless.{Fine, apart, css_fine, fine}
+
+-- a byte or character that passes a test isn't one that doesn't
+differs : (test : ℕ → Bool) (b k : ℕ) → test b ≡ true → test k ≡ false → (b == k) ≡ false
+differs test b k h f = apart b k (λ e. false≢true (sym f ∙ (ap test (sym e) ∙ h)))
+
+one_fine : (b : ℕ) → IsHarmless b → page_byte b ≡ b ∷ []
+one_fine b h =
+    rw (
+      differs is_harmless b 38 h refl,
+      differs is_harmless b 60 h refl,
+      differs is_harmless b 62 h refl,
+      differs is_harmless b 34 h refl,
+      differs is_harmless b 39 h refl,
+      differs is_harmless b 1 h refl,
+      differs is_harmless b 2 h refl,
+      differs is_harmless b 3 h refl,
+    ) refl
+
+all_fine : (bytes : List ℕ) → Fine bytes → page_bytes bytes ≡ bytes
+all_fine [] h = refl
+all_fine (b ∷ bytes) h = rw (one_fine b h.0, all_fine bytes h.1) refl
+
+ascii : (c : ℕ) → c < 128 → encode_utf8 c ≡ c ∷ []
+unfolding encode_utf8
+ascii c a = rw (lt-ltb c 128 a) refl
+
+above : (b : ℕ) → 128 ≤ b → is_harmless b ≡ true
+above b h = fine b (omega (arith, h)) (λ e. absurd (omega (arith, h, e))) (λ e. absurd (omega (arith, h, e)))
+
+-- the bytes of a character that isn't of ASCII
+high : (c : ℕ) → 128 ≤ c → Fine (encode_utf8 c)
+unfolding encode_utf8
+high c a = ⊎_elim
+    (λ (b : c < 2048). rw (le-ltb c 128 a, lt-ltb c 2048 b) (above (192 + c / 64) (omega arith), (above (next c) (omega arith), tt)))
+    (λ (b : 2048 ≤ c). ⊎_elim
+    (λ (d : c < 65536). rw (le-ltb c 128 a, le-ltb c 2048 b, lt-ltb c 65536 d) (above (224 + c / 4096) (omega arith), (above (next (c / 64)) (omega arith), (above (next c) (omega arith), tt))))
+    (λ (d : 65536 ≤ c). rw (le-ltb c 128 a, le-ltb c 2048 b, le-ltb c 65536 d)
+    (above (240 + c / 262144) (omega arith), (above (next (c / 4096)) (omega arith), (above (next (c / 64)) (omega arith), (above (next c) (omega arith), tt)))))
+    (cases_lt c 65536))
+    (cases_lt c 2048)
+
+char : (c : ℕ) → IsShown c → page_bytes (encode_utf8 c) ≡ escaped c
+char c h = ⊎_elim
+    (λ (a : c < 128). rw (ascii c a, differs shown c 1 h refl, differs shown c 2 h refl, differs shown c 3 h refl) (append-nil _))
+    (λ (a : 128 ≤ c). rw (far a 38 (omega arith), far a 60 (omega arith), far a 62 (omega arith), far a 34 (omega arith), far a 39 (omega arith)) (all_fine (encode_utf8 c) (high c a)))
+    (cases_lt c 128)
+  where
+    far : 128 ≤ c → (k : ℕ) → k < 128 → (c == k) ≡ false
+    far a k b = apart c k (λ e. absurd (omega (arith, a, b, e)))
+
+begin : (l : Look) → page_bytes (marked (Begin l)) ≡ piece_text (Begin l)
+begin l = ap (λ (t : List ℕ). codes "<span style=" ++ (34 ∷ t)) (flat_map-append page_byte (css l) (3 ∷ 2 ∷ []) ∙ ap (λ (t : List ℕ). t ++ 34 ∷ 62 ∷ []) (all_fine (css l) (css_fine l)))
+
+piece : (p : Piece) → IsSafe p → page_bytes (marked p) ≡ piece_text p
+piece (Char c) h = char c h.0
+piece (Begin l) h = begin l
+piece End h = refl
+
+pub pieces : (ps : List Piece) → AllByRecursion IsSafe ps → page_bytes (all_marked ps) ≡ piece_texts ps
+pieces [] h = refl
+pieces (p ∷ ps) h =
+    flat_map-append page_byte (marked p) (all_marked ps) ∙ ap (λ (t : List ℕ). t ++ page_bytes (all_marked ps)) (piece p h.0) ∙ ap (λ (t : List ℕ). piece_text p ++ t) (pieces ps h.1)

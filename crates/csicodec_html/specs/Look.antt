@@ -1,0 +1,162 @@
+-- How text looks by the attributes that are set, and the declarations of CSS that say it.
+use Rattle.std.specs.Prelude.{ℕ, ◌+◌, ◌/◌, ◌%◌, Bool, true, false, not, ◌&&◌, ◌||◌, nat_lt, List, [], ◌∷◌, ◌++◌, codes, if◌then◌else◌}
+use Rattle.csicodec_names.specs.declared.color.ColorSpec.{ColorSpec}
+use Rattle.csicodec_names.specs.declared.color.ColorSpec.TheVariants as color
+use Rattle.csicodec_names.specs.declared.color.Intensity.{Intensity}
+use Rattle.csicodec_names.specs.declared.color.Intensity.TheVariants as intensity
+use Rattle.csicodec_names.specs.declared.color.SrgbaTuple.{SrgbaTuple}
+use Rattle.csicodec_names.specs.declared.color.Underline.{Underline}
+use Rattle.csicodec_names.specs.declared.color.Underline.TheVariants as underline
+use Rattle.csicodec_base.specs.declared.sgr.Sgr.{Sgr}
+use Rattle.csicodec_base.specs.declared.sgr.Sgr.TheVariants as sgr
+use Rattle.csicodec_actions.specs.Actions.{Action}
+use Rattle.csicodec_actions.specs.Actions as action
+use Rattle.csicodec_clean.specs.Palette.{palette}
+use Rattle.csicodec_html.specs.declared.look.Look.{Look}
+
+-- where nothing is set
+abbrev pub plain : Look
+plain = record {
+  intensity = intensity.Normal;
+  italic = false;
+  underline = underline.None;
+  line = color.Default;
+  overline = false;
+  strike = false;
+  inverse = false;
+  foreground = color.Default;
+  background = color.Default;
+}
+
+-- behind an attribute; concealed text is shown, and what blinks, other fonts and raised text are as any other
+abbrev pub behind : Look → Sgr → Look
+behind l sgr.Reset = plain
+behind l (sgr.Intensity x) = record l { intensity = x }
+behind l (sgr.Underline x) = record l { underline = x }
+behind l (sgr.UnderlineColor x) = record l { line = x }
+behind l (sgr.Blink x) = l
+behind l (sgr.Italic x) = record l { italic = x }
+behind l (sgr.Inverse x) = record l { inverse = x }
+behind l (sgr.Invisible x) = l
+behind l (sgr.StrikeThrough x) = record l { strike = x }
+behind l (sgr.Font x) = l
+behind l (sgr.Foreground x) = record l { foreground = x }
+behind l (sgr.Background x) = record l { background = x }
+behind l (sgr.Overline x) = record l { overline = x }
+behind l (sgr.VerticalAlign x) = l
+
+-- behind the actions of a sequence
+abbrev pub behind_all : Look → List Action → Look
+behind_all l [] = l
+behind_all l (action.Sgr s ∷ actions) = behind_all (behind l s) actions
+behind_all l (a ∷ actions) = behind_all l actions
+
+-- whether an attribute is among them
+abbrev pub sets_any : List Action → Bool
+sets_any [] = false
+sets_any (action.Sgr s ∷ actions) = true
+sets_any (a ∷ actions) = sets_any actions
+
+abbrev pub is_normal : Intensity → Bool
+is_normal intensity.Normal = true
+is_normal intensity.Bold = false
+is_normal intensity.Half = false
+
+abbrev pub is_none : Underline → Bool
+is_none underline.None = true
+is_none underline.Single = false
+is_none underline.Double = false
+is_none underline.Curly = false
+is_none underline.Dotted = false
+is_none underline.Dashed = false
+
+abbrev pub is_default : ColorSpec → Bool
+is_default color.Default = true
+is_default (color.PaletteIndex i) = false
+is_default (color.TrueColor c) = false
+
+-- a line below, above or through it
+abbrev pub has_line : Look → Bool
+has_line l = not (is_none l.underline) || (l.overline || l.strike)
+
+-- it looks as text without attributes
+abbrev pub is_plain : Look → Bool
+is_plain l = is_normal l.intensity && (not l.italic && (not (has_line l) && (not l.inverse && (is_default l.foreground && is_default l.background))))
+
+-- ---- CSS
+
+-- a digit of base sixteen
+abbrev pub hex_digit : ℕ → ℕ
+hex_digit n = if nat_lt n 10 then n + 48 else n + 87
+
+abbrev pub two_digits : ℕ → List ℕ
+two_digits n = hex_digit (n / 16) ∷ hex_digit (n % 16) ∷ []
+
+-- `#rrggbb`
+abbrev pub hex_color : SrgbaTuple → List ℕ
+hex_color c = 35 ∷ (two_digits c.0 ++ (two_digits c.1 ++ two_digits c.2))
+
+-- a colour, with a name for the page's own
+abbrev pub color_text : List ℕ → ColorSpec → List ℕ
+color_text own color.Default = own
+color_text own (color.PaletteIndex i) = hex_color (palette i)
+color_text own (color.TrueColor c) = hex_color c
+
+unfoldable pub weight : Intensity → List ℕ
+weight intensity.Normal = []
+weight intensity.Bold = codes "font-weight:bold;"
+weight intensity.Half = codes "opacity:.7;"
+
+abbrev pub slant : Bool → List ℕ
+slant italic = if italic then codes "font-style:italic;" else []
+
+-- the kind of the lines, where it isn't a single one
+unfoldable pub line_kind : Underline → List ℕ
+line_kind underline.None = []
+line_kind underline.Single = []
+line_kind underline.Double = codes " double"
+line_kind underline.Curly = codes " wavy"
+line_kind underline.Dotted = codes " dotted"
+line_kind underline.Dashed = codes " dashed"
+
+-- a colour of the lines that isn't the text's
+unfoldable pub line_color : ColorSpec → List ℕ
+line_color c = if is_default c then [] else 32 ∷ color_text [] c
+
+unfoldable pub line_places : Look → List ℕ
+line_places l =
+    (if not (is_none l.underline) then codes " underline" else [])
+    ++ ((if l.overline then codes " overline" else []) ++ (if l.strike then codes " line-through" else []))
+
+unfoldable pub line_style : Look → List ℕ
+line_style l = line_kind l.underline ++ line_color l.line
+
+unfoldable pub some_lines : Look → List ℕ
+some_lines l = codes "text-decoration:" ++ (line_places l ++ (line_style l ++ 59 ∷ []))
+
+unfoldable pub lines : Look → List ℕ
+lines l = if has_line l then some_lines l else []
+
+-- what a colour is of, and the colour, with a name for the page's own
+unfoldable pub property : List ℕ → List ℕ → ColorSpec → List ℕ
+property what own c = what ++ (color_text own c ++ 59 ∷ [])
+
+-- of one that isn't the page's own
+unfoldable pub colored : List ℕ → ColorSpec → List ℕ
+colored what c = if is_default c then [] else property what [] c
+
+-- text and background where they change places: the page's own colours have names then
+unfoldable pub inverse_colors : Look → List ℕ
+inverse_colors l =
+    property (codes "color:") (codes "Canvas") l.background
+    ++ property (codes "background-color:") (codes "CanvasText") l.foreground
+
+unfoldable pub straight_colors : Look → List ℕ
+straight_colors l = colored (codes "color:") l.foreground ++ colored (codes "background-color:") l.background
+
+unfoldable pub colors : Look → List ℕ
+colors l = if l.inverse then inverse_colors l else straight_colors l
+
+-- the declarations of a look
+abbrev pub css : Look → List ℕ
+css l = weight l.intensity ++ (slant l.italic ++ (lines l ++ colors l))

@@ -1,0 +1,54 @@
+-- Between the two steps by which a page is made: text as it is, and tags whose `<`, `>` and `"` are the controls 1, 2 and 3, of which no
+-- text that is shown has one. The second step goes byte by byte.
+use Rattle.std.specs.Prelude.{ℕ, ◌≡◌, ◌==◌, if◌then◌else◌, List, [], ◌∷◌, ◌++◌, codes, encode_utf8}
+use Rattle.std.specs.List.{flat_map}
+use Rattle.csicodec_actions.specs.Actions.{Action}
+use Rattle.csicodec_clean.specs.Cleaned.{RuleOf, EndOf}
+use Rattle.csicodec_clean.specs.Stream.{Between, Takes}
+use Rattle.csicodec_clean.specs.Shown.{shown_text}
+use Rattle.csicodec_clean.specs.Styled.{IsOf}
+use Rattle.csicodec_html.specs.declared.look.Look.{Look}
+use Rattle.csicodec_html.specs.Look.{behind_all, css, sets_any}
+use Rattle.csicodec_html.specs.Page.{Piece, Char, Begin, End, ends, turn}
+
+abbrev pub marked : Piece → List ℕ
+marked (Char c) = encode_utf8 c
+marked (Begin l) = 1 ∷ (codes "span style=" ++ (3 ∷ (css l ++ 3 ∷ 2 ∷ [])))
+marked End = 1 ∷ (codes "/span" ++ 2 ∷ [])
+
+abbrev pub all_marked : List Piece → List ℕ
+all_marked pieces = flat_map marked pieces
+
+-- a byte on the page
+abbrev pub page_byte : ℕ → List ℕ
+page_byte b =
+    if b == 38 then codes "&amp;"
+    else if b == 60 then codes "&lt;"
+    else if b == 62 then codes "&gt;"
+    else if b == 34 then codes "&quot;"
+    else if b == 39 then codes "&#39;"
+    else if b == 1 then 60 ∷ []
+    else if b == 2 then 62 ∷ []
+    else if b == 3 then 34 ∷ []
+    else b ∷ []
+
+abbrev pub page_bytes : List ℕ → List ℕ
+page_bytes bytes = flat_map page_byte bytes
+
+-- what is written for a control sequence, and for a control string
+abbrev pub turns : RuleOf Look
+turns = record {
+  sequence = λ l bytes out after.
+      (actions : List Action) × IsOf bytes actions × (after ≡ behind_all l actions) × (out ≡ all_marked (turn (sets_any actions) l after));
+  byte = λ l b out after. (out ≡ []) × (after ≡ l);
+}
+
+abbrev pub closes : EndOf Look
+closes l out = out ≡ all_marked (ends l)
+
+-- a page as it comes
+abbrev pub Passes : Between Look → List ℕ → List ℕ → Between Look → Type 0
+Passes old bytes page new = (text : List ℕ) × Takes turns old bytes text new × (page ≡ page_bytes text)
+
+abbrev pub Finishes : Between Look → List ℕ → Type 0
+Finishes last page = (close : List ℕ) × closes last.rule close × (page ≡ page_bytes (shown_text last.held ++ close))

@@ -1,0 +1,163 @@
+//! The declarations of CSS that say how text looks.
+ghost use Rattle.std.specs.Prelude.{◌≡◌, ◌++◌, [], OnOk, codes, if◌then◌else◌};
+ghost use Rattle.csicodec_html.specs.Look.{colored, colors, css, inverse_colors, line_color, line_kind, line_places, line_style, lines, property, slant, some_lines, straight_colors, weight};
+
+use crate::colors::append_color;
+use crate::look::{Look, is_default, is_none};
+use csicodec_base::{ColorSpec, Intensity, Underline};
+use std::alloc::AllocError;
+
+/// Appends the words, if they are to stand there.
+fn append_if(is_there: bool, words: &[u8], out: &mut Vec<u8>) -> Result<(), AllocError>
+    ensures { OnOk result (out.new.items ≡ out.old.items ++ (if is_there then words.now else [])) }
+{
+    if is_there {
+        out.extend_from_slice(words)?;
+    }
+    Ok(())
+}
+
+/// Appends how strong the strokes are.
+#[tactic(auto, unfolding(crate::specs::Look::weight))]
+fn append_weight(intensity: Intensity, out: &mut Vec<u8>) -> Result<(), AllocError>
+    ensures { OnOk result (out.new.items ≡ out.old.items ++ weight intensity) }
+{
+    match intensity {
+        Intensity::Normal => Ok(()),
+        Intensity::Bold => out.extend_from_slice(b"font-weight:bold;"),
+        Intensity::Half => out.extend_from_slice(b"opacity:.7;"),
+    }
+}
+
+/// Appends the kind of the lines, if it isn't a single one.
+#[tactic(auto, unfolding(crate::specs::Look::line_kind))]
+fn append_line_kind(underline: Underline, out: &mut Vec<u8>) -> Result<(), AllocError>
+    ensures { OnOk result (out.new.items ≡ out.old.items ++ line_kind underline) }
+{
+    match underline {
+        Underline::None | Underline::Single => Ok(()),
+        Underline::Double => out.extend_from_slice(b" double"),
+        Underline::Curly => out.extend_from_slice(b" wavy"),
+        Underline::Dotted => out.extend_from_slice(b" dotted"),
+        Underline::Dashed => out.extend_from_slice(b" dashed"),
+    }
+}
+
+/// Appends the colour of the lines, if it isn't the text's.
+#[tactic(auto, unfolding(crate::specs::Look::line_color))]
+fn append_line_color(color: ColorSpec, out: &mut Vec<u8>) -> Result<(), AllocError>
+    ensures { OnOk result (out.new.items ≡ out.old.items ++ line_color color) }
+{
+    if is_default(color) {
+        return Ok(());
+    }
+    out.push(b' ')?;
+    append_color(&[], color, out)
+}
+
+/// Appends where there are lines.
+#[tactic(auto, unfolding(crate::specs::Look::line_places))]
+fn append_line_places(look: Look, out: &mut Vec<u8>) -> Result<(), AllocError>
+    ensures { OnOk result (out.new.items ≡ out.old.items ++ line_places look) }
+{
+    append_if(!is_none(look.underline), b" underline", out)?;
+    append_if(look.overline, b" overline", out)?;
+    append_if(look.strike, b" line-through", out)
+}
+
+/// Appends how they look.
+#[tactic(auto, unfolding(crate::specs::Look::line_style))]
+fn append_line_style(look: Look, out: &mut Vec<u8>) -> Result<(), AllocError>
+    ensures { OnOk result (out.new.items ≡ out.old.items ++ line_style look) }
+{
+    append_line_kind(look.underline, out)?;
+    append_line_color(look.line, out)
+}
+
+/// Appends lines, of which there is one at least.
+#[tactic(auto, unfolding(crate::specs::Look::some_lines))]
+fn append_some_lines(look: Look, out: &mut Vec<u8>) -> Result<(), AllocError>
+    ensures { OnOk result (out.new.items ≡ out.old.items ++ some_lines look) }
+{
+    out.extend_from_slice(b"text-decoration:")?;
+    append_line_places(look, out)?;
+    append_line_style(look, out)?;
+    Ok(out.push(b';')?)
+}
+
+/// Appends the lines.
+#[tactic(auto, unfolding(crate::specs::Look::lines))]
+fn append_lines(look: Look, out: &mut Vec<u8>) -> Result<(), AllocError>
+    ensures { OnOk result (out.new.items ≡ out.old.items ++ lines look) }
+{
+    if !look.has_line() {
+        return Ok(());
+    }
+    append_some_lines(look, out)
+}
+
+/// Appends what a colour is of, and the colour, for which `own` stands where it is the page's own.
+#[tactic(auto, unfolding(crate::specs::Look::property))]
+fn append_property(
+    what: &[u8],
+    own: &[u8],
+    color: ColorSpec,
+    out: &mut Vec<u8>,
+) -> Result<(), AllocError>
+    ensures { OnOk result (out.new.items ≡ out.old.items ++ property what.now own.now color) }
+{
+    out.extend_from_slice(what)?;
+    append_color(own, color, out)?;
+    Ok(out.push(b';')?)
+}
+
+/// Appends the same of a colour that isn't the page's own.
+#[tactic(auto, unfolding(crate::specs::Look::colored))]
+fn append_colored(what: &[u8], color: ColorSpec, out: &mut Vec<u8>) -> Result<(), AllocError>
+    ensures { OnOk result (out.new.items ≡ out.old.items ++ colored what.now color) }
+{
+    if is_default(color) {
+        return Ok(());
+    }
+    append_property(what, &[], color, out)
+}
+
+/// Appends the colours of text and background where they change places.
+#[tactic(auto, unfolding(crate::specs::Look::inverse_colors))]
+fn append_inverse(look: Look, out: &mut Vec<u8>) -> Result<(), AllocError>
+    ensures { OnOk result (out.new.items ≡ out.old.items ++ inverse_colors look) }
+{
+    append_property(b"color:", b"Canvas", look.background, out)?;
+    append_property(b"background-color:", b"CanvasText", look.foreground, out)
+}
+
+/// Appends them where they don't.
+#[tactic(auto, unfolding(crate::specs::Look::straight_colors))]
+fn append_straight(look: Look, out: &mut Vec<u8>) -> Result<(), AllocError>
+    ensures { OnOk result (out.new.items ≡ out.old.items ++ straight_colors look) }
+{
+    append_colored(b"color:", look.foreground, out)?;
+    append_colored(b"background-color:", look.background, out)
+}
+
+/// Appends the colours of text and background.
+#[tactic(auto, unfolding(crate::specs::Look::colors))]
+fn append_colors(look: Look, out: &mut Vec<u8>) -> Result<(), AllocError>
+    ensures { OnOk result (out.new.items ≡ out.old.items ++ colors look) }
+{
+    if look.inverse {
+        append_inverse(look, out)
+    } else {
+        append_straight(look, out)
+    }
+}
+
+/// Appends the declarations of a look.
+pub(crate) fn append_css(look: Look, out: &mut Vec<u8>) -> Result<(), AllocError>
+    ensures { OnOk result (out.new.items ≡ out.old.items ++ css look) }
+{
+    append_weight(look.intensity, out)?;
+    append_if(look.italic, b"font-style:italic;", out)?;
+    append_lines(look, out)?;
+    append_colors(look, out)
+}

@@ -1,0 +1,31 @@
+//! The tags, with controls in place of their markup.
+ghost use Rattle.std.specs.Prelude.{◌≡◌, ◌++◌, OnOk};
+ghost use Rattle.csicodec_html.specs.Page.{begins, ends};
+ghost use Rattle.csicodec_html.specs.Private.Marked.{all_marked};
+
+use crate::css::append_css;
+use crate::look::Look;
+use std::alloc::AllocError;
+
+/// Appends the tag that begins a span of this look, if that has one.
+pub(crate) fn append_begin(look: Look, out: &mut Vec<u8>) -> Result<(), AllocError>
+    ensures { OnOk result (out.new.items ≡ out.old.items ++ all_marked (begins look)) }
+{
+    if look.is_plain() {
+        return Ok(());
+    }
+    out.extend_from_slice(b"\x01span style=\x03")?;
+    append_css(look, out)?;
+    out.extend_from_slice(b"\x03\x02")?;
+    Ok(())
+}
+
+/// Appends the tag that ends a span of this look, if that has one.
+pub(crate) fn append_end(look: Look, out: &mut Vec<u8>) -> Result<(), AllocError>
+    ensures { OnOk result (out.new.items ≡ out.old.items ++ all_marked (ends look)) }
+{
+    if look.is_plain() {
+        return Ok(());
+    }
+    out.extend_from_slice(b"\x01/span\x02")
+}

@@ -1,0 +1,62 @@
+//! Bytes that are all there, as a piece of a page.
+ghost use Rattle.std.specs.Prelude.{◌≡◌, ◌++◌, ◌∷◌, [], ℕ, List, OnOk, IfOk};
+ghost use Rattle.csicodec_html.specs.Page.{IsPage, PageOf};
+ghost use Rattle.csicodec_html.specs.Private.Marked.{page_byte, page_bytes};
+
+use crate::rule::Spans;
+use csicodec_clean::Cleaner;
+use std::alloc::{AllocError, Global};
+
+/// Appends a byte as it stands on the page.
+fn append_byte(byte: u8, out: &mut Vec<u8>) -> Result<(), AllocError>
+    ensures { OnOk result (out.new.items ≡ out.old.items ++ page_byte byte) }
+{
+    match byte {
+        b'&' => out.extend_from_slice(b"&amp;"),
+        b'<' => out.extend_from_slice(b"&lt;"),
+        b'>' => out.extend_from_slice(b"&gt;"),
+        b'"' => out.extend_from_slice(b"&quot;"),
+        b'\'' => out.extend_from_slice(b"&#39;"),
+        0x01 => Ok(out.push(b'<')?),
+        0x02 => Ok(out.push(b'>')?),
+        0x03 => Ok(out.push(b'"')?),
+        _ => Ok(out.push(byte)?),
+    }
+}
+
+/// Appends bytes as they stand on the page.
+pub(crate) fn append_page(bytes: &[u8], out: &mut Vec<u8>) -> Result<(), AllocError>
+    ensures { OnOk result (out.new.items ≡ out.old.items ++ page_bytes bytes.now) }
+{
+    let mut rest = bytes;
+    while let Some((byte, behind)) = rest.split_first() {
+        append_byte(*byte, out)?;
+        rest = behind;
+    }
+    Ok(())
+}
+
+/// The text of untrusted bytes as a piece of a page of HTML: what `strip` leaves of them, with `&`, `<`, `>`, `"` and `'` as references,
+/// and what has attributes (SGR) in spans with a `style`. It stands well in a `pre`.
+///
+/// Of the attributes it shows bold, faint, italic, lines below of each kind and their colours, lines above and through, inverse, and
+/// colours: those of the palette as xterm has them, and those by their parts without their alpha. What is concealed is shown. A span
+/// is ended before another begins, and at the end.
+///
+/// ```text
+/// html(alloc, b"a\x1b[1;31m<b>\x1b[m")?      // "a<span style=\"font-weight:bold;color:#cd0000;\">&lt;b&gt;</span>"
+/// ```
+pub fn html(alloc: Global, bytes: &[u8]) -> Result<Vec<u8>, AllocError>
+    // Run by run, it is what is shown of the text, escaped, and between them the tags of the attributes.
+    ensures exact { IfOk result (λ out. PageOf bytes.now out.items) }
+    // It has characters that are shown, escaped, and tags of spans in pairs, and nothing else.
+    ensures safe { IfOk result (λ out. IsPage out.items) }
+{
+    let mut cleaner = Cleaner::new(alloc, Spans::new(alloc));
+    let mut marked = Vec::new(alloc);
+    cleaner.push(bytes, &mut marked)?;
+    cleaner.finish(&mut marked)?;
+    let mut out = Vec::new(alloc);
+    append_page(&marked, &mut out)?;
+    Ok(out)
+}

@@ -1,0 +1,137 @@
+//! What stands in the place of a control sequence.
+ghost use Rattle.std.specs.Prelude.{◌≡◌, ◌++◌, ◌∷◌, [], map, OnOk};
+ghost use Rattle.csicodec_parser.specs.ActionOf.{action_of};
+ghost use Rattle.csicodec_html.specs.Look.{behind_all, plain, sets_any};
+ghost use Rattle.csicodec_html.specs.Page.{turn};
+ghost use Rattle.csicodec_html.specs.Private.Marked.{all_marked};
+
+use crate::look::Look;
+use crate::mark::{append_begin, append_end};
+use csicodec::CSI;
+use csicodec_base::CsiParam;
+use csicodec_clean::Rule;
+use csicodec_streams::parse_into;
+use std::alloc::{AllocError, Global};
+use std::marker::Model;
+
+/// How text looks behind an action.
+fn behind(look: Look, action: &CSI) -> Look
+    ensures { result ≡ behind_all look (action_of action.now ∷ []) }
+{
+    match action {
+        CSI::Sgr(attribute) => look.behind(attribute),
+        CSI::Cursor(_)
+        | CSI::Edit(_)
+        | CSI::Mode(_)
+        | CSI::Device(_)
+        | CSI::Keyboard(_)
+        | CSI::SelectCharacterPath(..)
+        | CSI::Mouse(_)
+        | CSI::Window(_)
+        | CSI::Unspecified(_) => look,
+    }
+}
+
+/// How it looks behind each of the actions in turn.
+#[tactic(auto, using(crate::proofs::Turned::behind_one))]
+fn behind_each(look: Look, actions: &[CSI]) -> Look
+    ensures { result ≡ behind_all look (map action_of actions.now) }
+{
+    let mut now = look;
+    for action in actions {
+        now = behind(now, action);
+    }
+    now
+}
+
+/// Whether the action is an attribute.
+fn is_attribute(action: &CSI) -> bool
+    ensures { result ≡ sets_any (action_of action.now ∷ []) }
+{
+    matches!(action, CSI::Sgr(_))
+}
+
+/// Whether one of the actions is.
+#[tactic(auto, using(crate::proofs::Turned::sets_one))]
+fn sets_any(actions: &[CSI]) -> bool
+    ensures { result ≡ sets_any (map action_of actions.now) }
+{
+    for action in actions {
+        if is_attribute(action) {
+            return true;
+        }
+    }
+    false
+}
+
+/// Appends the tags between two looks, if attributes come.
+fn append_turn(comes: bool, old: Look, new: Look, out: &mut Vec<u8>) -> Result<(), AllocError>
+    ensures { OnOk result (out.new.items ≡ out.old.items ++ all_marked (turn comes old new)) }
+{
+    if !comes {
+        return Ok(());
+    }
+    append_end(old, out)?;
+    append_begin(new, out)
+}
+
+/// The rule that turns attributes into spans.
+#[derive(Drop)]
+pub(crate) struct Spans {
+    alloc: Global,
+    look: Look,
+    /// A place that is kept for the actions of a sequence.
+    actions: Vec<CSI>,
+}
+
+impl Model for Spans {
+    ghost use Rattle.csicodec_html.specs.declared.look.Look.{Look};
+
+    ghost Value = { Look };
+
+    ghost view = { λ s. s.look };
+}
+
+impl Spans {
+    /// At the beginning of a stream.
+    pub(crate) fn new(alloc: Global) -> Spans
+        ensures { result ≡ plain }
+    {
+        Spans {
+            alloc,
+            look: Look::plain(),
+            actions: Vec::new(alloc),
+        }
+    }
+}
+
+impl Rule for Spans {
+    ghost use Rattle.csicodec_html.specs.Private.Marked.{closes, turns};
+
+    ghost gives = { turns };
+
+    ghost closes = { closes };
+
+    fn rewrite(
+        &mut self,
+        _bytes: &[u8],
+        params: &[CsiParam],
+        control: char,
+        out: &mut Vec<u8>,
+    ) -> Result<(), AllocError> {
+        self.actions.clear();
+        parse_into(self.alloc, params, false, control, &mut self.actions)?;
+        let new = behind_each(self.look, &self.actions);
+        append_turn(sets_any(&self.actions), self.look, new, out)?;
+        self.look = new;
+        Ok(())
+    }
+
+    fn string(&mut self, _bytes: &[u8], _out: &mut Vec<u8>) -> Result<(), AllocError> {
+        Ok(())
+    }
+
+    fn close(&self, out: &mut Vec<u8>) -> Result<(), AllocError> {
+        append_end(self.look, out)
+    }
+}

@@ -1,0 +1,106 @@
+//! A stream as a page, as it comes.
+ghost use Rattle.std.specs.Prelude.{◌≡◌, ◌++◌, [], ℕ, List, OnErr, OnOk};
+ghost use Rattle.std.specs.Io.KnownBytes.{Appends, Consumes, IsAtEnd};
+ghost use Rattle.csicodec_html.specs.Page.{IsPage, PageOf};
+ghost use Rattle.csicodec_html.specs.Look.{plain};
+ghost use Rattle.csicodec_clean.specs.Stream.{start_of};
+
+use crate::page::append_page;
+use crate::rule::Spans;
+use csicodec_clean::Cleaner;
+use csicodec_filter::{Transform, transform_all};
+use csicodec_streams::RunError;
+use std::alloc::{AllocError, Global};
+use std::io::{Read, Write};
+use std::marker::Model;
+
+/// What stands ahead of the pieces of a page of their own.
+pub const FRONT: &str = "<!DOCTYPE html>
+<html>
+<head>
+<meta charset=\"utf-8\">
+<meta name=\"color-scheme\" content=\"light dark\">
+<title>csicodec</title>
+</head>
+<body>
+<pre>";
+
+/// What stands behind them.
+pub const BEHIND: &str = "</pre>
+</body>
+</html>
+";
+
+/// A stream that becomes a page as it comes.
+#[derive(Drop)]
+struct Page {
+    cleaner: Cleaner<Spans>,
+}
+
+impl Model for Page {
+    ghost use Rattle.csicodec_clean.specs.Stream.{Between};
+    ghost use Rattle.csicodec_html.specs.declared.look.Look.{Look};
+
+    ghost Value = { Between Look };
+
+    ghost view = { λ p. p.cleaner };
+}
+
+impl Page {
+    /// Of which nothing has come.
+    fn new(alloc: Global) -> Page
+        ensures { result ≡ start_of plain }
+    {
+        let cleaner = Cleaner::new(alloc, Spans::new(alloc));
+        Page { cleaner }
+    }
+}
+
+impl Transform for Page {
+    ghost use Rattle.std.specs.Prelude.{⊤};
+    ghost use Rattle.csicodec_html.specs.Private.Marked.{Finishes, Passes};
+
+    ghost stands = { λ now. ⊤ };
+
+    ghost passes = { Passes };
+
+    ghost ends = { Finishes };
+
+    fn take(&mut self, bytes: &[u8], out: &mut Vec<u8>) -> Result<(), AllocError> {
+        let mut marked = Vec::new(*out.allocator());
+        self.cleaner.push(bytes, &mut marked)?;
+        append_page(&marked, out)
+    }
+
+    fn end(&mut self, out: &mut Vec<u8>) -> Result<(), AllocError> {
+        let mut marked = Vec::new(*out.allocator());
+        self.cleaner.finish(&mut marked)?;
+        append_page(&marked, out)
+    }
+}
+
+/// Reads to the end, and writes the stream as [`html`](crate::html) makes it of all its bytes, as it comes: after each read all that is
+/// sure is written and flushed.
+///
+/// It holds a control sequence that isn't over, of fewer than 65536 bytes, and three bytes of a character at most. The errors are
+/// those of `csicodec_clean::clean_run`.
+///
+/// ```text
+/// html_all(alloc, &mut input, &mut output)?;      // reads "a\x1b[1m<", and writes "a<span style=\"font-weight:bold;\">&lt;</span>"
+/// ```
+pub fn html_all<R: Read, W: Write>(
+    alloc: Global,
+    input: &mut R,
+    output: &mut W,
+) -> Result<(), RunError>
+    // What was written is the page of all the bytes.
+    ensures ok { OnOk result ((bytes : List ℕ) × (page : List ℕ) × Consumes (R.remaining input.old) (R.remaining input.new) bytes
+        × PageOf bytes page × IsPage page × Appends (W.contents output.old) (W.contents output.new) page) }
+    ensures end { OnOk result (IsAtEnd (R.remaining input.new)) }
+    // After any error, what went out is a front of such a page of bytes that were read.
+    ensures front { OnErr result ((bytes : List ℕ) × (more : List ℕ) × (sent : List ℕ) × (unsent : List ℕ)
+        × Consumes (R.remaining input.old) (R.remaining input.new) (bytes ++ more) × PageOf bytes (sent ++ unsent) × IsPage (sent ++ unsent)
+        × Appends (W.contents output.old) (W.contents output.new) sent) }
+{
+    transform_all(alloc, Page::new(alloc), input, output)
+}

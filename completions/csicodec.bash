@@ -6,7 +6,7 @@ _csicodec() {
     [ "$before" != = ] || before=${COMP_WORDS[COMP_CWORD-2]}
     [ "${COMP_WORDS[COMP_CWORD]}" != = ] || before=${COMP_WORDS[COMP_CWORD-1]}
     for it in "${COMP_WORDS[@]:1:COMP_CWORD-1}"; do
-        case $it in filter|compact|strip|clean|explain|help) task=$it; break ;; esac
+        case $it in filter|compact|strip|clean|html|explain|help) task=$it; break ;; esac
     done
     COMPREPLY=()
     case $before in
@@ -20,9 +20,10 @@ _csicodec() {
         compact) of="--semicolons --help" ;;
         strip) of="--help" ;;
         clean) of="--colors --links --help" ;;
+        html) of="--fragment --help" ;;
         explain) of="--color --count --decode --full --json --only --timing --unknown --help" ;;
-        help) COMPREPLY=($(compgen -W "filter compact strip clean explain" -- "$word")); return ;;
-        *) of="filter compact strip clean explain help --help --version" ;;
+        help) COMPREPLY=($(compgen -W "filter compact strip clean html explain" -- "$word")); return ;;
+        *) of="filter compact strip clean html explain help --help --version" ;;
     esac
     if [ ! "$task" ] || [ "${word#-}" != "$word" ]; then COMPREPLY=($(compgen -W "$of" -- "$word")); fi
 }

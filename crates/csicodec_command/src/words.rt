@@ -3,22 +3,24 @@
 use crate::command::Task;
 
 /// The words that say what is to be done, with what `--help` behind one says.
-pub(crate) static TASKS: [(&str, Task, &str); 5] = [
+pub(crate) static TASKS: [(&str, Task, &str); 6] = [
     ("filter", Task::Filter, FILTER),
     ("compact", Task::Compact, COMPACT),
     ("strip", Task::Strip, STRIP),
     ("clean", Task::Clean, CLEAN),
+    ("html", Task::Html, HTML),
     ("explain", Task::Explain, EXPLAIN),
 ];
 
 /// The options: how each stands in a command line, the words that have it, none where all have, and which values it has, none
 /// where it has no value.
-pub(crate) static OPTIONS: [(&str, &str, &str); 14] = [
+pub(crate) static OPTIONS: [(&str, &str, &str); 15] = [
     ("--color", "explain", "always, never or auto"),
     ("--colors", "clean", "256 or 16"),
     ("--count", "explain", ""),
     ("--decode", "explain", ""),
     ("--faithful", "filter", ""),
+    ("--fragment", "html", ""),
     ("--full", "explain", ""),
     ("--help", "", ""),
     ("--json", "explain", ""),
@@ -37,6 +39,7 @@ usage: csicodec                                 control sequences from standard 
        csicodec compact [OPTION ..] [FILE ..]   the same stream for terminals, no longer than it came
        csicodec strip [FILE ..]                 plain text of any stream: nothing that steers a terminal
        csicodec clean [OPTION ..] [FILE ..]     the same with its colours and styles
+       csicodec html [OPTION ..] [FILE ..]      a page of HTML: the text with its colours and styles
        csicodec explain [OPTION ..] [FILE ..]   what stands in a stream, in words
        csicodec help [WORD]                     this text, or the options of a word
        csicodec --version";
@@ -88,6 +91,17 @@ Writes the same as strip, with colours and styles, but none that hides text, and
   --colors=256   colours by their parts become the nearest of the palette
   --colors=16    all colours become the nearest of the first 16
   --links        links too (OSC 8) whose address is visible ASCII of at most 2,083 bytes, and none left open at the end
+  -h, --help     this text";
+
+/// How `html` is used.
+pub const HTML: &str = "\
+usage: csicodec html [--fragment] [FILE ..]
+
+Writes the text of each FILE, or of standard input where there is none or it is -, as a page of HTML: what strip leaves, escaped,
+and colours and styles as spans. Nothing of the input gets into a tag. Of a FILE whose name ends in .cast it is what its programs
+wrote.
+
+  --fragment     a piece for a page of one's own, where it stands in a pre
   -h, --help     this text";
 
 /// How `explain` is used.

@@ -4,6 +4,7 @@ use csicodec_clean::{Cleaner, Dropped, Kept, Rule, strip};
 use csicodec_command::{Failure, Recording, time_of};
 use csicodec_compact::Compactor;
 use csicodec_filter::{Faithful, Filter, NormalForm};
+use csicodec_html::html;
 use csicodec_streams::{RunError, send};
 use serde_json::Value;
 use std::alloc::{AllocError, Global};
@@ -144,4 +145,28 @@ pub fn rewrite_cast<R: BufRead, W: Write>(
         send_event(alloc, stage, &last, &out, output)?;
     }
     reading.end()
+}
+
+/// Writes what the programs of a recording wrote as a piece of a page. All of it is held until the recording ends.
+pub fn html_cast<R: BufRead, W: Write>(
+    alloc: Global,
+    input: &mut R,
+    output: &mut W,
+) -> Result<(), Failure> {
+    let mut reading = Recording::new(alloc);
+    let mut line = Vec::new(alloc);
+    let mut written = Vec::new(alloc);
+    for _ in 0..u64::MAX {
+        let Some(text) = reading.next_line(input, &mut line)? else {
+            break;
+        };
+        if let Some(data) = reading.take(text)? {
+            written
+                .extend_from_slice(data.as_bytes())
+                .map_err(no_memory)?;
+        }
+    }
+    reading.end()?;
+    let page = html(alloc, &written).map_err(no_memory)?;
+    Ok(send(output, &page)?)
 }

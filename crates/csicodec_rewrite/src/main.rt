@@ -1,19 +1,20 @@
-//! The program of `csicodec filter`, `compact`, `strip` and `clean`: with `filter` it writes each control sequence in its normal
+//! The program of `csicodec filter`, `compact`, `strip`, `clean` and `html`: with `filter` it writes each control sequence in its normal
 //! form and all else as it came, with `compact` in a shorter spelling; with `strip` the plain text alone, with `clean` that and
-//! its styles.
+//! its styles; with `html` those as a page.
 #![tactic(auto)]
 
 mod cast;
 
-use cast::{Stage, rewrite_cast};
+use cast::{Stage, html_cast, rewrite_cast};
 use csicodec_clean::{Cleaner, Depth, Dropped, Kept, Passing, clean_all_with, strip_all};
 use csicodec_command::{
     Colors, Failure, Request, Task, Worker, Wrong, asked, refused, words_of, work_through,
 };
 use csicodec_compact::{Compact, Compactor, compact_all};
 use csicodec_filter::{Faithful, Filter, NormalForm, filter_all};
+use csicodec_html::{BEHIND, FRONT, html_all};
 use csicodec_spans::LIMIT;
-use csicodec_streams::RunError;
+use csicodec_streams::{RunError, send};
 use std::alloc::Global;
 use std::io::{BufRead, Read, Write};
 use std::process::ExitCode;
@@ -25,6 +26,8 @@ enum Work {
     Compact { semicolons: bool },
     Strip,
     Clean { passing: Passing },
+    /// A page, which ends behind the last input if it has begun.
+    Html { fragment: bool, begun: bool },
 }
 
 /// The rule of `compact`.
@@ -61,13 +64,17 @@ impl Work {
                 let passing = Passing { depth, links };
                 Some(Work::Clean { passing })
             }
+            Task::Html => Some(Work::Html {
+                fragment: run.fragment,
+                begun: false,
+            }),
             Task::Explain => None,
         }
     }
 
-    /// What the data of a recording go through.
-    fn stage(&self, alloc: Global) -> Stage {
-        match self {
+    /// What the data of a recording go through, if a recording is made of it.
+    fn stage(&self, alloc: Global) -> Option<Stage> {
+        Some(match self {
             Work::Filter { faithful: true } => {
                 let rule = Faithful::new(alloc);
                 Stage::Faithful(Filter::new(alloc, LIMIT, rule))
@@ -85,7 +92,23 @@ impl Work {
                 let rule = Kept::letting(alloc, *passing);
                 Stage::Styled(Cleaner::new(alloc, rule))
             }
+            Work::Html { .. } => return None,
+        })
+    }
+
+    /// Writes what stands ahead of the first input.
+    fn begin<W: Write>(&mut self, output: &mut W) -> Result<(), RunError> {
+        if let Work::Html {
+            fragment: false,
+            begun,
+        } = self
+        {
+            if !*begun {
+                *begun = true;
+                return send(output, FRONT.as_bytes());
+            }
         }
+        Ok(())
     }
 }
 
@@ -96,6 +119,7 @@ impl Worker for Work {
         input: &mut R,
         output: &mut W,
     ) -> Result<(), Failure> {
+        self.begin(output)?;
         match self {
             Work::Filter { faithful: true } => {
                 filter_all(alloc, LIMIT, Faithful::new(alloc), input, output)?;
@@ -106,6 +130,7 @@ impl Worker for Work {
             }
             Work::Strip => strip_all(alloc, input, output)?,
             Work::Clean { passing } => clean_all_with(alloc, *passing, input, output)?,
+            Work::Html { .. } => html_all(alloc, input, output)?,
         }
         Ok(())
     }
@@ -116,12 +141,18 @@ impl Worker for Work {
         input: &mut R,
         output: &mut W,
     ) -> Result<(), Failure> {
-        let mut stage = self.stage(alloc);
-        rewrite_cast(alloc, &mut stage, input, output)
+        self.begin(output)?;
+        match self.stage(alloc) {
+            Some(mut stage) => rewrite_cast(alloc, &mut stage, input, output),
+            None => html_cast(alloc, input, output),
+        }
     }
 
-    fn end<W: Write>(&mut self, _output: &mut W) -> Result<(), RunError> {
-        Ok(())
+    fn end<W: Write>(&mut self, output: &mut W) -> Result<(), RunError> {
+        match self {
+            Work::Html { begun: true, .. } => send(output, BEHIND.as_bytes()),
+            _ => Ok(()),
+        }
     }
 }
 

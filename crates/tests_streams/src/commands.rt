@@ -30,6 +30,9 @@ pub(crate) fn command(alloc: Global, line: &str) -> Result<String, AllocError> {
                 let decode = wanted.decode;
                 return format!(in alloc; "{color:?} {timing} {decode}");
             }
+            if run.fragment {
+                return format!(in alloc; "{task:?} {files:?} as a piece");
+            }
             if run.semicolons {
                 return format!(in alloc; "{task:?} {files:?} with semicolons");
             }

@@ -46,6 +46,7 @@ fn told(alloc: Global, row: &str) -> Result<String, AllocError> {
         "colors" => untrusted::colors(alloc, rest),
         "links" => untrusted::links(alloc, rest),
         "link" => untrusted::link(alloc, rest),
+        "html" => untrusted::html(alloc, rest),
         _ => format!(in alloc; "no such row"),
     }
 }

@@ -4,6 +4,7 @@ use crate::spelling::{bytes_of, law, spelled};
 use csicodec_clean::{
     Cleaner, Depth, Dropped, Kept, Passing, Rule, clean, clean_in, clean_with, strip,
 };
+use csicodec_html::html_all;
 use std::alloc::{AllocError, Global};
 
 const WITH_LINKS: Passing = Passing {
@@ -78,4 +79,14 @@ pub(crate) fn link(alloc: Global, words: &str) -> Result<String, AllocError> {
     bytes.extend_from_slice(b"\x07x")?;
     let left = clean_with(alloc, WITH_LINKS, &bytes)?.len();
     format!(in alloc; "{left}")
+}
+
+/// `html BYTES`: the piece of a page that they are, which comes of a reader too.
+pub(crate) fn html(alloc: Global, word: &str) -> Result<String, AllocError> {
+    let bytes = bytes_of(alloc, word)?;
+    let page = csicodec_html::html(alloc, &bytes)?;
+    let mut written: Vec<u8> = Vec::new(alloc);
+    let read = html_all(alloc, &mut bytes.as_slice(), &mut written);
+    let (text, end) = (spelled(alloc, &page)?, law(read.is_ok() && written == page));
+    format!(in alloc; "{text}{end}")
 }

@@ -15,6 +15,7 @@ line failure.NoValue = codes "csicodec: a value is missing"
 line failure.NotValue = codes "csicodec: not a value"
 line failure.Open = codes "csicodec: the file can't be opened"
 line (failure.Recording n) = codes "csicodec: line " ++ decimal n ++ codes ": not an asciicast of version 2 or 3"
+line (failure.Times n) = codes "csicodec: line " ++ decimal n ++ codes ": no time of script"
 line (failure.Run error) = codes "csicodec: " ++ run_error_text error
 
 -- the status of each failure
@@ -27,4 +28,5 @@ status failure.NoValue = 64
 status failure.NotValue = 64
 status failure.Open = 2
 status (failure.Recording _) = 1
+status (failure.Times _) = 1
 status (failure.Run error) = run_status error

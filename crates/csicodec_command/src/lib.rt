@@ -8,8 +8,10 @@ mod report;
 mod run;
 mod words;
 
-pub use command::{ColorWhen, Colors, Command, Request, Task, Wanted, Wrong, command_of};
+pub use command::{
+    ColorWhen, Colors, Command, Places, Request, Task, Wanted, Wrong, command_of, nearest,
+};
 pub use recording::{Recording, micros, time_of};
 pub use report::Failure;
-pub use run::{Worker, asked, failed, refused, text_of, words_of, work_through};
+pub use run::{Worker, asked, failed, is_cast, refused, text_of, words_of, work_through};
 pub use words::{USAGE, VERSION};

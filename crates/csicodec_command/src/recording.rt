@@ -4,7 +4,7 @@
 use crate::report::Failure;
 use csicodec_streams::RunError;
 use serde_json::Value;
-use std::alloc::Global;
+use std::alloc::{AllocError, Global};
 use std::io::BufRead;
 
 /// A recording of which some lines were read.
@@ -40,6 +40,11 @@ pub fn micros(text: &str) -> u64 {
 pub fn time_of(line: &str) -> &str {
     let (front, _behind) = line.split_once(',').unwrap_or((line, ""));
     front.trim_start_matches('[').trim()
+}
+
+/// What went wrong where memory ran out.
+fn no_memory(_: AllocError) -> Failure {
+    Failure::Run(RunError::Memory)
 }
 
 impl Recording {
@@ -107,6 +112,14 @@ impl Recording {
 
     /// The next line; the data of its event, where a program wrote them.
     pub fn take(&mut self, line: &str) -> Result<Option<String>, Failure> {
+        match self.take_any(line)? {
+            Some((code, data)) if code.as_str() == "o" => Ok(Some(data)),
+            _ => Ok(None),
+        }
+    }
+
+    /// The next line; the code of its event, `o` where a program wrote data, and the data.
+    pub fn take_any(&mut self, line: &str) -> Result<Option<(String, String)>, Failure> {
         self.lines = self.lines.saturating_add(1);
         let line = line.trim();
         if self.version == 0 {
@@ -124,7 +137,7 @@ impl Recording {
         self.take_event(line)
     }
 
-    fn take_event(&mut self, line: &str) -> Result<Option<String>, Failure> {
+    fn take_event(&mut self, line: &str) -> Result<Option<(String, String)>, Failure> {
         let event = self.value_of(line)?;
         let code = event.get(1usize).and_then(Value::as_str);
         let data = event.get(2usize).and_then(Value::as_str);
@@ -137,12 +150,8 @@ impl Recording {
         } else {
             self.time.saturating_add(time)
         };
-        if code != "o" {
-            return Ok(None);
-        }
-        match String::from_str(self.alloc, data) {
-            Ok(data) => Ok(Some(data)),
-            Err(_) => Err(Failure::Run(RunError::Memory)),
-        }
+        let code = String::from_str(self.alloc, code).map_err(no_memory)?;
+        let data = String::from_str(self.alloc, data).map_err(no_memory)?;
+        Ok(Some((code, data)))
     }
 }

@@ -29,6 +29,8 @@ pub enum Failure {
     Open,
     /// The line of this number, counted from 1, isn't one of an asciicast; 0 where there is none.
     Recording(u64),
+    /// The line of this number, counted from 1, isn't one of the times that `script` writes.
+    Times(u64),
     /// The stream wasn't read or written to its end.
     Run(RunError),
 }
@@ -55,7 +57,7 @@ impl Failure {
             | Failure::NoValue
             | Failure::NotValue => 64,
             Failure::Open => 2,
-            Failure::Recording(_) => 1,
+            Failure::Recording(_) | Failure::Times(_) => 1,
             Failure::Run(error) => error.status(),
         }
     }
@@ -78,6 +80,7 @@ impl fmt::Display for Failure {
                 f,
                 "csicodec: line {line}: not an asciicast of version 2 or 3"
             ),
+            Failure::Times(line) => write!(f, "csicodec: line {line}: no time of script"),
             Failure::Run(error) => write!(f, "csicodec: {error}"),
         }
     }

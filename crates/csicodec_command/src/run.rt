@@ -14,6 +14,11 @@ const INPUT: &str = "-";
 
 /// What is made of one input after the other.
 pub trait Worker {
+    /// The input of this name comes next, `-` for standard input; it could be opened.
+    fn begin<W: Write>(&mut self, _name: &str, _output: &mut W) -> Result<(), RunError> {
+        Ok(())
+    }
+
     /// Works on this input, to its end.
     fn read<R: Read, W: Write>(
         &mut self,
@@ -80,16 +85,26 @@ impl<'a, R: Read> Read for Input<'a, R> {
     }
 }
 
-/// Whether a file is a recording of asciinema, by its name.
-fn is_cast(name: &str) -> bool {
-    name.ends_with(".cast")
+/// How the work on an input ended that failed, with the status of that.
+#[derive(Clone, Copy)]
+enum Ended {
+    /// The next input can be worked on.
+    Input(u8),
+    /// Nothing can.
+    Run(u8),
 }
 
-impl<'a> Request<'a> {
-    /// Whether something of its streams has times.
-    pub fn is_timed(&self) -> bool {
-        self.timing.is_some() || self.files.iter().any(|name| is_cast(name))
+/// The failure of an input, or of the whole run where nothing can be written or memory ran out.
+fn end_of(failure: Failure, status: u8) -> Ended {
+    match failure {
+        Failure::Run(RunError::Write | RunError::Memory) => Ended::Run(status),
+        _ => Ended::Input(status),
     }
+}
+
+/// Whether a file is a recording of asciinema, by its name.
+pub fn is_cast(name: &str) -> bool {
+    name.ends_with(".cast")
 }
 
 /// Says what failed, at which file where it is one that was read, and the system's reason, where there is one; the status that the
@@ -157,38 +172,53 @@ fn work_on_cast<T: Worker, R: Read>(
     work.read_cast(alloc, &mut input, output)
 }
 
-/// Works on the input of this name, which is read from there; the status, if it failed.
+/// Works on the input of this name, which is read from there.
+fn read_through<T: Worker, R: Read>(
+    alloc: Global,
+    work: &mut T,
+    name: &str,
+    input: &mut R,
+    output: &mut Output,
+) -> Result<(), Failure> {
+    work.begin(name, output)?;
+    if is_cast(name) {
+        work_on_cast(alloc, work, input, output)
+    } else {
+        work.read(alloc, input, output)
+    }
+}
+
+/// The same, with what failed told.
 fn work_on_input<T: Worker, R: Read>(
     rt: &HostRuntime,
     work: &mut T,
     name: &str,
     from: &mut R,
     output: &mut Output,
-) -> Result<(), u8> {
+) -> Result<(), Ended> {
     let mut input = Input { from, fault: None };
-    let done = if is_cast(name) {
-        work_on_cast(rt.alloc(), work, &mut input, output)
-    } else {
-        work.read(rt.alloc(), &mut input, output)
-    };
-    match done {
+    match read_through(rt.alloc(), work, name, &mut input, output) {
         Ok(()) => Ok(()),
-        Err(failure) => Err(stopped(rt, failure, name, input.fault, output)),
+        Err(failure) => {
+            let status = stopped(rt, failure, name, input.fault, output);
+            Err(end_of(failure, status))
+        }
     }
 }
 
-/// Works on the input of this name; the status, if it failed.
+/// Works on the input of this name.
 fn work_on<T: Worker>(
     rt: &HostRuntime,
     work: &mut T,
     name: &str,
     output: &mut Output,
-) -> Result<(), u8> {
+) -> Result<(), Ended> {
     if name == INPUT {
-        work_on_input(rt, work, name, &mut rt.stdin(), output)
-    } else {
-        let mut file = opened(rt, name)?;
-        work_on_input(rt, work, name, &mut file, output)
+        return work_on_input(rt, work, name, &mut rt.stdin(), output);
+    }
+    match opened(rt, name) {
+        Ok(mut file) => work_on_input(rt, work, name, &mut file, output),
+        Err(status) => Err(Ended::Input(status)),
     }
 }
 
@@ -199,7 +229,26 @@ fn say_waits(rt: &HostRuntime) {
     }
 }
 
-/// Works on these inputs, or on standard input where there are none; the status, if it failed.
+/// Works on these inputs, one after the other, those behind one that failed too; the status of the first that did.
+fn work_on_all<T: Worker>(
+    rt: &HostRuntime,
+    work: &mut T,
+    files: &[&str],
+    output: &mut Output,
+) -> Result<Option<u8>, u8> {
+    let mut first = None;
+    for name in files {
+        match work_on(rt, work, name, output) {
+            Ok(()) => {}
+            Err(Ended::Input(status)) => first = first.or(Some(status)),
+            Err(Ended::Run(status)) => return Err(status),
+        }
+    }
+    Ok(first)
+}
+
+/// Works on these inputs, or on standard input where there are none. An input that can't be opened or read, or is refused, doesn't
+/// stop the others; the status of the first that failed.
 pub fn work_through<T: Worker>(rt: &HostRuntime, work: &mut T, files: &[&str]) -> Result<(), u8> {
     let mut output = Output {
         out: rt.stdout(),
@@ -207,14 +256,18 @@ pub fn work_through<T: Worker>(rt: &HostRuntime, work: &mut T, files: &[&str]) -
     };
     if files.is_empty() {
         say_waits(rt);
-        work_on(rt, work, INPUT, &mut output)?;
     }
-    for name in files {
-        work_on(rt, work, name, &mut output)?;
+    let inputs: &[&str] = if files.is_empty() { &[INPUT] } else { files };
+    let first = work_on_all(rt, work, inputs, &mut output)?;
+    if let (Some(status), [_]) = (first, inputs) {
+        return Err(status);
     }
-    match work.end(&mut output) {
-        Ok(()) => Ok(()),
-        Err(error) => Err(stopped(rt, Failure::Run(error), INPUT, None, &output)),
+    if let Err(error) = work.end(&mut output) {
+        return Err(stopped(rt, Failure::Run(error), INPUT, None, &output));
+    }
+    match first {
+        Some(status) => Err(status),
+        None => Ok(()),
     }
 }
 
@@ -255,6 +308,14 @@ pub fn refused(rt: &HostRuntime, wrong: Wrong<'_>) -> u8 {
         Wrong::NotValue(word, value, values) => {
             let value = value.escape_debug();
             eprintln!(rt; "{failure} of {word}: {value} ({values})\n{HINT}")
+        }
+        Wrong::NoName(name, Some(known)) => {
+            let name = name.escape_debug();
+            eprintln!(rt; "{failure} of --only: {name} (the nearest is {known})\n{HINT}")
+        }
+        Wrong::NoName(name, None) => {
+            let name = name.escape_debug();
+            eprintln!(rt; "{failure} of --only: {name} (names, as SGR,CUP)\n{HINT}")
         }
         Wrong::NotText | Wrong::Memory => eprintln!(rt; "{failure}"),
     };

@@ -14,19 +14,23 @@ pub(crate) static TASKS: [(&str, Task, &str); 6] = [
 
 /// The options: how each stands in a command line, the words that have it, none where all have, and which values it has, none
 /// where it has no value.
-pub(crate) static OPTIONS: [(&str, &str, &str); 15] = [
+pub(crate) static OPTIONS: [(&str, &str, &str); 19] = [
+    ("--at", "explain", "places, as 120, 120-180 or 120-"),
     ("--color", "explain", "always, never or auto"),
     ("--colors", "clean", "256 or 16"),
     ("--count", "explain", ""),
     ("--decode", "explain", ""),
+    ("--diff", "explain", ""),
     ("--faithful", "filter", ""),
     ("--fragment", "html", ""),
     ("--full", "explain", ""),
+    ("--grep", "explain", "a text"),
     ("--help", "", ""),
     ("--json", "explain", ""),
     ("--links", "clean", ""),
     ("--only", "explain", "names, as SGR,CUP"),
     ("--semicolons", "compact", ""),
+    ("--stats", "explain", ""),
     ("--timing", "explain", "the file of times that script wrote"),
     ("--unknown", "explain", ""),
     ("--version", "", ""),
@@ -111,14 +115,19 @@ usage: csicodec explain [OPTION ..] [FILE ..]
 Tells what stands in each FILE, or in standard input where there is none or it is -: its place, its bytes, and what it does, for
 each text, control character, sequence and string, as soon as it is over.
 
-A FILE whose name ends in .cast is a recording of asciinema: what its programs wrote is told, with the time of each.
+A FILE whose name ends in .cast is a recording of asciinema, and so is standard input that begins as one: what its programs wrote
+is told, with the time of each. Ahead of each of several FILEs stands its name.
 
+  --at PLACES     only what has a byte at one of these places: 120, 120-180 or 120-
   --color WHEN    colours: always, never, or auto (in a terminal, unless NO_COLOR is set), as if left out
-  --count         totals at the end: of each kind, and of each name
+  --count         the totals alone, at the end: of each kind, and of each name
   --decode        what is put into the clipboard (OSC 52) too, decoded from base64
+  --diff          of two FILEs the lines that differ, places aside
   --full          all bytes of each, however many
+  --grep TEXT     only what has this text in its bytes or its words
   --json          an object of JSON a line: at, kind, text or hex, and actions with name, words, action and its fields
   --only NAMES    only those with one of these names, with commas between: SGR,DECSET 2004
+  --stats         a table alone, at the end: how often each name came, its bytes, and their share of all
   --timing TIMES  when each came, by the file of times that script wrote
   --unknown       only what isn't known, and what is malformed
   -h, --help      this text";

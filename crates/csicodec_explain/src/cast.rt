@@ -2,10 +2,68 @@
 
 use csicodec_command::{Failure, Recording};
 use csicodec_page::Explainer;
+use csicodec_streams::RunError;
+use csicodec_strings::Quoted;
+use serde_json::Value;
 use std::alloc::Global;
+use std::fmt;
 use std::io::{BufRead, Write};
 
-/// Explains what the programs of a recording wrote, each event with its time.
+/// What a recording has beside what was written: an event's code and its data.
+#[derive(Clone, Copy)]
+struct Event<'a> {
+    code: &'a str,
+    data: &'a str,
+}
+
+/// A name, two blanks, and the words.
+impl<'a> fmt::Display for Event<'a> {
+    fn fmt<W: fmt::Write>(&self, f: &mut fmt::Formatter<W>) -> fmt::Result {
+        let data = Quoted {
+            bytes: self.data.as_bytes(),
+            more: false,
+        };
+        match self.code {
+            "r" => match self.data.split_once('x') {
+                Some((columns, lines)) => {
+                    let (columns, lines) = (columns.parse::<u32>(), lines.parse::<u32>());
+                    match (columns, lines) {
+                        (Ok(columns), Ok(lines)) => {
+                            write!(f, "resize  {columns} columns, {lines} lines")
+                        }
+                        _ => write!(f, "resize  {data}"),
+                    }
+                }
+                None => write!(f, "resize  {data}"),
+            },
+            "m" => write!(f, "marker  {data}"),
+            _ => write!(f, "exit  status {data}"),
+        }
+    }
+}
+
+/// Whether the first bytes of an input are the first line of a recording: an object of JSON with the version.
+pub fn is_recording(alloc: Global, bytes: &[u8]) -> Result<bool, Failure> {
+    if bytes.first().copied() != Some(b'{') {
+        return Ok(false);
+    }
+    let Some(end) = bytes.iter().position(|byte| *byte == b'\n') else {
+        return Ok(false);
+    };
+    let Ok(line) = std::str::from_utf8(bytes.get(..end).unwrap_or(bytes)) else {
+        return Ok(false);
+    };
+    match Value::from_str(alloc, line) {
+        Ok(header) => {
+            let version = header.get("version").and_then(Value::as_u64).unwrap_or(0);
+            Ok(version == 2 || version == 3)
+        }
+        Err(error) if error.is_memory() => Err(Failure::Run(RunError::Memory)),
+        Err(_) => Ok(false),
+    }
+}
+
+/// Explains what the programs of a recording wrote, each event with its time; and its sizes, its markers and its end.
 pub fn explain_cast<R: BufRead, W: Write>(
     alloc: Global,
     explainer: &mut Explainer<'_>,
@@ -18,8 +76,17 @@ pub fn explain_cast<R: BufRead, W: Write>(
         let Some(text) = reading.next_line(input, &mut line)? else {
             return reading.end();
         };
-        if let Some(data) = reading.take(text)? {
-            explainer.take(reading.time(), data.as_bytes(), output)?;
+        let Some((code, data)) = reading.take_any(text)? else {
+            continue;
+        };
+        let (code, data) = (code.as_str(), data.as_str());
+        match code {
+            "o" => explainer.take(reading.time(), data.as_bytes(), output)?,
+            "r" | "m" | "x" => {
+                let event = Event { code, data };
+                explainer.take_event(reading.time(), &event, output)?;
+            }
+            _ => {}
         }
     }
     Ok(())

@@ -2,35 +2,80 @@
 #![tactic(auto)]
 
 mod cast;
+mod compare;
+mod diff;
+mod names;
 mod timing;
 
-use cast::explain_cast;
+use cast::{explain_cast, is_recording};
+use compare::explain_diff;
 use csicodec_command::{
-    ColorWhen, Failure, Request, Task, Worker, Wrong, asked, failed, refused, text_of, words_of,
-    work_through,
+    ColorWhen, Failure, Request, Task, Worker, Wrong, asked, failed, is_cast, refused, text_of,
+    words_of, work_through,
 };
 use csicodec_page::{Explainer, Style};
-use csicodec_streams::RunError;
+use csicodec_streams::{CHUNK, RunError, receive};
+use names::are_known;
 use std::alloc::Global;
 use std::env;
-use std::io::{BufRead, IsTerminal, Read, Write};
+use std::io::{BufRead, BufReader, IsTerminal, Read, Write};
 use std::process::ExitCode;
 use timing::Timing;
 
-/// A stream in words, and the times of its pieces, where they are given.
+/// Streams in words, and the times of their pieces, where they are given.
 #[derive(Drop)]
 struct Explained<'a> {
     explainer: Explainer<'a>,
     timing: Option<Timing>,
+    /// Whether there are several inputs, each with its name ahead of what is told of it.
+    named: bool,
+    /// Whether the next input is a recording if it begins as one.
+    guesses: bool,
 }
 
-impl<'a> Worker for Explained<'a> {
-    fn read<R: Read, W: Write>(
+impl<'a> Explained<'a> {
+    /// An input whose first bytes say whether it is a recording.
+    fn read_either<R: Read, W: Write>(
         &mut self,
-        _alloc: Global,
+        alloc: Global,
         input: &mut R,
         output: &mut W,
     ) -> Result<(), Failure> {
+        let mut chunk = [0u8; CHUNK];
+        let len = receive(input, &mut chunk)?;
+        let front = &chunk[..len];
+        if front.is_empty() {
+            return Ok(());
+        }
+        if !is_recording(alloc, front)? {
+            self.explainer.take_read(front, output)?;
+            return Ok(self.explainer.read(input, output)?);
+        }
+        self.explainer.begin(None, true, output)?;
+        let Ok(mut lines) = BufReader::new(alloc, front.chain(input)) else {
+            return Err(Failure::Run(RunError::Memory));
+        };
+        explain_cast(alloc, &mut self.explainer, &mut lines, output)
+    }
+}
+
+impl<'a> Worker for Explained<'a> {
+    fn begin<W: Write>(&mut self, name: &str, output: &mut W) -> Result<(), RunError> {
+        let timed = self.timing.is_some() || is_cast(name);
+        self.guesses = !timed && name == "-";
+        let name = if self.named { Some(name) } else { None };
+        self.explainer.begin(name, timed, output)
+    }
+
+    fn read<R: Read, W: Write>(
+        &mut self,
+        alloc: Global,
+        input: &mut R,
+        output: &mut W,
+    ) -> Result<(), Failure> {
+        if self.guesses {
+            return self.read_either(alloc, input, output);
+        }
         match &mut self.timing {
             Some(timing) => timing.explain_all(&mut self.explainer, input, output),
             None => Ok(self.explainer.read(input, output)?),
@@ -55,47 +100,65 @@ impl<'a> Worker for Explained<'a> {
 /// say by NO_COLOR that they aren't wanted.
 fn style_of<'a>(rt: &HostRuntime, run: &Request<'a>) -> Style<'a> {
     let wanted = run.wanted;
+    let live = rt.stdout().is_terminal();
     let color = match run.color {
         ColorWhen::Always => true,
         ColorWhen::Never => false,
-        ColorWhen::Auto => rt.stdout().is_terminal() && env::var(rt, "NO_COLOR").is_err(),
+        ColorWhen::Auto => live && env::var(rt, "NO_COLOR").is_err(),
     };
     Style {
         full: wanted.full,
         json: wanted.json,
         count: wanted.count,
+        stats: wanted.stats,
         unknown: wanted.unknown,
         decode: wanted.decode,
         color: color && !wanted.json,
-        timed: run.is_timed(),
+        timed: false,
+        live,
         only: wanted.only,
+        at: wanted.at.map(|places| (places.first, places.last)),
+        grep: wanted.grep,
     }
 }
 
 /// The times of a file that `script` wrote; the status, if it can't be read.
 fn times_of(rt: &HostRuntime, name: &str) -> Result<Timing, u8> {
     let text = text_of(rt, name)?;
-    match Timing::of(rt.alloc(), &text) {
-        Ok(timing) => Ok(timing),
-        Err(_) => Err(failed(rt, Failure::Run(RunError::Memory), name, None)),
-    }
+    Timing::of(rt.alloc(), &text).map_err(|failure| failed(rt, failure, name, None))
 }
 
 fn explain(rt: &HostRuntime, run: &Request<'_>) -> Result<(), u8> {
+    let style = style_of(rt, run);
+    if run.wanted.diff {
+        return explain_diff(rt, style, &run.files);
+    }
     let timing = match run.timing {
         Some(name) => Some(times_of(rt, name)?),
         None => None,
     };
-    let explainer = Explainer::new(rt.alloc(), style_of(rt, run));
-    let mut work = Explained { explainer, timing };
+    let mut work = Explained {
+        explainer: Explainer::new(rt.alloc(), style),
+        timing,
+        named: run.files.len() > 1,
+        guesses: false,
+    };
     work_through(rt, &mut work, &run.files)
+}
+
+/// Explains what the words of the command line ask for, if they do so in names that there are; the status, if that failed.
+fn checked(rt: &HostRuntime, run: &Request<'_>) -> Result<(), u8> {
+    if let Some(names) = run.wanted.only {
+        are_known(rt.alloc(), names).map_err(|wrong| refused(rt, wrong))?;
+    }
+    explain(rt, run)
 }
 
 /// Does what the words of the command line say; the status, if that failed.
 fn started(rt: &HostRuntime) -> Result<(), u8> {
     let words = words_of(rt)?;
     match asked(rt, &words)? {
-        Some(run) if run.task == Task::Explain => explain(rt, &run),
+        Some(run) if run.task == Task::Explain => checked(rt, &run),
         Some(_) => Err(refused(rt, Wrong::Nothing)),
         None => Ok(()),
     }

@@ -4,7 +4,7 @@
 use csicodec_command::{Failure, micros};
 use csicodec_page::Explainer;
 use csicodec_streams::{CHUNK, RunError, receive};
-use std::alloc::{AllocError, Global};
+use std::alloc::Global;
 use std::io::{Read, Write};
 
 /// The pieces of a recording, one after the other.
@@ -20,33 +20,50 @@ pub struct Timing {
     front: bool,
 }
 
-/// The seconds since the line before, and how many bytes of what was written came then.
-fn line_of(line: &str) -> (u64, usize) {
+/// Whether a text is a number of seconds: decimal digits with at most one point.
+fn is_seconds(text: &str) -> bool {
+    let (whole, part) = text.split_once('.').unwrap_or((text, ""));
+    !whole.is_empty()
+        && whole
+            .bytes()
+            .chain(part.bytes())
+            .all(|digit| digit.is_ascii_digit())
+}
+
+/// The seconds since the line before, and how many bytes of what was written came then: none where the line is another's, as of a
+/// signal. Nothing of a line that `script` doesn't write.
+fn line_of(line: &str) -> Option<(u64, usize)> {
     let mut words = line.split_whitespace();
-    let first = words.next().unwrap_or("");
-    let letter = first.starts_with(|c: char| c.is_ascii_alphabetic());
-    let seconds = if letter {
-        words.next().unwrap_or("")
-    } else {
-        first
-    };
-    let count = words.next().unwrap_or("").parse::<usize>().unwrap_or(0);
-    (
-        micros(seconds),
-        if letter && first != "O" { 0 } else { count },
-    )
+    let first = words.next()?;
+    let letter = first.len() == 1 && first.starts_with(|c: char| c.is_ascii_uppercase());
+    let seconds = if letter { words.next()? } else { first };
+    if !is_seconds(seconds) {
+        return None;
+    }
+    let count = words.next();
+    if letter && first != "O" && first != "I" {
+        return Some((micros(seconds), 0));
+    }
+    let count = count?.parse::<usize>().ok()?;
+    if words.next().is_some() {
+        return None;
+    }
+    Some((micros(seconds), if first == "I" { 0 } else { count }))
 }
 
 impl Timing {
     /// The pieces of such a file.
-    pub fn of(alloc: Global, text: &str) -> Result<Timing, AllocError> {
+    pub fn of(alloc: Global, text: &str) -> Result<Timing, Failure> {
         let mut pieces = Vec::new(alloc);
-        let mut time = 0u64;
+        let (mut time, mut number) = (0u64, 0u64);
         for line in text.lines() {
-            let (since, count) = line_of(line);
+            number = number.saturating_add(1);
+            let Some((since, count)) = line_of(line) else {
+                return Err(Failure::Times(number));
+            };
             time = time.saturating_add(since);
-            if count > 0 {
-                pieces.push((count, time))?;
+            if count > 0 && pieces.push((count, time)).is_err() {
+                return Err(Failure::Run(RunError::Memory));
             }
         }
         Ok(Timing {

@@ -5,8 +5,15 @@ pub fn is_control(byte: u8) -> bool {
     byte < b' ' || byte == 0x7f
 }
 
-/// Its name, and what it does.
-pub fn control_words(byte: u8) -> &'static str {
+/// The name of a control character, or of a carriage return with a line feed behind it, and what it does.
+pub fn words_of(bytes: &[u8]) -> &'static str {
+    if bytes.len() > 1 {
+        return "CR LF  cursor to column 1, down 1 line, scrolling";
+    }
+    control_words(bytes.first().copied().unwrap_or(0))
+}
+
+fn control_words(byte: u8) -> &'static str {
     match byte {
         0x00 => "NUL  nothing",
         0x01 => "SOH  start of heading",

@@ -2,42 +2,34 @@
 ghost use Rattle.std.specs.Prelude.{◌≤◌, IfOk, length};
 
 use crate::page::Page;
+use crate::stats::stats_of;
 use crate::style::Style;
-use csicodec_base::CsiParam;
-use csicodec_spans::{Cutter, Kind, LIMIT, Mode};
+use csicodec_spans::{Kind, LIMIT, Mode, next_span};
 use csicodec_streams::{CHUNK, RunError, keep_from, receive, send};
 use std::alloc::{AllocError, Global};
+use std::fmt::Display;
 use std::io::{Read, Write};
 
 /// Adds the lines of all spans that are sure; how many bytes they are, and the mode behind them.
-fn add_spans(
-    page: &mut Page<'_>,
-    params: &mut Vec<CsiParam>,
-    mode: Mode,
-    bytes: &[u8],
-) -> Result<(usize, Mode), AllocError>
+fn add_spans(page: &mut Page<'_>, mode: Mode, bytes: &[u8]) -> Result<(usize, Mode), AllocError>
     ensures { IfOk result (λ (used, after). used ≤ length bytes.now) }
 {
-    let mut cutter = Cutter { mode, rest: bytes };
-    loop {
-        let Cutter { mode, rest } = cutter;
-        let Some((span, control)) = cutter.next(LIMIT, params)? else {
-            return Ok((bytes.len() - rest.len(), mode));
-        };
-        match control {
-            Some(control) => page.add_sequence(span.bytes, params, control)?,
-            None => page.add(mode, span.kind, span.bytes, cutter.mode)?,
-        }
+    let (mut mode, mut rest) = (mode, bytes);
+    while let Some(cut) = next_span(LIMIT, mode, rest) {
+        page.add(mode, cut.span.kind, cut.span.bytes, cut.mode)?;
+        mode = cut.mode;
+        rest = cut.rest;
     }
+    Ok((bytes.len() - rest.len(), mode))
 }
 
-/// A stream of which some has come. It holds what may go on: less than `LIMIT` bytes, or a span's first bytes.
+/// Streams one after the other, of which some has come. It holds what may go on: less than `LIMIT` bytes, or a span's first bytes.
 #[derive(Drop)]
 pub struct Explainer<'a> {
     alloc: Global,
+    style: Style<'a>,
     mode: Mode,
     pending: Vec<u8>,
-    params: Vec<CsiParam>,
     page: Page<'a>,
 }
 
@@ -46,17 +38,18 @@ impl<'a> Explainer<'a> {
     pub fn new(alloc: Global, style: Style<'a>) -> Explainer<'a> {
         Explainer {
             alloc,
+            style,
             mode: Mode::Text,
             pending: Vec::new(alloc),
-            params: Vec::new(alloc),
             page: Page::new(alloc, style),
         }
     }
 
     /// The next bytes.
-    fn push(&mut self, bytes: &[u8]) -> Result<(), AllocError> {
+    fn push(&mut self, time: u64, bytes: &[u8]) -> Result<(), AllocError> {
+        self.page.come_at(time, self.pending.is_empty());
         self.pending.extend_from_slice(bytes)?;
-        let (used, mode) = add_spans(&mut self.page, &mut self.params, self.mode, &self.pending)?;
+        let (used, mode) = add_spans(&mut self.page, self.mode, &self.pending)?;
         self.mode = mode;
         keep_from(&mut self.pending, used);
         Ok(())
@@ -68,7 +61,29 @@ impl<'a> Explainer<'a> {
             self.page
                 .add(self.mode, Kind::Other, &self.pending, self.mode)?;
         }
+        self.pending.clear();
+        self.mode = Mode::Text;
         self.page.close()
+    }
+
+    /// Writes the lines that are there.
+    fn flush<W: Write>(&mut self, output: &mut W) -> Result<(), RunError> {
+        send(output, self.page.lines())?;
+        self.page.clear();
+        Ok(())
+    }
+
+    /// The stream so far is over, and another one begins, of which times are told or not. A name stands ahead of its lines, or in
+    /// each of its objects.
+    pub fn begin<W: Write>(
+        &mut self,
+        name: Option<&str>,
+        timed: bool,
+        output: &mut W,
+    ) -> Result<(), RunError> {
+        self.finish().map_err(|_| RunError::Memory)?;
+        self.page.begin(name, timed).map_err(|_| RunError::Memory)?;
+        self.flush(output)
     }
 
     /// The next bytes, which came at this time, in microseconds from the begin. The lines of all spans that are over are written
@@ -79,11 +94,38 @@ impl<'a> Explainer<'a> {
         bytes: &[u8],
         output: &mut W,
     ) -> Result<(), RunError> {
-        self.page.come_at(time, self.pending.is_empty());
-        self.push(bytes).map_err(|_| RunError::Memory)?;
-        send(output, self.page.lines())?;
-        self.page.clear();
-        Ok(())
+        self.push(time, bytes).map_err(|_| RunError::Memory)?;
+        self.flush(output)
+    }
+
+    /// What came at this time beside bytes: a name, two blanks, and words.
+    pub fn take_event<T: Display, W: Write>(
+        &mut self,
+        time: u64,
+        words: &T,
+        output: &mut W,
+    ) -> Result<(), RunError> {
+        self.page
+            .add_event(time, words)
+            .map_err(|_| RunError::Memory)?;
+        self.flush(output)
+    }
+
+    /// Bytes of a read of at most `CHUNK` bytes: fewer are all that was there.
+    fn push_read(&mut self, bytes: &[u8]) -> Result<(), AllocError> {
+        self.push(0, bytes)?;
+        if self.style.live && bytes.len() < CHUNK {
+            self.page.pause()
+        } else {
+            Ok(())
+        }
+    }
+
+    /// The bytes of a read of at most `CHUNK` bytes. The lines of all spans that are over are written and flushed, and where someone
+    /// looks on that of a text too, if nothing more is there at once.
+    pub fn take_read<W: Write>(&mut self, bytes: &[u8], output: &mut W) -> Result<(), RunError> {
+        self.push_read(bytes).map_err(|_| RunError::Memory)?;
+        self.flush(output)
     }
 
     /// Reads to the end of an input. After each read the lines of all spans that are over are written and flushed. A read that a
@@ -99,21 +141,27 @@ impl<'a> Explainer<'a> {
             if len == 0 {
                 return Ok(());
             }
-            self.take(0, &chunk[..len], output)?;
+            self.take_read(&chunk[..len], output)?;
         }
         Err(RunError::Read)
     }
 
-    /// The last lines, and the totals where they are asked for.
+    /// The last lines, and the sums where they are asked for.
     pub fn end<W: Write>(&mut self, output: &mut W) -> Result<(), RunError> {
         self.finish().map_err(|_| RunError::Memory)?;
-        send(output, self.page.lines())?;
-        match self.page.counts() {
-            Some(counts) => {
-                let told = counts.to_string(self.alloc).map_err(|_| RunError::Memory)?;
-                send(output, told.as_bytes())
-            }
-            None => Ok(()),
+        self.flush(output)?;
+        if self.style.count {
+            let summary = self.page.summary();
+            let told = summary.to_string(self.alloc).map_err(|_| RunError::Memory)?;
+            send(output, told.as_bytes())?;
         }
+        if self.style.stats {
+            let (names, all) = self.page.names();
+            let told = stats_of(self.alloc, names, all, self.style.json).map_err(
+                |_| RunError::Memory,
+            )?;
+            send(output, told.as_bytes())?;
+        }
+        Ok(())
     }
 }

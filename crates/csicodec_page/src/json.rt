@@ -1,157 +1,178 @@
 //! Spans as objects of JSON (RFC 8259), a line each.
 
-use crate::line::{Told, append_time};
+use crate::line::{Sort, Told, append_number, append_time};
 use crate::style::{Style, name_of};
-use csicodec_spans::Kind;
 use csicodec_strings::is_seen;
 use std::alloc::AllocError;
-use std::fmt::Write;
 
-/// The name of a kind of span, of a control character where it is one.
-fn kind_name(kind: Kind, control: bool) -> &'static str {
-    if control {
-        return "control";
+/// The digits of base sixteen.
+const DIGITS: &[u8; 16] = b"0123456789abcdef";
+
+/// The name of what a span is told as.
+fn name_of_sort(sort: Sort) -> &'static [u8] {
+    match sort {
+        Sort::Text => b"text",
+        Sort::Control => b"control",
+        Sort::Sequence => b"csi",
+        Sort::Escape => b"escape",
+        Sort::String => b"string",
+        Sort::Malformed => b"malformed",
+        Sort::Event => b"event",
     }
-    match kind {
-        Kind::Text => "text",
-        Kind::Csi => "csi",
-        Kind::Esc => "escape",
-        Kind::Str => "string",
-        Kind::Other => "malformed",
-    }
+}
+
+/// The digit of a number's last four bits.
+fn digit(number: u32) -> u8 {
+    DIGITS.get(number as usize % 16).copied().unwrap_or(b'0')
+}
+
+/// A number of 16 bits, as a string of JSON has it: `\u001b`.
+fn append_unit(text: &mut Vec<u8>, number: u32) -> Result<(), AllocError> {
+    text.extend_from_slice(&[
+        b'\\',
+        b'u',
+        digit(number >> 12),
+        digit(number >> 8),
+        digit(number >> 4),
+        digit(number),
+    ])
 }
 
 /// A character that can't stand in a string of JSON, or can't be seen: by its number, in two halves where it is above FFFF.
-fn write_number(out: &mut String, character: char) -> Result<(), AllocError> {
+fn append_by_number(text: &mut Vec<u8>, character: char) -> Result<(), AllocError> {
     let number = u32::from(character);
     if number < 0x10000 {
-        return write!(out, "\\u{number:04x}");
+        return append_unit(text, number);
     }
     let above = number.saturating_sub(0x10000);
-    let high = (above >> 10).saturating_add(0xd800);
-    let low = (above & 0x3ff).saturating_add(0xdc00);
-    write!(out, "\\u{high:04x}\\u{low:04x}")
+    append_unit(text, (above >> 10).saturating_add(0xd800))?;
+    append_unit(text, (above & 0x3ff).saturating_add(0xdc00))
 }
 
-/// A text between quotation marks.
-fn write_string(out: &mut String, text: &str) -> Result<(), AllocError> {
-    out.push('"')?;
-    for character in text.chars() {
-        match character {
-            '"' => out.push_str("\\\"")?,
-            '\\' => out.push_str("\\\\")?,
-            '\n' => out.push_str("\\n")?,
-            '\r' => out.push_str("\\r")?,
-            '\t' => out.push_str("\\t")?,
-            _ => {
-                if is_seen(character) {
-                    out.push(character)?;
-                } else {
-                    write_number(out, character)?;
-                }
+/// A character of a string.
+fn append_character(text: &mut Vec<u8>, character: char) -> Result<(), AllocError> {
+    match character {
+        '"' => text.extend_from_slice(b"\\\""),
+        '\\' => text.extend_from_slice(b"\\\\"),
+        '\n' => text.extend_from_slice(b"\\n"),
+        '\r' => text.extend_from_slice(b"\\r"),
+        '\t' => text.extend_from_slice(b"\\t"),
+        _ => {
+            if is_seen(character) {
+                let mut buffer = [0u8; 4];
+                text.extend_from_slice(character.encode_utf8(&mut buffer).as_bytes())
+            } else {
+                append_by_number(text, character)
             }
         }
     }
-    out.push('"')
+}
+
+/// Whether a byte is an ASCII character that stands for itself in a string.
+fn is_plain(byte: u8) -> bool {
+    matches!(byte, b' '..=b'~') && byte != b'\\' && byte != b'"'
+}
+
+/// A text between quotation marks.
+pub fn append_string(out: &mut Vec<u8>, text: &str) -> Result<(), AllocError> {
+    out.push(b'"')?;
+    if text.as_bytes().iter().all(|byte| is_plain(*byte)) {
+        out.extend_from_slice(text.as_bytes())?;
+    } else {
+        for character in text.chars() {
+            append_character(out, character)?;
+        }
+    }
+    Ok(out.push(b'"')?)
 }
 
 /// Bytes in hexadecimal digits, between quotation marks.
-fn write_hex(out: &mut String, bytes: &[u8]) -> Result<(), AllocError> {
-    out.push('"')?;
+fn append_hex(text: &mut Vec<u8>, bytes: &[u8]) -> Result<(), AllocError> {
+    text.push(b'"')?;
     for byte in bytes {
-        write!(out, "{byte:02x}")?;
+        let number = u32::from(*byte);
+        text.extend_from_slice(&[digit(number >> 4), digit(number)])?;
     }
-    out.push('"')
+    Ok(text.push(b'"')?)
 }
 
-/// The begin of an object: where the span stands, and when it came, if that is told.
+/// The begin of an object: where the span stands, and when it came, if that is told; the member that says of which file, if there
+/// is one.
+#[inline(always)]
 pub fn append_begin_object(
     text: &mut Vec<u8>,
-    buffer: &mut String,
     style: &Style<'_>,
+    file: &[u8],
     time: u64,
     place: u64,
 ) -> Result<(), AllocError> {
-    buffer.clear();
-    write!(buffer, "{{\"at\":{place}")?;
-    text.extend_from_slice(buffer.as_bytes())?;
+    text.extend_from_slice(b"{\"at\":")?;
+    append_number(text, place)?;
     if style.timed {
         text.extend_from_slice(b",\"time\":")?;
-        append_time(text, buffer, time, 0)?;
+        append_time(text, time, 0)?;
     }
-    Ok(())
+    text.extend_from_slice(file)
 }
 
 /// Bytes, as text where they are UTF-8; the names of both members.
-fn write_bytes(
-    out: &mut String,
+fn append_member(
+    out: &mut Vec<u8>,
     bytes: &[u8],
-    text: &'static str,
-    hex: &'static str,
+    text: &[u8],
+    hex: &[u8],
 ) -> Result<(), AllocError> {
     match std::str::from_utf8(bytes) {
         Ok(bytes) => {
-            out.push_str(text)?;
-            write_string(out, bytes)
+            out.extend_from_slice(text)?;
+            append_string(out, bytes)
         }
         Err(_) => {
-            out.push_str(hex)?;
-            write_hex(out, bytes)
+            out.extend_from_slice(hex)?;
+            append_hex(out, bytes)
         }
     }
 }
 
 /// What a span is, and its bytes.
-pub fn append_object(
-    text: &mut Vec<u8>,
-    buffer: &mut String,
-    span: Told<'_>,
-    control: bool,
-) -> Result<(), AllocError> {
-    let kind = kind_name(span.kind, control);
-    buffer.clear();
-    write!(buffer, ",\"kind\":\"{kind}\",")?;
-    write_bytes(buffer, span.bytes, "\"text\":", "\"hex\":")?;
-    text.extend_from_slice(buffer.as_bytes())
+pub fn append_object(text: &mut Vec<u8>, span: Told<'_>) -> Result<(), AllocError> {
+    text.extend_from_slice(b",\"kind\":\"")?;
+    text.extend_from_slice(name_of_sort(span.sort))?;
+    append_member(text, span.bytes, b"\",\"text\":", b"\",\"hex\":")
 }
 
 /// An action of an object: its name, its words, and its fields.
 pub fn append_action(
     text: &mut Vec<u8>,
-    buffer: &mut String,
     words: &str,
     fields: &[u8],
     first: bool,
 ) -> Result<(), AllocError> {
     let (name, words) = name_of(words);
-    buffer.clear();
-    buffer.push_str(if first {
-        ",\"actions\":[{\"name\":"
+    text.extend_from_slice(if first {
+        b",\"actions\":[{\"name\":".as_slice()
     } else {
-        ",{\"name\":"
+        b",{\"name\":".as_slice()
     })?;
-    write_string(buffer, name)?;
-    buffer.push_str(",\"words\":")?;
-    write_string(buffer, words)?;
-    text.extend_from_slice(buffer.as_bytes())?;
+    append_string(text, name)?;
+    text.extend_from_slice(b",\"words\":")?;
+    append_string(text, words)?;
     text.extend_from_slice(fields)?;
     Ok(text.push(b'}')?)
 }
 
 /// What stands in the only action of a span, decoded: a member of that action.
-pub fn append_decoded(
-    text: &mut Vec<u8>,
-    buffer: &mut String,
-    bytes: &[u8],
-) -> Result<(), AllocError> {
-    buffer.clear();
-    write_bytes(buffer, bytes, ",\"decoded\":", ",\"decoded_hex\":")?;
+pub fn append_decoded(text: &mut Vec<u8>, bytes: &[u8]) -> Result<(), AllocError> {
     text.truncate(text.len().saturating_sub(1));
-    text.extend_from_slice(buffer.as_bytes())?;
+    append_member(text, bytes, b",\"decoded\":", b",\"decoded_hex\":")?;
     Ok(text.push(b'}')?)
 }
 
 /// The end of an object.
 pub fn append_end(text: &mut Vec<u8>, with_actions: bool) -> Result<(), AllocError> {
-    text.extend_from_slice(if with_actions { b"]}\n" } else { b"}\n" })
+    text.extend_from_slice(if with_actions {
+        b"]}\n".as_slice()
+    } else {
+        b"}\n".as_slice()
+    })
 }

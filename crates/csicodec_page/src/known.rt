@@ -2,8 +2,10 @@
 
 use std::alloc::{AllocError, Global};
 
-/// So many sequences are kept at most.
-const SLOTS: usize = 4096;
+/// So many sequences are kept at most: as many in each bucket, and so many buckets.
+const WAYS: usize = 4;
+
+const BUCKETS: usize = 1024;
 
 /// A longer sequence isn't kept.
 const LONGEST: usize = 32;
@@ -14,25 +16,49 @@ const MOST: usize = 512;
 /// A sequence, and what was told of it.
 #[derive(Drop)]
 struct Entry {
-    bytes: Vec<u8>,
-    told: Vec<u8>,
+    /// The bytes of the sequence, and behind them what was told of it.
+    kept: Vec<u8>,
+    /// How many are the sequence's; none where nothing is kept.
+    len: usize,
+    hash: u32,
     actions: u64,
 }
 
-/// Short sequences with what was told of each, behind its place. Each stands in one slot, and takes it from another.
+impl Entry {
+    /// What was told, and of how many actions, where this is the sequence.
+    #[inline(always)]
+    fn recall(&self, hash: u32, bytes: &[u8]) -> Option<(&[u8], u64)> {
+        if self.hash != hash || self.len != bytes.len() {
+            return None;
+        }
+        let told = self.kept.strip_prefix(bytes)?;
+        Some((told, self.actions))
+    }
+}
+
+/// Short sequences with what was told of each, behind its place. Each stands in one bucket, and takes its slot from another.
 #[derive(Drop)]
 pub struct Remembered {
     alloc: Global,
     slots: Vec<Entry>,
+    /// Which slot of a full bucket the next sequence takes.
+    turn: usize,
 }
 
-/// The slot of a sequence.
-fn slot_of(bytes: &[u8]) -> usize {
+/// A number for the bytes of a sequence.
+#[inline(always)]
+fn hash_of(bytes: &[u8]) -> u32 {
     let mut hash = 0u32;
     for byte in bytes {
         hash = (hash ^ u32::from(*byte)).wrapping_mul(0x9e37_79b1);
     }
-    (hash >> 20) as usize
+    hash
+}
+
+/// The first slot of the bucket of sequences with this number.
+#[inline(always)]
+fn bucket_of(hash: u32) -> usize {
+    ((hash >> 22) as usize).saturating_mul(WAYS)
 }
 
 impl Remembered {
@@ -41,30 +67,55 @@ impl Remembered {
         Remembered {
             alloc,
             slots: Vec::new(alloc),
+            turn: 0,
         }
     }
 
+    /// Nothing came before, from now on.
+    pub fn forget(&mut self) {
+        self.slots.clear();
+    }
+
     /// What was told of this sequence, behind its place, and how many actions it has.
+    #[inline(always)]
     pub fn recall(&self, bytes: &[u8]) -> Option<(&[u8], u64)> {
-        let slot = self.slots.get(slot_of(bytes))?;
-        if slot.bytes.as_slice() == bytes {
-            Some((slot.told.as_slice(), slot.actions))
-        } else {
-            None
+        if bytes.len() > LONGEST {
+            return None;
         }
+        let hash = hash_of(bytes);
+        let first = bucket_of(hash);
+        for slot in self.slots.get(first..first.saturating_add(WAYS))? {
+            let known = slot.recall(hash, bytes);
+            if known.is_some() {
+                return known;
+            }
+        }
+        None
     }
 
     /// Makes room.
     fn make_slots(&mut self) -> Result<(), AllocError> {
-        for _ in 0..SLOTS {
+        for _ in 0..BUCKETS.saturating_mul(WAYS) {
             let slot = Entry {
-                bytes: Vec::new(self.alloc),
-                told: Vec::new(self.alloc),
+                kept: Vec::new(self.alloc),
+                len: 0,
+                hash: 0,
                 actions: 0,
             };
             self.slots.push(slot)?;
         }
         Ok(())
+    }
+
+    /// The slot of a bucket that the next sequence takes: one where nothing is kept, if there is one.
+    fn place_in(&self, first: usize) -> usize {
+        for way in 0..WAYS {
+            let place = first.saturating_add(way);
+            if self.slots.get(place).is_some_and(|slot| slot.len == 0) {
+                return place;
+            }
+        }
+        first.saturating_add(self.turn)
     }
 
     /// Keeps what was told of a sequence of at least one byte.
@@ -75,13 +126,19 @@ impl Remembered {
         if self.slots.is_empty() {
             self.make_slots()?;
         }
-        let Some(slot) = self.slots.get_mut(slot_of(bytes)) else {
+        let hash = hash_of(bytes);
+        let place = self.place_in(bucket_of(hash));
+        self.turn = self.turn.wrapping_add(1) % WAYS;
+        let Some(slot) = self.slots.get_mut(place) else {
             return Ok(());
         };
-        slot.bytes.clear();
-        slot.told.clear();
-        slot.told.extend_from_slice(told)?;
+        slot.len = 0;
+        slot.kept.clear();
+        slot.kept.extend_from_slice(bytes)?;
+        slot.kept.extend_from_slice(told)?;
+        slot.hash = hash;
         slot.actions = actions;
-        slot.bytes.extend_from_slice(bytes)
+        slot.len = bytes.len();
+        Ok(())
     }
 }

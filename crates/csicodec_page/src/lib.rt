@@ -11,6 +11,7 @@ mod line;
 mod names;
 mod page;
 mod sheet;
+mod stats;
 mod style;
 mod totals;
 

@@ -1,11 +1,9 @@
 //! The begin of a line: when and where a span came, and its bytes.
 
 use crate::style::Style;
-use csicodec_spans::Kind;
-use csicodec_strings::{Quoted, append_escaped};
+use csicodec_strings::{append_escaped, append_quoted};
 use itoa::write_digits;
 use std::alloc::AllocError;
-use std::fmt::Write;
 
 /// How many bytes of a span are shown at most.
 const SHOWN: usize = 60;
@@ -34,11 +32,25 @@ pub const CYAN: &[u8; 5] = b"\x1b[36m";
 /// No colour.
 pub const PLAIN: &[u8; 3] = b"\x1b[m";
 
+/// What a span is told as.
+#[derive(Clone, Copy, Debug, PartialEq, Eq)]
+pub enum Sort {
+    Text,
+    /// A control character that stands in text, or a carriage return with a line feed.
+    Control,
+    Sequence,
+    Escape,
+    String,
+    Malformed,
+    /// What a recording has beside bytes.
+    Event,
+}
+
 /// A span of which the first bytes are there.
 #[derive(Clone, Copy)]
 pub struct Told<'a> {
     /// What it is.
-    pub kind: Kind,
+    pub sort: Sort,
     /// The place of its first byte in the stream, counted from 0.
     pub place: u64,
     /// When that byte came, in microseconds.
@@ -55,6 +67,7 @@ fn append_blanks(text: &mut Vec<u8>, count: usize) -> Result<(), AllocError> {
 }
 
 /// Begins a colour, where lines have colours.
+#[inline(always)]
 pub fn paint(text: &mut Vec<u8>, style: &Style<'_>, color: &[u8]) -> Result<(), AllocError> {
     if style.color {
         text.extend_from_slice(color)
@@ -70,31 +83,39 @@ fn append_place(text: &mut Vec<u8>, place: u64) -> Result<(), AllocError> {
     text.extend_from_slice(&line[begin.min(12)..])
 }
 
-/// A time in seconds, to the microsecond.
-pub fn append_time(
-    text: &mut Vec<u8>,
-    buffer: &mut String,
-    time: u64,
-    columns: usize,
-) -> Result<(), AllocError> {
+/// A number in decimal digits.
+pub fn append_number(text: &mut Vec<u8>, number: u64) -> Result<(), AllocError> {
+    let mut digits = [0u8; 20];
+    let begin = write_digits(number, &mut digits, 20);
+    text.extend_from_slice(&digits[begin..])
+}
+
+/// A time in seconds, to the microsecond, with blanks ahead where it has fewer columns than these.
+pub fn append_time(text: &mut Vec<u8>, time: u64, columns: usize) -> Result<(), AllocError> {
     let (seconds, fraction) = (time / 1_000_000, time % 1_000_000);
-    buffer.clear();
-    write!(buffer, "{seconds}.{fraction:06}")?;
-    append_blanks(text, columns.saturating_sub(buffer.len()))?;
-    text.extend_from_slice(buffer.as_bytes())
+    let mut digits = [0u8; 20];
+    let begin = write_digits(seconds, &mut digits, 20);
+    append_blanks(text, columns.saturating_add(begin).saturating_sub(27))?;
+    text.extend_from_slice(&digits[begin..])?;
+    text.push(b'.')?;
+    for unit in [100_000u64, 10_000, 1_000, 100, 10, 1] {
+        let digit = fraction.checked_div(unit).unwrap_or(0) % 10;
+        text.push(b'0' + digit as u8)?;
+    }
+    Ok(())
 }
 
 /// When a span came, if that is told, and where it begins: `    1.500000        7  `.
+#[inline(always)]
 pub fn append_begin(
     text: &mut Vec<u8>,
-    buffer: &mut String,
     style: &Style<'_>,
     time: u64,
     place: u64,
 ) -> Result<(), AllocError> {
     paint(text, style, GREY)?;
     if style.timed {
-        append_time(text, buffer, time, TIME.saturating_sub(2))?;
+        append_time(text, time, TIME.saturating_sub(2))?;
         append_blanks(text, 2)?;
     }
     append_place(text, place)?;
@@ -102,7 +123,7 @@ pub fn append_begin(
 }
 
 /// The bytes without a character at the end that isn't whole.
-fn whole_characters(bytes: &[u8]) -> &[u8] {
+pub fn whole_characters(bytes: &[u8]) -> &[u8] {
     for back in 1..4usize {
         let front = bytes.len().saturating_sub(back);
         match bytes.get(front).copied() {
@@ -115,23 +136,13 @@ fn whole_characters(bytes: &[u8]) -> &[u8] {
 }
 
 /// The bytes of a span as a line shows them, and how many columns they take.
-fn append_shown(
-    text: &mut Vec<u8>,
-    quoted: &mut String,
-    span: Told<'_>,
-    most: usize,
-) -> Result<usize, AllocError> {
+fn append_shown(text: &mut Vec<u8>, span: Told<'_>, most: usize) -> Result<usize, AllocError> {
     let near = span.bytes.get(..most);
     let front = near.unwrap_or(span.bytes);
     let more = (front.len() as u64) < span.len;
     let begin = text.len();
-    let columns = if span.kind == Kind::Text {
-        let bytes = if more { whole_characters(front) } else { front };
-        let shown = Quoted { bytes, more: false };
-        quoted.clear();
-        write!(quoted, "{shown}")?;
-        text.extend_from_slice(quoted.as_bytes())?;
-        quoted.chars().count()
+    let columns = if span.sort == Sort::Text {
+        append_quoted(text, if more { whole_characters(front) } else { front })?
     } else {
         append_escaped(text, front)?;
         text.len().saturating_sub(begin)
@@ -139,11 +150,11 @@ fn append_shown(
     if !more {
         return Ok(columns);
     }
-    let len = span.len;
-    quoted.clear();
-    write!(quoted, ".. ({len} bytes)")?;
-    text.extend_from_slice(quoted.as_bytes())?;
-    Ok(columns.saturating_add(quoted.len()))
+    let begin = text.len();
+    text.extend_from_slice(b".. (")?;
+    append_number(text, span.len)?;
+    text.extend_from_slice(b" bytes)")?;
+    Ok(columns.saturating_add(text.len().saturating_sub(begin)))
 }
 
 /// The blanks ahead of the words of a line that begins with no span.
@@ -163,16 +174,34 @@ pub fn append_margin(text: &mut Vec<u8>, style: &Style<'_>) -> Result<(), AllocE
 /// blanks, the words have a line of their own.
 pub fn append_bytes(
     text: &mut Vec<u8>,
-    quoted: &mut String,
     style: &Style<'_>,
     span: Told<'_>,
 ) -> Result<(), AllocError> {
     let most = if style.full { usize::MAX } else { SHOWN };
-    let columns = append_shown(text, quoted, span, most)?;
+    let columns = append_shown(text, span, most)?;
     paint(text, style, PLAIN)?;
     if columns.saturating_add(2) > BYTES {
         text.push(b'\n')?;
         return append_margin(text, style);
     }
     append_blanks(text, BYTES.saturating_sub(columns))
+}
+
+/// A name, in its colour, and two blanks.
+pub fn append_name(text: &mut Vec<u8>, style: &Style<'_>, name: &str) -> Result<(), AllocError> {
+    paint(text, style, CYAN)?;
+    text.extend_from_slice(name.as_bytes())?;
+    paint(text, style, PLAIN)?;
+    text.extend_from_slice(b"  ")
+}
+
+/// The words of a text of so many bytes, and the line's end.
+pub fn append_text_words(
+    text: &mut Vec<u8>,
+    style: &Style<'_>,
+    len: u64,
+) -> Result<(), AllocError> {
+    append_name(text, style, "text")?;
+    append_number(text, len)?;
+    text.extend_from_slice(if len == 1 { b" byte\n" } else { b" bytes\n" })
 }

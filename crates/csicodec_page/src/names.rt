@@ -1,4 +1,4 @@
-//! How often each name was told.
+//! How often each name was told, and of how many bytes.
 
 use std::alloc::{AllocError, Global};
 use std::collections::BTreeMap;
@@ -7,13 +7,29 @@ use std::fmt;
 /// So many names are counted, each by itself: those that came first.
 const MOST: usize = 1000;
 
-/// Names, each with how often it was told; a count stops at `u64::MAX`.
+/// How often a name was told, and of how many bytes; both stop at `u64::MAX`.
+#[derive(Clone, Copy, Debug, Default, PartialEq, Eq)]
+pub struct Sum {
+    /// How often.
+    pub times: u64,
+    /// The bytes of the spans of which it was told first.
+    pub bytes: u64,
+}
+
+impl Sum {
+    fn add(&mut self, bytes: u64) {
+        self.times = self.times.saturating_add(1);
+        self.bytes = self.bytes.saturating_add(bytes);
+    }
+}
+
+/// Names, each with its sum.
 #[derive(Drop)]
 pub struct Names {
     alloc: Global,
-    counts: BTreeMap<String, u64>,
+    sums: BTreeMap<String, Sum>,
     /// All further names together.
-    others: u64,
+    others: Sum,
 }
 
 impl Names {
@@ -21,32 +37,43 @@ impl Names {
     pub fn new(alloc: Global) -> Names {
         Names {
             alloc,
-            counts: BTreeMap::new(alloc),
-            others: 0,
+            sums: BTreeMap::new(alloc),
+            others: Sum::default(),
         }
     }
 
-    /// This name once more.
-    pub fn add(&mut self, name: &str) -> Result<(), AllocError> {
-        if let Some(count) = self.counts.get_mut(name) {
-            *count = count.saturating_add(1);
+    /// This name once more, of so many bytes.
+    pub fn add(&mut self, name: &str, bytes: u64) -> Result<(), AllocError> {
+        if let Some(sum) = self.sums.get_mut(name) {
+            sum.add(bytes);
             return Ok(());
         }
-        if self.counts.len() >= MOST {
-            self.others = self.others.saturating_add(1);
+        if self.sums.len() >= MOST {
+            self.others.add(bytes);
             return Ok(());
         }
         let name = String::from_str(self.alloc, name)?;
-        self.counts.insert(name, 1)?;
+        self.sums.insert(name, Sum { times: 1, bytes })?;
         Ok(())
+    }
+
+    /// The names with their sums, those of more bytes first, and the sum of all further names.
+    pub fn by_bytes(&self) -> Result<(Vec<(&str, Sum)>, Sum), AllocError> {
+        let mut rows = Vec::new(self.alloc);
+        for (name, sum) in &self.sums {
+            rows.push((name.as_str(), *sum))?;
+        }
+        rows.sort_by_key(|(_, sum)| u64::MAX.saturating_sub(sum.bytes))?;
+        Ok((rows, self.others))
     }
 
     /// As members of an object of JSON; a name has no character that would stand behind a backslash there.
     pub fn write_members<W: fmt::Write>(&self, out: &mut W) -> fmt::Result {
-        let others = self.others;
+        let others = self.others.times;
         write!(out, "\"other names\":{others}")?;
-        for (name, count) in &self.counts {
-            write!(out, ",\"{name}\":{count}")?;
+        for (name, sum) in &self.sums {
+            let times = sum.times;
+            write!(out, ",\"{name}\":{times}")?;
         }
         Ok(())
     }
@@ -55,10 +82,11 @@ impl Names {
 /// A line for each name, with its end, in the order of their characters.
 impl fmt::Display for Names {
     fn fmt<W: fmt::Write>(&self, f: &mut fmt::Formatter<W>) -> fmt::Result {
-        for (name, count) in &self.counts {
-            write!(f, "  {name:<16}{count:>10}\n")?;
+        for (name, sum) in &self.sums {
+            let times = sum.times;
+            write!(f, "  {name:<16}{times:>10}\n")?;
         }
-        let others = self.others;
+        let others = self.others.times;
         if others > 0 {
             write!(f, "  other names     {others:>10}\n")?;
         }

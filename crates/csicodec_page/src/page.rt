@@ -1,19 +1,20 @@
 //! The spans of a stream, each told when it is over.
 
-use crate::controls::{control_words, is_control};
+use crate::controls::{is_control, words_of};
 use crate::decoded::clipboard_bytes;
-use crate::line::Told;
+use crate::line::{Sort, Told, whole_characters};
+use crate::names::Names;
 use crate::sheet::Sheet;
 use crate::style::Style;
 use crate::totals::{Summary, Totals};
-use csicodec_base::{CsiParam, Esc};
+use csicodec_base::{CsiParam, Esc, read_csi_into};
 use csicodec_parser::CSI;
 use csicodec_readings::{EscReading, LongEscReading, Reading};
 use csicodec_spans::{Kind, Mode};
 use csicodec_strings::{ControlString, FRONT};
 use csicodec_words::Described;
 use std::alloc::{AllocError, Global};
-use std::fmt;
+use std::fmt::{self, Display};
 
 /// A span of which more may come: text, a string, or what went wrong.
 #[derive(Drop)]
@@ -36,11 +37,15 @@ struct Open {
 pub struct Page<'a> {
     alloc: Global,
     sheet: Sheet<'a>,
+    /// The tokens of a control sequence.
+    params: Vec<CsiParam>,
     place: u64,
     /// When the byte at the place came, and when those that are read now did, in microseconds.
     time: u64,
     now: u64,
     open: Open,
+    /// Where a carriage return stands that isn't told yet, and when it came: a line feed may follow.
+    held: Option<(u64, u64)>,
     /// Whether the last span was text.
     text: bool,
     totals: Totals,
@@ -65,15 +70,15 @@ fn long_escape(kind: Kind, front: &[u8], len: u64) -> Option<LongEscReading> {
     }
 }
 
-/// The words of a span that is known by its kind alone: a name, and how many bytes it has.
+/// The words of what went wrong: how many bytes it has.
 #[derive(Clone, Copy)]
-struct Counted(&'static str, u64);
+struct Malformed(u64);
 
-impl fmt::Display for Counted {
+impl fmt::Display for Malformed {
     fn fmt<W: fmt::Write>(&self, f: &mut fmt::Formatter<W>) -> fmt::Result {
-        let (name, len) = (self.0, self.1);
+        let len = self.0;
         let unit = if len == 1 { "byte" } else { "bytes" };
-        write!(f, "{name}  {len} {unit}")
+        write!(f, "malformed  {len} {unit}")
     }
 }
 
@@ -94,6 +99,7 @@ impl<'a> Page<'a> {
         Page {
             alloc,
             sheet: Sheet::new(alloc, style),
+            params: Vec::new(alloc),
             place: 0,
             time: 0,
             now: 0,
@@ -105,6 +111,7 @@ impl<'a> Page<'a> {
                 closed: false,
                 front: Vec::new(alloc),
             },
+            held: None,
             text: false,
             totals: Totals::default(),
         }
@@ -120,20 +127,36 @@ impl<'a> Page<'a> {
         self.sheet.clear();
     }
 
-    /// How much came, if that is asked for.
-    pub fn counts(&self) -> Option<Summary<'_>> {
-        let style = self.sheet.style();
-        if !style.count {
-            return None;
-        }
-        Some(Summary {
+    /// How much came.
+    pub fn summary(&self) -> Summary<'_> {
+        Summary {
             totals: self.totals,
             names: self.sheet.names(),
-            json: style.json,
-        })
+            json: self.sheet.style().json,
+        }
+    }
+
+    /// The names that were told, and how many bytes came.
+    pub fn names(&self) -> (&Names, u64) {
+        (self.sheet.names(), self.totals.bytes())
+    }
+
+    /// Another stream begins, of which times are told or not, behind a heading with its name if there is one. What is open must be
+    /// told before.
+    pub fn begin(&mut self, name: Option<&str>, timed: bool) -> Result<(), AllocError> {
+        self.place = 0;
+        self.time = 0;
+        self.now = 0;
+        self.text = false;
+        self.sheet.time(timed);
+        match name {
+            Some(name) => self.sheet.begin_file(name),
+            None => Ok(()),
+        }
     }
 
     /// So many bytes came.
+    #[inline(always)]
     fn advance(&mut self, kind: Kind, spans: u64, len: usize) {
         let len = len as u64;
         self.place = self.place.saturating_add(len);
@@ -141,57 +164,77 @@ impl<'a> Page<'a> {
         self.totals.add(kind, spans, len);
     }
 
-    /// Tells the span of which more could have come: there is no more.
+    /// Tells what could have gone on: there is no more of it.
+    #[inline(always)]
     pub fn close(&mut self) -> Result<(), AllocError> {
-        let len = self.open.len;
-        if len == 0 {
-            return Ok(());
+        if self.open.len > 0 {
+            self.close_open()?;
         }
-        let front = &self.open.front;
-        let escape = long_escape(self.open.kind, front, len);
-        let kind = if escape.is_some() {
-            Kind::Esc
+        match self.held.take() {
+            Some((place, time)) => self.tell_control(place, time, b"\r"),
+            None => Ok(()),
+        }
+    }
+
+    /// Tells text that may go on, if a character isn't cut there: nothing more is there at once.
+    pub fn pause(&mut self) -> Result<(), AllocError> {
+        let front = self.open.front.as_slice();
+        let whole = whole_characters(front).len() == front.len();
+        if self.open.len == 0 || (self.open.kind == Kind::Text && whole) {
+            self.close()
         } else {
-            self.open.kind
-        };
-        let span = Told {
-            kind,
+            Ok(())
+        }
+    }
+
+    /// Tells the span of which more could have come.
+    fn close_open(&mut self) -> Result<(), AllocError> {
+        let len = self.open.len;
+        let mut span = Told {
+            sort: Sort::Malformed,
             place: self.open.place,
             time: self.open.time,
-            bytes: front,
+            bytes: &self.open.front,
             len,
         };
-        self.sheet.begin(span, false)?;
-        match kind {
+        self.open.len = 0;
+        match self.open.kind {
             Kind::Text => {
-                if !self.sheet.style().json {
-                    self.sheet.add(span, &Counted("text", len))?;
-                }
+                span.sort = Sort::Text;
+                self.sheet.tell_text(span)
             }
             Kind::Str => {
+                span.sort = Sort::String;
+                self.sheet.begin(span)?;
                 let string = ControlString {
-                    front,
+                    front: span.bytes,
                     len,
                     closed: self.open.closed,
                 };
                 self.sheet.add(span, &string)?;
                 if self.sheet.style().decode {
-                    if let Some(bytes) = clipboard_bytes(self.alloc, front)? {
+                    if let Some(bytes) = clipboard_bytes(self.alloc, span.bytes)? {
                         self.sheet.add_decoded(span, &bytes)?;
                     }
                 }
+                self.sheet.end()
             }
-            Kind::Csi | Kind::Esc | Kind::Other => match escape {
-                Some(reading) => {
-                    self.sheet.add(span, &Described(&reading))?;
-                    self.totals.add_long_escape(len);
+            Kind::Csi | Kind::Esc | Kind::Other => {
+                match long_escape(self.open.kind, span.bytes, len) {
+                    Some(reading) => {
+                        span.sort = Sort::Escape;
+                        self.sheet.begin(span)?;
+                        self.sheet.add(span, &Described(&reading))?;
+                        self.totals.add_long_escape(len);
+                    }
+                    None => {
+                        self.sheet.begin(span)?;
+                        self.sheet.add(span, &Malformed(len))?;
+                    }
                 }
-                None => self.sheet.add(span, &Counted("malformed", len))?,
-            },
+                self.sheet.end()
+            }
         }
-        self.sheet.end()?;
-        self.open.len = 0;
-        Ok(())
     }
 
     /// The bytes that come now came at this time, in microseconds, and the first of those that are not told yet too, if none of
@@ -204,20 +247,20 @@ impl<'a> Page<'a> {
     }
 
     /// A line for each action of a control sequence; how many they are.
-    fn tell_sequence(
-        &mut self,
-        bytes: &[u8],
-        params: &[CsiParam],
-        control: char,
-    ) -> Result<u64, AllocError> {
+    #[inline(never)]
+    fn tell_sequence(&mut self, bytes: &[u8]) -> Result<u64, AllocError> {
+        let Ok(tail) = read_csi_into(&mut self.params, bytes) else {
+            return Err(AllocError);
+        };
+        let (params, control) = (self.params.as_slice(), tail.control);
         let span = Told {
-            kind: Kind::Csi,
+            sort: Sort::Sequence,
             place: self.place,
             time: self.time,
             bytes,
             len: bytes.len() as u64,
         };
-        self.sheet.begin(span, false)?;
+        self.sheet.begin(span)?;
         let mut count = 0u64;
         for action in CSI::parse(self.alloc, params, false, control) {
             let action = action?;
@@ -234,17 +277,12 @@ impl<'a> Page<'a> {
         Ok(count)
     }
 
-    /// A control sequence of these tokens before this final character.
-    pub fn add_sequence(
-        &mut self,
-        bytes: &[u8],
-        params: &[CsiParam],
-        control: char,
-    ) -> Result<(), AllocError> {
+    /// A control sequence.
+    fn add_sequence(&mut self, bytes: &[u8]) -> Result<(), AllocError> {
         self.close()?;
         let actions = match self.sheet.recall(self.time, self.place, bytes)? {
             Some(actions) => actions,
-            None => self.tell_sequence(bytes, params, control)?,
+            None => self.tell_sequence(bytes)?,
         };
         self.totals.add_actions(actions);
         self.text = false;
@@ -252,48 +290,86 @@ impl<'a> Page<'a> {
         Ok(())
     }
 
-    /// An escape sequence.
-    fn add_escape(&mut self, bytes: &[u8]) -> Result<(), AllocError> {
-        self.close()?;
+    #[inline(never)]
+    fn tell_escape(&mut self, bytes: &[u8]) -> Result<(), AllocError> {
         let span = Told {
-            kind: Kind::Esc,
+            sort: Sort::Escape,
             place: self.place,
             time: self.time,
             bytes,
             len: bytes.len() as u64,
         };
-        self.sheet.begin(span, false)?;
+        self.sheet.begin(span)?;
         let esc = escape_of(bytes);
         self.sheet
             .add_action(span, &Described(&EscReading(esc)), &Named(esc))?;
         self.sheet.end()?;
+        self.sheet.keep(bytes, 0)
+    }
+
+    /// An escape sequence.
+    fn add_escape(&mut self, bytes: &[u8]) -> Result<(), AllocError> {
+        self.close()?;
+        if self.sheet.recall(self.time, self.place, bytes)?.is_none() {
+            self.tell_escape(bytes)?;
+        }
         self.text = false;
         self.advance(Kind::Esc, 1, bytes.len());
         Ok(())
     }
 
-    /// A control character that stands in text.
-    fn add_control(&mut self, byte: u8) -> Result<(), AllocError> {
+    /// What a recording has beside bytes.
+    pub fn add_event<T: Display>(&mut self, time: u64, words: &T) -> Result<(), AllocError> {
         self.close()?;
-        let bytes = [byte];
         let span = Told {
-            kind: Kind::Other,
+            sort: Sort::Event,
             place: self.place,
-            time: self.time,
-            bytes: &bytes,
-            len: 1,
+            time,
+            bytes: &[],
+            len: 0,
         };
-        self.sheet.begin(span, true)?;
-        let words = control_words(byte);
-        self.sheet.add(span, &words)?;
+        self.sheet.begin(span)?;
+        self.sheet.add(span, words)?;
         self.sheet.end()
+    }
+
+    /// A control character that stands in text, or a carriage return with a line feed.
+    fn tell_control(&mut self, place: u64, time: u64, bytes: &[u8]) -> Result<(), AllocError> {
+        if self.sheet.recall(time, place, bytes)?.is_some() {
+            return Ok(());
+        }
+        let span = Told {
+            sort: Sort::Control,
+            place,
+            time,
+            bytes,
+            len: bytes.len() as u64,
+        };
+        self.sheet.begin(span)?;
+        let words = words_of(bytes);
+        self.sheet.add(span, &words)?;
+        self.sheet.end()?;
+        self.sheet.keep(bytes, 0)
+    }
+
+    /// A control character. A carriage return waits for a line feed, where both are told as one.
+    fn add_control(&mut self, byte: u8) -> Result<(), AllocError> {
+        if let Some((place, time)) = self.held {
+            if byte == b'\n' {
+                self.held = None;
+                return self.tell_control(place, time, b"\r\n");
+            }
+        }
+        self.close()?;
+        if byte == b'\r' && self.sheet.style().joins_lines() {
+            self.held = Some((self.place, self.time));
+            return Ok(());
+        }
+        self.tell_control(self.place, self.time, &[byte])
     }
 
     /// Bytes of a span of which more may come; it goes on with them, or begins.
     fn add_open(&mut self, kind: Kind, same: bool, bytes: &[u8]) -> Result<(), AllocError> {
-        if bytes.is_empty() {
-            return Ok(());
-        }
         if !same {
             self.close()?;
             self.open.kind = kind;
@@ -314,41 +390,43 @@ impl<'a> Page<'a> {
         Ok(())
     }
 
-    /// Text: each control character stands alone.
-    fn add_text(&mut self, bytes: &[u8]) -> Result<(), AllocError> {
-        let mut spans = if self.text { 0 } else { 1 };
-        self.text = true;
-        for part in bytes.split_inclusive(|byte| is_control(*byte)) {
-            let (run, control) = match part.split_last() {
-                Some((last, run)) if is_control(*last) => (run, Some(*last)),
-                _ => (part, None),
-            };
+    /// Text with at most one control character, its last.
+    fn add_text_part(&mut self, part: &[u8]) -> Result<(), AllocError> {
+        let (run, control) = match part.split_last() {
+            Some((last, run)) if is_control(*last) => (run, Some(*last)),
+            _ => (part, None),
+        };
+        if !run.is_empty() {
             let same = self.open.len > 0 && self.open.kind == Kind::Text;
             self.add_open(Kind::Text, same, run)?;
-            self.advance(Kind::Text, spans, run.len());
-            if let Some(byte) = control {
-                self.add_control(byte)?;
-                self.advance(Kind::Text, 0, 1);
-            }
-            spans = 0;
+            self.advance(Kind::Text, 0, run.len());
+        }
+        if let Some(byte) = control {
+            self.add_control(byte)?;
+            self.advance(Kind::Text, 0, 1);
         }
         Ok(())
     }
 
-    /// Bytes of any kind but control sequences that stand in this mode, with the mode behind them: a span is told when it is
-    /// known where it ends.
-    pub fn add(
+    /// Text: each control character stands alone.
+    fn add_text(&mut self, bytes: &[u8]) -> Result<(), AllocError> {
+        let spans = if self.text { 0 } else { 1 };
+        self.text = true;
+        self.totals.add(Kind::Text, spans, 0);
+        for part in bytes.split_inclusive(|byte| is_control(*byte)) {
+            self.add_text_part(part)?;
+        }
+        Ok(())
+    }
+
+    /// Bytes of a string, or of what went wrong, that stand in this mode, with the mode behind them.
+    fn add_part(
         &mut self,
         mode: Mode,
         kind: Kind,
         bytes: &[u8],
         next: Mode,
     ) -> Result<(), AllocError> {
-        match kind {
-            Kind::Esc => return self.add_escape(bytes),
-            Kind::Text => return self.add_text(bytes),
-            Kind::Csi | Kind::Str | Kind::Other => {}
-        }
         let same = self.open.len > 0 && self.open.kind == kind && mode.goes_on(bytes);
         self.add_open(kind, same, bytes)?;
         self.open.closed = kind == Kind::Str && next == Mode::Text;
@@ -358,6 +436,23 @@ impl<'a> Page<'a> {
             self.close()
         } else {
             Ok(())
+        }
+    }
+
+    /// Bytes of one kind, at least one, that stand in this mode, with the mode behind them: a span is told when it is known where it
+    /// ends.
+    pub fn add(
+        &mut self,
+        mode: Mode,
+        kind: Kind,
+        bytes: &[u8],
+        next: Mode,
+    ) -> Result<(), AllocError> {
+        match kind {
+            Kind::Csi => self.add_sequence(bytes),
+            Kind::Esc => self.add_escape(bytes),
+            Kind::Text => self.add_text(bytes),
+            Kind::Str | Kind::Other => self.add_part(mode, kind, bytes, next),
         }
     }
 }

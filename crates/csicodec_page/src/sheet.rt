@@ -2,11 +2,16 @@
 
 use crate::decoded::Clipboard;
 use crate::fields::JsonFields;
-use crate::json::{append_action, append_begin_object, append_decoded, append_end, append_object};
+use crate::json::{
+    append_action, append_begin_object, append_decoded, append_end, append_object, append_string,
+};
 use crate::known::Remembered;
-use crate::line::{CYAN, PLAIN, Told, append_begin, append_bytes, append_margin, paint};
+use crate::line::{
+    Told, append_begin, append_bytes, append_margin, append_name, append_text_words,
+};
 use crate::names::Names;
 use crate::style::{Style, name_of};
+use csicodec_strings::Shown;
 use std::alloc::{AllocError, Global};
 use std::fmt::{Debug, Display, Write};
 
@@ -21,6 +26,10 @@ pub struct Sheet<'a> {
     buffer: String,
     /// The fields of one action, in JSON.
     fields: JsonFields,
+    /// The member of an object that says of which file, where that is told.
+    file: Vec<u8>,
+    /// Whether a file's name stands ahead of lines.
+    headed: bool,
     /// Where the span that is told begins in the text, and where it goes on behind its place.
     begin: usize,
     behind: usize,
@@ -31,17 +40,18 @@ pub struct Sheet<'a> {
 }
 
 /// When and where a span begins.
+#[inline(always)]
 fn begin_at(
     text: &mut Vec<u8>,
-    buffer: &mut String,
     style: &Style<'_>,
+    file: &[u8],
     time: u64,
     place: u64,
 ) -> Result<(), AllocError> {
     if style.json {
-        append_begin_object(text, buffer, style, time, place)
+        append_begin_object(text, style, file, time, place)
     } else {
-        append_begin(text, buffer, style, time, place)
+        append_begin(text, style, time, place)
     }
 }
 
@@ -54,6 +64,8 @@ impl<'a> Sheet<'a> {
             words: String::new(alloc),
             buffer: String::new(alloc),
             fields: JsonFields::new(alloc),
+            file: Vec::new(alloc),
+            headed: false,
             begin: 0,
             behind: 0,
             actions: 0,
@@ -63,8 +75,8 @@ impl<'a> Sheet<'a> {
     }
 
     /// How and what is told.
-    pub fn style(&self) -> Style<'a> {
-        self.style
+    pub fn style(&self) -> &Style<'a> {
+        &self.style
     }
 
     /// The lines, each with its end.
@@ -72,7 +84,7 @@ impl<'a> Sheet<'a> {
         &self.text
     }
 
-    /// How often each name was told, where totals are asked for.
+    /// How often each name was told, where sums are asked for.
     pub fn names(&self) -> &Names {
         &self.names
     }
@@ -82,14 +94,43 @@ impl<'a> Sheet<'a> {
         self.text.clear();
     }
 
-    /// Tells a sequence again that was told before; how many actions it has. It does nothing where that isn't known.
+    /// Whether times are told from now on.
+    pub fn time(&mut self, timed: bool) {
+        if timed != self.style.timed {
+            self.style.timed = timed;
+            self.known.forget();
+        }
+    }
+
+    /// A file of this name begins: a heading, or a member of each object, unless only sums are told.
+    pub fn begin_file(&mut self, name: &str) -> Result<(), AllocError> {
+        if self.style.sums() {
+            return Ok(());
+        }
+        if self.style.json {
+            self.file.clear();
+            self.file.extend_from_slice(b",\"file\":")?;
+            return append_string(&mut self.file, name);
+        }
+        if self.headed {
+            self.text.push(b'\n')?;
+        }
+        self.headed = true;
+        let shown = Shown(name.as_bytes());
+        self.buffer.clear();
+        write!(self.buffer, "==> {shown} <==\n")?;
+        self.text.extend_from_slice(self.buffer.as_bytes())
+    }
+
+    /// Tells what was told of the same bytes before, if anything was; how many actions they have.
+    #[inline(always)]
     pub fn recall(
         &mut self,
         time: u64,
         place: u64,
         bytes: &[u8],
     ) -> Result<Option<u64>, AllocError> {
-        if self.style.count {
+        if !self.style.recalls() {
             return Ok(None);
         }
         let Some((told, actions)) = self.known.recall(bytes) else {
@@ -98,28 +139,86 @@ impl<'a> Sheet<'a> {
         if told.is_empty() {
             return Ok(Some(actions));
         }
-        begin_at(&mut self.text, &mut self.buffer, &self.style, time, place)?;
+        begin_at(&mut self.text, &self.style, &self.file, time, place)?;
         self.text.extend_from_slice(told)?;
         Ok(Some(actions))
     }
 
-    /// Keeps what was told of a sequence of so many actions.
+    /// Keeps what was told of bytes of so many actions.
     pub fn keep(&mut self, bytes: &[u8], actions: u64) -> Result<(), AllocError> {
+        if !self.style.recalls() {
+            return Ok(());
+        }
         match self.text.get(self.behind..) {
             Some(told) => self.known.keep(bytes, told, actions),
             None => self.known.keep(bytes, &[], actions),
         }
     }
 
+    /// A text.
+    pub fn tell_text(&mut self, span: Told<'_>) -> Result<(), AllocError> {
+        if !self.style.is_plain() {
+            return self.tell_some_text(span);
+        }
+        begin_at(
+            &mut self.text,
+            &self.style,
+            &self.file,
+            span.time,
+            span.place,
+        )?;
+        if self.style.json {
+            append_object(&mut self.text, span)?;
+            return append_end(&mut self.text, false);
+        }
+        append_bytes(&mut self.text, &self.style, span)?;
+        append_text_words(&mut self.text, &self.style, span.len)
+    }
+
+    /// A text, if it is one that is asked for. In JSON it has no actions.
+    fn tell_some_text(&mut self, span: Told<'_>) -> Result<(), AllocError> {
+        let len = span.len;
+        self.words.clear();
+        let unit = if len == 1 { "byte" } else { "bytes" };
+        write!(self.words, "text  {len} {unit}")?;
+        if !self.style.tells(&self.words, span.place, len, span.bytes) {
+            return Ok(());
+        }
+        if self.style.sums() {
+            return self.names.add("text", len);
+        }
+        begin_at(
+            &mut self.text,
+            &self.style,
+            &self.file,
+            span.time,
+            span.place,
+        )?;
+        if self.style.json {
+            append_object(&mut self.text, span)?;
+            return append_end(&mut self.text, false);
+        }
+        append_bytes(&mut self.text, &self.style, span)?;
+        append_text_words(&mut self.text, &self.style, len)
+    }
+
     /// A span begins.
-    pub fn begin(&mut self, span: Told<'_>, control: bool) -> Result<(), AllocError> {
+    pub fn begin(&mut self, span: Told<'_>) -> Result<(), AllocError> {
         self.begin = self.text.len();
         self.actions = 0;
-        let (time, place) = (span.time, span.place);
-        begin_at(&mut self.text, &mut self.buffer, &self.style, time, place)?;
+        if self.style.sums() {
+            return Ok(());
+        }
+        begin_at(
+            &mut self.text,
+            &self.style,
+            &self.file,
+            span.time,
+            span.place,
+        )?;
         self.behind = self.text.len();
         if self.style.json {
-            return append_object(&mut self.text, &mut self.buffer, span, control);
+            return append_object(&mut self.text, span);
         }
         Ok(())
     }
@@ -138,7 +237,7 @@ impl<'a> Sheet<'a> {
         action: &A,
     ) -> Result<(), AllocError> {
         self.fields.clear();
-        if self.style.json {
+        if self.style.json && !self.style.sums() {
             self.buffer.clear();
             write!(self.buffer, "{action:?}")?;
             self.fields.write(self.buffer.as_bytes())?;
@@ -148,12 +247,15 @@ impl<'a> Sheet<'a> {
 
     /// What stands in the span, decoded: a line of its own, or a member of its first action.
     pub fn add_decoded(&mut self, span: Told<'_>, bytes: &[u8]) -> Result<(), AllocError> {
+        if self.style.sums() {
+            return Ok(());
+        }
         if !self.style.json {
             let full = self.style.full;
             return self.add(span, &Clipboard { bytes, full });
         }
         if self.actions > 0 {
-            append_decoded(&mut self.text, &mut self.buffer, bytes)?;
+            append_decoded(&mut self.text, bytes)?;
         }
         Ok(())
     }
@@ -161,20 +263,24 @@ impl<'a> Sheet<'a> {
     fn add_words<T: Display>(&mut self, span: Told<'_>, value: &T) -> Result<(), AllocError> {
         self.words.clear();
         write!(self.words, "{value}")?;
-        if !self.style.tells(&self.words) {
+        if !self
+            .style
+            .tells(&self.words, span.place, span.len, span.bytes)
+        {
             return Ok(());
-        }
-        if self.style.count {
-            self.names.add(name_of(&self.words).0)?;
         }
         let first = self.actions == 0;
         self.actions = self.actions.saturating_add(1);
+        if self.style.sums() {
+            let (name, _words) = name_of(&self.words);
+            return self.names.add(name, if first { span.len } else { 0 });
+        }
         if self.style.json {
             let fields = self.fields.as_slice();
-            return append_action(&mut self.text, &mut self.buffer, &self.words, fields, first);
+            return append_action(&mut self.text, &self.words, fields, first);
         }
         if first {
-            append_bytes(&mut self.text, &mut self.buffer, &self.style, span)?;
+            append_bytes(&mut self.text, &self.style, span)?;
         } else {
             append_margin(&mut self.text, &self.style)?;
         }
@@ -185,10 +291,7 @@ impl<'a> Sheet<'a> {
     fn add_line(&mut self) -> Result<(), AllocError> {
         if self.style.color {
             let (name, words) = name_of(&self.words);
-            self.text.extend_from_slice(CYAN)?;
-            self.text.extend_from_slice(name.as_bytes())?;
-            self.text.extend_from_slice(PLAIN)?;
-            self.text.extend_from_slice(b"  ")?;
+            append_name(&mut self.text, &self.style, name)?;
             self.text.extend_from_slice(words.as_bytes())?;
         } else {
             self.text.extend_from_slice(self.words.as_bytes())?;
@@ -203,7 +306,7 @@ impl<'a> Sheet<'a> {
             self.text.truncate(self.begin);
             return Ok(());
         }
-        if self.style.json {
+        if self.style.json && !self.style.sums() {
             append_end(&mut self.text, some)
         } else {
             Ok(())

@@ -1,5 +1,7 @@
 //! How a stream is told, and what of it.
 
+use memchr::memmem::find;
+
 /// How a stream is told, and what of it.
 #[derive(Clone, Copy, Debug, Default, PartialEq, Eq)]
 pub struct Style<'a> {
@@ -7,8 +9,10 @@ pub struct Style<'a> {
     pub full: bool,
     /// An object of JSON for each span.
     pub json: bool,
-    /// Totals follow.
+    /// Nothing is told but totals, at the end.
     pub count: bool,
+    /// Nothing is told but a table of names, at the end.
+    pub stats: bool,
     /// Only what has no name here, and what is malformed.
     pub unknown: bool,
     /// Text in base64 is decoded; a string is held until it is over.
@@ -17,8 +21,14 @@ pub struct Style<'a> {
     pub color: bool,
     /// When each span came is told.
     pub timed: bool,
+    /// Text is told where no more is there at once: someone looks on, and it may be a prompt.
+    pub live: bool,
     /// Only what has one of these names, with commas between them.
     pub only: Option<&'a str>,
+    /// Only what has a byte at one of these places, the last one included.
+    pub at: Option<(u64, u64)>,
+    /// Only what has this text in its bytes or its words; a span is held until it is over.
+    pub grep: Option<&'a str>,
 }
 
 /// The name of what is told, and its words.
@@ -26,41 +36,87 @@ pub fn name_of(words: &str) -> (&str, &str) {
     words.split_once("  ").unwrap_or((words, ""))
 }
 
-/// Whether a name is one of those that are asked for: the whole of it, or its first word, in capitals or not.
-fn is_named(names: &str, name: &str) -> bool {
+/// Whether the words say that nothing is known.
+fn says_unknown(name: &str, rest: &str) -> bool {
+    name == "unknown" || rest.starts_with("unknown")
+}
+
+/// Whether one of the names that are asked for is this: the whole of it, or its first word, in capitals or not; or `unknown`, of
+/// what has a name and is unknown all the same.
+fn is_named(names: &str, name: &str, rest: &str) -> bool {
     let (first, _rest) = name.split_once(' ').unwrap_or((name, ""));
+    let unknown = if says_unknown(name, rest) {
+        "unknown"
+    } else {
+        name
+    };
     names.split(',').any(|asked| asked.eq_ignore_ascii_case(name)
-        || asked.eq_ignore_ascii_case(first))
+        || asked.eq_ignore_ascii_case(first)
+        || asked.eq_ignore_ascii_case(unknown))
 }
 
 impl<'a> Style<'a> {
+    /// Whether nothing is told but sums, at the end.
+    pub fn sums(&self) -> bool {
+        self.count || self.stats
+    }
+
     /// Whether all spans are told.
     pub fn tells_all(&self) -> bool {
-        !self.unknown && self.only.is_none()
+        !self.unknown && self.only.is_none() && self.at.is_none() && self.grep.is_none()
+    }
+
+    /// Whether all spans are told, each as it comes.
+    pub fn is_plain(&self) -> bool {
+        self.tells_all() && !self.sums()
+    }
+
+    /// Whether what was told of a span once is what is told of one with the same bytes.
+    pub fn recalls(&self) -> bool {
+        self.at.is_none() && !self.sums()
+    }
+
+    /// Whether a carriage return and the line feed behind it are told as one.
+    pub fn joins_lines(&self) -> bool {
+        !self.json && self.is_plain()
     }
 
     /// Whether a span is held until it is over, so that all its bytes are there.
     pub fn holds_all(&self) -> bool {
-        self.full || self.json || self.decode
+        self.full || self.json || self.decode || self.grep.is_some()
     }
 
-    /// Whether this is told.
-    pub fn tells(&self, words: &str) -> bool {
-        if self.tells_all() {
-            return true;
-        }
+    /// Whether what has these words, and bytes of which the first stands at this place, is told.
+    pub fn tells(&self, words: &str, place: u64, len: u64, bytes: &[u8]) -> bool {
+        self.tells_all()
+            || (self.tells_words(words) && self.is_at(place, len) && self.finds(words, bytes))
+    }
+
+    fn tells_words(&self, words: &str) -> bool {
         let (name, rest) = name_of(words);
-        if self.unknown && !is_unknown(name, rest) {
+        if self.unknown && name != "malformed" && !says_unknown(name, rest) {
             return false;
         }
         match self.only {
-            Some(names) => is_named(names, name),
+            Some(names) => is_named(names, name, rest),
             None => true,
         }
     }
-}
 
-/// Whether the words say that nothing is known.
-fn is_unknown(name: &str, rest: &str) -> bool {
-    name == "unknown" || name == "malformed" || rest.starts_with("unknown")
+    fn is_at(&self, place: u64, len: u64) -> bool {
+        match self.at {
+            Some((first, last)) => place <= last && place.saturating_add(len.max(1)) > first,
+            None => true,
+        }
+    }
+
+    fn finds(&self, words: &str, bytes: &[u8]) -> bool {
+        match self.grep {
+            Some(text) => {
+                let text = text.as_bytes();
+                find(bytes, text).is_some() || find(words.as_bytes(), text).is_some()
+            }
+            None => true,
+        }
+    }
 }

@@ -50,6 +50,16 @@ impl Totals {
         self.escapes.add(1, bytes);
     }
 
+    /// All bytes.
+    pub fn bytes(&self) -> u64 {
+        self.text
+            .bytes
+            .saturating_add(self.sequences.bytes)
+            .saturating_add(self.escapes.bytes)
+            .saturating_add(self.strings.bytes)
+            .saturating_add(self.malformed.bytes)
+    }
+
     /// So many actions more.
     pub fn add_actions(&mut self, count: u64) {
         self.actions = self.actions.saturating_add(count);

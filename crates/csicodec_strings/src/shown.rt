@@ -1,5 +1,7 @@
 //! Bytes as they are shown to people: nothing that a terminal would carry out.
 
+use crate::escape::append_escaped;
+use std::alloc::AllocError;
 use std::fmt;
 
 /// So many bytes of what is quoted are shown.
@@ -109,4 +111,51 @@ impl<'a> fmt::Display for Quoted<'a> {
         let more = self.more || front.is_some_and(|front| front.len() < self.bytes.len());
         if more { f.write_str("..") } else { Ok(()) }
     }
+}
+
+/// Appends a character as it is shown between quotation marks; how many columns it takes.
+fn append_character(out: &mut Vec<u8>, character: char) -> Result<usize, AllocError> {
+    let begin = out.len();
+    let mut buffer = [0u8; 4];
+    let bytes = character.encode_utf8(&mut buffer).as_bytes();
+    if character == '"' {
+        out.extend_from_slice(b"\\\"")?;
+    } else if character.is_ascii() {
+        append_escaped(out, bytes)?;
+    } else if is_seen(character) {
+        out.extend_from_slice(bytes)?;
+        return Ok(1);
+    } else {
+        let number = u32::from(character);
+        let text = format!(in *out.allocator(); "\\u{{{number:x}}}")?;
+        out.extend_from_slice(text.as_bytes())?;
+    }
+    Ok(out.len().saturating_sub(begin))
+}
+
+/// Appends bytes as they are shown; how many columns they take.
+fn append_characters(out: &mut Vec<u8>, bytes: &[u8]) -> Result<usize, AllocError> {
+    let mut columns = 0usize;
+    for chunk in bytes.utf8_chunks() {
+        for character in chunk.valid().chars() {
+            columns = columns.saturating_add(append_character(out, character)?);
+        }
+        let begin = out.len();
+        append_escaped(out, chunk.invalid())?;
+        columns = columns.saturating_add(out.len().saturating_sub(begin));
+    }
+    Ok(columns)
+}
+
+/// Appends all of these bytes as [`Quoted`] prints the first; how many columns that takes.
+pub fn append_quoted(out: &mut Vec<u8>, bytes: &[u8]) -> Result<usize, AllocError> {
+    out.push(b'"')?;
+    let columns = if bytes.iter().all(|byte| is_plain(*byte)) {
+        out.extend_from_slice(bytes)?;
+        bytes.len()
+    } else {
+        append_characters(out, bytes)?
+    };
+    out.push(b'"')?;
+    Ok(columns.saturating_add(2))
 }

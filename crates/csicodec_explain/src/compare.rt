@@ -1,0 +1,147 @@
+//! What differs between two streams in words.
+
+use crate::cast::explain_cast;
+use crate::diff::{Line, Side, lines_of};
+use csicodec_command::{Failure, Worker, work_through};
+use csicodec_page::{Explainer, Style};
+use csicodec_streams::{RunError, send};
+use std::alloc::{AllocError, Global};
+use std::io::{BufRead, Read, Write};
+
+/// So many lines that are the same stand on each side of one that differs.
+const NEAR: usize = 3;
+
+/// What is told of two streams, one after the other.
+#[derive(Drop)]
+struct Compared<'a> {
+    alloc: Global,
+    style: Style<'a>,
+    /// What was told of those that were read to their end.
+    texts: Vec<Vec<u8>>,
+    /// Whether a line differs.
+    differs: bool,
+}
+
+/// What went wrong where memory ran out.
+fn no_memory(_: AllocError) -> RunError {
+    RunError::Memory
+}
+
+/// The lines of a text.
+fn split(alloc: Global, text: &[u8]) -> Result<Vec<&[u8]>, AllocError> {
+    let mut lines = Vec::new(alloc);
+    for line in text.split_inclusive(|byte| *byte == b'\n') {
+        lines.push(line)?;
+    }
+    Ok(lines)
+}
+
+/// Whether each line stands near one that differs.
+fn shown(alloc: Global, lines: &[Line<'_>]) -> Result<Vec<bool>, AllocError> {
+    let mut near = vec![in alloc; false; lines.len()]?;
+    for (place, line) in lines.iter().enumerate() {
+        if line.side != Side::Both {
+            let (first, behind) = (
+                place.saturating_sub(NEAR),
+                place.saturating_add(NEAR).saturating_add(1),
+            );
+            for at in first..behind {
+                if let Some(it) = near.get_mut(at) {
+                    *it = true;
+                }
+            }
+        }
+    }
+    Ok(near)
+}
+
+/// The lines that differ and those near them, as `diff -u` marks them, with `@@` ahead of each run of them; nothing where none does.
+fn told(alloc: Global, first: &[u8], second: &[u8]) -> Result<Vec<u8>, AllocError> {
+    let (first, second) = (split(alloc, first)?, split(alloc, second)?);
+    let lines = lines_of(alloc, &first, &second)?;
+    let near = shown(alloc, &lines)?;
+    let mut out = Vec::new(alloc);
+    let mut before = false;
+    for (line, is_near) in lines.iter().zip(near.iter()) {
+        if *is_near {
+            if !before {
+                out.extend_from_slice(b"@@\n")?;
+            }
+            out.push(match line.side {
+                Side::Both => b' ',
+                Side::First => b'-',
+                Side::Second => b'+',
+            })?;
+            out.extend_from_slice(line.text)?;
+        }
+        before = *is_near;
+    }
+    Ok(out)
+}
+
+impl<'a> Compared<'a> {
+    /// What is told of a whole input.
+    fn keep(&mut self, explainer: &mut Explainer<'_>, text: Vec<u8>) -> Result<(), Failure> {
+        let mut text = text;
+        explainer.end(&mut text)?;
+        match self.texts.push(text) {
+            Ok(()) => Ok(()),
+            Err(_) => Err(Failure::Run(RunError::Memory)),
+        }
+    }
+}
+
+impl<'a> Worker for Compared<'a> {
+    fn read<R: Read, W: Write>(
+        &mut self,
+        alloc: Global,
+        input: &mut R,
+        _output: &mut W,
+    ) -> Result<(), Failure> {
+        let mut explainer = Explainer::new(alloc, self.style);
+        let mut text = Vec::new(alloc);
+        explainer.read(input, &mut text)?;
+        self.keep(&mut explainer, text)
+    }
+
+    fn read_cast<R: BufRead, W: Write>(
+        &mut self,
+        alloc: Global,
+        input: &mut R,
+        _output: &mut W,
+    ) -> Result<(), Failure> {
+        let mut explainer = Explainer::new(alloc, self.style);
+        let mut text = Vec::new(alloc);
+        explain_cast(alloc, &mut explainer, input, &mut text)?;
+        self.keep(&mut explainer, text)
+    }
+
+    fn end<W: Write>(&mut self, output: &mut W) -> Result<(), RunError> {
+        let [first, second] = self.texts.as_slice() else {
+            return Ok(());
+        };
+        let told = told(self.alloc, first, second).map_err(no_memory)?;
+        self.differs = !told.is_empty();
+        send(output, &told)
+    }
+}
+
+/// Writes what differs between two streams, as lines; the status, which is 1 where something does.
+pub fn explain_diff(rt: &HostRuntime, style: Style<'_>, files: &[&str]) -> Result<(), u8> {
+    let style = Style {
+        json: false,
+        count: false,
+        stats: false,
+        color: false,
+        live: false,
+        ..style
+    };
+    let mut work = Compared {
+        alloc: rt.alloc(),
+        style,
+        texts: Vec::new(rt.alloc()),
+        differs: false,
+    };
+    work_through(rt, &mut work, files)?;
+    if work.differs { Err(1) } else { Ok(()) }
+}

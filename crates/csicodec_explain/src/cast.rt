@@ -16,28 +16,27 @@ struct Event<'a> {
     data: &'a str,
 }
 
+/// The columns and the lines of a size, as `90x24`.
+fn size_of_screen(data: &str) -> Option<(u32, u32)> {
+    let (columns, lines) = data.split_once('x')?;
+    Some((columns.parse::<u32>().ok()?, lines.parse::<u32>().ok()?))
+}
+
 /// A name, two blanks, and the words.
 impl<'a> fmt::Display for Event<'a> {
     fn fmt<W: fmt::Write>(&self, f: &mut fmt::Formatter<W>) -> fmt::Result {
-        let data = Quoted {
-            bytes: self.data.as_bytes(),
-            more: false,
-        };
+        let bytes = self.data.as_bytes();
+        let data = Quoted { bytes, more: false };
         match self.code {
-            "r" => match self.data.split_once('x') {
-                Some((columns, lines)) => {
-                    let (columns, lines) = (columns.parse::<u32>(), lines.parse::<u32>());
-                    match (columns, lines) {
-                        (Ok(columns), Ok(lines)) => {
-                            write!(f, "resize  {columns} columns, {lines} lines")
-                        }
-                        _ => write!(f, "resize  {data}"),
-                    }
-                }
+            "r" => match size_of_screen(self.data) {
+                Some((columns, lines)) => write!(f, "resize  {columns} columns, {lines} lines"),
                 None => write!(f, "resize  {data}"),
             },
             "m" => write!(f, "marker  {data}"),
-            _ => write!(f, "exit  status {data}"),
+            _ => match self.data.parse::<u32>() {
+                Ok(status) => write!(f, "exit  status {status}"),
+                Err(_) => write!(f, "exit  status {data}"),
+            },
         }
     }
 }

@@ -33,6 +33,11 @@ pub(crate) fn command(alloc: Global, line: &str) -> Result<String, AllocError> {
             if run.fragment {
                 return format!(in alloc; "{task:?} {files:?} as a piece");
             }
+            if wanted.stats || wanted.diff || wanted.at.is_some() || wanted.grep.is_some() {
+                let (stats, diff, at) = (wanted.stats, wanted.diff, wanted.at);
+                let grep = wanted.grep.unwrap_or("all");
+                return format!(in alloc; "{files:?} {stats} {diff} {at:?} {grep}");
+            }
             if run.semicolons {
                 return format!(in alloc; "{task:?} {files:?} with semicolons");
             }

@@ -8,11 +8,15 @@ const PLAIN: Style<'static> = Style {
     full: false,
     json: false,
     count: false,
+    stats: false,
     unknown: false,
     decode: false,
     color: false,
     timed: false,
+    live: false,
     only: None,
+    at: None,
+    grep: None,
 };
 
 /// What is told of a stream that comes in these two pieces; nothing where that fails.

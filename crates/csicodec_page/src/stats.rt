@@ -5,7 +5,7 @@ use std::alloc::{AllocError, Global};
 use std::fmt::{self, Write};
 
 /// The heading of the table.
-const HEADING: &str = "name                         times        bytes   share\n";
+const HEADING: &str = "name                         times        bytes    share\n";
 
 /// A line of the table.
 #[derive(Clone, Copy)]

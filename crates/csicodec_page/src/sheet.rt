@@ -104,7 +104,7 @@ impl<'a> Sheet<'a> {
 
     /// A file of this name begins: a heading, or a member of each object, unless only sums are told.
     pub fn begin_file(&mut self, name: &str) -> Result<(), AllocError> {
-        if self.style.sums() {
+        if self.style.is_silent() {
             return Ok(());
         }
         if self.style.json {
@@ -184,7 +184,7 @@ impl<'a> Sheet<'a> {
         if !self.style.tells(&self.words, span.place, len, span.bytes) {
             return Ok(());
         }
-        if self.style.sums() {
+        if self.style.is_silent() {
             return self.names.add("text", len);
         }
         begin_at(
@@ -206,7 +206,7 @@ impl<'a> Sheet<'a> {
     pub fn begin(&mut self, span: Told<'_>) -> Result<(), AllocError> {
         self.begin = self.text.len();
         self.actions = 0;
-        if self.style.sums() {
+        if self.style.is_silent() {
             return Ok(());
         }
         begin_at(
@@ -237,7 +237,7 @@ impl<'a> Sheet<'a> {
         action: &A,
     ) -> Result<(), AllocError> {
         self.fields.clear();
-        if self.style.json && !self.style.sums() {
+        if self.style.json && !self.style.is_silent() {
             self.buffer.clear();
             write!(self.buffer, "{action:?}")?;
             self.fields.write(self.buffer.as_bytes())?;
@@ -247,7 +247,7 @@ impl<'a> Sheet<'a> {
 
     /// What stands in the span, decoded: a line of its own, or a member of its first action.
     pub fn add_decoded(&mut self, span: Told<'_>, bytes: &[u8]) -> Result<(), AllocError> {
-        if self.style.sums() {
+        if self.style.is_silent() {
             return Ok(());
         }
         if !self.style.json {
@@ -271,9 +271,12 @@ impl<'a> Sheet<'a> {
         }
         let first = self.actions == 0;
         self.actions = self.actions.saturating_add(1);
-        if self.style.sums() {
+        if self.style.counts() {
             let (name, _words) = name_of(&self.words);
-            return self.names.add(name, if first { span.len } else { 0 });
+            self.names.add(name, if first { span.len } else { 0 })?;
+        }
+        if self.style.is_silent() {
+            return Ok(());
         }
         if self.style.json {
             let fields = self.fields.as_slice();
@@ -306,7 +309,7 @@ impl<'a> Sheet<'a> {
             self.text.truncate(self.begin);
             return Ok(());
         }
-        if self.style.json && !self.style.sums() {
+        if self.style.json && !self.style.is_silent() {
             append_end(&mut self.text, some)
         } else {
             Ok(())

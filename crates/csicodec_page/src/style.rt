@@ -9,9 +9,9 @@ pub struct Style<'a> {
     pub full: bool,
     /// An object of JSON for each span.
     pub json: bool,
-    /// Nothing is told but totals, at the end.
+    /// Totals are told at the end, and nothing else, but for objects of JSON.
     pub count: bool,
-    /// Nothing is told but a table of names, at the end.
+    /// A table of names is told at the end, and nothing else.
     pub stats: bool,
     /// Only what has no name here, and what is malformed.
     pub unknown: bool,
@@ -56,9 +56,14 @@ fn is_named(names: &str, name: &str, rest: &str) -> bool {
 }
 
 impl<'a> Style<'a> {
-    /// Whether nothing is told but sums, at the end.
-    pub fn sums(&self) -> bool {
+    /// Whether names are counted.
+    pub fn counts(&self) -> bool {
         self.count || self.stats
+    }
+
+    /// Whether nothing is told but sums, at the end.
+    pub fn is_silent(&self) -> bool {
+        self.stats || (self.count && !self.json)
     }
 
     /// Whether all spans are told.
@@ -68,12 +73,12 @@ impl<'a> Style<'a> {
 
     /// Whether all spans are told, each as it comes.
     pub fn is_plain(&self) -> bool {
-        self.tells_all() && !self.sums()
+        self.tells_all() && !self.is_silent()
     }
 
     /// Whether what was told of a span once is what is told of one with the same bytes.
     pub fn recalls(&self) -> bool {
-        self.at.is_none() && !self.sums()
+        self.at.is_none() && !self.counts()
     }
 
     /// Whether a carriage return and the line feed behind it are told as one.

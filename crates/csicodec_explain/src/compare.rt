@@ -56,7 +56,7 @@ fn shown(alloc: Global, lines: &[Line<'_>]) -> Result<Vec<bool>, AllocError> {
 }
 
 /// The lines that differ and those near them, as `diff -u` marks them, with `@@` ahead of each run of them; nothing where none does.
-fn told(alloc: Global, first: &[u8], second: &[u8]) -> Result<Vec<u8>, AllocError> {
+fn told<'b>(alloc: Global, first: &'b [u8], second: &'b [u8]) -> Result<Vec<u8>, AllocError> {
     let (first, second) = (split(alloc, first)?, split(alloc, second)?);
     let lines = lines_of(alloc, &first, &second)?;
     let near = shown(alloc, &lines)?;

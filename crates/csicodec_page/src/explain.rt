@@ -16,7 +16,13 @@ fn add_spans(page: &mut Page<'_>, mode: Mode, bytes: &[u8]) -> Result<(usize, Mo
 {
     let (mut mode, mut rest) = (mode, bytes);
     while let Some(cut) = next_span(LIMIT, mode, rest) {
-        page.add(mode, cut.span.kind, cut.span.bytes, cut.mode)?;
+        page.add(
+            mode,
+            cut.span.kind,
+            cut.span.bytes,
+            cut.mode,
+            !cut.rest.is_empty(),
+        )?;
         mode = cut.mode;
         rest = cut.rest;
     }
@@ -59,7 +65,7 @@ impl<'a> Explainer<'a> {
     fn finish(&mut self) -> Result<(), AllocError> {
         if !self.pending.is_empty() {
             self.page
-                .add(self.mode, Kind::Other, &self.pending, self.mode)?;
+                .add(self.mode, Kind::Other, &self.pending, self.mode, false)?;
         }
         self.pending.clear();
         self.mode = Mode::Text;

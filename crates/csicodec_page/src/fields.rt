@@ -151,9 +151,23 @@ impl JsonFields {
     }
 
     fn write_all(&mut self, text: &[u8]) -> Result<(), AllocError> {
-        for (at, byte) in text.iter().enumerate() {
-            let behind = text.get(at.saturating_add(1)..).unwrap_or(&[]);
+        let mut rest = text;
+        for _ in 0..text.len() {
+            let (word, behind) = if self.marked {
+                rest.split_at(0)
+            } else {
+                name_front(rest)
+            };
+            if !word.is_empty() {
+                self.word.extend_from_slice(word)?;
+                rest = behind;
+                continue;
+            }
+            let Some((byte, behind)) = rest.split_first() else {
+                return Ok(());
+            };
             self.step(*byte, behind)?;
+            rest = behind;
         }
         Ok(())
     }

@@ -1,8 +1,8 @@
 //! Spans as objects of JSON (RFC 8259), a line each.
 
-use crate::line::{Sort, Told, append_number, append_time};
+use crate::line::{Place, Sort, Told, append_time};
 use crate::style::{Style, name_of};
-use csicodec_strings::is_seen;
+use csicodec_strings::{are_plain, is_seen};
 use std::alloc::AllocError;
 
 /// The digits of base sixteen.
@@ -68,15 +68,10 @@ fn append_character(text: &mut Vec<u8>, character: char) -> Result<(), AllocErro
     }
 }
 
-/// Whether a byte is an ASCII character that stands for itself in a string.
-fn is_plain(byte: u8) -> bool {
-    matches!(byte, b' '..=b'~') && byte != b'\\' && byte != b'"'
-}
-
 /// A text between quotation marks.
 pub fn append_string(out: &mut Vec<u8>, text: &str) -> Result<(), AllocError> {
     out.push(b'"')?;
-    if text.as_bytes().iter().all(|byte| is_plain(*byte)) {
+    if are_plain(text.as_bytes()) {
         out.extend_from_slice(text.as_bytes())?;
     } else {
         for character in text.chars() {
@@ -104,10 +99,10 @@ pub fn append_begin_object(
     style: &Style<'_>,
     file: &[u8],
     time: u64,
-    place: u64,
+    place: &Place,
 ) -> Result<(), AllocError> {
     text.extend_from_slice(b"{\"at\":")?;
-    append_number(text, place)?;
+    text.extend_from_slice(place.digits())?;
     if style.timed {
         text.extend_from_slice(b",\"time\":")?;
         append_time(text, time, 0)?;
@@ -122,6 +117,12 @@ fn append_member(
     text: &[u8],
     hex: &[u8],
 ) -> Result<(), AllocError> {
+    if are_plain(bytes) {
+        out.extend_from_slice(text)?;
+        out.push(b'"')?;
+        out.extend_from_slice(bytes)?;
+        return Ok(out.push(b'"')?);
+    }
     match std::str::from_utf8(bytes) {
         Ok(bytes) => {
             out.extend_from_slice(text)?;

@@ -1,7 +1,7 @@
 //! The begin of a line: when and where a span came, and its bytes.
 
 use crate::style::Style;
-use csicodec_strings::{append_escaped, append_quoted};
+use csicodec_strings::{append_escaped, append_quoted, are_plain};
 use itoa::write_digits;
 use std::alloc::AllocError;
 
@@ -76,11 +76,66 @@ pub fn paint(text: &mut Vec<u8>, style: &Style<'_>, color: &[u8]) -> Result<(), 
     }
 }
 
-/// A number in decimal digits, with blanks ahead of it where it has fewer than eight, and two blanks behind it.
-fn append_place(text: &mut Vec<u8>, place: u64) -> Result<(), AllocError> {
-    let mut line = [b' '; 22];
-    let begin = write_digits(place, &mut line, 20);
-    text.extend_from_slice(&line[begin.min(12)..])
+/// A place in a stream with its decimal digits, of which those of a place that is near behind are made.
+#[derive(Clone, Copy)]
+pub struct Place {
+    number: u64,
+    /// The digits up to column 20, with blanks around them.
+    text: [u8; 22],
+    /// Where the first of them stands.
+    begin: usize,
+}
+
+impl Place {
+    /// The begin.
+    pub fn new() -> Place {
+        let mut text = [b' '; 22];
+        text[19] = b'0';
+        Place {
+            number: 0,
+            text,
+            begin: 19,
+        }
+    }
+
+    /// Any place.
+    #[inline(never)]
+    fn write(&mut self, number: u64) {
+        let mut text = [b' '; 22];
+        let begin = write_digits(number, &mut text, 20);
+        self.number = number;
+        self.text = text;
+        self.begin = begin;
+    }
+
+    /// A place, most often one that is less than ten bytes behind.
+    #[inline(always)]
+    pub fn go_to(&mut self, number: u64) {
+        let more = number.wrapping_sub(self.number);
+        if more > 9 {
+            return self.write(number);
+        }
+        let (tens, last) = (self.text[18], self.text[19].wrapping_add(more as u8));
+        if last <= b'9' {
+            self.text[19] = last;
+        } else if matches!(tens, b'0'..=b'8') {
+            self.text[18] = tens + 1;
+            self.text[19] = last - 10;
+        } else {
+            return self.write(number);
+        }
+        self.number = number;
+    }
+
+    /// The digits.
+    pub fn digits(&self) -> &[u8] {
+        self.text.get(self.begin..20).unwrap_or(&[])
+    }
+
+    /// The digits, with blanks ahead of them where there are fewer than eight, and two blanks behind them.
+    fn columns(&self) -> &[u8] {
+        self.text.get(self.begin.min(12)..).unwrap_or(&[])
+    }
 }
 
 /// A number in decimal digits.
@@ -111,14 +166,14 @@ pub fn append_begin(
     text: &mut Vec<u8>,
     style: &Style<'_>,
     time: u64,
-    place: u64,
+    place: &Place,
 ) -> Result<(), AllocError> {
     paint(text, style, GREY)?;
     if style.timed {
         append_time(text, time, TIME.saturating_sub(2))?;
         append_blanks(text, 2)?;
     }
-    append_place(text, place)?;
+    text.extend_from_slice(place.columns())?;
     paint(text, style, GREEN)
 }
 
@@ -170,6 +225,19 @@ pub fn append_margin(text: &mut Vec<u8>, style: &Style<'_>) -> Result<(), AllocE
     )
 }
 
+/// The columns of a short text of ASCII characters that stand for themselves.
+#[inline(always)]
+fn short_text(bytes: &[u8]) -> Option<[u8; BYTES]> {
+    if bytes.len() > BYTES - 4 || !are_plain(bytes) {
+        return None;
+    }
+    let mut columns = [b' '; BYTES];
+    columns[0] = b'"';
+    columns[1..bytes.len() + 1].copy_from_slice(bytes);
+    columns[bytes.len() + 1] = b'"';
+    Some(columns)
+}
+
 /// The bytes of a span, up to the words: with `..` where more follow and how many there are. Where they leave no room for two
 /// blanks, the words have a line of their own.
 pub fn append_bytes(
@@ -177,6 +245,11 @@ pub fn append_bytes(
     style: &Style<'_>,
     span: Told<'_>,
 ) -> Result<(), AllocError> {
+    if span.sort == Sort::Text && !style.color && span.len == span.bytes.len() as u64 {
+        if let Some(columns) = short_text(span.bytes) {
+            return text.extend_from_slice(&columns);
+        }
+    }
     let most = if style.full { usize::MAX } else { SHOWN };
     let columns = append_shown(text, span, most)?;
     paint(text, style, PLAIN)?;
@@ -201,7 +274,15 @@ pub fn append_text_words(
     style: &Style<'_>,
     len: u64,
 ) -> Result<(), AllocError> {
-    append_name(text, style, "text")?;
-    append_number(text, len)?;
+    if style.color {
+        append_name(text, style, "text")?;
+    } else {
+        text.extend_from_slice(b"text  ")?;
+    }
+    if len < 10 {
+        text.push(b'0' + len as u8)?;
+    } else {
+        append_number(text, len)?;
+    }
     text.extend_from_slice(if len == 1 { b" byte\n" } else { b" bytes\n" })
 }

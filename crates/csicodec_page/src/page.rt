@@ -390,15 +390,33 @@ impl<'a> Page<'a> {
         Ok(())
     }
 
-    /// Text with at most one control character, its last.
-    fn add_text_part(&mut self, part: &[u8]) -> Result<(), AllocError> {
+    /// Text that is whole.
+    fn add_whole_text(&mut self, bytes: &[u8]) -> Result<(), AllocError> {
+        self.close()?;
+        let span = Told {
+            sort: Sort::Text,
+            place: self.place,
+            time: self.time,
+            bytes,
+            len: bytes.len() as u64,
+        };
+        self.sheet.tell_text(span)
+    }
+
+    /// Text with at most one control character, its last; whether it is over there else.
+    #[inline(always)]
+    fn add_text_part(&mut self, part: &[u8], over: bool) -> Result<(), AllocError> {
         let (run, control) = match part.split_last() {
             Some((last, run)) if is_control(*last) => (run, Some(*last)),
             _ => (part, None),
         };
         if !run.is_empty() {
             let same = self.open.len > 0 && self.open.kind == Kind::Text;
-            self.add_open(Kind::Text, same, run)?;
+            if !same && (over || control.is_some()) {
+                self.add_whole_text(run)?;
+            } else {
+                self.add_open(Kind::Text, same, run)?;
+            }
             self.advance(Kind::Text, 0, run.len());
         }
         if let Some(byte) = control {
@@ -408,13 +426,15 @@ impl<'a> Page<'a> {
         Ok(())
     }
 
-    /// Text: each control character stands alone.
-    fn add_text(&mut self, bytes: &[u8]) -> Result<(), AllocError> {
+    /// Text: each control character stands alone; whether something else follows.
+    fn add_text(&mut self, bytes: &[u8], over: bool) -> Result<(), AllocError> {
         let spans = if self.text { 0 } else { 1 };
         self.text = true;
         self.totals.add(Kind::Text, spans, 0);
+        let mut left = bytes.len();
         for part in bytes.split_inclusive(|byte| is_control(*byte)) {
-            self.add_text_part(part)?;
+            left = left.saturating_sub(part.len());
+            self.add_text_part(part, over && left == 0)?;
         }
         Ok(())
     }
@@ -439,19 +459,20 @@ impl<'a> Page<'a> {
         }
     }
 
-    /// Bytes of one kind, at least one, that stand in this mode, with the mode behind them: a span is told when it is known where it
-    /// ends.
+    /// Bytes of one kind, at least one, that stand in this mode, with the mode behind them, and whether more bytes are there: a span is
+    /// told when it is known where it ends.
     pub fn add(
         &mut self,
         mode: Mode,
         kind: Kind,
         bytes: &[u8],
         next: Mode,
+        more: bool,
     ) -> Result<(), AllocError> {
         match kind {
             Kind::Csi => self.add_sequence(bytes),
             Kind::Esc => self.add_escape(bytes),
-            Kind::Text => self.add_text(bytes),
+            Kind::Text => self.add_text(bytes, more),
             Kind::Str | Kind::Other => self.add_part(mode, kind, bytes, next),
         }
     }

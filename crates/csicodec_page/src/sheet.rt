@@ -7,7 +7,7 @@ use crate::json::{
 };
 use crate::known::Remembered;
 use crate::line::{
-    Told, append_begin, append_bytes, append_margin, append_name, append_text_words,
+    Place, Told, append_begin, append_bytes, append_margin, append_name, append_text_words,
 };
 use crate::names::Names;
 use crate::style::{Style, name_of};
@@ -35,6 +35,8 @@ pub struct Sheet<'a> {
     behind: usize,
     /// How many actions of it are told.
     actions: u64,
+    /// The place of the last span that was told.
+    place: Place,
     known: Remembered,
     names: Names,
 }
@@ -45,9 +47,11 @@ fn begin_at(
     text: &mut Vec<u8>,
     style: &Style<'_>,
     file: &[u8],
+    place: &mut Place,
     time: u64,
-    place: u64,
+    number: u64,
 ) -> Result<(), AllocError> {
+    place.go_to(number);
     if style.json {
         append_begin_object(text, style, file, time, place)
     } else {
@@ -69,6 +73,7 @@ impl<'a> Sheet<'a> {
             begin: 0,
             behind: 0,
             actions: 0,
+            place: Place::new(),
             known: Remembered::new(alloc),
             names: Names::new(alloc),
         }
@@ -139,7 +144,14 @@ impl<'a> Sheet<'a> {
         if told.is_empty() {
             return Ok(Some(actions));
         }
-        begin_at(&mut self.text, &self.style, &self.file, time, place)?;
+        begin_at(
+            &mut self.text,
+            &self.style,
+            &self.file,
+            &mut self.place,
+            time,
+            place,
+        )?;
         self.text.extend_from_slice(told)?;
         Ok(Some(actions))
     }
@@ -155,18 +167,24 @@ impl<'a> Sheet<'a> {
         }
     }
 
+    /// When and where a span begins.
+    fn begin_span(&mut self, span: Told<'_>) -> Result<(), AllocError> {
+        begin_at(
+            &mut self.text,
+            &self.style,
+            &self.file,
+            &mut self.place,
+            span.time,
+            span.place,
+        )
+    }
+
     /// A text.
     pub fn tell_text(&mut self, span: Told<'_>) -> Result<(), AllocError> {
         if !self.style.is_plain() {
             return self.tell_some_text(span);
         }
-        begin_at(
-            &mut self.text,
-            &self.style,
-            &self.file,
-            span.time,
-            span.place,
-        )?;
+        self.begin_span(span)?;
         if self.style.json {
             append_object(&mut self.text, span)?;
             return append_end(&mut self.text, false);
@@ -187,13 +205,7 @@ impl<'a> Sheet<'a> {
         if self.style.is_silent() {
             return self.names.add("text", len);
         }
-        begin_at(
-            &mut self.text,
-            &self.style,
-            &self.file,
-            span.time,
-            span.place,
-        )?;
+        self.begin_span(span)?;
         if self.style.json {
             append_object(&mut self.text, span)?;
             return append_end(&mut self.text, false);
@@ -209,13 +221,7 @@ impl<'a> Sheet<'a> {
         if self.style.is_silent() {
             return Ok(());
         }
-        begin_at(
-            &mut self.text,
-            &self.style,
-            &self.file,
-            span.time,
-            span.place,
-        )?;
+        self.begin_span(span)?;
         self.behind = self.text.len();
         if self.style.json {
             return append_object(&mut self.text, span);

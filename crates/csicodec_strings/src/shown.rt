@@ -28,6 +28,12 @@ fn is_plain(byte: u8) -> bool {
     matches!(byte, b' '..=b'~') && byte != b'\\' && byte != b'"'
 }
 
+/// Whether all bytes are ASCII characters that stand for themselves between quotation marks: none is a backslash or such a mark.
+#[inline(always)]
+pub fn are_plain(bytes: &[u8]) -> bool {
+    bytes.iter().all(|byte| is_plain(*byte))
+}
+
 /// Whether a character is seen, in its place: it is no control, and none that has no width or turns the order of a line.
 pub fn is_seen(character: char) -> bool {
     !matches!(
@@ -69,7 +75,7 @@ fn write_character<W: fmt::Write>(f: &mut fmt::Formatter<W>, character: char) ->
 
 /// A run of text.
 fn write_text<W: fmt::Write>(f: &mut fmt::Formatter<W>, text: &str, quoted: bool) -> fmt::Result {
-    if text.as_bytes().iter().all(|byte| is_plain(*byte)) {
+    if are_plain(text.as_bytes()) {
         return f.write_str(text);
     }
     for character in text.chars() {
@@ -150,7 +156,7 @@ fn append_characters(out: &mut Vec<u8>, bytes: &[u8]) -> Result<usize, AllocErro
 /// Appends all of these bytes as [`Quoted`] prints the first; how many columns that takes.
 pub fn append_quoted(out: &mut Vec<u8>, bytes: &[u8]) -> Result<usize, AllocError> {
     out.push(b'"')?;
-    let columns = if bytes.iter().all(|byte| is_plain(*byte)) {
+    let columns = if are_plain(bytes) {
         out.extend_from_slice(bytes)?;
         bytes.len()
     } else {

@@ -10,8 +10,10 @@ _csicodec() {
     done
     COMPREPLY=()
     case $before in
+        --at) COMPREPLY=(); return ;;
         --color) COMPREPLY=($(compgen -W "always never auto" -- "$word")); return ;;
         --colors) COMPREPLY=($(compgen -W "256 16" -- "$word")); return ;;
+        --grep) COMPREPLY=(); return ;;
         --only) COMPREPLY=(); return ;;
         --timing) COMPREPLY=($(compgen -f -- "$word")); return ;;
     esac
@@ -21,7 +23,7 @@ _csicodec() {
         strip) of="--help" ;;
         clean) of="--colors --links --help" ;;
         html) of="--fragment --help" ;;
-        explain) of="--color --count --decode --full --json --only --timing --unknown --help" ;;
+        explain) of="--at --color --count --decode --diff --full --grep --json --only --stats --timing --unknown --help" ;;
         help) COMPREPLY=($(compgen -W "filter compact strip clean html explain" -- "$word")); return ;;
         *) of="filter compact strip clean html explain help --help --version" ;;
     esac

@@ -6,7 +6,7 @@ use Rattle.std.proofs.lemmas.Bool.Decides.{nat_tests}
 use Rattle.std.proofs.lemmas.List.{take-take}
 use Rattle.bstr.proofs.lemmas.PieceLemmas.{lossy_chars-nil}
 use Rattle.csicodec_tokens.specs.declared.param.CsiParam.{CsiParam}
-use Rattle.csicodec_tokens.specs.Sequence.{Reads}
+use Rattle.csicodec_tokens.specs.Sequence.{Reads, Seq}
 use Rattle.csicodec_spans.specs.declared.table.Kind.{Kind}
 use Rattle.csicodec_spans.specs.declared.table.Kind.TheVariants as kind
 use Rattle.csicodec_spans.specs.declared.table.Mode.{Mode}
@@ -71,14 +71,20 @@ sequence_cut limit len bytes one short =
 
 -- ---- from the bytes behind a sequence to its length
 
-pub sequence_read : (limit len : ℕ) (bytes behind : List ℕ) → ((list : List CsiParam) × (final : ℕ) × Reads (take limit bytes) list final behind) → len ≡ length (take limit bytes) - length behind
-    → ((len ≤ limit) × (len ≤ length bytes)) × IsSequence (take len bytes)
-sequence_read limit len bytes behind (list, final, (front, seq, split)) is =
+pub front_read : (limit len : ℕ) (bytes behind : List ℕ) (list : List CsiParam) (final : ℕ) → Reads (take limit bytes) list final behind → len ≡ length (take limit bytes) - length behind
+    → ((len ≤ limit) × (len ≤ length bytes)) × Seq (take len bytes) list final
+front_read limit len bytes behind list final (front, seq, split) is =
     let size : len ≡ length front = omega (arith, is, ap length split, length-append front behind) in
     let within : len ≤ limit = omega (arith, is, length-take limit bytes) in
     let text : take len bytes ≡ front =
     sym (take-take len limit bytes within) ∙ ap (take len) split ∙ ap (λ (n : ℕ). take n (front ++ behind)) size ∙ take-append_seam front behind in
-    ((within, omega (arith, is, length-take limit bytes)), subst IsSequence (sym text) (list, final, seq))
+    ((within, omega (arith, is, length-take limit bytes)), subst (λ (t : List ℕ). Seq t list final) (sym text) seq)
+
+pub sequence_read : (limit len : ℕ) (bytes behind : List ℕ) → ((list : List CsiParam) × (final : ℕ) × Reads (take limit bytes) list final behind) → len ≡ length (take limit bytes) - length behind
+    → ((len ≤ limit) × (len ≤ length bytes)) × IsSequence (take len bytes)
+sequence_read limit len bytes behind (list, final, read) is =
+    let found = front_read limit len bytes behind list final read is in
+    (found.0, (list, final, found.1))
 
 -- ---- the steps
 

@@ -9,11 +9,12 @@ ghost use Rattle.csicodec_clean.specs.Styled.{Styles, StylesIn, IsStyled, IsStyl
 
 use crate::colors::{Depth, reduced};
 use crate::links::{Partial, append_end};
+use crate::notes::{Room, StyleNote, append_noted};
 use crate::rule::Rule;
 use crate::whole::clean_whole;
 use csicodec::{CSI, encode};
 use csicodec_base::{CsiParam, Sgr};
-use csicodec_streams::parse_into;
+use csicodec_filter::Known;
 use std::alloc::{AllocError, Global};
 use std::marker::Model;
 
@@ -31,24 +32,16 @@ fn is_reset(style: &Sgr) -> bool
     matches!(style, Sgr::Reset)
 }
 
-/// Appends the text of the action, if it is a style that stays, and answers whether one is open behind it.
-fn append_style(
-    depth: Depth,
-    action: &CSI,
-    styled: bool,
-    out: &mut Vec<u8>,
-) -> Result<bool, AllocError>
-    ensures text { OnOk result (out.new.items ≡ out.old.items ++ texts (map SgrAction (kept depth (action_of action.now ∷ [])))) }
-    ensures styled { IfOk result (λ after. after ≡ is_open styled (kept depth (action_of action.now ∷ []))) }
+/// Appends the text of the action, if it is a style that stays.
+fn append_style(depth: Depth, action: &CSI, out: &mut Vec<u8>) -> Result<(), AllocError>
+    ensures { OnOk result (out.new.items ≡ out.old.items ++ texts (map SgrAction (kept depth (action_of action.now ∷ [])))) }
 {
     match action {
         CSI::Sgr(style) => {
             if is_hiding(style) {
-                return Ok(styled);
+                return Ok(());
             }
-            let style = reduced(depth, *style);
-            encode(&CSI::Sgr(style), out)?;
-            Ok(!is_reset(&style))
+            encode(&CSI::Sgr(reduced(depth, *style)), out)
         }
         CSI::Cursor(_)
         | CSI::Edit(_)
@@ -58,25 +51,56 @@ fn append_style(
         | CSI::SelectCharacterPath(..)
         | CSI::Mouse(_)
         | CSI::Window(_)
-        | CSI::Unspecified(_) => Ok(styled),
+        | CSI::Unspecified(_) => Ok(()),
     }
 }
 
 /// The same of each of the actions in turn.
-fn append_styles(
+pub(crate) fn append_styles(
     depth: Depth,
     actions: &[CSI],
-    styled: bool,
     out: &mut Vec<u8>,
-) -> Result<bool, AllocError>
-    ensures text { OnOk result (out.new.items ≡ out.old.items ++ texts (map SgrAction (kept depth (map action_of actions.now)))) }
-    ensures styled { IfOk result (λ after. after ≡ is_open styled (kept depth (map action_of actions.now))) }
+) -> Result<(), AllocError>
+    ensures { OnOk result (out.new.items ≡ out.old.items ++ texts (map SgrAction (kept depth (map action_of actions.now)))) }
 {
-    let mut styled = styled;
     for action in actions {
-        styled = append_style(depth, action, styled, out)?;
+        append_style(depth, action, out)?;
     }
-    Ok(styled)
+    Ok(())
+}
+
+/// Whether a style is open behind the action.
+fn is_open_behind(depth: Depth, action: &CSI, styled: bool) -> bool
+    ensures { result ≡ is_open styled (kept depth (action_of action.now ∷ [])) }
+{
+    match action {
+        CSI::Sgr(style) => {
+            if is_hiding(style) {
+                return styled;
+            }
+            !is_reset(&reduced(depth, *style))
+        }
+        CSI::Cursor(_)
+        | CSI::Edit(_)
+        | CSI::Mode(_)
+        | CSI::Device(_)
+        | CSI::Keyboard(_)
+        | CSI::SelectCharacterPath(..)
+        | CSI::Mouse(_)
+        | CSI::Window(_)
+        | CSI::Unspecified(_) => styled,
+    }
+}
+
+/// Whether a style is open behind the actions.
+pub(crate) fn is_open(depth: Depth, actions: &[CSI], styled: bool) -> bool
+    ensures { result ≡ is_open styled (kept depth (map action_of actions.now)) }
+{
+    let mut after = styled;
+    for action in actions {
+        after = is_open_behind(depth, action, after);
+    }
+    after
 }
 
 /// What passes beside text and styles.
@@ -92,13 +116,15 @@ pub struct Passing {
 /// links, where they pass, of which none is left open either.
 #[derive(Drop)]
 pub struct Kept {
-    alloc: Global,
     passing: Passing,
     styled: bool,
     linked: bool,
     link: Partial,
-    /// A place that is kept for the actions of a sequence.
-    actions: Vec<CSI>,
+    /// What is noted of sequences that came before.
+    known: Known<StyleNote>,
+    room: Room,
+    /// A place that is kept for the tokens of a sequence.
+    params: Vec<CsiParam>,
 }
 
 impl Model for Kept {
@@ -107,7 +133,12 @@ impl Model for Kept {
 
     ghost Value = { Keeping };
 
+    ghost use Rattle.csicodec_clean.specs.Private.Notes.{IsNoted};
+    ghost use Rattle.csicodec_streams.specs.Known.{AreKnown};
+
     ghost view = { λ k. keeping k.passing k.styled k.linked (begun k.link.place k.link.params.items k.link.url.items) };
+
+    ghost invariant = { λ k. AreKnown IsNoted k.known.memo.slots.items };
 }
 
 impl Kept {
@@ -148,12 +179,13 @@ impl Kept {
         ensures { result ≡ first_kept passing }
     {
         Kept {
-            alloc,
             passing,
             styled: false,
             linked: false,
             link: Partial::new(alloc),
-            actions: Vec::new(alloc),
+            known: Known::new(alloc),
+            room: Room::new(alloc),
+            params: Vec::new(alloc),
         }
     }
 }
@@ -172,19 +204,41 @@ impl Rule for Kept {
         control: char,
         out: &mut Vec<u8>,
     ) -> Result<(), AllocError> {
-        self.actions.clear();
-        parse_into(self.alloc, params, false, control, &mut self.actions)?;
-        self.styled = append_styles(self.passing.depth, &self.actions, self.styled, out)?;
+        let depth = self.passing.depth;
+        self.room.append_sequence(depth, params, control, out)?;
+        self.styled = is_open(depth, &self.room.actions, self.styled);
         Ok(())
     }
 
+    #[inline(always)]
     fn take_at_once(
         &mut self,
-        _limit: usize,
-        _bytes: &[u8],
-        _out: &mut Vec<u8>,
+        limit: usize,
+        bytes: &[u8],
+        out: &mut Vec<u8>,
     ) -> Result<usize, AllocError> {
-        Ok(0)
+        let depth = self.passing.depth;
+        let known = self.known.look(limit, bytes);
+        if known == 0 {
+            let (len, styled) = self.room.take_new(
+                &mut self.params,
+                &mut self.known,
+                depth,
+                self.styled,
+                limit,
+                bytes,
+                out,
+            )?;
+            self.styled = styled;
+            return Ok(len);
+        }
+        match append_noted(&self.known, depth, self.styled, out)? {
+            Some(styled) => {
+                self.styled = styled;
+                Ok(known)
+            }
+            None => Ok(0),
+        }
     }
 
     fn string(&mut self, bytes: &[u8], out: &mut Vec<u8>) -> Result<(), AllocError> {

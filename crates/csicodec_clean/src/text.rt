@@ -50,7 +50,7 @@ fn first_sure(bytes: &[u8]) -> Option<(char, usize)>
 
 /// Appends so many of the first bytes, a few of them by one copy of sixteen.
 #[inline(always)]
-fn append_front(bytes: &[u8], len: usize, out: &mut Vec<u8>) -> Result<(), AllocError>
+pub(crate) fn append_front(bytes: &[u8], len: usize, out: &mut Vec<u8>) -> Result<(), AllocError>
     requires { len ≤ length bytes.now }
     ensures { OnOk result (out.new.items ≡ out.old.items ++ take len bytes.now) }
 {

@@ -39,7 +39,7 @@ pub(crate) fn clean_whole<T: Rule>(
 }
 
 /// As many of the first bytes as a sequence may have.
-fn near(limit: usize, bytes: &[u8]) -> &[u8]
+pub(crate) fn near(limit: usize, bytes: &[u8]) -> &[u8]
     ensures { result.now ≡ take limit bytes.now }
 {
     bytes.get(..limit).unwrap_or(bytes)

@@ -1,0 +1,29 @@
+-- What is noted of a control sequence that came before. No promise rests on this file.
+use Rattle.std.specs.Prelude.{ℕ, ◌≡◌, Bool, true, false, List, ◌∷◌, ◌++◌, map}
+use Rattle.csicodec_actions.specs.Actions.{Action, Sgr}
+use Rattle.csicodec_actions.specs.Table.{texts}
+use Rattle.csicodec_clean.specs.declared.colors.Depth.{Depth}
+use Rattle.csicodec_clean.specs.declared.colors.Depth.TheVariants as depth
+use Rattle.csicodec_clean.specs.Styled.{IsOf, is_open, kept}
+
+abbrev pub depth_byte : Depth → ℕ
+depth_byte depth.Full = 0
+depth_byte depth.Palette = 1
+depth_byte depth.Ansi = 2
+
+abbrev pub open_byte : Bool → ℕ
+open_byte false = 0
+open_byte true = 1
+
+-- the colours that stay, whether a style is open behind the sequence where none was and where one was, and the text of its styles
+abbrev pub note_of : Depth → List Action → List ℕ
+note_of d actions = depth_byte d ∷ open_byte (is_open false (kept d actions)) ∷ open_byte (is_open true (kept d actions)) ∷ texts (map Sgr (kept d actions))
+
+-- the note of the sequence of these bytes
+abbrev pub IsNoted : List ℕ → List ℕ → Type 0
+IsNoted bytes note = (d : Depth) × (actions : List Action) × IsOf bytes actions × (note ≡ note_of d actions)
+
+-- what stays of the sequence of these bytes is appended, and whether a style is open behind it
+abbrev pub IsLeft : Depth → Bool → List ℕ → Bool → List ℕ → List ℕ → Type 0
+IsLeft d styled bytes after old new =
+    (actions : List Action) × IsOf bytes actions × (after ≡ is_open styled (kept d actions)) × (new ≡ old ++ texts (map Sgr (kept d actions)))

@@ -1,0 +1,175 @@
+//! What is noted of control sequences that came before: what stays of each, and whether a style is open behind it.
+ghost use Rattle.std.specs.Prelude.{◌≡◌, ◌<◌, ◌≤◌, ◌++◌, ℕ, List, map, false, if◌then◌else◌, length, slice_index, take, IfOk, IfNone, IfSome, OnOk};
+ghost use Rattle.csicodec_actions.specs.Actions.{Action, Sgr as SgrAction};
+ghost use Rattle.csicodec_actions.specs.Table.{texts};
+ghost use Rattle.csicodec_parser.specs.ActionOf.{action_of};
+ghost use Rattle.csicodec_parser.specs.Segments.{Actions};
+ghost use Rattle.csicodec_streams.specs.Known.{AreKnown};
+ghost use Rattle.csicodec_clean.specs.Styled.{IsOf, is_open, kept};
+ghost use Rattle.csicodec_clean.specs.Private.Notes.{IsLeft, IsNoted, depth_byte, open_byte};
+
+use crate::colors::Depth;
+use crate::styles::{append_styles, is_open};
+use crate::text::append_front;
+use crate::whole::near;
+use csicodec::CSI;
+use csicodec_base::{CsiParam, ReadError, read_csi_into};
+use csicodec_filter::Known;
+use csicodec_streams::{Note, parse_into};
+use std::alloc::{AllocError, Global};
+
+/// The note that is what stays of a sequence.
+#[derive(Drop)]
+pub struct StyleNote;
+
+impl Note for StyleNote {
+    ghost use Rattle.csicodec_clean.specs.Private.Notes.{IsNoted};
+
+    ghost notes = { λ bytes note. IsNoted bytes note };
+}
+
+/// The colours that stay, as a byte.
+fn depth_byte(depth: Depth) -> u8
+    ensures { result ≡ depth_byte depth }
+{
+    match depth {
+        Depth::Full => 0,
+        Depth::Palette => 1,
+        Depth::Ansi => 2,
+    }
+}
+
+/// Whether a style is open, as a byte.
+fn open_byte(styled: bool) -> u8
+    ensures { result ≡ open_byte styled }
+{
+    if styled { 1 } else { 0 }
+}
+
+/// Whether a style is open behind the sequence of a note, as a byte.
+#[inline(always)]
+fn open_in(note: &[u8], styled: bool) -> u8
+    requires { 3 ≤ length note.now }
+    ensures { result ≡ (if styled then slice_index note.now 2 else slice_index note.now 1) }
+{
+    if styled { note[2] } else { note[1] }
+}
+
+/// Appends the text that is noted of the sequence that was found last, if it was noted with these colours, and answers whether a style is
+/// open behind it.
+#[inline(always)]
+pub(crate) fn append_noted(
+    known: &Known<StyleNote>,
+    depth: Depth,
+    styled: bool,
+    out: &mut Vec<u8>,
+) -> Result<Option<bool>, AllocError>
+    ensures left { IfOk result (λ o. IfSome o (λ after. (bytes : List ℕ) → IsNoted bytes known.now.note
+        → IsLeft depth styled bytes after out.old.items out.new.items)) }
+    ensures none { IfOk result (λ o. IfNone o (out.new.items ≡ out.old.items)) }
+{
+    let note = known.noted();
+    if note.len() < 3 || note[0] != depth_byte(depth) {
+        return Ok(None);
+    }
+    let after = open_in(note, styled);
+    append_front(known.wide().split_at(3).1, note.len() - 3, out)?;
+    Ok(Some(after == 1))
+}
+
+/// Places that are kept for a sequence that is read: its actions, and its note.
+#[derive(Drop)]
+pub(crate) struct Room {
+    pub(crate) alloc: Global,
+    pub(crate) actions: Vec<CSI>,
+    pub(crate) note: Vec<u8>,
+}
+
+impl Room {
+    /// With nothing in them.
+    pub(crate) fn new(alloc: Global) -> Room {
+        Room {
+            alloc,
+            actions: Vec::new(alloc),
+            note: Vec::new(alloc),
+        }
+    }
+
+    /// Appends what stays of the sequence of these tokens, whose actions are then kept.
+    pub(crate) fn append_sequence(
+        &mut self,
+        depth: Depth,
+        params: &[CsiParam],
+        control: char,
+        out: &mut Vec<u8>,
+    ) -> Result<(), AllocError>
+        ensures actions { OnOk result (Actions params.now false control (map action_of self.new.actions.items)) }
+        ensures text { OnOk result (out.new.items ≡ out.old.items ++ texts (map SgrAction (kept depth (map action_of self.new.actions.items)))) }
+    {
+        self.actions.clear();
+        parse_into(self.alloc, params, false, control, &mut self.actions)?;
+        append_styles(depth, &self.actions, out)?;
+        Ok(())
+    }
+
+    /// Notes what was appended for the sequence in front, whose actions are kept.
+    fn keep(
+        &mut self,
+        known: &mut Known<StyleNote>,
+        depth: Depth,
+        bytes: &[u8],
+        len: usize,
+        text: &[u8],
+    ) -> Result<(), AllocError>
+        requires known { AreKnown IsNoted known.old.memo.slots.items }
+        requires sequence { IsOf (take len bytes.now) (map action_of self.old.actions.items) }
+        requires text { text.now ≡ texts (map SgrAction (kept depth (map action_of self.old.actions.items))) }
+        ensures known { AreKnown IsNoted known.new.memo.slots.items }
+        ensures same { self.new.actions.items ≡ self.old.actions.items }
+    {
+        self.note.clear();
+        self.note.push(depth_byte(depth))?;
+        self.note
+            .push(open_byte(is_open(depth, &self.actions, false)))?;
+        self.note
+            .push(open_byte(is_open(depth, &self.actions, true)))?;
+        self.note.extend_from_slice(text)?;
+        known.keep(bytes, len, &self.note);
+        Ok(())
+    }
+
+    /// Appends what stays of the sequence in front, which isn't known, and notes it; answers how many bytes it has, at most `limit`, and
+    /// whether a style is open behind it. It answers 0 where no sequence stands there.
+    #[inline(never)]
+    pub(crate) fn take_new(
+        &mut self,
+        params: &mut Vec<CsiParam>,
+        known: &mut Known<StyleNote>,
+        depth: Depth,
+        styled: bool,
+        limit: usize,
+        bytes: &[u8],
+        out: &mut Vec<u8>,
+    ) -> Result<(usize, bool), AllocError>
+        requires { AreKnown IsNoted known.old.memo.slots.items }
+        ensures within { IfOk result (λ (len, after). (len ≤ limit) × (len ≤ length bytes.now)) }
+        ensures left { IfOk result (λ (len, after). 0 < len → IsLeft depth styled (take len bytes.now) after out.old.items out.new.items) }
+        ensures none { IfOk result (λ (len, after). len ≡ 0 → (after ≡ styled) × (out.new.items ≡ out.old.items)) }
+        ensures known { AreKnown IsNoted known.new.memo.slots.items }
+    {
+        let front = near(limit, bytes);
+        match read_csi_into(params, front) {
+            Ok(tail) => {
+                let len = front.len() - tail.rest.len();
+                let before = out.len();
+                self.append_sequence(depth, params, tail.control, out)?;
+                let after = is_open(depth, &self.actions, styled);
+                let text = out.split_at(before).1;
+                self.keep(known, depth, bytes, len, text)?;
+                Ok((len, after))
+            }
+            Err(ReadError::Memory) => Err(AllocError),
+            Err(_) => Ok((0, styled)),
+        }
+    }
+}

@@ -1,5 +1,5 @@
-//! What is taken at a glance, where nothing is open and no byte is held: text, escape sequences, and control sequences that a rule
-//! takes at once.
+//! What is taken at a glance, where nothing is open and no byte is held: text, escape sequences, and
+//! control sequences that a rule takes at once.
 ghost use Rattle.std.specs.Prelude.{◌≡◌, ◌≤◌, ◌++◌, ℕ, List, [], length, drop, true, false, IfOk};
 ghost use Rattle.csicodec_clean.specs.Private.Steps.{BeginsWithEscape, GoesOver};
 ghost use Rattle.csicodec_spans.specs.declared.table.Mode.TheVariants.{Text as NothingOpen};
@@ -21,8 +21,8 @@ fn begins_with_escape(bytes: &[u8]) -> bool
     first == 0x1b && b' ' <= second && second <= b'/' && b'0' <= third && third <= b'~'
 }
 
-/// Takes the control sequence in front that the rule takes at once, or the escape sequence of three bytes, and answers how many
-/// bytes it has; 0 where neither stands there.
+/// Takes the control sequence in front that the rule takes at once, or the escape sequence of three bytes,
+/// and answers how many bytes it has; 0 where neither stands there.
 #[inline(always)]
 fn take_control<T: Rule>(
     rule: &mut T,
@@ -31,7 +31,8 @@ fn take_control<T: Rule>(
     out: &mut Vec<u8>,
 ) -> Result<usize, AllocError>
     ensures within { IfOk result (λ len. len ≤ length bytes.now) }
-    ensures goes { IfOk result (λ len. GoesOver T.gives limit NothingOpen false [] rule.old bytes.now (drop len bytes.now) rule.new out.old.items out.new.items) }
+    ensures goes { IfOk result (λ len. GoesOver T.gives limit NothingOpen false []
+        rule.old bytes.now (drop len bytes.now) rule.new out.old.items out.new.items) }
 {
     if begins_with_escape(bytes) {
         return Ok(3);
@@ -48,7 +49,8 @@ fn append_glance<'a, T: Rule>(
     out: &mut Vec<u8>,
 ) -> Result<&'a [u8], AllocError>
     ensures parts { IfOk result (λ rest. (front : List ℕ) × (bytes.now ≡ front ++ rest.now)) }
-    ensures goes { IfOk result (λ rest. GoesOver T.gives limit NothingOpen false [] rule.old bytes.now rest.now rule.new out.old.items out.new.items) }
+    ensures goes { IfOk result (λ rest. GoesOver T.gives limit NothingOpen false []
+        rule.old bytes.now rest.now rule.new out.old.items out.new.items) }
 {
     let mut rest = bytes;
     let mut more = true;
@@ -79,7 +81,8 @@ pub(crate) fn append_front<'a, T: Rule>(
     out: &mut Vec<u8>,
 ) -> Result<&'a [u8], AllocError>
     ensures parts { IfOk result (λ rest. (front : List ℕ) × (bytes.now ≡ front ++ rest.now)) }
-    ensures goes { IfOk result (λ rest. GoesOver T.gives limit mode titled held.now rule.old bytes.now rest.now rule.new out.old.items out.new.items) }
+    ensures goes { IfOk result (λ rest. GoesOver T.gives limit mode titled held.now
+        rule.old bytes.now rest.now rule.new out.old.items out.new.items) }
     // What is held stands directly before the rest.
     ensures last { IfOk result (λ rest. (front : List ℕ) × (held.now ++ bytes.now ≡ front ++ (held.now ++ rest.now))) }
 {

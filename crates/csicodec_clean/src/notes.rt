@@ -55,8 +55,8 @@ fn open_in(note: &[u8], styled: bool) -> u8
     if styled { note[2] } else { note[1] }
 }
 
-/// Appends the text that is noted of the sequence that was found last, if it was noted with these colours, and answers whether a style is
-/// open behind it.
+/// Appends the text that is noted of the sequence that was found last, if it was noted with these colours,
+/// and answers whether a style is open behind it.
 #[inline(always)]
 pub(crate) fn append_noted(
     known: &Known<StyleNote>,
@@ -104,7 +104,8 @@ impl Room {
         out: &mut Vec<u8>,
     ) -> Result<(), AllocError>
         ensures actions { OnOk result (Actions params.now false control (map action_of self.new.actions.items)) }
-        ensures text { OnOk result (out.new.items ≡ out.old.items ++ texts (map SgrAction (kept depth (map action_of self.new.actions.items)))) }
+        ensures text { OnOk result (out.new.items
+            ≡ out.old.items ++ texts (map SgrAction (kept depth (map action_of self.new.actions.items)))) }
     {
         self.actions.clear();
         parse_into(self.alloc, params, false, control, &mut self.actions)?;
@@ -123,7 +124,8 @@ impl Room {
     ) -> Result<(), AllocError>
         requires known { AreKnown IsNoted known.old.memo.slots.items }
         requires sequence { IsOf (take len bytes.now) (map action_of self.old.actions.items) }
-        requires text { text.now ≡ texts (map SgrAction (kept depth (map action_of self.old.actions.items))) }
+        requires text { text.now
+            ≡ texts (map SgrAction (kept depth (map action_of self.old.actions.items))) }
         ensures known { AreKnown IsNoted known.new.memo.slots.items }
         ensures same { self.new.actions.items ≡ self.old.actions.items }
     {
@@ -138,8 +140,8 @@ impl Room {
         Ok(())
     }
 
-    /// Appends what stays of the sequence in front, which isn't known, and notes it; answers how many bytes it has, at most `limit`, and
-    /// whether a style is open behind it. It answers 0 where no sequence stands there.
+    /// Appends what stays of the sequence in front, which isn't known, and notes it; answers how many bytes it
+    /// has, at most `limit`, and whether a style is open behind it. It answers 0 where no sequence stands there.
     #[inline(never)]
     pub(crate) fn take_new(
         &mut self,
@@ -153,7 +155,8 @@ impl Room {
     ) -> Result<(usize, bool), AllocError>
         requires { AreKnown IsNoted known.old.memo.slots.items }
         ensures within { IfOk result (λ (len, after). (len ≤ limit) × (len ≤ length bytes.now)) }
-        ensures left { IfOk result (λ (len, after). 0 < len → IsLeft depth styled (take len bytes.now) after out.old.items out.new.items) }
+        ensures left { IfOk result (λ (len, after). 0 < len
+            → IsLeft depth styled (take len bytes.now) after out.old.items out.new.items) }
         ensures none { IfOk result (λ (len, after). len ≡ 0 → (after ≡ styled) × (out.new.items ≡ out.old.items)) }
         ensures known { AreKnown IsNoted known.new.memo.slots.items }
     {

@@ -75,7 +75,8 @@ fn is_open_behind(depth: Depth, action: &CSI, styled: bool) -> bool
 {
     match action {
         CSI::Sgr(style) => {
-            if is_hiding(style) {
+            let hides = is_hiding(style);
+            if hides {
                 return styled;
             }
             !is_reset(&reduced(depth, *style))

@@ -20,7 +20,10 @@ fn is_plain(byte: u8) -> bool
 pub(crate) fn is_dropped(byte: u8) -> bool
     ensures { result ≡ dropped_byte byte }
 {
-    byte < b' ' && byte != 0x1b && byte != b'\n' && byte != b'\t' || byte == 0x7f
+    if byte == 0x1b {
+        return false;
+    }
+    byte < b' ' && byte != b'\n' && byte != b'\t' || byte == 0x7f
 }
 
 /// The place of the lowest bit that is set, and 16 where none is.

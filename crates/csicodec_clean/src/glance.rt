@@ -21,6 +21,12 @@ fn begins_with_escape(bytes: &[u8]) -> bool
     first == 0x1b && b' ' <= second && second <= b'/' && b'0' <= third && third <= b'~'
 }
 
+/// Whether the second byte is the one that introduces a control sequence: the rule is asked for no other.
+#[inline(always)]
+fn is_opened(bytes: &[u8]) -> bool {
+    bytes.len() >= 2 && bytes[1] == b'['
+}
+
 /// Takes the control sequence in front that the rule takes at once, or the escape sequence of three bytes,
 /// and answers how many bytes it has; 0 where neither stands there.
 #[inline(always)]
@@ -34,11 +40,14 @@ fn take_control<T: Rule>(
     ensures goes { IfOk result (λ len. GoesOver T.gives limit NothingOpen false []
         rule.old bytes.now (drop len bytes.now) rule.new out.old.items out.new.items) }
 {
+    if is_opened(bytes) {
+        let len = rule.take_at_once(limit, bytes, out)?;
+        return Ok(len);
+    }
     if begins_with_escape(bytes) {
         return Ok(3);
     }
-    let len = rule.take_at_once(limit, bytes, out)?;
-    Ok(len)
+    Ok(0)
 }
 
 /// Appends what is left of the text and the sequences in front, and answers the bytes behind them.

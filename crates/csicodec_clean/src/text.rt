@@ -54,6 +54,9 @@ pub(crate) fn append_front(bytes: &[u8], len: usize, out: &mut Vec<u8>) -> Resul
     requires { len ≤ length bytes.now }
     ensures { OnOk result (out.new.items ≡ out.old.items ++ take len bytes.now) }
 {
+    if len == 0 {
+        return Ok(());
+    }
     if len > LANES || bytes.len() < LANES {
         return out.extend_from_slice(bytes.split_at(len).0);
     }

@@ -1,0 +1,10 @@
+pub mod Values
+pub mod PartsOf
+pub mod OneRow
+pub mod Exact
+pub mod FirstRow
+pub mod NoAction
+pub mod NoFields
+pub mod Unread
+pub mod TextOf
+pub mod Table

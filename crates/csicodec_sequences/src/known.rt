@@ -1,0 +1,195 @@
+//! A control sequence that a row of the table reads.
+ghost use Rattle.std.specs.Prelude.{◌≡◌, ◌<◌, IfSome, Some, length, slice_get};
+ghost use Rattle.std.specs.Fmt.{WritesOnOk};
+ghost use Rattle.std.specs.Option.{option_map};
+ghost use Rattle.csicodec_sequences.specs.declared.rows.dec.TheConstants.{DEC_FORMS};
+ghost use Rattle.csicodec_sequences.specs.declared.rows.others.TheConstants.{OTHER_FORMS};
+ghost use Rattle.csicodec_sequences.specs.declared.rows.reports.TheConstants.{REPORT_FORMS};
+ghost use Rattle.csicodec_sequences.specs.Known.{first_reading, reading, reading_of, rows_of};
+ghost use Rattle.csicodec_sequences.specs.Rows.{behind_text, byte_text, form_text, numbers_text};
+
+use crate::row::{Form, MOST, Slot, Texts, Values};
+use crate::rows::dec::{DEC_FORMS, DEC_SLOTS, DEC_TEXTS};
+use crate::rows::others::{OTHER_FORMS, OTHER_SLOTS, OTHER_TEXTS};
+use crate::rows::reports::{REPORT_FORMS, REPORT_SLOTS, REPORT_TEXTS};
+use csicodec_base::CsiParam;
+use csicodec_parser::Unspecified;
+use std::fmt;
+
+/// A control sequence that has no action, by its row of the table and its values. It prints its numbers and its final
+/// character, without `ESC [`: each number that was left out with its value, so that what it prints is read as the same
+/// values of the same row.
+///
+/// ```text
+/// "\x1b[?2K"         the row DECSEL, with the value 2
+/// "\x1b[3'}"         the row DECIC, with the value 3
+/// "\x1b['}"          the row DECIC, with the value 1; prints "1'}"
+/// ```
+#[derive(Drop)]
+pub struct Known {
+    form: Form,
+    texts: &'static Texts,
+    values: Values,
+}
+
+impl Known {
+    /// The row and the values of a list without an action; none where no row reads it. It takes no memory.
+    pub fn of(unknown: &Unspecified) -> Option<Known>
+        ensures { option_map reading_of result ≡ reading unknown.now.params.items unknown.now.control }
+    {
+        Known::read(&unknown.params, unknown.control)
+    }
+
+    /// The row and the values of a list before a final character; none where no row reads it. No row reads a list that an
+    /// action has (law `no_action`), and no two read one list (law `one_row`).
+    pub fn read(params: &[CsiParam], control: char) -> Option<Known>
+        ensures { option_map reading_of result ≡ reading params.now control }
+    {
+        if let Some((place, form, values)) = first_known(&DEC_FORMS, &DEC_SLOTS, params, control) {
+            let texts = dec_texts(place);
+            return Some(Known {
+                form,
+                texts,
+                values,
+            });
+        }
+        if let Some((place, form, values)) = first_known(
+            &OTHER_FORMS,
+            &OTHER_SLOTS,
+            params,
+            control,
+        ) {
+            let texts = other_texts(place);
+            return Some(Known {
+                form,
+                texts,
+                values,
+            });
+        }
+        if let Some((place, form, values)) = first_known(
+            &REPORT_FORMS,
+            &REPORT_SLOTS,
+            params,
+            control,
+        ) {
+            let texts = report_texts(place);
+            return Some(Known {
+                form,
+                texts,
+                values,
+            });
+        }
+        None
+    }
+
+    /// The form.
+    pub fn form(&self) -> &Form
+        ensures { result.now ≡ self.now.form }
+    {
+        &self.form
+    }
+
+    /// What is said of it: its name, its meaning and its source.
+    pub fn texts(&self) -> &'static Texts {
+        self.texts
+    }
+
+    /// The values, in the order of the row's slots.
+    pub fn values(&self) -> &[u32]
+        ensures { result.now ≡ self.now.values.items }
+    {
+        self.values.as_slice()
+    }
+
+    /// The value of the slot with this index, from 0 on; none where the row has no such slot, or the list ended ahead of it.
+    pub fn value(&self, index: usize) -> Option<u32>
+        ensures { result ≡ slice_get self.now.values.items index }
+    {
+        self.values.as_slice().get(index).copied()
+    }
+}
+
+/// What is said of the row at a place of its table.
+fn dec_texts(place: usize) -> &'static Texts
+    requires { place < length DEC_FORMS }
+{
+    &DEC_TEXTS[place]
+}
+
+/// What is said of the row at a place of its table.
+fn other_texts(place: usize) -> &'static Texts
+    requires { place < length OTHER_FORMS }
+{
+    &OTHER_TEXTS[place]
+}
+
+/// What is said of the row at a place of its table.
+fn report_texts(place: usize) -> &'static Texts
+    requires { place < length REPORT_FORMS }
+{
+    &REPORT_TEXTS[place]
+}
+
+/// The first row of these that reads a list: its place, its form and the values.
+fn first_known(
+    forms: &[Form],
+    slots: &[[Slot; MOST]],
+    params: &[CsiParam],
+    control: char,
+) -> Option<(usize, Form, Values)>
+    requires { length forms.now ≡ length slots.now }
+    ensures first { option_map (λ known. (known.1, known.2.items)) result ≡ first_reading (rows_of forms.now slots.now) params.now control }
+    ensures within { IfSome result (λ known. known.0 < length forms.now) }
+{
+    for place in 0..forms.len() {
+        let form = &forms[place];
+        if let Some(values) = form.read(&slots[place], params, control) {
+            return Some((place, *form, values));
+        }
+    }
+    None
+}
+
+impl fmt::Display for Known {
+    ghost output = { λ known. Some (form_text known.form known.values.items) };
+
+    fn fmt<W: fmt::Write>(&self, f: &mut fmt::Formatter<W>) -> fmt::Result {
+        write_byte(self.form.marker, f)?;
+        write_numbers(self.values.as_slice(), f)?;
+        write_byte(self.form.intermediate, f)?;
+        f.write_char(self.form.control)
+    }
+}
+
+/// Writes a byte, unless it is 0.
+fn write_byte<W: fmt::Write>(byte: u8, f: &mut fmt::Formatter<W>) -> fmt::Result
+    ensures { WritesOnOk W.write_str_gives f.old result (byte_text byte) f.new }
+{
+    if byte == 0 {
+        return Ok(());
+    }
+    f.write_char(char::from(byte))
+}
+
+/// Writes numbers, with a `;` between two.
+fn write_numbers<W: fmt::Write>(values: &[u32], f: &mut fmt::Formatter<W>) -> fmt::Result
+    ensures { WritesOnOk W.write_str_gives f.old result (numbers_text values.now) f.new }
+{
+    match values {
+        [] => Ok(()),
+        [first, others @ ..] => {
+            write!(f, "{first}")?;
+            write_behind(others, f)
+        }
+    }
+}
+
+/// Writes each number behind a `;`.
+fn write_behind<W: fmt::Write>(values: &[u32], f: &mut fmt::Formatter<W>) -> fmt::Result
+    ensures { WritesOnOk W.write_str_gives f.old result (behind_text values.now) f.new }
+{
+    for value in values {
+        write!(f, ";{value}")?;
+    }
+    Ok(())
+}

@@ -1,0 +1,49 @@
+//! Laws of rows, and of the table. Each is the contract of a function that does nothing.
+ghost use Rattle.std.specs.Prelude.{◌≡◌, ◌↔◌, ◌++◌, ℕ, List, Some, None, true, slice_get, encode_utf8};
+ghost use Rattle.csicodec_tokens.specs.declared.param.CsiParam.{CsiParam};
+ghost use Rattle.csicodec_tokens.specs.Param.{spells};
+ghost use Rattle.csicodec_tokens.specs.Sequence.{IsFinal, Spellable};
+ghost use Rattle.csicodec_actions.specs.Table.{whole};
+ghost use Rattle.csicodec_sequences.specs.Known.{are_rows, reading, table};
+ghost use Rattle.csicodec_sequences.specs.Rows.{Row, fit, is_row, read_row, row_list, form_text};
+
+/// Of any row: the values that it reads back of the list that it writes of them are those that fit its slots, and no others.
+pub fn exact()
+    ensures { (row : Row) (values : List ℕ) → is_row row ≡ true →
+        (read_row row (row_list row values) row.form.control ≡ Some values) ↔ (fit row.slots values ≡ true) }
+{}
+
+/// Of any row: what it reads fits its slots, so that it is read back from what is written of it.
+pub fn what_is_read_fits()
+    ensures { (row : Row) (list : List CsiParam) (final : ℕ) (values : List ℕ) → is_row row ≡ true →
+        read_row row list final ≡ Some values → fit row.slots values ≡ true }
+{}
+
+/// Of any row: the text of values is that of their list, and the final character behind it.
+pub fn text()
+    ensures { (row : Row) (values : List ℕ) → form_text row.form values ≡ spells (row_list row values) ++ encode_utf8 row.form.control }
+{}
+
+/// Each row of the table is a row: its bytes are such bytes, and what is left out is in its range.
+pub fn rows()
+    ensures { are_rows table ≡ true }
+{}
+
+/// No two rows of the table read one list.
+pub fn one_row()
+    ensures { (list : List CsiParam) (final i j : ℕ) (q r : Row) (v w : List ℕ) →
+        slice_get table i ≡ Some q → slice_get table j ≡ Some r →
+        read_row q list final ≡ Some v → read_row r list final ≡ Some w → i ≡ j }
+{}
+
+/// The row of the table that reads a list says what is known of it, wherever it stands.
+pub fn any_row()
+    ensures { (list : List CsiParam) (final i : ℕ) (row : Row) (values : List ℕ) →
+        slice_get table i ≡ Some row → read_row row list final ≡ Some values → reading list final ≡ Some (row.form, values) }
+{}
+
+/// No row of the table reads a list that is read whole as an action.
+pub fn no_action()
+    ensures { (list : List CsiParam) (final i : ℕ) (row : Row) (values : List ℕ) →
+        slice_get table i ≡ Some row → read_row row list final ≡ Some values → whole list final ≡ None }
+{}

@@ -1,0 +1,118 @@
+//! A row of the table: the form of a control sequence, with the numbers that it has, and what is said of it.
+ghost use Rattle.std.specs.Prelude.{◌≡◌, ◌≤◌, length};
+ghost use Rattle.std.specs.Option.{option_map};
+ghost use Rattle.csicodec_sequences.specs.Rows.{counted, read_row, slot_value, slot_values, stops};
+
+use crate::parts::{Parts, next_field};
+use arrayvec::ArrayVec;
+use csicodec_base::CsiParam;
+
+/// How many numbers a form has at most.
+pub const MOST: usize = 12;
+
+/// The values of a row, one for each of its slots, but for those at the end that may be missing.
+pub type Values = ArrayVec<u32, MOST>;
+
+/// One number of a control sequence: which numbers count, and what it is where it is left out.
+#[derive(Clone, Copy)]
+pub struct Slot {
+    /// The least number that counts.
+    pub first: u32,
+    /// The largest number that counts.
+    pub last: u32,
+    /// What it is where it is left out; none where it has to stand there.
+    pub missing: Option<u32>,
+    /// Whether the list may end ahead of it, so that it and those behind it have no value.
+    pub optional: bool,
+}
+
+impl Slot {
+    /// The value of a field: the number, where it counts, and where the field is empty or missing what the slot says.
+    pub fn value(&self, number: Option<i64>) -> Option<u32>
+        ensures { result ≡ slot_value self.now number }
+    {
+        match number {
+            None => self.missing,
+            Some(number) => self.count(number),
+        }
+    }
+
+    /// Whether the list ends ahead of the slot, as it may.
+    fn stops(&self, tokens: &[CsiParam]) -> bool
+        ensures { result ≡ stops self.now tokens.now }
+    {
+        match tokens {
+            [] => self.optional,
+            _ => false,
+        }
+    }
+
+    /// The number, where it counts.
+    fn count(&self, number: i64) -> Option<u32>
+        ensures { result ≡ counted self.now number }
+    {
+        if number < i64::from(self.first) || number > i64::from(self.last) {
+            return None;
+        }
+        Some(number as u32)
+    }
+}
+
+/// What is said of a control sequence: its name, what it means, and where it is from.
+#[derive(Clone, Copy)]
+pub struct Texts {
+    /// The mnemonic, as its source has it.
+    pub name: &'static str,
+    /// What a terminal does, or what it says by it.
+    pub meaning: &'static str,
+    /// The document, and in it the clause or the heading.
+    pub source: &'static str,
+    /// What each of its numbers says, in order; the last one of a row with further numbers says it of all that follow.
+    pub slots: &'static [&'static str],
+}
+
+/// The form of a control sequence: the bytes around its numbers.
+#[derive(Clone, Copy)]
+pub struct Form {
+    /// The byte at the front that makes it private, one of `<` `=` `>` `?`; 0 where there is none.
+    pub marker: u8,
+    /// The intermediate byte; 0 where there is none.
+    pub intermediate: u8,
+    /// The final character.
+    pub control: char,
+}
+
+impl Form {
+    /// The values of a list before a final character, where it has this form, and numbers as these slots say.
+    pub fn read(&self, slots: &[Slot], params: &[CsiParam], control: char) -> Option<Values>
+        requires { length slots.now ≤ 12 }
+        ensures { option_map (λ v. v.items) result ≡ read_row (record { form = self.now; slots = slots.now }) params.now control }
+    {
+        if control != self.control {
+            return None;
+        }
+        let parts = Parts::of(params);
+        if parts.marker != self.marker || parts.intermediate != self.intermediate {
+            return None;
+        }
+        read_slots(slots, parts.body)
+    }
+}
+
+/// The values of fields, one for each slot.
+fn read_slots(slots: &[Slot], tokens: &[CsiParam]) -> Option<Values>
+    requires { length slots.now ≤ 12 }
+    ensures { option_map (λ v. v.items) result ≡ slot_values slots.now tokens.now }
+{
+    let mut values = Values::new();
+    let mut rest = tokens;
+    for slot in slots {
+        if slot.stops(rest) {
+            return Some(values);
+        }
+        let (number, others) = next_field(rest)?;
+        values.push(slot.value(number)?);
+        rest = others;
+    }
+    rest.is_empty().then_some(values)
+}

@@ -1,0 +1,85 @@
+//! The table: a row for each control sequence, subject by subject.
+//!
+//! A row is its name, the byte at its front (0 where there is none), its slots, its intermediate byte (0 where there is none),
+//! its final character, its meaning and its source. A slot is a number with a name, from a first to a last one: `number!` says
+//! last what it is where it is left out, `needed!` has to stand there, and `further!` behind a `;` any number of times.
+
+use crate::row::Slot;
+
+/// No number: a list ends ahead of it.
+pub(crate) const END: Slot = Slot {
+    first: 1,
+    last: 0,
+    missing: None,
+    optional: true,
+};
+
+macro_rules! needed {
+    ($name:literal, $first:literal, $last:literal) => {
+        Slot { first: $first, last: $last, missing: None, optional: false }
+    };
+}
+
+macro_rules! number {
+    ($name:literal, $first:literal, $last:literal, $missing:literal) => {
+        Slot { first: $first, last: $last, missing: Some($missing), optional: false }
+    };
+}
+
+macro_rules! further {
+    ($name:literal, $first:literal, $last:literal) => {
+        Slot { first: $first, last: $last, missing: None, optional: true }
+    };
+}
+
+/// 12 slots.
+macro_rules! slots {
+    () => { [END, END, END, END, END, END, END, END, END, END, END, END] };
+    ($s0:expr) => { [$s0, END, END, END, END, END, END, END, END, END, END, END] };
+    ($s0:expr, $s1:expr) => { [$s0, $s1, END, END, END, END, END, END, END, END, END, END] };
+    ($s0:expr, $s1:expr, $s2:expr) => { [$s0, $s1, $s2, END, END, END, END, END, END, END, END, END] };
+    ($s0:expr, $s1:expr, $s2:expr, $s3:expr) => { [$s0, $s1, $s2, $s3, END, END, END, END, END, END, END, END] };
+    ($s0:expr, $s1:expr, $s2:expr, $s3:expr, $s4:expr) => { [$s0, $s1, $s2, $s3, $s4, END, END, END, END, END, END, END] };
+    ($s0:expr, $s1:expr, $s2:expr, $s3:expr, $s4:expr, $s5:expr) => { [$s0, $s1, $s2, $s3, $s4, $s5, END, END, END, END, END, END] };
+    ($s0:expr, $s1:expr, $s2:expr, $s3:expr, $s4:expr, $s5:expr, $s6:expr) => { [$s0, $s1, $s2, $s3, $s4, $s5, $s6, END, END, END, END, END] };
+    ($s0:expr, $s1:expr, $s2:expr, $s3:expr, $s4:expr, $s5:expr, $s6:expr, $s7:expr) => { [$s0, $s1, $s2, $s3, $s4, $s5, $s6, $s7, END, END, END, END] };
+    (; $f:expr) => { [$f, $f, $f, $f, $f, $f, $f, $f, $f, $f, $f, $f] };
+    ($s0:expr; $f:expr) => { [$s0, $f, $f, $f, $f, $f, $f, $f, $f, $f, $f, $f] };
+    ($s0:expr, $s1:expr; $f:expr) => { [$s0, $s1, $f, $f, $f, $f, $f, $f, $f, $f, $f, $f] };
+    ($s0:expr, $s1:expr, $s2:expr; $f:expr) => { [$s0, $s1, $s2, $f, $f, $f, $f, $f, $f, $f, $f, $f] };
+    ($s0:expr, $s1:expr, $s2:expr, $s3:expr; $f:expr) => { [$s0, $s1, $s2, $s3, $f, $f, $f, $f, $f, $f, $f, $f] };
+    ($s0:expr, $s1:expr, $s2:expr, $s3:expr, $s4:expr; $f:expr) => { [$s0, $s1, $s2, $s3, $s4, $f, $f, $f, $f, $f, $f, $f] };
+    ($s0:expr, $s1:expr, $s2:expr, $s3:expr, $s4:expr, $s5:expr; $f:expr) => { [$s0, $s1, $s2, $s3, $s4, $s5, $f, $f, $f, $f, $f, $f] };
+    ($s0:expr, $s1:expr, $s2:expr, $s3:expr, $s4:expr, $s5:expr, $s6:expr; $f:expr) => { [$s0, $s1, $s2, $s3, $s4, $s5, $s6, $f, $f, $f, $f, $f] };
+}
+
+/// The form of a row.
+macro_rules! form {
+    ($name:literal, $marker:expr, [$($slots:tt)*], $intermediate:expr, $control:literal, $meaning:literal, $source:literal) => {
+        Form { marker: $marker, intermediate: $intermediate, control: $control }
+    };
+}
+
+/// The slots of a row.
+macro_rules! numbers {
+    ($name:literal, $marker:expr, [$($slots:tt)*], $intermediate:expr, $control:literal, $meaning:literal, $source:literal) => {
+        slots!($($slots)*)
+    };
+}
+
+/// The names of a row's slots.
+macro_rules! names {
+    ($($kind:ident!($name:literal $($numbers:tt)*)),*) => { &[$($name),*] };
+    ($($kind:ident!($name:literal $($numbers:tt)*)),*; further!($last:literal $($more:tt)*)) => { &[$($name,)* $last] };
+}
+
+/// The texts of a row.
+macro_rules! texts {
+    ($name:literal, $marker:expr, [$($slots:tt)*], $intermediate:expr, $control:literal, $meaning:literal, $source:literal) => {
+        Texts { name: $name, meaning: $meaning, source: $source, slots: names!($($slots)*) }
+    };
+}
+
+pub(crate) mod dec;
+pub(crate) mod others;
+pub(crate) mod reports;

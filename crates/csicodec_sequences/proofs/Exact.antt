@@ -1,10 +1,10 @@
 -- Which values a row reads back.
-use Rattle.std.proofs.Common.{◌≡◌, ℕ, List, Option, None, Some, refl, sym, ap, ◌∙◌}
+use Rattle.std.proofs.Common.{◌≡◌, ℕ, List, None, Some, refl, ap, ◌∙◌}
 use Rattle.std.specs.Prelude.{Bool, true, ◌==◌, ◌&&◌, if◌then◌else◌}
 use Rattle.std.proofs.lemmas.Bool.{and_parts, and_from, eq-eqb}
 use Rattle.csicodec_tokens.specs.declared.param.CsiParam.{CsiParam}
-use Rattle.csicodec_sequences.specs.Parts.{Parts, is_intermediate, is_marker, parts_of}
-use Rattle.csicodec_sequences.specs.Rows.{Row, are_missing_within, fit, has_bytes, has_its_bytes, is_final, is_row, joined, read_row, row_list, slot_values}
+use Rattle.csicodec_sequences.specs.Parts.{is_intermediate, is_marker, parts_of}
+use Rattle.csicodec_sequences.specs.Rows.{Row, are_missing_within, fit, has_bytes, has_its_bytes, is_final, is_row, read_row, row_list, slot_values}
 use Rattle.csicodec_sequences.proofs.OneRow.{has-read}
 use Rattle.csicodec_sequences.proofs.PartsOf.{parts-are}
 use Rattle.csicodec_sequences.proofs.Values.{fit-read, read-fit}

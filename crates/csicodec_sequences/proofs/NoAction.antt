@@ -1,9 +1,9 @@
 -- No row reads a list that a row of actions has: tests that are computed of each row and each row of actions before its final character.
-use Rattle.std.proofs.Common.{◌≡◌, ℕ, zero, suc, List, [], ◌∷◌, Option, None, Some, refl, sym, ap, ◌∙◌, inl, inr, pos, subst}
+use Rattle.std.proofs.Common.{◌≡◌, ℕ, List, [], ◌∷◌, Option, None, Some, refl, sym, ap, ◌∙◌, inl, inr, pos, subst}
 use Rattle.std.specs.Prelude.{ℤ, ◌==◌, ◌&&◌, ◌||◌, Bool, true, false, not, is_some, if◌then◌else◌, option_and_then}
 use Rattle.std.specs.Option.{option_or}
 use Rattle.std.proofs.lemmas.Bool.{and_parts, cases_Bool, eqb-true, eq-eqb}
-use Rattle.std.proofs.lemmas.Option.{same_Some, option_and_then_some, some_pair_parts}
+use Rattle.std.proofs.lemmas.Option.{same_Some, some_pair_parts}
 use Rattle.csicodec_tokens.specs.declared.param.CsiParam.{CsiParam}
 use Rattle.csicodec_tokens.specs.declared.param.CsiParam.TheVariants.{Integer, P}
 use Rattle.csicodec_names.proofs.Coded.{is_number-pos}
@@ -13,11 +13,11 @@ use Rattle.csicodec_actions.specs.Rows as actions
 use Rattle.csicodec_actions.specs.Rows.{Byte, Number, One, can_end, fits, given, gives, has_shape}
 use Rattle.csicodec_actions.proofs.Found.{guarded, map-some}
 use Rattle.csicodec_sequences.specs.declared.row.Slot.{Slot}
-use Rattle.csicodec_sequences.specs.Parts.{behind_separator, is_intermediate, is_marker, parts_of, split_field, with_front, without_intermediate, without_marker}
-use Rattle.csicodec_sequences.specs.Rows.{Row, counted, is_within, read_row, slot_value, slot_values, stops}
+use Rattle.csicodec_sequences.specs.Parts.{behind_separator, is_intermediate, is_marker, without_intermediate, without_marker}
+use Rattle.csicodec_sequences.specs.Rows.{Row, counted, is_within, read_row, slot_value, slot_values}
 use Rattle.csicodec_sequences.proofs.OneRow.{has-read, or-either, slots-apart, slots_apart}
 use Rattle.csicodec_sequences.proofs.PartsOf.{stays}
-use Rattle.csicodec_sequences.proofs.Values.{counted-within, taken}
+use Rattle.csicodec_sequences.proofs.Values.{taken}
 
 -- ---- the test
 

@@ -1,9 +1,9 @@
 -- No row reads a list that a row of actions over fields has.
-use Rattle.std.proofs.Common.{◌≡◌, ℕ, zero, suc, List, [], ◌∷◌, ◌++◌, Option, None, Some, refl, sym, ap, ◌∙◌, inl, inr, pos, subst}
-use Rattle.std.specs.Prelude.{ℤ, ◌==◌, ◌&&◌, ◌||◌, Bool, true, false, not, is_some, if◌then◌else◌, option_and_then, option_map}
+use Rattle.std.proofs.Common.{◌≡◌, ℕ, List, [], ◌∷◌, ◌++◌, Option, None, Some, refl, sym, ap, ◌∙◌, inl, inr, pos, subst}
+use Rattle.std.specs.Prelude.{ℤ, ◌==◌, ◌&&◌, ◌||◌, Bool, true, false, not, is_some, if◌then◌else◌, option_map}
 use Rattle.std.specs.Option.{option_or}
-use Rattle.std.proofs.lemmas.Bool.{and_parts, cases_Bool, eqb-true, eq-eqb}
-use Rattle.std.proofs.lemmas.Option.{same_Some, option_and_then_some}
+use Rattle.std.proofs.lemmas.Bool.{and_parts, cases_Bool, eqb-true}
+use Rattle.std.proofs.lemmas.Option.{same_Some}
 use Rattle.csicodec_tokens.specs.declared.param.CsiParam.{CsiParam}
 use Rattle.csicodec_tokens.specs.declared.param.CsiParam.TheVariants.{Integer, P}
 use Rattle.csicodec_tokens.specs.Fields.{fields_of, with_field}
@@ -16,8 +16,8 @@ use Rattle.csicodec_sequences.specs.declared.row.Slot.{Slot}
 use Rattle.csicodec_sequences.specs.Parts.{is_marker, split_field, with_front, without_intermediate, without_marker}
 use Rattle.csicodec_sequences.specs.Rows.{counted, is_within, slot_value, slot_values, stops}
 use Rattle.csicodec_sequences.proofs.OneRow.{goes-on, must, must-value, or-either}
-use Rattle.csicodec_sequences.proofs.PartsOf.{cut-end, ending, stays}
-use Rattle.csicodec_sequences.proofs.Values.{Taken, stops-optional, taken}
+use Rattle.csicodec_sequences.proofs.PartsOf.{cut-end, stays}
+use Rattle.csicodec_sequences.proofs.Values.{taken}
 
 -- ---- the test
 

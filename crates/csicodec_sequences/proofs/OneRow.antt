@@ -1,14 +1,14 @@
 -- No two rows read one list: a test that is computed over all pairs.
 use Rattle.std.proofs.Common.{◌≡◌, ℕ, zero, suc, List, [], ◌∷◌, Option, None, Some, refl, sym, ap, ◌∙◌, inl, inr, pos, subst, arith}
-use Rattle.std.specs.Prelude.{ℤ, negsuc, nat_lt, ◌==◌, ◌&&◌, ◌||◌, Bool, true, false, not, is_some, slice_get, if◌then◌else◌}
+use Rattle.std.specs.Prelude.{ℤ, negsuc, nat_lt, ◌==◌, ◌&&◌, ◌||◌, Bool, true, false, not, is_some, slice_get}
 use Rattle.std.proofs.lemmas.Bool.{and_parts, cases_Bool, eqb-true}
 use Rattle.std.proofs.lemmas.Option.{same_Some}
 use Rattle.csicodec_tokens.specs.declared.param.CsiParam.{CsiParam}
 use Rattle.csicodec_actions.proofs.Found.{guarded}
 use Rattle.csicodec_sequences.specs.declared.row.Slot.{Slot}
-use Rattle.csicodec_sequences.specs.Parts.{Parts, parts_of, split_field}
+use Rattle.csicodec_sequences.specs.Parts.{parts_of}
 use Rattle.csicodec_sequences.specs.Rows.{Row, counted, has_bytes, is_within, read_row, slot_value, slot_values, stops}
-use Rattle.csicodec_sequences.proofs.Values.{Taken, taken}
+use Rattle.csicodec_sequences.proofs.Values.{taken}
 
 -- ---- slots
 

@@ -1,7 +1,7 @@
 -- The parts of a list that a row writes are those of the row.
-use Rattle.std.proofs.Common.{◌≡◌, ℕ, List, [], ◌∷◌, ◌++◌, Option, None, Some, refl, sym, ap, ◌∙◌, inl, inr, pos, subst, arith, append-nil}
-use Rattle.std.specs.Prelude.{ℤ, Bool, true, false, not, nat_lt, ◌==◌, ◌&&◌, if◌then◌else◌}
-use Rattle.std.proofs.lemmas.Bool.{and_parts, cases_Bool, eqb-true}
+use Rattle.std.proofs.Common.{◌≡◌, ℕ, List, [], ◌∷◌, ◌++◌, refl, sym, ap, ◌∙◌, inl, inr, pos, arith, append-nil}
+use Rattle.std.specs.Prelude.{ℤ, true, false, ◌==◌, if◌then◌else◌}
+use Rattle.std.proofs.lemmas.Bool.{cases_Bool, eqb-true}
 use Rattle.csicodec_tokens.specs.declared.param.CsiParam.{CsiParam}
 use Rattle.csicodec_tokens.specs.declared.param.CsiParam.TheVariants.{Integer, P}
 use Rattle.csicodec_sequences.specs.Parts.{is_intermediate, is_marker, parts_of, with_front, without_intermediate, without_marker}

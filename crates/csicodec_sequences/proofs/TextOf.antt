@@ -1,11 +1,9 @@
 -- What a row writes is the text of its list.
-use Rattle.std.proofs.Common.{◌≡◌, ℕ, List, [], ◌∷◌, ◌++◌, refl, sym, ap, ◌∙◌, inl, inr, append-nil, append_assoc, pos}
-use Rattle.std.specs.Prelude.{Bool, true, false, ◌==◌, encode_utf8, if◌then◌else◌}
-use Rattle.std.specs.Fmt.{decimal, signed_decimal}
-use Rattle.std.specs.List.{flat_map}
+use Rattle.std.proofs.Common.{◌≡◌, ℕ, List, [], ◌∷◌, ◌++◌, refl, sym, ap, ◌∙◌, inl, inr, append-nil, append_assoc}
+use Rattle.std.specs.Prelude.{◌==◌, encode_utf8}
+use Rattle.std.specs.Fmt.{decimal}
 use Rattle.std.proofs.lemmas.Bool.{cases_Bool}
 use Rattle.csicodec_tokens.specs.declared.param.CsiParam.{CsiParam}
-use Rattle.csicodec_tokens.specs.declared.param.CsiParam.TheVariants.{Integer, P}
 use Rattle.csicodec_tokens.specs.Param.{spells, token_text}
 use Rattle.csicodec_sequences.specs.Rows.{Row, behind_text, byte_text, byte_tokens, each_behind, row_list, form_text, joined, numbers_text}
 

@@ -15,7 +15,7 @@ use Rattle.csicodec_actions.specs.Table.Window.{areas, windows}
 use Rattle.csicodec_actions.specs.Table.XtSmGraphics.{graphics_rows}
 use Rattle.csicodec_lists.proofs.AllRows.{whole-table}
 use Rattle.csicodec_sequences.specs.Known.{rows_of, table}
-use Rattle.csicodec_sequences.specs.Parts.{parts_of, without_intermediate, without_marker}
+use Rattle.csicodec_sequences.specs.Parts.{without_intermediate, without_marker}
 use Rattle.csicodec_sequences.specs.Rows.{Row, read_row, slot_values}
 use Rattle.csicodec_sequences.proofs.NoAction.{apart_from_all, tokens-unread}
 use Rattle.csicodec_sequences.proofs.NoFields.{apart_from_fields, byte-ahead, fields-begin, fields-end, fields-unread, star-behind}

@@ -1,6 +1,6 @@
 -- Values as they are written and read: what fits is read back, and what is read fits.
-use Rattle.std.proofs.Common.{◌≡◌, ℕ, List, [], ◌∷◌, ◌++◌, Option, None, Some, refl, sym, ap, ◌∙◌, inl, inr, pos, subst}
-use Rattle.std.specs.Prelude.{ℤ, negsuc, Bool, true, false, not, ◌&&◌, option_and_then, if◌then◌else◌}
+use Rattle.std.proofs.Common.{◌≡◌, ℕ, List, [], ◌∷◌, Option, None, Some, refl, ap, ◌∙◌, inl, inr, pos, subst}
+use Rattle.std.specs.Prelude.{ℤ, negsuc, true, false, option_and_then}
 use Rattle.std.specs.Option.{option_map}
 use Rattle.std.proofs.lemmas.Bool.{and_parts, and_from, cases_Bool}
 use Rattle.std.proofs.lemmas.Option.{same_Some, option_and_then_some}

@@ -2,16 +2,13 @@
 ghost use Rattle.std.specs.Prelude.{◌≡◌, ◌<◌, IfSome, Some, length, slice_get};
 ghost use Rattle.std.specs.Fmt.{WritesOnOk};
 ghost use Rattle.std.specs.Option.{option_map};
-ghost use Rattle.csicodec_sequences.specs.declared.rows.dec.TheConstants.{DEC_FORMS};
-ghost use Rattle.csicodec_sequences.specs.declared.rows.others.TheConstants.{OTHER_FORMS};
-ghost use Rattle.csicodec_sequences.specs.declared.rows.reports.TheConstants.{REPORT_FORMS};
 ghost use Rattle.csicodec_sequences.specs.Known.{first_reading, reading, reading_of, rows_of};
 ghost use Rattle.csicodec_sequences.specs.Rows.{behind_text, byte_text, form_text, numbers_text};
 
-use crate::row::{Form, MOST, Slot, Texts, Values};
-use crate::rows::dec::{DEC_FORMS, DEC_SLOTS, DEC_TEXTS};
-use crate::rows::others::{OTHER_FORMS, OTHER_SLOTS, OTHER_TEXTS};
-use crate::rows::reports::{REPORT_FORMS, REPORT_SLOTS, REPORT_TEXTS};
+use crate::row::{Form, MOST, Slot, Values};
+use crate::rows::dec::{DEC_FORMS, DEC_NAMES, DEC_SLOTS};
+use crate::rows::others::{OTHER_FORMS, OTHER_NAMES, OTHER_SLOTS};
+use crate::rows::reports::{REPORT_FORMS, REPORT_NAMES, REPORT_SLOTS};
 use csicodec_base::CsiParam;
 use csicodec_parser::Unspecified;
 use std::fmt;
@@ -28,7 +25,7 @@ use std::fmt;
 #[derive(Drop)]
 pub struct Known {
     form: Form,
-    texts: &'static Texts,
+    name: &'static str,
     values: Values,
 }
 
@@ -46,12 +43,8 @@ impl Known {
         ensures { option_map reading_of result ≡ reading params.now control }
     {
         if let Some((place, form, values)) = first_known(&DEC_FORMS, &DEC_SLOTS, params, control) {
-            let texts = dec_texts(place);
-            return Some(Known {
-                form,
-                texts,
-                values,
-            });
+            let name = dec_name(place);
+            return Some(Known { form, name, values });
         }
         if let Some((place, form, values)) = first_known(
             &OTHER_FORMS,
@@ -59,12 +52,8 @@ impl Known {
             params,
             control,
         ) {
-            let texts = other_texts(place);
-            return Some(Known {
-                form,
-                texts,
-                values,
-            });
+            let name = other_name(place);
+            return Some(Known { form, name, values });
         }
         if let Some((place, form, values)) = first_known(
             &REPORT_FORMS,
@@ -72,12 +61,8 @@ impl Known {
             params,
             control,
         ) {
-            let texts = report_texts(place);
-            return Some(Known {
-                form,
-                texts,
-                values,
-            });
+            let name = report_name(place);
+            return Some(Known { form, name, values });
         }
         None
     }
@@ -89,9 +74,9 @@ impl Known {
         &self.form
     }
 
-    /// What is said of it: its name, its meaning and its source.
-    pub fn texts(&self) -> &'static Texts {
-        self.texts
+    /// Its name: the mnemonic of the document that has it, which docs/SEQUENCES.md names.
+    pub fn name(&self) -> &'static str {
+        self.name
     }
 
     /// The values, in the order of the row's slots.
@@ -109,25 +94,19 @@ impl Known {
     }
 }
 
-/// What is said of the row at a place of its table.
-fn dec_texts(place: usize) -> &'static Texts
-    requires { place < length DEC_FORMS }
-{
-    &DEC_TEXTS[place]
+/// The name of a row by its place.
+fn dec_name(place: usize) -> &'static str {
+    DEC_NAMES.get(place).copied().unwrap_or("")
 }
 
-/// What is said of the row at a place of its table.
-fn other_texts(place: usize) -> &'static Texts
-    requires { place < length OTHER_FORMS }
-{
-    &OTHER_TEXTS[place]
+/// The name of a row by its place.
+fn other_name(place: usize) -> &'static str {
+    OTHER_NAMES.get(place).copied().unwrap_or("")
 }
 
-/// What is said of the row at a place of its table.
-fn report_texts(place: usize) -> &'static Texts
-    requires { place < length REPORT_FORMS }
-{
-    &REPORT_TEXTS[place]
+/// The name of a row by its place.
+fn report_name(place: usize) -> &'static str {
+    REPORT_NAMES.get(place).copied().unwrap_or("")
 }
 
 /// The first row of these that reads a list: its place, its form and the values.

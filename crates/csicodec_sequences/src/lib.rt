@@ -10,7 +10,7 @@ mod rows;
 
 pub use known::Known;
 pub use parts::Parts;
-pub use row::{Form, Slot, Texts, Values};
-pub use rows::dec::{DEC_FORMS, DEC_SLOTS, DEC_TEXTS};
-pub use rows::others::{OTHER_FORMS, OTHER_SLOTS, OTHER_TEXTS};
-pub use rows::reports::{REPORT_FORMS, REPORT_SLOTS, REPORT_TEXTS};
+pub use row::{Form, MOST, Slot, Values};
+pub use rows::dec::{DEC_FORMS, DEC_NAMES, DEC_SLOTS};
+pub use rows::others::{OTHER_FORMS, OTHER_NAMES, OTHER_SLOTS};
+pub use rows::reports::{REPORT_FORMS, REPORT_NAMES, REPORT_SLOTS};

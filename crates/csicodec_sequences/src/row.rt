@@ -58,19 +58,6 @@ impl Slot {
     }
 }
 
-/// What is said of a control sequence: its name, what it means, and where it is from.
-#[derive(Clone, Copy)]
-pub struct Texts {
-    /// The mnemonic, as its source has it.
-    pub name: &'static str,
-    /// What a terminal does, or what it says by it.
-    pub meaning: &'static str,
-    /// The document, and in it the clause or the heading.
-    pub source: &'static str,
-    /// What each of its numbers says, in order; the last one of a row with further numbers says it of all that follow.
-    pub slots: &'static [&'static str],
-}
-
 /// The form of a control sequence: the bytes around its numbers.
 #[derive(Clone, Copy)]
 pub struct Form {

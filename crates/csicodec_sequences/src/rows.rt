@@ -67,16 +67,10 @@ macro_rules! numbers {
     };
 }
 
-/// The names of a row's slots.
-macro_rules! names {
-    ($($kind:ident!($name:literal $($numbers:tt)*)),*) => { &[$($name),*] };
-    ($($kind:ident!($name:literal $($numbers:tt)*)),*; further!($last:literal $($more:tt)*)) => { &[$($name,)* $last] };
-}
-
-/// The texts of a row.
-macro_rules! texts {
+/// The name of a row. What else is said of it is for docs/SEQUENCES.md.
+macro_rules! name {
     ($name:literal, $marker:expr, [$($slots:tt)*], $intermediate:expr, $control:literal, $meaning:literal, $source:literal) => {
-        Texts { name: $name, meaning: $meaning, source: $source, slots: names!($($slots)*) }
+        $name
     };
 }
 

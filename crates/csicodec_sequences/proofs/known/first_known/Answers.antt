@@ -1,4 +1,4 @@
-use Rattle.std.proofs.Common.{◌≡◌, ◌∙◌, ◌<◌, length, refl, sym, arith}
+use Rattle.std.proofs.Common.{◌∙◌, ◌<◌, length, refl, sym, arith}
 use Rattle.std.proofs.lemmas.Option.{slice_get-get_or}
 use Rattle.csicodec_sequences.proofs.FirstRow.{found-at, none-left, passed-at}
 use Rattle.csicodec_sequences.proofs.known.first_known.Goals as goal

@@ -1,4 +1,3 @@
-use Rattle.std.proofs.Common.{refl}
 use Rattle.csicodec_sequences.specs.Known.{table}
 use Rattle.csicodec_sequences.proofs.OneRow.{one-place}
 use Rattle.csicodec_sequences.proofs.Table.{is-apart}

@@ -1,0 +1,34 @@
+//! What is known of control sequences without an action: a table.
+//!
+//! A line of standard input is what stands behind `ESC [` in a sequence. The program writes the line, and behind it, with tabs
+//! between, the name of the row that reads it, the values, and how they are written; or `-`, where no row reads it. The files
+//! `stdin` and `stdout` beside `src/` are the table: the sequences of `.ci/sequences`, by the rules of docs/SEQUENCES.md.
+#![tactic(auto)]
+
+use csicodec::read_csi;
+use csicodec_sequences::Known;
+use std::alloc::{AllocError, Global};
+
+/// What is known of a sequence by what stands behind `ESC [`.
+fn told(alloc: Global, line: &str) -> Result<String, AllocError> {
+    let text = format!(in alloc; "\x1b[{line}")?;
+    let Ok(read) = read_csi(alloc, text.as_bytes()) else {
+        return format!(in alloc; "no sequence");
+    };
+    match Known::read(&read.params, read.control) {
+        Some(known) => {
+            let (name, values) = (known.name(), known.values());
+            format!(in alloc; "{name}\t{values:?}\t{known}")
+        }
+        None => format!(in alloc; "-"),
+    }
+}
+
+fn main(rt: HostRuntime) -> anyhow::Result<()> {
+    for line in rt.lines(rt.alloc()) {
+        let line = line?;
+        let told = told(rt.alloc(), line.as_str())?;
+        println!(rt; "{line}\t{told}")?;
+    }
+    Ok(())
+}

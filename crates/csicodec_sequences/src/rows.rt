@@ -2,7 +2,8 @@
 //!
 //! A row is its name, the byte at its front (0 where there is none), its slots, its intermediate byte (0 where there is none),
 //! its final character, its meaning and its source. A slot is a number with a name, from a first to a last one: `number!` says
-//! last what it is where it is left out, `needed!` has to stand there, and `further!` behind a `;` any number of times.
+//! last what it is where it is left out, `needed!` has to stand there, and `further!` behind a `;` may stand there as often as there
+//! is room for: a row has up to 12 numbers.
 
 use crate::row::Slot;
 

@@ -179,8 +179,11 @@ macro_rules! rows {
     };
 }
 
+/// The form of each row.
 pub static DEC_FORMS: [Form; 70] = rows!(form);
 
+/// The slots of each row, at the same place.
 pub static DEC_SLOTS: [[Slot; MOST]; 70] = rows!(numbers);
 
+/// The name of each row, at the same place.
 pub static DEC_NAMES: [&str; 70] = rows!(name);

@@ -220,8 +220,11 @@ macro_rules! rows {
     };
 }
 
+/// The form of each row.
 pub static OTHER_FORMS: [Form; 101] = rows!(form);
 
+/// The slots of each row, at the same place.
 pub static OTHER_SLOTS: [[Slot; MOST]; 101] = rows!(numbers);
 
+/// The name of each row, at the same place.
 pub static OTHER_NAMES: [&str; 101] = rows!(name);

@@ -238,8 +238,11 @@ macro_rules! rows {
     };
 }
 
+/// The form of each row.
 pub static REPORT_FORMS: [Form; 100] = rows!(form);
 
+/// The slots of each row, at the same place.
 pub static REPORT_SLOTS: [[Slot; MOST]; 100] = rows!(numbers);
 
+/// The name of each row, at the same place.
 pub static REPORT_NAMES: [&str; 100] = rows!(name);

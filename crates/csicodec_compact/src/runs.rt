@@ -185,8 +185,8 @@ impl Written {
             self.join(form, text, wide, out)?;
             return Ok(());
         }
-        self.room = NUMBERS.saturating_sub(numbers);
         self.start(form, text, wide, out)?;
+        self.room = NUMBERS.saturating_sub(numbers);
         Ok(())
     }
 

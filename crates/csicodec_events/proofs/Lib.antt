@@ -4,3 +4,4 @@ pub mod Stops
 pub mod Texts
 pub mod Spans
 pub mod Run
+pub mod Kept

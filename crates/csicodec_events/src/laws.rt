@@ -2,9 +2,10 @@
 ghost use Rattle.std.specs.Prelude.{◌≡◌, ◌++◌, ℕ, List};
 ghost use Rattle.std.specs.List.{concat, flat_map};
 ghost use Rattle.csicodec_tokens.specs.declared.param.CsiParam.{CsiParam};
+ghost use Rattle.csicodec_events.specs.declared.event.Event.TheVariants as event;
 ghost use Rattle.csicodec_events.specs.declared.event.Events.{Events};
 ghost use Rattle.csicodec_events.specs.declared.event.Told.{Told};
-ghost use Rattle.csicodec_events.specs.Events.{BeginsCsi, InChunks, IsMet, Tells, Waits, bytes_of};
+ghost use Rattle.csicodec_events.specs.Events.{BeginsCsi, InChunks, IsMet, IsTold, Tells, Waits, bytes_of};
 
 /// In whatever chunks a stream comes, the bytes of its events joined, and then what waits, are its bytes: nothing is lost, added or
 /// moved.
@@ -19,4 +20,14 @@ pub fn joined()
 pub fn waited()
     ensures { (e waiting after : Events) (bytes more : List ℕ) (told : Told) (list : List CsiParam) →
         IsMet e bytes → BeginsCsi bytes → Waits e bytes waiting → Tells waiting (bytes ++ more) told list after → Tells e (bytes ++ more) told list after }
+{}
+
+/// What is told of a control sequence, a control in it or the whole, stays, whatever bytes come later.
+pub fn stays()
+    ensures control { (e after : Events) (bytes text rest more : List ℕ) (list : List CsiParam) (b : ℕ) →
+        IsTold (event.Control b) e bytes text rest list after →
+        IsTold (event.Control b) e (bytes ++ more) text (rest ++ more) list after }
+    ensures csi { (e after : Events) (bytes text rest more : List ℕ) (list : List CsiParam) (final : ℕ) →
+        IsTold (event.Csi final) e bytes text rest list after →
+        IsTold (event.Csi final) e (bytes ++ more) text (rest ++ more) list after }
 {}

@@ -20,7 +20,7 @@ use std::alloc::{AllocError, Global};
 
 /// The note that is what stays of a sequence.
 #[derive(Drop)]
-pub struct StyleNote;
+pub(crate) struct StyleNote;
 
 impl Note for StyleNote {
     ghost use Rattle.csicodec_clean.specs.Private.Notes.{IsNoted};

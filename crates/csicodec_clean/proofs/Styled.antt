@@ -408,3 +408,10 @@ more_text d xs x old out new e f =
 
 pub more_styles : (d : Depth) (xs : List Action) (x : Action) (b flag new : Bool) → flag ≡ is_open b (kept d xs) → new ≡ is_open flag (kept d (x ∷ [])) → new ≡ is_open b (kept d (xs ++ x ∷ []))
 more_styles d xs x b flag new e f = f ∙ ap (λ c. is_open c (kept d (x ∷ []))) e ∙ sym (open_on b (kept d xs) (kept d (x ∷ []))) ∙ ap (is_open b) (sym (kept_on d xs (x ∷ [])))
+
+-- a colour that becomes another is no reset
+pub reset_reduced : (d : Depth) (s : Sgr) → is_reset (reduced d s) ≡ is_reset s
+reset_reduced d (sgr.Foreground c) = refl
+reset_reduced d (sgr.Background c) = refl
+reset_reduced d (sgr.UnderlineColor c) = refl
+reset_reduced d _ = refl

@@ -69,9 +69,10 @@ pub(crate) fn append_styles(
     Ok(())
 }
 
-/// Whether a style is open behind the action.
-fn is_open_behind(depth: Depth, action: &CSI, styled: bool) -> bool
-    ensures { result ≡ is_open styled (kept depth (action_of action.now ∷ [])) }
+/// Whether a style is open behind the action, whatever colours stay.
+#[tactic(auto, using(crate::proofs::Styled::reset_reduced))]
+fn is_open_behind(_depth: Depth, action: &CSI, styled: bool) -> bool
+    ensures { result ≡ is_open styled (kept _depth (action_of action.now ∷ [])) }
 {
     match action {
         CSI::Sgr(style) => {
@@ -79,7 +80,7 @@ fn is_open_behind(depth: Depth, action: &CSI, styled: bool) -> bool
             if hides {
                 return styled;
             }
-            !is_reset(&reduced(depth, *style))
+            !is_reset(style)
         }
         CSI::Cursor(_)
         | CSI::Edit(_)

@@ -6,5 +6,6 @@ pub mod FirstRow
 pub mod NoAction
 pub mod NoFields
 pub mod Unread
+pub mod Sequences
 pub mod TextOf
 pub mod Table

@@ -6,12 +6,25 @@ ghost use Rattle.csicodec_sequences.specs.Known.{first_reading, reading, reading
 ghost use Rattle.csicodec_sequences.specs.Rows.{behind_text, byte_text, form_text, numbers_text};
 
 use crate::row::{Form, MOST, Slot, Values};
-use crate::rows::dec::{DEC_FORMS, DEC_NAMES, DEC_SLOTS};
-use crate::rows::others::{OTHER_FORMS, OTHER_NAMES, OTHER_SLOTS};
-use crate::rows::reports::{REPORT_FORMS, REPORT_NAMES, REPORT_SLOTS};
+use crate::rows::dec::{DEC_FORMS, DEC_MEANINGS, DEC_NAMES, DEC_NUMBERS, DEC_SLOTS, DEC_SOURCES};
+use crate::rows::others::{
+    OTHER_FORMS, OTHER_MEANINGS, OTHER_NAMES, OTHER_NUMBERS, OTHER_SLOTS, OTHER_SOURCES,
+};
+use crate::rows::reports::{
+    REPORT_FORMS, REPORT_MEANINGS, REPORT_NAMES, REPORT_NUMBERS, REPORT_SLOTS, REPORT_SOURCES,
+};
 use csicodec_base::CsiParam;
 use csicodec_parser::Unspecified;
 use std::fmt;
+
+/// What is said of a row.
+#[derive(Clone, Copy)]
+struct Texts {
+    name: &'static str,
+    meaning: &'static str,
+    source: &'static str,
+    numbers: &'static str,
+}
 
 /// A control sequence that has no action, by its row of the table and its values. It prints its numbers and its final
 /// character, without `ESC [`: each number that was left out with its value, so that what it prints is read as the same
@@ -25,7 +38,7 @@ use std::fmt;
 #[derive(Drop)]
 pub struct Known {
     form: Form,
-    name: &'static str,
+    texts: Texts,
     values: Values,
 }
 
@@ -43,8 +56,12 @@ impl Known {
         ensures { option_map reading_of result ≡ reading params.now control }
     {
         if let Some((place, form, values)) = first_known(&DEC_FORMS, &DEC_SLOTS, params, control) {
-            let name = dec_name(place);
-            return Some(Known { form, name, values });
+            let texts = dec_texts(place);
+            return Some(Known {
+                form,
+                texts,
+                values,
+            });
         }
         if let Some((place, form, values)) = first_known(
             &OTHER_FORMS,
@@ -52,8 +69,12 @@ impl Known {
             params,
             control,
         ) {
-            let name = other_name(place);
-            return Some(Known { form, name, values });
+            let texts = other_texts(place);
+            return Some(Known {
+                form,
+                texts,
+                values,
+            });
         }
         if let Some((place, form, values)) = first_known(
             &REPORT_FORMS,
@@ -61,8 +82,12 @@ impl Known {
             params,
             control,
         ) {
-            let name = report_name(place);
-            return Some(Known { form, name, values });
+            let texts = report_texts(place);
+            return Some(Known {
+                form,
+                texts,
+                values,
+            });
         }
         None
     }
@@ -74,9 +99,25 @@ impl Known {
         &self.form
     }
 
-    /// Its name: the mnemonic of the document that has it, which docs/SEQUENCES.md names.
+    /// Its name: the mnemonic of its source.
     pub fn name(&self) -> &'static str {
-        self.name
+        self.texts.name
+    }
+
+    /// What a terminal does, or what it says by it.
+    pub fn meaning(&self) -> &'static str {
+        self.texts.meaning
+    }
+
+    /// Where it is from: the document, and in it the clause or the heading.
+    pub fn source(&self) -> &'static str {
+        self.texts.source
+    }
+
+    /// The names of its numbers, in order, a `;` behind each; the last one of a row with further numbers is that of all that
+    /// follow.
+    pub fn numbers(&self) -> &'static str {
+        self.texts.numbers
     }
 
     /// The values, in the order of the row's slots.
@@ -94,19 +135,36 @@ impl Known {
     }
 }
 
-/// The name of a row by its place.
-fn dec_name(place: usize) -> &'static str {
-    DEC_NAMES.get(place).copied().unwrap_or("")
+/// The text at a place.
+fn text_at(texts: &'static [&'static str], place: usize) -> &'static str {
+    texts.get(place).copied().unwrap_or("")
 }
 
-/// The name of a row by its place.
-fn other_name(place: usize) -> &'static str {
-    OTHER_NAMES.get(place).copied().unwrap_or("")
+fn dec_texts(place: usize) -> Texts {
+    Texts {
+        name: text_at(&DEC_NAMES, place),
+        meaning: text_at(&DEC_MEANINGS, place),
+        source: text_at(&DEC_SOURCES, place),
+        numbers: text_at(&DEC_NUMBERS, place),
+    }
 }
 
-/// The name of a row by its place.
-fn report_name(place: usize) -> &'static str {
-    REPORT_NAMES.get(place).copied().unwrap_or("")
+fn other_texts(place: usize) -> Texts {
+    Texts {
+        name: text_at(&OTHER_NAMES, place),
+        meaning: text_at(&OTHER_MEANINGS, place),
+        source: text_at(&OTHER_SOURCES, place),
+        numbers: text_at(&OTHER_NUMBERS, place),
+    }
+}
+
+fn report_texts(place: usize) -> Texts {
+    Texts {
+        name: text_at(&REPORT_NAMES, place),
+        meaning: text_at(&REPORT_MEANINGS, place),
+        source: text_at(&REPORT_SOURCES, place),
+        numbers: text_at(&REPORT_NUMBERS, place),
+    }
 }
 
 /// The first row of these that reads a list: its place, its form and the values.

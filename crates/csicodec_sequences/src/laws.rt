@@ -47,3 +47,9 @@ pub fn no_action()
     ensures { (list : List CsiParam) (final i : ℕ) (row : Row) (values : List ℕ) →
         slice_get table i ≡ Some row → read_row row list final ≡ Some values → whole list final ≡ None }
 {}
+
+/// What a row of the table writes of values that fit it is a control sequence: behind `ESC [`, its text is read as its list.
+pub fn sequence()
+    ensures { (i : ℕ) (row : Row) (values : List ℕ) →
+        slice_get table i ≡ Some row → fit row.slots values ≡ true → Spellable (row_list row values) × IsFinal row.form.control }
+{}

@@ -11,6 +11,10 @@ mod rows;
 pub use known::Known;
 pub use parts::Parts;
 pub use row::{Form, MOST, Slot, Values};
-pub use rows::dec::{DEC_FORMS, DEC_NAMES, DEC_SLOTS};
-pub use rows::others::{OTHER_FORMS, OTHER_NAMES, OTHER_SLOTS};
-pub use rows::reports::{REPORT_FORMS, REPORT_NAMES, REPORT_SLOTS};
+pub use rows::dec::{DEC_FORMS, DEC_MEANINGS, DEC_NAMES, DEC_NUMBERS, DEC_SLOTS, DEC_SOURCES};
+pub use rows::others::{
+    OTHER_FORMS, OTHER_MEANINGS, OTHER_NAMES, OTHER_NUMBERS, OTHER_SLOTS, OTHER_SOURCES,
+};
+pub use rows::reports::{
+    REPORT_FORMS, REPORT_MEANINGS, REPORT_NAMES, REPORT_NUMBERS, REPORT_SLOTS, REPORT_SOURCES,
+};

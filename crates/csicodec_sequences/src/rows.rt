@@ -68,10 +68,37 @@ macro_rules! numbers {
     };
 }
 
-/// The name of a row. What else is said of it is for docs/SEQUENCES.md.
+/// The name of a row.
 macro_rules! name {
     ($name:literal, $marker:expr, [$($slots:tt)*], $intermediate:expr, $control:literal, $meaning:literal, $source:literal) => {
         $name
+    };
+}
+
+/// What a row means.
+macro_rules! meaning {
+    ($name:literal, $marker:expr, [$($slots:tt)*], $intermediate:expr, $control:literal, $meaning:literal, $source:literal) => {
+        $meaning
+    };
+}
+
+/// The source of a row.
+macro_rules! source {
+    ($name:literal, $marker:expr, [$($slots:tt)*], $intermediate:expr, $control:literal, $meaning:literal, $source:literal) => {
+        $source
+    };
+}
+
+/// The names of slots, a `;` behind each.
+macro_rules! joined {
+    ($($kind:ident!($name:literal $($numbers:tt)*)),*) => { concat!($($name, ";"),*) };
+    ($($kind:ident!($name:literal $($numbers:tt)*)),*; further!($last:literal $($more:tt)*)) => { concat!($($name, ";",)* $last, ";") };
+}
+
+/// The names of a row's numbers.
+macro_rules! names {
+    ($name:literal, $marker:expr, [$($slots:tt)*], $intermediate:expr, $control:literal, $meaning:literal, $source:literal) => {
+        joined!($($slots)*)
     };
 }
 

@@ -1,7 +1,8 @@
 //! What is known of control sequences without an action: a table.
 //!
 //! A line of standard input is what stands behind `ESC [` in a sequence. The program writes the line, and behind it, with tabs
-//! between, the name of the row that reads it, the values, and how they are written; or `-`, where no row reads it. The files
+//! between, the name of the row that reads it, the names of its numbers, the values, how they are written, what it means and where it
+//! is from; or `-`, where no row reads it. The files
 //! `stdin` and `stdout` beside `src/` are the table: the sequences of `.ci/sequences`, by the rules of docs/SEQUENCES.md.
 #![tactic(auto)]
 
@@ -17,8 +18,9 @@ fn told(alloc: Global, line: &str) -> Result<String, AllocError> {
     };
     match Known::read(&read.params, read.control) {
         Some(known) => {
-            let (name, values) = (known.name(), known.values());
-            format!(in alloc; "{name}\t{values:?}\t{known}")
+            let (name, meaning, source) = (known.name(), known.meaning(), known.source());
+            let (numbers, values) = (known.numbers(), known.values());
+            format!(in alloc; "{name}\t{numbers}\t{values:?}\t{known}\t{meaning}\t{source}")
         }
         None => format!(in alloc; "-"),
     }

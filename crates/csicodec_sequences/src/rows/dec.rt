@@ -187,3 +187,12 @@ pub static DEC_SLOTS: [[Slot; MOST]; 70] = rows!(numbers);
 
 /// The name of each row, at the same place.
 pub static DEC_NAMES: [&str; 70] = rows!(name);
+
+/// What each row means, at the same place.
+pub static DEC_MEANINGS: [&str; 70] = rows!(meaning);
+
+/// The source of each row, at the same place.
+pub static DEC_SOURCES: [&str; 70] = rows!(source);
+
+/// The names of the numbers of each row, at the same place, a `;` behind each.
+pub static DEC_NUMBERS: [&str; 70] = rows!(names);

@@ -228,3 +228,12 @@ pub static OTHER_SLOTS: [[Slot; MOST]; 101] = rows!(numbers);
 
 /// The name of each row, at the same place.
 pub static OTHER_NAMES: [&str; 101] = rows!(name);
+
+/// What each row means, at the same place.
+pub static OTHER_MEANINGS: [&str; 101] = rows!(meaning);
+
+/// The source of each row, at the same place.
+pub static OTHER_SOURCES: [&str; 101] = rows!(source);
+
+/// The names of the numbers of each row, at the same place, a `;` behind each.
+pub static OTHER_NUMBERS: [&str; 101] = rows!(names);

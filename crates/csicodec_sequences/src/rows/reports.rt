@@ -246,3 +246,12 @@ pub static REPORT_SLOTS: [[Slot; MOST]; 100] = rows!(numbers);
 
 /// The name of each row, at the same place.
 pub static REPORT_NAMES: [&str; 100] = rows!(name);
+
+/// What each row means, at the same place.
+pub static REPORT_MEANINGS: [&str; 100] = rows!(meaning);
+
+/// The source of each row, at the same place.
+pub static REPORT_SOURCES: [&str; 100] = rows!(source);
+
+/// The names of the numbers of each row, at the same place, a `;` behind each.
+pub static REPORT_NUMBERS: [&str; 100] = rows!(names);

@@ -1,0 +1,5 @@
+use Rattle.csicodec_sequences.proofs.Sequences.{sequence}
+use Rattle.csicodec_sequences.proofs.laws.sequence.Goals as goal
+
+pub returns : goal.returns
+returns c = λ i row values at fits. sequence i row values at fits

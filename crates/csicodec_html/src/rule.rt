@@ -127,6 +127,15 @@ impl Rule for Spans {
         Ok(())
     }
 
+    fn take_at_once(
+        &mut self,
+        _limit: usize,
+        _bytes: &[u8],
+        _out: &mut Vec<u8>,
+    ) -> Result<usize, AllocError> {
+        Ok(0)
+    }
+
     fn string(&mut self, _bytes: &[u8], _out: &mut Vec<u8>) -> Result<(), AllocError> {
         Ok(())
     }

@@ -64,12 +64,18 @@ impl Transform for Page {
 
     ghost passes = { Passes };
 
+    ghost rests = { λ _. ⊤ };
+
     ghost ends = { Finishes };
 
     fn take(&mut self, bytes: &[u8], out: &mut Vec<u8>) -> Result<(), AllocError> {
         let mut marked = Vec::new(*out.allocator());
         self.cleaner.push(bytes, &mut marked)?;
         append_page(&marked, out)
+    }
+
+    fn pause(&mut self, _out: &mut Vec<u8>) -> Result<(), AllocError> {
+        Ok(())
     }
 
     fn end(&mut self, out: &mut Vec<u8>) -> Result<(), AllocError> {

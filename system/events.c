@@ -4,7 +4,7 @@
 
 /* An event, in 40 bytes without gaps: enum csicodec_event_kind; a status, or of an escape sequence its code; where its bytes are; its
  * actions, or of an escape sequence its two bytes, and of a string its opener; whether it is a string's first and last piece. */
-struct csicodec_told {
+struct csicodec_listed {
     uint32_t kind, status;
     uint64_t at, len;
     uint32_t first, count;
@@ -16,7 +16,7 @@ void csicodec_begin(struct csicodec_stream *stream, size_t limit) { *stream = cs
 
 /* Tells as many events at the front of len bytes as there is room for; answers how many, and in `used` how many bytes they have. An event
  * whose actions or tokens have no room is not told; `needed` says how many of both it has. */
-size_t csicodec_tell(struct csicodec_stream *stream, const uint8_t *bytes, size_t len, struct csicodec_told *told, size_t told_room,
+size_t csicodec_tell(struct csicodec_stream *stream, const uint8_t *bytes, size_t len, struct csicodec_listed *told, size_t told_room,
                      struct csicodec_action *actions, size_t actions_room, struct csicodec_param *params, size_t params_room,
                      size_t *used, size_t needed[2]) {
     size_t count = 0, at = 0, action = 0, param = 0, i;

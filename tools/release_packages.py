@@ -90,7 +90,10 @@ def node(dist, out, room):
     """The package for node: the module, its types, and WebAssembly."""
     folder = f"{room}/node/package"
     copy([f"web/{name}" for name in ("csicodec.mjs", "csicodec.d.ts", "package.json", "README.md")], folder)
-    copy([*(f"{dist}/web/{name}" for name in ("csicodec.wasm", "explain.wasm")), "LICENSE", f"{dist}/NOTICE"], folder)
+    copy(["LICENSE", f"{dist}/NOTICE"], folder)
+    for name in ("csicodec.wasm", "explain.wasm"):
+        with gzip.open(f"{dist}/web/{name}.gz") as packed, open(f"{folder}/{name}", "wb") as file:
+            file.write(packed.read())
     pack(folder, "package", f"{out}/csicodec-{version()}.tgz")
 
 

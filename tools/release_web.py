@@ -18,6 +18,7 @@ LAYOUT = 'target datalayout = "e-m:e-p:64:64-p10:8:8-p20:8:8-i64:64-i128:128-n32
 PARTS = ("web", "wide")
 # The page, with what stands in place of each line <!-- NAME -->.
 PAGE = {"csicodec.mjs": "module", "worker.mjs": "worker"}
+MODULES = {"csicodec": LIBRARY, "explain": EXPLAIN}
 
 
 def need():
@@ -125,17 +126,19 @@ def page(to):
             text = text.replace(f"<!-- {name} -->", f'<script type="text/plain" id="{word}">\n{file.read()}</script>')
     with open(f"{TOP}/web/page.mjs", encoding="utf-8") as file:
         text = text.replace("<!-- page.mjs -->", file.read()).replace('<span id="version"></span>', version())
-    for name in ("csicodec", "explain"):
-        with open(f"{to}/{name}.wasm", "rb") as file:
-            packed = base64.b64encode(gzip.compress(file.read(), 9, mtime=0)).decode()
+    for name in MODULES:
+        with open(f"{to}/{name}.wasm.gz", "rb") as file:
+            packed = base64.b64encode(file.read()).decode()
         text = text.replace(f"<!-- {name}.wasm -->", f'<script type="text/plain" id="{name}-wasm">{packed}</script>')
     with open(f"{to}/index.html", "w", encoding="utf-8") as file:
         file.write(text)
 
 
 def build(kit, made, to, room):
-    """The modules and the page, from what was built for ARM."""
+    """The modules, packed, and the page, from what was built for ARM."""
     os.makedirs(to, exist_ok=True)
-    module(kit, made, LIBRARY, f"{to}/csicodec.wasm", room)
-    module(kit, made, EXPLAIN, f"{to}/explain.wasm", room)
+    for name, crate in MODULES.items():
+        module(kit, made, crate, f"{room}/{name}.wasm", room)
+        with open(f"{room}/{name}.wasm", "rb") as file, open(f"{to}/{name}.wasm.gz", "wb") as packed:
+            packed.write(gzip.compress(file.read(), 9, mtime=0))
     page(to)

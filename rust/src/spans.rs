@@ -39,7 +39,7 @@ pub struct Spans<'a> {
 /// The spans of a whole stream. A control sequence of more than 65,536 bytes is `Other`.
 ///
 /// A C0 control within a control sequence (`ESC [ 1 BS A`) makes the sequence `Other` here, for a filter that passes it on.
-/// [`events`] gives the control and then the sequence, for an emulator that carries them out.
+/// [`events`](crate::events) gives the control and then the sequence, for an emulator that carries them out.
 pub fn spans(bytes: &[u8]) -> Spans<'_> {
     Spans {
         rest: bytes,

@@ -30,7 +30,7 @@ fn before_esc_32(lanes: u8x32) -> usize
         .trailing_zeros() as usize
 }
 
-/// How many bytes in front stand before the first ESC: of the first 48, where there are so many.
+/// How many bytes in front stand before the first ESC.
 #[inline(always)]
 fn text_len(bytes: &[u8]) -> usize
     ensures within { result ≤ length bytes.now }
@@ -44,7 +44,10 @@ fn text_len(bytes: &[u8]) -> usize
         return near;
     }
     let far = before_esc_32(u8x32::from_slice(bytes.split_at(16).1));
-    16 + far.min(32)
+    if far < 32 {
+        return 16 + far;
+    }
+    48 + staying(Mode::Text, bytes.split_at(48).1)
 }
 
 /// How many bytes are an escape sequence in front, or the first byte of text.
@@ -63,8 +66,6 @@ fn front_len(bytes: &[u8]) -> usize
 
 /// How many bytes in front are text, or one escape sequence, where nothing is open ([`Mode::Text`]); nothing is open behind them. It is 0 where
 /// neither stands there, or where that isn't sure.
-///
-/// It counts no more than 48 bytes of a text at once, unless fewer than 48 bytes are there.
 ///
 /// ```text
 /// plain_len(b"ab\x1b[1m")      // 2

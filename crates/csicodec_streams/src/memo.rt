@@ -1,10 +1,11 @@
 //! Short sequences that came before, and what was noted of them: one that comes again is looked up, and not read again.
 ghost use Rattle.std.specs.Prelude.{◌≡◌, ◌+◌, ◌<◌, ◌≤◌, ◌++◌, ℕ, List, [], length, take, true, IfSome};
-ghost use Rattle.csicodec_streams.specs.Known.{AreKnown, StandsAt};
+ghost use Rattle.csicodec_streams.specs.Known.{AreKnown, IsKnown, StandsAt};
 
 use csicodec_base::TextBuffer;
 use std::alloc::Global;
 use std::marker::{Model, PhantomData};
+use std::mem;
 use std::simd::prelude::*;
 
 /// How many bytes a slot has for a sequence, and how many for its note. In fewer bytes none is looked for.
@@ -310,11 +311,7 @@ impl<N: Note> Memo<N> {
             return false;
         }
         let slot = &self.slots[at];
-        let len = usize::from(slot.len);
-        if len == 0 || same_front(bytes, &slot.bytes, len) < len {
-            return false;
-        }
-        true
+        is_front(bytes, &slot.bytes, usize::from(slot.len))
     }
 
     /// Keeps the sequence in front, of so many bytes, and its note, unless one of them is long, or such are passed over.
@@ -337,16 +334,31 @@ impl<N: Note> Memo<N> {
             return self.grow();
         }
         self.miss();
-        let own = free(&mut self.worth, place.group);
-        if own < self.slots.len() && len <= WIDE && text.len() <= WIDE {
+        if len <= WIDE && text.len() <= WIDE {
             let mut wide = [0; WIDE];
             wide[..text.len()].copy_from_slice(text);
-            self.slots[own] = Slot {
+            let slot = Slot {
                 bytes: *front,
                 text: wide,
                 len: len as u8,
                 text_len: text.len() as u8,
             };
+            self.put(place, slot);
+        }
+    }
+
+    /// Puts a sequence into one of the slots in which it may stand.
+    fn put(&mut self, place: Place, slot: Slot)
+        requires known { AreKnown N.notes self.old.slots.items }
+        requires own { IsKnown N.notes slot }
+        ensures { AreKnown N.notes self.new.slots.items }
+    {
+        let Some(marks) = self.marks.get(place.group) else {
+            return;
+        };
+        let own = free(&mut self.worth, *marks, place.group);
+        if own < self.slots.len() {
+            self.slots[own] = slot;
             set_mark(&mut self.marks, own, place.marks);
         }
     }
@@ -364,7 +376,7 @@ impl<N: Note> Memo<N> {
         }
     }
 
-    /// Takes a larger table, which is empty. Without memory for it the table stays for good, as it does when it is large.
+    /// Takes a larger table, with what is in this one. Without memory for it the table stays for good, as it does when it is large.
     #[cold]
     #[inline(never)]
     fn grow(&mut self)
@@ -389,10 +401,26 @@ impl<N: Note> Memo<N> {
                 return;
             };
             if let Ok(slots) = vec![in alloc; empty; larger] {
-                self.slots = slots;
+                let small = mem::replace(&mut self.slots, slots);
                 self.marks = marks;
                 self.worth = worth;
                 self.spare = larger;
+                self.take_over(&small);
+            }
+        }
+    }
+
+    /// Puts what was known in these slots into the table.
+    fn take_over(&mut self, small: &[Slot])
+        requires known { AreKnown N.notes self.old.slots.items }
+        requires small { AreKnown N.notes small.now }
+        ensures { AreKnown N.notes self.new.slots.items }
+    {
+        for slot in small {
+            if slot.len > 0
+                && let Some(place) = self.place(&slot.bytes)
+            {
+                self.put(place, *slot);
             }
         }
     }
@@ -420,8 +448,17 @@ fn set_mark(marks: &mut Vec<u64>, at: usize, mark: u64) {
     }
 }
 
-/// The one of eight slots that another sequence has from now on. Beyond the table where all are worth more; each is worth less then.
-fn free(worth: &mut Vec<u8>, group: usize) -> usize {
+/// The one of eight slots that a new sequence has from now on: an empty one, or that of another. Beyond the table where all are worth
+/// more; each is worth less then.
+fn free(worth: &mut Vec<u8>, marks: u64, group: usize) -> usize {
+    let empty = same_marks(marks, 0);
+    if empty != 0 {
+        let at = first_of(group, empty);
+        if let Some(own) = worth.get_mut(at) {
+            *own = WORTH;
+        }
+        return at;
+    }
     for way in 0..WAYS {
         let at = group.wrapping_mul(WAYS).wrapping_add(way);
         let Some(own) = worth.get_mut(at) else {
@@ -469,26 +506,34 @@ fn word(bytes: &[u8], place: usize) -> u64
     word
 }
 
-/// So many of the first bytes are those that are known; behind the first 16 it looks only where `len` is more.
+/// Whether these are the first bytes: `len` of those that are known, and at least one. Behind the first 16 it looks only where `len` is more.
 #[inline(always)]
-fn same_front(bytes: &[u8], known: &[u8; 48], len: usize) -> usize
+fn is_front(bytes: &[u8], known: &[u8; 48], len: usize) -> bool
     requires { 48 ≤ length bytes.now }
-    ensures { take result bytes.now ≡ take result known.now }
+    ensures { result ≡ true → (0 < len) × (take len bytes.now ≡ take len known.now) }
 {
     let near = same_16(u8x16::from_slice(bytes), u8x16::from_slice(known));
-    if near < 16 {
-        return near;
+    if len == 0 || near.min(16) < len {
+        return len > 16 && near >= 16 && is_front_behind(bytes, known, len);
     }
-    if len <= 16 {
-        return 16;
-    }
+    true
+}
+
+/// The same where the first 16 bytes are the same, and `len` is more.
+#[inline(always)]
+fn is_front_behind(bytes: &[u8], known: &[u8; 48], len: usize) -> bool
+    requires long { 48 ≤ length bytes.now }
+    requires near { take 16 bytes.now ≡ take 16 known.now }
+    requires more { 16 < len }
+    ensures { result ≡ true → take len bytes.now ≡ take len known.now }
+{
     let (_, behind) = bytes.split_at(16);
     let (_, known_behind) = known.split_at(16);
     let far = same_32(u8x32::from_slice(behind), u8x32::from_slice(known_behind));
-    if far < 32 {
-        return 16 + far;
+    if len > 16 + far.min(32) {
+        return false;
     }
-    48
+    true
 }
 
 /// As many bytes are the same in front.

@@ -1,4 +1,4 @@
-use Rattle.std.proofs.Common.{◌<◌, ◌≤◌, length, refl, subst, sym, take, arith}
+use Rattle.std.proofs.Common.{◌≡◌, ◌<◌, length, refl, subst, sym, take, arith}
 use Rattle.std.proofs.lemmas.List.Elements.{All-get_or}
 use Rattle.std.proofs.lemmas.Option.{slice_get_read}
 use Rattle.csicodec_streams.specs.Known.{IsKnown}
@@ -11,12 +11,11 @@ returns g c = λ yes.
     let items = c.args.self.now.slots.items in
     let within : c.args.at < length items = omega (arith, c.if-at-len.false, c.len.ensures) in
     let known : IsKnown g.N.Note.notes slot = subst (IsKnown g.N.Note.notes) (sym c.index-slot.ensures) (All-get_or (IsKnown g.N.Note.notes) items c.args.at slot within c.requires) in
-    let some : 0 < slot.len = omega (arith, c.if-len-eq0.false, c.from-len.ensures) in
-    let same : slot.len ≤ c.same_front.result = omega (arith, c.if-same_front-len.false, c.from-len.ensures) in (
+    let same : (0 < slot.len) × (take slot.len c.args.bytes.now ≡ take slot.len slot.bytes) = rw c.from.ensures at (c.is_front.ensures yes) in (
       slot,
       slice_get_read items (length items) c.args.at slot refl within c.index-slot.ensures,
-      some,
+      same.0,
       omega (arith, known.0, c.if-bytes-lt-WIDE.false),
       known.1,
-      same_noted g.N.Note.notes c.args.bytes.now slot.bytes (take slot.text_len slot.text) slot.len c.same_front.result same c.same_front.ensures (known.2 some),
+      same_noted g.N.Note.notes c.args.bytes.now slot.bytes (take slot.text_len slot.text) slot.len slot.len (omega arith) same.1 (known.2 same.0),
     )

@@ -1,5 +1,5 @@
 -- Bytes before the first ESC, found many at once.
-use Rattle.std.proofs.Common.{◌≡◌, ◌<◌, ◌≤◌, ◌+◌, ◌-◌, ◌%◌, ◌^◌, ◌∙◌, ℕ, zero, suc, min, Bool, true, false, not, cond, eqb, w8, map, List, [], ◌∷◌, length, take, drop, get_or, replicate, inl, inr, ◌⊎◌, refl, sym, ap, subst, arith}
+use Rattle.std.proofs.Common.{◌≡◌, ◌<◌, ◌≤◌, ◌+◌, ◌-◌, ◌%◌, ◌^◌, ◌∙◌, ℕ, zero, suc, Bool, true, false, not, cond, eqb, w8, map, List, [], ◌∷◌, length, take, drop, get_or, replicate, inl, inr, ◌⊎◌, refl, sym, ap, subst, arith}
 use Rattle.std.specs.Prelude.{nat_lt}
 use Rattle.std.proofs.lemmas.Bool.Decides.{nat_tests}
 use Rattle.std.proofs.lemmas.List.{get_or-drop, get_or-take, length-replicate, map-id}
@@ -61,8 +61,8 @@ esc_mask xs w few long =
 
 -- of 48 bytes, where the first 16 stay, and so many behind them
 pub far_stays : (bytes : List ℕ) (near far : ℕ) → 16 ≤ near → ((k : ℕ) → k < near → k < 16 → stays mode.Text (get_or (take 16 bytes) k 0) ≡ true)
-    → ((k : ℕ) → k < far → k < 32 → stays mode.Text (get_or (take 32 (drop 16 bytes)) k 0) ≡ true) → (k : ℕ) → k < 16 + min far 32 → stays mode.Text (get_or bytes k 0) ≡ true
-far_stays bytes near far some front back k within = by (nat_lt k 16) refl
+    → ((k : ℕ) → k < far → k < 32 → stays mode.Text (get_or (take 32 (drop 16 bytes)) k 0) ≡ true) → (k : ℕ) → k < 16 + far → k < 48 → stays mode.Text (get_or bytes k 0) ≡ true
+far_stays bytes near far some front back k within few = by (nat_lt k 16) refl
   where
     by : (b : Bool) → nat_lt k 16 ≡ b → stays mode.Text (get_or bytes k 0) ≡ true
     by true is =
@@ -73,8 +73,24 @@ far_stays bytes near far some front back k within = by (nat_lt k 16) refl
         let i = k - 16 in
         let at : 16 + i ≡ k = omega (arith, high) in
         let same : get_or (take 32 (drop 16 bytes)) i 0 ≡ get_or bytes k 0 =
-        get_or-take 32 (drop 16 bytes) i 0 (omega (arith, within, high)) ∙ get_or-drop 16 bytes i 0 ∙ ap (λ (n : ℕ). get_or bytes n 0) at in
-        subst (λ (n : ℕ). stays mode.Text n ≡ true) same (back i (omega (arith, within, high)) (omega (arith, within, high)))
+        get_or-take 32 (drop 16 bytes) i 0 (omega (arith, few, high)) ∙ get_or-drop 16 bytes i 0 ∙ ap (λ (n : ℕ). get_or bytes n 0) at in
+        subst (λ (n : ℕ). stays mode.Text n ≡ true) same (back i (omega (arith, within, high)) (omega (arith, few, high)))
+
+-- of more than 48, where the first 48 stay, and so many behind them
+pub all_stay : (bytes : List ℕ) (near far more : ℕ) → 16 ≤ near → 32 ≤ far → ((k : ℕ) → k < near → k < 16 → stays mode.Text (get_or (take 16 bytes) k 0) ≡ true)
+    → ((k : ℕ) → k < far → k < 32 → stays mode.Text (get_or (take 32 (drop 16 bytes)) k 0) ≡ true) → ((k : ℕ) → k < more → stays mode.Text (get_or (drop 48 bytes) k 0) ≡ true)
+    → (k : ℕ) → k < 48 + more → stays mode.Text (get_or bytes k 0) ≡ true
+all_stay bytes near far more some many front back behind k within = by (nat_lt k 48) refl
+  where
+    by : (b : Bool) → nat_lt k 48 ≡ b → stays mode.Text (get_or bytes k 0) ≡ true
+    by true is =
+        let low : k < 48 = grind (arith, nat_tests, is) in
+        far_stays bytes near far some front back k (omega (arith, low, many)) low
+    by false is =
+        let high : 48 ≤ k = grind (arith, nat_tests, is) in
+        let i = k - 48 in
+        let at : 48 + i ≡ k = omega (arith, high) in
+        subst (λ (n : ℕ). stays mode.Text n ≡ true) (get_or-drop 48 bytes i 0 ∙ ap (λ (n : ℕ). get_or bytes n 0) at) (behind i (omega (arith, within, high)))
 
 pub near_stays : (bytes : List ℕ) (near : ℕ) → near < 16 → ((k : ℕ) → k < near → k < 16 → stays mode.Text (get_or (take 16 bytes) k 0) ≡ true) → (k : ℕ) → k < near → stays mode.Text (get_or bytes k 0) ≡ true
 near_stays bytes near few front k within =

@@ -1,3 +1,4 @@
 pub mod Compacts
 pub mod Runs
+pub mod Again
 pub mod Private

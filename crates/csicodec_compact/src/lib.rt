@@ -7,6 +7,7 @@ mod all;
 mod compact;
 mod encode;
 mod form;
+pub mod laws;
 mod lists;
 mod notes;
 mod runs;

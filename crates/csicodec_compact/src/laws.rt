@@ -2,7 +2,8 @@
 ghost use Rattle.std.specs.Prelude.{◌≡◌, ◌<◌, ◌≤◌, ℕ, List, length};
 ghost use Rattle.csicodec_spans.specs.declared.table.Mode.{Mode};
 ghost use Rattle.csicodec_spans.specs.Parts.{Part, IsWhole};
-ghost use Rattle.csicodec_compact.specs.Again.{AreRunsWithin, StandInPlace};
+ghost use Rattle.csicodec_filter.specs.Again.{StandInPlace};
+ghost use Rattle.csicodec_compact.specs.Again.{AreRunsWithin};
 
 /// What [`compact_bytes`](crate::compact_bytes) and [`compact_all`](crate::compact_all) write of a stream, cut as a stream once more, has
 /// the parts of the input again, in order: each that is no control sequence as it came, and for control sequences side by side others that

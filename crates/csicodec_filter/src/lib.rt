@@ -4,6 +4,7 @@
 mod faithful;
 mod filter;
 mod known;
+pub mod laws;
 mod rewrite;
 mod run;
 mod transform;

@@ -1,0 +1,421 @@
+-- What a filter writes, cut as a stream once more.
+use Rattle.std.proofs.Common.{◌≡◌, ◌≢◌, ℕ, ◌+◌, ◌<◌, ◌≤◌, ◌⊎◌, List, [], ◌∷◌, ◌++◌, false, length, take, refl, sym, ap, subst, ◌∙◌, inl, inr, append_assoc, append-nil, arith}
+use Rattle.std.proofs.Math.ListN.{get_or-append}
+use Rattle.std.proofs.lemmas.Grind.{flat_map-append}
+use Rattle.std.proofs.lemmas.List.{length-append, take-append-le}
+use Rattle.std.specs.List.{AllByRecursion, flat_map}
+use Rattle.csicodec_tokens.specs.declared.param.CsiParam.{CsiParam}
+use Rattle.csicodec_tokens.specs.declared.reader.ReadError.{ReadError}
+use Rattle.csicodec_tokens.specs.declared.reader.ReadError.TheVariants.{NotCsi, BadByte, NumberTooLarge, Truncated, Memory}
+use Rattle.csicodec_tokens.specs.Sequence.{Seq}
+use Rattle.csicodec_tokens.specs.Fault.{Begins, NoSeq, IsLeast, IsBad, FaultOf, IsMetAt}
+use Rattle.csicodec_actions.specs.Actions.{Action}
+use Rattle.csicodec_parser.proofs.Cuts.{actions_count}
+use Rattle.csicodec_streams.specs.Decoding.{Joins, AreActions, Decodes}
+use Rattle.csicodec_spans.specs.declared.table.Kind.{Kind}
+use Rattle.csicodec_spans.specs.declared.table.Kind.TheVariants as kind
+use Rattle.csicodec_spans.specs.declared.table.Mode.{Mode}
+use Rattle.csicodec_spans.specs.declared.table.Mode.TheVariants as mode
+use Rattle.csicodec_spans.specs.Table.{Answer, More, Anew, Sequence, Undecided, ahead}
+use Rattle.csicodec_spans.specs.Parts.{Part, part, bytes_of, left_over, IsSequence, IsMalformed, AllowsCsi, Allows, IsFirstPart, AreFirstParts, IsUnsure, IsWhole}
+use Rattle.csicodec_spans.proofs.Agrees.{only_row, opens, sound}
+use Rattle.csicodec_spans.proofs.Kept.{parts_more, parts_on}
+use Rattle.csicodec_spans.proofs.Missed.{allows_whole, part_some}
+use Rattle.csicodec_spans.proofs.Once.{whole_once}
+use Rattle.csicodec_spans.proofs.OneSpan.{none_unsure}
+use Rattle.csicodec_spans.proofs.Rows.{Sound, kept}
+use Rattle.csicodec_spans.proofs.Spanned.{whole_joined}
+use Rattle.csicodec_filter.specs.Filter.{AreWritten, IsWritten}
+use Rattle.csicodec_filter.specs.Again.{AreCsi, Means, MeanTheSame, StandInPlace, singles, KeepsMeaning, Within}
+
+-- ---- a part depends on what is behind it as far as two bytes
+
+least_less : (s x : List ℕ) (n : ℕ) → n < length s → IsLeast (s ++ x) n → IsLeast s n
+least_less s x n within least = record {
+  within = within;
+  before = λ k le. subst Begins (take-append-le k s x (omega (arith, le, within))) (least.before k le);
+  there = λ t. least.there (subst Begins (sym (take-append-le (n + 1) s x (omega (arith, within)))) t);
+}
+
+none_less : (s x : List ℕ) → NoSeq (s ++ x) → NoSeq s
+none_less s x none list final rest r =
+    none list final (rest ++ x) (r.0, r.1, ap (λ (t : List ℕ). t ++ x) r.2 ∙ append_assoc r.0 rest x)
+
+fault_less : (s x : List ℕ) (e : ReadError) (n : ℕ) → n < length s → IsMetAt e n → FaultOf (s ++ x) e → FaultOf s e
+fault_less s x (NotCsi place) n within at f = (none_less s x f.0, (least_less s x place (omega (arith, within, at)) f.1.0, f.1.1))
+fault_less s x (BadByte place) n within at f =
+    let here : place < length s = omega (arith, within, at) in
+    (none_less s x f.0, (least_less s x place here f.1.0, f.1.1, subst IsBad (get_or-append s x 0 place here) f.1.2))
+fault_less s x (NumberTooLarge place) n within at f =
+    let here : place < length s = omega (arith, within, at) in
+    (none_less s x f.0, (least_less s x place here f.1.0, f.1.1, λ bad. f.1.2 (subst IsBad (sym (get_or-append s x 0 place here)) bad)))
+fault_less s x (Truncated place) n within at f = absurd at
+fault_less s x Memory n within at f = absurd at
+
+malformed_less : (limit : ℕ) (s x : List ℕ) (n : ℕ) → n < length s → IsMalformed limit (s ++ x) n → IsMalformed limit s n
+malformed_less limit s x n within (inl h) = inl (h.0, fault_less s x h.0 n within h.2 h.1, h.2, h.3)
+malformed_less limit s x n within (inr h) =
+    let long : limit ≤ length s = omega (arith, within, h.2) in
+    inr (subst Begins (take-append-le limit s x long) h.0, long, h.2)
+
+csi_less : (limit : ℕ) (s x : List ℕ) (k : Kind) (text : List ℕ) (a : Mode) → length text < length s → AllowsCsi limit (s ++ x) k text a → AllowsCsi limit s k text a
+csi_less limit s x kind.Csi text a within h = h
+csi_less limit s x kind.Other text a within h = (malformed_less limit s x (length text) within h.0, h.1)
+csi_less limit s x kind.Text text a within h = absurd h
+csi_less limit s x _ text a within h = absurd h
+
+allows_less : (f : Answer) (limit : ℕ) (s x : List ℕ) (k : Kind) (text : List ℕ) (a : Mode) → length text < length s → Allows f limit (s ++ x) k text a → Allows f limit s k text a
+allows_less (More j n b) limit s x k text a within h = h
+allows_less (Anew j n b) limit s x k text a within h = h
+allows_less Sequence limit s x k text a within h = csi_less limit s x k text a within h
+allows_less Undecided limit s x k text a within h = h
+
+long_decided : (m : Mode) (bytes : List ℕ) → 3 ≤ length bytes → ahead m bytes ≢ Undecided
+long_decided m bytes long e = let few = (subst (λ (f : Answer). Sound m bytes f) e (sound m bytes)).0 in omega (arith, long, few)
+
+-- what stands in front of more bytes stands there already with the first two of them
+part_less : (limit : ℕ) (m : Mode) (p : Part) (s x : List ℕ) (a : Mode) → 0 < limit → 2 ≤ length s → IsFirstPart limit m (p.bytes ++ (s ++ x)) p (s ++ x) a → IsFirstPart limit m (p.bytes ++ s) p s a
+part_less limit m p s x a l two h =
+    let short : List ℕ = p.bytes ++ s in
+    let some : 0 < length p.bytes = part_some limit m (p.bytes ++ (s ++ x)) p (s ++ x) a l h in
+    let long : length short ≡ length p.bytes + length s = length-append p.bytes s in
+    let all : p.bytes ++ (s ++ x) ≡ short ++ x = sym (append_assoc p.bytes s x) in
+    let allows : Allows (ahead m (short ++ x)) limit (short ++ x) p.kind p.bytes a = subst (λ (t : List ℕ). Allows (ahead m t) limit t p.kind p.bytes a) all h.1 in
+    (refl, elim (kept m short x (only_row m short)) [
+      | inl e ↦ absurd (long_decided m short (omega (arith, some, two, long)) e)
+      | inr e ↦ allows_less (ahead m short) limit short x p.kind p.bytes a (omega (arith, some, two, long)) (subst (λ (f : Answer). Allows f limit (short ++ x) p.kind p.bytes a) e allows)
+    ])
+
+-- ---- bytes that are the same up to a control sequence
+
+abbrev pub OpensCsi : List ℕ → Type 0
+OpensCsi bytes = (more : List ℕ) × (bytes ≡ 27 ∷ 91 ∷ more)
+
+pub record Beside (bytes text : List ℕ) : Type 0 where
+  pub front : List ℕ
+  pub one : List ℕ
+  pub other : List ℕ
+  pub bytes_are : bytes ≡ front ++ one
+  pub text_is : text ≡ front ++ other
+  pub ends : (one ≡ other) ⊎ (OpensCsi one × OpensCsi other)
+
+part_behind : (limit : ℕ) (m : Mode) (p : Part) (s y : List ℕ) (a : Mode) → IsFirstPart limit m (p.bytes ++ s) p s a → IsFirstPart limit m (p.bytes ++ (s ++ y)) p (s ++ y) a
+part_behind limit m p s y a h =
+    let all : List ℕ = (p.bytes ++ s) ++ y in
+    let (rest, n, first, ends) = parts_more limit (p ∷ []) m (p.bytes ++ s) y s a (s, a, h, (refl, refl)) in
+    let here : IsFirstPart limit m all p rest a = subst (λ (b : Mode). IsFirstPart limit m all p rest b) (sym ends.1) first in
+    let one : IsFirstPart limit m all p (s ++ y) a = subst (λ (t : List ℕ). IsFirstPart limit m all p t a) (sym ends.0) here in
+    subst (λ (t : List ℕ). IsFirstPart limit m t p (s ++ y) a) (append_assoc p.bytes s y) one
+
+part_beside : (limit : ℕ) (m : Mode) (p : Part) (bytes text : List ℕ) (a : Mode) → 0 < limit → Beside bytes text → IsFirstPart limit m (p.bytes ++ bytes) p bytes a → IsFirstPart limit m (p.bytes ++ text) p text a
+part_beside limit m p bytes text a l b h = by b.ends
+  where
+    by : (b.one ≡ b.other) ⊎ (OpensCsi b.one × OpensCsi b.other) → IsFirstPart limit m (p.bytes ++ text) p text a
+    by (inl e) =
+        let same : bytes ≡ text = b.bytes_are ∙ ap (λ (t : List ℕ). b.front ++ t) e ∙ sym b.text_is in
+        subst (λ (t : List ℕ). IsFirstPart limit m (p.bytes ++ t) p t a) same h
+    by (inr o) =
+        let s : List ℕ = b.front ++ 27 ∷ 91 ∷ [] in
+        let two : 2 ≤ length s = omega (arith, length-append b.front (27 ∷ 91 ∷ [])) in
+        let is : bytes ≡ s ++ o.0.0 = b.bytes_are ∙ ap (λ (t : List ℕ). b.front ++ t) o.0.1 ∙ sym (append_assoc b.front (27 ∷ 91 ∷ []) o.0.0) in
+        let was : text ≡ s ++ o.1.0 = b.text_is ∙ ap (λ (t : List ℕ). b.front ++ t) o.1.1 ∙ sym (append_assoc b.front (27 ∷ 91 ∷ []) o.1.0) in
+        let short = part_less limit m p s o.0.0 a l two (subst (λ (t : List ℕ). IsFirstPart limit m (p.bytes ++ t) p t a) is h) in
+        subst (λ (t : List ℕ). IsFirstPart limit m (p.bytes ++ t) p t a) (sym was) (part_behind limit m p s o.1.0 a short)
+
+-- ---- the first part of a whole stream, and the others
+
+whole_on : (limit : ℕ) (first later : List Part) (m n : Mode) (bytes mid : List ℕ) → AreFirstParts limit m bytes first mid n → IsWhole limit n mid later → IsWhole limit m bytes (first ++ later)
+whole_on limit first later m n bytes mid f w = record {
+  sure = first ++ w.sure;
+  rest = w.rest;
+  after = w.after;
+  first = parts_on limit first w.sure m bytes mid w.rest n w.after f w.first;
+  unsure = w.unsure;
+  whole = ap (λ (t : List Part). first ++ t) w.whole ∙ sym (append_assoc first w.sure (left_over w.rest));
+}
+
+whole_none : (limit : ℕ) (m : Mode) → IsWhole limit m [] []
+whole_none limit m = record { sure = []; rest = []; after = m; first = (refl, refl); unsure = none_unsure limit m; whole = refl }
+
+-- it is sure, and the others follow it, or it is what is left at the end
+abbrev IsSureFirst : ℕ → Mode → List ℕ → Part → List Part → Type 0
+IsSureFirst limit m bytes p behind = (rest : List ℕ) × (n : Mode) × IsFirstPart limit m bytes p rest n × IsWhole limit n rest behind
+
+abbrev IsLeftOver : List ℕ → Part → List Part → Type 0
+IsLeftOver bytes p behind = (p.kind ≡ kind.Other) × (p.bytes ≡ bytes) × (behind ≡ [])
+
+whole_first : (limit : ℕ) (m : Mode) (bytes : List ℕ) (p : Part) (behind : List Part) → IsWhole limit m bytes (p ∷ behind) → IsSureFirst limit m bytes p behind ⊎ IsLeftOver bytes p behind
+whole_first limit m bytes p behind w = by w.sure w.rest w.first w.whole w.unsure
+  where
+    by : (sure : List Part) (rest : List ℕ) → AreFirstParts limit m bytes sure rest w.after → p ∷ behind ≡ sure ++ left_over rest → IsUnsure limit w.after rest → IsSureFirst limit m bytes p behind ⊎ IsLeftOver bytes p behind
+    by [] [] f e u = absurd cc
+    by [] (b ∷ rest) f e u =
+        let same : p ≡ part kind.Other (b ∷ rest) = cc in
+        let none : behind ≡ [] = cc in
+        inr (ap (λ (q : Part). q.kind) same, ap (λ (q : Part). q.bytes) same ∙ f.0, none)
+    by (q ∷ sure) rest f e u =
+        let same : q ≡ p = cc in
+        let others : behind ≡ sure ++ left_over rest = cc in
+        inl (f.0, f.1, subst (λ (r : Part). IsFirstPart limit m bytes r f.0 f.1) same f.2, record { sure = sure; rest = rest; after = w.after; first = f.3; unsure = u; whole = others })
+
+-- ---- control sequences side by side, in front
+
+abbrev behind_csi : {A : Type 0} → Mode → List A → Mode
+behind_csi m [] = m
+behind_csi m (x ∷ xs) = mode.Text
+
+behind_text : {A : Type 0} → (xs : List A) → behind_csi mode.Text xs ≡ mode.Text
+behind_text [] = refl
+behind_text (x ∷ xs) = refl
+
+abbrev Sequences : Type 0
+Sequences = List (List CsiParam × ℕ)
+
+abbrev csi_parts : (ss : Sequences) (bytes : List ℕ) → Joins bytes ss → List Part
+csi_parts [] bytes j = []
+csi_parts (s ∷ ss) bytes j = part kind.Csi j.0 ∷ csi_parts ss j.1 j.4
+
+are_csi : (ss : Sequences) (bytes : List ℕ) (j : Joins bytes ss) → AreCsi (csi_parts ss bytes j)
+are_csi [] bytes j = tt
+are_csi (s ∷ ss) bytes j = (refl, are_csi ss j.1 j.4)
+
+csi_joined : (ss : Sequences) (bytes : List ℕ) (j : Joins bytes ss) → flat_map bytes_of (csi_parts ss bytes j) ≡ bytes
+csi_joined [] bytes j = sym j
+csi_joined (s ∷ ss) bytes j = ap (λ (t : List ℕ). j.0 ++ t) (csi_joined ss j.1 j.4) ∙ sym j.2
+
+first_csi : (limit : ℕ) (m : Mode) (text rest : List ℕ) (s : IsSequence text) → length text ≤ limit → IsFirstPart limit m (text ++ rest) (part kind.Csi text) rest mode.Text
+first_csi limit m text rest s short =
+    let is : ahead m (text ++ rest) ≡ Sequence = ap (λ (t : List ℕ). ahead m (t ++ rest)) s.2.whole ∙ opens m ((s.2.body ++ s.1 ∷ []) ++ rest) in
+    (refl, subst (λ (f : Answer). Allows f limit (text ++ rest) kind.Csi text mode.Text) (sym is) (s, short, refl))
+
+first_csis : (limit : ℕ) (ss : Sequences) (m : Mode) (bytes more : List ℕ) (j : Joins bytes ss) → length bytes ≤ limit → AreFirstParts limit m (bytes ++ more) (csi_parts ss bytes j) more (behind_csi m ss)
+first_csis limit [] m bytes more j within = (sym (ap (λ (t : List ℕ). t ++ more) j), refl)
+first_csis limit (s ∷ ss) m bytes more j within =
+    let long : length bytes ≡ length j.0 + length j.1 = ap length j.2 ∙ length-append j.0 j.1 in
+    let all : j.0 ++ (j.1 ++ more) ≡ bytes ++ more = sym (append_assoc j.0 j.1 more) ∙ ap (λ (t : List ℕ). t ++ more) (sym j.2) in
+    let first = first_csi limit m j.0 (j.1 ++ more) (s.0, s.1, j.3) (omega (arith, long, within)) in
+    let others = first_csis limit ss mode.Text j.1 more j.4 (omega (arith, long, within)) in
+    (
+      j.1 ++ more,
+      mode.Text,
+      subst (λ (t : List ℕ). IsFirstPart limit m t (part kind.Csi j.0) (j.1 ++ more) mode.Text) all first,
+      subst (λ (n : Mode). AreFirstParts limit mode.Text (j.1 ++ more) (csi_parts ss j.1 j.4) more n) (behind_text ss) others,
+    )
+
+abbrev IsOpen : List Part → Type 0
+IsOpen run = (run ≡ []) ⊎ OpensCsi (flat_map bytes_of run)
+
+-- a run in front of a whole stream
+abbrev IsRunFirst : ℕ → Mode → List ℕ → List Part → List Part → Type 0
+IsRunFirst limit m bytes run behind = (rest : List ℕ) × (bytes ≡ flat_map bytes_of run ++ rest) × IsWhole limit (behind_csi m run) rest behind × IsOpen run
+
+opens_on : (a b : List ℕ) → OpensCsi a → OpensCsi (a ++ b)
+opens_on a b o = (o.0 ++ b, ap (λ (t : List ℕ). t ++ b) o.1)
+
+no_other : kind.Other ≢ kind.Csi
+no_other e = absurd cc
+
+run_first : (limit : ℕ) (m : Mode) (bytes : List ℕ) (run behind : List Part) → AreCsi run → IsWhole limit m bytes (run ++ behind) → IsRunFirst limit m bytes run behind
+run_first limit m bytes [] behind all w = (bytes, refl, w, inl refl)
+run_first limit m bytes (p ∷ run) behind all w =
+    elim (whole_first limit m bytes p (run ++ behind) w) [
+      | inl h ↦
+          let (rest, n, first, others) = h in
+          let own : Allows (ahead m bytes) limit bytes kind.Csi p.bytes n = subst (λ (k : Kind). Allows (ahead m bytes) limit bytes k p.bytes n) all.0 first.1 in
+          let is = allows_whole (ahead m bytes) limit m bytes p.bytes n (sound m bytes) own in
+          let plain : n ≡ mode.Text = is.2 in
+          let r = run_first limit mode.Text rest run behind all.1 (subst (λ (a : Mode). IsWhole limit a rest (run ++ behind)) plain others) in
+          (
+            r.0,
+            first.0 ∙ ap (λ (t : List ℕ). p.bytes ++ t) r.1 ∙ sym (append_assoc p.bytes (flat_map bytes_of run) r.0),
+            subst (λ (a : Mode). IsWhole limit a r.0 behind) (behind_text run) r.2,
+            inr (opens_on p.bytes (flat_map bytes_of run) (is.0.2.body ++ is.0.1 ∷ [], is.0.2.whole)),
+          )
+      | inr h ↦ absurd (no_other (sym h.0 ∙ all.0))
+    ]
+
+-- ---- bytes have actions, and no bytes none
+
+join_none : (ss : Sequences) → Joins [] ss → ss ≡ []
+join_none [] j = refl
+join_none (s ∷ ss) j = absurd (omega (arith, ap length j.2, length-append j.0 j.1, ap length j.3.whole))
+
+means_none : (actions : List Action) → Decodes [] false actions → actions ≡ []
+means_none actions d = by d.sequences (join_none d.sequences d.join) d.each
+  where
+    by : (ss : Sequences) → ss ≡ [] → AreActions ss false actions → actions ≡ []
+    by [] e each = each
+    by (s ∷ ss) e each = absurd cc
+
+sequences_some : (ss : Sequences) (actions : List Action) → AreActions ss false actions → actions ≡ [] → ss ≡ []
+sequences_some [] actions each e = refl
+sequences_some (s ∷ ss) actions each e =
+    absurd (omega (arith, (actions_count s.0 false s.1 each.0 each.3).0, ap length e, ap length each.2, length-append each.0 each.1))
+
+join_opens : (s : List CsiParam × ℕ) (ss : Sequences) (bytes : List ℕ) → Joins bytes (s ∷ ss) → OpensCsi bytes
+join_opens s ss bytes j = ((j.3.body ++ s.1 ∷ []) ++ j.1, j.2 ∙ ap (λ (t : List ℕ). t ++ j.1) j.3.whole)
+
+-- neither has bytes, or both begin with a control sequence
+abbrev IsSame : List ℕ → Sequences → Type 0
+IsSame bytes ss = ((bytes ≡ []) × (ss ≡ [])) ⊎ (OpensCsi bytes × ((t : List CsiParam × ℕ) × (ts : Sequences) × (ss ≡ t ∷ ts)))
+
+same_opening : (bytes : List ℕ) (ts ss : Sequences) (actions : List Action) → Joins bytes ts → AreActions ts false actions → AreActions ss false actions → IsSame bytes ss
+same_opening bytes [] ss actions j each other = inl (j, sequences_some ss actions other each)
+same_opening bytes (t ∷ ts) [] actions j each other = let none = sequences_some (t ∷ ts) actions each other in absurd cc
+same_opening bytes (t ∷ ts) (s ∷ ss) actions j each other = inr (join_opens t ts bytes j, (s, ss, refl))
+
+never_opens : (bytes : List ℕ) → bytes ≡ [] → OpensCsi bytes → ⊥
+never_opens bytes e o = omega (arith, ap length e, ap length o.1)
+
+same_modes : (m : Mode) (run : List Part) (ss : Sequences) → IsOpen run → IsSame (flat_map bytes_of run) ss → behind_csi m ss ≡ behind_csi m run
+same_modes m [] ss o (inl h) = ap (λ (l : Sequences). behind_csi m l) h.1
+same_modes m [] ss o (inr h) = absurd (never_opens [] refl h.0)
+same_modes m (p ∷ run) ss (inl e) h = absurd cc
+same_modes m (p ∷ run) ss (inr o) (inl h) = absurd (never_opens (flat_map bytes_of (p ∷ run)) h.0 o)
+same_modes m (p ∷ run) ss (inr o) (inr h) = ap (λ (l : Sequences). behind_csi m l) h.1.2
+
+-- ---- the whole
+
+pub record Again (limit : ℕ) (runs : List (List Part)) (m : Mode) (parts : List Part) (bytes text : List ℕ) : Type 0 where
+  pub others : List Part
+  pub whole : IsWhole limit m text others
+  pub placed : StandInPlace runs parts others
+  pub beside : Beside bytes text
+
+beside_nothing : Beside [] []
+beside_nothing = record { front = []; one = []; other = []; bytes_are = refl; text_is = refl; ends = inl refl }
+
+beside_none : (text : List ℕ) → Beside [] text → text ≡ []
+beside_none text b = by b.front b.one b.bytes_are b.ends b.text_is
+  where
+    by : (front one : List ℕ) → [] ≡ front ++ one → (one ≡ b.other) ⊎ (OpensCsi one × OpensCsi b.other) → text ≡ front ++ b.other → text ≡ []
+    by [] one e (inl same) is = is ∙ sym same ∙ sym e
+    by [] one e (inr o) is = absurd (omega (arith, ap length e, ap length o.0.1))
+    by (c ∷ front) one e ends is = absurd cc
+
+beside_on : (s bytes text : List ℕ) → Beside bytes text → Beside (s ++ bytes) (s ++ text)
+beside_on s bytes text b = record {
+  front = s ++ b.front;
+  one = b.one;
+  other = b.other;
+  bytes_are = ap (λ (t : List ℕ). s ++ t) b.bytes_are ∙ sym (append_assoc s b.front b.one);
+  text_is = ap (λ (t : List ℕ). s ++ t) b.text_is ∙ sym (append_assoc s b.front b.other);
+  ends = b.ends;
+}
+
+beside_csi : (bytes text : List ℕ) → OpensCsi bytes → OpensCsi text → Beside bytes text
+beside_csi bytes text o t = record { front = []; one = bytes; other = text; bytes_are = refl; text_is = refl; ends = inr (o, t) }
+
+-- nothing behind the last part
+nothing_left : (limit : ℕ) (runs : List (List Part)) (m : Mode) (parts : List Part) (text : List ℕ) → Again limit runs m parts [] text → (text ≡ []) × StandInPlace runs parts []
+nothing_left limit runs m parts text a =
+    let none : text ≡ [] = beside_none text a.beside in
+    let no_parts : a.others ≡ [] = whole_once limit m [] a.others [] (subst (λ (t : List ℕ). IsWhole limit m t a.others) none a.whole) (whole_none limit m) in
+    (none, subst (λ (o : List Part). StandInPlace runs parts o) no_parts a.placed)
+
+-- a part that is no control sequence, and what follows
+plain_again : (limit : ℕ) (runs : List (List Part)) (m : Mode) (p : Part) (behind : List Part) (bytes later : List ℕ) → 0 < limit → p.kind ≢ kind.Csi → IsWhole limit m bytes (p ∷ behind)
+    → ((n : Mode) (rest : List ℕ) → IsWhole limit n rest behind → Again limit runs n behind rest later)
+    → Again limit ((p ∷ []) ∷ runs) m (p ∷ behind) bytes (p.bytes ++ later)
+plain_again limit runs m p behind bytes later l ne w next = by (whole_first limit m bytes p behind w)
+  where
+    by : IsSureFirst limit m bytes p behind ⊎ IsLeftOver bytes p behind → Again limit ((p ∷ []) ∷ runs) m (p ∷ behind) bytes (p.bytes ++ later)
+    by (inl h) =
+        let (rest, n, first, others) = h in
+        let a = next n rest others in
+        let own : IsFirstPart limit m (p.bytes ++ rest) p rest n = subst (λ (t : List ℕ). IsFirstPart limit m t p rest n) first.0 first in
+        let same : IsFirstPart limit m (p.bytes ++ later) p later n = part_beside limit m p rest later n l a.beside own in
+        let sure : AreFirstParts limit m (p.bytes ++ later) (p ∷ []) later n = (later, n, same, (refl, refl)) in
+        record {
+          others = p ∷ a.others;
+          whole = whole_on limit (p ∷ []) a.others m n (p.bytes ++ later) later sure a.whole;
+          placed = (behind, p ∷ [], a.others, refl, refl, inr (p, refl, ne, refl), a.placed);
+          beside = subst (λ (t : List ℕ). Beside t (p.bytes ++ later)) (sym first.0) (beside_on p.bytes rest later a.beside);
+        }
+    by (inr h) =
+        let a = next m [] (subst (λ (o : List Part). IsWhole limit m [] o) (sym h.2) (whole_none limit m)) in
+        let none = nothing_left limit runs m behind later a in
+        let all : bytes ≡ p.bytes ++ later = sym h.1 ∙ sym (append-nil p.bytes) ∙ ap (λ (t : List ℕ). p.bytes ++ t) (sym none.0) in
+        let alone : IsWhole limit m bytes (p ∷ []) = subst (λ (o : List Part). IsWhole limit m bytes (p ∷ o)) h.2 w in
+        record {
+          others = p ∷ [];
+          whole = subst (λ (t : List ℕ). IsWhole limit m t (p ∷ [])) all alone;
+          placed = (behind, p ∷ [], [], refl, refl, inr (p, refl, ne, refl), none.1);
+          beside = record { front = bytes; one = []; other = []; bytes_are = sym (append-nil bytes); text_is = sym all ∙ sym (append-nil bytes); ends = inl refl };
+        }
+
+run_beside : (flat : List ℕ) (ss : Sequences) (first bytes rest later : List ℕ) → Joins first ss → bytes ≡ flat ++ rest → IsSame flat ss → Beside rest later → Beside bytes (first ++ later)
+run_beside flat [] first bytes rest later j joined (inl h) b = rw (j, joined, h.0) b
+run_beside flat [] first bytes rest later j joined (inr h) b = let some = h.1.2 in absurd cc
+run_beside flat (s ∷ ss) first bytes rest later j joined (inl h) b = let none = h.1 in absurd cc
+run_beside flat (s ∷ ss) first bytes rest later j joined (inr h) b =
+    beside_csi bytes (first ++ later) (subst OpensCsi (sym joined) (opens_on flat rest h.0)) (opens_on first later (join_opens s ss first j))
+
+-- control sequences side by side, and what follows
+run_again : (limit : ℕ) (runs : List (List Part)) (m : Mode) (run behind : List Part) (bytes first later : List ℕ) → Means run first → length first ≤ limit
+    → IsWhole limit m bytes (run ++ behind)
+    → ((n : Mode) (rest : List ℕ) → IsWhole limit n rest behind → Again limit runs n behind rest later)
+    → Again limit (run ∷ runs) m (run ++ behind) bytes (first ++ later)
+run_again limit runs m run behind bytes first later s within w next =
+    let (rest, joined, left, opening) = run_first limit m bytes run behind s.all w in
+    let ss = s.written.sequences in
+    let j = s.written.join in
+    let parts = csi_parts ss first j in
+    let a = next (behind_csi m run) rest left in
+    let same = same_opening (flat_map bytes_of run) s.came.sequences ss s.actions s.came.join s.came.each s.written.each in
+    let csis = subst (λ (n : Mode). AreFirstParts limit m (first ++ later) parts later n) (same_modes m run ss opening same) (first_csis limit ss m first later j within) in
+    let mean : MeanTheSame run parts = record {
+      means = subst (λ (t : List ℕ). Means run t) (sym (csi_joined ss first j)) s;
+      all = are_csi ss first j;
+    } in
+    record {
+      others = parts ++ a.others;
+      whole = whole_on limit parts a.others m (behind_csi m run) (first ++ later) later csis a.whole;
+      placed = (behind, parts, a.others, refl, refl, inl mean, a.placed);
+      beside = run_beside (flat_map bytes_of run) ss first bytes rest later j joined same a.beside;
+    }
+
+-- what is written for a run, no more than `limit` bytes for control sequences
+abbrev pub IsMeant : ℕ → List Part → List ℕ → Type 0
+IsMeant limit run text = (Means run text × (length text ≤ limit)) ⊎ ((p : Part) × (run ≡ p ∷ []) × (p.kind ≢ kind.Csi) × (text ≡ p.bytes))
+
+abbrev pub AreMeant : ℕ → List (List Part) → List Part → List ℕ → Type 0
+AreMeant limit [] parts text = (parts ≡ []) × (text ≡ [])
+AreMeant limit (run ∷ runs) parts text =
+    (behind : List Part) × (first : List ℕ) × (others : List ℕ) × (parts ≡ run ++ behind) × (text ≡ first ++ others) × IsMeant limit run first × AreMeant limit runs behind others
+
+pub again : (limit : ℕ) (runs : List (List Part)) (m : Mode) (bytes text : List ℕ) (parts : List Part) → 0 < limit → IsWhole limit m bytes parts → AreMeant limit runs parts text
+    → Again limit runs m parts bytes text
+again limit [] m bytes text parts l w r =
+    let none : bytes ≡ [] = sym (whole_joined limit m bytes parts w) ∙ ap (flat_map bytes_of) r.0 in
+    rw (r.0, r.1, none) (record { others = []; whole = whole_none limit m; placed = (refl, refl); beside = beside_nothing })
+again limit (run ∷ runs) m bytes text parts l w r =
+    let (behind, first, later, parts_are, text_is, own, others) = r in
+    let next = λ (n : Mode) (rest : List ℕ) (v : IsWhole limit n rest behind). again limit runs n rest later behind l v others in
+    let here : IsWhole limit m bytes (run ++ behind) = subst (λ (ps : List Part). IsWhole limit m bytes ps) parts_are w in
+    rw (parts_are, text_is) (elim own [
+      | inl h ↦ run_again limit runs m run behind bytes first later h.0 h.1 here next
+      | inr h ↦ rw (h.1, h.3) (plain_again limit runs m h.0 behind bytes later l h.2 (subst (λ (q : List Part). IsWhole limit m bytes (q ++ behind)) h.1 here) next)
+    ])
+
+-- ---- by a rule that keeps the meaning
+
+written_meant : (limit : ℕ) (Writes : List ℕ → List ℕ → Type 0) (k : Kind) (bytes text : List ℕ) → KeepsMeaning Writes → IsWritten (Within limit Writes) k bytes text → IsMeant limit (part k bytes ∷ []) text
+written_meant limit Writes kind.Csi bytes text keeps w =
+    let h = keeps bytes text w.0 in
+    inl (record { all = (refl, tt); actions = h.0; came = rw (append-nil bytes) h.1; written = h.2 }, w.1)
+written_meant limit Writes kind.Text bytes text keeps w = inr (part kind.Text bytes, refl, (λ e. absurd cc), w)
+written_meant limit Writes kind.Esc bytes text keeps w = inr (part kind.Esc bytes, refl, (λ e. absurd cc), w)
+written_meant limit Writes kind.Str bytes text keeps w = inr (part kind.Str bytes, refl, (λ e. absurd cc), w)
+written_meant limit Writes kind.Other bytes text keeps w = inr (part kind.Other bytes, refl, (λ e. absurd cc), w)
+
+are_meant : (limit : ℕ) (Writes : List ℕ → List ℕ → Type 0) (parts : List Part) (text : List ℕ) → KeepsMeaning Writes → AreWritten (Within limit Writes) parts text → AreMeant limit (singles parts) parts text
+are_meant limit Writes [] text keeps w = (refl, w)
+are_meant limit Writes (p ∷ parts) text keeps w =
+    (parts, w.0, w.1, refl, w.2, written_meant limit Writes p.kind p.bytes w.0 keeps w.3, are_meant limit Writes parts w.1 keeps w.4)
+
+pub filter_stream_lem : (limit : ℕ) (m : Mode) (bytes text : List ℕ) (parts : List Part) (Writes : List ℕ → List ℕ → Type 0) → 0 < limit → KeepsMeaning Writes → IsWhole limit m bytes parts
+    → AreWritten (Within limit Writes) parts text → (others : List Part) × IsWhole limit m text others × StandInPlace (singles parts) parts others
+filter_stream_lem limit m bytes text parts Writes l keeps w r =
+    let a = again limit (singles parts) m bytes text parts l w (are_meant limit Writes parts text keeps r) in
+    (a.others, a.whole, a.placed)

@@ -43,7 +43,8 @@ style_group first = if is_byte 62 first || is_byte 60 first then Whole else Styl
 
 -- the group by the first token, if there is one, and the final
 abbrev pub group_by : Option CsiParam → ℕ → Group
-group_by first final = if final == 109 then style_group first else if is_byte 63 first then dec_group final else plain_group final
+group_by first final = if final == 109 then style_group first
+    else if is_byte 63 first then dec_group final else plain_group final
 
 -- Styles and modes are cut into pieces, and every other list is read whole. A table of rules by the final, the first and the last token chooses
 -- the same (law `which_rules` of csicodec).

@@ -61,7 +61,8 @@ pub fn list_into<L: Look, S: Sink>(
 fn rest_into<L: Look, S: Sink>(look: &mut L, end: End, sink: &mut S) -> Result<(), AllocError>
     requires { L.passed look.old ≡ 0 }
     ensures taken { OnOk result ((before : List Action) → S.holds sink.old before
-        → S.holds sink.new (before ++ rest_action Whole (L.tokens look.old) end.truncated end.control ∷ [])) }
+        → S.holds sink.new
+        (before ++ rest_action Whole (L.tokens look.old) end.truncated end.control ∷ [])) }
     ensures list { L.tokens look.new ≡ L.tokens look.old }
     ensures counted { L.looks look.old ≤ L.looks look.new }
     ensures costs { L.looks look.new ≤ L.looks look.old + 8 * length (L.tokens look.old) }
@@ -85,7 +86,8 @@ fn unread_into<L: Look, S: Sink>(
         S.holds sink.new (before ++ Unknown (marked group (drop (L.passed look.old) (L.tokens look.old))) end.truncated end.control ∷ [])) }
     ensures list { L.tokens look.new ≡ L.tokens look.old }
     ensures counted { L.looks look.old ≤ L.looks look.new }
-    ensures costs { L.looks look.new + 8 * L.passed look.old ≤ L.looks look.old + 8 * length (L.tokens look.old) }
+    ensures costs { L.looks look.new + 8 * L.passed look.old
+        ≤ L.looks look.old + 8 * length (L.tokens look.old) }
 {
     let len = look.len();
     let rest = look.lend(0, len);
@@ -138,7 +140,9 @@ fn block_into<L: Look, S: Sink>(
     ensures some { IfOk result (λ known. known ≡ true → (action : Action) × (len : ℕ)
         × (front group (drop (L.passed look.old) (L.tokens look.old)) ≡ Some (action, len))
         × (0 < len)
-        × (drop (L.passed look.new) (L.tokens look.old) ≡ drop (with_semicolon len (slice_get (drop (L.passed look.old) (L.tokens look.old)) len)) (drop (L.passed look.old) (L.tokens look.old)))
+        × (drop (L.passed look.new) (L.tokens look.old)
+        ≡ drop (with_semicolon len (slice_get (drop (L.passed look.old) (L.tokens look.old)) len))
+        (drop (L.passed look.old) (L.tokens look.old)))
         × ((before : List Action) → S.holds sink.old before
         → S.holds sink.new (before ++ action ∷ []))) }
     ensures forward { IfOk result (λ known. known ≡ true → L.passed look.old < L.passed look.new) }
@@ -148,7 +152,8 @@ fn block_into<L: Look, S: Sink>(
     ensures list { L.tokens look.new ≡ L.tokens look.old }
     ensures within { L.passed look.new ≤ length (L.tokens look.new) }
     ensures counted { L.looks look.old ≤ L.looks look.new }
-    ensures costs { L.looks look.new + L.passed look.old ≤ L.looks look.old + 106 + L.passed look.new }
+    ensures costs { L.looks look.new + L.passed look.old
+        ≤ L.looks look.old + 106 + L.passed look.new }
 {
     let Some(len) = piece_into(group, look, sink)? else {
         return Ok(false);

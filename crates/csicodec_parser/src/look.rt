@@ -45,14 +45,17 @@ pub trait Look: Drop {
     fn lend(&mut self, from: usize, k: usize) -> &[CsiParam]
         requires { passed self.old + from + k ≤ length (tokens self.old) }
         ensures lent { result.now ≡ take k (drop (passed self.old + from) (tokens self.old)) }
-        ensures* after { sem 𝓛 (Rests Self.row self.entry (Lent tokens passed looks self.entry.now k)) };
+        ensures* after { sem 𝓛
+            (Rests Self.row self.entry (Lent tokens passed looks self.entry.now k)) };
 
     /// Appends all unread tokens. It costs as many looks as there are, also where memory is refused; then `out` stays as it
     /// was.
     fn copy_to(&mut self, out: &mut Vec<CsiParam>) -> Result<(), AllocError>
-        ensures ok { OnOk result (out.new.items ≡ out.old.items ++ drop (passed self.old) (tokens self.old)) }
+        ensures ok { OnOk result
+            (out.new.items ≡ out.old.items ++ drop (passed self.old) (tokens self.old)) }
         ensures err { OnErr result (out.new.items ≡ out.old.items) }
         ensures list { tokens self.new ≡ tokens self.old }
         ensures passes { passed self.new ≡ passed self.old }
-        ensures costs { looks self.new + passed self.old ≡ looks self.old + length (tokens self.old) };
+        ensures costs { looks self.new + passed self.old
+            ≡ looks self.old + length (tokens self.old) };
 }

@@ -129,14 +129,17 @@ pub(crate) fn with_semicolon(len: usize, next: Option<CsiParam>) -> usize
 #[inline(always)]
 fn cut_block<L: Look>(group: Group, look: &mut L) -> Option<CSI>
     ensures some { IfSome result (λ action.
-        block group (drop (L.passed look.old) (L.tokens look.old)) ≡ Some (action_of action, L.passed look.new - L.passed look.old)) }
+        block group (drop (L.passed look.old) (L.tokens look.old))
+        ≡ Some (action_of action, L.passed look.new - L.passed look.old)) }
     ensures forward { IfSome result (λ _. L.passed look.old < L.passed look.new) }
-    ensures none { IfNone result (block group (drop (L.passed look.old) (L.tokens look.old)) ≡ None) }
+    ensures none { IfNone result
+        (block group (drop (L.passed look.old) (L.tokens look.old)) ≡ None) }
     ensures stays { IfNone result (L.passed look.new ≡ L.passed look.old) }
     ensures list { L.tokens look.new ≡ L.tokens look.old }
     ensures within { L.passed look.new ≤ length (L.tokens look.new) }
     ensures counted { L.looks look.old ≤ L.looks look.new }
-    ensures costs { L.looks look.new + L.passed look.old ≤ L.looks look.old + 105 + L.passed look.new }
+    ensures costs { L.looks look.new + L.passed look.old
+        ≤ L.looks look.old + 105 + L.passed look.new }
 {
     let width = look.len().min(LONGEST);
     let Some((action, len)) = front(group, look.lend(0, width)) else {
@@ -158,12 +161,14 @@ fn unspecified<L: Look>(
 ) -> Result<CSI, AllocError>
     requires { L.passed look.old ≤ length (L.tokens look.old) }
     ensures ok { IfOk result (λ action.
-        action_of action ≡ Unknown (marked group (drop (L.passed look.old) (L.tokens look.old))) truncated control) }
+        action_of action
+        ≡ Unknown (marked group (drop (L.passed look.old) (L.tokens look.old))) truncated control) }
     ensures all { OnOk result (L.passed look.new ≡ length (L.tokens look.new)) }
     ensures list { L.tokens look.new ≡ L.tokens look.old }
     ensures within { L.passed look.new ≤ length (L.tokens look.new) }
     ensures counted { L.looks look.old ≤ L.looks look.new }
-    ensures costs { L.looks look.new + 2 * L.passed look.old ≤ L.looks look.old + 2 * length (L.tokens look.old) }
+    ensures costs { L.looks look.new + 2 * L.passed look.old
+        ≤ L.looks look.old + 2 * length (L.tokens look.old) }
 {
     let mut params = Vec::new(alloc);
     if let Group::DecModes(_) = group {
@@ -193,12 +198,14 @@ fn rest_action<L: Look>(
 ) -> Result<CSI, AllocError>
     requires { L.passed look.old ≤ length (L.tokens look.old) }
     ensures ok { IfOk result (λ action.
-        action_of action ≡ rest_action group (drop (L.passed look.old) (L.tokens look.old)) truncated control) }
+        action_of action
+        ≡ rest_action group (drop (L.passed look.old) (L.tokens look.old)) truncated control) }
     ensures all { OnOk result (L.passed look.new ≡ length (L.tokens look.new)) }
     ensures list { L.tokens look.new ≡ L.tokens look.old }
     ensures within { L.passed look.new ≤ length (L.tokens look.new) }
     ensures counted { L.looks look.old ≤ L.looks look.new }
-    ensures costs { L.looks look.new + 10 * L.passed look.old ≤ L.looks look.old + 10 * length (L.tokens look.old) }
+    ensures costs { L.looks look.new + 10 * L.passed look.old
+        ≤ L.looks look.old + 10 * length (L.tokens look.old) }
 {
     if let Group::Whole = group {
         let len = look.len();
@@ -217,7 +224,8 @@ fn rest_action<L: Look>(
 fn rest_ref<'a>(group: Group, look: &mut Tokens<'a>) -> ActionRef<'a>
     requires { look.old.passed ≤ length look.old.list }
     ensures is { (flag : Bool) (final : ℕ)
-        → IsRef result flag final (rest_action group (drop look.old.passed look.old.list) flag final) }
+        → IsRef result flag final
+        (rest_action group (drop look.old.passed look.old.list) flag final) }
     ensures all { look.new.passed ≡ length look.new.list }
     ensures list { look.new.list ≡ look.old.list }
     ensures costs { look.new.looks + look.old.passed ≡ look.old.looks + length look.old.list }
@@ -243,7 +251,8 @@ pub(crate) fn whole_list<L: Look>(look: &mut L, control: char) -> Option<CSI>
     ensures stays { IfNone result (L.passed look.new ≡ 0) }
     ensures list { L.tokens look.new ≡ L.tokens look.old }
     ensures counted { L.looks look.old ≤ L.looks look.new }
-    ensures costs { L.looks look.new ≤ L.looks look.old + 8 * length (L.tokens look.old) + L.passed look.new }
+    ensures costs { L.looks look.new
+        ≤ L.looks look.old + 8 * length (L.tokens look.old) + L.passed look.new }
 {
     let len = look.len();
     let Some(action) = unboxed_action(look.lend(0, len), control) else {
@@ -261,14 +270,19 @@ fn first_action<L: Look>(group: Group, look: &mut L, control: char) -> Option<CS
     requires group { group ≡ group_of_list (L.tokens look.old) control }
     ensures some { IfSome result (λ action.
         BeginsAs group (L.tokens look.old) control (L.passed look.new) (action_of action)) }
-    ensures none { IfNone result (IsRestAlone group (L.tokens look.old) control (L.passed look.new)) }
+    ensures none { IfNone result
+        (IsRestAlone group (L.tokens look.old) control (L.passed look.new)) }
     ensures list { L.tokens look.new ≡ L.tokens look.old }
     ensures cut { IfSome result (λ _. L.passed look.new < length (L.tokens look.new) →
         CutsOn group (L.tokens look.old) (start group) (L.passed look.new)) }
     ensures within { L.passed look.new ≤ length (L.tokens look.new) }
     ensures counted { L.looks look.old ≤ L.looks look.new }
-    ensures going { IfSome result (λ _. L.looks look.new ≤ L.looks look.old + length (L.tokens look.old) + 115 * L.passed look.new) }
-    ensures left { IfNone result (PaysRest 116 (length (L.tokens look.old)) (L.passed look.new) (L.looks look.old) (L.looks look.new)) }
+    ensures going { IfSome result
+        (λ _. L.looks look.new
+        ≤ L.looks look.old + length (L.tokens look.old) + 115 * L.passed look.new) }
+    ensures left { IfNone result
+        (PaysRest 116 (length (L.tokens look.old)) (L.passed look.new) (L.looks look.old)
+        (L.looks look.new)) }
 {
     match group {
         Group::Whole => whole_list(look, control),
@@ -293,7 +307,9 @@ fn body_action<L: Look>(group: Group, look: &mut L) -> Option<CSI>
     ensures counted { L.looks look.old ≤ L.looks look.new }
     ensures going { IfSome result (λ _.
         L.looks look.new ≤ L.looks look.old + 115 * L.passed look.new) }
-    ensures left { IfNone result (PaysRest 115 (length (L.tokens look.old)) (L.passed look.new) (L.looks look.old) (L.looks look.new)) }
+    ensures left { IfNone result
+        (PaysRest 115 (length (L.tokens look.old)) (L.passed look.new) (L.looks look.old)
+        (L.looks look.new)) }
 {
     look.pass(group.start());
     if look.len() > 0 {
@@ -335,7 +351,9 @@ fn action_at<L: Look>(stage: Stage, group: Group, look: &mut L, control: char) -
     requires group { GoesBy stage (L.tokens look.old) control group }
     ensures some { IfSome result (λ action.
         LeftBeginsAs stage group (L.tokens look.old) control (L.passed look.old) (L.passed look.new) (action_of action)) }
-    ensures none { IfNone result (LeftIsRestAlone stage group (L.tokens look.old) control (L.passed look.old) (L.passed look.new)) }
+    ensures none { IfNone result
+        (LeftIsRestAlone stage group (L.tokens look.old) control (L.passed look.old)
+        (L.passed look.new)) }
     ensures list { L.tokens look.new ≡ L.tokens look.old }
     ensures cut { IfSome result (λ _. L.passed look.new < length (L.tokens look.new) →
         CutsOn group (L.tokens look.old) (from_at stage group (L.passed look.old)) (L.passed look.new)) }

@@ -95,7 +95,8 @@ body_actions g list flag final [] = empty_action g list flag final ∷ []
 body_actions g list flag final (t ∷ ts) = actions_after g flag final (t ∷ ts)
 
 abbrev pub cut_actions : Group → List CsiParam → Bool → ℕ → List Action
-cut_actions g list flag final = if has_odd g list then Unspecified list flag final ∷ [] else body_actions g list flag final (body g list)
+cut_actions g list flag final = if has_odd g list then Unspecified list flag final ∷ []
+    else body_actions g list flag final (body g list)
 
 abbrev pub actions_in : Group → List CsiParam → Bool → ℕ → List Action
 actions_in Whole list flag final = unwrap_or (whole list final) (Unspecified list flag final) ∷ []
@@ -169,11 +170,15 @@ IsRestAlone g list final passed =
 -- the same of what is cut of the list
 abbrev pub BodyBeginsAs : Group → List CsiParam → ℕ → Action → Type 0
 BodyBeginsAs g list passed x =
-    (flag : Bool) (final : ℕ) → body_actions g (marked g (drop (start g) list)) flag final (drop (start g) list) ≡ x ∷ actions_after g flag final (drop passed list)
+    (flag : Bool) (final : ℕ)
+    → body_actions g (marked g (drop (start g) list)) flag final (drop (start g) list)
+    ≡ x ∷ actions_after g flag final (drop passed list)
 
 abbrev pub BodyIsRestAlone : Group → List CsiParam → ℕ → Type 0
 BodyIsRestAlone g list passed =
-    (flag : Bool) (final : ℕ) → body_actions g (marked g (drop (start g) list)) flag final (drop (start g) list) ≡ rest_action g (drop passed list) flag final ∷ []
+    (flag : Bool) (final : ℕ)
+    → body_actions g (marked g (drop (start g) list)) flag final (drop (start g) list)
+    ≡ rest_action g (drop passed list) flag final ∷ []
 
 -- the same of what is left at a stage
 abbrev pub LeftBeginsAs : Stage → Group → List CsiParam → ℕ → ℕ → ℕ → Action → Type 0

@@ -66,7 +66,8 @@ rules_of list final =
     if is_final "k" final && ends " " list then CharacterPath
     else if is_final "q" final && ends " " list then CursorStyle
     else if is_final "y" final && ends "*" list then Checksum
-    else if is_final "c" final && (begins "=" list || (begins ">" list || begins "?" list)) then Attributes
+    else if is_final "c" final &&
+        (begins "=" list || (begins ">" list || begins "?" list)) then Attributes
     else if (is_final "m" final || is_final "M" final) && begins "<" list then MouseReport
     else if is_final "S" final && begins "?" list then Graphics
     else if is_final "p" final && has_any queries list then Query
@@ -97,7 +98,8 @@ read_by_rules PrivateModes list final = None
 read_by_rules NameAndVersion list final = as_device list final
 read_by_rules KeyModes list final = as_mode list final
 read_by_rules Keyboard list final = as_keyboard list final
-read_by_rules Plain list final = option_or (as_cursor list final) (option_or (as_edit list final) (option_or (as_device list final) (as_window list final)))
+read_by_rules Plain list final = option_or (as_cursor list final)
+    (option_or (as_edit list final) (option_or (as_device list final) (as_window list final)))
 
 -- The rules choose the group that the list is in, and what they read of it is what any row of the table reads.
 pub record WhichRules (list : List CsiParam) (final : ℕ) : Type 0 where

@@ -18,7 +18,8 @@ is_text kind.Other = false
 -- what is shown of the parts, behind a run of text: text goes on with the run, and any other part ends it, and is dropped
 abbrev pub stripped : List ℕ → List Part → List ℕ
 stripped run [] = shown_text run
-stripped run (p ∷ parts) = if is_text p.kind then stripped (run ++ p.bytes) parts else shown_text run ++ stripped [] parts
+stripped run (p ∷ parts) = if is_text p.kind then stripped (run ++ p.bytes) parts
+    else shown_text run ++ stripped [] parts
 
 -- the bytes, stripped
 pub record Strips (limit : ℕ) (bytes text : List ℕ) : Type 0 where
@@ -40,25 +41,35 @@ pub record RuleOf (S : Type 0) : Type 1 where
 abbrev pub AreGiven : {S : Type 0} → RuleOf S → S → List ℕ → List ℕ → S → Type 0
 AreGiven Gives s [] text after = (text ≡ []) × (after ≡ s)
 AreGiven {S} Gives s (b ∷ bytes) text after =
-    (first : List ℕ) × (mid : S) × (others : List ℕ) × Gives.byte s b first mid × (text ≡ first ++ others) × AreGiven Gives mid bytes others after
+    (first : List ℕ) × (mid : S) × (others : List ℕ) × Gives.byte s b first mid
+    × (text ≡ first ++ others) × AreGiven Gives mid bytes others after
 
 -- one part behind a run of text: text goes on with the run, and any other part ends it
-abbrev pub IsStep : {S : Type 0} → RuleOf S → Kind → S → List ℕ → List ℕ → List ℕ → S → List ℕ → Type 0
-IsStep Gives kind.Text s run bytes text after left = (text ≡ []) × (after ≡ s) × (left ≡ run ++ bytes)
-IsStep Gives kind.Csi s run bytes text after left = (own : List ℕ) × Gives.sequence s bytes own after × (text ≡ shown_text run ++ own) × (left ≡ [])
-IsStep Gives kind.Esc s run bytes text after left = (text ≡ shown_text run) × (after ≡ s) × (left ≡ [])
-IsStep Gives kind.Str s run bytes text after left = (own : List ℕ) × AreGiven Gives s bytes own after × (text ≡ shown_text run ++ own) × (left ≡ [])
-IsStep Gives kind.Other s run bytes text after left = (text ≡ shown_text run) × (after ≡ s) × (left ≡ [])
+abbrev pub IsStep : {S : Type 0} → RuleOf S → Kind → S → List ℕ → List ℕ → List ℕ → S → List ℕ
+    → Type 0
+IsStep Gives kind.Text s run bytes text after left = (text ≡ []) × (after ≡ s)
+    × (left ≡ run ++ bytes)
+IsStep Gives kind.Csi s run bytes text after left = (own : List ℕ)
+    × Gives.sequence s bytes own after × (text ≡ shown_text run ++ own) × (left ≡ [])
+IsStep Gives kind.Esc s run bytes text after left = (text ≡ shown_text run) × (after ≡ s)
+    × (left ≡ [])
+IsStep Gives kind.Str s run bytes text after left = (own : List ℕ)
+    × AreGiven Gives s bytes own after × (text ≡ shown_text run ++ own) × (left ≡ [])
+IsStep Gives kind.Other s run bytes text after left = (text ≡ shown_text run) × (after ≡ s)
+    × (left ≡ [])
 
 -- the parts in turn: their text, the state behind them, and the run of text that they end in
-abbrev pub AreSteps : {S : Type 0} → RuleOf S → S → List ℕ → List Part → List ℕ → S → List ℕ → Type 0
+abbrev pub AreSteps : {S : Type 0} → RuleOf S → S → List ℕ → List Part → List ℕ → S → List ℕ
+    → Type 0
 AreSteps Gives s run [] text after left = (text ≡ []) × (after ≡ s) × (left ≡ run)
 AreSteps {S} Gives s run (p ∷ parts) text after left =
-    (first : List ℕ) × (mid : S) × (next : List ℕ) × (others : List ℕ) × IsStep Gives p.kind s run p.bytes first mid next
+    (first : List ℕ) × (mid : S) × (next : List ℕ) × (others : List ℕ)
+    × IsStep Gives p.kind s run p.bytes first mid next
     × (text ≡ first ++ others) × AreSteps Gives mid next parts others after left
 
 -- the bytes of a whole stream, cleaned by a rule: all but the run of text that they end in, and what is shown of that
-pub record Cleans {S : Type 0} (Gives : RuleOf S) (limit : ℕ) (s : S) (bytes text : List ℕ) (after : S) : Type 0 where
+pub record Cleans {S : Type 0} (Gives : RuleOf S) (limit : ℕ) (s : S) (bytes text : List ℕ)
+    (after : S) : Type 0 where
   pub parts : List Part
   pub whole : IsWhole limit mode.Text bytes parts
   pub before : List ℕ
@@ -71,7 +82,8 @@ abbrev pub EndOf : Type 0 → Type 1
 EndOf S = S → List ℕ → Type 0
 
 -- the bytes of a whole stream, cleaned by a rule, and what it writes at the end
-pub record Ends {S : Type 0} (Gives : RuleOf S) (Closes : EndOf S) (limit : ℕ) (s : S) (bytes text : List ℕ) : Type 0 where
+pub record Ends {S : Type 0} (Gives : RuleOf S) (Closes : EndOf S) (limit : ℕ) (s : S)
+    (bytes text : List ℕ) : Type 0 where
   pub before : List ℕ
   pub after : S
   pub close : List ℕ

@@ -39,7 +39,8 @@ link_body a = 56 ∷ 59 ∷ (a.params ++ 59 ∷ a.url)
 
 -- the bytes are the link: `ESC ]`, what it says, and BEL or ST
 abbrev pub Spells : List ℕ → Address → Type 0
-Spells bytes a = (bytes ≡ 27 ∷ 93 ∷ (link_body a ++ 7 ∷ [])) ⊎ (bytes ≡ 27 ∷ 93 ∷ (link_body a ++ 27 ∷ 92 ∷ []))
+Spells bytes a = (bytes ≡ 27 ∷ 93 ∷ (link_body a ++ 7 ∷ []))
+    ⊎ (bytes ≡ 27 ∷ 93 ∷ (link_body a ++ 27 ∷ 92 ∷ []))
 
 -- among the bytes stands the link
 pub record Stood (bytes : List ℕ) (a : Address) : Type 0 where
@@ -102,7 +103,8 @@ abbrev pub behind_at : Place → List ℕ → List ℕ → ℕ → Begun
 behind_at place.Outside params url c = begun (anew c) params url
 behind_at place.Escape params url c = begun (opened c) params url
 behind_at place.Opened params url c = begun (if c == 56 then place.Eight else anew c) params url
-behind_at place.Eight params url c = if c == 59 then begun place.Params [] url else begun (anew c) params url
+behind_at place.Eight params url c = if c == 59 then begun place.Params [] url
+    else begun (anew c) params url
 behind_at place.Params params url c =
     if c == 59 then begun place.Url params [] else
     if is_param c && nat_lt (length params) longest_params then begun place.Params (params ++ c ∷ []) url else

@@ -31,7 +31,8 @@ grey n = rgb (8 + 10 * n) (8 + 10 * n) (8 + 10 * n)
 
 -- the colour of a place
 unfoldable pub palette : ℕ → SrgbaTuple
-palette i = if nat_lt i 16 then get_or first_places i (rgb 0 0 0) else if nat_lt i 232 then cube (i - 16) else grey (i - 232)
+palette i = if nat_lt i 16 then get_or first_places i (rgb 0 0 0)
+    else if nat_lt i 232 then cube (i - 16) else grey (i - 232)
 
 abbrev pub apart : ℕ → ℕ → ℕ
 apart a b = (a - b) + (b - a)
@@ -65,7 +66,8 @@ pub record IsNearest (c : SrgbaTuple) (first end place : ℕ) : Type 0 where
   pub from : first ≤ place
   pub below : place < end
   pub nearest : (n : ℕ) → first ≤ n → n < end → distance c (palette place) ≤ distance c (palette n)
-  pub earlier : (n : ℕ) → first ≤ n → n < place → distance c (palette place) < distance c (palette n)
+  pub earlier : (n : ℕ) → first ≤ n → n < place
+      → distance c (palette place) < distance c (palette n)
 
 -- a colour by its parts becomes a place of the palette, and where 16 are left, a place from 16 on becomes one of them
 abbrev pub reduced_color : Depth → ColorSpec → ColorSpec
@@ -74,7 +76,8 @@ reduced_color depth.Palette Default = Default
 reduced_color depth.Palette (PaletteIndex i) = PaletteIndex i
 reduced_color depth.Palette (TrueColor c) = PaletteIndex (nearest_of_256 c)
 reduced_color depth.Ansi Default = Default
-reduced_color depth.Ansi (PaletteIndex i) = PaletteIndex (if nat_lt i 16 then i else nearest_of_16 (palette i))
+reduced_color depth.Ansi (PaletteIndex i) =
+    PaletteIndex (if nat_lt i 16 then i else nearest_of_16 (palette i))
 reduced_color depth.Ansi (TrueColor c) = PaletteIndex (nearest_of_16 c)
 
 abbrev pub reduced : Depth → Sgr → Sgr

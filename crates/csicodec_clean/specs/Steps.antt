@@ -23,11 +23,14 @@ abbrev pub between : {S : Type 0} → S → Pause → List ℕ → Between S
 between s p again = record { rule = s; mode = p.mode; titled = p.titled; bytes = drop p.held again; held = take p.held again }
 
 -- however many of the bytes came again, the step takes those behind them, and leaves the rest
-abbrev pub Resumes : {S : Type 0} → RuleOf S → S → Pause → List ℕ → List ℕ → S → Pause → List ℕ → Type 0
-Resumes Gives s p bytes text after q rest = (again more : List ℕ) → bytes ≡ again ++ more → p.held ≤ length again → Takes Gives (between s p again) more text (between after q rest)
+abbrev pub Resumes : {S : Type 0} → RuleOf S → S → Pause → List ℕ → List ℕ → S → Pause → List ℕ
+    → Type 0
+Resumes Gives s p bytes text after q rest = (again more : List ℕ) → bytes ≡ again ++ more
+    → p.held ≤ length again → Takes Gives (between s p again) more text (between after q rest)
 
 -- a step over these bytes appends the text and leaves the rest, which is short
-pub record Steps {S : Type 0} (Gives : RuleOf S) (s : S) (p : Pause) (bytes text : List ℕ) (after : S) (q : Pause) (rest : List ℕ) : Type 0 where
+pub record Steps {S : Type 0} (Gives : RuleOf S) (s : S) (p : Pause) (bytes text : List ℕ)
+    (after : S) (q : Pause) (rest : List ℕ) : Type 0 where
   pub takes : Resumes Gives s p bytes text after q rest
   pub held : q.held ≤ length rest
   pub few : p.held ≤ 3 → q.held ≤ 3
@@ -35,12 +38,15 @@ pub record Steps {S : Type 0} (Gives : RuleOf S) (s : S) (p : Pause) (bytes text
 
 -- chunks in turn, each behind what the step before it left: all that the steps append, the pause behind them, and what is left there. The
 -- rule's state is told by whether a style is open.
-abbrev pub AreStepped : {S : Type 0} → RuleOf S → (Bool → S) → Pause → List ℕ → List (List ℕ) → List ℕ → Pause → List ℕ → Type 0
+abbrev pub AreStepped : {S : Type 0} → RuleOf S → (Bool → S) → Pause → List ℕ → List (List ℕ)
+    → List ℕ → Pause → List ℕ → Type 0
 AreStepped Gives rule p again [] all q rest = (all ≡ []) × (q ≡ p) × (rest ≡ again)
 AreStepped Gives rule p again (chunk ∷ chunks) all q rest =
-    (mid : Pause) × (left : List ℕ) × (first : List ℕ) × (others : List ℕ) × Steps Gives (rule p.styled) p (again ++ chunk) first (rule mid.styled) mid left
+    (mid : Pause) × (left : List ℕ) × (first : List ℕ) × (others : List ℕ)
+    × Steps Gives (rule p.styled) p (again ++ chunk) first (rule mid.styled) mid left
     × (all ≡ first ++ others) × AreStepped Gives rule mid left chunks others q rest
 
 -- what ends the output: what is shown of the text that is held, and a reset where a style is open
 abbrev pub ending : Pause → List ℕ → List ℕ
-ending p again = shown_text (take p.held again) ++ (if p.styled then text (action.Sgr sgr.Reset) else [])
+ending p again =
+    shown_text (take p.held again) ++ (if p.styled then text (action.Sgr sgr.Reset) else [])

@@ -22,7 +22,9 @@ start_of s = record { rule = s; mode = mode.Text; titled = false; bytes = []; he
 
 -- Behind a run of text that reads as the characters and then the bytes that were held, of which the characters have been
 -- written: the parts in front of the bytes, and what was appended for them.
-pub record Goes {S : Type 0} (Gives : RuleOf S) (limit : ℕ) (m : Mode) (t : Bool) (s : S) (run chars bytes appended rest : List ℕ) (a : Mode) (later : Bool) (after : S) (held : List ℕ) : Type 0 where
+pub record Goes {S : Type 0} (Gives : RuleOf S) (limit : ℕ) (m : Mode) (t : Bool) (s : S)
+    (run chars bytes appended rest : List ℕ) (a : Mode) (later : Bool) (after : S)
+    (held : List ℕ) : Type 0 where
   pub parts : List Part
   pub text : List ℕ
   pub left : List ℕ
@@ -34,24 +36,31 @@ pub record Goes {S : Type 0} (Gives : RuleOf S) (limit : ℕ) (m : Mode) (t : Bo
   pub same : shown_chars chars ++ appended ≡ text ++ shown_chars read
 
 -- a push of these bytes appends the text
-pub record Takes {S : Type 0} (Gives : RuleOf S) (old : Between S) (bytes text : List ℕ) (new : Between S) : Type 0 where
+pub record Takes {S : Type 0} (Gives : RuleOf S) (old : Between S) (bytes text : List ℕ)
+    (new : Between S) : Type 0 where
   pub unsure : IsUnsure longest new.mode new.bytes
-  pub goes : (run chars : List ℕ) → IsRead run chars old.held → Goes Gives longest old.mode old.titled old.rule run chars (old.bytes ++ bytes) text new.bytes new.mode new.titled new.rule new.held
+  pub goes : (run chars : List ℕ) → IsRead run chars old.held
+      → Goes Gives longest old.mode old.titled old.rule run chars
+      (old.bytes ++ bytes) text new.bytes new.mode new.titled new.rule new.held
 
 -- chunks pushed in turn, and all that they append
-abbrev pub AreTaken : {S : Type 0} → RuleOf S → Between S → List (List ℕ) → List ℕ → Between S → Type 0
+abbrev pub AreTaken : {S : Type 0} → RuleOf S → Between S → List (List ℕ) → List ℕ → Between S
+    → Type 0
 AreTaken Gives old [] text new = (text ≡ []) × (new ≡ old)
 AreTaken {S} Gives old (chunk ∷ chunks) text new =
-    (mid : Between S) × (first : List ℕ) × (others : List ℕ) × Takes Gives old chunk first mid × (text ≡ first ++ others) × AreTaken Gives mid chunks others new
+    (mid : Between S) × (first : List ℕ) × (others : List ℕ) × Takes Gives old chunk first mid
+    × (text ≡ first ++ others) × AreTaken Gives mid chunks others new
 
 -- it doesn't matter how a stream is cut into chunks: what they append, and the end, is what is made of all of it at once
 abbrev pub AnyChunks : {S : Type 0} → RuleOf S → EndOf S → Type 0
-AnyChunks {S} Gives Closes = (s : S) (chunks : List (List ℕ)) (text close : List ℕ) (last : Between S) → AreTaken Gives (start_of s) chunks text last → Closes last.rule close
+AnyChunks {S} Gives Closes = (s : S) (chunks : List (List ℕ)) (text close : List ℕ)
+    (last : Between S) → AreTaken Gives (start_of s) chunks text last → Closes last.rule close
     → Ends Gives Closes longest s (concat chunks) (text ++ (shown_text last.held ++ close))
 
 -- at the end: what is shown of the bytes that are held, and what the rule writes
 abbrev pub Closing : {S : Type 0} → EndOf S → EndsOf (Between S)
-Closing Closes last text = (close : List ℕ) × Closes last.rule close × (text ≡ shown_text last.held ++ close)
+Closing Closes last text = (close : List ℕ) × Closes last.rule close
+    × (text ≡ shown_text last.held ++ close)
 
 -- what went out is a front of the text of these bytes: as far as it is sure, or, where they are all, with its end
 abbrev pub Begins : {S : Type 0} → RuleOf S → EndOf S → S → Type 0 → List ℕ → List ℕ → Type 0
@@ -59,4 +68,5 @@ Begins Gives Closes s = BeginsWith (Sends (Takes Gives) (start_of s)) (Ends Give
 
 -- the text that the bytes have begins with what was sent
 abbrev pub IsFrontOf : (List ℕ → List ℕ → Type 0) → List ℕ → List ℕ → Type 0
-IsFrontOf Out bytes sent = (text : List ℕ) → Out bytes text → (unsent : List ℕ) × (text ≡ sent ++ unsent)
+IsFrontOf Out bytes sent = (text : List ℕ) → Out bytes text
+    → (unsent : List ℕ) × (text ≡ sent ++ unsent)

@@ -42,7 +42,8 @@ kept d (a ∷ actions) = kept d actions
 
 -- the bytes are one control sequence, of these actions
 abbrev pub IsOf : List ℕ → List Action → Type 0
-IsOf bytes actions = (list : List CsiParam) × (final : ℕ) × Seq bytes list final × Actions list false final actions
+IsOf bytes actions = (list : List CsiParam) × (final : ℕ) × Seq bytes list final
+    × Actions list false final actions
 
 -- a character, a style, or a link
 pub data Item : Type 0 where
@@ -65,7 +66,8 @@ shown_items run = map Shown (filter shown (lossy_chars run))
 -- what a part leaves: a control sequence the styles that stay, a control string, where links pass, the link that is over with it,
 -- and any other nothing
 abbrev pub Leaves : Passing → Begun → Kind → List ℕ → List Item → Type 0
-Leaves d b kind.Csi bytes own = (actions : List Action) × IsOf bytes actions × (own ≡ map Style (kept d.depth actions))
+Leaves d b kind.Csi bytes own = (actions : List Action) × IsOf bytes actions
+    × (own ≡ map Style (kept d.depth actions))
 Leaves d b kind.Str bytes own = own ≡ map Link (links_in d.links b bytes)
 Leaves d b kind.Text bytes own = own ≡ []
 Leaves d b kind.Esc bytes own = own ≡ []
@@ -87,7 +89,8 @@ items_behind k run = shown_items run
 abbrev pub AreLeft : Passing → Begun → List ℕ → List Part → List Item → Type 0
 AreLeft d b run [] items = items ≡ shown_items run
 AreLeft d b run (p ∷ parts) items =
-    (own : List Item) × (others : List Item) × Leaves d b p.kind p.bytes own × (items ≡ items_behind p.kind run ++ (own ++ others))
+    (own : List Item) × (others : List Item) × Leaves d b p.kind p.bytes own
+    × (items ≡ items_behind p.kind run ++ (own ++ others))
     × AreLeft d (begun_behind d b p.kind p.bytes) (run_behind p.kind run p.bytes) parts others
 
 -- whether the last of the styles is no reset
@@ -109,7 +112,8 @@ links_of (Link a ∷ items) = a ∷ links_of items
 
 -- what ends a link and a style, where they are left open
 abbrev pub ends_of : Bool → Bool → List Item
-ends_of linked styled = (if linked then Link no_address ∷ [] else []) ++ (if styled then Style sgr.Reset ∷ [] else [])
+ends_of linked styled =
+    (if linked then Link no_address ∷ [] else []) ++ (if styled then Style sgr.Reset ∷ [] else [])
 
 abbrev pub closed : List Item → List Item
 closed items = items ++ ends_of (is_linked false (links_of items)) (is_open false (styles_of items))
@@ -170,16 +174,22 @@ abbrev pub behind_styles : Keeping → List Sgr → Keeping
 behind_styles k styles = keeping k.passing (is_open k.styled styles) k.linked k.begun
 
 abbrev pub behind_byte : Keeping → ℕ → Keeping
-behind_byte k c = keeping k.passing k.styled (is_linked k.linked (links_at k.passing.links k.begun c)) (next k.passing.links k.begun c)
+behind_byte k c = keeping k.passing k.styled
+    (is_linked k.linked (links_at k.passing.links k.begun c)) (next k.passing.links k.begun c)
 
 -- the rule, over a state of which that is a part
 abbrev pub keeps : {S : Type 0} → (S → Keeping) → RuleOf S
 keeps of = record {
   sequence = λ s bytes out after.
-      (actions : List Action) × IsOf bytes actions × (out ≡ texts (map action.Sgr (kept (of s).passing.depth actions))) × (of after ≡ behind_styles (of s) (kept (of s).passing.depth actions));
-  byte = λ s c out after. (out ≡ link_texts (links_at (of s).passing.links (of s).begun c)) × (of after ≡ behind_byte (of s) c);
+      (actions : List Action) × IsOf bytes actions
+      × (out ≡ texts (map action.Sgr (kept (of s).passing.depth actions)))
+      × (of after ≡ behind_styles (of s) (kept (of s).passing.depth actions));
+  byte = λ s c out after. (out ≡ link_texts (links_at (of s).passing.links (of s).begun c))
+      × (of after ≡ behind_byte (of s) c);
 }
 
 -- at the end it ends the link that is open, and sets all back where a style is
 abbrev pub resets : {S : Type 0} → (S → Keeping) → EndOf S
-resets of s close = close ≡ (if (of s).linked then link_text no_address else []) ++ (if (of s).styled then text (action.Sgr sgr.Reset) else [])
+resets of s close = close
+    ≡ (if (of s).linked then link_text no_address else [])
+    ++ (if (of s).styled then text (action.Sgr sgr.Reset) else [])

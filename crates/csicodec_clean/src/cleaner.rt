@@ -53,7 +53,9 @@ impl<R: Rule + Drop> Cleaner<R> {
 
     /// Takes the next bytes, and appends what is left of all that is sure now.
     pub fn push(&mut self, bytes: &[u8], out: &mut Vec<u8>) -> Result<(), AllocError>
-        ensures takes { OnOk result ((text : List ℕ) × Takes R.gives self.old bytes.now text self.new × (out.new.items ≡ out.old.items ++ text)) }
+        ensures takes { OnOk result
+            ((text : List ℕ) × Takes R.gives self.old bytes.now text self.new
+            × (out.new.items ≡ out.old.items ++ text)) }
         // What is held is short.
         ensures held { OnOk result (length self.old.held ≤ 3 → length self.new.held ≤ 3) }
         ensures pending { OnOk result (length self.new.bytes < longest) }
@@ -77,7 +79,9 @@ impl<R: Rule + Drop> Cleaner<R> {
 
     /// Appends what is shown of the text that is held, and what ends the output: nothing comes any more.
     pub fn finish(&mut self, out: &mut Vec<u8>) -> Result<(), AllocError>
-        ensures { OnOk result ((close : List ℕ) × R.closes self.old.rule close × (out.new.items ≡ out.old.items ++ (shown_text self.old.held ++ close))) }
+        ensures { OnOk result
+            ((close : List ℕ) × R.closes self.old.rule close
+            × (out.new.items ≡ out.old.items ++ (shown_text self.old.held ++ close))) }
     {
         append_shown(&self.held, out)?;
         self.rule.close(out)

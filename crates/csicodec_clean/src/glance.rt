@@ -93,7 +93,8 @@ pub(crate) fn append_front<'a, T: Rule>(
     ensures goes { IfOk result (λ rest. GoesOver T.gives limit mode titled held.now
         rule.old bytes.now rest.now rule.new out.old.items out.new.items) }
     // What is held stands directly before the rest.
-    ensures last { IfOk result (λ rest. (front : List ℕ) × (held.now ++ bytes.now ≡ front ++ (held.now ++ rest.now))) }
+    ensures last { IfOk result
+        (λ rest. (front : List ℕ) × (held.now ++ bytes.now ≡ front ++ (held.now ++ rest.now))) }
 {
     if !is_bare(mode, titled, held) {
         return Ok(bytes);

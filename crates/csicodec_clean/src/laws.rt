@@ -29,15 +29,18 @@ pub fn any_chunks<R: Rule>()
 /// Nor how it is cut into the steps of a caller that keeps what is open: what these append, and the end, is what `strip` makes of all of
 /// it, or `clean_in`.
 pub fn any_steps()
-    ensures strip { (chunks : List (List ℕ)) (text rest : List ℕ) (last : Pause) → AreStepped drops (λ _. bare) beginning [] chunks text last rest → last.styled ≡ false
+    ensures strip { (chunks : List (List ℕ)) (text rest : List ℕ) (last : Pause)
+        → AreStepped drops (λ _. bare) beginning [] chunks text last rest → last.styled ≡ false
         → Strips longest (concat chunks) (text ++ ending last rest) }
-    ensures clean { (d : Depth) (chunks : List (List ℕ)) (text rest : List ℕ) (last : Pause) → AreStepped (keeps (λ (k : Keeping). k)) (resumed d) beginning [] chunks text last rest
+    ensures clean { (d : Depth) (chunks : List (List ℕ)) (text rest : List ℕ) (last : Pause)
+        → AreStepped (keeps (λ (k : Keeping). k)) (resumed d) beginning [] chunks text last rest
         → StylesIn (without_links d) (concat chunks) (text ++ ending last rest) }
 {}
 
 /// Bytes are stripped to one text.
 pub fn one_text()
-    ensures { (bytes text other : List ℕ) → Strips longest bytes text → Strips longest bytes other → text ≡ other }
+    ensures { (bytes text other : List ℕ) → Strips longest bytes text → Strips longest bytes other
+        → text ≡ other }
 {}
 
 /// Of the parts of a stream a text is dropped if the last part before it that is no text is the escape sequence `ESC k`, and only then:
@@ -45,8 +48,10 @@ pub fn one_text()
 pub fn titles()
     ensures places { (parts : List Part) → length (with_titles false parts) ≡ length parts }
     ensures dropped { (before behind : List Part) (p : Part) → InTitle before → IsText p →
-        slice_get (with_titles false (before ++ p ∷ behind)) (length before) ≡ Some (part Other p.bytes) }
-    ensures kept { (bytes : List ℕ) (before behind : List Part) (p : Part) → IsWhole longest Text bytes (before ++ p ∷ behind) → (IsText p → ¬ InTitle before) →
+        slice_get (with_titles false (before ++ p ∷ behind)) (length before)
+        ≡ Some (part Other p.bytes) }
+    ensures kept { (bytes : List ℕ) (before behind : List Part) (p : Part)
+        → IsWhole longest Text bytes (before ++ p ∷ behind) → (IsText p → ¬ InTitle before) →
         slice_get (with_titles false (before ++ p ∷ behind)) (length before) ≡ Some p }
 {}
 
@@ -57,41 +62,51 @@ pub fn plain_stays()
 
 /// What was stripped is stripped: twice is once.
 pub fn twice()
-    ensures { (bytes text other : List ℕ) → Strips longest bytes text → Strips longest text other → other ≡ text }
+    ensures { (bytes text other : List ℕ) → Strips longest bytes text → Strips longest text other
+        → other ≡ text }
 {}
 
 /// Bytes are cleaned to one text, whatever passes.
 pub fn one_styled()
-    ensures { (d : Passing) (bytes text other : List ℕ) → StylesIn d bytes text → StylesIn d bytes other → text ≡ other }
+    ensures { (d : Passing) (bytes text other : List ℕ) → StylesIn d bytes text
+        → StylesIn d bytes other → text ≡ other }
 {}
 
 /// Text that is clean already, styles, links and all, stays as it is.
 pub fn styled_stays()
-    ensures { (d : Passing) (text other : List ℕ) → IsStyledIn d text → StylesIn d text other → other ≡ text }
+    ensures { (d : Passing) (text other : List ℕ) → IsStyledIn d text → StylesIn d text other
+        → other ≡ text }
 {}
 
 /// What was cleaned is clean: twice is once.
 pub fn styled_twice()
-    ensures { (d : Passing) (bytes text other : List ℕ) → StylesIn d bytes text → StylesIn d text other → other ≡ text }
+    ensures { (d : Passing) (bytes text other : List ℕ) → StylesIn d bytes text
+        → StylesIn d text other → other ≡ text }
 {}
 
 /// What was cleaned is stripped to what the bytes are stripped to.
 pub fn strip_cleaned()
-    ensures { (d : Passing) (bytes styles plain other : List ℕ) → StylesIn d bytes styles → Strips longest bytes plain → Strips longest styles other → other ≡ plain }
+    ensures { (d : Passing) (bytes styles plain other : List ℕ) → StylesIn d bytes styles
+        → Strips longest bytes plain → Strips longest styles other → other ≡ plain }
 {}
 
 /// A link that may pass does, with BEL at its end or with ST, whatever came before it: wherever it stands in a stream as a control
 /// string.
 pub fn links_pass()
-    ensures bel { (a : Address) (params url : List ℕ) → IsLink a → links_in true (begun Outside params url) (27 ∷ 93 ∷ (link_body a ++ 7 ∷ [])) ≡ a ∷ [] }
-    ensures st { (a : Address) (params url : List ℕ) → IsLink a → links_in true (begun Outside params url) (27 ∷ 93 ∷ (link_body a ++ 27 ∷ 92 ∷ [])) ≡ a ∷ [] }
-    ensures stream { (d : Passing) (bytes text : List ℕ) (s : StylesIn d bytes text) (a : Address) → d.links ≡ true → StoodIn s.parts a → IsLink a → Contains (links_of s.items) a }
+    ensures bel { (a : Address) (params url : List ℕ) → IsLink a
+        → links_in true (begun Outside params url) (27 ∷ 93 ∷ (link_body a ++ 7 ∷ [])) ≡ a ∷ [] }
+    ensures st { (a : Address) (params url : List ℕ) → IsLink a
+        → links_in true (begun Outside params url) (27 ∷ 93 ∷ (link_body a ++ 27 ∷ 92 ∷ []))
+        ≡ a ∷ [] }
+    ensures stream { (d : Passing) (bytes text : List ℕ) (s : StylesIn d bytes text) (a : Address)
+        → d.links ≡ true → StoodIn s.parts a → IsLink a → Contains (links_of s.items) a }
 {}
 
 /// And each link that passes stood there: in the bytes of control strings, and in a stream as a control string of its own.
 pub fn links_stood()
     ensures bytes { (bytes : List ℕ) → AllByRecursion (Stood bytes) (links_in true start bytes) }
-    ensures stream { (d : Passing) (bytes text : List ℕ) (s : StylesIn d bytes text) → AllByRecursion (StoodIn s.parts) (links_of s.items) }
+    ensures stream { (d : Passing) (bytes text : List ℕ) (s : StylesIn d bytes text)
+        → AllByRecursion (StoodIn s.parts) (links_of s.items) }
 {}
 
 /// The place that a colour becomes is the nearest of the palette, and of those that are as near the first.
@@ -103,13 +118,21 @@ pub fn nearest()
 /// What a cleaner writes of a whole stream by the rule that drops all is the stripped text, and by the rule that keeps what passes
 /// the cleaned one.
 pub fn rules()
-    ensures dropped { (s : Dropped) (bytes text : List ℕ) → Ends drops ends_bare longest s bytes text → Strips longest bytes text }
-    ensures kept { (d : Passing) (bytes text : List ℕ) → Ends (keeps (λ (k : Keeping). k)) (resets (λ (k : Keeping). k)) longest (first_kept d) bytes text → StylesIn d bytes text }
+    ensures dropped { (s : Dropped) (bytes text : List ℕ)
+        → Ends drops ends_bare longest s bytes text → Strips longest bytes text }
+    ensures kept { (d : Passing) (bytes text : List ℕ)
+        → Ends (keeps (λ (k : Keeping). k)) (resets (λ (k : Keeping). k)) longest
+        (first_kept d) bytes text → StylesIn d bytes text }
 {}
 
 /// What a cleaner by these rules appended for the chunks that came is a front of what it writes of the whole stream, whatever comes
 /// behind them.
 pub fn fronts()
-    ensures dropped { (s : Dropped) (chunks : List (List ℕ)) (more text : List ℕ) (last : Between Dropped) → AreTaken drops (start_of s) chunks text last → IsFrontOf (Strips longest) (concat chunks ++ more) text }
-    ensures kept { (d : Passing) (chunks : List (List ℕ)) (more text : List ℕ) (last : Between Keeping) → AreTaken (keeps (λ (k : Keeping). k)) (start_of (first_kept d)) chunks text last → IsFrontOf (StylesIn d) (concat chunks ++ more) text }
+    ensures dropped { (s : Dropped) (chunks : List (List ℕ)) (more text : List ℕ)
+        (last : Between Dropped) → AreTaken drops (start_of s) chunks text last
+        → IsFrontOf (Strips longest) (concat chunks ++ more) text }
+    ensures kept { (d : Passing) (chunks : List (List ℕ)) (more text : List ℕ)
+        (last : Between Keeping)
+        → AreTaken (keeps (λ (k : Keeping). k)) (start_of (first_kept d)) chunks text last
+        → IsFrontOf (StylesIn d) (concat chunks ++ more) text }
 {}

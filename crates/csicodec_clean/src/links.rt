@@ -107,7 +107,9 @@ impl Partial {
     /// Takes a byte of the parameters.
     fn take_param(&mut self, byte: u8) -> Result<(), AllocError>
         requires { self.now.place ≡ InParams }
-        ensures { OnOk result (begun self.new.place self.new.params.items self.new.url.items ≡ behind (begun self.old.place self.old.params.items self.old.url.items) byte) }
+        ensures { OnOk result
+            (begun self.new.place self.new.params.items self.new.url.items
+            ≡ behind (begun self.old.place self.old.params.items self.old.url.items) byte) }
     {
         if byte == b';' {
             self.url.clear();
@@ -123,7 +125,9 @@ impl Partial {
     /// Takes a byte of the URL.
     fn take_url(&mut self, byte: u8) -> Result<(), AllocError>
         requires { self.now.place ≡ InUrl }
-        ensures { OnOk result (begun self.new.place self.new.params.items self.new.url.items ≡ behind (begun self.old.place self.old.params.items self.old.url.items) byte) }
+        ensures { OnOk result
+            (begun self.new.place self.new.params.items self.new.url.items
+            ≡ behind (begun self.old.place self.old.params.items self.old.url.items) byte) }
     {
         if is_visible(byte) && self.url.len() < LONGEST_URL {
             self.url.push(byte)?;
@@ -137,7 +141,9 @@ impl Partial {
 
     /// Takes the next byte of a control string.
     fn take(&mut self, byte: u8) -> Result<(), AllocError>
-        ensures { OnOk result (begun self.new.place self.new.params.items self.new.url.items ≡ behind (begun self.old.place self.old.params.items self.old.url.items) byte) }
+        ensures { OnOk result
+            (begun self.new.place self.new.params.items self.new.url.items
+            ≡ behind (begun self.old.place self.old.params.items self.old.url.items) byte) }
     {
         match self.place {
             Place::Outside => self.place = anew(byte),
@@ -163,7 +169,10 @@ impl Partial {
 
     /// Appends the link in its normal form.
     fn append(&self, out: &mut Vec<u8>) -> Result<(), AllocError>
-        ensures { OnOk result (out.new.items ≡ out.old.items ++ link_text (record { params = self.now.params.items; url = self.now.url.items })) }
+        ensures { OnOk result
+            (out.new.items
+            ≡ out.old.items
+            ++ link_text (record { params = self.now.params.items; url = self.now.url.items })) }
     {
         out.extend_from_slice(b"\x1b]8;")?;
         out.extend_from_slice(&self.params)?;
@@ -174,9 +183,18 @@ impl Partial {
 
     /// Takes the next byte of a control string, appends the link that is over with it, and answers whether one is open then.
     fn append_byte(&mut self, byte: u8, linked: bool, out: &mut Vec<u8>) -> Result<bool, AllocError>
-        ensures text { OnOk result (out.new.items ≡ out.old.items ++ link_texts (links_at true (begun self.old.place self.old.params.items self.old.url.items) byte)) }
-        ensures linked { IfOk result (λ after. after ≡ is_linked linked (links_at true (begun self.old.place self.old.params.items self.old.url.items) byte)) }
-        ensures begun { OnOk result (begun self.new.place self.new.params.items self.new.url.items ≡ behind (begun self.old.place self.old.params.items self.old.url.items) byte) }
+        ensures text { OnOk result
+            (out.new.items
+            ≡ out.old.items
+            ++ link_texts
+            (links_at true (begun self.old.place self.old.params.items self.old.url.items) byte)) }
+        ensures linked { IfOk result
+            (λ after. after
+            ≡ is_linked linked
+            (links_at true (begun self.old.place self.old.params.items self.old.url.items) byte)) }
+        ensures begun { OnOk result
+            (begun self.new.place self.new.params.items self.new.url.items
+            ≡ behind (begun self.old.place self.old.params.items self.old.url.items) byte) }
     {
         let mut linked = linked;
         if is_end(self.place, byte) {
@@ -194,9 +212,21 @@ impl Partial {
         linked: bool,
         out: &mut Vec<u8>,
     ) -> Result<bool, AllocError>
-        ensures text { OnOk result (out.new.items ≡ out.old.items ++ link_texts (links_in true (begun self.old.place self.old.params.items self.old.url.items) bytes.now)) }
-        ensures linked { IfOk result (λ after. after ≡ is_linked linked (links_in true (begun self.old.place self.old.params.items self.old.url.items) bytes.now)) }
-        ensures begun { OnOk result (begun self.new.place self.new.params.items self.new.url.items ≡ all_behind true (begun self.old.place self.old.params.items self.old.url.items) bytes.now) }
+        ensures text { OnOk result
+            (out.new.items
+            ≡ out.old.items
+            ++ link_texts
+            (links_in true
+            (begun self.old.place self.old.params.items self.old.url.items) bytes.now)) }
+        ensures linked { IfOk result
+            (λ after. after
+            ≡ is_linked linked
+            (links_in true
+            (begun self.old.place self.old.params.items self.old.url.items) bytes.now)) }
+        ensures begun { OnOk result
+            (begun self.new.place self.new.params.items self.new.url.items
+            ≡ all_behind true
+            (begun self.old.place self.old.params.items self.old.url.items) bytes.now) }
     {
         let mut leads = linked;
         for byte in bytes {

@@ -64,7 +64,8 @@ pub(crate) fn append_noted(
     styled: bool,
     out: &mut Vec<u8>,
 ) -> Result<Option<bool>, AllocError>
-    ensures left { IfOk result (λ o. IfSome o (λ after. (bytes : List ℕ) → IsNoted bytes known.now.note
+    ensures left { IfOk result
+        (λ o. IfSome o (λ after. (bytes : List ℕ) → IsNoted bytes known.now.note
         → IsLeft depth styled bytes after out.old.items out.new.items)) }
     ensures none { IfOk result (λ o. IfNone o (out.new.items ≡ out.old.items)) }
 {
@@ -103,9 +104,11 @@ impl Room {
         control: char,
         out: &mut Vec<u8>,
     ) -> Result<(), AllocError>
-        ensures actions { OnOk result (Actions params.now false control (map action_of self.new.actions.items)) }
+        ensures actions { OnOk result
+            (Actions params.now false control (map action_of self.new.actions.items)) }
         ensures text { OnOk result (out.new.items
-            ≡ out.old.items ++ texts (map SgrAction (kept depth (map action_of self.new.actions.items)))) }
+            ≡ out.old.items
+            ++ texts (map SgrAction (kept depth (map action_of self.new.actions.items)))) }
     {
         self.actions.clear();
         parse_into(self.alloc, params, false, control, &mut self.actions)?;
@@ -157,7 +160,8 @@ impl Room {
         ensures within { IfOk result (λ (len, after). (len ≤ limit) × (len ≤ length bytes.now)) }
         ensures left { IfOk result (λ (len, after). 0 < len
             → IsLeft depth styled (take len bytes.now) after out.old.items out.new.items) }
-        ensures none { IfOk result (λ (len, after). len ≡ 0 → (after ≡ styled) × (out.new.items ≡ out.old.items)) }
+        ensures none { IfOk result
+            (λ (len, after). len ≡ 0 → (after ≡ styled) × (out.new.items ≡ out.old.items)) }
         ensures known { AreKnown IsNoted known.new.memo.slots.items }
     {
         let front = near(limit, bytes);

@@ -55,7 +55,9 @@ fn append_step<T: Rule>(
 ) -> Result<(usize, Pause), AllocError>
     requires { pause.held ≤ length bytes.now }
     ensures within { IfOk result (λ (used, after). used ≤ length bytes.now) }
-    ensures steps { IfOk result (λ (used, after). (text : List ℕ) × Steps T.gives rule.old pause bytes.now text rule.new after (drop used bytes.now)
+    ensures steps { IfOk result
+        (λ (used, after). (text : List ℕ)
+        × Steps T.gives rule.old pause bytes.now text rule.new after (drop used bytes.now)
         × (out.new.items ≡ out.old.items ++ text)) }
     ensures styled { IfOk result (λ (used, after). after.styled ≡ pause.styled) }
 {
@@ -104,7 +106,9 @@ pub fn strip_step(
 ) -> Result<(usize, Pause), AllocError>
     requires { pause.held ≤ length bytes.now }
     ensures within { IfOk result (λ (used, after). used ≤ length bytes.now) }
-    ensures steps { IfOk result (λ (used, after). (text : List ℕ) × Steps drops bare pause bytes.now text bare after (drop used bytes.now)
+    ensures steps { IfOk result
+        (λ (used, after). (text : List ℕ)
+        × Steps drops bare pause bytes.now text bare after (drop used bytes.now)
         × (out.new.items ≡ out.old.items ++ text)) }
     ensures styled { IfOk result (λ (used, after). after.styled ≡ pause.styled) }
 {
@@ -127,7 +131,8 @@ pub fn clean_step(
     requires { pause.held ≤ length bytes.now }
     ensures within { IfOk result (λ (used, after). used ≤ length bytes.now) }
     ensures steps { IfOk result (λ (used, after). (text : List ℕ)
-        × Steps (keeps (λ (k : Keeping). k)) (resumed depth pause.styled) pause bytes.now text (resumed depth after.styled) after (drop used bytes.now)
+        × Steps (keeps (λ (k : Keeping). k)) (resumed depth pause.styled) pause bytes.now text
+        (resumed depth after.styled) after (drop used bytes.now)
         × (out.new.items ≡ out.old.items ++ text)) }
 {
     let mut rule = Kept::resumed(alloc, depth, pause.styled);

@@ -24,7 +24,9 @@ pub trait Rule {
         out: &mut Vec<u8>,
     ) -> Result<(), AllocError>
         requires { Seq bytes.now params.now control }
-        ensures { OnOk result ((text : List ℕ) × gives.sequence self.old bytes.now text self.new × (out.new.items ≡ out.old.items ++ text)) };
+        ensures { OnOk result
+            ((text : List ℕ) × gives.sequence self.old bytes.now text self.new
+            × (out.new.items ≡ out.old.items ++ text)) };
 
     /// Takes the control sequence in front at once, where the rule can: appends what stands in its place, and answers how many bytes it
     /// has, at most `limit`. It answers 0 where it takes none, and then nothing changes; `rewrite` is called for that one.
@@ -35,15 +37,21 @@ pub trait Rule {
         out: &mut Vec<u8>,
     ) -> Result<usize, AllocError>
         ensures within { IfOk result (λ len. (len ≤ limit) × (len ≤ length bytes.now)) }
-        ensures taken { IfOk result (λ len. 0 < len → (text : List ℕ) × IsSequence (take len bytes.now)
-            × gives.sequence self.old (take len bytes.now) text self.new × (out.new.items ≡ out.old.items ++ text)) }
-        ensures none { IfOk result (λ len. len ≡ 0 → (self.new ≡ self.old) × (out.new.items ≡ out.old.items)) };
+        ensures taken { IfOk result
+            (λ len. 0 < len → (text : List ℕ) × IsSequence (take len bytes.now)
+            × gives.sequence self.old (take len bytes.now) text self.new
+            × (out.new.items ≡ out.old.items ++ text)) }
+        ensures none { IfOk result
+            (λ len. len ≡ 0 → (self.new ≡ self.old) × (out.new.items ≡ out.old.items)) };
 
     /// Appends what stands in the place of some bytes of a control string: one comes in any cut, from the ESC on that opens it.
     fn string(&mut self, bytes: &[u8], out: &mut Vec<u8>) -> Result<(), AllocError>
-        ensures { OnOk result ((text : List ℕ) × AreGiven gives self.old bytes.now text self.new × (out.new.items ≡ out.old.items ++ text)) };
+        ensures { OnOk result
+            ((text : List ℕ) × AreGiven gives self.old bytes.now text self.new
+            × (out.new.items ≡ out.old.items ++ text)) };
 
     /// Appends what ends the output: nothing comes any more.
     fn close(&self, out: &mut Vec<u8>) -> Result<(), AllocError>
-        ensures { OnOk result ((text : List ℕ) × closes self.now text × (out.new.items ≡ out.old.items ++ text)) };
+        ensures { OnOk result
+            ((text : List ℕ) × closes self.now text × (out.new.items ≡ out.old.items ++ text)) };
 }

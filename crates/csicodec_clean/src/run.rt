@@ -54,16 +54,24 @@ pub fn clean_run<T: Rule + Drop, R: Read, W: Write>(
     output: &mut W,
 ) -> Result<(), RunError>
     // What was written is what is left of all the bytes, and what ends it.
-    ensures ok { OnOk result ((bytes : List ℕ) × (text : List ℕ) × Consumes (R.remaining input.old) (R.remaining input.new) bytes
-        × Ends T.gives T.closes longest rule bytes text × Appends (W.contents output.old) (W.contents output.new) text) }
+    ensures ok { OnOk result
+        ((bytes : List ℕ) × (text : List ℕ)
+        × Consumes (R.remaining input.old) (R.remaining input.new) bytes
+        × Ends T.gives T.closes longest rule bytes text
+        × Appends (W.contents output.old) (W.contents output.new) text) }
     ensures end { OnOk result (IsAtEnd (R.remaining input.new)) }
     // When a read fails, all that was sure of the bytes before it has been written.
-    ensures failed { IfErr result (λ e. e ≡ RunError.Read → (bytes : List ℕ) × (text : List ℕ) × (last : Between T)
-        × Consumes (R.remaining input.old) (R.remaining input.new) bytes × Takes T.gives (start_of rule) bytes text last
+    ensures failed { IfErr result
+        (λ e. e ≡ RunError.Read → (bytes : List ℕ) × (text : List ℕ) × (last : Between T)
+        × Consumes (R.remaining input.old) (R.remaining input.new) bytes
+        × Takes T.gives (start_of rule) bytes text last
         × Appends (W.contents output.old) (W.contents output.new) text) }
     // After any error, what went out is a front of the text of bytes that were read, and has of its end only where they are all.
-    ensures front { OnErr result ((bytes : List ℕ) × (more : List ℕ) × (sent : List ℕ) × Consumes (R.remaining input.old) (R.remaining input.new) (bytes ++ more)
-        × Begins T.gives T.closes rule ((more ≡ []) × IsAtEnd (R.remaining input.new)) bytes sent × Appends (W.contents output.old) (W.contents output.new) sent) }
+    ensures front { OnErr result
+        ((bytes : List ℕ) × (more : List ℕ) × (sent : List ℕ)
+        × Consumes (R.remaining input.old) (R.remaining input.new) (bytes ++ more)
+        × Begins T.gives T.closes rule ((more ≡ []) × IsAtEnd (R.remaining input.new)) bytes sent
+        × Appends (W.contents output.old) (W.contents output.new) sent) }
 {
     let cleaner = Cleaner::new(alloc, rule);
     transform_all(alloc, cleaner, input, output)
@@ -82,16 +90,22 @@ pub fn strip_all<R: Read, W: Write>(
     output: &mut W,
 ) -> Result<(), RunError>
     // What was written is the stripped text of all the bytes.
-    ensures ok { OnOk result ((bytes : List ℕ) × (text : List ℕ) × Consumes (R.remaining input.old) (R.remaining input.new) bytes
-        × Strips longest bytes text × IsPlain text × Appends (W.contents output.old) (W.contents output.new) text) }
+    ensures ok { OnOk result
+        ((bytes : List ℕ) × (text : List ℕ)
+        × Consumes (R.remaining input.old) (R.remaining input.new) bytes
+        × Strips longest bytes text × IsPlain text
+        × Appends (W.contents output.old) (W.contents output.new) text) }
     ensures end { OnOk result (IsAtEnd (R.remaining input.new)) }
     // After any error, what went out is a front of the stripped text of bytes that were read, and so of plain text.
-    ensures front { OnErr result ((bytes : List ℕ) × (more : List ℕ) × (sent : List ℕ) × (unsent : List ℕ)
-        × Consumes (R.remaining input.old) (R.remaining input.new) (bytes ++ more) × Strips longest bytes (sent ++ unsent) × IsPlain (sent ++ unsent)
+    ensures front { OnErr result
+        ((bytes : List ℕ) × (more : List ℕ) × (sent : List ℕ) × (unsent : List ℕ)
+        × Consumes (R.remaining input.old) (R.remaining input.new) (bytes ++ more)
+        × Strips longest bytes (sent ++ unsent) × IsPlain (sent ++ unsent)
         × Appends (W.contents output.old) (W.contents output.new) sent) }
     // And it is a front of the stripped text of the whole input.
     ensures whole { OnErr result (IfSome (R.remaining input.old) (λ bytes.
-        (sent : List ℕ) × IsFrontOf (Strips longest) bytes sent × Appends (W.contents output.old) (W.contents output.new) sent)) }
+        (sent : List ℕ) × IsFrontOf (Strips longest) bytes sent
+        × Appends (W.contents output.old) (W.contents output.new) sent)) }
 {
     clean_run(alloc, Dropped, input, output)
 }
@@ -107,16 +121,22 @@ pub fn clean_all<R: Read, W: Write>(
     output: &mut W,
 ) -> Result<(), RunError>
     // What was written is the text of all the bytes with their styles.
-    ensures ok { OnOk result ((bytes : List ℕ) × (text : List ℕ) × Consumes (R.remaining input.old) (R.remaining input.new) bytes
-        × Styles bytes text × IsStyled text × Appends (W.contents output.old) (W.contents output.new) text) }
+    ensures ok { OnOk result
+        ((bytes : List ℕ) × (text : List ℕ)
+        × Consumes (R.remaining input.old) (R.remaining input.new) bytes
+        × Styles bytes text × IsStyled text
+        × Appends (W.contents output.old) (W.contents output.new) text) }
     ensures end { OnOk result (IsAtEnd (R.remaining input.new)) }
     // After any error, what went out is a front of such a text of bytes that were read.
-    ensures front { OnErr result ((bytes : List ℕ) × (more : List ℕ) × (sent : List ℕ) × (unsent : List ℕ)
-        × Consumes (R.remaining input.old) (R.remaining input.new) (bytes ++ more) × Styles bytes (sent ++ unsent) × IsStyled (sent ++ unsent)
+    ensures front { OnErr result
+        ((bytes : List ℕ) × (more : List ℕ) × (sent : List ℕ) × (unsent : List ℕ)
+        × Consumes (R.remaining input.old) (R.remaining input.new) (bytes ++ more)
+        × Styles bytes (sent ++ unsent) × IsStyled (sent ++ unsent)
         × Appends (W.contents output.old) (W.contents output.new) sent) }
     // And it is a front of the text of the whole input.
     ensures whole { OnErr result (IfSome (R.remaining input.old) (λ bytes.
-        (sent : List ℕ) × IsFrontOf Styles bytes sent × Appends (W.contents output.old) (W.contents output.new) sent)) }
+        (sent : List ℕ) × IsFrontOf Styles bytes sent
+        × Appends (W.contents output.old) (W.contents output.new) sent)) }
 {
     clean_all_in(alloc, Depth::Full, input, output)
 }
@@ -129,16 +149,23 @@ pub fn clean_all_in<R: Read, W: Write>(
     output: &mut W,
 ) -> Result<(), RunError>
     // What was written is the text of all the bytes with their styles.
-    ensures ok { OnOk result ((bytes : List ℕ) × (text : List ℕ) × Consumes (R.remaining input.old) (R.remaining input.new) bytes
-        × StylesIn (without_links depth) bytes text × IsStyledIn (without_links depth) text × Appends (W.contents output.old) (W.contents output.new) text) }
+    ensures ok { OnOk result
+        ((bytes : List ℕ) × (text : List ℕ)
+        × Consumes (R.remaining input.old) (R.remaining input.new) bytes
+        × StylesIn (without_links depth) bytes text × IsStyledIn (without_links depth) text
+        × Appends (W.contents output.old) (W.contents output.new) text) }
     ensures end { OnOk result (IsAtEnd (R.remaining input.new)) }
     // After any error, what went out is a front of such a text of bytes that were read.
-    ensures front { OnErr result ((bytes : List ℕ) × (more : List ℕ) × (sent : List ℕ) × (unsent : List ℕ)
-        × Consumes (R.remaining input.old) (R.remaining input.new) (bytes ++ more) × StylesIn (without_links depth) bytes (sent ++ unsent) × IsStyledIn (without_links depth) (sent ++ unsent)
+    ensures front { OnErr result
+        ((bytes : List ℕ) × (more : List ℕ) × (sent : List ℕ) × (unsent : List ℕ)
+        × Consumes (R.remaining input.old) (R.remaining input.new) (bytes ++ more)
+        × StylesIn (without_links depth) bytes (sent ++ unsent)
+        × IsStyledIn (without_links depth) (sent ++ unsent)
         × Appends (W.contents output.old) (W.contents output.new) sent) }
     // And it is a front of the text of the whole input.
     ensures whole { OnErr result (IfSome (R.remaining input.old) (λ bytes.
-        (sent : List ℕ) × IsFrontOf (StylesIn (without_links depth)) bytes sent × Appends (W.contents output.old) (W.contents output.new) sent)) }
+        (sent : List ℕ) × IsFrontOf (StylesIn (without_links depth)) bytes sent
+        × Appends (W.contents output.old) (W.contents output.new) sent)) }
 {
     let links = false;
     clean_all_with(alloc, Passing { depth, links }, input, output)
@@ -152,16 +179,22 @@ pub fn clean_all_with<R: Read, W: Write>(
     output: &mut W,
 ) -> Result<(), RunError>
     // What was written is the text of all the bytes with what passes.
-    ensures ok { OnOk result ((bytes : List ℕ) × (text : List ℕ) × Consumes (R.remaining input.old) (R.remaining input.new) bytes
-        × StylesIn passing bytes text × IsStyledIn passing text × Appends (W.contents output.old) (W.contents output.new) text) }
+    ensures ok { OnOk result
+        ((bytes : List ℕ) × (text : List ℕ)
+        × Consumes (R.remaining input.old) (R.remaining input.new) bytes
+        × StylesIn passing bytes text × IsStyledIn passing text
+        × Appends (W.contents output.old) (W.contents output.new) text) }
     ensures end { OnOk result (IsAtEnd (R.remaining input.new)) }
     // After any error, what went out is a front of such a text of bytes that were read.
-    ensures front { OnErr result ((bytes : List ℕ) × (more : List ℕ) × (sent : List ℕ) × (unsent : List ℕ)
-        × Consumes (R.remaining input.old) (R.remaining input.new) (bytes ++ more) × StylesIn passing bytes (sent ++ unsent) × IsStyledIn passing (sent ++ unsent)
+    ensures front { OnErr result
+        ((bytes : List ℕ) × (more : List ℕ) × (sent : List ℕ) × (unsent : List ℕ)
+        × Consumes (R.remaining input.old) (R.remaining input.new) (bytes ++ more)
+        × StylesIn passing bytes (sent ++ unsent) × IsStyledIn passing (sent ++ unsent)
         × Appends (W.contents output.old) (W.contents output.new) sent) }
     // And it is a front of the text of the whole input.
     ensures whole { OnErr result (IfSome (R.remaining input.old) (λ bytes.
-        (sent : List ℕ) × IsFrontOf (StylesIn passing) bytes sent × Appends (W.contents output.old) (W.contents output.new) sent)) }
+        (sent : List ℕ) × IsFrontOf (StylesIn passing) bytes sent
+        × Appends (W.contents output.old) (W.contents output.new) sent)) }
 {
     clean_run(alloc, Kept::letting(alloc, passing), input, output)
 }

@@ -20,9 +20,12 @@ use std::alloc::AllocError;
 /// Appends what is shown of the text, as far as it is sure; `held` are the bytes before it that aren't, and then those at its
 /// end.
 fn append_text(held: &mut Vec<u8>, bytes: &[u8], out: &mut Vec<u8>) -> Result<(), AllocError>
-    ensures chars { OnOk result ((chars : List ℕ) × IsRead (held.old.items ++ bytes.now) chars held.new.items × (out.new.items ≡ out.old.items ++ shown_chars chars)) }
+    ensures chars { OnOk result
+        ((chars : List ℕ) × IsRead (held.old.items ++ bytes.now) chars held.new.items
+        × (out.new.items ≡ out.old.items ++ shown_chars chars)) }
     ensures short { OnOk result (length held.new.items ≤ 3) }
-    ensures last { OnOk result ((front : List ℕ) × (held.old.items ++ bytes.now ≡ front ++ held.new.items)) }
+    ensures last { OnOk result
+        ((front : List ℕ) × (held.old.items ++ bytes.now ≡ front ++ held.new.items)) }
 {
     if held.is_empty() {
         let rest = append_sure(bytes, out)?;
@@ -45,11 +48,15 @@ fn append_span<T: Rule>(
     bytes: &[u8],
     out: &mut Vec<u8>,
 ) -> Result<(), AllocError>
-    requires { MatchOption control (kind ≢ Sequence) (λ final. (kind ≡ Sequence) × Seq bytes.now params.now final) }
-    ensures appended { OnOk result ((more : List ℕ) × IsAppended T.gives kind rule.old held.old.items bytes.now more rule.new held.new.items
+    requires { MatchOption control (kind ≢ Sequence)
+        (λ final. (kind ≡ Sequence) × Seq bytes.now params.now final) }
+    ensures appended { OnOk result
+        ((more : List ℕ)
+        × IsAppended T.gives kind rule.old held.old.items bytes.now more rule.new held.new.items
         × (out.new.items ≡ out.old.items ++ more)) }
     ensures short { OnOk result (length held.new.items ≤ 3) }
-    ensures last { OnOk result ((front : List ℕ) × (held.old.items ++ bytes.now ≡ front ++ held.new.items)) }
+    ensures last { OnOk result
+        ((front : List ℕ) × (held.old.items ++ bytes.now ≡ front ++ held.new.items)) }
 {
     if kind == Kind::Text {
         return append_text(held, bytes, out);
@@ -77,13 +84,18 @@ pub(crate) fn append_clean<'a, T: Rule>(
     out: &mut Vec<u8>,
 ) -> Result<(&'a [u8], Mode), AllocError>
     requires { 0 < limit }
-    ensures parts { IfOk result (λ (rest, after). (front : List ℕ) × (bytes.now ≡ front ++ rest.now)) }
+    ensures parts { IfOk result
+        (λ (rest, after). (front : List ℕ) × (bytes.now ≡ front ++ rest.now)) }
     ensures unsure { IfOk result (λ (rest, after). IsUnsure limit after rest.now) }
-    ensures goes { IfOk result (λ (rest, after). (appended : List ℕ) × (out.new.items ≡ out.old.items ++ appended)
-        × ((run chars : List ℕ) → IsRead run chars held.old.items → Goes T.gives limit mode titled.old rule.old run chars bytes.now appended rest.now after titled.new rule.new held.new.items)) }
+    ensures goes { IfOk result
+        (λ (rest, after). (appended : List ℕ) × (out.new.items ≡ out.old.items ++ appended)
+        × ((run chars : List ℕ) → IsRead run chars held.old.items
+        → Goes T.gives limit mode titled.old rule.old run chars bytes.now appended rest.now after titled.new rule.new held.new.items)) }
     ensures short { OnOk result (length held.old.items ≤ 3 → length held.new.items ≤ 3) }
     // What is held stands directly before the rest.
-    ensures last { IfOk result (λ (rest, after). (front : List ℕ) × (held.old.items ++ bytes.now ≡ front ++ (held.new.items ++ rest.now))) }
+    ensures last { IfOk result
+        (λ (rest, after). (front : List ℕ)
+        × (held.old.items ++ bytes.now ≡ front ++ (held.new.items ++ rest.now))) }
 {
     let mut cutter = Cutter { mode, rest: bytes };
     loop {

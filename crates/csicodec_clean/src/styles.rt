@@ -34,7 +34,9 @@ fn is_reset(style: &Sgr) -> bool
 
 /// Appends the text of the action, if it is a style that stays.
 fn append_style(depth: Depth, action: &CSI, out: &mut Vec<u8>) -> Result<(), AllocError>
-    ensures { OnOk result (out.new.items ≡ out.old.items ++ texts (map SgrAction (kept depth (action_of action.now ∷ [])))) }
+    ensures { OnOk result
+        (out.new.items
+        ≡ out.old.items ++ texts (map SgrAction (kept depth (action_of action.now ∷ [])))) }
 {
     match action {
         CSI::Sgr(style) => {
@@ -61,7 +63,9 @@ pub(crate) fn append_styles(
     actions: &[CSI],
     out: &mut Vec<u8>,
 ) -> Result<(), AllocError>
-    ensures { OnOk result (out.new.items ≡ out.old.items ++ texts (map SgrAction (kept depth (map action_of actions.now)))) }
+    ensures { OnOk result
+        (out.new.items
+        ≡ out.old.items ++ texts (map SgrAction (kept depth (map action_of actions.now)))) }
 {
     for action in actions {
         append_style(depth, action, out)?;
@@ -138,7 +142,8 @@ impl Model for Kept {
     ghost use Rattle.csicodec_clean.specs.Private.Notes.{IsNoted};
     ghost use Rattle.csicodec_streams.specs.Known.{AreKnown};
 
-    ghost view = { λ k. keeping k.passing k.styled k.linked (begun k.link.place k.link.params.items k.link.url.items) };
+    ghost view = { λ k. keeping k.passing k.styled k.linked
+        (begun k.link.place k.link.params.items k.link.url.items) };
 
     ghost invariant = { λ k. AreKnown IsNoted k.known.memo.slots.items };
 }

@@ -30,7 +30,9 @@ fn append_char(char: char, out: &mut Vec<u8>) -> Result<(), AllocError>
 /// no bytes.
 fn first_sure(bytes: &[u8]) -> Option<(char, usize)>
     ensures none { IfNone result (IsCut bytes.now) }
-    ensures some { IfSome result (λ (char, size). IsRead bytes.now (char ∷ []) (drop size bytes.now) × (0 < size) × (size ≤ length bytes.now)) }
+    ensures some { IfSome result
+        (λ (char, size). IsRead bytes.now (char ∷ []) (drop size bytes.now) × (0 < size)
+        × (size ≤ length bytes.now)) }
 {
     if bytes.is_empty() {
         return None;
@@ -100,7 +102,9 @@ pub(crate) fn append_told<'a>(bytes: &'a [u8], out: &mut Vec<u8>) -> Result<&'a 
 /// Appends what is shown of the characters that are sure, whatever follows, and answers the others: three bytes at most.
 pub(crate) fn append_sure<'a>(bytes: &'a [u8], out: &mut Vec<u8>) -> Result<&'a [u8], AllocError>
     ensures parts { IfOk result (λ rest. (front : List ℕ) × (bytes.now ≡ front ++ rest.now)) }
-    ensures chars { IfOk result (λ rest. (chars : List ℕ) × IsRead bytes.now chars rest.now × (out.new.items ≡ out.old.items ++ shown_chars chars)) }
+    ensures chars { IfOk result
+        (λ rest. (chars : List ℕ) × IsRead bytes.now chars rest.now
+        × (out.new.items ≡ out.old.items ++ shown_chars chars)) }
     ensures cut { IfOk result (λ rest. IsCut rest.now) }
     ensures short { IfOk result (λ rest. length rest.now ≤ 3) }
 {

@@ -14,4 +14,5 @@ abbrev pub AreRunsWithin : ℕ → List (List Part) → List Part → List ℕ �
 AreRunsWithin limit [] parts text = (parts ≡ []) × (text ≡ [])
 AreRunsWithin limit (run ∷ runs) parts text =
     (behind : List Part) × (first : List ℕ) × (others : List ℕ) × (parts ≡ run ++ behind)
-    × (text ≡ first ++ others) × IsRunWithin limit run first × AreRunsWithin limit runs behind others
+    × (text ≡ first ++ others) × IsRunWithin limit run first
+    × AreRunsWithin limit runs behind others

@@ -11,11 +11,13 @@ use Rattle.csicodec.specs.Exact.{ReadsAlone}
 
 -- what the bytes are read as the text is read as too: exactly these actions, in order
 abbrev pub ReadsAlike : List ℕ → List ℕ → Type 0
-ReadsAlike bytes text = (actions : List Action) → Decodes bytes false actions → Decodes text false actions
+ReadsAlike bytes text = (actions : List Action) → Decodes bytes false actions
+    → Decodes text false actions
 
 -- a sequence that stays is written as it came
 abbrev pub KeepsStaying : List ℕ → List ℕ → Type 0
-KeepsStaying bytes text = (list : List CsiParam) (final : ℕ) → Seq bytes list final → stays list final ≡ true → text ≡ bytes
+KeepsStaying bytes text = (list : List CsiParam) (final : ℕ) → Seq bytes list final
+    → stays list final ≡ true → text ≡ bytes
 
 -- the text is read as the bytes are, is no longer, and is the bytes where they stay
 pub record Compacts (bytes text : List ℕ) : Type 0 where
@@ -25,5 +27,6 @@ pub record Compacts (bytes text : List ℕ) : Type 0 where
 
 -- The text is no longer than the texts of the actions joined, and is read as these actions where each of them is read back from its own text.
 pub record Encodes (actions : List Action) (text : List ℕ) : Type 0 where
-  pub back : AllByRecursion (λ (a : Action). ReadsAlone a false) actions → Decodes text false actions
+  pub back : AllByRecursion (λ (a : Action). ReadsAlone a false) actions
+      → Decodes text false actions
   pub short : length text ≤ length (texts actions)

@@ -12,7 +12,8 @@ use Rattle.csicodec_filter.specs.Faithful.{stays}
 
 -- a control sequence that stays as it came
 abbrev pub IsStaying : List ℕ → Type 0
-IsStaying bytes = (list : List CsiParam) × (final : ℕ) × Seq bytes list final × (stays list final ≡ true)
+IsStaying bytes = (list : List CsiParam) × (final : ℕ) × Seq bytes list final
+    × (stays list final ≡ true)
 
 abbrev pub NoneStays : List Part → Type 0
 NoneStays run = AllByRecursion (λ (p : Part). ¬ IsStaying p.bytes) run
@@ -29,13 +30,15 @@ pub record Shortens (run : List Part) (text : List ℕ) : Type 0 where
 
 -- such a run, or one part that is no control sequence, as it came
 abbrev pub IsRun : List Part → List ℕ → Type 0
-IsRun run text = Shortens run text ⊎ ((p : Part) × (run ≡ p ∷ []) × (p.kind ≢ kind.Csi) × (text ≡ p.bytes))
+IsRun run text = Shortens run text
+    ⊎ ((p : Part) × (run ≡ p ∷ []) × (p.kind ≢ kind.Csi) × (text ≡ p.bytes))
 
 -- the parts are these runs in turn, and the text is theirs
 abbrev pub AreRuns : List (List Part) → List Part → List ℕ → Type 0
 AreRuns [] parts text = (parts ≡ []) × (text ≡ [])
 AreRuns (run ∷ runs) parts text =
-    (behind : List Part) × (first : List ℕ) × (others : List ℕ) × (parts ≡ run ++ behind) × (text ≡ first ++ others) × IsRun run first × AreRuns runs behind others
+    (behind : List Part) × (first : List ℕ) × (others : List ℕ) × (parts ≡ run ++ behind)
+    × (text ≡ first ++ others) × IsRun run first × AreRuns runs behind others
 
 abbrev pub IsShortened : List Part → List ℕ → Type 0
 IsShortened parts text = (runs : List (List Part)) × AreRuns runs parts text
@@ -47,7 +50,8 @@ pub record Open : Type 0 where
   pub bytes : List ℕ
 
 -- behind these bytes, the parts that are sure make this text, and the others are held
-pub record PassesShort (limit : ℕ) (m : Mode) (bytes text held : List ℕ) (after : Mode) : Type 0 where
+pub record PassesShort (limit : ℕ) (m : Mode) (bytes text held : List ℕ)
+    (after : Mode) : Type 0 where
   pub parts : List Part
   pub first : AreFirstParts limit m bytes parts held after
   pub unsure : IsUnsure limit after held

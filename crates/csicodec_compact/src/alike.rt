@@ -22,7 +22,8 @@ pub(crate) struct Comparer {
 /// Whether the normal form tells which actions they are: it doesn't of left and right margins (DECSLRM, `s`) and of a request for
 /// the terminal's parameters (DECREQTPARM, `x`).
 fn tells(normal: &[u8]) -> bool
-    ensures { result ≡ (not (list_any (λ b. b == 115) normal.now) && not (list_any (λ b. b == 120) normal.now)) }
+    ensures { result
+        ≡ (not (list_any (λ b. b == 115) normal.now) && not (list_any (λ b. b == 120) normal.now)) }
 {
     !normal.contains(&b's') && !normal.contains(&b'x')
 }
@@ -75,7 +76,9 @@ impl Comparer {
         control: char,
         other: &[u8],
     ) -> Result<bool, AllocError>
-        ensures { IfOk result (λ yes. yes ≡ true → (bytes : List ℕ) → Seq bytes params.now control → ReadsAlike bytes other.now) }
+        ensures { IfOk result
+            (λ yes. yes ≡ true → (bytes : List ℕ) → Seq bytes params.now control
+            → ReadsAlike bytes other.now) }
     {
         if !self.read(other)? {
             return Ok(false);

@@ -72,16 +72,24 @@ pub fn compact_all<R: Read, W: Write>(
 ) -> Result<(), RunError>
     requires { 0 < limit }
     // What was written is what is made of all that was read.
-    ensures ok { OnOk result ((bytes : List ℕ) × (text : List ℕ) × Consumes (R.remaining input.old) (R.remaining input.new) bytes
-        × CompactsAll limit Plain bytes text × Appends (W.contents output.old) (W.contents output.new) text) }
+    ensures ok { OnOk result
+        ((bytes : List ℕ) × (text : List ℕ)
+        × Consumes (R.remaining input.old) (R.remaining input.new) bytes
+        × CompactsAll limit Plain bytes text
+        × Appends (W.contents output.old) (W.contents output.new) text) }
     ensures end { OnOk result (IsAtEnd (R.remaining input.new)) }
     // When a read fails, all that was sure of the bytes before it has been written.
-    ensures failed { IfErr result (λ e. e ≡ RunError.Read → (read : List ℕ) × (text : List ℕ) × (held : List ℕ) × (mode : Mode) ×
-        Consumes (R.remaining input.old) (R.remaining input.new) read × PassesShort limit Plain read text held mode
+    ensures failed { IfErr result
+        (λ e. e ≡ RunError.Read
+        → (read : List ℕ) × (text : List ℕ) × (held : List ℕ) × (mode : Mode) ×
+        Consumes (R.remaining input.old) (R.remaining input.new) read
+        × PassesShort limit Plain read text held mode
         × Appends (W.contents output.old) (W.contents output.new) text) }
     // After any error, what went out is a front of what is made of bytes that were read.
-    ensures front { OnErr result ((bytes : List ℕ) × (more : List ℕ) × (sent : List ℕ) × (unsent : List ℕ)
-        × Consumes (R.remaining input.old) (R.remaining input.new) (bytes ++ more) × CompactsAll limit Plain bytes (sent ++ unsent)
+    ensures front { OnErr result
+        ((bytes : List ℕ) × (more : List ℕ) × (sent : List ℕ) × (unsent : List ℕ)
+        × Consumes (R.remaining input.old) (R.remaining input.new) (bytes ++ more)
+        × CompactsAll limit Plain bytes (sent ++ unsent)
         × Appends (W.contents output.old) (W.contents output.new) sent) }
 {
     let compactor = Compactor::new(alloc, limit, compact);

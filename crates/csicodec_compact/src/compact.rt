@@ -45,7 +45,8 @@ impl Compact {
     /// Whether the spelling may stand in the place of a sequence of that many bytes.
     fn serves(&mut self, len: usize, params: &[CsiParam], control: char) -> Result<bool, AllocError>
         ensures { IfOk result (λ yes. yes ≡ true → (length self.new.spelling ≤ len)
-            × ((bytes : List ℕ) → Seq bytes params.now control → ReadsAlike bytes self.new.spelling)) }
+            × ((bytes : List ℕ) → Seq bytes params.now control
+            → ReadsAlike bytes self.new.spelling)) }
     {
         let spelling = self.spelling.as_slice();
         if spelling.len() < len || self.semicolons && spelling.len() == len {

@@ -82,7 +82,10 @@ impl Joiner {
 
     /// Whether there is one sequence, shorter, that is read as these texts are.
     fn find(&mut self, texts: &[u8]) -> Result<bool, AllocError>
-        ensures { IfOk result (λ yes. yes ≡ true → (length self.new.spelling ≤ length texts.now) × ReadsAlike texts.now self.new.spelling) }
+        ensures { IfOk result
+            (λ yes. yes ≡ true
+            → (length self.new.spelling ≤ length texts.now)
+            × ReadsAlike texts.now self.new.spelling) }
     {
         join(texts, &mut self.joined)?;
         let control = match read_csi_into(&mut self.params, &self.joined) {
@@ -104,7 +107,9 @@ impl Joiner {
 
     /// Appends one sequence for the actions, or each by itself.
     fn append(&mut self, run: &[CSI], out: &mut Vec<u8>) -> Result<(), AllocError>
-        ensures { OnOk result ((text : List ℕ) × Encodes (map action_of run.now) text × (out.new.items ≡ out.old.items ++ text)) }
+        ensures { OnOk result
+            ((text : List ℕ) × Encodes (map action_of run.now) text
+            × (out.new.items ≡ out.old.items ++ text)) }
     {
         let texts = encode_all(self.alloc, run)?;
         if self.find(&texts)? {

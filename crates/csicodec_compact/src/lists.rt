@@ -97,7 +97,9 @@ fn are_styles(
     params: &[CsiParam],
     actions: &mut Vec<CSI>,
 ) -> Result<bool, AllocError>
-    ensures { IfOk result (λ yes. yes ≡ true → (styles : List Sgr) × Actions params.now false 109 (map Style styles)) }
+    ensures { IfOk result
+        (λ yes. yes ≡ true
+        → (styles : List Sgr) × Actions params.now false 109 (map Style styles)) }
 {
     actions.clear();
     parse_into(alloc, params, false, 'm', actions)?;
@@ -127,7 +129,9 @@ impl Lists {
 
     /// Whether a text is one sequence of numbers with `;` between them before `m`. `params` is its list then.
     fn is_list(&mut self, text: &[u8]) -> Result<bool, AllocError>
-        ensures { IfOk result (λ yes. yes ≡ true → Seq text.now self.new.params.items 109 × IsStyleList self.new.params.items) }
+        ensures { IfOk result
+            (λ yes. yes ≡ true
+            → Seq text.now self.new.params.items 109 × IsStyleList self.new.params.items) }
     {
         match read_csi_into(&mut self.params, text) {
             Ok(tail) => {
@@ -150,7 +154,9 @@ impl Lists {
         params: &[CsiParam],
     ) -> Result<bool, AllocError>
         requires { Seq bytes.now params.now 109 }
-        ensures { IfOk result (λ yes. yes ≡ true → Seq text.now self.new.params.items 109 × IsStyleList self.new.params.items) }
+        ensures { IfOk result
+            (λ yes. yes ≡ true
+            → Seq text.now self.new.params.items 109 × IsStyleList self.new.params.items) }
     {
         if text == bytes {
             self.params.clear();
@@ -162,8 +168,11 @@ impl Lists {
 
     /// Whether the list that was read is of known attributes, and ends in a number.
     fn is_unclosed(&mut self) -> Result<bool, AllocError>
-        ensures unclosed { IfOk result (λ yes. yes ≡ true → ¬ EndsInSemicolon self.new.params.items) }
-        ensures styles { IfOk result (λ yes. yes ≡ true → (styles : List Sgr) × Actions self.new.params.items false 109 (map Style styles)) }
+        ensures unclosed { IfOk result
+            (λ yes. yes ≡ true → ¬ EndsInSemicolon self.new.params.items) }
+        ensures styles { IfOk result
+            (λ yes. yes ≡ true
+            → (styles : List Sgr) × Actions self.new.params.items false 109 (map Style styles)) }
         ensures params { self.new.params.items ≡ self.old.params.items }
     {
         if !is_open(&self.params) {

@@ -44,8 +44,13 @@ fn list_of(text: &[u8], form: Form) -> &[u8]
 /// Writes a note.
 fn write_note(note: &mut TextBuffer, form: Form, text: &[u8]) -> Result<(), AllocError>
     requires { is_joined form ≡ true → 2 + length (closing form) ≤ length text.now }
-    ensures whole { OnOk result (is_joined form ≡ false → (mark : ℕ) × (count : ℕ) × (form_of mark ≡ form) × (note.new ≡ mark ∷ count ∷ text.now)) }
-    ensures list { OnOk result (is_joined form ≡ true → (mark : ℕ) × (count : ℕ) × (form_of mark ≡ form) × (note.new ≡ mark ∷ count ∷ 59 ∷ list_of form text.now)) }
+    ensures whole { OnOk result
+        (is_joined form ≡ false
+        → (mark : ℕ) × (count : ℕ) × (form_of mark ≡ form) × (note.new ≡ mark ∷ count ∷ text.now)) }
+    ensures list { OnOk result
+        (is_joined form ≡ true
+        → (mark : ℕ) × (count : ℕ) × (form_of mark ≡ form)
+        × (note.new ≡ mark ∷ count ∷ 59 ∷ list_of form text.now)) }
 {
     note.clear();
     if form.is_joined() {
@@ -82,7 +87,8 @@ impl Notes {
     fn form(&mut self, bytes: &[u8], params: &[CsiParam], control: char) -> Result<Form, AllocError>
         requires { Seq bytes.now params.now control }
         ensures own { IfOk result (λ form. IsOwn form self.old.text.items) }
-        ensures free { IfOk result (λ form. is_joined form ≡ true → stays params.now control ≡ false) }
+        ensures free { IfOk result
+            (λ form. is_joined form ≡ true → stays params.now control ≡ false) }
         ensures text { self.new.text.items ≡ self.old.text.items }
     {
         if are_attributes(params, control) {

@@ -121,7 +121,8 @@ impl Written {
         out: &mut TextBuffer,
     ) -> Result<(), AllocError>
         requires { Begins text.now wide.now }
-        ensures text { OnOk result (out.new ≡ (out.old ++ closing self.old.form) ++ opened form text.now) }
+        ensures text { OnOk result
+            (out.new ≡ (out.old ++ closing self.old.form) ++ opened form text.now) }
         ensures form { OnOk result (self.new.form ≡ form) }
     {
         self.close(out)?;
@@ -192,7 +193,8 @@ impl Written {
 
     /// Writes a span that is no control sequence: the list before it is over.
     fn pass(&mut self, span: &[u8], out: &mut TextBuffer) -> Result<(), AllocError>
-        ensures { OnOk result ((parts : List Part) (kind : Kind) → IsSpan kind span.now parts → kind ≢ Sequence
+        ensures { OnOk result
+            ((parts : List Part) (kind : Kind) → IsSpan kind span.now parts → kind ≢ Sequence
             → GoesOnBy self.old.form parts out.old out.new self.new.form) }
     {
         self.close(out)?;
@@ -208,7 +210,9 @@ impl Written {
         out: &mut TextBuffer,
     ) -> Result<(), AllocError>
         requires { len ≤ length bytes.now }
-        ensures { OnOk result ((parts : List Part) (kind : Kind) → IsSpan kind (take len bytes.now) parts → kind ≢ Sequence
+        ensures { OnOk result
+            ((parts : List Part) (kind : Kind) → IsSpan kind (take len bytes.now) parts
+            → kind ≢ Sequence
             → GoesOnBy self.old.form parts out.old out.new self.new.form) }
     {
         self.close(out)?;
@@ -230,7 +234,8 @@ fn take_sequence(
     requires known { AreKnown IsNote known.old.memo.slots.items }
     requires front { span.now ≡ take (length span.now) bytes.now }
     requires seq { Seq span.now params.now control }
-    ensures goes { OnOk result (GoesOnBy written.old.form (part Sequence span.now ∷ []) out.old out.new written.new.form) }
+    ensures goes { OnOk result
+        (GoesOnBy written.old.form (part Sequence span.now ∷ []) out.old out.new written.new.form) }
     ensures known { OnOk result (AreKnown IsNote known.new.memo.slots.items) }
 {
     notes.find(span, params, control)?;
@@ -255,7 +260,8 @@ pub(crate) fn take_span(
     requires front { span.now ≡ take (length span.now) bytes.now }
     requires seq { IfSome control (λ final. Seq span.now params.now final) }
     ensures goes { OnOk result ((parts : List Part) (kind : Kind) → IsSpan kind span.now parts
-        → MatchOption control (kind ≢ Sequence) (λ _. kind ≡ Sequence) → GoesOnBy written.old.form parts out.old out.new written.new.form) }
+        → MatchOption control (kind ≢ Sequence) (λ _. kind ≡ Sequence)
+        → GoesOnBy written.old.form parts out.old out.new written.new.form) }
     ensures known { OnOk result (AreKnown IsNote known.new.memo.slots.items) }
 {
     match control {

@@ -34,8 +34,12 @@ fn pass_one(
 ) -> Result<usize, AllocError>
     requires { AreKnown IsNote known.old.memo.slots.items }
     ensures within { IfOk result (λ len. len ≤ length bytes.now) }
-    ensures passed { IfOk result (λ len. 0 < len → WritesFront limit Plain bytes.now written.old.form out.old out.new written.new.form (drop len bytes.now) Plain) }
-    ensures none { IfOk result (λ len. len ≡ 0 → (out.new ≡ out.old) × (written.new.form ≡ written.old.form)) }
+    ensures passed { IfOk result
+        (λ len. 0 < len
+        → WritesFront limit Plain bytes.now written.old.form out.old out.new written.new.form
+        (drop len bytes.now) Plain) }
+    ensures none { IfOk result
+        (λ len. len ≡ 0 → (out.new ≡ out.old) × (written.new.form ≡ written.old.form)) }
     ensures known { AreKnown IsNote known.new.memo.slots.items }
 {
     if is_csi(bytes) {
@@ -64,7 +68,8 @@ fn pass_front<'a>(
 ) -> Result<Cutter<'a>, AllocError>
     requires { AreKnown IsNote known.old.memo.slots.items }
     ensures cut { IfOk result (λ to. (before : List ℕ) × (bytes.now ≡ before ++ to.rest.now)) }
-    ensures passed { IfOk result (λ to. WritesFront limit mode bytes.now written.old.form out.old out.new written.new.form to.rest.now to.mode) }
+    ensures passed { IfOk result
+        (λ to. WritesFront limit mode bytes.now written.old.form out.old out.new written.new.form to.rest.now to.mode) }
     ensures known { AreKnown IsNote known.new.memo.slots.items }
 {
     let Mode::Text = mode else {
@@ -203,7 +208,10 @@ impl Compactor {
         out: &mut Vec<u8>,
     ) -> Result<(), AllocError>
         requires { AreKnown IsNote known.old.memo.slots.items }
-        ensures goes { OnOk result (WritesFront self.old.limit self.old.mode (self.old.bytes ++ bytes.now) written.old.form out.old.items out.new.items written.new.form
+        ensures goes { OnOk result
+            (WritesFront self.old.limit self.old.mode
+            (self.old.bytes
+            ++ bytes.now) written.old.form out.old.items out.new.items written.new.form
             self.new.bytes self.new.mode) }
         ensures unsure { OnOk result (IsUnsure self.old.limit self.new.mode self.new.bytes) }
         ensures limit { OnOk result (self.new.limit ≡ self.old.limit) }
@@ -228,10 +236,14 @@ impl Compactor {
     /// Takes the next bytes, and appends what is made of all that is sure now. What isn't is held, and is short: fewer bytes than
     /// `limit`, or than 3 where that is less.
     pub fn push(&mut self, bytes: &[u8], out: &mut Vec<u8>) -> Result<(), AllocError>
-        ensures passes { OnOk result ((text : List ℕ) × PassesShort self.old.limit self.old.mode (self.old.bytes ++ bytes.now) text self.new.bytes self.new.mode
+        ensures passes { OnOk result
+            ((text : List ℕ)
+            × PassesShort self.old.limit self.old.mode
+            (self.old.bytes ++ bytes.now) text self.new.bytes self.new.mode
             × (out.new.items ≡ out.old.items ++ text)) }
         ensures limit { OnOk result (self.new.limit ≡ self.old.limit) }
-        ensures short { OnOk result ((length self.new.bytes < self.new.limit) ⊎ (length self.new.bytes < 3)) }
+        ensures short { OnOk result
+            ((length self.new.bytes < self.new.limit) ⊎ (length self.new.bytes < 3)) }
     {
         let mut known: Known<Short> = Known::new(*self.params.allocator());
         let mut written = Written::new();

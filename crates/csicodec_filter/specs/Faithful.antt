@@ -17,7 +17,8 @@ staying_finals = codes "Rrstuxy"
 -- A sequence stays as it came before these finals; behind `<`, as a report of the mouse, whose bit 128 is buttons 8 to 11 (xterm's ctlseqs, Mouse Tracking);
 -- and where it ends in `;`, behind which a terminal reads a default (ECMA-48, 5.4.2).
 abbrev pub stays : List CsiParam → ℕ → Bool
-stays list final = is_byte 60 (slice_get list 0) || (is_byte 59 (slice_get list (length list - 1)) || list_any (λ f. final == f) staying_finals)
+stays list final = is_byte 60 (slice_get list 0) ||
+    (is_byte 59 (slice_get list (length list - 1)) || list_any (λ f. final == f) staying_finals)
 
 -- Tokens of a style that has several spellings, of which a terminal may know the one that came alone: colours, which the normal form writes with colons
 -- where semicolons came, and what has colons, as `4:2`, which it writes as 21, on some terminals bold off.
@@ -36,4 +37,6 @@ is_kept list final = stays list final || has_spelling list final
 
 -- the text is the bytes of such a sequence, and the normal form of any other
 abbrev pub IsFaithful : List ℕ → List ℕ → Type 0
-IsFaithful bytes text = (list : List CsiParam) × (final : ℕ) × Seq bytes list final × (is_kept list final ≡ true → text ≡ bytes) × (is_kept list final ≡ false → NormalisesTo bytes text)
+IsFaithful bytes text = (list : List CsiParam) × (final : ℕ) × Seq bytes list final
+    × (is_kept list final ≡ true → text ≡ bytes)
+    × (is_kept list final ≡ false → NormalisesTo bytes text)

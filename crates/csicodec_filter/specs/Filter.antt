@@ -21,7 +21,8 @@ IsWritten Writes kind.Other bytes text = text ≡ bytes
 abbrev pub AreWritten : (List ℕ → List ℕ → Type 0) → List Part → List ℕ → Type 0
 AreWritten Writes [] text = text ≡ []
 AreWritten Writes (p ∷ parts) text =
-    (first : List ℕ) × (others : List ℕ) × (text ≡ first ++ others) × IsWritten Writes p.kind p.bytes first × AreWritten Writes parts others
+    (first : List ℕ) × (others : List ℕ) × (text ≡ first ++ others)
+    × IsWritten Writes p.kind p.bytes first × AreWritten Writes parts others
 
 -- between two pushes: what is open, the bytes of which nothing is sure yet, and what rewrites
 pub record Held (R : Type 0) : Type 0 where
@@ -31,18 +32,21 @@ pub record Held (R : Type 0) : Type 0 where
   pub bytes : List ℕ
 
 -- behind these bytes, the parts that are sure make this text, and the others are held
-pub record Passes (Writes : List ℕ → List ℕ → Type 0) (limit : ℕ) (m : Mode) (bytes : List ℕ) (text : List ℕ) (held : List ℕ) (after : Mode) : Type 0 where
+pub record Passes (Writes : List ℕ → List ℕ → Type 0) (limit : ℕ) (m : Mode) (bytes : List ℕ)
+    (text : List ℕ) (held : List ℕ) (after : Mode) : Type 0 where
   pub parts : List Part
   pub first : AreFirstParts limit m bytes parts held after
   pub unsure : IsUnsure limit after held
   pub written : AreWritten Writes parts text
 
 -- a whole stream of bytes makes this text
-pub record Filters (Writes : List ℕ → List ℕ → Type 0) (limit : ℕ) (m : Mode) (bytes : List ℕ) (text : List ℕ) : Type 0 where
+pub record Filters (Writes : List ℕ → List ℕ → Type 0) (limit : ℕ) (m : Mode) (bytes : List ℕ)
+    (text : List ℕ) : Type 0 where
   pub parts : List Part
   pub whole : IsWhole limit m bytes parts
   pub written : AreWritten Writes parts text
 
 -- these bytes are a front of the text of the whole stream, where each sequence has one
 abbrev pub IsFrontOf : (List ℕ → List ℕ → Type 0) → ℕ → Mode → List ℕ → List ℕ → Type 0
-IsFrontOf Writes limit m bytes sent = WritesOne Writes → (whole : List ℕ) → Filters Writes limit m bytes whole → (unsent : List ℕ) × (whole ≡ sent ++ unsent)
+IsFrontOf Writes limit m bytes sent = WritesOne Writes → (whole : List ℕ)
+    → Filters Writes limit m bytes whole → (unsent : List ℕ) × (whole ≡ sent ++ unsent)

@@ -11,7 +11,8 @@ EndsOf S = S → List ℕ → Type 0
 
 -- a chunk more, and its text, behind all that passed before
 abbrev pub GoesOn : {S : Type 0} → PassesOf S → S → List ℕ → List ℕ → S → Type 0
-GoesOn {S} Passes old chunk more new = (first : S) (bytes text : List ℕ) → Passes first bytes text old → Passes first (bytes ++ chunk) (text ++ more) new
+GoesOn {S} Passes old chunk more new = (first : S) (bytes text : List ℕ)
+    → Passes first bytes text old → Passes first (bytes ++ chunk) (text ++ more) new
 
 -- so far these bytes have this text
 abbrev pub Sends : {S : Type 0} → PassesOf S → S → List ℕ → List ℕ → Type 0
@@ -20,8 +21,11 @@ Sends {S} Passes first bytes text = (last : S) × Passes first bytes text last
 -- they are all, and this is the text with its end
 abbrev pub Transforms : {S : Type 0} → PassesOf S → EndsOf S → S → List ℕ → List ℕ → Type 0
 Transforms {S} Passes Ends first bytes text =
-    (last : S) × (sure : List ℕ) × (rest : List ℕ) × Passes first bytes sure last × Ends last rest × (text ≡ sure ++ rest)
+    (last : S) × (sure : List ℕ) × (rest : List ℕ) × Passes first bytes sure last × Ends last rest
+    × (text ≡ sure ++ rest)
 
 -- what went out is a front of the text of these bytes: as far as it is sure, or, where they are all, with its end
-abbrev pub Begins : (List ℕ → List ℕ → Type 0) → (List ℕ → List ℕ → Type 0) → Type 0 → List ℕ → List ℕ → Type 0
-Begins Sure Whole AreAll bytes sent = (unsent : List ℕ) × (Sure bytes (sent ++ unsent) ⊎ (AreAll × Whole bytes (sent ++ unsent)))
+abbrev pub Begins : (List ℕ → List ℕ → Type 0) → (List ℕ → List ℕ → Type 0) → Type 0 → List ℕ
+    → List ℕ → Type 0
+Begins Sure Whole AreAll bytes sent = (unsent : List ℕ)
+    × (Sure bytes (sent ++ unsent) ⊎ (AreAll × Whole bytes (sent ++ unsent)))

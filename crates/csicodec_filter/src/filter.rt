@@ -24,9 +24,13 @@ fn append_span<T: Rewrite>(
     out: &mut Vec<u8>,
 ) -> Result<(), AllocError>
     requires { IfSome control (Seq bytes.now params.now) }
-    ensures text { OnOk result ((text : List ℕ) × MatchOption control (text ≡ bytes.now) (λ _. T.writes rewrite.old bytes.now text)
+    ensures text { OnOk result
+        ((text : List ℕ)
+        × MatchOption control (text ≡ bytes.now) (λ _. T.writes rewrite.old bytes.now text)
         × (out.new.items ≡ out.old.items ++ text)) }
-    ensures same { OnOk result ((bytes text : List ℕ) → T.writes rewrite.new bytes text → T.writes rewrite.old bytes text) }
+    ensures same { OnOk result
+        ((bytes text : List ℕ) → T.writes rewrite.new bytes text
+        → T.writes rewrite.old bytes text) }
 {
     match control {
         Some(control) => rewrite.rewrite(bytes, params, control, out),
@@ -72,7 +76,11 @@ fn pass_one(
 ) -> Result<usize, AllocError>
     requires { AreKnown IsNormal known.old.memo.slots.items }
     ensures within { IfOk result (λ len. len ≤ length bytes.now) }
-    ensures passed { IfOk result (λ len. 0 < len → (text : List ℕ) × PassesFront wanted limit Plain bytes.now text (drop len bytes.now) Plain × (out.new ≡ out.old ++ text)) }
+    ensures passed { IfOk result
+        (λ len. 0 < len
+        → (text : List ℕ)
+        × PassesFront wanted limit Plain bytes.now text (drop len bytes.now) Plain
+        × (out.new ≡ out.old ++ text)) }
     ensures none { IfOk result (λ len. len ≡ 0 → out.new ≡ out.old) }
     ensures known { AreKnown IsNormal known.new.memo.slots.items }
 {
@@ -99,7 +107,9 @@ fn pass_front<'a>(
 ) -> Result<Cutter<'a>, AllocError>
     requires { AreKnown IsNormal known.old.memo.slots.items }
     ensures cut { IfOk result (λ to. (before : List ℕ) × (bytes.now ≡ before ++ to.rest.now)) }
-    ensures passed { IfOk result (λ to. (text : List ℕ) × PassesFront wanted limit mode bytes.now text to.rest.now to.mode × (out.new ≡ out.old ++ text)) }
+    ensures passed { IfOk result
+        (λ to. (text : List ℕ) × PassesFront wanted limit mode bytes.now text to.rest.now to.mode
+        × (out.new ≡ out.old ++ text)) }
     ensures known { AreKnown IsNormal known.new.memo.slots.items }
 {
     let Mode::Text = mode else {
@@ -133,8 +143,11 @@ fn append_known<T: Rewrite>(
     requires limit { 0 < limit }
     requires known { AreKnown IsNormal known.old.memo.slots.items }
     ensures passes { IfOk result (λ (used, after). (used ≤ length bytes.now) × (text : List ℕ)
-        × Passes (T.writes rewrite.old) limit mode bytes.now text (drop used bytes.now) after × (out.new ≡ out.old ++ text)) }
-    ensures same { OnOk result ((bytes text : List ℕ) → T.writes rewrite.new bytes text → T.writes rewrite.old bytes text) }
+        × Passes (T.writes rewrite.old) limit mode bytes.now text (drop used bytes.now) after
+        × (out.new ≡ out.old ++ text)) }
+    ensures same { OnOk result
+        ((bytes text : List ℕ) → T.writes rewrite.new bytes text
+        → T.writes rewrite.old bytes text) }
     ensures known { OnOk result (AreKnown IsNormal known.new.memo.slots.items) }
 {
     let wanted = rewrite.writes_normal_forms();
@@ -167,8 +180,11 @@ pub(crate) fn append_texts<T: Rewrite>(
     requires limit { 0 < limit }
     requires known { AreKnown IsNormal known.old.memo.slots.items }
     ensures passes { IfOk result (λ (used, after). (used ≤ length bytes.now) × (text : List ℕ)
-        × Passes (T.writes rewrite.old) limit mode bytes.now text (drop used bytes.now) after × (out.new.items ≡ out.old.items ++ text)) }
-    ensures same { OnOk result ((bytes text : List ℕ) → T.writes rewrite.new bytes text → T.writes rewrite.old bytes text) }
+        × Passes (T.writes rewrite.old) limit mode bytes.now text (drop used bytes.now) after
+        × (out.new.items ≡ out.old.items ++ text)) }
+    ensures same { OnOk result
+        ((bytes text : List ℕ) → T.writes rewrite.new bytes text
+        → T.writes rewrite.old bytes text) }
     ensures known { OnOk result (AreKnown IsNormal known.new.memo.slots.items) }
 {
     let alloc = *out.allocator();
@@ -199,8 +215,11 @@ pub fn append_spans<T: Rewrite>(
 ) -> Result<(usize, Mode), AllocError>
     requires { 0 < limit }
     ensures passes { IfOk result (λ (used, after). (used ≤ length bytes.now) × (text : List ℕ)
-        × Passes (T.writes rewrite.old) limit mode bytes.now text (drop used bytes.now) after × (out.new.items ≡ out.old.items ++ text)) }
-    ensures same { OnOk result ((bytes text : List ℕ) → T.writes rewrite.new bytes text → T.writes rewrite.old bytes text) }
+        × Passes (T.writes rewrite.old) limit mode bytes.now text (drop used bytes.now) after
+        × (out.new.items ≡ out.old.items ++ text)) }
+    ensures same { OnOk result
+        ((bytes text : List ℕ) → T.writes rewrite.new bytes text
+        → T.writes rewrite.old bytes text) }
 {
     let alloc = *params.allocator();
     let mut known: Known<Normal> = Known::new(alloc);
@@ -267,11 +286,17 @@ impl<R: Rewrite + Drop> Filter<R> {
         out: &mut Vec<u8>,
     ) -> Result<(), AllocError>
         requires { AreKnown IsNormal known.old.memo.slots.items }
-        ensures passes { OnOk result ((text : List ℕ) × Passes (R.writes self.old.rewrite) self.old.limit self.old.mode (self.old.bytes ++ bytes.now) text self.new.bytes self.new.mode
+        ensures passes { OnOk result
+            ((text : List ℕ)
+            × Passes (R.writes self.old.rewrite) self.old.limit self.old.mode
+            (self.old.bytes ++ bytes.now) text self.new.bytes self.new.mode
             × (out.new.items ≡ out.old.items ++ text)) }
         ensures limit { OnOk result (self.new.limit ≡ self.old.limit) }
-        ensures same { OnOk result ((bytes text : List ℕ) → R.writes self.new.rewrite bytes text → R.writes self.old.rewrite bytes text) }
-        ensures short { OnOk result ((length self.new.bytes < self.new.limit) ⊎ (length self.new.bytes < 3)) }
+        ensures same { OnOk result
+            ((bytes text : List ℕ) → R.writes self.new.rewrite bytes text
+            → R.writes self.old.rewrite bytes text) }
+        ensures short { OnOk result
+            ((length self.new.bytes < self.new.limit) ⊎ (length self.new.bytes < 3)) }
         ensures known { OnOk result (AreKnown IsNormal known.new.memo.slots.items) }
     {
         self.pending.extend_from_slice(bytes)?;
@@ -293,11 +318,17 @@ impl<R: Rewrite + Drop> Filter<R> {
     /// Takes the next bytes, and appends the texts of all that is sure now. What isn't is held, and is short: fewer bytes than
     /// `limit`, or than 3 where that is less.
     pub fn push(&mut self, bytes: &[u8], out: &mut Vec<u8>) -> Result<(), AllocError>
-        ensures passes { OnOk result ((text : List ℕ) × Passes (R.writes self.old.rewrite) self.old.limit self.old.mode (self.old.bytes ++ bytes.now) text self.new.bytes self.new.mode
+        ensures passes { OnOk result
+            ((text : List ℕ)
+            × Passes (R.writes self.old.rewrite) self.old.limit self.old.mode
+            (self.old.bytes ++ bytes.now) text self.new.bytes self.new.mode
             × (out.new.items ≡ out.old.items ++ text)) }
         ensures limit { OnOk result (self.new.limit ≡ self.old.limit) }
-        ensures same { OnOk result ((bytes text : List ℕ) → R.writes self.new.rewrite bytes text → R.writes self.old.rewrite bytes text) }
-        ensures short { OnOk result ((length self.new.bytes < self.new.limit) ⊎ (length self.new.bytes < 3)) }
+        ensures same { OnOk result
+            ((bytes text : List ℕ) → R.writes self.new.rewrite bytes text
+            → R.writes self.old.rewrite bytes text) }
+        ensures short { OnOk result
+            ((length self.new.bytes < self.new.limit) ⊎ (length self.new.bytes < 3)) }
     {
         let mut known: Known<Normal> = Known::new(*self.params.allocator());
         self.push_known(&mut known, bytes, out)

@@ -64,7 +64,8 @@ impl<N: Note> Known<N> {
     #[inline(always)]
     pub fn recall(&mut self, limit: usize, bytes: &[u8], out: &mut TextBuffer) -> usize
         requires { AreKnown N.notes self.old.memo.slots.items }
-        ensures noted { 0 < result → (text : List ℕ) × N.notes (take result bytes.now) text × (out.new ≡ out.old ++ text) }
+        ensures noted { 0 < result
+            → (text : List ℕ) × N.notes (take result bytes.now) text × (out.new ≡ out.old ++ text) }
         ensures none { result ≡ 0 → out.new ≡ out.old }
         ensures within { result ≤ length bytes.now }
         ensures short { result ≤ limit }
@@ -80,7 +81,8 @@ impl<N: Note> Known<N> {
     #[inline(never)]
     fn recall_at_end(&mut self, limit: usize, bytes: &[u8], out: &mut TextBuffer) -> usize
         requires { AreKnown N.notes self.old.memo.slots.items }
-        ensures noted { 0 < result → (text : List ℕ) × N.notes (take result bytes.now) text × (out.new ≡ out.old ++ text) }
+        ensures noted { 0 < result
+            → (text : List ℕ) × N.notes (take result bytes.now) text × (out.new ≡ out.old ++ text) }
         ensures none { result ≡ 0 → out.new ≡ out.old }
         ensures within { result ≤ length bytes.now }
         ensures short { result ≤ limit }

@@ -36,12 +36,17 @@ pub trait Rewrite {
         out: &mut Vec<u8>,
     ) -> Result<(), AllocError>
         requires { Seq bytes.now params.now control }
-        ensures text { OnOk result ((text : List ℕ) × writes self.old bytes.now text × (out.new.items ≡ out.old.items ++ text)) }
-        ensures same { OnOk result ((bytes text : List ℕ) → writes self.new bytes text → writes self.old bytes text) };
+        ensures text { OnOk result
+            ((text : List ℕ) × writes self.old bytes.now text
+            × (out.new.items ≡ out.old.items ++ text)) }
+        ensures same { OnOk result
+            ((bytes text : List ℕ) → writes self.new bytes text → writes self.old bytes text) };
 
     /// Whether it writes normal forms. Then a sequence that came before may be looked up, and isn't passed to `rewrite` again.
     fn writes_normal_forms(&self) -> bool
-        ensures { result ≡ true → (bytes text : List ℕ) → (NormalisesTo bytes text → writes self.now bytes text) × (writes self.now bytes text → NormalisesTo bytes text) }
+        ensures { result ≡ true → (bytes text : List ℕ)
+            → (NormalisesTo bytes text → writes self.now bytes text)
+            × (writes self.now bytes text → NormalisesTo bytes text) }
     {
         false
     }

@@ -67,15 +67,20 @@ pub fn filter_all<T: Rewrite + Drop, R: Read, W: Write>(
     requires { 0 < limit }
     // What was written is what the filter makes of all that was read.
     ensures ok { OnOk result (IfSome (R.remaining input.old) (λ bytes.
-        (text : List ℕ) × Filters (T.writes rewrite) limit Plain bytes text × Appends (W.contents output.old) (W.contents output.new) text)) }
+        (text : List ℕ) × Filters (T.writes rewrite) limit Plain bytes text
+        × Appends (W.contents output.old) (W.contents output.new) text)) }
     ensures end { OnOk result (IsAtEnd (R.remaining input.new)) }
     // When a read fails, all that was sure of the bytes before it has been written.
-    ensures failed { IfErr result (λ e. e ≡ RunError.Read → (read : List ℕ) × (text : List ℕ) × (held : List ℕ) × (mode : Mode) ×
-        Consumes (R.remaining input.old) (R.remaining input.new) read × Passes (T.writes rewrite) limit Plain read text held mode
+    ensures failed { IfErr result
+        (λ e. e ≡ RunError.Read
+        → (read : List ℕ) × (text : List ℕ) × (held : List ℕ) × (mode : Mode) ×
+        Consumes (R.remaining input.old) (R.remaining input.new) read
+        × Passes (T.writes rewrite) limit Plain read text held mode
         × Appends (W.contents output.old) (W.contents output.new) text) }
     // After any error, what went out is a front of what the filter makes of the whole input, where it makes one text of it.
     ensures front { OnErr result (IfSome (R.remaining input.old) (λ bytes.
-        (sent : List ℕ) × IsFrontOf (T.writes rewrite) limit Plain bytes sent × Appends (W.contents output.old) (W.contents output.new) sent)) }
+        (sent : List ℕ) × IsFrontOf (T.writes rewrite) limit Plain bytes sent
+        × Appends (W.contents output.old) (W.contents output.new) sent)) }
 {
     let filter = Filter::new(alloc, limit, rewrite);
     let known = Known::new(alloc);

@@ -25,18 +25,23 @@ pub trait Transform {
     fn take(&mut self, bytes: &[u8], out: &mut Vec<u8>) -> Result<(), AllocError>
         requires { stands self.old }
         ensures stands { OnOk result (stands self.new) }
-        ensures passes { OnOk result ((more : List ℕ) × GoesOn passes self.old bytes.now more self.new × (out.new.items ≡ out.old.items ++ more)) };
+        ensures passes { OnOk result
+            ((more : List ℕ) × GoesOn passes self.old bytes.now more self.new
+            × (out.new.items ≡ out.old.items ++ more)) };
 
     /// Appends what was put off: nothing more is there to read at once.
     fn pause(&mut self, out: &mut Vec<u8>) -> Result<(), AllocError>
         requires { stands self.old }
         ensures stands { OnOk result (stands self.new) }
-        ensures passes { OnOk result ((more : List ℕ) × GoesOn passes self.old [] more self.new × (out.new.items ≡ out.old.items ++ more)) }
+        ensures passes { OnOk result
+            ((more : List ℕ) × GoesOn passes self.old [] more self.new
+            × (out.new.items ≡ out.old.items ++ more)) }
         ensures rests { OnOk result (rests self.new) };
 
     /// Appends what is held, and what ends the output: nothing comes any more.
     fn end(&mut self, out: &mut Vec<u8>) -> Result<(), AllocError>
-        ensures { OnOk result ((rest : List ℕ) × ends self.old rest × (out.new.items ≡ out.old.items ++ rest)) };
+        ensures { OnOk result
+            ((rest : List ℕ) × ends self.old rest × (out.new.items ≡ out.old.items ++ rest)) };
 }
 
 /// How many bytes are asked of a reader at once.
@@ -50,7 +55,9 @@ fn take_pieces<T: Transform>(
 ) -> Result<(), AllocError>
     requires { T.stands transform.old }
     ensures stands { OnOk result (T.stands transform.new) }
-    ensures passes { OnOk result ((more : List ℕ) × GoesOn T.passes transform.old bytes.now more transform.new × (out.new.items ≡ out.old.items ++ more)) }
+    ensures passes { OnOk result
+        ((more : List ℕ) × GoesOn T.passes transform.old bytes.now more transform.new
+        × (out.new.items ≡ out.old.items ++ more)) }
 {
     let mut rest = bytes;
     while !rest.is_empty() {
@@ -70,7 +77,9 @@ fn take_read<T: Transform>(
 ) -> Result<(), AllocError>
     requires { T.stands transform.old }
     ensures stands { OnOk result (T.stands transform.new) }
-    ensures passes { OnOk result ((more : List ℕ) × GoesOn T.passes transform.old bytes.now more transform.new × (out.new.items ≡ out.old.items ++ more)) }
+    ensures passes { OnOk result
+        ((more : List ℕ) × GoesOn T.passes transform.old bytes.now more transform.new
+        × (out.new.items ≡ out.old.items ++ more)) }
 {
     take_pieces(transform, bytes, out)?;
     if is_all {
@@ -84,9 +93,12 @@ fn take_read<T: Transform>(
 #[inline(never)]
 fn fail<T: Transform, W: Write>(transform: &mut T, out: &mut Vec<u8>, output: &mut W) -> RunError
     requires { T.stands transform.old }
-    ensures read { result ≡ RunError.Read → (more : List ℕ) × GoesOn T.passes transform.old [] more transform.new × T.rests transform.new
+    ensures read { result ≡ RunError.Read
+        → (more : List ℕ) × GoesOn T.passes transform.old [] more transform.new
+        × T.rests transform.new
         × Appends (W.contents output.old) (W.contents output.new) more }
-    ensures front { (last : T) × (more : List ℕ) × (sent : List ℕ) × (unsent : List ℕ) × GoesOn T.passes transform.old [] more last × (more ≡ sent ++ unsent)
+    ensures front { (last : T) × (more : List ℕ) × (sent : List ℕ) × (unsent : List ℕ)
+        × GoesOn T.passes transform.old [] more last × (more ≡ sent ++ unsent)
         × Appends (W.contents output.old) (W.contents output.new) sent }
 {
     out.clear();
@@ -113,15 +125,25 @@ pub fn transform_all<T: Transform + Drop, R: Read, W: Write>(
     requires stands { T.stands transform }
     requires begun { T.passes transform [] [] transform }
     // All was read, and what was written is what it becomes, with its end.
-    ensures ok { OnOk result ((bytes : List ℕ) × (text : List ℕ) × Consumes (R.remaining input.old) (R.remaining input.new) bytes × IsAtEnd (R.remaining input.new)
-        × Transforms T.passes T.ends transform bytes text × Appends (W.contents output.old) (W.contents output.new) text) }
+    ensures ok { OnOk result
+        ((bytes : List ℕ) × (text : List ℕ)
+        × Consumes (R.remaining input.old) (R.remaining input.new) bytes
+        × IsAtEnd (R.remaining input.new)
+        × Transforms T.passes T.ends transform bytes text
+        × Appends (W.contents output.old) (W.contents output.new) text) }
     // When a read fails, all that was sure of the bytes before it has been written, and nothing is put off.
-    ensures failed { IfErr result (λ e. e ≡ RunError.Read → (bytes : List ℕ) × (text : List ℕ) × (last : T)
-        × Consumes (R.remaining input.old) (R.remaining input.new) bytes × T.passes transform bytes text last × T.rests last
+    ensures failed { IfErr result
+        (λ e. e ≡ RunError.Read → (bytes : List ℕ) × (text : List ℕ) × (last : T)
+        × Consumes (R.remaining input.old) (R.remaining input.new) bytes
+        × T.passes transform bytes text last × T.rests last
         × Appends (W.contents output.old) (W.contents output.new) text) }
     // After any error, what went out is a front of the text of bytes that were read, and has of its end only where they are all.
-    ensures front { OnErr result ((bytes : List ℕ) × (more : List ℕ) × (sent : List ℕ) × Consumes (R.remaining input.old) (R.remaining input.new) (bytes ++ more)
-        × Begins (Sends T.passes transform) (Transforms T.passes T.ends transform) ((more ≡ []) × IsAtEnd (R.remaining input.new)) bytes sent × Appends (W.contents output.old) (W.contents output.new) sent) }
+    ensures front { OnErr result
+        ((bytes : List ℕ) × (more : List ℕ) × (sent : List ℕ)
+        × Consumes (R.remaining input.old) (R.remaining input.new) (bytes ++ more)
+        × Begins (Sends T.passes transform) (Transforms T.passes T.ends transform)
+        ((more ≡ []) × IsAtEnd (R.remaining input.new)) bytes sent
+        × Appends (W.contents output.old) (W.contents output.new) sent) }
 {
     let mut now = transform;
     let mut out = Vec::new(alloc);

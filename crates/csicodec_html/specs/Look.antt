@@ -81,7 +81,9 @@ has_line l = not (is_none l.underline) || (l.overline || l.strike)
 
 -- it looks as text without attributes
 abbrev pub is_plain : Look → Bool
-is_plain l = is_normal l.intensity && (not l.italic && (not (has_line l) && (not l.inverse && (is_default l.foreground && is_default l.background))))
+is_plain l = is_normal l.intensity &&
+    (not l.italic &&
+    (not (has_line l) && (not l.inverse && (is_default l.foreground && is_default l.background))))
 
 -- ---- CSS
 
@@ -126,7 +128,8 @@ line_color c = if is_default c then [] else 32 ∷ color_text [] c
 unfoldable pub line_places : Look → List ℕ
 line_places l =
     (if not (is_none l.underline) then codes " underline" else [])
-    ++ ((if l.overline then codes " overline" else []) ++ (if l.strike then codes " line-through" else []))
+    ++ ((if l.overline then codes " overline" else [])
+        ++ (if l.strike then codes " line-through" else []))
 
 unfoldable pub line_style : Look → List ℕ
 line_style l = line_kind l.underline ++ line_color l.line
@@ -152,7 +155,8 @@ inverse_colors l =
     ++ property (codes "background-color:") (codes "CanvasText") l.foreground
 
 unfoldable pub straight_colors : Look → List ℕ
-straight_colors l = colored (codes "color:") l.foreground ++ colored (codes "background-color:") l.background
+straight_colors l =
+    colored (codes "color:") l.foreground ++ colored (codes "background-color:") l.background
 
 unfoldable pub colors : Look → List ℕ
 colors l = if l.inverse then inverse_colors l else straight_colors l

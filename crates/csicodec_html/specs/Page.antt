@@ -63,7 +63,8 @@ shown_pieces run = map Char (filter shown (lossy_chars run))
 
 -- what a part leaves, and the look behind it: a control sequence the turn to the look behind its actions, any other part nothing
 abbrev pub Leaves : Look → Kind → List ℕ → List Piece → Look → Type 0
-Leaves l kind.Csi bytes own after = (actions : List Action) × IsOf bytes actions × (after ≡ behind_all l actions) × (own ≡ turn (sets_any actions) l after)
+Leaves l kind.Csi bytes own after = (actions : List Action) × IsOf bytes actions
+    × (after ≡ behind_all l actions) × (own ≡ turn (sets_any actions) l after)
 Leaves l kind.Text bytes own after = (own ≡ []) × (after ≡ l)
 Leaves l kind.Esc bytes own after = (own ≡ []) × (after ≡ l)
 Leaves l kind.Str bytes own after = (own ≡ []) × (after ≡ l)
@@ -83,7 +84,8 @@ abbrev pub AreLeft : Look → List ℕ → List Part → List Piece → Type 0
 AreLeft l run [] pieces = pieces ≡ shown_pieces run ++ ends l
 AreLeft l run (p ∷ parts) pieces =
     (own : List Piece) × (after : Look) × (others : List Piece) × Leaves l p.kind p.bytes own after
-    × (pieces ≡ pieces_behind p.kind run ++ (own ++ others)) × AreLeft after (run_behind p.kind run p.bytes) parts others
+    × (pieces ≡ pieces_behind p.kind run ++ (own ++ others))
+    × AreLeft after (run_behind p.kind run p.bytes) parts others
 
 -- the page that the bytes are
 pub record PageOf (bytes page : List ℕ) : Type 0 where
@@ -115,7 +117,8 @@ pub record IsPage (page : List ℕ) : Type 0 where
 
 -- a byte that may stand in an attribute: none of the five characters that are escaped, and no control
 abbrev pub is_harmless : ℕ → Bool
-is_harmless b = not (nat_lt b 32) && (not (b == 34) && (not (b == 38) && (not (b == 39) && (not (b == 60) && not (b == 62)))))
+is_harmless b = not (nat_lt b 32) &&
+    (not (b == 34) && (not (b == 38) && (not (b == 39) && (not (b == 60) && not (b == 62)))))
 
 abbrev pub IsHarmless : ℕ → Type 0
 IsHarmless b = is_harmless b ≡ true

@@ -8,7 +8,8 @@ ghost use Rattle.csicodec_html.specs.declared.look.Look.{Look};
 
 /// The characters of a page are those that the bytes are stripped to: none is lost, and none is added.
 pub fn text_stays()
-    ensures { (bytes page text : List ℕ) (p : PageOf bytes page) → Strips longest bytes text → text ≡ encode_utf8_all (chars_of p.pieces) }
+    ensures { (bytes page text : List ℕ) (p : PageOf bytes page) → Strips longest bytes text
+        → text ≡ encode_utf8_all (chars_of p.pieces) }
 {}
 
 /// No byte of an attribute ends it, or begins a tag or a reference.

@@ -100,12 +100,17 @@ pub fn html_all<R: Read, W: Write>(
     output: &mut W,
 ) -> Result<(), RunError>
     // What was written is the page of all the bytes.
-    ensures ok { OnOk result ((bytes : List ℕ) × (page : List ℕ) × Consumes (R.remaining input.old) (R.remaining input.new) bytes
-        × PageOf bytes page × IsPage page × Appends (W.contents output.old) (W.contents output.new) page) }
+    ensures ok { OnOk result
+        ((bytes : List ℕ) × (page : List ℕ)
+        × Consumes (R.remaining input.old) (R.remaining input.new) bytes
+        × PageOf bytes page × IsPage page
+        × Appends (W.contents output.old) (W.contents output.new) page) }
     ensures end { OnOk result (IsAtEnd (R.remaining input.new)) }
     // After any error, what went out is a front of such a page of bytes that were read.
-    ensures front { OnErr result ((bytes : List ℕ) × (more : List ℕ) × (sent : List ℕ) × (unsent : List ℕ)
-        × Consumes (R.remaining input.old) (R.remaining input.new) (bytes ++ more) × PageOf bytes (sent ++ unsent) × IsPage (sent ++ unsent)
+    ensures front { OnErr result
+        ((bytes : List ℕ) × (more : List ℕ) × (sent : List ℕ) × (unsent : List ℕ)
+        × Consumes (R.remaining input.old) (R.remaining input.new) (bytes ++ more)
+        × PageOf bytes (sent ++ unsent) × IsPage (sent ++ unsent)
         × Appends (W.contents output.old) (W.contents output.new) sent) }
 {
     transform_all(alloc, Page::new(alloc), input, output)

@@ -37,11 +37,14 @@ are_rows (r ∷ rows) = is_row r && are_rows rows
 -- the form and the values of the first row that reads the list
 abbrev pub first_reading : List Row → List CsiParam → ℕ → Option (Form × List ℕ)
 first_reading [] list final = None
-first_reading (r ∷ rows) list final = option_or (option_map (λ values. (r.form, values)) (read_row r list final)) (first_reading rows list final)
+first_reading (r ∷ rows) list final = option_or
+    (option_map (λ values. (r.form, values)) (read_row r list final))
+    (first_reading rows list final)
 
 -- the same of all rows; the order doesn't matter (law `any_row`)
 abbrev pub reading : List CsiParam → ℕ → Option (Form × List ℕ)
-reading list final = option_or (first_reading dec_rows list final) (option_or (first_reading other_rows list final) (first_reading report_rows list final))
+reading list final = option_or (first_reading dec_rows list final)
+    (option_or (first_reading other_rows list final) (first_reading report_rows list final))
 
 abbrev pub reading_of : known_type.Known → Form × List ℕ
 reading_of known = (known.form, known.values.items)

@@ -54,16 +54,21 @@ abbrev pub slot_values : List Slot → List CsiParam → Option (List ℕ)
 slot_values [] list = ended list
 slot_values (s ∷ ss) list =
     if stops s list then Some []
-    else option_and_then (λ f. option_and_then (λ v. option_map (λ vs. v ∷ vs) (slot_values ss f.1)) (slot_value s f.0)) (split_field list)
+    else option_and_then
+        (λ f. option_and_then (λ v. option_map (λ vs. v ∷ vs) (slot_values ss f.1))
+        (slot_value s f.0)) (split_field list)
 
 -- the parts have the bytes of the row
 abbrev pub has_bytes : Row → Parts → Bool
-has_bytes row parts = (parts.marker == row.form.marker) && (parts.intermediate == row.form.intermediate)
+has_bytes row parts =
+    (parts.marker == row.form.marker) && (parts.intermediate == row.form.intermediate)
 
 -- the values of a list before a final character
 abbrev pub read_row : Row → List CsiParam → ℕ → Option (List ℕ)
 read_row row list final =
-    if final == row.form.control then (if has_bytes row (parts_of list) then slot_values row.slots (parts_of list).body else None) else None
+    if final == row.form.control then
+        (if has_bytes row (parts_of list) then slot_values row.slots (parts_of list).body
+        else None) else None
 
 -- ---- writing
 
@@ -83,7 +88,8 @@ byte_tokens b = if b == 0 then [] else P b ∷ []
 
 -- the list of values
 abbrev pub row_list : Row → List ℕ → List CsiParam
-row_list row values = byte_tokens row.form.marker ++ (joined values ++ byte_tokens row.form.intermediate)
+row_list row values =
+    byte_tokens row.form.marker ++ (joined values ++ byte_tokens row.form.intermediate)
 
 -- the texts of these
 abbrev pub behind_text : List ℕ → List ℕ
@@ -98,7 +104,8 @@ byte_text b = if b == 0 then [] else encode_utf8 b
 
 -- what is written: the text of the list, and the final character (law `text`)
 abbrev pub form_text : Form → List ℕ → List ℕ
-form_text form values = byte_text form.marker ++ (numbers_text values ++ (byte_text form.intermediate ++ encode_utf8 form.control))
+form_text form values = byte_text form.marker
+    ++ (numbers_text values ++ (byte_text form.intermediate ++ encode_utf8 form.control))
 
 -- ---- rows as they should be
 
@@ -112,7 +119,8 @@ are_missing_within [] = true
 are_missing_within (s ∷ ss) = is_missing_within s s.missing && are_missing_within ss
 
 abbrev pub has_its_bytes : Row → Bool
-has_its_bytes row = (if row.form.marker == 0 then true else is_marker row.form.marker) && (if row.form.intermediate == 0 then true else is_intermediate row.form.intermediate)
+has_its_bytes row = (if row.form.marker == 0 then true else is_marker row.form.marker) &&
+    (if row.form.intermediate == 0 then true else is_intermediate row.form.intermediate)
 
 -- a final character, from `@` to `~`
 abbrev pub is_final : ℕ → Bool

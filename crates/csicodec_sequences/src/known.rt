@@ -45,7 +45,8 @@ pub struct Known {
 impl Known {
     /// The row and the values of a list without an action; none where no row reads it. It takes no memory.
     pub fn of(unknown: &Unspecified) -> Option<Known>
-        ensures { option_map reading_of result ≡ reading unknown.now.params.items unknown.now.control }
+        ensures { option_map reading_of result
+            ≡ reading unknown.now.params.items unknown.now.control }
     {
         Known::read(&unknown.params, unknown.control)
     }
@@ -175,7 +176,8 @@ fn first_known(
     control: char,
 ) -> Option<(usize, Form, Values)>
     requires { length forms.now ≡ length slots.now }
-    ensures first { option_map (λ known. (known.1, known.2.items)) result ≡ first_reading (rows_of forms.now slots.now) params.now control }
+    ensures first { option_map (λ known. (known.1, known.2.items)) result
+        ≡ first_reading (rows_of forms.now slots.now) params.now control }
     ensures within { IfSome result (λ known. known.0 < length forms.now) }
 {
     for place in 0..forms.len() {

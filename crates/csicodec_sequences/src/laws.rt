@@ -10,7 +10,8 @@ ghost use Rattle.csicodec_sequences.specs.Rows.{Row, fit, is_row, read_row, row_
 /// Of any row: the values that it reads back of the list that it writes of them are those that fit its slots, and no others.
 pub fn exact()
     ensures { (row : Row) (values : List ℕ) → is_row row ≡ true →
-        (read_row row (row_list row values) row.form.control ≡ Some values) ↔ (fit row.slots values ≡ true) }
+        (read_row row (row_list row values) row.form.control ≡ Some values)
+        ↔ (fit row.slots values ≡ true) }
 {}
 
 /// Of any row: what it reads fits its slots, so that it is read back from what is written of it.
@@ -21,7 +22,8 @@ pub fn what_is_read_fits()
 
 /// Of any row: the text of values is that of their list, and the final character behind it.
 pub fn text()
-    ensures { (row : Row) (values : List ℕ) → form_text row.form values ≡ spells (row_list row values) ++ encode_utf8 row.form.control }
+    ensures { (row : Row) (values : List ℕ)
+        → form_text row.form values ≡ spells (row_list row values) ++ encode_utf8 row.form.control }
 {}
 
 /// Each row of the table is a row: its bytes are such bytes, and what is left out is in its range.
@@ -39,17 +41,20 @@ pub fn one_row()
 /// The row of the table that reads a list says what is known of it, wherever it stands.
 pub fn any_row()
     ensures { (list : List CsiParam) (final i : ℕ) (row : Row) (values : List ℕ) →
-        slice_get table i ≡ Some row → read_row row list final ≡ Some values → reading list final ≡ Some (row.form, values) }
+        slice_get table i ≡ Some row → read_row row list final ≡ Some values
+        → reading list final ≡ Some (row.form, values) }
 {}
 
 /// No row of the table reads a list that is read whole as an action.
 pub fn no_action()
     ensures { (list : List CsiParam) (final i : ℕ) (row : Row) (values : List ℕ) →
-        slice_get table i ≡ Some row → read_row row list final ≡ Some values → whole list final ≡ None }
+        slice_get table i ≡ Some row → read_row row list final ≡ Some values
+        → whole list final ≡ None }
 {}
 
 /// What a row of the table writes of values that fit it is a control sequence: behind `ESC [`, its text is read as its list.
 pub fn sequence()
     ensures { (i : ℕ) (row : Row) (values : List ℕ) →
-        slice_get table i ≡ Some row → fit row.slots values ≡ true → Spellable (row_list row values) × IsFinal row.form.control }
+        slice_get table i ≡ Some row → fit row.slots values ≡ true
+        → Spellable (row_list row values) × IsFinal row.form.control }
 {}

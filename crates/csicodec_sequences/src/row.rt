@@ -73,7 +73,8 @@ impl Form {
     /// The values of a list before a final character, where it has this form, and numbers as these slots say.
     pub fn read(&self, slots: &[Slot], params: &[CsiParam], control: char) -> Option<Values>
         requires { length slots.now ≤ 12 }
-        ensures { option_map (λ v. v.items) result ≡ read_row (record { form = self.now; slots = slots.now }) params.now control }
+        ensures { option_map (λ v. v.items) result
+            ≡ read_row (record { form = self.now; slots = slots.now }) params.now control }
     {
         if control != self.control {
             return None;

@@ -28,12 +28,15 @@ IsSequence text = (list : List CsiParam) × (final : ℕ) × Seq text list final
 -- bytes, and have no end
 abbrev pub IsMalformed : ℕ → List ℕ → ℕ → Type 0
 IsMalformed limit bytes n =
-    ((e : ReadError) × FaultOf bytes e × IsMetAt e n × (n < limit)) ⊎ (Begins (take limit bytes) × (limit ≤ length bytes) × (n ≡ limit))
+    ((e : ReadError) × FaultOf bytes e × IsMetAt e n × (n < limit))
+    ⊎ (Begins (take limit bytes) × (limit ≤ length bytes) × (n ≡ limit))
 
 -- where ESC and `[` stand in front: a whole sequence of at most `limit` bytes, or the beginning of one that goes wrong
 abbrev pub AllowsCsi : ℕ → List ℕ → Kind → List ℕ → Mode → Type 0
-AllowsCsi limit bytes kind.Csi text after = IsSequence text × (length text ≤ limit) × (after ≡ mode.Text)
-AllowsCsi limit bytes kind.Other text after = IsMalformed limit bytes (length text) × (after ≡ mode.BadCsi)
+AllowsCsi limit bytes kind.Csi text after = IsSequence text × (length text ≤ limit)
+    × (after ≡ mode.Text)
+AllowsCsi limit bytes kind.Other text after = IsMalformed limit bytes (length text)
+    × (after ≡ mode.BadCsi)
 AllowsCsi limit bytes kind.Text text after = ⊥
 AllowsCsi limit bytes kind.Esc text after = ⊥
 AllowsCsi limit bytes kind.Str text after = ⊥
@@ -47,13 +50,15 @@ Allows Undecided limit bytes kind text after = ⊥
 
 -- the part in front of the bytes in a mode, what is behind it, and the mode there
 abbrev pub IsFirstPart : ℕ → Mode → List ℕ → Part → List ℕ → Mode → Type 0
-IsFirstPart limit m bytes p rest after = (bytes ≡ p.bytes ++ rest) × Allows (ahead m bytes) limit bytes p.kind p.bytes after
+IsFirstPart limit m bytes p rest after = (bytes ≡ p.bytes ++ rest)
+    × Allows (ahead m bytes) limit bytes p.kind p.bytes after
 
 -- one part after the other
 abbrev pub AreFirstParts : ℕ → Mode → List ℕ → List Part → List ℕ → Mode → Type 0
 AreFirstParts limit m bytes [] rest after = (rest ≡ bytes) × (after ≡ m)
 AreFirstParts limit m bytes (p ∷ ps) rest after =
-    (behind : List ℕ) × (mid : Mode) × IsFirstPart limit m bytes p behind mid × AreFirstParts limit mid behind ps rest after
+    (behind : List ℕ) × (mid : Mode) × IsFirstPart limit m bytes p behind mid
+    × AreFirstParts limit mid behind ps rest after
 
 -- nothing is sure of the bytes yet: more could make them a sequence of at most `limit` bytes, or something else
 abbrev pub IsUnsureBy : Answer → ℕ → List ℕ → Type 0
@@ -93,11 +98,13 @@ IsSpan kind.Other text parts = AreAll kind.Other text parts
 -- wherever they are divided, more of what is open stands there
 abbrev pub AreOne : ℕ → Mode → List ℕ → List Part → List Part → Type 0
 AreOne limit m bytes before parts =
-    (some : List Part) (more : List Part) (rest : List ℕ) (after : Mode) → parts ≡ some ++ more → 0 < length some → 0 < length more
+    (some : List Part) (more : List Part) (rest : List ℕ) (after : Mode) → parts ≡ some ++ more
+    → 0 < length some → 0 < length more
     → AreFirstParts limit m bytes (before ++ some) rest after → IsMore (ahead after rest)
 
 -- a span of this kind and text in front of the bytes, what is behind it, and the mode there
-pub record Cuts (limit : ℕ) (m : Mode) (bytes : List ℕ) (kind : Kind) (text : List ℕ) (rest : List ℕ) (next : Mode) : Type 0 where
+pub record Cuts (limit : ℕ) (m : Mode) (bytes : List ℕ) (kind : Kind) (text : List ℕ)
+    (rest : List ℕ) (next : Mode) : Type 0 where
   pub parts : List Part
   pub span : IsSpan kind text parts
   pub one : AreOne limit m bytes [] parts
@@ -112,10 +119,12 @@ IsPlain Undecided = ⊥
 
 -- where nothing is open, the first n bytes are a span that is no control sequence, and nothing is open behind it
 abbrev pub IsPlainFront : List ℕ → ℕ → Type 0
-IsPlainFront bytes n = (k : Kind) × (k ≢ kind.Csi) × ((limit : ℕ) → Cuts limit mode.Text bytes k (take n bytes) (drop n bytes) mode.Text)
+IsPlainFront bytes n = (k : Kind) × (k ≢ kind.Csi)
+    × ((limit : ℕ) → Cuts limit mode.Text bytes k (take n bytes) (drop n bytes) mode.Text)
 
 -- behind these bytes, the text is a part of this kind
-pub record IsPartAt (parts : List Part) (before : List ℕ) (kind : Kind) (text : List ℕ) : Type 0 where
+pub record IsPartAt (parts : List Part) (before : List ℕ) (kind : Kind)
+    (text : List ℕ) : Type 0 where
   pub earlier : List Part
   pub later : List Part
   pub whole : parts ≡ earlier ++ part kind text ∷ later
@@ -149,5 +158,7 @@ pub record IsWhole (limit : ℕ) (m : Mode) (bytes : List ℕ) (parts : List Par
 abbrev pub InChunks : ℕ → Mode → List ℕ → List (List ℕ) → List Part → List ℕ → Mode → Type 0
 InChunks limit m left [] parts rest after = (parts ≡ []) × (rest ≡ left) × (after ≡ m)
 InChunks limit m left (chunk ∷ chunks) parts rest after =
-    (now : List Part) × (later : List Part) × (held : List ℕ) × (mid : Mode) × (parts ≡ now ++ later)
-    × AreFirstParts limit m (left ++ chunk) now held mid × InChunks limit mid held chunks later rest after
+    (now : List Part) × (later : List Part) × (held : List ℕ) × (mid : Mode)
+    × (parts ≡ now ++ later)
+    × AreFirstParts limit m (left ++ chunk) now held mid
+    × InChunks limit mid held chunks later rest after

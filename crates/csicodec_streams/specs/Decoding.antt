@@ -11,13 +11,15 @@ use Rattle.csicodec_parser.specs.Segments.{Actions}
 -- the bytes are the sequences of these lists and finals, one after the other
 abbrev pub Joins : List ℕ → List (List CsiParam × ℕ) → Type 0
 Joins bytes [] = bytes ≡ []
-Joins bytes (s ∷ ss) = (front : List ℕ) × (back : List ℕ) × (bytes ≡ front ++ back) × Seq front s.0 s.1 × Joins back ss
+Joins bytes (s ∷ ss) = (front : List ℕ) × (back : List ℕ) × (bytes ≡ front ++ back)
+    × Seq front s.0 s.1 × Joins back ss
 
 -- the actions of these lists and finals, each with the flag, in turn
 abbrev pub AreActions : List (List CsiParam × ℕ) → Bool → List Action → Type 0
 AreActions [] flag actions = actions ≡ []
 AreActions (s ∷ ss) flag actions =
-    (first : List Action) × (others : List Action) × (actions ≡ first ++ others) × Actions s.0 flag s.1 first × AreActions ss flag others
+    (first : List Action) × (others : List Action) × (actions ≡ first ++ others)
+    × Actions s.0 flag s.1 first × AreActions ss flag others
 
 -- the bytes are a join of sequences, and these are all its actions
 pub record Decodes (bytes : List ℕ) (flag : Bool) (actions : List Action) : Type 0 where
@@ -27,7 +29,8 @@ pub record Decodes (bytes : List ℕ) (flag : Bool) (actions : List Action) : Ty
 
 -- the text is the normal form of the bytes: the texts of their actions
 abbrev pub NormalisesTo : List ℕ → List ℕ → Type 0
-NormalisesTo bytes text = (actions : List Action) × Decodes bytes false actions × (text ≡ texts actions)
+NormalisesTo bytes text = (actions : List Action) × Decodes bytes false actions
+    × (text ≡ texts actions)
 
 -- behind a join of sequences stands what begins with none, and this is its fault
 pub record FaultAt (bytes : List ℕ) (start : ℕ) (error : ReadError) : Type 0 where

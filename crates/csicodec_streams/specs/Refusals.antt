@@ -13,14 +13,18 @@ use Rattle.csicodec_streams.specs.Decoding.{Decodes, FaultAt}
 
 -- why these bytes may be refused so: their own fault, at which they have no actions; memory only behind a sequence
 abbrev pub RefusesDecode : List ℕ → Bool → DecodeError → Type 0
-RefusesDecode bytes flag (decode_errors.Read start error) = FaultAt bytes start error × ((actions : List Action) → Decodes bytes flag actions → ⊥)
-RefusesDecode bytes flag decode_errors.Memory = (list : List CsiParam) × (final : ℕ) × (rest : List ℕ) × Reads bytes list final rest
+RefusesDecode bytes flag (decode_errors.Read start error) = FaultAt bytes start error
+    × ((actions : List Action) → Decodes bytes flag actions → ⊥)
+RefusesDecode bytes flag decode_errors.Memory = (list : List CsiParam) × (final : ℕ)
+    × (rest : List ℕ) × Reads bytes list final rest
 
 -- why a run over this input, if its bytes are known, may end so
 abbrev pub RefusesRun : Option (List ℕ) → RunError → Type 0
 RefusesRun input run_errors.Read = Unit {0}
 RefusesRun input (run_errors.Decode (decode_errors.Read start error)) =
-    IfSome input (λ bytes. FaultAt bytes start error × ((actions : List Action) → Decodes bytes false actions → ⊥))
+    IfSome input
+        (λ bytes. FaultAt bytes start error × ((actions : List Action)
+        → Decodes bytes false actions → ⊥))
 RefusesRun input (run_errors.Decode decode_errors.Memory) = ⊥
 RefusesRun input run_errors.Write = Unit {0}
 RefusesRun input run_errors.Memory = Unit {0}

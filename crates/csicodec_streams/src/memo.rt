@@ -223,7 +223,8 @@ impl<N: Note> Memo<N> {
         requires { AreKnown N.notes self.old.slots.items }
         ensures within { result ≤ length bytes.now }
         ensures short { result ≤ 48 }
-        ensures noted { 0 < result → (text : List ℕ) × N.notes (take result bytes.now) text × (out.new ≡ out.old ++ text) }
+        ensures noted { 0 < result
+            → (text : List ℕ) × N.notes (take result bytes.now) text × (out.new ≡ out.old ++ text) }
         ensures none { result ≡ 0 → out.new ≡ out.old }
         ensures known { AreKnown N.notes self.new.slots.items }
     {
@@ -240,7 +241,9 @@ impl<N: Note> Memo<N> {
         requires stands { StandsAt N.notes _bytes.now self.old.slots.items at }
         ensures within { result ≤ length _bytes.now }
         ensures short { result ≤ 48 }
-        ensures noted { 0 < result → (text : List ℕ) × N.notes (take result _bytes.now) text × (out.new ≡ out.old ++ text) }
+        ensures noted { 0 < result
+            → (text : List ℕ) × N.notes (take result _bytes.now) text
+            × (out.new ≡ out.old ++ text) }
         ensures none { result ≡ 0 → out.new ≡ out.old }
         ensures known { AreKnown N.notes self.new.slots.items }
     {

@@ -17,13 +17,16 @@ open_byte true = 1
 
 -- the colours that stay, whether a style is open behind the sequence where none was and where one was, and the text of its styles
 abbrev pub note_of : Depth → List Action → List ℕ
-note_of d actions = depth_byte d ∷ open_byte (is_open false (kept d actions)) ∷ open_byte (is_open true (kept d actions)) ∷ texts (map Sgr (kept d actions))
+note_of d actions = depth_byte d ∷ open_byte (is_open false (kept d actions)) ∷ open_byte
+    (is_open true (kept d actions)) ∷ texts (map Sgr (kept d actions))
 
 -- the note of the sequence of these bytes
 abbrev pub IsNoted : List ℕ → List ℕ → Type 0
-IsNoted bytes note = (d : Depth) × (actions : List Action) × IsOf bytes actions × (note ≡ note_of d actions)
+IsNoted bytes note = (d : Depth) × (actions : List Action) × IsOf bytes actions
+    × (note ≡ note_of d actions)
 
 -- what stays of the sequence of these bytes is appended, and whether a style is open behind it
 abbrev pub IsLeft : Depth → Bool → List ℕ → Bool → List ℕ → List ℕ → Type 0
 IsLeft d styled bytes after old new =
-    (actions : List Action) × IsOf bytes actions × (after ≡ is_open styled (kept d actions)) × (new ≡ old ++ texts (map Sgr (kept d actions)))
+    (actions : List Action) × IsOf bytes actions × (after ≡ is_open styled (kept d actions))
+    × (new ≡ old ++ texts (map Sgr (kept d actions)))

@@ -21,7 +21,8 @@ IsPlainByte b = plain_byte b ≡ true
 
 -- behind plain bytes
 abbrev pub IsBehindPlain : List ℕ → List ℕ → Type 0
-IsBehindPlain bytes rest = (front : List ℕ) × (bytes ≡ front ++ rest) × AllByRecursion IsPlainByte front
+IsBehindPlain bytes rest = (front : List ℕ) × (bytes ≡ front ++ rest)
+    × AllByRecursion IsPlainByte front
 
 -- the place of the lowest bit that is set, and 16 where none is
 abbrev pub first_set : ℕ → ℕ
@@ -33,7 +34,8 @@ dropped_byte b = nat_lt b 32 && not (b == 27) && not (b == 10) && not (b == 9) |
 
 -- bytes that begin with these four begin with a character from U+00A0 on, of so many bytes
 abbrev pub IsWide : ℕ → ℕ → ℕ → ℕ → ℕ → Type 0
-IsWide b c d e len = (char : ℕ) × (160 ≤ char) × ((n : ℕ) → 4 ≤ n → decoded_by n b c d e ≡ good char len)
+IsWide b c d e len = (char : ℕ) × (160 ≤ char)
+    × ((n : ℕ) → 4 ≤ n → decoded_by n b c d e ≡ good char len)
 
 -- behind UTF-8 of characters that are shown
 abbrev pub IsBehindShown : List ℕ → List ℕ → Type 0
@@ -49,33 +51,46 @@ IsTold text chars = AllByRecursion IsOther text × IsRead text chars []
 -- the text before the rest is told, and what is shown of it is appended
 abbrev pub Tells : List ℕ → List ℕ → List ℕ → List ℕ → Type 0
 Tells bytes rest old new =
-    (text : List ℕ) × (chars : List ℕ) × (bytes ≡ text ++ rest) × IsTold text chars × (new ≡ old ++ shown_chars chars)
+    (text : List ℕ) × (chars : List ℕ) × (bytes ≡ text ++ rest) × IsTold text chars
+    × (new ≡ old ++ shown_chars chars)
 
 -- no character, but the bytes go no further: the beginning of one, or a byte that is none
 abbrev pub IsCut : List ℕ → Type 0
-IsCut bytes = 0 < length bytes → ((decoded bytes).char ≡ None) × ((decoded bytes).size ≡ length bytes)
+IsCut bytes = 0 < length bytes
+    → ((decoded bytes).char ≡ None) × ((decoded bytes).size ≡ length bytes)
 
 -- ---- spans
 
 -- a span behind a run of which some bytes are held: what is appended, and what is held then
-abbrev pub IsAppended : {S : Type 0} → RuleOf S → Kind → S → List ℕ → List ℕ → List ℕ → S → List ℕ → Type 0
-IsAppended Gives kind.Text s held bytes text after left = (chars : List ℕ) × IsRead (held ++ bytes) chars left × (text ≡ shown_chars chars) × (after ≡ s)
-IsAppended Gives kind.Csi s held bytes text after left = (own : List ℕ) × Gives.sequence s bytes own after × (text ≡ shown_text held ++ own) × (left ≡ [])
-IsAppended Gives kind.Esc s held bytes text after left = (text ≡ shown_text held) × (after ≡ s) × (left ≡ [])
-IsAppended Gives kind.Str s held bytes text after left = (own : List ℕ) × AreGiven Gives s bytes own after × (text ≡ shown_text held ++ own) × (left ≡ [])
-IsAppended Gives kind.Other s held bytes text after left = (text ≡ shown_text held) × (after ≡ s) × (left ≡ [])
+abbrev pub IsAppended : {S : Type 0} → RuleOf S → Kind → S → List ℕ → List ℕ → List ℕ → S → List ℕ
+    → Type 0
+IsAppended Gives kind.Text s held bytes text after left = (chars : List ℕ)
+    × IsRead (held ++ bytes) chars left × (text ≡ shown_chars chars) × (after ≡ s)
+IsAppended Gives kind.Csi s held bytes text after left = (own : List ℕ)
+    × Gives.sequence s bytes own after × (text ≡ shown_text held ++ own) × (left ≡ [])
+IsAppended Gives kind.Esc s held bytes text after left = (text ≡ shown_text held) × (after ≡ s)
+    × (left ≡ [])
+IsAppended Gives kind.Str s held bytes text after left = (own : List ℕ)
+    × AreGiven Gives s bytes own after × (text ≡ shown_text held ++ own) × (left ≡ [])
+IsAppended Gives kind.Other s held bytes text after left = (text ≡ shown_text held) × (after ≡ s)
+    × (left ≡ [])
 
 -- ESC, an intermediate byte and a final byte stand in front
 abbrev pub BeginsWithEscape : List ℕ → Type 0
 BeginsWithEscape bytes =
-    (3 ≤ length bytes) × (slice_index bytes 0 ≡ 27) × (32 ≤ slice_index bytes 1) × (slice_index bytes 1 ≤ 47) × (48 ≤ slice_index bytes 2) × (slice_index bytes 2 ≤ 126)
+    (3 ≤ length bytes) × (slice_index bytes 0 ≡ 27) × (32 ≤ slice_index bytes 1)
+    × (slice_index bytes 1 ≤ 47) × (48 ≤ slice_index bytes 2) × (slice_index bytes 2 ≤ 126)
 
 -- from what is open and held, and a rule's state, to what is then: the parts in front of the rest, and what was appended for them
-abbrev pub GoesTo : {S : Type 0} → RuleOf S → ℕ → Mode → Bool → List ℕ → S → List ℕ → List ℕ → Mode → Bool → List ℕ → S → List ℕ → List ℕ → Type 0
+abbrev pub GoesTo : {S : Type 0} → RuleOf S → ℕ → Mode → Bool → List ℕ → S → List ℕ → List ℕ → Mode
+    → Bool → List ℕ → S → List ℕ → List ℕ → Type 0
 GoesTo Gives limit m t held s bytes rest a later left after old new =
     (appended : List ℕ) × (new ≡ old ++ appended)
-    × ((run chars : List ℕ) → IsRead run chars held → Goes Gives limit m t s run chars bytes appended rest a later after left)
+    × ((run chars : List ℕ) → IsRead run chars held
+    → Goes Gives limit m t s run chars bytes appended rest a later after left)
 
 -- the same where what is open and held stays
-abbrev pub GoesOver : {S : Type 0} → RuleOf S → ℕ → Mode → Bool → List ℕ → S → List ℕ → List ℕ → S → List ℕ → List ℕ → Type 0
-GoesOver Gives limit m t held s bytes rest after old new = GoesTo Gives limit m t held s bytes rest m t held after old new
+abbrev pub GoesOver : {S : Type 0} → RuleOf S → ℕ → Mode → Bool → List ℕ → S → List ℕ → List ℕ → S
+    → List ℕ → List ℕ → Type 0
+GoesOver Gives limit m t held s bytes rest after old new =
+    GoesTo Gives limit m t held s bytes rest m t held after old new

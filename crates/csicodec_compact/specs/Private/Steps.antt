@@ -21,7 +21,8 @@ use Rattle.csicodec_compact.specs.Runs.{IsStaying, NoneStays, Shortens, IsShorte
 
 -- the bytes are one control sequence, and this is its normal form
 abbrev pub IsOneNormalised : List ℕ → List ℕ → Type 0
-IsOneNormalised bytes text = (list : List CsiParam) × (final : ℕ) × (actions : List Action) × Seq bytes list final × Actions list false final actions × (text ≡ texts actions)
+IsOneNormalised bytes text = (list : List CsiParam) × (final : ℕ) × (actions : List Action)
+    × Seq bytes list final × Actions list false final actions × (text ≡ texts actions)
 
 -- ---- tests of tokens, actions and bytes
 
@@ -54,7 +55,8 @@ Begins bytes wide = (more : List ℕ) × (wide ≡ bytes ++ more)
 -- ---- forms
 
 abbrev pub form_of : ℕ → Form
-form_of mark = if mark == 1 then forms.Last else if mark == 2 then forms.Open else if mark == 3 then forms.Blank else if mark == 4 then forms.Bare else forms.Whole
+form_of mark = if mark == 1 then forms.Last else if mark == 2 then forms.Open
+    else if mark == 3 then forms.Blank else if mark == 4 then forms.Bare else forms.Whole
 
 abbrev pub is_joined : Form → Bool
 is_joined forms.Whole = false
@@ -127,10 +129,13 @@ pub record IsOpenList (bytes : List ℕ) (styles : List sgr_type.Sgr) : Type 0 w
 -- what stands behind `ESC [` in a text of this form, and its actions
 abbrev pub IsTail : Form → List ℕ → List Action → Type 0
 IsTail forms.Whole bytes actions = ⊥
-IsTail forms.Last bytes actions = (front : List ℕ) × (list : List CsiParam) × (bytes ≡ front ++ 109 ∷ []) × IsList front list actions
-IsTail forms.Open bytes actions = (styles : List sgr_type.Sgr) × (actions ≡ map Sgr styles) × IsOpenList bytes styles
+IsTail forms.Last bytes actions = (front : List ℕ) × (list : List CsiParam)
+    × (bytes ≡ front ++ 109 ∷ []) × IsList front list actions
+IsTail forms.Open bytes actions = (styles : List sgr_type.Sgr) × (actions ≡ map Sgr styles)
+    × IsOpenList bytes styles
 IsTail forms.Blank bytes actions =
-    (styles : List sgr_type.Sgr) × (front : List ℕ) × (bytes ≡ front ++ 59 ∷ []) × (actions ≡ map Sgr (styles ++ sgr.Reset ∷ [])) × IsOpenList front styles
+    (styles : List sgr_type.Sgr) × (front : List ℕ) × (bytes ≡ front ++ 59 ∷ [])
+    × (actions ≡ map Sgr (styles ++ sgr.Reset ∷ [])) × IsOpenList front styles
 IsTail forms.Bare bytes actions = (bytes ≡ []) × (actions ≡ map Sgr (sgr.Reset ∷ []))
 
 -- a text that is such a list behind `ESC [`, and is closed
@@ -168,7 +173,8 @@ IsNoted forms.Bare bytes text = IsNotedList forms.Bare bytes text
 
 -- what is noted of a sequence: a number for the form of its text, how many numbers that has, and the text
 abbrev pub IsNote : List ℕ → List ℕ → Type 0
-IsNote bytes note = (mark : ℕ) × (count : ℕ) × (text : List ℕ) × (note ≡ mark ∷ count ∷ text) × IsOne bytes × IsNoted (form_of mark) bytes text
+IsNote bytes note = (mark : ℕ) × (count : ℕ) × (text : List ℕ) × (note ≡ mark ∷ count ∷ text)
+    × IsOne bytes × IsNoted (form_of mark) bytes text
 
 -- ---- what is held
 
@@ -202,14 +208,17 @@ pub record IsHeld (run : List Part) (held : List ℕ) (form : Form) : Type 0 whe
 
 -- What is written for more parts goes on with what was: whatever was written before them, and for which parts, so far this text is held.
 abbrev pub Extends : Form → List Part → List ℕ → Form → Type 0
-Extends form parts text after = (run : List Part) (before : List ℕ) → IsHeld run before form → IsHeld (run ++ parts) (before ++ text) after
+Extends form parts text after = (run : List Part) (before : List ℕ) → IsHeld run before form
+    → IsHeld (run ++ parts) (before ++ text) after
 
 -- and this was appended
 abbrev pub GoesOnBy : Form → List Part → List ℕ → List ℕ → Form → Type 0
-GoesOnBy form parts old new after = (text : List ℕ) × (new ≡ old ++ text) × Extends form parts text after
+GoesOnBy form parts old new after = (text : List ℕ) × (new ≡ old ++ text)
+    × Extends form parts text after
 
 -- The parts in front of the bytes, and what is appended for them.
-pub record WritesFront (limit : ℕ) (m : Mode) (bytes : List ℕ) (form : Form) (old new : List ℕ) (after : Form) (rest : List ℕ) (n : Mode) : Type 0 where
+pub record WritesFront (limit : ℕ) (m : Mode) (bytes : List ℕ) (form : Form) (old new : List ℕ)
+    (after : Form) (rest : List ℕ) (n : Mode) : Type 0 where
   pub parts : List Part
   pub first : AreFirstParts limit m bytes parts rest n
   pub goes : GoesOnBy form parts old new after

@@ -10,7 +10,8 @@ abbrev pub WritesNormal : Bool → List ℕ → List ℕ → Type 0
 WritesNormal wanted bytes text = (wanted ≡ true) × IsNormal bytes text
 
 -- the parts in front of the bytes make this text, and the others are left
-pub record PassesFront (wanted : Bool) (limit : ℕ) (m : Mode) (bytes text rest : List ℕ) (after : Mode) : Type 0 where
+pub record PassesFront (wanted : Bool) (limit : ℕ) (m : Mode) (bytes text rest : List ℕ)
+    (after : Mode) : Type 0 where
   pub parts : List Part
   pub first : AreFirstParts limit m bytes parts rest after
   pub written : AreWritten (WritesNormal wanted) parts text

@@ -39,7 +39,8 @@ page_bytes bytes = flat_map page_byte bytes
 abbrev pub turns : RuleOf Look
 turns = record {
   sequence = λ l bytes out after.
-      (actions : List Action) × IsOf bytes actions × (after ≡ behind_all l actions) × (out ≡ all_marked (turn (sets_any actions) l after));
+      (actions : List Action) × IsOf bytes actions × (after ≡ behind_all l actions)
+      × (out ≡ all_marked (turn (sets_any actions) l after));
   byte = λ l b out after. (out ≡ []) × (after ≡ l);
 }
 
@@ -48,7 +49,9 @@ closes l out = out ≡ all_marked (ends l)
 
 -- a page as it comes
 abbrev pub Passes : Between Look → List ℕ → List ℕ → Between Look → Type 0
-Passes old bytes page new = (text : List ℕ) × Takes turns old bytes text new × (page ≡ page_bytes text)
+Passes old bytes page new = (text : List ℕ) × Takes turns old bytes text new
+    × (page ≡ page_bytes text)
 
 abbrev pub Finishes : Between Look → List ℕ → Type 0
-Finishes last page = (close : List ℕ) × closes last.rule close × (page ≡ page_bytes (shown_text last.held ++ close))
+Finishes last page = (close : List ℕ) × closes last.rule close
+    × (page ≡ page_bytes (shown_text last.held ++ close))

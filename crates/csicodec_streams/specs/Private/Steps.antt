@@ -8,7 +8,8 @@ use Rattle.csicodec_streams.specs.Decoding.{Decodes}
 
 -- the sequences at the front of the bytes have these actions, and behind them comes the rest
 abbrev pub DecodesFront : List ℕ → Bool → List ℕ → List Action → Type 0
-DecodesFront bytes flag rest actions = (front : List ℕ) × (bytes ≡ front ++ rest) × Decodes front flag actions
+DecodesFront bytes flag rest actions = (front : List ℕ) × (bytes ≡ front ++ rest)
+    × Decodes front flag actions
 
 -- nothing is behind them, or what begins with no sequence, or with one for which there was no memory
 abbrev pub StopsAt : List ℕ → Option ReadError → Type 0

@@ -18,8 +18,8 @@
 #include "csicodec_names.h"
 
 /* The version of this header. csicodec_version() returns the library's, which must be the same number. */
-#define CSICODEC_VERSION "1.2.0"
-#define CSICODEC_VERSION_NUMBER 10200
+#define CSICODEC_VERSION "1.3.0"
+#define CSICODEC_VERSION_NUMBER 10300
 
 #ifdef __cplusplus
 extern "C" {

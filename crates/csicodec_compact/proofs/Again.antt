@@ -1,18 +1,19 @@
 -- What `compact` writes, cut as a stream once more.
-use Rattle.std.proofs.Common.{◌≡◌, ℕ, ◌<◌, ◌≤◌, List, [], ◌∷◌, ◌++◌, length, ap, inl, inr, append-nil, arith}
+use Rattle.std.proofs.Common.{◌≡◌, ℕ, ◌<◌, ◌≤◌, List, [], ◌∷◌, ◌++◌, length, sym, ap, ◌∙◌, append_assoc, inl, inr, arith}
 use Rattle.std.proofs.lemmas.Grind.{flat_map-append}
 use Rattle.std.proofs.lemmas.List.{length-append}
 use Rattle.std.specs.List.{flat_map}
 use Rattle.csicodec_spans.specs.declared.table.Mode.{Mode}
-use Rattle.csicodec_spans.specs.Parts.{Part, bytes_of, IsWhole}
+use Rattle.csicodec_spans.specs.Parts.{Part, bytes_of}
 use Rattle.csicodec_spans.proofs.Spanned.{whole_joined}
-use Rattle.csicodec_filter.specs.Again.{StandInPlace}
 use Rattle.csicodec_filter.proofs.Again.{AreMeant, again}
-use Rattle.csicodec_compact.specs.Again.{AreRunsWithin, IsRunWithin}
+use Rattle.csicodec_compact.specs.Runs.{AreRuns, IsRun, CompactsAll}
+use Rattle.csicodec_compact.specs.Again.{HasAgain, HasShortRows}
 
-are_meant : (limit : ℕ) (runs : List (List Part)) (parts : List Part) (text : List ℕ) → AreRunsWithin limit runs parts text → AreMeant limit runs parts text
-are_meant limit [] parts text r = r
-are_meant limit (run ∷ runs) parts text r =
+-- what is written for a run is no longer than its row
+are_meant : (limit : ℕ) (runs : List (List Part)) (parts : List Part) (text : List ℕ) → HasShortRows limit parts → AreRuns runs parts text → AreMeant limit runs parts text
+are_meant limit [] parts text short r = r
+are_meant limit (run ∷ runs) parts text short r =
     let (behind, first, later, parts_are, text_is, own, others) = r in
     (
       behind,
@@ -21,25 +22,28 @@ are_meant limit (run ∷ runs) parts text r =
       parts_are,
       text_is,
       elim own [
-        | inl h ↦ inl (record { all = h.0.all; actions = h.0.actions; came = h.0.came; written = h.0.written }, h.1)
+        | inl h ↦ inl (record { all = h.all; actions = h.actions; came = h.came; written = h.written }, omega (arith, h.short, short [] run behind parts_are h.all))
         | inr h ↦ inr h
       ],
-      are_meant limit runs behind later others,
+      are_meant limit runs behind later (λ before row rest e all. short (run ++ before) row rest (parts_are ∙ ap (λ (ps : List Part). run ++ ps) e ∙ sym (append_assoc run before (row ++ rest))) all) others,
     )
 
-run_short : (limit : ℕ) (run : List Part) (text : List ℕ) → IsRunWithin limit run text → length text ≤ length (flat_map bytes_of run)
-run_short limit run text (inl h) = h.0.short
-run_short limit run text (inr h) = rw (h.1, h.3) (omega (arith, length-append h.0.bytes []))
+run_short : (run : List Part) (text : List ℕ) → IsRun run text → length text ≤ length (flat_map bytes_of run)
+run_short run text (inl h) = h.short
+run_short run text (inr h) = rw (h.1, h.3) (omega (arith, length-append h.0.bytes []))
 
-runs_short : (limit : ℕ) (runs : List (List Part)) (parts : List Part) (text : List ℕ) → AreRunsWithin limit runs parts text → length text ≤ length (flat_map bytes_of parts)
-runs_short limit [] parts text r = rw (r.0, r.1) (omega arith)
-runs_short limit (run ∷ runs) parts text r =
+runs_short : (runs : List (List Part)) (parts : List Part) (text : List ℕ) → AreRuns runs parts text → length text ≤ length (flat_map bytes_of parts)
+runs_short [] parts text r = rw (r.0, r.1) (omega arith)
+runs_short (run ∷ runs) parts text r =
     let (behind, first, later, parts_are, text_is, own, others) = r in
     let all : length (flat_map bytes_of parts) ≡ length (flat_map bytes_of run ++ flat_map bytes_of behind) = ap (λ (ps : List Part). length (flat_map bytes_of ps)) parts_are ∙ ap length (flat_map-append bytes_of run behind) in
-    omega (arith, run_short limit run first own, runs_short limit runs behind later others, all, length-append (flat_map bytes_of run) (flat_map bytes_of behind), ap length text_is, length-append first later)
+    omega (arith, run_short run first own, runs_short runs behind later others, all, length-append (flat_map bytes_of run) (flat_map bytes_of behind), ap length text_is, length-append first later)
 
-pub compact_stream_lem : (limit : ℕ) (m : Mode) (bytes text : List ℕ) (parts : List Part) (runs : List (List Part)) → 0 < limit → IsWhole limit m bytes parts → AreRunsWithin limit runs parts text
-    → (others : List Part) × IsWhole limit m text others × StandInPlace runs parts others × (length text ≤ length bytes)
-compact_stream_lem limit m bytes text parts runs l w r =
-    let a = again limit runs m bytes text parts l w (are_meant limit runs parts text r) in
-    (a.others, a.whole, a.placed, omega (arith, runs_short limit runs parts text r, ap length (whole_joined limit m bytes parts w)))
+pub no_longer : (limit : ℕ) (m : Mode) (bytes text : List ℕ) → CompactsAll limit m bytes text → length text ≤ length bytes
+no_longer limit m bytes text c =
+    omega (arith, runs_short c.shortened.0 c.parts text c.shortened.1, ap length (whole_joined limit m bytes c.parts c.whole))
+
+pub has_again : (limit : ℕ) (m : Mode) (bytes text : List ℕ) (c : CompactsAll limit m bytes text) → 0 < limit → HasShortRows limit c.parts → HasAgain c
+has_again limit m bytes text c l short =
+    let a = again limit c.shortened.0 m bytes text c.parts l c.whole (are_meant limit c.shortened.0 c.parts text short c.shortened.1) in
+    record { others = a.others; whole = a.whole; placed = a.placed }

@@ -1,18 +1,19 @@
 -- What `compact` writes, cut as a stream once more.
-use Rattle.std.specs.Prelude.{ℕ, ◌≡◌, ◌≢◌, ◌≤◌, ◌⊎◌, List, [], ◌∷◌, ◌++◌, length}
-use Rattle.csicodec_spans.specs.declared.table.Kind.TheVariants as kind
-use Rattle.csicodec_spans.specs.Parts.{Part}
-use Rattle.csicodec_compact.specs.Runs.{Shortens}
+use Rattle.std.specs.Prelude.{ℕ, ◌≡◌, ◌≤◌, List, ◌++◌, length}
+use Rattle.std.specs.List.{flat_map}
+use Rattle.csicodec_spans.specs.declared.table.Mode.{Mode}
+use Rattle.csicodec_spans.specs.Parts.{Part, bytes_of, IsWhole}
+use Rattle.csicodec_filter.specs.Again.{AreCsi, StandInPlace}
+use Rattle.csicodec_compact.specs.Runs.{CompactsAll}
 
--- what is written for a run, no more than `limit` bytes for control sequences
-abbrev pub IsRunWithin : ℕ → List Part → List ℕ → Type 0
-IsRunWithin limit run text = (Shortens run text × (length text ≤ limit))
-    ⊎ ((p : Part) × (run ≡ p ∷ []) × (p.kind ≢ kind.Csi) × (text ≡ p.bytes))
+-- control sequences that stand side by side have no more than `limit` bytes
+abbrev pub HasShortRows : ℕ → List Part → Type 0
+HasShortRows limit parts = (before row behind : List Part) → parts ≡ before ++ (row ++ behind)
+    → AreCsi row → length (flat_map bytes_of row) ≤ limit
 
--- the parts are these runs in turn, and the text is theirs
-abbrev pub AreRunsWithin : ℕ → List (List Part) → List Part → List ℕ → Type 0
-AreRunsWithin limit [] parts text = (parts ≡ []) × (text ≡ [])
-AreRunsWithin limit (run ∷ runs) parts text =
-    (behind : List Part) × (first : List ℕ) × (others : List ℕ) × (parts ≡ run ++ behind)
-    × (text ≡ first ++ others) × IsRunWithin limit run first
-    × AreRunsWithin limit runs behind others
+-- the text, cut as a stream, has parts that stand in the place of those that it was made of
+pub record HasAgain {limit : ℕ} {m : Mode} {bytes text : List ℕ}
+    (c : CompactsAll limit m bytes text) : Type 0 where
+  pub others : List Part
+  pub whole : IsWhole limit m text others
+  pub placed : StandInPlace c.shortened.0 c.parts others

@@ -1,19 +1,16 @@
 //! Laws of the definitions. Each is the contract of a function that does nothing.
-ghost use Rattle.std.specs.Prelude.{◌≡◌, ◌<◌, ◌≤◌, ℕ, List, length};
+ghost use Rattle.std.specs.Prelude.{◌<◌, ◌≤◌, ℕ, List, length};
 ghost use Rattle.csicodec_spans.specs.declared.table.Mode.{Mode};
-ghost use Rattle.csicodec_spans.specs.Parts.{Part, IsWhole};
-ghost use Rattle.csicodec_filter.specs.Again.{StandInPlace};
-ghost use Rattle.csicodec_compact.specs.Again.{AreRunsWithin};
+ghost use Rattle.csicodec_compact.specs.Again.{HasAgain, HasShortRows};
+ghost use Rattle.csicodec_compact.specs.Runs.{CompactsAll};
 
-/// What [`compact_bytes`](crate::compact_bytes) and [`compact_all`](crate::compact_all) write of a stream, cut as a stream once more, has
-/// the parts of the input again, in order: each that is no control sequence as it came, and for control sequences side by side others that
-/// are read as the same actions. It is no longer than the input. No control sequence that is written may be longer than `limit` for that, or
-/// it would be cut as one that went wrong.
-#[tactic(auto, using(crate::proofs::Again::compact_stream_lem))]
+/// What [`compact_bytes`](crate::compact_bytes) and [`compact_all`](crate::compact_all) write of a stream is no longer than the stream. Cut as a
+/// stream once more it has the same parts, in order: each that is no control sequence as it came, and for control sequences side by side
+/// others that are read as the same actions. For that no row of control sequences in the input may be longer than `limit`: what is joined of
+/// it could be too.
 pub fn compact_stream()
-    ensures { (limit : ℕ) (mode : Mode) (bytes text : List ℕ) (parts : List Part)
-        (runs : List (List Part)) → 0 < limit → IsWhole limit mode bytes parts
-        → AreRunsWithin limit runs parts text
-        → (others : List Part) × IsWhole limit mode text others × StandInPlace runs parts others
-            × (length text ≤ length bytes) }
+    ensures short { (limit : ℕ) (mode : Mode) (bytes text : List ℕ)
+        → CompactsAll limit mode bytes text → length text ≤ length bytes }
+    ensures again { (limit : ℕ) (mode : Mode) (bytes text : List ℕ)
+        (c : CompactsAll limit mode bytes text) → 0 < limit → HasShortRows limit c.parts → HasAgain c }
 {}

@@ -1,0 +1,5 @@
+use Rattle.csicodec_compact.proofs.Again.{has_again, no_longer}
+use Rattle.csicodec_compact.proofs.laws.compact_stream.Goals as goal
+
+pub returns : goal.returns
+returns c = record { short = no_longer; again = has_again }

@@ -67,7 +67,7 @@ rules_of list final =
     else if is_final "q" final && ends " " list then CursorStyle
     else if is_final "y" final && ends "*" list then Checksum
     else if is_final "c" final &&
-        (begins "=" list || (begins ">" list || begins "?" list)) then Attributes
+    (begins "=" list || (begins ">" list || begins "?" list)) then Attributes
     else if (is_final "m" final || is_final "M" final) && begins "<" list then MouseReport
     else if is_final "S" final && begins "?" list then Graphics
     else if is_final "p" final && has_any queries list then Query

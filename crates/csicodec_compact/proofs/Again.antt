@@ -14,8 +14,7 @@ use Rattle.csicodec_compact.specs.Again.{HasAgain, HasShortRows}
 are_meant : (limit : ℕ) (runs : List (List Part)) (parts : List Part) (text : List ℕ) → HasShortRows limit parts → AreRuns runs parts text → AreMeant limit runs parts text
 are_meant limit [] parts text short r = r
 are_meant limit (run ∷ runs) parts text short r =
-    let (behind, first, later, parts_are, text_is, own, others) = r in
-    (
+    let (behind, first, later, parts_are, text_is, own, others) = r in (
       behind,
       first,
       later,

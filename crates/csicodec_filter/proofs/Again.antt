@@ -80,11 +80,13 @@ part_less limit m p s x a l two h =
     let some : 0 < length p.bytes = part_some limit m (p.bytes ++ (s ++ x)) p (s ++ x) a l h in
     let long : length short ≡ length p.bytes + length s = length-append p.bytes s in
     let all : p.bytes ++ (s ++ x) ≡ short ++ x = sym (append_assoc p.bytes s x) in
-    let allows : Allows (ahead m (short ++ x)) limit (short ++ x) p.kind p.bytes a = subst (λ (t : List ℕ). Allows (ahead m t) limit t p.kind p.bytes a) all h.1 in
-    (refl, elim (kept m short x (only_row m short)) [
-      | inl e ↦ absurd (long_decided m short (omega (arith, some, two, long)) e)
-      | inr e ↦ allows_less (ahead m short) limit short x p.kind p.bytes a (omega (arith, some, two, long)) (subst (λ (f : Answer). Allows f limit (short ++ x) p.kind p.bytes a) e allows)
-    ])
+    let allows : Allows (ahead m (short ++ x)) limit (short ++ x) p.kind p.bytes a = subst (λ (t : List ℕ). Allows (ahead m t) limit t p.kind p.bytes a) all h.1 in (
+      refl,
+      elim (kept m short x (only_row m short)) [
+        | inl e ↦ absurd (long_decided m short (omega (arith, some, two, long)) e)
+        | inr e ↦ allows_less (ahead m short) limit short x p.kind p.bytes a (omega (arith, some, two, long)) (subst (λ (f : Answer). Allows f limit (short ++ x) p.kind p.bytes a) e allows)
+      ],
+    )
 
 -- ---- bytes that are the same up to a control sequence
 
@@ -194,8 +196,7 @@ first_csis limit (s ∷ ss) m bytes more j within =
     let long : length bytes ≡ length j.0 + length j.1 = ap length j.2 ∙ length-append j.0 j.1 in
     let all : j.0 ++ (j.1 ++ more) ≡ bytes ++ more = sym (append_assoc j.0 j.1 more) ∙ ap (λ (t : List ℕ). t ++ more) (sym j.2) in
     let first = first_csi limit m j.0 (j.1 ++ more) (s.0, s.1, j.3) (omega (arith, long, within)) in
-    let others = first_csis limit ss mode.Text j.1 more j.4 (omega (arith, long, within)) in
-    (
+    let others = first_csis limit ss mode.Text j.1 more j.4 (omega (arith, long, within)) in (
       j.1 ++ more,
       mode.Text,
       subst (λ (t : List ℕ). IsFirstPart limit m t (part kind.Csi j.0) (j.1 ++ more) mode.Text) all first,
@@ -224,8 +225,7 @@ run_first limit m bytes (p ∷ run) behind all w =
           let own : Allows (ahead m bytes) limit bytes kind.Csi p.bytes n = subst (λ (k : Kind). Allows (ahead m bytes) limit bytes k p.bytes n) all.0 first.1 in
           let is = allows_whole (ahead m bytes) limit m bytes p.bytes n (sound m bytes) own in
           let plain : n ≡ mode.Text = is.2 in
-          let r = run_first limit mode.Text rest run behind all.1 (subst (λ (a : Mode). IsWhole limit a rest (run ++ behind)) plain others) in
-          (
+          let r = run_first limit mode.Text rest run behind all.1 (subst (λ (a : Mode). IsWhole limit a rest (run ++ behind)) plain others) in (
             r.0,
             first.0 ∙ ap (λ (t : List ℕ). p.bytes ++ t) r.1 ∙ sym (append_assoc p.bytes (flat_map bytes_of run) r.0),
             subst (λ (a : Mode). IsWhole limit a r.0 behind) (behind_text run) r.2,

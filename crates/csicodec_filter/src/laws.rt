@@ -15,5 +15,5 @@ pub fn filter_stream<R: Rewrite>(rewrite: &R)
         → 0 < limit → KeepsMeaning (R.writes rewrite.now) → IsWhole limit mode bytes parts
         → AreWritten (Within limit (R.writes rewrite.now)) parts text
         → (others : List Part) × IsWhole limit mode text others
-            × StandInPlace (singles parts) parts others }
+        × StandInPlace (singles parts) parts others }
 {}

@@ -129,7 +129,7 @@ unfoldable pub line_places : Look → List ℕ
 line_places l =
     (if not (is_none l.underline) then codes " underline" else [])
     ++ ((if l.overline then codes " overline" else [])
-        ++ (if l.strike then codes " line-through" else []))
+    ++ (if l.strike then codes " line-through" else []))
 
 unfoldable pub line_style : Look → List ℕ
 line_style l = line_kind l.underline ++ line_color l.line

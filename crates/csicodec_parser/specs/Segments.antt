@@ -39,7 +39,7 @@ BodyActions g list (t ∷ ts) flag final actions = Segmented g (t ∷ ts) flag f
 abbrev pub CutActions : Group → List CsiParam → Bool → ℕ → List Action → Type 0
 CutActions g list flag final actions =
     MatchBool (has_odd g list) (actions ≡ Unspecified list flag final ∷ [])
-        (BodyActions g list (body g list) flag final actions)
+    (BodyActions g list (body g list) flag final actions)
 
 -- no row reads the list
 abbrev pub IsUnread : List CsiParam → ℕ → Type 0

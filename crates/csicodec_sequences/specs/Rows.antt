@@ -55,8 +55,8 @@ slot_values [] list = ended list
 slot_values (s ∷ ss) list =
     if stops s list then Some []
     else option_and_then
-        (λ f. option_and_then (λ v. option_map (λ vs. v ∷ vs) (slot_values ss f.1))
-        (slot_value s f.0)) (split_field list)
+    (λ f. option_and_then (λ v. option_map (λ vs. v ∷ vs) (slot_values ss f.1))
+    (slot_value s f.0)) (split_field list)
 
 -- the parts have the bytes of the row
 abbrev pub has_bytes : Row → Parts → Bool
@@ -67,8 +67,8 @@ has_bytes row parts =
 abbrev pub read_row : Row → List CsiParam → ℕ → Option (List ℕ)
 read_row row list final =
     if final == row.form.control then
-        (if has_bytes row (parts_of list) then slot_values row.slots (parts_of list).body
-        else None) else None
+    (if has_bytes row (parts_of list) then slot_values row.slots (parts_of list).body
+    else None) else None
 
 -- ---- writing
 

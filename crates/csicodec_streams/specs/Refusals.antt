@@ -23,8 +23,8 @@ abbrev pub RefusesRun : Option (List ℕ) → RunError → Type 0
 RefusesRun input run_errors.Read = Unit {0}
 RefusesRun input (run_errors.Decode (decode_errors.Read start error)) =
     IfSome input
-        (λ bytes. FaultAt bytes start error × ((actions : List Action)
-        → Decodes bytes false actions → ⊥))
+    (λ bytes. FaultAt bytes start error × ((actions : List Action)
+    → Decodes bytes false actions → ⊥))
 RefusesRun input (run_errors.Decode decode_errors.Memory) = ⊥
 RefusesRun input run_errors.Write = Unit {0}
 RefusesRun input run_errors.Memory = Unit {0}

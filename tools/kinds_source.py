@@ -54,7 +54,8 @@ def rows():
     for group in BY_NUMBER:
         value = f"place ({low(group)}_of {low(group)}.now)" if has_tokens(group) else f"{low(group)}.now"
         place = "place: usize, " if has_tokens(group) else ""
-        public = "pub(crate) " if is_boxed(group) else ""
+        # What takes memory is laid by other calls than `struct_of`, and so is most of what a stream has.
+        public = "pub(crate) " if is_boxed(group) or group in ("Sgr", "Cursor", "Edit") else ""
         body += f"\n{public}fn {low(group)}_struct({place}{low(group)}: &{type_of(group)}) -> Struct\n    ensures {{ result ≡ {low(group)}_struct {value} }}\n{{\n    match {low(group)} {{\n"
         for kind in of(group):
             body += code_row(*kind)

@@ -7,5 +7,6 @@ mod OneValue
 mod Running
 mod Same
 mod Sole
+mod SoleStruct
 mod Stand
 mod Tokens

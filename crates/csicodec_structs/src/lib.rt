@@ -12,6 +12,7 @@ mod numbers;
 mod room;
 mod rows;
 mod short;
+mod single;
 mod status;
 mod structs;
 mod token;

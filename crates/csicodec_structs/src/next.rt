@@ -1,9 +1,12 @@
 //! The sequence at the front of some bytes.
-ghost use Rattle.std.specs.Prelude.{◌≡◌, ◌⊎◌};
-ghost use Rattle.csicodec_structs.specs.Private.Fronts.{IsAnswer};
+ghost use Rattle.std.specs.Prelude.{◌≡◌, ◌⊎◌, List, IfNone, IfSome};
+ghost use Rattle.csicodec_structs.specs.Private.Fronts.{IsAnswer, done};
 ghost use Rattle.csicodec_structs.specs.Next.{IsDone, IsRefused, refusal, refused};
+ghost use Rattle.csicodec_structs.specs.declared.structs.Param.{Param};
 
-use crate::lay::lay_list;
+use crate::lay::{Counts, lay_list};
+use crate::room::put;
+use crate::single::sole_struct;
 use crate::status::{Status, fault_of};
 use crate::structs::{Param, Struct};
 use csicodec::{CsiParam, ReadError, read_csi_into, read_csi_within};
@@ -44,8 +47,45 @@ fn refusal(error: ReadError) -> Front
     refused(why, at)
 }
 
-/// Puts the actions of this list and their tokens, as many as there is room for: of a sequence of so many bytes.
+/// Of a sequence of so many bytes, whose actions were put.
 #[inline(always)]
+fn done(used: usize, count: Counts) -> Front
+    ensures { result ≡ done used count }
+{
+    Front {
+        status: Status::Done.number(),
+        at: 0,
+        used,
+        actions: count.actions,
+        params: count.params,
+    }
+}
+
+/// Puts the one action of this list, where it has no other and no tokens: of a sequence of so many bytes.
+#[inline(always)]
+fn sole_answer(
+    list: &[CsiParam],
+    control: char,
+    used: usize,
+    actions: &mut [Struct],
+) -> Option<Front>
+    ensures some { IfSome result (λ front. (params : List Param)
+        → IsAnswer list.now control used actions.old actions.new params params front) }
+    ensures none { IfNone result (actions.new ≡ actions.old) }
+{
+    let given = sole_struct(list, control)?;
+    put(actions, 0, given);
+    Some(done(
+        used,
+        Counts {
+            actions: 1,
+            params: 0,
+        },
+    ))
+}
+
+/// Puts the actions of this list and their tokens, as many as there is room for: of a sequence of so many bytes.
+#[inline(never)]
 fn answer(
     alloc: Global,
     list: &[CsiParam],
@@ -57,13 +97,7 @@ fn answer(
     ensures { IsAnswer list.now control used actions.old actions.new params.old params.new result }
 {
     match lay_list(alloc, list, control, actions, params) {
-        Ok(count) => Front {
-            status: Status::Done.number(),
-            at: 0,
-            used,
-            actions: count.actions,
-            params: count.params,
-        },
+        Ok(count) => done(used, count),
         Err(_) => refused(Status::Memory, 0),
     }
 }
@@ -84,8 +118,10 @@ fn next_long(alloc: Global, bytes: &[u8], actions: &mut [Struct], params: &mut [
     answer(alloc, &list, tail.control, used, actions, params)
 }
 
-/// Puts the actions of the sequence at the front, and their tokens, as many as there is room for.
-pub fn lay_front(alloc: Global, bytes: &[u8], actions: &mut [Struct], params: &mut [Param]) -> Front
+/// The same of a sequence of up to 32 tokens, which take no memory.
+#[cold]
+#[inline(never)]
+fn next_wide(alloc: Global, bytes: &[u8], actions: &mut [Struct], params: &mut [Param]) -> Front
     ensures { IsDone bytes.now actions.old actions.new params.old params.new result
         ⊎ IsRefused bytes.now actions.old actions.new params.old params.new result }
 {
@@ -104,4 +140,25 @@ pub fn lay_front(alloc: Global, bytes: &[u8], actions: &mut [Struct], params: &m
         actions,
         params,
     )
+}
+
+/// Puts the actions of the sequence at the front, and their tokens, as many as there is room for.
+#[inline(always)]
+pub fn lay_front(alloc: Global, bytes: &[u8], actions: &mut [Struct], params: &mut [Param]) -> Front
+    ensures { IsDone bytes.now actions.old actions.new params.old params.new result
+        ⊎ IsRefused bytes.now actions.old actions.new params.old params.new result }
+{
+    // so few that clearing the room costs little: a true colour has 9 tokens
+    let mut room = [CsiParam::Integer(0); 12];
+    let read = match read_csi_within(&mut room, bytes) {
+        Ok(read) => read,
+        Err(ReadError::Memory) => return next_wide(alloc, bytes, actions, params),
+        Err(error) => return refusal(error),
+    };
+    let used = bytes.len() - read.rest.len();
+    let list = &room[..read.count];
+    if let Some(front) = sole_answer(list, read.control, used, actions) {
+        return front;
+    }
+    answer(alloc, list, read.control, used, actions, params)
 }

@@ -14,7 +14,7 @@ use csicodec::{
     CSI, Cursor, Device, DeviceAttributes, Edit, Keyboard, Mode, MouseReport, Sgr, Window,
 };
 
-fn sgr_struct(sgr: &Sgr) -> Struct
+pub(crate) fn sgr_struct(sgr: &Sgr) -> Struct
     ensures { result ≡ sgr_struct sgr.now }
 {
     match sgr {
@@ -35,7 +35,7 @@ fn sgr_struct(sgr: &Sgr) -> Struct
     }
 }
 
-fn cursor_struct(cursor: &Cursor) -> Struct
+pub(crate) fn cursor_struct(cursor: &Cursor) -> Struct
     ensures { result ≡ cursor_struct cursor.now }
 {
     match cursor {
@@ -89,7 +89,7 @@ fn cursor_struct(cursor: &Cursor) -> Struct
     }
 }
 
-fn edit_struct(edit: &Edit) -> Struct
+pub(crate) fn edit_struct(edit: &Edit) -> Struct
     ensures { result ≡ edit_struct edit.now }
 {
     match edit {

@@ -17,6 +17,7 @@ use Rattle.csicodec_structs.specs.declared.next.Front.{Front}
 use Rattle.csicodec_structs.specs.declared.structs.Param.{Param}
 use Rattle.csicodec_structs.specs.declared.structs.Struct.{Struct}
 use Rattle.csicodec_structs.specs.Room.{laid}
+use Rattle.csicodec_structs.specs.Rows.{params_of, struct_of}
 use Rattle.csicodec_structs.specs.Status.{status_number}
 use Rattle.csicodec_structs.specs.declared.status.Status.TheVariants as status
 
@@ -53,6 +54,10 @@ large_of (large.Window w) = action.Window w
 large_of (large.Listed h list) = headed h list.now
 large_of (large.Unknown list final) = action.Unspecified list.now false final
 
+-- the answer of a sequence of so many bytes and actions
+abbrev pub done : ℕ → Counts → Front
+done used count = record { status = status_number status.Done; at = 0; used = used; actions = count.actions; params = count.params }
+
 -- its actions are put
 pub record IsLaid (list : List CsiParam) (final used : ℕ) (actions_old actions_new : List Struct)
     (params_old params_new : List Param) (answer : Front) : Type 0 where
@@ -68,3 +73,10 @@ abbrev pub IsAnswer : List CsiParam → ℕ → ℕ → List Struct → List Str
 IsAnswer list final used actions_old actions_new params_old params_new answer =
     IsLaid list final used actions_old actions_new params_old params_new answer
     ⊎ (answer ≡ refused status.Memory 0)
+
+-- the struct of the one action of a list, which has no tokens
+pub record IsSole (list : List CsiParam) (final : ℕ) (given : Struct) : Type 0 where
+  pub action : Action
+  pub are : Actions list false final (action ∷ [])
+  pub struct : given ≡ struct_of 0 action
+  pub no_params : params_of action ≡ []

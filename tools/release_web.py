@@ -2,12 +2,13 @@
 compiled by the kit's clang and linked by its linker; binaryen then makes the memory one of 32 bits, which every browser has.
 """
 import base64
-import gzip
 import os
 import re
 import shutil
+import struct
 import sys
 import tempfile
+import zlib
 
 from release_build import EXPLAIN, LIBRARY, TOP, Stop, calls, run, sum_of, version
 
@@ -117,6 +118,13 @@ def build_module(kit, name, source, to, room):
     shutil.move(f"{own}/lowered.wasm", to)
 
 
+def packed(held):
+    """A file of gzip (RFC 1952), with no time. The head is written here, since the one of Python's gzip differs between its versions."""
+    deflate = zlib.compressobj(9, zlib.DEFLATED, -15)
+    body = deflate.compress(held) + deflate.flush()
+    return b"\x1f\x8b\x08\0\0\0\0\0\x02\x03" + body + struct.pack("<II", zlib.crc32(held), len(held) % 2**32)
+
+
 def page(to):
     """The page as one file, with the modules packed inside, so that it also works from a folder with no server."""
     with open(f"{TOP}/web/index.html", encoding="utf-8") as file:
@@ -128,8 +136,8 @@ def page(to):
         text = text.replace("<!-- page.mjs -->", file.read()).replace('<span id="version"></span>', version())
     for name in MODULES:
         with open(f"{to}/{name}.wasm.gz", "rb") as file:
-            packed = base64.b64encode(file.read()).decode()
-        text = text.replace(f"<!-- {name}.wasm -->", f'<script type="text/plain" id="{name}-wasm">{packed}</script>')
+            text_of = base64.b64encode(file.read()).decode()
+        text = text.replace(f"<!-- {name}.wasm -->", f'<script type="text/plain" id="{name}-wasm">{text_of}</script>')
     with open(f"{to}/index.html", "w", encoding="utf-8") as file:
         file.write(text)
 
@@ -139,6 +147,6 @@ def build(kit, made, to, room):
     os.makedirs(to, exist_ok=True)
     for name, crate in MODULES.items():
         module(kit, made, crate, f"{room}/{name}.wasm", room)
-        with open(f"{room}/{name}.wasm", "rb") as file, open(f"{to}/{name}.wasm.gz", "wb") as packed:
-            packed.write(gzip.compress(file.read(), 9, mtime=0))
+        with open(f"{room}/{name}.wasm", "rb") as file, open(f"{to}/{name}.wasm.gz", "wb") as packed_file:
+            packed_file.write(packed(file.read()))
     page(to)

@@ -5,3 +5,4 @@ pub mod Texts
 pub mod Spans
 pub mod Run
 pub mod Kept
+pub mod Forms

@@ -29,7 +29,7 @@ goes_parts over [] text rest m g = rw (g.0, g.1) refl
 goes_parts over (b ∷ more) text rest m (inl g) = sym (append_assoc over (b ∷ []) more) ∙ rw (g.1, g.2) refl
 goes_parts over (b ∷ more) text rest m (inr g) = rw (g.1, g.2) refl
 
-parts_of : (x : Event) (e : Events) (bytes text rest : List ℕ) (list : List CsiParam) (after : Events) → IsTold x e bytes text rest list after → bytes ≡ text ++ rest
+pub parts_of : (x : Event) (e : Events) (bytes text rest : List ℕ) (list : List CsiParam) (after : Events) → IsTold x e bytes text rest list after → bytes ≡ text ++ rest
 parts_of event.Text e bytes text rest list after h = text_parts e bytes text rest after h
 parts_of (event.Control b) e bytes text rest list after h = sym h.1.stays ∙ ap (λ (x : List ℕ). x ++ rest) (sym h.1.none)
 parts_of (event.Csi final) e bytes text rest list after h = (csi_further e bytes list final text rest after h.1).parts

@@ -1,3 +1,4 @@
 pub mod Characters
 pub mod Events
+pub mod Input
 pub mod Private

@@ -5,6 +5,10 @@ ghost use Rattle.csicodec_tokens.specs.declared.param.CsiParam.{CsiParam};
 ghost use Rattle.csicodec_events.specs.declared.event.Event.TheVariants as event;
 ghost use Rattle.csicodec_events.specs.declared.event.Events.{Events};
 ghost use Rattle.csicodec_events.specs.declared.event.Told.{Told};
+ghost use Rattle.csicodec_spans.specs.declared.table.Mode.{Mode};
+ghost use Rattle.csicodec_events.specs.declared.input.Dialect.{Dialect};
+ghost use Rattle.csicodec_events.specs.declared.input.Sent.{Sent};
+ghost use Rattle.csicodec_events.specs.Input.{InputChunks, IsSure, ahead, bytes_of as sent_bytes};
 ghost use Rattle.csicodec_events.specs.Events.{BeginsCsi, InChunks, IsMet, IsTold, Tells, Waits, bytes_of};
 
 /// In whatever chunks a stream comes, the bytes of its events joined, and then what waits, are its bytes: nothing is lost, added or
@@ -30,4 +34,18 @@ pub fn stays()
     ensures csi { (e after : Events) (bytes text rest more : List ℕ) (list : List CsiParam) (final : ℕ) →
         IsTold (event.Csi final) e bytes text rest list after →
         IsTold (event.Csi final) e (bytes ++ more) text (rest ++ more) list after }
+{}
+
+/// In either dialect, and in whatever chunks a stream comes, the bytes of its events joined, and then what waits, are its bytes.
+#[tactic(auto, using(crate::proofs::Forms::sent_joined))]
+pub fn sent_joined()
+    ensures { (d : Dialect) (e after : Events) (held rest : List ℕ) (chunks : List (List ℕ)) (sent : List Sent) →
+        InputChunks d e held chunks sent rest after → held ++ concat chunks ≡ flat_map sent_bytes sent ++ rest }
+{}
+
+/// What stands in front of input stays once it is sure, whatever bytes come later: so it doesn't depend on the chunks.
+#[tactic(auto, using(crate::proofs::Forms::ahead_stays))]
+pub fn sure_stays()
+    ensures { (d : Dialect) (m : Mode) (looked : ℕ) (bytes more : List ℕ) →
+        IsSure (ahead d m looked bytes) → ahead d m looked (bytes ++ more) ≡ ahead d m looked bytes }
 {}

@@ -7,9 +7,11 @@
 #![tactic(auto)]
 
 mod event;
+mod input;
 pub mod laws;
 mod sequence;
 mod text;
 
 pub use event::{Event, Events, Told, begins_csi};
+pub use input::{Dialect, InputEvent, Sent};
 pub use sequence::append_read;

@@ -3,7 +3,8 @@ ghost use Rattle.std.specs.Prelude.{◌≡◌, ◌<◌, ◌≤◌, ◌-◌, true
 ghost use Rattle.csicodec_events.specs.Characters.{EndsWhole, follows, is_from, is_unfinished, leads};
 ghost use Rattle.csicodec_events.specs.Events.{IsHeld};
 
-fn is_from(low: u8, high: u8, byte: u8) -> bool
+/// Whether the byte is one from the low to the high one.
+pub(crate) fn is_from(low: u8, high: u8, byte: u8) -> bool
     ensures { result ≡ is_from low high byte }
 {
     low <= byte && byte <= high

@@ -39,6 +39,8 @@ fn told(alloc: Global, row: &str) -> Result<String, AllocError> {
         "encode" => shortest::encode(alloc, rest),
         "spans" => spans::spans(alloc, rest),
         "events" => events::events(alloc, rest),
+        "keys" => events::keys(alloc, rest),
+        "keys1005" => events::keys1005(alloc, rest),
         "string" => words::string(alloc, rest),
         "words" => words::words(alloc, rest),
         "value" => words::value(alloc, rest),

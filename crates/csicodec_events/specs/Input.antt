@@ -1,0 +1,199 @@
+-- The input dialect: what a terminal sends, as keys, the mouse and answers. It has forms that mean something else in output, or
+-- nothing; all else is as output has it. Behind ESC stand, where no string is open:
+--
+--   O c          SS3 and a character (DEC: keypad and function keys)          in output an escape sequence, and text
+--   [ [ c        a function key (Linux' console, console_codes)                in output a control sequence, and text
+--   [ M x y z    a mouse report of three characters (xterm, modes 9 and 1000)  in output DL, and text
+--   [ d $        a key with shift, by a number of one digit or two (rxvt)      in output an intermediate byte
+--   [            a control sequence, as in output
+--   ] P X ^ _    a control string, as in output, once another byte follows
+--   c            a key with alt (xterm: metaSendsEscape), c any other byte of ASCII but ESC
+--   else         nothing: ESC is a key of its own, before ESC or a character beyond ASCII
+use Rattle.std.specs.Prelude.{ℕ, ◌≡◌, ◌+◌, ◌-◌, ◌*◌, ◌==◌, Bool, false, ◌&&◌, ◌||◌, nat_le, nat_lt, List, [], ◌∷◌, ◌++◌, take, drop, if◌then◌else◌}
+use Rattle.csicodec_tokens.specs.declared.param.CsiParam.{CsiParam}
+use Rattle.csicodec_spans.specs.declared.table.Mode.{Mode}
+use Rattle.csicodec_spans.specs.declared.table.Mode.TheVariants as mode
+use Rattle.csicodec_events.specs.declared.event.Event.{Event}
+use Rattle.csicodec_events.specs.declared.event.Events.{Events}
+use Rattle.csicodec_events.specs.declared.input.Dialect.{Dialect}
+use Rattle.csicodec_events.specs.declared.input.Dialect.TheVariants as dialect
+use Rattle.csicodec_events.specs.declared.input.Form.{Form}
+use Rattle.csicodec_events.specs.declared.input.Form.TheVariants as form
+use Rattle.csicodec_events.specs.declared.input.InputEvent.{InputEvent}
+use Rattle.csicodec_events.specs.declared.input.InputEvent.TheVariants as input
+use Rattle.csicodec_events.specs.declared.input.Sent.{Sent}
+use Rattle.csicodec_events.specs.declared.input.Width.{Width}
+use Rattle.csicodec_events.specs.declared.input.Width.TheVariants as width
+use Rattle.csicodec_events.specs.Characters.{is_from}
+use Rattle.csicodec_events.specs.Events.{IsTold, Waits, onward}
+
+abbrev pub is_printable : ℕ → Bool
+is_printable b = is_from 32 126 b
+
+abbrev pub is_digit : ℕ → Bool
+is_digit b = is_from 48 57 b
+
+-- P, X, ], ^ and _ open a control string
+abbrev pub is_opener : ℕ → Bool
+is_opener b = b == 80 || b == 88 || is_from 93 95 b
+
+-- ---- the three characters of a mouse report
+
+-- in mode 1005 they are in UTF-8, of two bytes from 128 on; otherwise a byte each
+abbrev pub is_wide : Dialect → ℕ → Bool
+is_wide dialect.Output b = false
+is_wide dialect.Input b = false
+is_wide dialect.Utf8Input b = nat_le 128 b
+
+abbrev pub second : ℕ → List ℕ → Width
+second a [] = if is_from 194 223 a then width.Unsure else width.Wrong
+second a (b ∷ bytes) = if is_from 194 223 a && is_from 128 191 b then width.Two else width.Wrong
+
+-- how many bytes the character in front has
+abbrev pub char_width : Dialect → List ℕ → Width
+char_width d [] = width.Unsure
+char_width d (a ∷ bytes) = if is_wide d a then second a bytes else width.One
+
+-- so many bytes, and then the last character
+abbrev pub last : ℕ → Width → Form
+last n width.One = form.Whole input.Mouse (n + 1)
+last n width.Two = form.Whole input.Mouse (n + 2)
+last n width.Unsure = form.Unsure
+last n width.Wrong = form.AsOutput
+
+-- .. the last two
+abbrev pub last_two : Dialect → ℕ → List ℕ → Width → Form
+last_two d n bytes width.One = last (n + 1) (char_width d (drop 1 bytes))
+last_two d n bytes width.Two = last (n + 2) (char_width d (drop 2 bytes))
+last_two d n bytes width.Unsure = form.Unsure
+last_two d n bytes width.Wrong = form.AsOutput
+
+-- .. all three
+abbrev pub last_three : Dialect → ℕ → List ℕ → Width → Form
+last_three d n bytes width.One = last_two d (n + 1) (drop 1 bytes) (char_width d (drop 1 bytes))
+last_three d n bytes width.Two = last_two d (n + 2) (drop 2 bytes) (char_width d (drop 2 bytes))
+last_three d n bytes width.Unsure = form.Unsure
+last_three d n bytes width.Wrong = form.AsOutput
+
+abbrev pub mouse : Dialect → List ℕ → Form
+mouse d bytes = last_three d 3 bytes (char_width d bytes)
+
+-- ---- the other forms
+
+abbrev pub ss3 : List ℕ → Form
+ss3 [] = form.Unsure
+ss3 (b ∷ bytes) = if is_printable b then form.Whole (input.Ss3 b) 3 else form.Whole (input.Alt 79) 2
+
+abbrev pub linux : List ℕ → Form
+linux [] = form.Unsure
+linux (b ∷ bytes) = if is_printable b then form.Whole (input.Linux b) 4 else form.AsOutput
+
+-- behind one digit and another byte
+abbrev pub two_digits : ℕ → ℕ → List ℕ → Form
+two_digits a b [] = if is_digit b then form.Unsure else form.AsOutput
+two_digits a b (c ∷ bytes) = if is_digit b && c == 36 then form.Whole (input.Rxvt (10 * (a - 48) + (b - 48))) 5 else form.AsOutput
+
+abbrev pub rxvt : ℕ → List ℕ → Form
+rxvt a [] = form.Unsure
+rxvt a (b ∷ bytes) = if b == 36 then form.Whole (input.Rxvt (a - 48)) 4 else two_digits a b bytes
+
+-- behind ESC and `[`
+abbrev pub csi : Dialect → List ℕ → Form
+csi d [] = form.Unsure
+csi d (b ∷ bytes) =
+    if b == 91 then linux bytes else
+    if b == 77 then mouse d bytes else
+    if is_digit b then rxvt b bytes else
+    form.AsOutput
+
+abbrev pub string : List ℕ → Form
+string [] = form.Unsure
+string (b ∷ bytes) = form.AsOutput
+
+-- behind ESC
+abbrev pub escape : Dialect → List ℕ → Form
+escape d [] = form.Unsure
+escape d (b ∷ bytes) =
+    if b == 79 then ss3 bytes else
+    if b == 91 then csi d bytes else
+    if is_opener b then string bytes else
+    if b == 27 || nat_le 128 b then form.Whole input.Escape 1 else
+    form.Whole (input.Alt b) 2
+
+-- Behind ESC where a string is open: `\` closes it, and ESC goes on as output has it; all else begins anew.
+abbrev pub escape_in_string : Dialect → List ℕ → Form
+escape_in_string d [] = form.Unsure
+escape_in_string d (b ∷ bytes) = if b == 92 || b == 27 then form.AsOutput else escape d (b ∷ bytes)
+
+abbrev pub behind_escape : Dialect → Mode → List ℕ → Form
+behind_escape d mode.Text bytes = escape d bytes
+behind_escape d mode.Osc bytes = escape_in_string d bytes
+behind_escape d mode.Dcs bytes = escape_in_string d bytes
+behind_escape d mode.Str bytes = escape_in_string d bytes
+behind_escape d mode.BadCsi bytes = escape d bytes
+behind_escape d mode.BadEsc bytes = escape d bytes
+
+-- ---- what stands in front
+
+abbrev pub in_input : Dialect → Mode → List ℕ → Form
+in_input d m [] = form.Unsure
+in_input d m (b ∷ bytes) = if b == 27 then behind_escape d m bytes else form.AsOutput
+
+-- of a stream, of whose control sequence in front so many bytes were looked at
+abbrev pub ahead : Dialect → Mode → ℕ → List ℕ → Form
+ahead dialect.Output m looked bytes = form.AsOutput
+ahead dialect.Input m looked bytes = if looked == 0 then in_input dialect.Input m bytes else form.AsOutput
+ahead dialect.Utf8Input m looked bytes = if looked == 0 then in_input dialect.Utf8Input m bytes else form.AsOutput
+
+-- Where the caller says that no more comes for now: a lone ESC, or ESC and one byte of ASCII.
+abbrev pub paused : List ℕ → Form
+paused [] = form.Unsure
+paused (a ∷ []) = if a == 27 then form.Whole input.Escape 1 else form.Unsure
+paused (a ∷ b ∷ []) = if a == 27 && nat_lt b 128 then form.Whole (input.Alt b) 2 else form.Unsure
+paused (a ∷ b ∷ c ∷ bytes) = form.Unsure
+
+-- ---- the events
+
+-- The event of these bytes, and the bytes behind it.
+abbrev pub IsSentBy : Form → Events → List ℕ → InputEvent → List ℕ → List ℕ → List CsiParam → Events → Type 0
+IsSentBy (form.Whole i n) e bytes event text rest list after =
+    (event ≡ i) × (text ≡ take n bytes) × (rest ≡ drop n bytes) × (after ≡ onward e mode.Text 0)
+IsSentBy form.AsOutput e bytes event text rest list after = (told : Event) × (event ≡ input.Output told) × IsTold told e bytes text rest list after
+IsSentBy form.Unsure e bytes event text rest list after = ⊥
+
+abbrev pub IsSent : Dialect → Events → List ℕ → InputEvent → List ℕ → List ℕ → List CsiParam → Events → Type 0
+IsSent d e bytes event text rest list after = IsSentBy (ahead d e.mode e.looked bytes) e bytes event text rest list after
+
+-- Nothing is told before more bytes come.
+abbrev pub AwaitsBy : Form → Events → List ℕ → Events → Type 0
+AwaitsBy (form.Whole i n) e bytes after = ⊥
+AwaitsBy form.AsOutput e bytes after = Waits e bytes after
+AwaitsBy form.Unsure e bytes after = after ≡ e
+
+abbrev pub Awaits : Dialect → Events → List ℕ → Events → Type 0
+Awaits d e bytes after = AwaitsBy (ahead d e.mode e.looked bytes) e bytes after
+
+-- It is told: what stands there needs no more bytes.
+abbrev pub IsSure : Form → Type 0
+IsSure (form.Whole i n) = Unit {0}
+IsSure form.AsOutput = Unit {0}
+IsSure form.Unsure = ⊥
+
+-- ---- a stream
+
+abbrev pub bytes_of : Sent → List ℕ
+bytes_of sent = sent.bytes.now
+
+-- events one after the other, each in front of what those before it left
+abbrev pub AreSent : Dialect → Events → List ℕ → List Sent → List ℕ → Events → Type 0
+AreSent d e bytes [] rest after = (rest ≡ bytes) × (after ≡ e)
+AreSent d e bytes (t ∷ sent) rest after =
+    (list : List CsiParam) × (mid : Events) × IsSent d e bytes t.event t.bytes.now t.rest.now list mid × AreSent d mid t.rest.now sent rest after
+
+-- A stream that comes chunk by chunk: events are told of each with what the ones before it left, until it waits, and what is left
+-- is passed on.
+abbrev pub InputChunks : Dialect → Events → List ℕ → List (List ℕ) → List Sent → List ℕ → Events → Type 0
+InputChunks d e held [] sent rest after = (sent ≡ []) × (rest ≡ held) × (after ≡ e)
+InputChunks d e held (chunk ∷ chunks) sent rest after =
+    (now : List Sent) × (later : List Sent) × (kept : List ℕ) × (mid : Events) × (waiting : Events) × (sent ≡ now ++ later)
+    × AreSent d e (held ++ chunk) now kept mid × Awaits d mid kept waiting × InputChunks d waiting kept chunks later rest after

@@ -1,0 +1,484 @@
+//! The event in front of what a terminal sends.
+ghost use Rattle.std.specs.Prelude.{◌≡◌, ◌<◌, ◌≤◌, ◌++◌, [], List, ℕ, length, IfNone, IfSome, IfOk, MatchOption, OnErr, OnOk, true, take, drop};
+ghost use Rattle.csicodec_tokens.specs.declared.param.CsiParam.{CsiParam};
+ghost use Rattle.csicodec_spans.specs.declared.table.Mode.TheVariants.{Text as Plain};
+ghost use Rattle.csicodec_events.specs.declared.input.Form.TheVariants.{Unsure};
+ghost use Rattle.csicodec_events.specs.Events.{IsMet, left, onward};
+ghost use Rattle.csicodec_events.specs.Input.{Awaits, IsSent, IsSentBy, ahead, behind_escape, char_width, csi, escape, escape_in_string, in_input, is_digit, is_opener, is_printable, is_wide, last, last_three, last_two, linux, mouse, paused, rxvt, second, ss3, string, two_digits};
+
+use crate::event::{Event, Events};
+use crate::text::is_from;
+use csicodec_spans::Mode;
+use csicodec_tokens::CsiParam;
+use std::alloc::AllocError;
+
+/// Who wrote a stream.
+#[derive(Clone, Copy, Debug, PartialEq, Eq)]
+pub enum Dialect {
+    /// A program, for a terminal.
+    Output,
+    /// A terminal, for a program: keys, the mouse and answers.
+    Input,
+    /// The same while mode 1005 is set: the three characters of a mouse report are in UTF-8.
+    Utf8Input,
+}
+
+/// What comes next in what a terminal sends.
+#[derive(Clone, Copy, Debug, PartialEq, Eq)]
+pub enum InputEvent {
+    /// What output has too: text, a control sequence, a piece of a string ..
+    Output(Event),
+    /// SS3 (`ESC O`) and this character, from `' '` to `'~'`: a key of the keypad, an arrow or F1 to F4.
+    Ss3(u8),
+    /// `ESC [ [` and this character: F1 to F5 of Linux' console, `'A'` to `'E'`.
+    Linux(u8),
+    /// `ESC [`, this number, of one digit or two, and `$`: a key with shift, of rxvt.
+    Rxvt(u8),
+    /// `ESC [ M` and three characters, which are the last of its bytes: each is 32 and more than the button, the column and the
+    /// line, in UTF-8 in [`Utf8Input`](Dialect::Utf8Input).
+    Mouse,
+    /// ESC and this character of ASCII: a key with alt.
+    Alt(u8),
+    /// ESC alone.
+    Escape,
+}
+
+/// An event, its bytes, and what is behind it.
+#[derive(Clone, Copy, Debug)]
+pub struct Sent<'a> {
+    /// What it is.
+    pub event: InputEvent,
+    /// Its bytes: a part of the slice that was passed, not a copy.
+    pub bytes: &'a [u8],
+    /// The bytes behind it: the end of the slice that was passed, not a copy.
+    pub rest: &'a [u8],
+}
+
+/// What stands in front.
+#[derive(Clone, Copy)]
+pub(crate) enum Form {
+    /// A form of so many bytes.
+    Whole(InputEvent, usize),
+    /// What output has there.
+    AsOutput,
+    /// It depends on what follows.
+    Unsure,
+}
+
+/// How many bytes a character has.
+#[derive(Clone, Copy)]
+pub(crate) enum Width {
+    /// One.
+    One,
+    /// Two.
+    Two,
+    /// It depends on what follows.
+    Unsure,
+    /// There is none.
+    Wrong,
+}
+
+fn is_printable(byte: u8) -> bool
+    ensures { result ≡ is_printable byte }
+{
+    is_from(b' ', b'~', byte)
+}
+
+fn is_digit(byte: u8) -> bool
+    ensures { result ≡ is_digit byte }
+{
+    is_from(b'0', b'9', byte)
+}
+
+/// The first character of a control string.
+fn is_opener(byte: u8) -> bool
+    ensures { result ≡ is_opener byte }
+{
+    byte == b'P' || byte == b'X' || is_from(b']', b'_', byte)
+}
+
+impl Dialect {
+    /// Whether a character of a mouse report that begins so has two bytes.
+    fn is_wide(self, byte: u8) -> bool
+        ensures { result ≡ is_wide self byte }
+    {
+        match self {
+            Dialect::Output | Dialect::Input => false,
+            Dialect::Utf8Input => 0x80 <= byte,
+        }
+    }
+}
+
+/// The character of two bytes that begins with this one, by what is behind it.
+fn second(first: u8, bytes: &[u8]) -> Width
+    ensures { result ≡ second first bytes.now }
+{
+    match bytes {
+        [] => {
+            if is_from(0xc2, 0xdf, first) {
+                Width::Unsure
+            } else {
+                Width::Wrong
+            }
+        }
+        [byte, ..] => {
+            if is_from(0xc2, 0xdf, first) && is_from(0x80, 0xbf, *byte) {
+                Width::Two
+            } else {
+                Width::Wrong
+            }
+        }
+    }
+}
+
+/// How many bytes the character in front has.
+fn char_width(dialect: Dialect, bytes: &[u8]) -> Width
+    ensures { result ≡ char_width dialect bytes.now }
+{
+    match bytes {
+        [] => Width::Unsure,
+        [byte, others @ ..] => {
+            if dialect.is_wide(*byte) {
+                second(*byte, others)
+            } else {
+                Width::One
+            }
+        }
+    }
+}
+
+fn behind(bytes: &[u8], len: usize) -> &[u8]
+    ensures { result.now ≡ drop len bytes.now }
+{
+    bytes.get(len..).unwrap_or(&[])
+}
+
+/// A mouse report, by its last character, which stands behind so many bytes.
+fn last(len: usize, width: Width) -> Form
+    requires { len ≤ 7 }
+    ensures { result ≡ last len width }
+{
+    match width {
+        Width::One => Form::Whole(InputEvent::Mouse, len + 1),
+        Width::Two => Form::Whole(InputEvent::Mouse, len + 2),
+        Width::Unsure => Form::Unsure,
+        Width::Wrong => Form::AsOutput,
+    }
+}
+
+/// The same by its last two, of which the first has this width.
+fn last_two(dialect: Dialect, len: usize, bytes: &[u8], width: Width) -> Form
+    requires { len ≤ 5 }
+    ensures { result ≡ last_two dialect len bytes.now width }
+{
+    match width {
+        Width::One => last(len + 1, char_width(dialect, behind(bytes, 1))),
+        Width::Two => last(len + 2, char_width(dialect, behind(bytes, 2))),
+        Width::Unsure => Form::Unsure,
+        Width::Wrong => Form::AsOutput,
+    }
+}
+
+/// The same by all three.
+fn last_three(dialect: Dialect, len: usize, bytes: &[u8], width: Width) -> Form
+    requires { len ≤ 3 }
+    ensures { result ≡ last_three dialect len bytes.now width }
+{
+    match width {
+        Width::One => {
+            let others = behind(bytes, 1);
+            last_two(dialect, len + 1, others, char_width(dialect, others))
+        }
+        Width::Two => {
+            let others = behind(bytes, 2);
+            last_two(dialect, len + 2, others, char_width(dialect, others))
+        }
+        Width::Unsure => Form::Unsure,
+        Width::Wrong => Form::AsOutput,
+    }
+}
+
+/// Behind `ESC [ M`.
+fn mouse(dialect: Dialect, bytes: &[u8]) -> Form
+    ensures { result ≡ mouse dialect bytes.now }
+{
+    last_three(dialect, 3, bytes, char_width(dialect, bytes))
+}
+
+/// Behind `ESC O`.
+fn ss3(bytes: &[u8]) -> Form
+    ensures { result ≡ ss3 bytes.now }
+{
+    match bytes {
+        [] => Form::Unsure,
+        [byte, ..] => {
+            if is_printable(*byte) {
+                Form::Whole(InputEvent::Ss3(*byte), 3)
+            } else {
+                Form::Whole(InputEvent::Alt(b'O'), 2)
+            }
+        }
+    }
+}
+
+/// Behind `ESC [ [`.
+fn linux(bytes: &[u8]) -> Form
+    ensures { result ≡ linux bytes.now }
+{
+    match bytes {
+        [] => Form::Unsure,
+        [byte, ..] => {
+            if is_printable(*byte) {
+                Form::Whole(InputEvent::Linux(*byte), 4)
+            } else {
+                Form::AsOutput
+            }
+        }
+    }
+}
+
+/// Behind `ESC [`, a digit and another byte.
+fn two_digits(first: u8, byte: u8, bytes: &[u8]) -> Form
+    requires { is_digit first ≡ true }
+    ensures { result ≡ two_digits first byte bytes.now }
+{
+    match bytes {
+        [] => {
+            if is_digit(byte) {
+                Form::Unsure
+            } else {
+                Form::AsOutput
+            }
+        }
+        [last, ..] => {
+            if is_digit(byte) && *last == b'$' {
+                Form::Whole(InputEvent::Rxvt(10 * (first - b'0') + (byte - b'0')), 5)
+            } else {
+                Form::AsOutput
+            }
+        }
+    }
+}
+
+/// Behind `ESC [` and a digit.
+fn rxvt(first: u8, bytes: &[u8]) -> Form
+    requires { is_digit first ≡ true }
+    ensures { result ≡ rxvt first bytes.now }
+{
+    match bytes {
+        [] => Form::Unsure,
+        [byte, others @ ..] => {
+            if *byte == b'$' {
+                Form::Whole(InputEvent::Rxvt(first - b'0'), 4)
+            } else {
+                two_digits(first, *byte, others)
+            }
+        }
+    }
+}
+
+/// Behind `ESC [`.
+fn csi(dialect: Dialect, bytes: &[u8]) -> Form
+    ensures { result ≡ csi dialect bytes.now }
+{
+    match bytes {
+        [] => Form::Unsure,
+        [byte, others @ ..] => {
+            if *byte == b'[' {
+                linux(others)
+            } else if *byte == b'M' {
+                mouse(dialect, others)
+            } else if is_digit(*byte) {
+                rxvt(*byte, others)
+            } else {
+                Form::AsOutput
+            }
+        }
+    }
+}
+
+/// Behind ESC and what opens a control string.
+fn string(bytes: &[u8]) -> Form
+    ensures { result ≡ string bytes.now }
+{
+    match bytes {
+        [] => Form::Unsure,
+        [_, ..] => Form::AsOutput,
+    }
+}
+
+/// Behind ESC.
+fn escape(dialect: Dialect, bytes: &[u8]) -> Form
+    ensures { result ≡ escape dialect bytes.now }
+{
+    match bytes {
+        [] => Form::Unsure,
+        [byte, others @ ..] => {
+            if *byte == b'O' {
+                ss3(others)
+            } else if *byte == b'[' {
+                csi(dialect, others)
+            } else if is_opener(*byte) {
+                string(others)
+            } else if *byte == 0x1b || 0x80 <= *byte {
+                Form::Whole(InputEvent::Escape, 1)
+            } else {
+                Form::Whole(InputEvent::Alt(*byte), 2)
+            }
+        }
+    }
+}
+
+/// Behind ESC where a string is open.
+fn escape_in_string(dialect: Dialect, bytes: &[u8]) -> Form
+    ensures { result ≡ escape_in_string dialect bytes.now }
+{
+    match bytes {
+        [] => Form::Unsure,
+        [byte, ..] => {
+            if *byte == b'\\' || *byte == 0x1b {
+                Form::AsOutput
+            } else {
+                escape(dialect, bytes)
+            }
+        }
+    }
+}
+
+/// Behind ESC in a mode.
+fn behind_escape(dialect: Dialect, mode: Mode, bytes: &[u8]) -> Form
+    ensures { result ≡ behind_escape dialect mode bytes.now }
+{
+    match mode {
+        Mode::Text | Mode::BadCsi | Mode::BadEsc => escape(dialect, bytes),
+        Mode::Osc | Mode::Dcs | Mode::Str => escape_in_string(dialect, bytes),
+    }
+}
+
+/// What stands in front of input.
+fn in_input(dialect: Dialect, mode: Mode, bytes: &[u8]) -> Form
+    ensures { result ≡ in_input dialect mode bytes.now }
+{
+    match bytes {
+        [] => Form::Unsure,
+        [byte, others @ ..] => {
+            if *byte == 0x1b {
+                behind_escape(dialect, mode, others)
+            } else {
+                Form::AsOutput
+            }
+        }
+    }
+}
+
+/// What stands in front of a stream, of whose control sequence there so many bytes were looked at.
+fn ahead(dialect: Dialect, mode: Mode, looked: usize, bytes: &[u8]) -> Form
+    ensures { result ≡ ahead dialect mode looked bytes.now }
+{
+    match dialect {
+        Dialect::Output => Form::AsOutput,
+        Dialect::Input | Dialect::Utf8Input => {
+            if looked == 0 {
+                in_input(dialect, mode, bytes)
+            } else {
+                Form::AsOutput
+            }
+        }
+    }
+}
+
+/// What stands in front where no more comes for now.
+fn paused(bytes: &[u8]) -> Form
+    ensures { result ≡ paused bytes.now }
+{
+    match bytes {
+        [0x1b] => Form::Whole(InputEvent::Escape, 1),
+        [0x1b, byte] => {
+            if *byte < 0x80 {
+                Form::Whole(InputEvent::Alt(*byte), 2)
+            } else {
+                Form::Unsure
+            }
+        }
+        _ => Form::Unsure,
+    }
+}
+
+impl Events {
+    /// The event of the first bytes, so many.
+    fn sent<'a>(&mut self, event: InputEvent, bytes: &'a [u8], len: usize) -> Sent<'a>
+        requires { len ≤ length bytes.now }
+        ensures event { result.event ≡ event }
+        ensures bytes { result.bytes.now ≡ take len bytes.now }
+        ensures rest { result.rest.now ≡ drop len bytes.now }
+        ensures onward { self.new ≡ onward self.old Plain 0 }
+    {
+        self.mode = Mode::Text;
+        self.looked = 0;
+        let (bytes, rest) = bytes.split_at(len);
+        Sent { event, bytes, rest }
+    }
+
+    /// The event in front of bytes of this dialect, as [`next`](Events::next) tells those of output.
+    ///
+    /// A form of input has at most 9 bytes, whatever the limit. Where there is none, call it again with more bytes behind these, or
+    /// [`pause`](Events::pause) where none came in time: an ESC alone may be a key, or the first byte of another.
+    ///
+    /// ```text
+    /// events.next_in(Dialect::Input, b"\x1bOA", &mut params)?      // Ss3('A')
+    /// events.next_in(Dialect::Input, b"\x1b[M !!", &mut params)?   // Mouse
+    /// events.next_in(Dialect::Input, b"\x1b[1;5A", &mut params)?   // Output(Csi('A')), params 1 ; 5
+    /// events.next_in(Dialect::Input, b"\x1b", &mut params)?        // None
+    /// events.pause(b"\x1b")                                        // Escape
+    /// ```
+    pub fn next_in<'a>(
+        &mut self,
+        dialect: Dialect,
+        bytes: &'a [u8],
+        params: &mut Vec<CsiParam>,
+    ) -> Result<Option<Sent<'a>>, AllocError>
+        requires limit { 0 < self.old.limit }
+        requires met { IsMet self.old bytes.now }
+        // The event is the one that the rules of the dialect say, or nothing is told before more bytes come.
+        ensures sends { IfOk result (λ o. MatchOption o (Awaits dialect self.old bytes.now self.new)
+            (λ t. IsSent dialect self.old bytes.now t.event t.bytes.now t.rest.now params.new.items self.new)) }
+        // Its bytes and the rest are the bytes.
+        ensures parts { IfOk result (λ o. IfSome o (λ t. bytes.now ≡ t.bytes.now ++ t.rest.now)) }
+        // Each event uses bytes, or looks at more.
+        ensures progress { IfOk result (λ o. IfSome o (λ t. left self.new t.rest.now < left self.old bytes.now)) }
+        // It goes on behind the event, or with the same bytes and more.
+        ensures again { IfOk result (λ o. MatchOption o ((more : List ℕ) → IsMet self.new (bytes.now ++ more)) (λ t. IsMet self.new t.rest.now)) }
+        ensures limit { OnOk result (self.new.limit ≡ self.old.limit) }
+        ensures memory { OnErr result (self.new ≡ self.old) }
+    {
+        match ahead(dialect, self.mode, self.looked, bytes) {
+            Form::Whole(event, len) => Ok(Some(self.sent(event, bytes, len))),
+            Form::Unsure => Ok(None),
+            Form::AsOutput => match self.next(bytes, params)? {
+                Some(told) => Ok(Some(Sent {
+                    event: InputEvent::Output(told.event),
+                    bytes: told.bytes,
+                    rest: told.rest,
+                })),
+                None => Ok(None),
+            },
+        }
+    }
+
+    /// The event of bytes that wait, where no more came in time: a lone ESC, or ESC and a character. None where they are anything
+    /// else: they go on waiting.
+    pub fn pause<'a>(&mut self, bytes: &'a [u8]) -> Option<Sent<'a>>
+        requires met { IsMet self.old bytes.now }
+        ensures sends { MatchOption result (paused bytes.now ≡ Unsure)
+            (λ t. IsSentBy (paused bytes.now) self.old bytes.now t.event t.bytes.now t.rest.now [] self.new) }
+        ensures parts { IfSome result (λ t. bytes.now ≡ t.bytes.now ++ t.rest.now) }
+        ensures progress { IfSome result (λ t. left self.new t.rest.now < left self.old bytes.now) }
+        ensures again { IfSome result (λ t. IsMet self.new t.rest.now) }
+        ensures still { IfNone result (self.new ≡ self.old) }
+    {
+        match paused(bytes) {
+            Form::Whole(event, len) => Some(self.sent(event, bytes, len)),
+            Form::AsOutput | Form::Unsure => None,
+        }
+    }
+}

@@ -22,7 +22,7 @@ complete -c csicodec -n '__fish_seen_subcommand_from explain' -l at -x -d 'only 
 complete -c csicodec -n '__fish_seen_subcommand_from explain' -l color -x -a 'always never auto' -d 'colours: always, never, or auto (in a terminal, unless NO_COLOR is set), as if left out'
 complete -c csicodec -n '__fish_seen_subcommand_from explain' -l count -d 'the totals alone, at the end: of each kind, and of each name'
 complete -c csicodec -n '__fish_seen_subcommand_from explain' -l decode -d 'what is put into the clipboard (OSC 52) too, decoded from base64'
-complete -c csicodec -n '__fish_seen_subcommand_from explain' -l diff -d 'of two FILEs the lines that differ, places aside'
+complete -c csicodec -n '__fish_seen_subcommand_from explain' -l diff -d 'of two FILEs the lines that differ, places aside; not with --count, --json, --stats or --timing'
 complete -c csicodec -n '__fish_seen_subcommand_from explain' -l full -d 'all bytes of each, however many'
 complete -c csicodec -n '__fish_seen_subcommand_from explain' -l grep -x -d 'only what has this text in its bytes or its words'
 complete -c csicodec -n '__fish_seen_subcommand_from explain' -l json -d 'an object of JSON a line: at, kind, text or hex, and actions with name, words, action and its fields'

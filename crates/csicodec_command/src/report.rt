@@ -21,6 +21,8 @@ pub enum Failure {
     UnknownOption,
     /// Another command has this option.
     Misplaced,
+    /// Two options don't go together.
+    Apart,
     /// An option stands without its value.
     NoValue,
     /// An option doesn't have this value.
@@ -54,6 +56,7 @@ impl Failure {
             | Failure::NotText
             | Failure::UnknownOption
             | Failure::Misplaced
+            | Failure::Apart
             | Failure::NoValue
             | Failure::NotValue => 64,
             Failure::Open => 2,
@@ -73,6 +76,7 @@ impl fmt::Display for Failure {
             Failure::NotText => f.write_str("csicodec: a word isn't UTF-8"),
             Failure::UnknownOption => f.write_str("csicodec: unknown option"),
             Failure::Misplaced => f.write_str("csicodec: an option of another command"),
+            Failure::Apart => f.write_str("csicodec: options that don't go together"),
             Failure::NoValue => f.write_str("csicodec: a value is missing"),
             Failure::NotValue => f.write_str("csicodec: not a value"),
             Failure::Open => f.write_str("csicodec: the file can't be opened"),

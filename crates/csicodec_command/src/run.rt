@@ -304,6 +304,7 @@ pub fn refused(rt: &HostRuntime, wrong: Wrong<'_>) -> u8 {
             eprintln!(rt; "{failure}: {word}\n{HINT}")
         }
         Wrong::Misplaced(option, of) => eprintln!(rt; "{failure}: {option} (of {of})\n{HINT}"),
+        Wrong::Apart(one, other) => eprintln!(rt; "{failure}: {one} and {other}\n{HINT}"),
         Wrong::NoValue(word, values) => { eprintln!(rt; "{failure}: {word} ({values})\n{HINT}") }
         Wrong::NotValue(word, value, values) => {
             let value = value.escape_debug();

@@ -122,7 +122,7 @@ is told, with the time of each. Ahead of each of several FILEs stands its name.
   --color WHEN    colours: always, never, or auto (in a terminal, unless NO_COLOR is set), as if left out
   --count         the totals alone, at the end: of each kind, and of each name
   --decode        what is put into the clipboard (OSC 52) too, decoded from base64
-  --diff          of two FILEs the lines that differ, places aside
+  --diff          of two FILEs the lines that differ, places aside; not with --count, --json, --stats or --timing
   --full          all bytes of each, however many
   --grep TEXT     only what has this text in its bytes or its words
   --json          an object of JSON a line: at, kind, text or hex, and actions with name, words, action and its fields

@@ -15,7 +15,7 @@ use crate::whole::near;
 use csicodec::CSI;
 use csicodec_base::{CsiParam, ReadError, read_csi_into};
 use csicodec_filter::Known;
-use csicodec_streams::{Note, parse_into};
+use csicodec_streams::{Note, parse_into, position_len};
 use std::alloc::{AllocError, Global};
 
 /// The note that is what stays of a sequence.
@@ -143,8 +143,8 @@ impl Room {
         Ok(())
     }
 
-    /// Appends what stays of the sequence in front, which isn't known, and notes it; answers how many bytes it
-    /// has, at most `limit`, and whether a style is open behind it. It answers 0 where no sequence stands there.
+    /// Appends what stays of the sequence in front, which isn't known, and notes it, unless it only moves the cursor; answers how many
+    /// bytes it has, at most `limit`, and whether a style is open behind it. It answers 0 where no sequence stands there.
     #[inline(never)]
     pub(crate) fn take_new(
         &mut self,
@@ -165,6 +165,10 @@ impl Room {
         ensures known { AreKnown IsNoted known.new.memo.slots.items }
     {
         let front = near(limit, bytes);
+        let moved = position_len(b'1', front);
+        if moved > 0 {
+            return Ok((moved, styled));
+        }
         match read_csi_into(params, front) {
             Ok(tail) => {
                 let len = front.len() - tail.rest.len();

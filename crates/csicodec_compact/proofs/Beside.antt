@@ -313,6 +313,10 @@ pub extends_one : (st form : Form) (bytes text : List ℕ) → IsOne bytes → I
 extends_one st form bytes text one n run before h =
     subst (λ (l : List ℕ). IsHeld (run ++ part kind.Csi bytes ∷ []) l form) (append_assoc before (closing st) (opened form text)) (begun run bytes before text st h one form n)
 
+-- a sequence can be written as it came
+pub as_it_came : (bytes : List ℕ) → Compacts bytes bytes
+as_it_came bytes = record { alike = λ actions d. d; short = omega arith; kept = λ list final s stay. refl }
+
 -- one in the same list
 pub extends_joined : (st form : Form) (bytes text : List ℕ) → IsOne bytes → IsNoted form bytes text → may_join st form text ≡ true → Extends st (part kind.Csi bytes ∷ []) (joint st form text) (behind st form)
 extends_joined st form bytes text one n may run before h = joined run bytes before text st form h one n may

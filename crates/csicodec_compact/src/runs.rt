@@ -4,14 +4,15 @@ ghost use Rattle.csicodec_tokens.specs.Sequence.{Seq};
 ghost use Rattle.csicodec_spans.specs.declared.table.Kind.{Kind};
 ghost use Rattle.csicodec_spans.specs.declared.table.Kind.TheVariants.{Csi as Sequence};
 ghost use Rattle.csicodec_spans.specs.Parts.{IsSpan, Part, part};
-ghost use Rattle.csicodec_streams.specs.Known.{AreKnown};
+ghost use Rattle.csicodec_streams.specs.Known.{AreKnown, IsOne};
 ghost use Rattle.csicodec_compact.specs.Private.Steps.{Begins, GoesOnBy, IsNote, behind, closing, is_semicolon, joint, may_join, opened};
 
 use crate::encode::NUMBERS;
 use crate::form::Form;
 use crate::notes::{Notes, Short};
 use csicodec_base::{CsiParam, TextBuffer};
-use csicodec_filter::{Known, append_front};
+use csicodec_filter::Known;
+use csicodec_streams::append_front;
 use std::alloc::AllocError;
 
 /// Whether a list begins with `;`, which stands ahead of it too.
@@ -189,6 +190,23 @@ impl Written {
         self.start(form, text, wide, out)?;
         self.room = NUMBERS.saturating_sub(numbers);
         Ok(())
+    }
+
+    /// Writes the control sequence in front as it came: the list before it is over.
+    #[inline(always)]
+    pub(crate) fn pass_own(
+        &mut self,
+        bytes: &[u8],
+        len: usize,
+        out: &mut TextBuffer,
+    ) -> Result<(), AllocError>
+        requires within { len ≤ length bytes.now }
+        requires one { IsOne (take len bytes.now) }
+        ensures { OnOk result
+            (GoesOnBy self.old.form (part Sequence (take len bytes.now) ∷ []) out.old out.new self.new.form) }
+    {
+        self.close(out)?;
+        append_front(bytes, len, out)
     }
 
     /// Writes a span that is no control sequence: the list before it is over.

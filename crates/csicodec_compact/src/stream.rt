@@ -12,7 +12,7 @@ use crate::runs::{Written, take_span};
 use csicodec_base::{CsiParam, TextBuffer};
 use csicodec_filter::Known;
 use csicodec_spans::{Cutter, Mode, plain_len};
-use csicodec_streams::keep_from;
+use csicodec_streams::{keep_from, position_len};
 use std::alloc::{AllocError, Global};
 use std::marker::Model;
 
@@ -20,6 +20,31 @@ use std::marker::Model;
 #[inline(always)]
 fn is_csi(bytes: &[u8]) -> bool {
     matches!(bytes, [0x1b, b'[', ..])
+}
+
+/// Writes a position in front that has no shorter spelling: each number is written, for none is 1. How many bytes that is, 0 where none
+/// stands there.
+#[inline(never)]
+fn pass_position(
+    written: &mut Written,
+    limit: usize,
+    bytes: &[u8],
+    out: &mut TextBuffer,
+) -> Result<usize, AllocError>
+    ensures within { IfOk result (λ len. len ≤ length bytes.now) }
+    ensures passed { IfOk result
+        (λ len. 0 < len
+        → WritesFront limit Plain bytes.now written.old.form out.old out.new written.new.form
+        (drop len bytes.now) Plain) }
+    ensures none { IfOk result
+        (λ len. len ≡ 0 → (out.new ≡ out.old) × (written.new.form ≡ written.old.form)) }
+{
+    let len = position_len(b'2', bytes);
+    if len == 0 || len > limit {
+        return Ok(0);
+    }
+    written.pass_own(bytes, len, out)?;
+    Ok(len)
 }
 
 /// Writes what passes at a glance where nothing is open, text, an escape sequence, or a control sequence that is known; how many bytes
@@ -44,9 +69,10 @@ fn pass_one(
 {
     if is_csi(bytes) {
         let len = known.look(limit, bytes);
-        if len > 0 {
-            written.take(known.noted(), known.wide(), out)?;
+        if len == 0 {
+            return pass_position(written, limit, bytes, out);
         }
+        written.take(known.noted(), known.wide(), out)?;
         return Ok(len);
     }
     let len = plain_len(bytes);

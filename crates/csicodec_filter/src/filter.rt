@@ -7,11 +7,11 @@ ghost use Rattle.csicodec_streams.specs.Known.{AreKnown, IsNormal};
 ghost use Rattle.csicodec_filter.specs.Filter.{Passes};
 ghost use Rattle.csicodec_filter.specs.Private.Front.{PassesFront};
 
-use crate::known::{Known, append_front};
+use crate::known::Known;
 use crate::rewrite::Rewrite;
 use csicodec_base::{CsiParam, TextBuffer};
 use csicodec_spans::{Cutter, Mode, plain_len};
-use csicodec_streams::{Normal, keep_from};
+use csicodec_streams::{Normal, WIDE, append_front, keep_from, take_position};
 use std::alloc::{AllocError, Global};
 use std::marker::Model;
 
@@ -85,10 +85,14 @@ fn pass_one(
     ensures known { AreKnown IsNormal known.new.memo.slots.items }
 {
     if is_csi(bytes) {
-        if wanted {
-            return Ok(known.recall(limit, bytes, out));
+        if !wanted {
+            return Ok(0);
         }
-        return Ok(0);
+        let len = known.recall(limit, bytes, out);
+        if len == 0 && limit >= WIDE {
+            return Ok(take_position(bytes, out));
+        }
+        return Ok(len);
     }
     let len = plain_len(bytes);
     append_front(bytes, len, out)?;

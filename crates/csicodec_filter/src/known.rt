@@ -1,10 +1,10 @@
 //! What is looked up in a stream: control sequences that came before, and what was noted of them.
-ghost use Rattle.std.specs.Prelude.{◌≡◌, ◌++◌, ◌<◌, ◌≤◌, ℕ, List, length, take, OnOk};
+ghost use Rattle.std.specs.Prelude.{◌≡◌, ◌++◌, ◌<◌, ◌≤◌, ℕ, List, length, take};
 ghost use Rattle.csicodec_streams.specs.Known.{AreKnown};
 
 use csicodec_base::TextBuffer;
 use csicodec_streams::{Memo, Note, Noted, WIDE};
-use std::alloc::{AllocError, Global};
+use std::alloc::Global;
 
 /// A table of control sequences that came before, and what is noted of the one that was found last.
 #[derive(Drop)]
@@ -121,18 +121,6 @@ impl<N: Note> Known<N> {
         ensures { AreKnown N.notes self.new.memo.slots.items }
     {
         self.memo.keep(bytes, len, text);
-    }
-}
-
-/// Appends so many of the first bytes: by one copy of a fixed length where they are few, and others stand behind them.
-#[inline(always)]
-pub fn append_front(bytes: &[u8], len: usize, out: &mut TextBuffer) -> Result<(), AllocError>
-    requires { len ≤ length bytes.now }
-    ensures { OnOk result (out.new ≡ out.old ++ take len bytes.now) }
-{
-    match bytes.first_chunk::<WIDE>() {
-        Some(front) if len <= WIDE => out.push_front(front, len),
-        _ => out.push_slice(bytes.split_at(len).0),
     }
 }
 

@@ -11,7 +11,7 @@ mod transform;
 
 pub use faithful::{Faithful, stays};
 pub use filter::{Filter, append_spans};
-pub use known::{Known, append_front};
+pub use known::Known;
 pub use rewrite::{NormalForm, Rewrite};
 pub use run::filter_all;
 pub use transform::{Transform, transform_all};

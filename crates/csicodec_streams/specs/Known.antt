@@ -1,8 +1,12 @@
 -- What a table of sequences that came before holds.
-use Rattle.std.specs.Prelude.{ℕ, ◌≡◌, ◌<◌, ◌≤◌, List, Some, length, slice_get, take}
+use Rattle.std.specs.Prelude.{ℕ, ◌≡◌, ◌<◌, ◌≤◌, false, List, [], ◌∷◌, Some, length, slice_get, take}
 use Rattle.std.specs.List.{All}
 use Rattle.csicodec_tokens.specs.declared.param.CsiParam.{CsiParam}
 use Rattle.csicodec_tokens.specs.Sequence.{Seq}
+use Rattle.csicodec_actions.specs.Actions as action
+use Rattle.csicodec_actions.specs.Table.{text}
+use Rattle.csicodec_actions.specs.declared.cursor.Cursor.{Cursor}
+use Rattle.csicodec_parser.specs.Segments.{Actions}
 use Rattle.csicodec_streams.specs.declared.memo.Slot.{Slot}
 use Rattle.csicodec_streams.specs.Decoding.{NormalisesTo}
 
@@ -13,6 +17,11 @@ IsOne bytes = (list : List CsiParam) × (final : ℕ) × Seq bytes list final
 -- a sequence and its normal form
 abbrev pub IsNormal : List ℕ → List ℕ → Type 0
 IsNormal bytes text = NormalisesTo bytes text × IsOne bytes
+
+-- the bytes are one control sequence that moves the cursor, as the codec writes it
+abbrev pub IsPosition : List ℕ → Type 0
+IsPosition bytes = (list : List CsiParam) × (final : ℕ) × (moved : Cursor) × Seq bytes list final
+    × Actions list false final (action.Cursor moved ∷ []) × (bytes ≡ text (action.Cursor moved))
 
 -- a slot holds a sequence and what is noted of it, unless it holds no bytes
 abbrev pub IsKnown : (List ℕ → List ℕ → Type 0) → Slot → Type 0

@@ -6,6 +6,7 @@ mod decode;
 mod error;
 mod io;
 mod memo;
+mod position;
 mod stream;
 mod texts;
 
@@ -13,5 +14,6 @@ pub use decode::{decode_all, normal_form, parse_all, parse_all_over, parse_into}
 pub use error::{DecodeError, RunError};
 pub use io::{CHUNK, keep_from, receive, send};
 pub use memo::{Memo, Normal, Note, Noted, WIDE};
+pub use position::{append_front, position_len, take_position};
 pub use stream::normalise;
 pub use texts::{encode, encode_all};

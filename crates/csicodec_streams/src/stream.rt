@@ -1,5 +1,5 @@
 //! Bytes to bytes: sequences one after the other to their normal form, from a reader to a writer.
-ghost use Rattle.std.specs.Prelude.{◌≡◌, ◌≢◌, ◌++◌, ◌<◌, ◌≤◌, ℕ, List, Option, [], false, length, OnErr, OnOk, IfOk, IfErr, IfSome};
+ghost use Rattle.std.specs.Prelude.{◌≡◌, ◌≢◌, ◌++◌, ◌<◌, ◌≤◌, ℕ, List, Option, [], false, length, take, OnErr, OnOk, IfOk, IfErr, IfSome};
 ghost use Rattle.std.specs.Io.KnownBytes.{Appends, Consumes, IsAtEnd};
 ghost use Rattle.csicodec_streams.specs.declared.error.DecodeError.TheVariants.{Memory};
 ghost use Rattle.csicodec_actions.specs.Actions.{Action};
@@ -13,10 +13,29 @@ use crate::decode::{Behind, refusal_at};
 use crate::error::{DecodeError, RunError};
 use crate::io::{CHUNK, MOST, keep_from, read_out, read_some, write_out};
 use crate::memo::{Memo, Normal};
-use csicodec_base::{CsiParam, ReadError, read_csi_into};
+use crate::position::take_position;
+use csicodec_base::{CsiParam, ReadError, TextBuffer, read_csi_into};
 use csicodec_parser::{Texts, Tokens, list_into};
 use std::alloc::{AllocError, Global};
 use std::io::{Read, Write};
+
+/// Appends the normal form of the sequence in front, if it came before, or is a position and its own; how many bytes it has, 0 where it is
+/// neither.
+#[inline(always)]
+fn take_known(memo: &mut Memo<Normal>, bytes: &[u8], out: &mut TextBuffer) -> usize
+    requires { AreKnown IsNormal memo.old.slots.items }
+    ensures within { result ≤ length bytes.now }
+    ensures noted { 0 < result
+        → (text : List ℕ) × IsNormal (take result bytes.now) text × (out.new ≡ out.old ++ text) }
+    ensures none { result ≡ 0 → out.new ≡ out.old }
+    ensures known { AreKnown IsNormal memo.new.slots.items }
+{
+    let known = memo.recall(bytes, out);
+    if known > 0 {
+        return known;
+    }
+    take_position(bytes, out)
+}
 
 /// The texts of all actions of the sequences at the front of the bytes, joined. Sequences that came before are looked up.
 #[inline(always)]
@@ -40,7 +59,7 @@ fn texts_into<'a>(
 {
     let mut rest = bytes;
     while !rest.is_empty() {
-        let known = memo.recall(rest, &mut sink.bytes);
+        let known = take_known(memo, rest, &mut sink.bytes);
         if known > 0 {
             rest = &rest[known..];
             continue;

@@ -1,9 +1,11 @@
 -- What the private steps of a decoding say to each other: how far it has come, and why it goes no further.
 use Rattle.std.specs.Prelude.{ℕ, ◌≡◌, ◌<◌, ◌++◌, Bool, true, false, List, [], length, Option, None, Some}
+use Rattle.std.specs.Fmt.{decimal}
 use Rattle.csicodec_tokens.specs.declared.reader.ReadError.{ReadError}
 use Rattle.csicodec_tokens.specs.declared.reader.ReadError.TheVariants as read_errors
 use Rattle.csicodec_tokens.specs.Fault.{Refuses}
 use Rattle.csicodec_actions.specs.Actions.{Action}
+use Rattle.csicodec_actions.specs.Kinds.{IsOneBased}
 use Rattle.csicodec_streams.specs.Decoding.{Decodes}
 
 -- the sequences at the front of the bytes have these actions, and behind them comes the rest
@@ -23,3 +25,7 @@ stays (read_errors.BadByte place) = true
 stays (read_errors.NumberTooLarge place) = true
 stays (read_errors.Truncated place) = false
 stays read_errors.Memory = true
+
+-- the text of a number from 1 to 4294967295
+abbrev pub IsNumber : List ℕ → Type 0
+IsNumber text = (n : ℕ) × IsOneBased n × (text ≡ decimal n)

@@ -3,8 +3,8 @@ use Rattle.csicodec_spans.specs.declared.table.Mode.TheVariants as mode
 use Rattle.csicodec_compact.proofs.Beside.{front_known, front_plain}
 use Rattle.csicodec_compact.proofs.stream.pass_one.Goals as goal
 
-pub returns-in_ok-take-clause-passed : goal.returns-in_ok-take-clause-passed
-returns-in_ok-take-clause-passed c = λ some.
+pub returns-then-is_csi-clause-passed : goal.returns-then-is_csi-clause-passed
+returns-then-is_csi-clause-passed c = λ some.
     let len = c.look-len.result in
     let bytes = c.args.bytes.now in
     let found = c.look-len.ensures in

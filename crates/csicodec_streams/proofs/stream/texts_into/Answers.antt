@@ -11,15 +11,15 @@ loop-alloc-init c = ([], split_none c.args.bytes.now false, λ before h. h ∙ a
 pub loop-alloc-preserved-then-known-gt0 : goal.loop-alloc-preserved-then-known-gt0
 loop-alloc-preserved-then-known-gt0 c =
     let (told, split, held, known) = c.loop-alloc.invariant in
-    let (text, normal, out) = c.recall-known.ensures.noted c.if-known-gt0.true in
+    let (text, normal, out) = c.take_known-known.ensures.noted c.if-known-gt0.true in
     let (ys, decodes, is) = normal.0 in
     let bytes = c.args.bytes.now in
     let rest = c.loop-alloc.rest.now in
-    let len = c.recall-known.result in (
+    let len = c.take_known-known.result in (
       told ++ ys,
       subst (λ (l : List ℕ). IsSplit bytes false l (told ++ ys)) (sym (slice_from len rest)) (split_known bytes rest len told ys split decodes),
       λ before h. texts_more before told ys _ _ text (held before h) out is,
-      c.recall-known.ensures.known,
+      c.take_known-known.ensures.known,
     )
 
 pub returns-in_err-list_into-in-Ok-clause-err : goal.returns-in_err-list_into-in-Ok-clause-err
@@ -31,7 +31,7 @@ returns-in_err-list_into-in-Ok-clause-err c =
 pub split_at-requires : goal.split_at-requires
 split_at-requires c =
     let (told, split, held, known) = c.loop-alloc.invariant in
-    let same = c.recall-known.ensures.none (omega (arith, c.if-known-gt0.false)) in
+    let same = c.take_known-known.ensures.none (omega (arith, c.if-known-gt0.false)) in
     let (before, h) = c.requires.texts in
     let xs = before ++ told in
     let (ys, are, put) = c.in_ok-list_into-in-Ok.ensures.taken in
@@ -41,7 +41,7 @@ split_at-requires c =
 pub keep-requires-clause-noted : goal.keep-requires-clause-noted
 keep-requires-clause-noted c =
     let (told, split, held, known) = c.loop-alloc.invariant in
-    let same = c.recall-known.ensures.none (omega (arith, c.if-known-gt0.false)) in
+    let same = c.take_known-known.ensures.none (omega (arith, c.if-known-gt0.false)) in
     let (before, h) = c.requires.texts in
     let tail = c.in-Ok.tail in
     let xs = before ++ told in
@@ -60,7 +60,7 @@ keep-requires-clause-noted c =
 pub loop-alloc-preserved : goal.loop-alloc-preserved
 loop-alloc-preserved c =
     let (told, split, held, known) = c.loop-alloc.invariant in
-    let same = c.recall-known.ensures.none (omega (arith, c.if-known-gt0.false)) in
+    let same = c.take_known-known.ensures.none (omega (arith, c.if-known-gt0.false)) in
     let tail = c.in-Ok.tail in
     let bytes = c.args.bytes.now in
     let rest = c.loop-alloc.rest.now in
@@ -74,7 +74,7 @@ loop-alloc-preserved c =
 pub returns-in-Err-clause-front : goal.returns-in-Err-clause-front
 returns-in-Err-clause-front c =
     let (told, split, held, known) = c.loop-alloc.invariant in
-    let same = c.recall-known.ensures.none (omega (arith, c.if-known-gt0.false)) in (
+    let same = c.take_known-known.ensures.none (omega (arith, c.if-known-gt0.false)) in (
       told,
       front_of c.args.bytes.now false c.loop-alloc.rest.now told split,
       λ before h. same ∙ held before h,

@@ -15,4 +15,4 @@ returns c =
       e ∙ ap (λ t. t ++ bytes) c.in_ok-close.ensures.text ∙ append_assoc old (closing st) bytes,
       rw c.close.ensures.form (extends_plain st k bytes parts other span),
     ))
-    c.append_front.ensures
+    c.append_front.ensures.ok

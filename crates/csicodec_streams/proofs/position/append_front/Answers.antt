@@ -1,9 +1,9 @@
 use Rattle.std.proofs.Common.{ℕ, List, ◌++◌, ap, take, ◌∙◌}
 use Rattle.std.proofs.lemmas.List.{take-take}
 use Rattle.std.proofs.lemmas.Result.{on_ok_weaker}
-use Rattle.csicodec_filter.proofs.known.append_front.Goals as goal
+use Rattle.csicodec_streams.proofs.position.append_front.Goals as goal
 
-pub returns-in-Some : goal.returns-in-Some
-returns-in-Some c =
+pub returns-in-Some-clause-ok : goal.returns-in-Some-clause-ok
+returns-in-Some-clause-ok c =
     let same = ap (λ (l : List ℕ). take c.args.len l) c.in-Some.ensures.cases.same ∙ take-take c.args.len 48 c.args.bytes.now c.if-len-le-WIDE.true in
     on_ok_weaker c.push_front.result (λ e. e ∙ ap (λ (l : List ℕ). c.args.out.now ++ l) same) c.push_front.ensures.ok

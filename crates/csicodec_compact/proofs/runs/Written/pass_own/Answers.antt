@@ -1,0 +1,19 @@
+use Rattle.std.proofs.Common.{◌++◌, ap, take, ◌∙◌, append_assoc}
+use Rattle.std.proofs.lemmas.Result.{on_ok_weaker}
+use Rattle.csicodec_compact.specs.declared.form.Form.TheVariants as forms
+use Rattle.csicodec_compact.specs.Private.Steps.{closing}
+use Rattle.csicodec_compact.proofs.Beside.{as_it_came, extends_one}
+use Rattle.csicodec_compact.proofs.runs.Written.pass_own.Goals as goal
+
+pub returns : goal.returns
+returns c =
+    let st = c.args.self.now.form in
+    let old = c.args.out.now in
+    let bytes = (take c.args.len c.args.bytes.now) in
+    on_ok_weaker c.append_front.result
+    (λ e. (
+      closing st ++ bytes,
+      e ∙ ap (λ t. t ++ bytes) c.in_ok-close.ensures.text ∙ append_assoc old (closing st) bytes,
+      rw c.close.ensures.form (extends_one st forms.Whole bytes bytes c.requires.one (as_it_came bytes)),
+    ))
+    c.append_front.ensures.ok

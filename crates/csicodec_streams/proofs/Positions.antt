@@ -1,0 +1,139 @@
+-- A position whose numbers are written as a codec writes them is its own normal form.
+use Rattle.std.proofs.Common.{◌≡◌, ℕ, ◌≤◌, ◌+◌, ◌-◌, ◌*◌, ◌/◌, ◌%◌, false, List, [], ◌∷◌, ◌++◌, suc, get_or, length, take, drop, refl, sym, ap, subst, ◌∙◌, append_assoc, append-nil, inl, arith}
+use Rattle.std.proofs.Math.Seq.{take-append_seam}
+use Rattle.std.proofs.lemmas.Fmt.{decimal_digit}
+use Rattle.std.proofs.lemmas.List.{length-append, length-take, take-append-drop, take_all}
+use Rattle.std.specs.Fmt.{decimal}
+use Rattle.csicodec_tokens.specs.Digits.{AreDigits, IsDigit}
+use Rattle.csicodec_tokens.specs.Sequence.{Seq}
+use Rattle.csicodec_tokens.proofs.Decimal.{three_digits, two_digits}
+use Rattle.csicodec_tokens.proofs.Printed.{printed}
+use Rattle.csicodec_tokens.proofs.Reading.{first_cut}
+use Rattle.csicodec_tokens.specs.Param.{spells}
+use Rattle.csicodec_actions.specs.Actions as action
+use Rattle.csicodec_actions.specs.Kinds.{Count, IsOneBased}
+use Rattle.csicodec_actions.specs.Table.{text}
+use Rattle.csicodec_actions.specs.Written.{Written, tokens, two, write, written_text}
+use Rattle.csicodec_actions.specs.declared.cursor.Cursor.{Cursor}
+use Rattle.csicodec_actions.specs.declared.cursor.Cursor.TheVariants as cursor
+use Rattle.csicodec_lists.proofs.Back.{read-back}
+use Rattle.csicodec_lists.proofs.Items.{IsRead, Sound, sound}
+use Rattle.csicodec_parser.specs.Segments.{Actions}
+use Rattle.csicodec_streams.specs.Known.{IsNormal, IsPosition}
+use Rattle.csicodec_streams.specs.Private.Steps.{IsNumber}
+use Rattle.csicodec_streams.proofs.OneReading.{one_sequence}
+
+-- ---- numbers
+
+pub one_digit : (d : ℕ) → 49 ≤ d → d ≤ 57 → IsNumber (d ∷ [])
+one_digit d low high = one (d - 48) d (omega (arith, low)) low high
+  where
+    one : (n d : ℕ) → n + 48 ≡ d → 49 ≤ d → d ≤ 57 → IsNumber (d ∷ [])
+    one n d is low high =
+        let digit : 48 + n ≡ d = omega (arith, is) in
+        (n, record { above = omega (arith, is, low); fits = omega (arith, is, high) }, rw (decimal_digit n (omega (arith, is, high)), digit) refl)
+
+pub more_digits : (a b : ℕ) → 49 ≤ a → a ≤ 57 → 48 ≤ b → b ≤ 57 → IsNumber (a ∷ b ∷ [])
+more_digits a b low high least most = two (10 * a + b - 528) (omega (arith, low, least))
+  where
+    two : (n : ℕ) → n + 528 ≡ 10 * a + b → IsNumber (a ∷ b ∷ [])
+    two n is =
+        let tens : 48 + n / 10 ≡ a = omega (arith, is, low, high, least, most) in
+        let ones : 48 + n % 10 ≡ b = omega (arith, is, low, high, least, most) in
+        (n, record { above = omega (arith, is, low, least); fits = omega (arith, is, high, most) }, rw (two_digits n (omega (arith, is, low, least)) (omega (arith, is, high, most)), tens, ones) refl)
+
+pub most_digits : (a b c : ℕ) → 49 ≤ a → a ≤ 57 → 48 ≤ b → b ≤ 57 → 48 ≤ c → c ≤ 57 → IsNumber (a ∷ b ∷ c ∷ [])
+most_digits a b c low high least most from to = three (100 * a + 10 * b + c - 5328) (omega (arith, low, least, from))
+  where
+    three : (n : ℕ) → n + 5328 ≡ 100 * a + 10 * b + c → IsNumber (a ∷ b ∷ c ∷ [])
+    three n is =
+        let hundreds : 48 + n / 100 ≡ a = omega (arith, is, low, high, least, most, from, to) in
+        let tens : 48 + n / 10 % 10 ≡ b = omega (arith, is, low, high, least, most, from, to) in
+        let ones : 48 + n % 10 ≡ c = omega (arith, is, low, high, least, most, from, to) in
+        (n, record { above = omega (arith, is, low, least); fits = omega (arith, is, high, most, to) }, rw (three_digits n (omega (arith, is, low, least, from)) (omega (arith, is, high, most, to)), hundreds, tens, ones) refl)
+
+-- the first of them isn't 0, and there are three at most
+number_of : (a : ℕ) (ds : List ℕ) → 49 ≤ a → a ≤ 57 → AreDigits ds → length ds ≤ 2 → IsNumber (a ∷ ds)
+number_of a [] low high digits few = one_digit a low high
+number_of a (b ∷ []) low high digits few = more_digits a b low high digits.0.0 digits.0.1
+number_of a (b ∷ c ∷ []) low high digits few = most_digits a b c low high digits.0.0 digits.0.1 digits.1.0.0 digits.1.0.1
+number_of a (b ∷ c ∷ d ∷ ds) low high digits few = absurd (omega (arith, few))
+
+pub digits_of_one : (xs : List ℕ) → 1 ≤ length xs → IsDigit (get_or xs 0 0) → AreDigits (take 1 xs)
+digits_of_one [] some d = absurd (omega arith)
+digits_of_one (x ∷ xs) some d = (d, tt)
+
+pub digits_of_two : (xs : List ℕ) → 2 ≤ length xs → IsDigit (get_or xs 0 0) → IsDigit (get_or xs 1 0) → AreDigits (take 2 xs)
+digits_of_two [] some d e = absurd (omega arith)
+digits_of_two (x ∷ []) some d e = absurd (omega (arith, some))
+digits_of_two (x ∷ y ∷ xs) some d e = (d, (e, tt))
+
+pub number_front : (xs : List ℕ) (n : ℕ) → 1 ≤ length xs → 49 ≤ get_or xs 0 0 → get_or xs 0 0 ≤ 57 → n ≤ 2 → AreDigits (take n (take (length xs - 1) (drop 1 xs))) → IsNumber (take (1 + n) xs)
+number_front xs n some low high few digits =
+    let others : List ℕ = take (length xs - 1) (drop 1 xs) in
+    let next : 1 + n ≡ suc n = omega arith in
+    let front : take (1 + n) xs ≡ get_or xs 0 0 ∷ take n others = ap (λ (k : ℕ). take k xs) next ∙ ap (λ (l : List ℕ). take (suc n) l) (first_cut xs some) in
+    subst IsNumber (sym front) (number_of (get_or xs 0 0) (take n others) low high digits (omega (arith, length-take n others, few)))
+
+-- ---- what stands in front
+
+pub byte_cut : (xs : List ℕ) (b : ℕ) → 1 ≤ length xs → get_or xs 0 0 ≡ b → xs ≡ b ∷ take (length xs - 1) (drop 1 xs)
+byte_cut xs b some is = first_cut xs some ∙ ap (λ (x : ℕ). x ∷ take (length xs - 1) (drop 1 xs)) is
+
+pub two_cut : (xs : List ℕ) → 2 ≤ length xs → get_or xs 0 0 ≡ 27 → get_or xs 1 0 ≡ 91 → xs ≡ 27 ∷ 91 ∷ take (length xs - 2) (drop 2 xs)
+two_cut [] some a b = absurd (omega arith)
+two_cut (x ∷ []) some a b = absurd (omega (arith, some))
+two_cut (x ∷ y ∷ xs) some a b = ap (λ (c : ℕ). c ∷ y ∷ xs) a ∙ ap (λ (c : ℕ). 27 ∷ c ∷ xs) b ∙ ap (λ (l : List ℕ). 27 ∷ 91 ∷ l) (sym (take_all (length (x ∷ y ∷ xs) - 2) xs (omega arith)))
+
+-- ---- positions
+
+own_text : (c : Cursor) (w : Written) → Sound w → Actions (tokens w.items) false w.final (action.Cursor c ∷ []) → text (action.Cursor c) ≡ 27 ∷ 91 ∷ written_text w → IsPosition (text (action.Cursor c))
+own_text c w s acts is =
+    let seq : Seq (27 ∷ 91 ∷ (spells (tokens w.items) ++ w.final ∷ [])) (tokens w.items) w.final = record { spellable = s.spellable; ends = s.ends; body = spells (tokens w.items); spelled = printed (tokens w.items) s.spellable; whole = refl } in
+    let same : text (action.Cursor c) ≡ 27 ∷ 91 ∷ (spells (tokens w.items) ++ w.final ∷ []) = is ∙ ap (λ (l : List ℕ). 27 ∷ 91 ∷ l) s.text in
+    (tokens w.items, w.final, c, subst (λ (l : List ℕ). Seq l (tokens w.items) w.final) (sym same) seq, acts, refl)
+
+-- its own normal form
+pub own_normal : (bytes : List ℕ) → IsPosition bytes → IsNormal bytes bytes
+own_normal bytes (list, final, c, seq, acts, is) =
+    ((action.Cursor c ∷ [], one_sequence bytes list final (action.Cursor c ∷ []) seq acts, is ∙ sym (append-nil (text (action.Cursor c)))), (list, final, seq))
+
+-- a position before this final
+abbrev placed : ℕ → ℕ → ℕ → List ℕ
+placed a b final = 27 ∷ 91 ∷ (decimal a ++ 59 ∷ (decimal b ++ final ∷ []))
+
+-- each moves the cursor, as the codec writes it
+abbrev pub ArePositions : ℕ → Type 0
+ArePositions final = (a b : ℕ) → IsOneBased a → IsOneBased b → IsPosition (placed a b final)
+
+pub cup : ArePositions 72
+cup a b first second =
+    let c = cursor.Position a b in
+    let w = write (two Count a b) "H" in
+    let r : IsRead w (action.Cursor c) = read-back (action.Cursor c) (first, (second, tt)) (λ x. x) (λ x. x) in
+    own_text c w (sound w r.sound (first, (second, tt))) (inl (action.Cursor c, r.read, refl)) refl
+
+pub hvp : ArePositions 102
+hvp a b first second =
+    let c = cursor.CharacterAndLinePosition a b in
+    let w = write (two Count a b) "f" in
+    let r : IsRead w (action.Cursor c) = read-back (action.Cursor c) (first, (second, tt)) (λ x. x) (λ x. x) in
+    own_text c w (sound w r.sound (first, (second, tt))) (inl (action.Cursor c, r.read, refl)) refl
+
+-- ---- in front of others
+
+pub front_placed : (final : ℕ) (bytes list behind more : List ℕ) (line column : ℕ) → ArePositions final → bytes ≡ 27 ∷ 91 ∷ list → line ≤ length list → IsNumber (take line list) → drop line list ≡ 59 ∷ behind
+    → column ≤ length behind → IsNumber (take column behind) → drop column behind ≡ final ∷ more → IsPosition (take (line + column + 4) bytes)
+front_placed final bytes list behind more line column own begins within first then inside second ends =
+    let (a, good, lines) = first in
+    let (b, right, columns) = second in
+    let back : behind ≡ decimal b ++ final ∷ more = sym (take-append-drop column behind) ∙ ap (λ (l : List ℕ). l ++ drop column behind) columns ∙ ap (λ (l : List ℕ). decimal b ++ l) ends in
+    let all : list ≡ decimal a ++ 59 ∷ (decimal b ++ final ∷ more) =
+    sym (take-append-drop line list) ∙ ap (λ (l : List ℕ). l ++ drop line list) lines ∙ ap (λ (l : List ℕ). decimal a ++ l) (then ∙ ap (λ (l : List ℕ). 59 ∷ l) back) in
+    let parts : bytes ≡ placed a b final ++ more =
+    begins ∙ ap (λ (l : List ℕ). 27 ∷ 91 ∷ l) (all ∙ ap (λ (l : List ℕ). decimal a ++ 59 ∷ l) (sym (append_assoc (decimal b) (final ∷ []) more)) ∙ sym (append_assoc (decimal a) (59 ∷ (decimal b ++ final ∷ [])) more)) in
+    let long : line + column + 4 ≡ length (placed a b final) =
+    omega (arith, length-append (decimal a) (59 ∷ (decimal b ++ final ∷ [])), length-append (decimal b) (final ∷ []), ap length lines, ap length columns, length-take line list, length-take column behind, within, inside) in
+    let front : take (line + column + 4) bytes ≡ placed a b final =
+    ap (λ (n : ℕ). take n bytes) long ∙ ap (λ (l : List ℕ). take (length (placed a b final)) l) parts ∙ take-append_seam (placed a b final) more in
+    subst IsPosition (sym front) (own a b good right)

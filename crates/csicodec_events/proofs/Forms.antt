@@ -45,7 +45,8 @@ output k = record { fits = tt; stays = refl }
 unsure : (k : ℕ) (g : Form) → Good k form.Unsure g
 unsure k g = record { fits = tt; stays = tt }
 
-either : (k : ℕ) (t : Bool) (x y x' y' : Form) → Good k x x' → Good k y y' → Good k (if t then x else y) (if t then x' else y')
+either : (k : ℕ) (t : Bool) (x y x' y' : Form) → Good k x x' → Good k y y'
+    → Good k (if t then x else y) (if t then x' else y')
 either k true x y x' y' h g = h
 either k false x y x' y' h g = g
 
@@ -67,25 +68,32 @@ record GoodWidth (k : ℕ) (v w : Width) : Type 0 where
   fits : WidthFits k v
   stays : WidthStays v w
 
-either_width : (k : ℕ) (t : Bool) (x y x' y' : Width) → GoodWidth k x x' → GoodWidth k y y' → GoodWidth k (if t then x else y) (if t then x' else y')
+either_width : (k : ℕ) (t : Bool) (x y x' y' : Width) → GoodWidth k x x' → GoodWidth k y y'
+    → GoodWidth k (if t then x else y) (if t then x' else y')
 either_width k true x y x' y' h g = h
 either_width k false x y x' y' h g = g
 
-second_good : (a : ℕ) (bytes more : List ℕ) → GoodWidth (suc (length bytes)) (second a bytes) (second a (bytes ++ more))
+second_good : (a : ℕ) (bytes more : List ℕ)
+    → GoodWidth (suc (length bytes)) (second a bytes) (second a (bytes ++ more))
 second_good a [] [] = by (is_from 194 223 a)
   where
-    by : (t : Bool) → GoodWidth 1 (if t then width.Unsure else width.Wrong) (if t then width.Unsure else width.Wrong)
+    by : (t : Bool)
+        → GoodWidth 1 (if t then width.Unsure else width.Wrong)
+        (if t then width.Unsure else width.Wrong)
     by true = record { fits = tt; stays = tt }
     by false = record { fits = tt; stays = refl }
 second_good a [] (b ∷ more) = by (is_from 194 223 a)
   where
-    by : (t : Bool) → GoodWidth 1 (if t then width.Unsure else width.Wrong) (if t && is_from 128 191 b then width.Two else width.Wrong)
+    by : (t : Bool)
+        → GoodWidth 1 (if t then width.Unsure else width.Wrong)
+        (if t && is_from 128 191 b then width.Two else width.Wrong)
     by true = record { fits = tt; stays = tt }
     by false = record { fits = tt; stays = refl }
 second_good a (b ∷ bytes) more =
     either_width (suc (suc (length bytes))) (is_from 194 223 a && is_from 128 191 b) width.Two width.Wrong width.Two width.Wrong (record { fits = omega arith; stays = refl }) (record { fits = tt; stays = refl })
 
-char_good : (d : Dialect) (bytes more : List ℕ) → GoodWidth (length bytes) (char_width d bytes) (char_width d (bytes ++ more))
+char_good : (d : Dialect) (bytes more : List ℕ)
+    → GoodWidth (length bytes) (char_width d bytes) (char_width d (bytes ++ more))
 char_good d [] more = record { fits = tt; stays = tt }
 char_good d (a ∷ bytes) more =
     either_width (suc (length bytes)) (is_wide d a) (second a bytes) width.One (second a (bytes ++ more)) width.One (second_good a bytes more) (record { fits = omega arith; stays = refl })
@@ -97,12 +105,16 @@ last_good n k width.Unsure w g = unsure (n + k) (last n w)
 last_good n k width.Wrong w g = rw g.stays (output (n + k))
 
 -- behind a character
-behind : (n j : ℕ) (bytes more : List ℕ) → j ≤ length bytes → (f : List ℕ → Form) → Good (n + j + length (drop j bytes)) (f (drop j bytes)) (f (drop j bytes ++ more)) → Good (n + length bytes) (f (drop j bytes)) (f (drop j (bytes ++ more)))
+behind : (n j : ℕ) (bytes more : List ℕ) → j ≤ length bytes → (f : List ℕ → Form)
+    → Good (n + j + length (drop j bytes)) (f (drop j bytes)) (f (drop j bytes ++ more))
+    → Good (n + length bytes) (f (drop j bytes)) (f (drop j (bytes ++ more)))
 behind n j bytes more le f g =
     let same : n + j + length (drop j bytes) ≡ n + length bytes = omega (arith, length-drop j bytes, le) in
     subst (λ (x : List ℕ). Good (n + length bytes) (f (drop j bytes)) (f x)) (sym (drop-append-le j bytes more le)) (subst (λ (k : ℕ). Good k (f (drop j bytes)) (f (drop j bytes ++ more))) same g)
 
-last_two_good : (d : Dialect) (n : ℕ) (bytes more : List ℕ) (v w : Width) → GoodWidth (length bytes) v w → Good (n + length bytes) (last_two d n bytes v) (last_two d n (bytes ++ more) w)
+last_two_good : (d : Dialect) (n : ℕ) (bytes more : List ℕ) (v w : Width)
+    → GoodWidth (length bytes) v w
+    → Good (n + length bytes) (last_two d n bytes v) (last_two d n (bytes ++ more) w)
 last_two_good d n bytes more width.One w g =
     rw g.stays (behind n 1 bytes more g.fits (λ (x : List ℕ). last (n + 1) (char_width d x)) (last_good (n + 1) (length (drop 1 bytes)) _ _ (char_good d (drop 1 bytes) more)))
 last_two_good d n bytes more width.Two w g =
@@ -110,7 +122,9 @@ last_two_good d n bytes more width.Two w g =
 last_two_good d n bytes more width.Unsure w g = unsure (n + length bytes) (last_two d n (bytes ++ more) w)
 last_two_good d n bytes more width.Wrong w g = rw g.stays (output (n + length bytes))
 
-last_three_good : (d : Dialect) (n : ℕ) (bytes more : List ℕ) (v w : Width) → GoodWidth (length bytes) v w → Good (n + length bytes) (last_three d n bytes v) (last_three d n (bytes ++ more) w)
+last_three_good : (d : Dialect) (n : ℕ) (bytes more : List ℕ) (v w : Width)
+    → GoodWidth (length bytes) v w
+    → Good (n + length bytes) (last_three d n bytes v) (last_three d n (bytes ++ more) w)
 last_three_good d n bytes more width.One w g =
     rw g.stays (behind n 1 bytes more g.fits (λ (x : List ℕ). last_two d (n + 1) x (char_width d x)) (last_two_good d (n + 1) (drop 1 bytes) more _ _ (char_good d (drop 1 bytes) more)))
 last_three_good d n bytes more width.Two w g =
@@ -118,7 +132,8 @@ last_three_good d n bytes more width.Two w g =
 last_three_good d n bytes more width.Unsure w g = unsure (n + length bytes) (last_three d n (bytes ++ more) w)
 last_three_good d n bytes more width.Wrong w g = rw g.stays (output (n + length bytes))
 
-mouse_good : (d : Dialect) (bytes more : List ℕ) → Good (suc (suc (suc (length bytes)))) (mouse d bytes) (mouse d (bytes ++ more))
+mouse_good : (d : Dialect) (bytes more : List ℕ)
+    → Good (suc (suc (suc (length bytes)))) (mouse d bytes) (mouse d (bytes ++ more))
 mouse_good d bytes more =
     let same : 3 + length bytes ≡ suc (suc (suc (length bytes))) = omega arith in
     subst (λ (k : ℕ). Good k (mouse d bytes) (mouse d (bytes ++ more))) same (last_three_good d 3 bytes more _ _ (char_good d bytes more))
@@ -129,26 +144,34 @@ ss3_good : (bytes more : List ℕ) → Good (suc (suc (length bytes))) (ss3 byte
 ss3_good [] more = unsure _ _
 ss3_good (b ∷ bytes) more = let k = suc (suc (suc (length bytes))) in either k (is_printable b) _ _ _ _ (whole k 3 (input.Ss3 b) (omega arith) (omega arith)) (whole k 2 (input.Alt 79) (omega arith) (omega arith))
 
-linux_good : (bytes more : List ℕ) → Good (suc (suc (suc (length bytes)))) (linux bytes) (linux (bytes ++ more))
+linux_good : (bytes more : List ℕ)
+    → Good (suc (suc (suc (length bytes)))) (linux bytes) (linux (bytes ++ more))
 linux_good [] more = unsure _ _
 linux_good (b ∷ bytes) more = let k = suc (suc (suc (suc (length bytes)))) in either k (is_printable b) _ _ _ _ (whole k 4 (input.Linux b) (omega arith) (omega arith)) (output k)
 
-two_digits_good : (a b : ℕ) (bytes more : List ℕ) → Good (suc (suc (suc (suc (length bytes))))) (two_digits a b bytes) (two_digits a b (bytes ++ more))
+two_digits_good : (a b : ℕ) (bytes more : List ℕ)
+    → Good (suc (suc (suc (suc (length bytes))))) (two_digits a b bytes)
+    (two_digits a b (bytes ++ more))
 two_digits_good a b [] [] = either 4 (is_digit b) _ _ _ _ (unsure 4 _) (output 4)
 two_digits_good a b [] (c ∷ more) = by (is_digit b)
   where
-    by : (t : Bool) → Good 4 (if t then form.Unsure else form.AsOutput) (if t && c == 36 then form.Whole (input.Rxvt (10 * (a - 48) + (b - 48))) 5 else form.AsOutput)
+    by : (t : Bool)
+        → Good 4 (if t then form.Unsure else form.AsOutput)
+        (if t && c == 36 then form.Whole (input.Rxvt (10 * (a - 48) + (b - 48))) 5 else
+        form.AsOutput)
     by true = unsure 4 _
     by false = output 4
 two_digits_good a b (c ∷ bytes) more = let k = suc (suc (suc (suc (suc (length bytes))))) in
     either k (is_digit b && c == 36) _ _ _ _ (whole k 5 (input.Rxvt (10 * (a - 48) + (b - 48))) (omega arith) (omega arith)) (output k)
 
-rxvt_good : (a : ℕ) (bytes more : List ℕ) → Good (suc (suc (suc (length bytes)))) (rxvt a bytes) (rxvt a (bytes ++ more))
+rxvt_good : (a : ℕ) (bytes more : List ℕ)
+    → Good (suc (suc (suc (length bytes)))) (rxvt a bytes) (rxvt a (bytes ++ more))
 rxvt_good a [] more = unsure _ _
 rxvt_good a (b ∷ bytes) more = let k = suc (suc (suc (suc (length bytes)))) in
     either k (b == 36) _ _ _ _ (whole k 4 (input.Rxvt (a - 48)) (omega arith) (omega arith)) (two_digits_good a b bytes more)
 
-csi_good : (d : Dialect) (bytes more : List ℕ) → Good (suc (suc (length bytes))) (csi d bytes) (csi d (bytes ++ more))
+csi_good : (d : Dialect) (bytes more : List ℕ)
+    → Good (suc (suc (length bytes))) (csi d bytes) (csi d (bytes ++ more))
 csi_good d [] more = unsure _ _
 csi_good d (b ∷ bytes) more = let k = suc (suc (suc (length bytes))) in
     either k (b == 91) _ _ _ _ (linux_good bytes more)
@@ -159,7 +182,8 @@ string_good : (k : ℕ) (bytes more : List ℕ) → Good k (string bytes) (strin
 string_good k [] more = unsure _ _
 string_good k (b ∷ bytes) more = output k
 
-escape_good : (d : Dialect) (bytes more : List ℕ) → Good (suc (length bytes)) (escape d bytes) (escape d (bytes ++ more))
+escape_good : (d : Dialect) (bytes more : List ℕ)
+    → Good (suc (length bytes)) (escape d bytes) (escape d (bytes ++ more))
 escape_good d [] more = unsure _ _
 escape_good d (b ∷ bytes) more = let k = suc (suc (length bytes)) in
     either k (b == 79) _ _ _ _ (ss3_good bytes more)
@@ -167,11 +191,13 @@ escape_good d (b ∷ bytes) more = let k = suc (suc (length bytes)) in
     (either k (is_opener b) _ _ _ _ (string_good k bytes more)
     (either k (b == 27 || nat_le 128 b) _ _ _ _ (whole k 1 input.Escape (omega arith) (omega arith)) (whole k 2 (input.Alt b) (omega arith) (omega arith)))))
 
-in_string_good : (d : Dialect) (bytes more : List ℕ) → Good (suc (length bytes)) (escape_in_string d bytes) (escape_in_string d (bytes ++ more))
+in_string_good : (d : Dialect) (bytes more : List ℕ)
+    → Good (suc (length bytes)) (escape_in_string d bytes) (escape_in_string d (bytes ++ more))
 in_string_good d [] more = unsure _ _
 in_string_good d (b ∷ bytes) more = let k = suc (suc (length bytes)) in either k (b == 92 || b == 27) _ _ _ _ (output k) (escape_good d (b ∷ bytes) more)
 
-behind_good : (d : Dialect) (m : Mode) (bytes more : List ℕ) → Good (suc (length bytes)) (behind_escape d m bytes) (behind_escape d m (bytes ++ more))
+behind_good : (d : Dialect) (m : Mode) (bytes more : List ℕ)
+    → Good (suc (length bytes)) (behind_escape d m bytes) (behind_escape d m (bytes ++ more))
 behind_good d mode.Text bytes more = escape_good d bytes more
 behind_good d mode.Osc bytes more = in_string_good d bytes more
 behind_good d mode.Dcs bytes more = in_string_good d bytes more
@@ -179,7 +205,8 @@ behind_good d mode.Str bytes more = in_string_good d bytes more
 behind_good d mode.BadCsi bytes more = escape_good d bytes more
 behind_good d mode.BadEsc bytes more = escape_good d bytes more
 
-input_good : (d : Dialect) (m : Mode) (bytes more : List ℕ) → Good (length bytes) (in_input d m bytes) (in_input d m (bytes ++ more))
+input_good : (d : Dialect) (m : Mode) (bytes more : List ℕ)
+    → Good (length bytes) (in_input d m bytes) (in_input d m (bytes ++ more))
 input_good d m [] more = unsure _ _
 input_good d m (b ∷ bytes) more = either (suc (length bytes)) (b == 27) _ _ _ _ (behind_good d m bytes more) (output _)
 
@@ -200,12 +227,14 @@ fresh looked f = by (looked == 0) f refl
     by true form.Unsure h = tt
     by false f h = tt
 
-ahead_fresh : (d : Dialect) (m : Mode) (looked : ℕ) (bytes : List ℕ) → IsFresh looked (ahead d m looked bytes)
+ahead_fresh : (d : Dialect) (m : Mode) (looked : ℕ) (bytes : List ℕ)
+    → IsFresh looked (ahead d m looked bytes)
 ahead_fresh dialect.Output m looked bytes = tt
 ahead_fresh dialect.Input m looked bytes = fresh looked (in_input dialect.Input m bytes)
 ahead_fresh dialect.Utf8Input m looked bytes = fresh looked (in_input dialect.Utf8Input m bytes)
 
-ahead_good : (d : Dialect) (m : Mode) (looked : ℕ) (bytes more : List ℕ) → Good (length bytes) (ahead d m looked bytes) (ahead d m looked (bytes ++ more))
+ahead_good : (d : Dialect) (m : Mode) (looked : ℕ) (bytes more : List ℕ)
+    → Good (length bytes) (ahead d m looked bytes) (ahead d m looked (bytes ++ more))
 ahead_good dialect.Output m looked bytes more = output _
 ahead_good dialect.Input m looked bytes more = either _ (looked == 0) _ _ _ _ (input_good dialect.Input m bytes more) (output _)
 ahead_good dialect.Utf8Input m looked bytes more = either _ (looked == 0) _ _ _ _ (input_good dialect.Utf8Input m bytes more) (output _)
@@ -215,7 +244,8 @@ sure_same (form.Whole i n) g sure same = same
 sure_same form.AsOutput g sure same = same
 sure_same form.Unsure g sure same = absurd sure
 
-pub ahead_stays : (d : Dialect) (m : Mode) (looked : ℕ) (bytes more : List ℕ) → IsSure (ahead d m looked bytes) → ahead d m looked (bytes ++ more) ≡ ahead d m looked bytes
+pub ahead_stays : (d : Dialect) (m : Mode) (looked : ℕ) (bytes more : List ℕ)
+    → IsSure (ahead d m looked bytes) → ahead d m looked (bytes ++ more) ≡ ahead d m looked bytes
 ahead_stays d m looked bytes more sure = sure_same (ahead d m looked bytes) (ahead d m looked (bytes ++ more)) sure (ahead_good d m looked bytes more).stays
 
 -- a form stands in front of the bytes
@@ -224,7 +254,8 @@ pub record IsFront (looked : ℕ) (bytes : List ℕ) (n : ℕ) : Type 0 where
   pub some : 0 < n
   pub within : n ≤ length bytes
 
-pub front : (d : Dialect) (m : Mode) (looked : ℕ) (bytes : List ℕ) (f : Form) (i : InputEvent) (n : ℕ) → f ≡ ahead d m looked bytes → f ≡ form.Whole i n → IsFront looked bytes n
+pub front : (d : Dialect) (m : Mode) (looked : ℕ) (bytes : List ℕ) (f : Form) (i : InputEvent)
+    (n : ℕ) → f ≡ ahead d m looked bytes → f ≡ form.Whole i n → IsFront looked bytes n
 front d m looked bytes f i n found is =
     let same = sym found ∙ is in
     let fits : Fits (length bytes) (form.Whole i n) = subst (Fits (length bytes)) same (ahead_good d m looked bytes []).fits in
@@ -232,22 +263,28 @@ front d m looked bytes f i n found is =
 
 -- ---- the bytes joined
 
-by_parts : (f : Form) (e : Events) (bytes : List ℕ) (x : InputEvent) (text rest : List ℕ) (list : List CsiParam) (after : Events) → IsSentBy f e bytes x text rest list after → bytes ≡ text ++ rest
+by_parts : (f : Form) (e : Events) (bytes : List ℕ) (x : InputEvent) (text rest : List ℕ)
+    (list : List CsiParam) (after : Events) → IsSentBy f e bytes x text rest list after
+    → bytes ≡ text ++ rest
 by_parts (form.Whole i n) e bytes x text rest list after s = rw (s.1, s.2) (sym (take-append-drop n bytes))
 by_parts form.AsOutput e bytes x text rest list after s = parts_of s.0 e bytes text rest list after s.2
 by_parts form.Unsure e bytes x text rest list after s = absurd s
 
-all_joined : (d : Dialect) (sent : List Sent) (e : Events) (bytes rest : List ℕ) (after : Events) → AreSent d e bytes sent rest after → bytes ≡ flat_map bytes_of sent ++ rest
+all_joined : (d : Dialect) (sent : List Sent) (e : Events) (bytes rest : List ℕ) (after : Events)
+    → AreSent d e bytes sent rest after → bytes ≡ flat_map bytes_of sent ++ rest
 all_joined d [] e bytes rest after s = sym s.0
 all_joined d (t ∷ sent) e bytes rest after s =
     by_parts (ahead d e.mode e.looked bytes) e bytes t.event t.bytes.now t.rest.now s.0 s.1 s.2 ∙ ap (λ (x : List ℕ). t.bytes.now ++ x) (all_joined d sent s.1 t.rest.now rest after s.3)
     ∙ sym (append_assoc t.bytes.now (flat_map bytes_of sent) rest)
 
-both : (now later : List Sent) → flat_map bytes_of (now ++ later) ≡ flat_map bytes_of now ++ flat_map bytes_of later
+both : (now later : List Sent)
+    → flat_map bytes_of (now ++ later) ≡ flat_map bytes_of now ++ flat_map bytes_of later
 both [] later = refl
 both (t ∷ now) later = ap (λ (x : List ℕ). t.bytes.now ++ x) (both now later) ∙ sym (append_assoc t.bytes.now (flat_map bytes_of now) (flat_map bytes_of later))
 
-pub sent_joined : (d : Dialect) (e after : Events) (held rest : List ℕ) (chunks : List (List ℕ)) (sent : List Sent) → InputChunks d e held chunks sent rest after → held ++ concat chunks ≡ flat_map bytes_of sent ++ rest
+pub sent_joined : (d : Dialect) (e after : Events) (held rest : List ℕ) (chunks : List (List ℕ))
+    (sent : List Sent) → InputChunks d e held chunks sent rest after
+    → held ++ concat chunks ≡ flat_map bytes_of sent ++ rest
 sent_joined d e after held rest [] sent c = rw (c.0, c.1) (append-nil held)
 sent_joined d e after held rest (chunk ∷ chunks) sent c =
     let (now, later, kept, mid, waiting, is, first, waits, others) = c in

@@ -8,12 +8,16 @@ use Rattle.csicodec_events.specs.declared.event.Events.{Events}
 use Rattle.csicodec_events.specs.Events.{BeginsCsi, IsTold, before_stop, from_stop, is_passed, stop}
 
 -- where a byte isn't passed over, no more are
-stopped : (bytes more : List ℕ) → prefix_len is_passed bytes < length bytes → prefix_len is_passed (bytes ++ more) ≡ prefix_len is_passed bytes
+stopped : (bytes more : List ℕ) → prefix_len is_passed bytes < length bytes
+    → prefix_len is_passed (bytes ++ more) ≡ prefix_len is_passed bytes
 stopped [] more lt = absurd (omega (arith, lt))
 stopped (b ∷ bytes) more lt = by (is_passed b) lt (stopped bytes more)
   where
-    by : (t : Bool) → cond t (1 + prefix_len is_passed bytes) 0 < suc (length bytes) → (prefix_len is_passed bytes < length bytes → prefix_len is_passed (bytes ++ more) ≡ prefix_len is_passed bytes)
-        → cond t (1 + prefix_len is_passed (bytes ++ more)) 0 ≡ cond t (1 + prefix_len is_passed bytes) 0
+    by : (t : Bool) → cond t (1 + prefix_len is_passed bytes) 0 < suc (length bytes)
+        → (prefix_len is_passed bytes < length bytes
+        → prefix_len is_passed (bytes ++ more) ≡ prefix_len is_passed bytes)
+        → cond t (1 + prefix_len is_passed (bytes ++ more)) 0
+        ≡ cond t (1 + prefix_len is_passed bytes) 0
     by true h on = let same = on (omega (arith, h)) in omega (arith, same)
     by false h on = refl
 
@@ -21,7 +25,8 @@ record SameStop (e : Events) (bytes more : List ℕ) : Type 0 where
   over : before_stop e (bytes ++ more) ≡ before_stop e bytes
   behind : from_stop e (bytes ++ more) ≡ from_stop e bytes ++ more
 
-same_stop : (e : Events) (bytes more rest : List ℕ) (b : ℕ) → from_stop e bytes ≡ b ∷ rest → SameStop e bytes more
+same_stop : (e : Events) (bytes more rest : List ℕ) (b : ℕ) → from_stop e bytes ≡ b ∷ rest
+    → SameStop e bytes more
 same_stop e bytes more rest b stands =
     let start = max 2 e.looked in
     let d = drop start bytes in
@@ -40,7 +45,8 @@ same_stop e bytes more rest b stands =
 begins_more : (bytes more : List ℕ) → BeginsCsi bytes → BeginsCsi (bytes ++ more)
 begins_more bytes more b = (b.0 ++ more, ap (λ (x : List ℕ). x ++ more) b.1)
 
-pub control_more : (e after : Events) (bytes text rest more : List ℕ) (list : List CsiParam) (b : ℕ) → IsTold (event.Control b) e bytes text rest list after
+pub control_more : (e after : Events) (bytes text rest more : List ℕ) (list : List CsiParam) (b : ℕ)
+    → IsTold (event.Control b) e bytes text rest list after
     → IsTold (event.Control b) e (bytes ++ more) text (rest ++ more) list after
 control_more e after bytes text rest more list b t =
     let c = t.1 in
@@ -57,7 +63,8 @@ control_more e after bytes text rest more list b t =
       },
     )
 
-pub csi_more : (e after : Events) (bytes text rest more : List ℕ) (list : List CsiParam) (final : ℕ) → IsTold (event.Csi final) e bytes text rest list after
+pub csi_more : (e after : Events) (bytes text rest more : List ℕ) (list : List CsiParam) (final : ℕ)
+    → IsTold (event.Csi final) e bytes text rest list after
     → IsTold (event.Csi final) e (bytes ++ more) text (rest ++ more) list after
 csi_more e after bytes text rest more list final t =
     let c = t.1 in

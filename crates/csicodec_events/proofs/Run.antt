@@ -17,19 +17,23 @@ use Rattle.csicodec_events.proofs.Steps.{csi_further, halves}
 
 -- ---- the bytes joined
 
-span_parts : (e : Events) (k : Kind) (bytes text rest : List ℕ) (after : Events) → IsSpan e k bytes text rest after → bytes ≡ text ++ rest
+span_parts : (e : Events) (k : Kind) (bytes text rest : List ℕ) (after : Events)
+    → IsSpan e k bytes text rest after → bytes ≡ text ++ rest
 span_parts e k bytes text rest after s = cut_parts e.limit e.mode bytes k text rest s.next s.cuts
 
-text_parts : (e : Events) (bytes text rest : List ℕ) (after : Events) → IsText e bytes text rest after → bytes ≡ text ++ rest
+text_parts : (e : Events) (bytes text rest : List ℕ) (after : Events)
+    → IsText e bytes text rest after → bytes ≡ text ++ rest
 text_parts e bytes text rest after t =
     cut_parts e.limit e.mode bytes _ (text ++ t.held) t.behind t.span.next t.span.cuts ∙ append_assoc text t.held t.behind ∙ ap (λ (x : List ℕ). text ++ x) (sym t.goes_on)
 
-goes_parts : (over behind text rest : List ℕ) (m : Mode) → GoesWrong over behind text rest m → over ++ behind ≡ text ++ rest
+goes_parts : (over behind text rest : List ℕ) (m : Mode) → GoesWrong over behind text rest m
+    → over ++ behind ≡ text ++ rest
 goes_parts over [] text rest m g = rw (g.0, g.1) refl
 goes_parts over (b ∷ more) text rest m (inl g) = sym (append_assoc over (b ∷ []) more) ∙ rw (g.1, g.2) refl
 goes_parts over (b ∷ more) text rest m (inr g) = rw (g.1, g.2) refl
 
-pub parts_of : (x : Event) (e : Events) (bytes text rest : List ℕ) (list : List CsiParam) (after : Events) → IsTold x e bytes text rest list after → bytes ≡ text ++ rest
+pub parts_of : (x : Event) (e : Events) (bytes text rest : List ℕ) (list : List CsiParam)
+    (after : Events) → IsTold x e bytes text rest list after → bytes ≡ text ++ rest
 parts_of event.Text e bytes text rest list after h = text_parts e bytes text rest after h
 parts_of (event.Control b) e bytes text rest list after h = sym h.1.stays ∙ ap (λ (x : List ℕ). x ++ rest) (sym h.1.none)
 parts_of (event.Csi final) e bytes text rest list after h = (csi_further e bytes list final text rest after h.1).parts
@@ -38,17 +42,21 @@ parts_of event.Str e bytes text rest list after h = span_parts e _ bytes text re
 parts_of event.Other e bytes text rest list after (inl h) = span_parts e _ bytes text rest after h.1
 parts_of event.Other e bytes text rest list after (inr h) = (halves e bytes).whole ∙ goes_parts (before_stop e bytes) (from_stop e bytes) text rest h.1.next h.1.goes
 
-told_joined : (told : List Told) (e : Events) (bytes rest : List ℕ) (after : Events) → AreTold e bytes told rest after → bytes ≡ flat_map bytes_of told ++ rest
+told_joined : (told : List Told) (e : Events) (bytes rest : List ℕ) (after : Events)
+    → AreTold e bytes told rest after → bytes ≡ flat_map bytes_of told ++ rest
 told_joined [] e bytes rest after s = sym s.0
 told_joined (t ∷ told) e bytes rest after s =
     parts_of t.event e bytes t.bytes.now t.rest.now s.0 s.1 s.2 ∙ ap (λ (x : List ℕ). t.bytes.now ++ x) (told_joined told s.1 t.rest.now rest after s.3)
     ∙ sym (append_assoc t.bytes.now (flat_map bytes_of told) rest)
 
-both : (now later : List Told) → flat_map bytes_of (now ++ later) ≡ flat_map bytes_of now ++ flat_map bytes_of later
+both : (now later : List Told)
+    → flat_map bytes_of (now ++ later) ≡ flat_map bytes_of now ++ flat_map bytes_of later
 both [] later = refl
 both (t ∷ now) later = ap (λ (x : List ℕ). t.bytes.now ++ x) (both now later) ∙ sym (append_assoc t.bytes.now (flat_map bytes_of now) (flat_map bytes_of later))
 
-pub chunks_joined : (e after : Events) (held rest : List ℕ) (chunks : List (List ℕ)) (told : List Told) → InChunks e held chunks told rest after → held ++ concat chunks ≡ flat_map bytes_of told ++ rest
+pub chunks_joined : (e after : Events) (held rest : List ℕ) (chunks : List (List ℕ))
+    (told : List Told) → InChunks e held chunks told rest after
+    → held ++ concat chunks ≡ flat_map bytes_of told ++ rest
 chunks_joined e after held rest [] told c = rw (c.0, c.1) (append-nil held)
 chunks_joined e after held rest (chunk ∷ chunks) told c =
     let (now, later, kept, mid, waiting, whole, first, waits, others) = c in
@@ -62,16 +70,21 @@ chunks_joined e after held rest (chunk ∷ chunks) told c =
 -- ---- a sequence that waited
 
 -- behind bytes that are all passed over
-all_passed : (bytes more : List ℕ) → prefix_len is_passed bytes ≡ length bytes → prefix_len is_passed (bytes ++ more) ≡ length bytes + prefix_len is_passed more
+all_passed : (bytes more : List ℕ) → prefix_len is_passed bytes ≡ length bytes
+    → prefix_len is_passed (bytes ++ more) ≡ length bytes + prefix_len is_passed more
 all_passed [] more e = omega arith
 all_passed (b ∷ bytes) more e = by (is_passed b) e (all_passed bytes more)
   where
-    by : (t : Bool) → cond t (1 + prefix_len is_passed bytes) 0 ≡ suc (length bytes) → (prefix_len is_passed bytes ≡ length bytes → prefix_len is_passed (bytes ++ more) ≡ length bytes + prefix_len is_passed more)
-        → cond t (1 + prefix_len is_passed (bytes ++ more)) 0 ≡ suc (length bytes) + prefix_len is_passed more
+    by : (t : Bool) → cond t (1 + prefix_len is_passed bytes) 0 ≡ suc (length bytes)
+        → (prefix_len is_passed bytes ≡ length bytes
+        → prefix_len is_passed (bytes ++ more) ≡ length bytes + prefix_len is_passed more)
+        → cond t (1 + prefix_len is_passed (bytes ++ more)) 0
+        ≡ suc (length bytes) + prefix_len is_passed more
     by true h on = let others = on (omega (arith, h)) in omega (arith, others)
     by false h on = absurd (omega (arith, h))
 
-front_dropped : (n : ℕ) (bytes more : List ℕ) → n ≤ length bytes → drop n (bytes ++ more) ≡ drop n bytes ++ more
+front_dropped : (n : ℕ) (bytes more : List ℕ) → n ≤ length bytes
+    → drop n (bytes ++ more) ≡ drop n bytes ++ more
 front_dropped n bytes more le =
     let front = take n bytes in
     let len : length front ≡ n = omega (arith, length-take n bytes, le) in
@@ -79,7 +92,9 @@ front_dropped n bytes more le =
     ∙ ap (λ (k : ℕ). drop k (front ++ (drop n bytes ++ more))) (sym len) ∙ drop-append_seam front (drop n bytes ++ more)
 
 -- where a sequence waited it stops where it would have stopped
-stop_on : (looked : ℕ) (bytes more : List ℕ) → looked ≤ length bytes → 2 ≤ length bytes → drop (stop looked bytes) bytes ≡ [] → stop (length (take (stop looked bytes) bytes)) (bytes ++ more) ≡ stop looked (bytes ++ more)
+stop_on : (looked : ℕ) (bytes more : List ℕ) → looked ≤ length bytes → 2 ≤ length bytes
+    → drop (stop looked bytes) bytes ≡ []
+    → stop (length (take (stop looked bytes) bytes)) (bytes ++ more) ≡ stop looked (bytes ++ more)
 stop_on looked bytes more le two none =
     let start = max 2 looked in
     let d = drop start bytes in
@@ -94,12 +109,15 @@ stop_on looked bytes more le two none =
     let here : prefix_len is_passed (drop (max 2 (length bytes)) (bytes ++ more)) ≡ prefix_len is_passed more = ap (λ (k : ℕ). prefix_len is_passed (drop k (bytes ++ more))) big ∙ ap (prefix_len is_passed) (drop-append_seam bytes more) in
     ap (λ (k : ℕ). stop k (bytes ++ more)) len ∙ omega (arith, here, there, big, full, left, le, two)
 
-span_back : (e : Events) (n : ℕ) (k : Kind) (bytes text rest : List ℕ) (after : Events) → IsSpan (onward e e.mode n) k bytes text rest after → IsSpan e k bytes text rest after
+span_back : (e : Events) (n : ℕ) (k : Kind) (bytes text rest : List ℕ) (after : Events)
+    → IsSpan (onward e e.mode n) k bytes text rest after → IsSpan e k bytes text rest after
 span_back e n k bytes text rest after s = record { next = s.next; cuts = s.cuts; maximal = s.maximal; on = s.on }
 
 -- the same with no more looked at, where it stops at the same place
-told_back : (x : Event) (e : Events) (n : ℕ) (bytes text rest : List ℕ) (list : List CsiParam) (after : Events) → stop n bytes ≡ stop e.looked bytes
-    → IsTold x (onward e e.mode n) bytes text rest list after → IsTold x e bytes text rest list after
+told_back : (x : Event) (e : Events) (n : ℕ) (bytes text rest : List ℕ) (list : List CsiParam)
+    (after : Events) → stop n bytes ≡ stop e.looked bytes
+    → IsTold x (onward e e.mode n) bytes text rest list after
+    → IsTold x e bytes text rest list after
 told_back event.Text e n bytes text rest list after same t =
     record { held = t.held; behind = t.behind; span = span_back e n _ bytes (text ++ t.held) t.behind after t.span; holds = t.holds; goes_on = t.goes_on }
 told_back (event.Control b) e n bytes text rest list after same t = let c = t.1 in
@@ -116,8 +134,9 @@ met_within : (e : Events) (bytes : List ℕ) → IsMet e bytes → e.looked ≤ 
 met_within e bytes (inl none) = omega (arith, none)
 met_within e bytes (inr m) = m.1
 
-pub told_at_once : (e waiting after : Events) (bytes more : List ℕ) (told : Told) (list : List CsiParam) → IsMet e bytes → BeginsCsi bytes
-    → Waits e bytes waiting → Tells waiting (bytes ++ more) told list after → Tells e (bytes ++ more) told list after
+pub told_at_once : (e waiting after : Events) (bytes more : List ℕ) (told : Told)
+    (list : List CsiParam) → IsMet e bytes → BeginsCsi bytes → Waits e bytes waiting
+    → Tells waiting (bytes ++ more) told list after → Tells e (bytes ++ more) told list after
 told_at_once e waiting after bytes more told list met begins (inl w) t =
     let o = w.1 in
     let n = length (before_stop e bytes) in

@@ -25,7 +25,8 @@ read_byte b h = grind (arith, nat_tests)
 read_final : (b : ℕ) → IsFinal b → is_read b ≡ true
 read_final b h = grind (arith, nat_tests)
 
-passed_body : (body rest : List ℕ) (f : ℕ) → AllByRecursion IsBodyByte body → IsFinal f → prefix_len is_passed (body ++ f ∷ rest) ≡ length body
+passed_body : (body rest : List ℕ) (f : ℕ) → AllByRecursion IsBodyByte body → IsFinal f
+    → prefix_len is_passed (body ++ f ∷ rest) ≡ length body
 passed_body [] rest f h final = ap (λ (t : Bool). cond t (1 + prefix_len is_passed rest) 0) (passed_final f final)
 passed_body (b ∷ body) rest f h final =
     let first : prefix_len is_passed (b ∷ (body ++ f ∷ rest)) ≡ 1 + prefix_len is_passed (body ++ f ∷ rest) =
@@ -33,7 +34,8 @@ passed_body (b ∷ body) rest f h final =
     let others = passed_body body rest f h.1 final in
     omega (arith, first, others)
 
-read_body : (body : List ℕ) (f : ℕ) → AllByRecursion IsBodyByte body → IsFinal f → filter is_read (body ++ f ∷ []) ≡ body ++ f ∷ []
+read_body : (body : List ℕ) (f : ℕ) → AllByRecursion IsBodyByte body → IsFinal f
+    → filter is_read (body ++ f ∷ []) ≡ body ++ f ∷ []
 read_body [] f h final = ap (λ (t : Bool). cond t (f ∷ []) []) (read_final f final)
 read_body (b ∷ body) f h final =
     let others = filter is_read (body ++ f ∷ []) in
@@ -41,12 +43,14 @@ read_body (b ∷ body) f h final =
 
 -- ---- a whole sequence
 
-pub seq_read : (text : List ℕ) (list : List CsiParam) (final : ℕ) → Seq text list final → without_controls text ≡ text
+pub seq_read : (text : List ℕ) (list : List CsiParam) (final : ℕ) → Seq text list final
+    → without_controls text ≡ text
 seq_read text list final s =
     let body = (IsBody-from_spelling s.body list s.spellable s.spelled).bytes in
     ap without_controls s.whole ∙ ap (λ (l : List ℕ). 27 ∷ 91 ∷ l) (read_body s.body final body s.ends) ∙ sym s.whole
 
-pub at_once : (e : Events) (bytes text rest : List ℕ) (list : List CsiParam) (final : ℕ) → e.looked ≡ 0 → Seq text list final → bytes ≡ text ++ rest → length text ≤ e.limit
+pub at_once : (e : Events) (bytes text rest : List ℕ) (list : List CsiParam) (final : ℕ)
+    → e.looked ≡ 0 → Seq text list final → bytes ≡ text ++ rest → length text ≤ e.limit
     → IsCsi e (before_stop e bytes) (from_stop e bytes) list final text rest (onward e mode.Text 0)
 at_once e bytes text rest list final none s split short =
     let body = (IsBody-from_spelling s.body list s.spellable s.spelled).bytes in

@@ -18,16 +18,21 @@ use Rattle.csicodec_events.specs.Private.Steps.{HasTold, HasWaited}
 use Rattle.csicodec_events.proofs.Steps.{told_on}
 
 -- where no ESC and `[` stand in front no sequence does
-pub no_csi : (bytes text rest : List ℕ) → (BeginsCsi bytes → ⊥) → bytes ≡ text ++ rest → IsSequence text → ⊥
+pub no_csi : (bytes text rest : List ℕ) → (BeginsCsi bytes → ⊥) → bytes ≡ text ++ rest
+    → IsSequence text → ⊥
 no_csi bytes text rest other parts s =
     let seq = s.2 in
     other ((seq.body ++ s.1 ∷ []) ++ rest, parts ∙ ap (λ (x : List ℕ). x ++ rest) seq.whole)
 
 -- ---- spans but text
 
-pub span_told : (e : Events) (bytes : List ℕ) (t : Told) (list : List CsiParam) (after : Events) (m : Mode) (k : Kind) (x : Event) (text rest : List ℕ) → 0 < e.limit → e.looked ≡ 0 → t.event ≡ x
-    → t.bytes.now ≡ take (length text) bytes → t.rest.now ≡ drop (length text) bytes → after ≡ onward e m 0 → Cuts e.limit e.mode bytes k text rest m → IsMaximal k m rest
-    → (IsSpan e k bytes t.bytes.now t.rest.now after → IsTold x e bytes t.bytes.now t.rest.now list after) → HasTold e bytes t list after
+pub span_told : (e : Events) (bytes : List ℕ) (t : Told) (list : List CsiParam) (after : Events)
+    (m : Mode) (k : Kind) (x : Event) (text rest : List ℕ) → 0 < e.limit → e.looked ≡ 0
+    → t.event ≡ x → t.bytes.now ≡ take (length text) bytes → t.rest.now ≡ drop (length text) bytes
+    → after ≡ onward e m 0 → Cuts e.limit e.mode bytes k text rest m → IsMaximal k m rest
+    → (IsSpan e k bytes t.bytes.now t.rest.now after
+    → IsTold x e bytes t.bytes.now t.rest.now list after)
+    → HasTold e bytes t list after
 span_told e bytes t list after m k x text rest limit none is front back on cuts maximal tells =
     let parts = cut_parts e.limit e.mode bytes k text rest m cuts in
     let some = cut_some e.limit e.mode bytes k text rest m limit cuts in
@@ -41,14 +46,18 @@ span_told e bytes t list after m k x text rest limit none is front back on cuts 
     })
 
 -- nothing is sure of the bytes, or they are the beginning of a character
-pub unsure_waits : (e : Events) (bytes : List ℕ) → e.looked ≡ 0 → (BeginsCsi bytes → ⊥) → IsUnsure e.limit e.mode bytes → HasWaited e bytes e
+pub unsure_waits : (e : Events) (bytes : List ℕ) → e.looked ≡ 0 → (BeginsCsi bytes → ⊥)
+    → IsUnsure e.limit e.mode bytes → HasWaited e bytes e
 unsure_waits e bytes none other unsure = record { waits = inr (inr (other, unsure, refl)); again = λ more. inl none; limit = refl }
 
 -- ---- text
 
-pub text_told : (e : Events) (bytes : List ℕ) (t : Told) (list : List CsiParam) (after : Events) (m : Mode) (n : ℕ) (span behind : List ℕ) → e.looked ≡ 0 → t.event ≡ event.Text
-    → t.bytes.now ≡ take n bytes → t.rest.now ≡ drop n bytes → after ≡ onward e m 0 → Cuts e.limit e.mode bytes kind.Text span behind m → IsMaximal kind.Text m behind
-    → n ≤ length span → 0 < n → IsHeld (take n span) (drop n span) behind → HasTold e bytes t list after
+pub text_told : (e : Events) (bytes : List ℕ) (t : Told) (list : List CsiParam) (after : Events)
+    (m : Mode) (n : ℕ) (span behind : List ℕ) → e.looked ≡ 0 → t.event ≡ event.Text
+    → t.bytes.now ≡ take n bytes → t.rest.now ≡ drop n bytes → after ≡ onward e m 0
+    → Cuts e.limit e.mode bytes kind.Text span behind m → IsMaximal kind.Text m behind
+    → n ≤ length span → 0 < n → IsHeld (take n span) (drop n span) behind
+    → HasTold e bytes t list after
 text_told e bytes t list after m n span behind none is front back on cuts maximal le some holds =
     let parts = cut_parts e.limit e.mode bytes kind.Text span behind m cuts in
     let halves = take-append-drop n span in
@@ -64,13 +73,16 @@ text_told e bytes t list after m n span behind none is front back on cuts maxima
       goes_on = back';
     }) (record { parts = rw (front', back') whole; some = omega (arith, long, some); further = omega (arith, long, some, none) })
 
-all_held : (bytes text held behind : List ℕ) → bytes ≡ held ++ behind → 0 < length held → IsHeld text held behind → is_unfinished bytes ≡ true
+all_held : (bytes text held behind : List ℕ) → bytes ≡ held ++ behind → 0 < length held
+    → IsHeld text held behind → is_unfinished bytes ≡ true
 all_held bytes text held [] parts some (inl h) = ap is_unfinished (parts ∙ append-nil held) ∙ h
 all_held bytes text held [] parts some (inr h) = absurd (omega (arith, some, ap length h.0))
 all_held bytes text held (b ∷ behind) parts some h = absurd (omega (arith, some, ap length h))
 
-pub text_waits : (e : Events) (bytes : List ℕ) (m : Mode) (n : ℕ) (span behind : List ℕ) → 0 < e.limit → e.looked ≡ 0 → (BeginsCsi bytes → ⊥) → Cuts e.limit e.mode bytes kind.Text span behind m
-    → n ≡ 0 → IsHeld (take n span) (drop n span) behind → HasWaited e bytes e
+pub text_waits : (e : Events) (bytes : List ℕ) (m : Mode) (n : ℕ) (span behind : List ℕ)
+    → 0 < e.limit → e.looked ≡ 0 → (BeginsCsi bytes → ⊥)
+    → Cuts e.limit e.mode bytes kind.Text span behind m → n ≡ 0
+    → IsHeld (take n span) (drop n span) behind → HasWaited e bytes e
 text_waits e bytes m n span behind limit none other cuts zero holds =
     let parts = cut_parts e.limit e.mode bytes kind.Text span behind m cuts in
     let some = cut_some e.limit e.mode bytes kind.Text span behind m limit cuts in

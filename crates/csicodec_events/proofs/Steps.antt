@@ -11,14 +11,16 @@ use Rattle.csicodec_events.specs.Events.{BeginsCsi, GoesWrong, IsControl, IsCsi,
 use Rattle.csicodec_events.specs.Private.Steps.{HasTold, HasWaited}
 
 -- a sequence stops behind what was looked at, and behind ESC and `[`
-pub stop_behind : (looked : ℕ) (bytes : List ℕ) → (looked ≤ stop looked bytes) × (2 ≤ stop looked bytes)
+pub stop_behind : (looked : ℕ) (bytes : List ℕ)
+    → (looked ≤ stop looked bytes) × (2 ≤ stop looked bytes)
 stop_behind looked bytes = (omega arith, omega arith)
 
 -- what stands before the stop and from there on
 pub record Halves (e : Events) (bytes : List ℕ) : Type 0 where
   pub whole : bytes ≡ before_stop e bytes ++ from_stop e bytes
   pub count : length (before_stop e bytes) + length (from_stop e bytes) ≡ length bytes
-  pub place : stop e.looked bytes ≤ length bytes → length (before_stop e bytes) ≡ stop e.looked bytes
+  pub place : stop e.looked bytes ≤ length bytes
+      → length (before_stop e bytes) ≡ stop e.looked bytes
   pub some : 0 < length (from_stop e bytes) → length (before_stop e bytes) ≡ stop e.looked bytes
 
 pub halves : (e : Events) (bytes : List ℕ) → Halves e bytes
@@ -40,8 +42,10 @@ pub record IsFurther (e : Events) (bytes text rest : List ℕ) : Type 0 where
   pub further : e.looked < 2 * length text
 
 -- an event of such bytes, behind which nothing is looked at
-pub told_on : (e : Events) (bytes : List ℕ) (t : Told) (list : List CsiParam) (after : Events) (m : Mode) (x : Event) → t.event ≡ x → after ≡ onward e m 0
-    → IsTold x e bytes t.bytes.now t.rest.now list after → IsFurther e bytes t.bytes.now t.rest.now → HasTold e bytes t list after
+pub told_on : (e : Events) (bytes : List ℕ) (t : Told) (list : List CsiParam) (after : Events)
+    (m : Mode) (x : Event) → t.event ≡ x → after ≡ onward e m 0
+    → IsTold x e bytes t.bytes.now t.rest.now list after → IsFurther e bytes t.bytes.now t.rest.now
+    → HasTold e bytes t list after
 told_on e bytes t list after m x is on tells f =
     let none : after.looked ≡ 0 = ap (λ (a : Events). a.looked) on in
     let count = ap length f.parts in
@@ -55,8 +59,10 @@ told_on e bytes t list after m x is on tells f =
 
 -- ---- sequences
 
-pub csi_further : (e : Events) (bytes : List ℕ) (list : List CsiParam) (final : ℕ) (text rest : List ℕ) (after : Events)
-    → IsCsi e (before_stop e bytes) (from_stop e bytes) list final text rest after → IsFurther e bytes text rest
+pub csi_further : (e : Events) (bytes : List ℕ) (list : List CsiParam) (final : ℕ)
+    (text rest : List ℕ) (after : Events)
+    → IsCsi e (before_stop e bytes) (from_stop e bytes) list final text rest after
+    → IsFurther e bytes text rest
 csi_further e bytes list final text rest after c =
     let h = halves e bytes in
     let s = stop_behind e.looked bytes in
@@ -69,8 +75,9 @@ csi_further e bytes list final text rest after c =
       further = omega (arith, s.0, place, long, length-append (before_stop e bytes) (c.last ∷ []));
     }
 
-goes_further : (e : Events) (bytes over behind text rest : List ℕ) (m : Mode) → bytes ≡ over ++ behind → e.looked ≤ length over → 2 ≤ length over → GoesWrong over behind text rest m
-    → IsFurther e bytes text rest
+goes_further : (e : Events) (bytes over behind text rest : List ℕ) (m : Mode)
+    → bytes ≡ over ++ behind → e.looked ≤ length over → 2 ≤ length over
+    → GoesWrong over behind text rest m → IsFurther e bytes text rest
 goes_further e bytes over [] text rest m whole looked two g = record {
   parts = whole ∙ rw (g.0, g.1) refl;
   some = omega (arith, two, ap length g.0);
@@ -87,16 +94,20 @@ goes_further e bytes over (b ∷ more) text rest m whole looked two (inr g) = re
   further = omega (arith, looked, two, ap length g.1);
 }
 
-pub wrong_further : (e : Events) (bytes text rest : List ℕ) (after : Events) → stop e.looked bytes ≤ length bytes
-    → IsWrong e (before_stop e bytes) (from_stop e bytes) text rest after → IsFurther e bytes text rest
+pub wrong_further : (e : Events) (bytes text rest : List ℕ) (after : Events)
+    → stop e.looked bytes ≤ length bytes
+    → IsWrong e (before_stop e bytes) (from_stop e bytes) text rest after
+    → IsFurther e bytes text rest
 wrong_further e bytes text rest after within w =
     let h = halves e bytes in
     let s = stop_behind e.looked bytes in
     let place = h.place within in
     goes_further e bytes (before_stop e bytes) (from_stop e bytes) text rest w.next h.whole (omega (arith, s.0, place)) (omega (arith, s.1, place)) w.goes
 
-pub control_told : (e : Events) (bytes : List ℕ) (t : Told) (list : List CsiParam) (after : Events) (b : ℕ) → t.event ≡ event.Control b → BeginsCsi bytes
-    → IsControl e (before_stop e bytes) (from_stop e bytes) b bytes t.bytes.now t.rest.now after → HasTold e bytes t list after
+pub control_told : (e : Events) (bytes : List ℕ) (t : Told) (list : List CsiParam) (after : Events)
+    (b : ℕ) → t.event ≡ event.Control b → BeginsCsi bytes
+    → IsControl e (before_stop e bytes) (from_stop e bytes) b bytes t.bytes.now t.rest.now after
+    → HasTold e bytes t list after
 control_told e bytes t list after b is begins c =
     let h = halves e bytes in
     let s = stop_behind e.looked bytes in
@@ -117,7 +128,8 @@ control_told e bytes t list after b is begins c =
 longer : (bytes more : List ℕ) → BeginsCsi bytes → BeginsCsi (bytes ++ more)
 longer bytes more b = (b.0 ++ more, ap (λ (x : List ℕ). x ++ more) b.1)
 
-pub open_waits : (e : Events) (bytes : List ℕ) (after : Events) → BeginsCsi bytes → IsOpen e (before_stop e bytes) (from_stop e bytes) after → HasWaited e bytes after
+pub open_waits : (e : Events) (bytes : List ℕ) (after : Events) → BeginsCsi bytes
+    → IsOpen e (before_stop e bytes) (from_stop e bytes) after → HasWaited e bytes after
 open_waits e bytes after begins o =
     let h = halves e bytes in
     let looked : after.looked ≡ length (before_stop e bytes) = ap (λ (a : Events). a.looked) o.looked in
@@ -129,14 +141,18 @@ open_waits e bytes after begins o =
 
 -- ---- clause by clause
 
-pub match_both : {T : Type 0} (P : Type 0) (Q : T → Type 0) (R : Type 0) (S : T → Type 0) (o : Option T) → MatchOption o P Q → (P → R) → ((x : T) → Q x → S x) → MatchOption o R S
+pub match_both : {T : Type 0} (P : Type 0) (Q : T → Type 0) (R : Type 0) (S : T → Type 0)
+    (o : Option T) → MatchOption o P Q → (P → R) → ((x : T) → Q x → S x) → MatchOption o R S
 match_both P Q R S None h f g = f h
 match_both P Q R S (Some x) h f g = g x h
 
-pub match_some : {T : Type 0} (P : Type 0) (Q S : T → Type 0) (o : Option T) → MatchOption o P Q → ((x : T) → Q x → S x) → IfSome o S
+pub match_some : {T : Type 0} (P : Type 0) (Q S : T → Type 0) (o : Option T) → MatchOption o P Q
+    → ((x : T) → Q x → S x) → IfSome o S
 match_some P Q S None h g = tt
 match_some P Q S (Some x) h g = g x h
 
-pub match_limit : (e : Events) (bytes : List ℕ) (after : Events) (o : Option Told) → MatchOption o (HasWaited e bytes after) (λ (t : Told). HasTold e bytes t [] after) → after.limit ≡ e.limit
+pub match_limit : (e : Events) (bytes : List ℕ) (after : Events) (o : Option Told)
+    → MatchOption o (HasWaited e bytes after) (λ (t : Told). HasTold e bytes t [] after)
+    → after.limit ≡ e.limit
 match_limit e bytes after None h = h.limit
 match_limit e bytes after (Some t) h = h.limit

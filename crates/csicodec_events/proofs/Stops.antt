@@ -16,10 +16,13 @@ use Rattle.csicodec_events.proofs.Sequences.{at_once}
 use Rattle.csicodec_events.proofs.Steps.{control_told, csi_further, halves, open_waits, told_on, wrong_further}
 
 -- all of the bytes are read
-pub whole_reads : (read bytes : List ℕ) (list : List CsiParam) (final : ℕ) → read ≡ without_controls bytes → Seq (without_controls bytes) list final → Reads read list final []
+pub whole_reads : (read bytes : List ℕ) (list : List CsiParam) (final : ℕ)
+    → read ≡ without_controls bytes → Seq (without_controls bytes) list final
+    → Reads read list final []
 whole_reads read bytes list final e s = (read, subst (λ (x : List ℕ). Seq x list final) (sym e) s, sym (append-nil read))
 
-pub first_and_others : (bytes : List ℕ) → 1 ≤ length bytes → bytes ≡ slice_index_or bytes 0 0 ∷ drop 1 bytes
+pub first_and_others : (bytes : List ℕ) → 1 ≤ length bytes
+    → bytes ≡ slice_index_or bytes 0 0 ∷ drop 1 bytes
 first_and_others [] some = absurd (omega (arith, some))
 first_and_others (b ∷ bytes) some = refl
 
@@ -30,7 +33,8 @@ pub record Next (bytes : List ℕ) (at b : ℕ) (more : List ℕ) : Type 0 where
   pub back : drop (at + 1) bytes ≡ more
   pub len : length (take at bytes) ≡ at
 
-pub next_place : (bytes : List ℕ) (at b : ℕ) (more : List ℕ) → drop at bytes ≡ b ∷ more → Next bytes at b more
+pub next_place : (bytes : List ℕ) (at b : ℕ) (more : List ℕ) → drop at bytes ≡ b ∷ more
+    → Next bytes at b more
 next_place bytes at b more e =
     let front = take at bytes in
     let len : length front ≡ at = omega (arith, length-take at bytes, length-drop at bytes, ap length e) in
@@ -45,8 +49,11 @@ next_place bytes at b more e =
 
 -- ---- a sequence that is read at once
 
-pub read_told : (e : Events) (bytes tail : List ℕ) (list : List CsiParam) (final : ℕ) (t : Told) (after : Events) → e.looked ≡ 0 → BeginsCsi bytes → Reads (take e.limit bytes) list final tail
-    → t.event ≡ event.Csi final → t.bytes.now ≡ take (length (take e.limit bytes) - length tail) bytes → t.rest.now ≡ drop (length (take e.limit bytes) - length tail) bytes
+pub read_told : (e : Events) (bytes tail : List ℕ) (list : List CsiParam) (final : ℕ) (t : Told)
+    (after : Events) → e.looked ≡ 0 → BeginsCsi bytes → Reads (take e.limit bytes) list final tail
+    → t.event ≡ event.Csi final
+    → t.bytes.now ≡ take (length (take e.limit bytes) - length tail) bytes
+    → t.rest.now ≡ drop (length (take e.limit bytes) - length tail) bytes
     → after ≡ onward e mode.Text 0 → HasTold e bytes t list after
 read_told e bytes tail list final t after none begins r is front back on =
     let n = length (take e.limit bytes) - length tail in
@@ -57,9 +64,13 @@ read_told e bytes tail list final t after none begins r is front back on =
 
 -- ---- a sequence with controls in it
 
-pub csi_told : (e : Events) (bytes : List ℕ) (list : List CsiParam) (b final : ℕ) (more : List ℕ) (t : Told) (after : Events) → BeginsCsi bytes → from_stop e bytes ≡ b ∷ more → stop e.looked bytes < e.limit
-    → Seq (without_controls (take (stop e.looked bytes + 1) bytes)) list final → t.event ≡ event.Csi final → t.bytes.now ≡ take (stop e.looked bytes + 1) bytes
-    → t.rest.now ≡ drop (stop e.looked bytes + 1) bytes → after ≡ onward e mode.Text 0 → HasTold e bytes t list after
+pub csi_told : (e : Events) (bytes : List ℕ) (list : List CsiParam) (b final : ℕ) (more : List ℕ)
+    (t : Told) (after : Events) → BeginsCsi bytes → from_stop e bytes ≡ b ∷ more
+    → stop e.looked bytes < e.limit
+    → Seq (without_controls (take (stop e.looked bytes + 1) bytes)) list final
+    → t.event ≡ event.Csi final → t.bytes.now ≡ take (stop e.looked bytes + 1) bytes
+    → t.rest.now ≡ drop (stop e.looked bytes + 1) bytes → after ≡ onward e mode.Text 0
+    → HasTold e bytes t list after
 csi_told e bytes list b final more t after begins stands low seq is front back on =
     let n = next_place bytes (stop e.looked bytes) b more stands in
     let here : IsCsi e (before_stop e bytes) (from_stop e bytes) list final t.bytes.now t.rest.now after = record {
@@ -72,8 +83,11 @@ csi_told e bytes list b final more t after begins stands low seq is front back o
     } in
     told_on e bytes t list after mode.Text (event.Csi final) is on (begins, here) (csi_further e bytes list final t.bytes.now t.rest.now after here)
 
-pub control_stops : (e : Events) (bytes : List ℕ) (list : List CsiParam) (b : ℕ) (more : List ℕ) (t : Told) (after : Events) → BeginsCsi bytes → from_stop e bytes ≡ b ∷ more → stop e.looked bytes < e.limit
-    → is_control b ≡ true → t.event ≡ event.Control b → t.bytes.now ≡ [] → t.rest.now ≡ bytes → after ≡ onward e e.mode (stop e.looked bytes + 1) → HasTold e bytes t list after
+pub control_stops : (e : Events) (bytes : List ℕ) (list : List CsiParam) (b : ℕ) (more : List ℕ)
+    (t : Told) (after : Events) → BeginsCsi bytes → from_stop e bytes ≡ b ∷ more
+    → stop e.looked bytes < e.limit → is_control b ≡ true → t.event ≡ event.Control b
+    → t.bytes.now ≡ [] → t.rest.now ≡ bytes → after ≡ onward e e.mode (stop e.looked bytes + 1)
+    → HasTold e bytes t list after
 control_stops e bytes list b more t after begins stands low control is none rest on =
     let n = next_place bytes (stop e.looked bytes) b more stands in
     control_told e bytes t list after b is begins (record {
@@ -88,37 +102,51 @@ control_stops e bytes list b more t after begins stands low control is none rest
 
 -- ---- what goes wrong
 
-pub wrong_told : (e : Events) (bytes : List ℕ) (t : Told) (list : List CsiParam) (after : Events) (m : Mode) (n : ℕ) → stop e.looked bytes ≤ length bytes → BeginsCsi bytes
-    → IsWrongAt e.limit (before_stop e bytes) (from_stop e bytes) → t.event ≡ event.Other → t.bytes.now ≡ take n bytes → t.rest.now ≡ drop n bytes → after ≡ onward e m 0
-    → GoesWrong (before_stop e bytes) (from_stop e bytes) (take n bytes) (drop n bytes) m → HasTold e bytes t list after
+pub wrong_told : (e : Events) (bytes : List ℕ) (t : Told) (list : List CsiParam) (after : Events)
+    (m : Mode) (n : ℕ) → stop e.looked bytes ≤ length bytes → BeginsCsi bytes
+    → IsWrongAt e.limit (before_stop e bytes) (from_stop e bytes) → t.event ≡ event.Other
+    → t.bytes.now ≡ take n bytes → t.rest.now ≡ drop n bytes → after ≡ onward e m 0
+    → GoesWrong (before_stop e bytes) (from_stop e bytes) (take n bytes) (drop n bytes) m
+    → HasTold e bytes t list after
 wrong_told e bytes t list after m n within begins why is front back on goes =
     let here : IsWrong e (before_stop e bytes) (from_stop e bytes) t.bytes.now t.rest.now after = record { next = m; why = why; goes = rw (front, back) goes; on = on } in
     told_on e bytes t list after m event.Other is on (inr (begins, here)) (wrong_further e bytes t.bytes.now t.rest.now after within here)
 
-pub goes_final : (bytes : List ℕ) (at b : ℕ) (more : List ℕ) → drop at bytes ≡ b ∷ more → is_final b ≡ true → GoesWrong (take at bytes) (drop at bytes) (take (at + 1) bytes) (drop (at + 1) bytes) mode.Text
+pub goes_final : (bytes : List ℕ) (at b : ℕ) (more : List ℕ) → drop at bytes ≡ b ∷ more
+    → is_final b ≡ true
+    → GoesWrong (take at bytes) (drop at bytes) (take (at + 1) bytes)
+    (drop (at + 1) bytes) mode.Text
 goes_final bytes at b more e final =
     let n = next_place bytes at b more e in
     subst (λ (x : List ℕ). GoesWrong (take at bytes) x (take (at + 1) bytes) (drop (at + 1) bytes) mode.Text) (sym e) (inl (final, n.front, n.back, refl))
 
-pub goes_byte : (bytes : List ℕ) (at b : ℕ) (more : List ℕ) → drop at bytes ≡ b ∷ more → is_final b ≡ false → GoesWrong (take at bytes) (drop at bytes) (take at bytes) (drop at bytes) mode.BadCsi
+pub goes_byte : (bytes : List ℕ) (at b : ℕ) (more : List ℕ) → drop at bytes ≡ b ∷ more
+    → is_final b ≡ false
+    → GoesWrong (take at bytes) (drop at bytes) (take at bytes) (drop at bytes) mode.BadCsi
 goes_byte bytes at b more e other = subst (λ (x : List ℕ). GoesWrong (take at bytes) x (take at bytes) (drop at bytes) mode.BadCsi) (sym e) (inr (other, refl, e, refl))
 
-pub goes_end : (bytes : List ℕ) (at : ℕ) → drop at bytes ≡ [] → GoesWrong (take at bytes) (drop at bytes) (take at bytes) (drop at bytes) mode.BadCsi
+pub goes_end : (bytes : List ℕ) (at : ℕ) → drop at bytes ≡ []
+    → GoesWrong (take at bytes) (drop at bytes) (take at bytes) (drop at bytes) mode.BadCsi
 goes_end bytes at e = subst (λ (x : List ℕ). GoesWrong (take at bytes) x (take at bytes) (drop at bytes) mode.BadCsi) (sym e) (refl, e, refl)
 
-pub too_long : (limit : ℕ) (over behind : List ℕ) → limit ≤ length over → IsWrongAt limit over behind
+pub too_long : (limit : ℕ) (over behind : List ℕ) → limit ≤ length over
+    → IsWrongAt limit over behind
 too_long limit over [] le = le
 too_long limit over (b ∷ more) le = λ lt. absurd (omega (arith, le, lt))
 
-pub no_sequence : (limit : ℕ) (bytes : List ℕ) (at b : ℕ) (more : List ℕ) → drop at bytes ≡ b ∷ more → is_control b ≡ false
-    → ((list : List CsiParam) (final : ℕ) → Seq (without_controls (take (at + 1) bytes)) list final → ⊥) → IsWrongAt limit (take at bytes) (drop at bytes)
+pub no_sequence : (limit : ℕ) (bytes : List ℕ) (at b : ℕ) (more : List ℕ) → drop at bytes ≡ b ∷ more
+    → is_control b ≡ false
+    → ((list : List CsiParam) (final : ℕ)
+    → Seq (without_controls (take (at + 1) bytes)) list final → ⊥)
+    → IsWrongAt limit (take at bytes) (drop at bytes)
 no_sequence limit bytes at b more e other none =
     let n = next_place bytes at b more e in
     subst (λ (x : List ℕ). IsWrongAt limit (take at bytes) x) (sym e) (λ lt. (other, λ list final s. none list final (subst (λ (x : List ℕ). Seq (without_controls x) list final) (sym n.front) s)))
 
 -- ---- what waits
 
-pub stops_at_end : (e : Events) (bytes : List ℕ) (after : Events) → BeginsCsi bytes → from_stop e bytes ≡ [] → stop e.looked bytes ≤ length bytes → stop e.looked bytes < e.limit
+pub stops_at_end : (e : Events) (bytes : List ℕ) (after : Events) → BeginsCsi bytes
+    → from_stop e bytes ≡ [] → stop e.looked bytes ≤ length bytes → stop e.looked bytes < e.limit
     → after ≡ onward e e.mode (stop e.looked bytes) → HasWaited e bytes after
 stops_at_end e bytes after begins ends within low on =
     let place = (halves e bytes).place within in

@@ -5,7 +5,8 @@ use Rattle.csicodec_events.specs.Characters.{EndsWhole, is_unfinished}
 use Rattle.csicodec_events.specs.Events.{IsHeld}
 
 -- at the end of the bytes
-pub held_at_end : (span behind : List ℕ) (n : ℕ) → length behind ≡ 0 → (0 < n → is_unfinished (drop (length span - n) span) ≡ true) → (n ≡ 0 → EndsWhole span)
+pub held_at_end : (span behind : List ℕ) (n : ℕ) → length behind ≡ 0
+    → (0 < n → is_unfinished (drop (length span - n) span) ≡ true) → (n ≡ 0 → EndsWhole span)
     → IsHeld (take (length span - n) span) (drop (length span - n) span) behind
 held_at_end span (b ∷ behind) n end some none = absurd (omega (arith, end))
 held_at_end span [] n end some none = elim (cases_lt 0 n) [

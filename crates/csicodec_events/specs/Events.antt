@@ -63,7 +63,8 @@ pub record IsOpen (e : Events) (over behind : List ℕ) (after : Events) : Type 
   pub looked : after ≡ onward e e.mode (length over)
 
 -- A control stands there: it is told, no byte is used, and all up to it have been looked at.
-pub record IsControl (e : Events) (over behind : List ℕ) (b : ℕ) (bytes text rest : List ℕ) (after : Events) : Type 0 where
+pub record IsControl (e : Events) (over behind : List ℕ) (b : ℕ) (bytes text rest : List ℕ)
+    (after : Events) : Type 0 where
   pub more : List ℕ
   pub stands : behind ≡ b ∷ more
   pub control : is_control b ≡ true
@@ -73,7 +74,8 @@ pub record IsControl (e : Events) (over behind : List ℕ) (b : ℕ) (bytes text
   pub looked : after ≡ onward e e.mode (length over + 1)
 
 -- Without its controls what stands up to there is a sequence of this list and this final byte.
-pub record IsCsi (e : Events) (over behind : List ℕ) (list : List CsiParam) (final : ℕ) (text rest : List ℕ) (after : Events) : Type 0 where
+pub record IsCsi (e : Events) (over behind : List ℕ) (list : List CsiParam) (final : ℕ)
+    (text rest : List ℕ) (after : Events) : Type 0 where
   pub last : ℕ
   pub stands : behind ≡ last ∷ rest
   pub whole : text ≡ over ++ last ∷ []
@@ -85,7 +87,8 @@ pub record IsCsi (e : Events) (over behind : List ℕ) (list : List CsiParam) (f
 abbrev pub IsWrongAt : ℕ → List ℕ → List ℕ → Type 0
 IsWrongAt limit over [] = limit ≤ length over
 IsWrongAt limit over (b ∷ more) = length over < limit
-    → (is_control b ≡ false) × ((list : List CsiParam) (final : ℕ) → Seq (without_controls (over ++ b ∷ [])) list final → ⊥)
+    → (is_control b ≡ false)
+    × ((list : List CsiParam) (final : ℕ) → Seq (without_controls (over ++ b ∷ [])) list final → ⊥)
 
 -- How far what goes wrong goes: up to a final byte there, and with it; else up to there, and it may go on.
 abbrev pub GoesWrong : List ℕ → List ℕ → List ℕ → List ℕ → Mode → Type 0
@@ -94,7 +97,7 @@ GoesWrong over (b ∷ more) text rest m =
     ((is_final b ≡ true) × (text ≡ over ++ b ∷ []) × (rest ≡ more) × (m ≡ mode.Text))
     ⊎ ((is_final b ≡ false) × (text ≡ over) × (rest ≡ b ∷ more) × (m ≡ mode.BadCsi))
 
-pub record IsWrong (e : Events) (over behind : List ℕ) (text rest : List ℕ) (after : Events) : Type 0 where
+pub record IsWrong (e : Events) (over behind text rest : List ℕ) (after : Events) : Type 0 where
   pub next : Mode
   pub why : IsWrongAt e.limit over behind
   pub goes : GoesWrong over behind text rest next
@@ -127,8 +130,10 @@ pub record IsText (e : Events) (bytes text rest : List ℕ) (after : Events) : T
 -- The event of these bytes, with the tokens of a sequence; the bytes behind it; and how it goes on.
 abbrev pub IsTold : Event → Events → List ℕ → List ℕ → List ℕ → List CsiParam → Events → Type 0
 IsTold event.Text e bytes text rest list after = IsText e bytes text rest after
-IsTold (event.Control b) e bytes text rest list after = BeginsCsi bytes × IsControl e (before_stop e bytes) (from_stop e bytes) b bytes text rest after
-IsTold (event.Csi final) e bytes text rest list after = BeginsCsi bytes × IsCsi e (before_stop e bytes) (from_stop e bytes) list final text rest after
+IsTold (event.Control b) e bytes text rest list after = BeginsCsi bytes
+    × IsControl e (before_stop e bytes) (from_stop e bytes) b bytes text rest after
+IsTold (event.Csi final) e bytes text rest list after = BeginsCsi bytes
+    × IsCsi e (before_stop e bytes) (from_stop e bytes) list final text rest after
 IsTold event.Esc e bytes text rest list after = IsSpan e kind.Esc bytes text rest after
 IsTold event.Str e bytes text rest list after = IsSpan e kind.Str bytes text rest after
 IsTold event.Other e bytes text rest list after =
@@ -164,12 +169,14 @@ bytes_of told = told.bytes.now
 -- events one after the other, each in front of what those before it left
 abbrev pub AreTold : Events → List ℕ → List Told → List ℕ → Events → Type 0
 AreTold e bytes [] rest after = (rest ≡ bytes) × (after ≡ e)
-AreTold e bytes (t ∷ told) rest after = (list : List CsiParam) × (mid : Events) × Tells e bytes t list mid × AreTold mid t.rest.now told rest after
+AreTold e bytes (t ∷ told) rest after = (list : List CsiParam) × (mid : Events)
+    × Tells e bytes t list mid × AreTold mid t.rest.now told rest after
 
 -- A stream that comes chunk by chunk: events are told of each with what the ones before it left, until it waits, and what is left
 -- is passed on.
 abbrev pub InChunks : Events → List ℕ → List (List ℕ) → List Told → List ℕ → Events → Type 0
 InChunks e held [] told rest after = (told ≡ []) × (rest ≡ held) × (after ≡ e)
 InChunks e held (chunk ∷ chunks) told rest after =
-    (now : List Told) × (later : List Told) × (kept : List ℕ) × (mid : Events) × (waiting : Events) × (told ≡ now ++ later)
-    × AreTold e (held ++ chunk) now kept mid × Waits mid kept waiting × InChunks waiting kept chunks later rest after
+    (now : List Told) × (later : List Told) × (kept : List ℕ) × (mid : Events) × (waiting : Events)
+    × (told ≡ now ++ later) × AreTold e (held ++ chunk) now kept mid × Waits mid kept waiting
+    × InChunks waiting kept chunks later rest after

@@ -91,7 +91,9 @@ linux (b ∷ bytes) = if is_printable b then form.Whole (input.Linux b) 4 else f
 -- behind one digit and another byte
 abbrev pub two_digits : ℕ → ℕ → List ℕ → Form
 two_digits a b [] = if is_digit b then form.Unsure else form.AsOutput
-two_digits a b (c ∷ bytes) = if is_digit b && c == 36 then form.Whole (input.Rxvt (10 * (a - 48) + (b - 48))) 5 else form.AsOutput
+two_digits a b (c ∷ bytes) =
+    if is_digit b && c == 36 then form.Whole (input.Rxvt (10 * (a - 48) + (b - 48))) 5 else
+    form.AsOutput
 
 abbrev pub rxvt : ℕ → List ℕ → Form
 rxvt a [] = form.Unsure
@@ -142,8 +144,10 @@ in_input d m (b ∷ bytes) = if b == 27 then behind_escape d m bytes else form.A
 -- of a stream, of whose control sequence in front so many bytes were looked at
 abbrev pub ahead : Dialect → Mode → ℕ → List ℕ → Form
 ahead dialect.Output m looked bytes = form.AsOutput
-ahead dialect.Input m looked bytes = if looked == 0 then in_input dialect.Input m bytes else form.AsOutput
-ahead dialect.Utf8Input m looked bytes = if looked == 0 then in_input dialect.Utf8Input m bytes else form.AsOutput
+ahead dialect.Input m looked bytes =
+    if looked == 0 then in_input dialect.Input m bytes else form.AsOutput
+ahead dialect.Utf8Input m looked bytes =
+    if looked == 0 then in_input dialect.Utf8Input m bytes else form.AsOutput
 
 -- Where the caller says that no more comes for now: a lone ESC, or ESC and one byte of ASCII.
 abbrev pub paused : List ℕ → Form
@@ -155,14 +159,18 @@ paused (a ∷ b ∷ c ∷ bytes) = form.Unsure
 -- ---- the events
 
 -- The event of these bytes, and the bytes behind it.
-abbrev pub IsSentBy : Form → Events → List ℕ → InputEvent → List ℕ → List ℕ → List CsiParam → Events → Type 0
+abbrev pub IsSentBy : Form → Events → List ℕ → InputEvent → List ℕ → List ℕ → List CsiParam → Events
+    → Type 0
 IsSentBy (form.Whole i n) e bytes event text rest list after =
     (event ≡ i) × (text ≡ take n bytes) × (rest ≡ drop n bytes) × (after ≡ onward e mode.Text 0)
-IsSentBy form.AsOutput e bytes event text rest list after = (told : Event) × (event ≡ input.Output told) × IsTold told e bytes text rest list after
+IsSentBy form.AsOutput e bytes event text rest list after =
+    (told : Event) × (event ≡ input.Output told) × IsTold told e bytes text rest list after
 IsSentBy form.Unsure e bytes event text rest list after = ⊥
 
-abbrev pub IsSent : Dialect → Events → List ℕ → InputEvent → List ℕ → List ℕ → List CsiParam → Events → Type 0
-IsSent d e bytes event text rest list after = IsSentBy (ahead d e.mode e.looked bytes) e bytes event text rest list after
+abbrev pub IsSent : Dialect → Events → List ℕ → InputEvent → List ℕ → List ℕ → List CsiParam
+    → Events → Type 0
+IsSent d e bytes event text rest list after =
+    IsSentBy (ahead d e.mode e.looked bytes) e bytes event text rest list after
 
 -- Nothing is told before more bytes come.
 abbrev pub AwaitsBy : Form → Events → List ℕ → Events → Type 0
@@ -188,12 +196,16 @@ bytes_of sent = sent.bytes.now
 abbrev pub AreSent : Dialect → Events → List ℕ → List Sent → List ℕ → Events → Type 0
 AreSent d e bytes [] rest after = (rest ≡ bytes) × (after ≡ e)
 AreSent d e bytes (t ∷ sent) rest after =
-    (list : List CsiParam) × (mid : Events) × IsSent d e bytes t.event t.bytes.now t.rest.now list mid × AreSent d mid t.rest.now sent rest after
+    (list : List CsiParam) × (mid : Events)
+    × IsSent d e bytes t.event t.bytes.now t.rest.now list mid
+    × AreSent d mid t.rest.now sent rest after
 
 -- A stream that comes chunk by chunk: events are told of each with what the ones before it left, until it waits, and what is left
 -- is passed on.
-abbrev pub InputChunks : Dialect → Events → List ℕ → List (List ℕ) → List Sent → List ℕ → Events → Type 0
+abbrev pub InputChunks : Dialect → Events → List ℕ → List (List ℕ) → List Sent → List ℕ → Events
+    → Type 0
 InputChunks d e held [] sent rest after = (sent ≡ []) × (rest ≡ held) × (after ≡ e)
 InputChunks d e held (chunk ∷ chunks) sent rest after =
-    (now : List Sent) × (later : List Sent) × (kept : List ℕ) × (mid : Events) × (waiting : Events) × (sent ≡ now ++ later)
-    × AreSent d e (held ++ chunk) now kept mid × Awaits d mid kept waiting × InputChunks d waiting kept chunks later rest after
+    (now : List Sent) × (later : List Sent) × (kept : List ℕ) × (mid : Events) × (waiting : Events)
+    × (sent ≡ now ++ later) × AreSent d e (held ++ chunk) now kept mid × Awaits d mid kept waiting
+    × InputChunks d waiting kept chunks later rest after

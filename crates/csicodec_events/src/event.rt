@@ -109,10 +109,12 @@ impl Events {
     fn text<'a>(&mut self, bytes: &'a [u8], cut: Cut<'a>) -> Option<Told<'a>>
         requires limit { 0 < self.old.limit }
         requires other { BeginsCsi bytes.now → ⊥ }
-        requires cut { Cuts self.old.limit self.old.mode bytes.now kinds.Text cut.span.bytes.now cut.rest.now cut.mode }
+        requires cut { Cuts self.old.limit self.old.mode bytes.now kinds.Text cut.span.bytes.now
+            cut.rest.now cut.mode }
         requires maximal { IsMaximal kinds.Text cut.mode cut.rest.now }
         requires looked { self.old.looked ≡ 0 }
-        ensures { (list : List CsiParam) → MatchOption result (HasWaited self.old bytes.now self.new)
+        ensures { (list : List CsiParam)
+            → MatchOption result (HasWaited self.old bytes.now self.new)
             (λ t. HasTold self.old bytes.now t list self.new) }
     {
         let len = cut.span.bytes.len() - held_len(cut.span.bytes, cut.rest);
@@ -127,7 +129,8 @@ impl Events {
         requires limit { 0 < self.old.limit }
         requires other { BeginsCsi bytes.now → ⊥ }
         requires looked { self.old.looked ≡ 0 }
-        ensures { (list : List CsiParam) → MatchOption result (HasWaited self.old bytes.now self.new)
+        ensures { (list : List CsiParam)
+            → MatchOption result (HasWaited self.old bytes.now self.new)
             (λ t. HasTold self.old bytes.now t list self.new) }
     {
         let Some(cut) = next_span(self.limit, self.mode, bytes) else {
@@ -169,9 +172,12 @@ impl Events {
         // Its bytes and the rest are the bytes.
         ensures parts { IfOk result (λ o. IfSome o (λ t. bytes.now ≡ t.bytes.now ++ t.rest.now)) }
         // Each event uses bytes, or looks at more.
-        ensures progress { IfOk result (λ o. IfSome o (λ t. left self.new t.rest.now < left self.old bytes.now)) }
+        ensures progress { IfOk result (λ o. IfSome o (λ t.
+            left self.new t.rest.now < left self.old bytes.now)) }
         // It goes on behind the event, or with the same bytes and more.
-        ensures again { IfOk result (λ o. MatchOption o ((more : List ℕ) → IsMet self.new (bytes.now ++ more)) (λ t. IsMet self.new t.rest.now)) }
+        ensures again { IfOk result (λ o. MatchOption o
+            ((more : List ℕ) → IsMet self.new (bytes.now ++ more))
+            (λ t. IsMet self.new t.rest.now)) }
         ensures limit { OnOk result (self.new.limit ≡ self.old.limit) }
         ensures memory { OnErr result (self.new ≡ self.old) }
     {

@@ -441,13 +441,17 @@ impl Events {
         requires met { IsMet self.old bytes.now }
         // The event is the one that the rules of the dialect say, or nothing is told before more bytes come.
         ensures sends { IfOk result (λ o. MatchOption o (Awaits dialect self.old bytes.now self.new)
-            (λ t. IsSent dialect self.old bytes.now t.event t.bytes.now t.rest.now params.new.items self.new)) }
+            (λ t. IsSent dialect self.old bytes.now t.event t.bytes.now t.rest.now
+            params.new.items self.new)) }
         // Its bytes and the rest are the bytes.
         ensures parts { IfOk result (λ o. IfSome o (λ t. bytes.now ≡ t.bytes.now ++ t.rest.now)) }
         // Each event uses bytes, or looks at more.
-        ensures progress { IfOk result (λ o. IfSome o (λ t. left self.new t.rest.now < left self.old bytes.now)) }
+        ensures progress { IfOk result (λ o. IfSome o (λ t.
+            left self.new t.rest.now < left self.old bytes.now)) }
         // It goes on behind the event, or with the same bytes and more.
-        ensures again { IfOk result (λ o. MatchOption o ((more : List ℕ) → IsMet self.new (bytes.now ++ more)) (λ t. IsMet self.new t.rest.now)) }
+        ensures again { IfOk result (λ o. MatchOption o
+            ((more : List ℕ) → IsMet self.new (bytes.now ++ more))
+            (λ t. IsMet self.new t.rest.now)) }
         ensures limit { OnOk result (self.new.limit ≡ self.old.limit) }
         ensures memory { OnErr result (self.new ≡ self.old) }
     {
@@ -470,7 +474,8 @@ impl Events {
     pub fn pause<'a>(&mut self, bytes: &'a [u8]) -> Option<Sent<'a>>
         requires met { IsMet self.old bytes.now }
         ensures sends { MatchOption result (paused bytes.now ≡ Unsure)
-            (λ t. IsSentBy (paused bytes.now) self.old bytes.now t.event t.bytes.now t.rest.now [] self.new) }
+            (λ t. IsSentBy (paused bytes.now) self.old bytes.now t.event t.bytes.now t.rest.now
+            [] self.new) }
         ensures parts { IfSome result (λ t. bytes.now ≡ t.bytes.now ++ t.rest.now) }
         ensures progress { IfSome result (λ t. left self.new t.rest.now < left self.old bytes.now) }
         ensures again { IfSome result (λ t. IsMet self.new t.rest.now) }

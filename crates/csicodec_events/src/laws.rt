@@ -16,36 +16,40 @@ ghost use Rattle.csicodec_events.specs.Events.{BeginsCsi, InChunks, IsMet, IsTol
 #[tactic(auto, using(crate::proofs::Run::chunks_joined))]
 pub fn joined()
     ensures { (e after : Events) (held rest : List ℕ) (chunks : List (List ℕ)) (told : List Told) →
-        InChunks e held chunks told rest after → held ++ concat chunks ≡ flat_map bytes_of told ++ rest }
+        InChunks e held chunks told rest after
+        → held ++ concat chunks ≡ flat_map bytes_of told ++ rest }
 {}
 
 /// What is told of a control sequence that waited is told of it where it comes at once.
 #[tactic(auto, using(crate::proofs::Run::told_at_once))]
 pub fn waited()
-    ensures { (e waiting after : Events) (bytes more : List ℕ) (told : Told) (list : List CsiParam) →
-        IsMet e bytes → BeginsCsi bytes → Waits e bytes waiting → Tells waiting (bytes ++ more) told list after → Tells e (bytes ++ more) told list after }
+    ensures { (e waiting after : Events) (bytes more : List ℕ) (told : Told) (list : List CsiParam)
+        → IsMet e bytes → BeginsCsi bytes → Waits e bytes waiting
+        → Tells waiting (bytes ++ more) told list after → Tells e (bytes ++ more) told list after }
 {}
 
 /// What is told of a control sequence, a control in it or the whole, stays, whatever bytes come later.
 pub fn stays()
-    ensures control { (e after : Events) (bytes text rest more : List ℕ) (list : List CsiParam) (b : ℕ) →
-        IsTold (event.Control b) e bytes text rest list after →
-        IsTold (event.Control b) e (bytes ++ more) text (rest ++ more) list after }
-    ensures csi { (e after : Events) (bytes text rest more : List ℕ) (list : List CsiParam) (final : ℕ) →
-        IsTold (event.Csi final) e bytes text rest list after →
-        IsTold (event.Csi final) e (bytes ++ more) text (rest ++ more) list after }
+    ensures control { (e after : Events) (bytes text rest more : List ℕ) (list : List CsiParam)
+        (b : ℕ) → IsTold (event.Control b) e bytes text rest list after
+        → IsTold (event.Control b) e (bytes ++ more) text (rest ++ more) list after }
+    ensures csi { (e after : Events) (bytes text rest more : List ℕ) (list : List CsiParam)
+        (final : ℕ) → IsTold (event.Csi final) e bytes text rest list after
+        → IsTold (event.Csi final) e (bytes ++ more) text (rest ++ more) list after }
 {}
 
 /// In either dialect, and in whatever chunks a stream comes, the bytes of its events joined, and then what waits, are its bytes.
 #[tactic(auto, using(crate::proofs::Forms::sent_joined))]
 pub fn sent_joined()
-    ensures { (d : Dialect) (e after : Events) (held rest : List ℕ) (chunks : List (List ℕ)) (sent : List Sent) →
-        InputChunks d e held chunks sent rest after → held ++ concat chunks ≡ flat_map sent_bytes sent ++ rest }
+    ensures { (d : Dialect) (e after : Events) (held rest : List ℕ) (chunks : List (List ℕ))
+        (sent : List Sent) → InputChunks d e held chunks sent rest after
+        → held ++ concat chunks ≡ flat_map sent_bytes sent ++ rest }
 {}
 
 /// What stands in front of input stays once it is sure, whatever bytes come later: so it doesn't depend on the chunks.
 #[tactic(auto, using(crate::proofs::Forms::ahead_stays))]
 pub fn sure_stays()
     ensures { (d : Dialect) (m : Mode) (looked : ℕ) (bytes more : List ℕ) →
-        IsSure (ahead d m looked bytes) → ahead d m looked (bytes ++ more) ≡ ahead d m looked bytes }
+        IsSure (ahead d m looked bytes)
+        → ahead d m looked (bytes ++ more) ≡ ahead d m looked bytes }
 {}

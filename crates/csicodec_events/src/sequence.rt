@@ -108,7 +108,8 @@ impl Events {
     ) -> Result<Option<Told<'a>>, AllocError>
         requires begins { BeginsCsi bytes.now }
         requires looked { self.old.looked ≡ 0 }
-        ensures some { IfOk result (λ o. IfSome o (λ t. HasTold self.old bytes.now t params.new.items self.new)) }
+        ensures some { IfOk result (λ o. IfSome o (λ t.
+            HasTold self.old bytes.now t params.new.items self.new)) }
         ensures none { IfOk result (λ o. IfNone o (self.new ≡ self.old)) }
         ensures memory { OnErr result (self.new ≡ self.old) }
     {
@@ -131,7 +132,8 @@ impl Events {
         requires met { self.old.looked ≤ length bytes.now }
         requires place { at ≡ stop self.old.looked bytes.now }
         requires within { at ≤ length bytes.now }
-        requires why { IsWrongAt self.old.limit (before_stop self.old bytes.now) (from_stop self.old bytes.now) }
+        requires why { IsWrongAt self.old.limit (before_stop self.old bytes.now)
+            (from_stop self.old bytes.now) }
         ensures { (list : List CsiParam) → HasTold self.old bytes.now result list self.new }
     {
         match bytes.split_at(at).1 {

@@ -49,8 +49,10 @@ fn is_unfinished(bytes: &[u8]) -> bool
 
 /// Whether the last bytes, so many, are the beginning of a character.
 fn ends_unfinished(text: &[u8], len: usize) -> bool
-    ensures yes { result ≡ true → (len ≤ length text.now) × (is_unfinished (drop (length text.now - len) text.now) ≡ true) }
-    ensures none { result ≡ false → len ≤ length text.now → is_unfinished (drop (length text.now - len) text.now) ≡ false }
+    ensures yes { result ≡ true → (len ≤ length text.now)
+        × (is_unfinished (drop (length text.now - len) text.now) ≡ true) }
+    ensures none { result ≡ false → len ≤ length text.now
+        → is_unfinished (drop (length text.now - len) text.now) ≡ false }
 {
     len <= text.len() && is_unfinished(text.split_at(text.len() - len).1)
 }
@@ -75,7 +77,8 @@ fn unfinished_len(text: &[u8]) -> usize
 /// How many bytes at the end of a span of text wait for the others of their character, by what is behind it.
 pub(crate) fn held_len(span: &[u8], behind: &[u8]) -> usize
     ensures within { result ≤ length span.now }
-    ensures holds { IsHeld (take (length span.now - result) span.now) (drop (length span.now - result) span.now) behind.now }
+    ensures holds { IsHeld (take (length span.now - result) span.now)
+        (drop (length span.now - result) span.now) behind.now }
 {
     if behind.is_empty() {
         unfinished_len(span)

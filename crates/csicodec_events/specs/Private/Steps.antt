@@ -6,7 +6,8 @@ use Rattle.csicodec_events.specs.declared.event.Told.{Told}
 use Rattle.csicodec_events.specs.Events.{IsMet, Tells, Waits, left}
 
 -- an event was told
-pub record HasTold (e : Events) (bytes : List ℕ) (told : Told) (list : List CsiParam) (after : Events) : Type 0 where
+pub record HasTold (e : Events) (bytes : List ℕ) (told : Told) (list : List CsiParam)
+    (after : Events) : Type 0 where
   pub tells : Tells e bytes told list after
   pub parts : bytes ≡ told.bytes.now ++ told.rest.now
   pub progress : left after told.rest.now < left e bytes

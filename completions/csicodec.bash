@@ -22,7 +22,7 @@ _csicodec() {
         compact) of="--semicolons --help" ;;
         strip) of="--help" ;;
         clean) of="--colors --links --help" ;;
-        html) of="--fragment --help" ;;
+        html) of="--fragment --links --help" ;;
         explain) of="--at --color --count --decode --diff --full --grep --json --only --stats --timing --unknown --help" ;;
         help) COMPREPLY=($(compgen -W "filter compact strip clean html explain" -- "$word")); return ;;
         *) of="filter compact strip clean html explain help --help --version" ;;

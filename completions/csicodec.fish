@@ -17,6 +17,7 @@ complete -c csicodec -n '__fish_seen_subcommand_from clean' -l colors -x -a '256
 complete -c csicodec -n '__fish_seen_subcommand_from clean' -l links -d 'links too (OSC 8) whose address is visible ASCII of at most 2,083 bytes, and none left open at the end'
 complete -c csicodec -n '__fish_seen_subcommand_from clean' -l help -d 'this text'
 complete -c csicodec -n '__fish_seen_subcommand_from html' -l fragment -d 'a piece for a page of one'\''s own, where it stands in a pre'
+complete -c csicodec -n '__fish_seen_subcommand_from html' -l links -d 'links too (OSC 8) whose address is of http or https, and visible ASCII of at most 2,083 bytes'
 complete -c csicodec -n '__fish_seen_subcommand_from html' -l help -d 'this text'
 complete -c csicodec -n '__fish_seen_subcommand_from explain' -l at -x -d 'only what has a byte at one of these places: 120, 120-180 or 120-'
 complete -c csicodec -n '__fish_seen_subcommand_from explain' -l color -x -a 'always never auto' -d 'colours: always, never, or auto (in a terminal, unless NO_COLOR is set), as if left out'

@@ -7,7 +7,7 @@ use std::alloc::{AllocError, Global};
 
 /// How far a control string is that of a link, `ESC ] 8 ; PARAMS ; URL` and then ST or BEL.
 #[derive(Clone, Copy, PartialEq, Eq, Debug)]
-pub(crate) enum Place {
+pub enum Place {
     /// It is none.
     Outside,
     /// Behind an ESC that may open it.
@@ -66,8 +66,8 @@ fn opened(byte: u8) -> Place
     }
 }
 
-/// Whether the byte ends a link.
-fn is_end(place: Place, byte: u8) -> bool
+/// Whether the byte ends a link, which is then what has come of it.
+pub fn ends_link(place: Place, byte: u8) -> bool
     ensures { result ≡ ends_at place byte }
 {
     match place {
@@ -84,20 +84,23 @@ pub(crate) fn append_end(out: &mut Vec<u8>) -> Result<(), AllocError>
     out.extend_from_slice(b"\x1b]8;;\x1b\\")
 }
 
-/// What has come of a link.
+/// Reads links, byte by byte, where bytes of control strings come in any cut.
 #[derive(Drop)]
-pub(crate) struct Partial {
-    pub(crate) place: Place,
-    pub(crate) params: Vec<u8>,
-    pub(crate) url: Vec<u8>,
+pub struct LinkReader {
+    /// How far the control string that is open is that of a link.
+    pub place: Place,
+    /// What has come of its parameters.
+    pub params: Vec<u8>,
+    /// What has come of its URL.
+    pub url: Vec<u8>,
 }
 
-impl Partial {
+impl LinkReader {
     /// Where no control string is open.
-    pub(crate) fn new(alloc: Global) -> Partial
+    pub fn new(alloc: Global) -> LinkReader
         ensures { begun result.place result.params.items result.url.items ≡ start }
     {
-        Partial {
+        LinkReader {
             place: Place::Outside,
             params: Vec::new(alloc),
             url: Vec::new(alloc),
@@ -140,7 +143,7 @@ impl Partial {
     }
 
     /// Takes the next byte of a control string.
-    fn take(&mut self, byte: u8) -> Result<(), AllocError>
+    pub fn take(&mut self, byte: u8) -> Result<(), AllocError>
         ensures { OnOk result
             (begun self.new.place self.new.params.items self.new.url.items
             ≡ behind (begun self.old.place self.old.params.items self.old.url.items) byte) }
@@ -197,7 +200,7 @@ impl Partial {
             ≡ behind (begun self.old.place self.old.params.items self.old.url.items) byte) }
     {
         let mut linked = linked;
-        if is_end(self.place, byte) {
+        if ends_link(self.place, byte) {
             self.append(out)?;
             linked = !self.url.is_empty();
         }

@@ -8,7 +8,7 @@ ghost use Rattle.csicodec_clean.specs.Links.{begun};
 ghost use Rattle.csicodec_clean.specs.Styled.{Styles, StylesIn, IsStyled, IsStyledIn, Keeping, first_kept, hides, is_open, is_reset, keeping, kept, resumed, without_links};
 
 use crate::colors::{Depth, reduced};
-use crate::links::{Partial, append_end};
+use crate::links::{LinkReader, append_end};
 use crate::notes::{Room, StyleNote, append_noted};
 use crate::rule::Rule;
 use crate::whole::clean_whole;
@@ -125,7 +125,7 @@ pub struct Kept {
     passing: Passing,
     styled: bool,
     linked: bool,
-    link: Partial,
+    link: LinkReader,
     /// What is noted of sequences that came before.
     known: Known<StyleNote>,
     room: Room,
@@ -189,7 +189,7 @@ impl Kept {
             passing,
             styled: false,
             linked: false,
-            link: Partial::new(alloc),
+            link: LinkReader::new(alloc),
             known: Known::new(alloc),
             room: Room::new(alloc),
             params: Vec::new(alloc),

@@ -27,7 +27,7 @@ pub(crate) static OPTIONS: [(&str, &str, &str); 19] = [
     ("--grep", "explain", "a text"),
     ("--help", "", ""),
     ("--json", "explain", ""),
-    ("--links", "clean", ""),
+    ("--links", "clean and html", ""),
     ("--only", "explain", "names, as SGR,CUP"),
     ("--semicolons", "compact", ""),
     ("--stats", "explain", ""),
@@ -99,13 +99,14 @@ Writes the same as strip, with colours and styles, but none that hides text, and
 
 /// How `html` is used.
 pub const HTML: &str = "\
-usage: csicodec html [--fragment] [FILE ..]
+usage: csicodec html [OPTION ..] [FILE ..]
 
 Writes the text of each FILE, or of standard input where there is none or it is -, as a page of HTML: what strip leaves, escaped,
-and colours and styles as spans. Nothing of the input gets into a tag. Of a FILE whose name ends in .cast it is what its programs
-wrote.
+and colours and styles as spans. Nothing of the input gets into a tag, but addresses with --links. Of a FILE whose name ends in
+.cast it is what its programs wrote.
 
   --fragment     a piece for a page of one's own, where it stands in a pre
+  --links        links too (OSC 8) whose address is of http or https, and visible ASCII of at most 2,083 bytes
   -h, --help     this text";
 
 /// How `explain` is used.

@@ -1,10 +1,10 @@
 -- One text appended behind the other.
-use Rattle.std.proofs.Common.{◌≡◌, ℕ, List, [], ◌∷◌, ◌++◌, false, sym, ap, ◌∙◌, append_assoc, append-nil}
-use Rattle.std.specs.Prelude.{codes}
+use Rattle.std.proofs.Common.{◌≡◌, ℕ, Bool, List, [], ◌∷◌, ◌++◌, false, true, sym, ap, ◌∙◌, append_assoc, append-nil}
+use Rattle.std.specs.Prelude.{codes, ◌||◌, if◌then◌else◌}
 use Rattle.std.proofs.lemmas.Grind.{flat_map-append}
 use Rattle.csicodec_html.specs.declared.look.Look.{Look}
 use Rattle.csicodec_html.specs.Look.{css, is_plain}
-use Rattle.csicodec_html.specs.Page.{begins, ends}
+use Rattle.csicodec_html.specs.Page.{Piece, begins, ends, leads, opens, shuts, switch}
 use Rattle.csicodec_html.specs.Private.Marked.{all_marked, marked}
 
 pub two : (old mid new a b : List ℕ) → mid ≡ old ++ a → new ≡ mid ++ b → new ≡ old ++ (a ++ b)
@@ -23,3 +23,18 @@ begun l h = rw h (append-nil _)
 pub turned : (old new : Look) (before mid after : List ℕ) → mid ≡ before ++ all_marked (ends old) → after ≡ mid ++ all_marked (begins new) → after ≡ before ++ all_marked (ends old ++ begins new)
 turned old new before mid after h k =
     two before mid after (all_marked (ends old)) (all_marked (begins new)) h k ∙ ap (λ (t : List ℕ). before ++ t) (sym (flat_map-append marked (ends old) (begins new)))
+
+-- the tag of a link that leads somewhere
+pub opened : (to : List ℕ) → leads to ≡ true → all_marked (opens to) ≡ (1 ∷ (codes "a href=" ++ 3 ∷ [])) ++ (to ++ 3 ∷ 2 ∷ [])
+opened to h = rw h (append-nil _)
+
+marked_four : (w x y z : List Piece) → all_marked (w ++ (x ++ (y ++ z))) ≡ all_marked w ++ (all_marked x ++ (all_marked y ++ all_marked z))
+marked_four w x y z =
+    flat_map-append marked w (x ++ (y ++ z)) ∙ ap (λ (t : List ℕ). all_marked w ++ t) (flat_map-append marked x (y ++ z) ∙ ap (λ (t : List ℕ). all_marked x ++ t) (flat_map-append marked y z))
+
+pub switched : (l : Look) (old new before first second third after : List ℕ) → (leads old || leads new) ≡ true → first ≡ before ++ all_marked (ends l) → second ≡ first ++ all_marked (shuts old)
+    → third ≡ second ++ all_marked (opens new) → after ≡ third ++ all_marked (begins l) → after ≡ before ++ all_marked (switch l old new)
+switched l old new before first second third after comes h i j k =
+    let all = ends l ++ (shuts old ++ (opens new ++ begins l)) in
+    four before first second third after (all_marked (ends l)) (all_marked (shuts old)) (all_marked (opens new)) (all_marked (begins l)) h i j k
+    ∙ ap (λ (t : List ℕ). before ++ t) (sym (marked_four (ends l) (shuts old) (opens new) (begins l)) ∙ ap (λ (b : Bool). all_marked (if b then all else [])) (sym comes))

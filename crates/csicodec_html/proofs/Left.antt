@@ -1,6 +1,6 @@
 -- What is left of the parts of a stream, as pieces of a page.
-use Rattle.std.proofs.Common.{◌≡◌, ℕ, Bool, true, false, List, [], ◌∷◌, ◌++◌, map, encode_utf8, encode_utf8_all, refl, sym, ap, subst, ◌∙◌, append_assoc, append-nil}
-use Rattle.std.specs.Prelude.{filter, if◌then◌else◌}
+use Rattle.std.proofs.Common.{◌≡◌, ℕ, Bool, true, false, List, [], ◌∷◌, ◌++◌, map, encode_utf8, encode_utf8_all, refl, sym, ap, subst, ◌∙◌, append_assoc, append-nil, arith}
+use Rattle.std.specs.Prelude.{filter, ◌||◌, if◌then◌else◌}
 use Rattle.std.specs.List.{AllByRecursion}
 use Rattle.std.specs.Str.{all_scalars}
 use Rattle.std.proofs.lemmas.Bool.{and_parts}
@@ -12,12 +12,15 @@ use Rattle.csicodec_spans.specs.declared.table.Kind.TheVariants as kind
 use Rattle.csicodec_spans.specs.Parts.{Part}
 use Rattle.csicodec_clean.specs.Shown.{shown, shown_text, IsShown}
 use Rattle.csicodec_clean.specs.Titles.{with_titles}
-use Rattle.csicodec_clean.specs.Cleaned.{AreGiven, IsStep, AreSteps, Ends, longest}
+use Rattle.csicodec_clean.specs.Cleaned.{IsStep, AreSteps, Ends, longest}
+use Rattle.csicodec_clean.specs.Links.{Address, Begun, IsLink, links_in, start}
+use Rattle.csicodec_clean.proofs.Linked.{fine_behind, fine_links, links_none}
 use Rattle.csicodec_clean.proofs.Plain.{kept_shown, scalars_lossy}
 use Rattle.csicodec_html.specs.declared.look.Look.{Look}
-use Rattle.csicodec_html.specs.Look.{is_plain, plain, sets_any}
-use Rattle.csicodec_html.specs.Page.{AreLeft, Begin, Char, End, IsSafe, Leaves, PageOf, Piece, begins, ends, pieces_behind, run_behind, shown_pieces, turn}
+use Rattle.csicodec_html.specs.Look.{behind_all, is_plain, sets_any}
+use Rattle.csicodec_html.specs.Page.{AreLeft, Begin, Char, End, IsSafe, Leaves, Open, PageWith, Piece, Setting, Shut, begins, behind_actions, behind_string, closing, ends, first_set, is_web, leads, led, opens, pieces_behind, run_behind, shown_pieces, shuts, switch, switches, turn}
 use Rattle.csicodec_html.specs.Private.Marked.{all_marked, closes, marked, page_bytes, turns}
+use Rattle.csicodec_html.proofs.Links.{given}
 use Rattle.csicodec_html.proofs.Marks.{pieces}
 
 marked_chars : (cs : List ℕ) → all_marked (map Char cs) ≡ encode_utf8_all cs
@@ -29,23 +32,16 @@ marked_part run own others =
     flat_map-append marked (shown_pieces run) (own ++ others) ∙ ap (λ (t : List ℕ). t ++ all_marked (own ++ others)) (marked_chars (filter shown (lossy_chars run)))
     ∙ ap (λ (t : List ℕ). shown_text run ++ t) (flat_map-append marked own others)
 
--- a control string gives nothing
-none_given : (bytes : List ℕ) (l after : Look) (text : List ℕ) → AreGiven turns l bytes text after → (text ≡ []) × (after ≡ l)
-none_given [] l after text h = h
-none_given (b ∷ bytes) l after text (first, mid, others, (none, same), e, rest) =
-    let r = none_given bytes mid after others rest in
-    (e ∙ ap (λ (t : List ℕ). t ++ others) none ∙ r.0, r.1 ∙ same)
-
-record Left (parts : List Part) (l : Look) (run text : List ℕ) (after : Look) (last : List ℕ) : Type 0 where
+record Left (parts : List Part) (s : Setting) (run text : List ℕ) (after : Setting) (last : List ℕ) : Type 0 where
   pieces : List Piece
-  left : AreLeft l run parts pieces
-  all : (text ++ shown_text last) ++ all_marked (ends after) ≡ all_marked pieces
+  left : AreLeft s run parts pieces
+  all : (text ++ shown_text last) ++ all_marked (closing after) ≡ all_marked pieces
 
 -- a part that ends the run
-ended : (p : Part) (parts : List Part) (l mid after : Look) (run first others text last : List ℕ) (own : List Piece) → Leaves l p.kind p.bytes own mid → pieces_behind p.kind run ≡ shown_pieces run
-    → run_behind p.kind run p.bytes ≡ [] → first ≡ shown_text run ++ all_marked own → text ≡ first ++ others → Left parts mid [] others after last → Left (p ∷ parts) l run text after last
-ended p parts l mid after run first others text last own leaves before behind e all r =
-    let close = all_marked (ends after) in
+ended : (p : Part) (parts : List Part) (s mid after : Setting) (run first others text last : List ℕ) (own : List Piece) → Leaves s p.kind p.bytes own mid → pieces_behind p.kind run ≡ shown_pieces run
+    → run_behind p.kind run p.bytes ≡ [] → first ≡ shown_text run ++ all_marked own → text ≡ first ++ others → Left parts mid [] others after last → Left (p ∷ parts) s run text after last
+ended p parts s mid after run first others text last own leaves before behind e all r =
+    let close = all_marked (closing after) in
     record {
       pieces = shown_pieces run ++ (own ++ r.pieces);
       left = (own, mid, r.pieces, leaves, ap (λ (t : List Piece). t ++ (own ++ r.pieces)) (sym before), rw behind r.left);
@@ -54,95 +50,160 @@ ended p parts l mid after run first others text last own leaves before behind e 
           ∙ append_assoc (shown_text run) (all_marked own) (all_marked r.pieces) ∙ sym (marked_part run own r.pieces);
     }
 
-goes : (p : Part) (parts : List Part) (k : Kind) (l mid after : Look) (run first next others text last : List ℕ) → p.kind ≡ k → IsStep turns k l run p.bytes first mid next → text ≡ first ++ others
-    → Left parts mid next others after last → Left (p ∷ parts) l run text after last
-goes p parts kind.Text l mid after run first next others text last is (none, same, on) all r = record {
+goes : (p : Part) (parts : List Part) (k : Kind) (s mid after : Setting) (run first next others text last : List ℕ) → p.kind ≡ k → IsStep turns k s run p.bytes first mid next → text ≡ first ++ others
+    → Left parts mid next others after last → Left (p ∷ parts) s run text after last
+goes p parts kind.Text s mid after run first next others text last is (none, same, on) all r = record {
   pieces = r.pieces;
   left = ([], mid, r.pieces, rw is (refl, same), rw is refl, rw (is, ← on) r.left);
-  all = ap (λ (t : List ℕ). (t ++ shown_text last) ++ all_marked (ends after)) (all ∙ ap (λ (t : List ℕ). t ++ others) none) ∙ r.all;
+  all = ap (λ (t : List ℕ). (t ++ shown_text last) ++ all_marked (closing after)) (all ∙ ap (λ (t : List ℕ). t ++ others) none) ∙ r.all;
 }
-goes p parts kind.Csi l mid after run first next others text last is (out, (actions, isof, behind, e), made, none) all r =
-    ended p parts l mid after run first others text last (turn (sets_any actions) l mid) (rw is (actions, isof, behind, refl)) (rw is refl) (rw is refl) (made ∙ ap (λ (t : List ℕ). shown_text run ++ t) e) all (rw none at r)
-goes p parts kind.Str l mid after run first next others text last is (out, given, made, none) all r =
-    let g = none_given p.bytes l mid out given in
-    ended p parts l mid after run first others text last [] (rw is (refl, g.1)) (rw is refl) (rw is refl) (made ∙ ap (λ (t : List ℕ). shown_text run ++ t) g.0) all (rw none at r)
-goes p parts kind.Esc l mid after run first next others text last is (made, same, none) all r =
-    ended p parts l mid after run first others text last [] (rw is (refl, same)) (rw is refl) (rw is refl) (made ∙ sym (append-nil (shown_text run))) all (rw none at r)
-goes p parts kind.Other l mid after run first next others text last is (made, same, none) all r =
-    ended p parts l mid after run first others text last [] (rw is (refl, same)) (rw is refl) (rw is refl) (made ∙ sym (append-nil (shown_text run))) all (rw none at r)
+goes p parts kind.Csi s mid after run first next others text last is (out, (actions, isof, behind, e), made, none) all r =
+    ended p parts s mid after run first others text last (turn (sets_any actions) s.look (behind_all s.look actions)) (rw is (actions, isof, behind, refl)) (rw is refl) (rw is refl)
+    (made ∙ ap (λ (t : List ℕ). shown_text run ++ t) e) all (rw none at r)
+goes p parts kind.Str s mid after run first next others text last is (out, gives, made, none) all r =
+    let g = given p.bytes s mid out gives in
+    ended p parts s mid after run first others text last (switches s.look s.to (links_in s.links s.begun p.bytes)) (rw is (refl, g.1)) (rw is refl) (rw is refl)
+    (made ∙ ap (λ (t : List ℕ). shown_text run ++ t) g.0) all (rw none at r)
+goes p parts kind.Esc s mid after run first next others text last is (made, same, none) all r =
+    ended p parts s mid after run first others text last [] (rw is (refl, same)) (rw is refl) (rw is refl) (made ∙ sym (append-nil (shown_text run))) all (rw none at r)
+goes p parts kind.Other s mid after run first next others text last is (made, same, none) all r =
+    ended p parts s mid after run first others text last [] (rw is (refl, same)) (rw is refl) (rw is refl) (made ∙ sym (append-nil (shown_text run))) all (rw none at r)
 
-left_of : (parts : List Part) (l after : Look) (run text last : List ℕ) → AreSteps turns l run parts text after last → Left parts l run text after last
-left_of [] l after run text last (none, same, e) = record {
-  pieces = shown_pieces run ++ ends l;
+left_of : (parts : List Part) (s after : Setting) (run text last : List ℕ) → AreSteps turns s run parts text after last → Left parts s run text after last
+left_of [] s after run text last (none, same, e) = record {
+  pieces = shown_pieces run ++ closing s;
   left = refl;
-  all = rw (none, same, e) (sym (flat_map-append marked (shown_pieces run) (ends l) ∙ ap (λ (t : List ℕ). t ++ all_marked (ends l)) (marked_chars (filter shown (lossy_chars run)))));
+  all = rw (none, same, e) (sym (flat_map-append marked (shown_pieces run) (closing s) ∙ ap (λ (t : List ℕ). t ++ all_marked (closing s)) (marked_chars (filter shown (lossy_chars run)))));
 }
-left_of (p ∷ parts) l after run text last (first, mid, next, others, step, e, rest) =
-    goes p parts p.kind l mid after run first next others text last refl step e (left_of parts mid after next others last rest)
+left_of (p ∷ parts) s after run text last (first, mid, next, others, step, e, rest) =
+    goes p parts p.kind s mid after run first next others text last refl step e (left_of parts mid after next others last rest)
 
 -- ---- safe
 
-pub safe_both : (xs ys : List Piece) → AllByRecursion IsSafe xs → AllByRecursion IsSafe ys → AllByRecursion IsSafe (xs ++ ys)
-safe_both [] ys h k = k
-safe_both (x ∷ xs) ys h k = (h.0, safe_both xs ys h.1 k)
+abbrev Safe : Bool → List Piece → Type 0
+Safe links ps = AllByRecursion (IsSafe links) ps
 
-safe_chars : (cs : List ℕ) → all_scalars cs ≡ true → AllByRecursion IsShown cs → AllByRecursion IsSafe (map Char cs)
-safe_chars [] a h = tt
-safe_chars (c ∷ cs) a h = let both = and_parts (scalar c) (all_scalars cs) a in ((h.0, both.0), safe_chars cs both.1 h.1)
+safe_both : (links : Bool) (xs ys : List Piece) → Safe links xs → Safe links ys → Safe links (xs ++ ys)
+safe_both links [] ys h k = k
+safe_both links (x ∷ xs) ys h k = (h.0, safe_both links xs ys h.1 k)
 
-safe_run : (run : List ℕ) → AllByRecursion IsSafe (shown_pieces run)
-safe_run run = let k = kept_shown (lossy_chars run) (scalars_lossy run) in safe_chars (filter shown (lossy_chars run)) k.0 k.1
+safe_chars : (links : Bool) (cs : List ℕ) → all_scalars cs ≡ true → AllByRecursion IsShown cs → Safe links (map Char cs)
+safe_chars links [] a h = tt
+safe_chars links (c ∷ cs) a h = let both = and_parts (scalar c) (all_scalars cs) a in ((h.0, both.0), safe_chars links cs both.1 h.1)
 
-safe_ends : (l : Look) → AllByRecursion IsSafe (ends l)
-safe_ends l = by (is_plain l)
+safe_run : (links : Bool) (run : List ℕ) → Safe links (shown_pieces run)
+safe_run links run = let k = kept_shown (lossy_chars run) (scalars_lossy run) in safe_chars links (filter shown (lossy_chars run)) k.0 k.1
+
+safe_ends : (links : Bool) (l : Look) → Safe links (ends l)
+safe_ends links l = by (is_plain l)
   where
-    by : (b : Bool) → AllByRecursion IsSafe (if b then [] else End ∷ [])
+    by : (b : Bool) → Safe links (if b then [] else End ∷ [])
     by true = tt
     by false = (tt, tt)
 
-safe_begins : (l : Look) → AllByRecursion IsSafe (begins l)
-safe_begins l = by (is_plain l) refl
+safe_begins : (links : Bool) (l : Look) → Safe links (begins l)
+safe_begins links l = by (is_plain l) refl
   where
-    by : (b : Bool) → is_plain l ≡ b → AllByRecursion IsSafe (if b then [] else Begin l ∷ [])
+    by : (b : Bool) → is_plain l ≡ b → Safe links (if b then [] else Begin l ∷ [])
     by true e = tt
     by false e = (e, tt)
 
-safe_turn : (old new : Look) (comes : Bool) → AllByRecursion IsSafe (turn comes old new)
-safe_turn old new true = safe_both (ends old) (begins new) (safe_ends old) (safe_begins new)
-safe_turn old new false = tt
+safe_shuts : (links : Bool) (to : List ℕ) → Safe links (shuts to)
+safe_shuts links to = by (leads to)
+  where
+    by : (b : Bool) → Safe links (if b then Shut ∷ [] else [])
+    by true = (tt, tt)
+    by false = tt
 
-safe_leaves : (l after : Look) (k : Kind) (bytes : List ℕ) (own : List Piece) → Leaves l k bytes own after → AllByRecursion IsSafe own
-safe_leaves l after kind.Csi bytes own (actions, isof, behind, e) = subst (AllByRecursion IsSafe) (sym e) (safe_turn l after (sets_any actions))
-safe_leaves l after kind.Text bytes own h = subst (AllByRecursion IsSafe) (sym h.0) tt
-safe_leaves l after kind.Esc bytes own h = subst (AllByRecursion IsSafe) (sym h.0) tt
-safe_leaves l after kind.Str bytes own h = subst (AllByRecursion IsSafe) (sym h.0) tt
-safe_leaves l after kind.Other bytes own h = subst (AllByRecursion IsSafe) (sym h.0) tt
+safe_opens : (a : Address) → IsLink a → Safe true (opens (led a.url))
+safe_opens a h = by (is_web a.url) refl
+  where
+    there : is_web a.url ≡ true → (b : Bool) → Safe true (if b then Open a.url ∷ [] else [])
+    there e true = ((refl, record { web = e; visible = h.url; short = h.short }), tt)
+    there e false = tt
 
-safe_behind : (k : Kind) (run : List ℕ) → AllByRecursion IsSafe (pieces_behind k run)
-safe_behind kind.Text run = tt
-safe_behind kind.Csi run = safe_run run
-safe_behind kind.Esc run = safe_run run
-safe_behind kind.Str run = safe_run run
-safe_behind kind.Other run = safe_run run
+    by : (b : Bool) → is_web a.url ≡ b → Safe true (opens (if b then a.url else []))
+    by true e = there e (leads a.url)
+    by false e = tt
 
-pub safe_left : (parts : List Part) (l : Look) (run : List ℕ) (ps : List Piece) → AreLeft l run parts ps → AllByRecursion IsSafe ps
-safe_left [] l run ps h = subst (AllByRecursion IsSafe) (sym h) (safe_both (shown_pieces run) (ends l) (safe_run run) (safe_ends l))
-safe_left (p ∷ parts) l run ps (own, after, others, leaves, e, rest) =
-    subst (AllByRecursion IsSafe) (sym e)
-    (safe_both (pieces_behind p.kind run) (own ++ others) (safe_behind p.kind run)
-    (safe_both own others (safe_leaves l after p.kind p.bytes own leaves) (safe_left parts after (run_behind p.kind run p.bytes) others rest)))
+safe_closing : (links : Bool) (s : Setting) → Safe links (closing s)
+safe_closing links s = safe_both links (ends s.look) (shuts s.to) (safe_ends links s.look) (safe_shuts links s.to)
+
+safe_turn : (links : Bool) (old new : Look) (comes : Bool) → Safe links (turn comes old new)
+safe_turn links old new true = safe_both links (ends old) (begins new) (safe_ends links old) (safe_begins links new)
+safe_turn links old new false = tt
+
+safe_switch : (l : Look) (old : List ℕ) (a : Address) → IsLink a → Safe true (switch l old (led a.url))
+safe_switch l old a h = by (leads old || leads new)
+  where
+    new : List ℕ
+    new = led a.url
+
+    by : (b : Bool) → Safe true (if b then ends l ++ (shuts old ++ (opens new ++ begins l)) else [])
+    by true = safe_both true (ends l) (shuts old ++ (opens new ++ begins l)) (safe_ends true l)
+        (safe_both true (shuts old) (opens new ++ begins l) (safe_shuts true old) (safe_both true (opens new) (begins l) (safe_opens a h) (safe_begins true l)))
+    by false = tt
+
+safe_switches : (l : Look) (to : List ℕ) (links : List Address) → AllByRecursion IsLink links → Safe true (switches l to links)
+safe_switches l to [] h = tt
+safe_switches l to (a ∷ links) h = safe_both true (switch l to (led a.url)) (switches l (led a.url) links) (safe_switch l to a h.0) (safe_switches l (led a.url) links h.1)
+
+safe_string : (links : Bool) (l : Look) (to : List ℕ) (b : Begun) (bytes : List ℕ) → IsLink b.address → Safe links (switches l to (links_in links b bytes))
+safe_string true l to b bytes h = safe_switches l to (links_in true b bytes) (fine_links true bytes b h)
+safe_string false l to b bytes h = subst (λ (links : List Address). Safe false (switches l to links)) (sym (links_none bytes b)) tt
+
+safe_leaves : (s after : Setting) (k : Kind) (bytes : List ℕ) (own : List Piece) → IsLink s.begun.address → Leaves s k bytes own after → Safe s.links own
+safe_leaves s after kind.Csi bytes own h (actions, isof, behind, e) = subst (Safe s.links) (sym e) (safe_turn s.links s.look (behind_all s.look actions) (sets_any actions))
+safe_leaves s after kind.Str bytes own h (e, behind) = subst (Safe s.links) (sym e) (safe_string s.links s.look s.to s.begun bytes h)
+safe_leaves s after kind.Text bytes own h (e, same) = subst (Safe s.links) (sym e) tt
+safe_leaves s after kind.Esc bytes own h (e, same) = subst (Safe s.links) (sym e) tt
+safe_leaves s after kind.Other bytes own h (e, same) = subst (Safe s.links) (sym e) tt
+
+safe_behind : (links : Bool) (k : Kind) (run : List ℕ) → Safe links (pieces_behind k run)
+safe_behind links kind.Text run = tt
+safe_behind links kind.Csi run = safe_run links run
+safe_behind links kind.Esc run = safe_run links run
+safe_behind links kind.Str run = safe_run links run
+safe_behind links kind.Other run = safe_run links run
+
+-- behind a part: whether links pass is as before, and what has come of a link may pass
+record Stays (s after : Setting) : Type 0 where
+  links : after.links ≡ s.links
+  fine : IsLink after.begun.address
+
+stays : (s after mid : Setting) → after ≡ mid → mid.links ≡ s.links → IsLink mid.begun.address → Stays s after
+stays s after mid e same h = record { links = ap (λ (x : Setting). x.links) e ∙ same; fine = subst (λ (x : Setting). IsLink x.begun.address) (sym e) h }
+
+stays_behind : (s after : Setting) (k : Kind) (bytes : List ℕ) (own : List Piece) → IsLink s.begun.address → Leaves s k bytes own after → Stays s after
+stays_behind s after kind.Csi bytes own h (actions, isof, behind, e) = stays s after (behind_actions s actions) behind refl h
+stays_behind s after kind.Str bytes own h (e, behind) = stays s after (behind_string s bytes) behind refl (fine_behind s.links bytes s.begun h)
+stays_behind s after kind.Text bytes own h (e, same) = stays s after s same refl h
+stays_behind s after kind.Esc bytes own h (e, same) = stays s after s same refl h
+stays_behind s after kind.Other bytes own h (e, same) = stays s after s same refl h
+
+pub safe_left : (parts : List Part) (s : Setting) (run : List ℕ) (ps : List Piece) → IsLink s.begun.address → AreLeft s run parts ps → Safe s.links ps
+safe_left [] s run ps h e = subst (Safe s.links) (sym e) (safe_both s.links (shown_pieces run) (closing s) (safe_run s.links run) (safe_closing s.links s))
+safe_left (p ∷ parts) s run ps h (own, after, others, leaves, e, rest) =
+    let stay = stays_behind s after p.kind p.bytes own h leaves in
+    let later : Safe s.links others = subst (λ (b : Bool). Safe b others) stay.links (safe_left parts after (run_behind p.kind run p.bytes) others stay.fine rest) in
+    subst (Safe s.links) (sym e)
+    (safe_both s.links (pieces_behind p.kind run) (own ++ others) (safe_behind s.links p.kind run) (safe_both s.links own others (safe_leaves s after p.kind p.bytes own h leaves) later))
+
+-- nothing has come of a link
+pub none_begun : IsLink start.address
+none_begun = record { params = tt; few = omega arith; url = tt; short = omega arith }
 
 -- what the rule leaves, byte by byte, is the page
-pub page_of : (l : Look) (bytes text page : List ℕ) → l ≡ plain → Ends turns closes longest l bytes text → page ≡ page_bytes text → PageOf bytes page
-page_of l bytes text page starts e same =
+pub page_of : (links : Bool) (s : Setting) (bytes text page : List ℕ) → s ≡ first_set links → Ends turns closes longest s bytes text → page ≡ page_bytes text → PageWith links bytes page
+page_of links s bytes text page starts e same =
     let c = e.cleans in
-    let r = left_of (with_titles false c.parts) l e.after [] c.before c.run c.steps in
-    let left = subst (λ (x : Look). AreLeft x [] (with_titles false c.parts) r.pieces) starts r.left in
+    let r = left_of (with_titles false c.parts) s e.after [] c.before c.run c.steps in
+    let left = subst (λ (x : Setting). AreLeft x [] (with_titles false c.parts) r.pieces) starts r.left in
     record {
       parts = c.parts;
       whole = c.whole;
       pieces = r.pieces;
       left = left;
-      all = same ∙ ap page_bytes (e.all ∙ ap (λ (t : List ℕ). e.before ++ t) e.closes ∙ ap (λ (t : List ℕ). t ++ all_marked (ends e.after)) c.all ∙ r.all)
-          ∙ pieces r.pieces (safe_left (with_titles false c.parts) plain [] r.pieces left);
+      all = same ∙ ap page_bytes (e.all ∙ ap (λ (t : List ℕ). e.before ++ t) e.closes ∙ ap (λ (t : List ℕ). t ++ all_marked (closing e.after)) c.all ∙ r.all)
+          ∙ pieces links r.pieces (safe_left (with_titles false c.parts) (first_set links) [] r.pieces none_begun left);
     }

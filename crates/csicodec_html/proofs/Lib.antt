@@ -1,6 +1,8 @@
 pub mod Harmless
+pub mod Quoted
 pub mod Marks
 pub mod Turned
+pub mod Links
 pub mod Left
 pub mod Paired
 pub mod Joined

@@ -3,15 +3,17 @@ use Rattle.std.proofs.Common.{◌≡◌, ◌≤◌, ◌<◌, ◌+◌, ◌/◌, �
 use Rattle.std.specs.Prelude.{codes, ◌==◌}
 use Rattle.std.specs.Char.{encode_utf8}
 use lib.Utf8.{next}
-use Rattle.std.specs.List.{AllByRecursion}
+use Rattle.std.specs.List.{AllByRecursion, flat_map}
 use Rattle.std.proofs.lemmas.Bool.{cases_lt, false≢true}
+use Rattle.std.proofs.lemmas.Bool.Decides.{nat_tests}
 use Rattle.std.proofs.lemmas.Grind.{flat_map-append}
 use Rattle.csicodec_clean.specs.Shown.{IsShown, shown}
 use Rattle.csicodec_html.specs.declared.look.Look.{Look}
 use Rattle.csicodec_html.specs.Look.{css}
-use Rattle.csicodec_html.specs.Page.{IsHarmless, is_harmless, IsSafe, Piece, Char, Begin, End, escaped, piece_text, piece_texts}
+use Rattle.csicodec_html.specs.Page.{IsHarmless, is_harmless, IsSafe, Piece, Char, Begin, End, Open, Shut, escaped, piece_text, piece_texts}
 use Rattle.csicodec_html.specs.Private.Marked.{all_marked, marked, page_byte, page_bytes}
 use Rattle.csicodec_html.proofs.Harmless.{Fine, apart, css_fine, fine}
+use Rattle.csicodec_html.proofs.Quoted.{IsVisible, ascii, below}
 
 -- a byte or character that passes a test isn't one that doesn't
 differs : (test : ℕ → Bool) (b k : ℕ) → test b ≡ true → test k ≡ false → (b == k) ≡ false
@@ -33,10 +35,6 @@ one_fine b h =
 all_fine : (bytes : List ℕ) → Fine bytes → page_bytes bytes ≡ bytes
 all_fine [] h = refl
 all_fine (b ∷ bytes) h = rw (one_fine b h.0, all_fine bytes h.1) refl
-
-ascii : (c : ℕ) → c < 128 → encode_utf8 c ≡ c ∷ []
-unfolding encode_utf8
-ascii c a = rw (lt-ltb c 128 a) refl
 
 above : (b : ℕ) → 128 ≤ b → is_harmless b ≡ true
 above b h = fine b (omega (arith, h)) (λ e. absurd (omega (arith, h, e))) (λ e. absurd (omega (arith, h, e)))
@@ -65,12 +63,27 @@ char c h = ⊎_elim
 begin : (l : Look) → page_bytes (marked (Begin l)) ≡ piece_text (Begin l)
 begin l = ap (λ (t : List ℕ). codes "<span style=" ++ (34 ∷ t)) (flat_map-append page_byte (css l) (3 ∷ 2 ∷ []) ∙ ap (λ (t : List ℕ). t ++ 34 ∷ 62 ∷ []) (all_fine (css l) (css_fine l)))
 
-piece : (p : Piece) → IsSafe p → page_bytes (marked p) ≡ piece_text p
-piece (Char c) h = char c h.0
-piece (Begin l) h = begin l
-piece End h = refl
+visible_shown : (c : ℕ) → IsVisible c → IsShown c
+visible_shown c h = grind (arith, nat_tests, h)
 
-pub pieces : (ps : List Piece) → AllByRecursion IsSafe ps → page_bytes (all_marked ps) ≡ piece_texts ps
-pieces [] h = refl
-pieces (p ∷ ps) h =
-    flat_map-append page_byte (marked p) (all_marked ps) ∙ ap (λ (t : List ℕ). t ++ page_bytes (all_marked ps)) (piece p h.0) ∙ ap (λ (t : List ℕ). piece_text p ++ t) (pieces ps h.1)
+visible : (c : ℕ) → IsVisible c → page_byte c ≡ escaped c
+visible c h = sym (append-nil (page_byte c)) ∙ ap page_bytes (sym (ascii c (below c h))) ∙ char c (visible_shown c h)
+
+address : (url : List ℕ) → AllByRecursion IsVisible url → page_bytes url ≡ flat_map escaped url
+address [] h = refl
+address (c ∷ url) h = ap (λ (t : List ℕ). t ++ page_bytes url) (visible c h.0) ∙ ap (λ (t : List ℕ). escaped c ++ t) (address url h.1)
+
+open_link : (url : List ℕ) → AllByRecursion IsVisible url → page_bytes (marked (Open url)) ≡ piece_text (Open url)
+open_link url h = ap (λ (t : List ℕ). codes "<a href=" ++ (34 ∷ t)) (flat_map-append page_byte url (3 ∷ 2 ∷ []) ∙ ap (λ (t : List ℕ). t ++ 34 ∷ 62 ∷ []) (address url h))
+
+piece : (links : Bool) (p : Piece) → IsSafe links p → page_bytes (marked p) ≡ piece_text p
+piece links (Char c) h = char c h.0
+piece links (Begin l) h = begin l
+piece links End h = refl
+piece links (Open url) h = open_link url h.1.visible
+piece links Shut h = refl
+
+pub pieces : (links : Bool) (ps : List Piece) → AllByRecursion (IsSafe links) ps → page_bytes (all_marked ps) ≡ piece_texts ps
+pieces links [] h = refl
+pieces links (p ∷ ps) h =
+    flat_map-append page_byte (marked p) (all_marked ps) ∙ ap (λ (t : List ℕ). t ++ page_bytes (all_marked ps)) (piece links p h.0) ∙ ap (λ (t : List ℕ). piece_text p ++ t) (pieces links ps h.1)

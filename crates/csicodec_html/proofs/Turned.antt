@@ -6,8 +6,6 @@ use Rattle.csicodec_actions.specs.Actions.{Action}
 use Rattle.csicodec_actions.specs.Actions as action
 use Rattle.csicodec_html.specs.declared.look.Look.{Look}
 use Rattle.csicodec_html.specs.Look.{behind_all, sets_any}
-use Rattle.csicodec_clean.specs.Cleaned.{AreGiven}
-use Rattle.csicodec_html.specs.Private.Marked.{turns}
 
 -- one action, and then the others
 pub behind_one : (l : Look) (a : Action) (actions : List Action) → behind_all l (a ∷ actions) ≡ behind_all (behind_all l (a ∷ [])) actions
@@ -47,8 +45,3 @@ unset l (action.Window w ∷ actions) h = unset l actions h
 unset l (action.Keyboard k ∷ actions) h = unset l actions h
 unset l (action.SelectCharacterPath p e ∷ actions) h = unset l actions h
 unset l (action.Unspecified p f c ∷ actions) h = unset l actions h
-
--- the rule writes nothing for a control string
-pub gives_none : (bytes : List ℕ) (l : Look) → AreGiven turns l bytes [] l
-gives_none [] l = (refl, refl)
-gives_none (b ∷ bytes) l = ([], l, [], (refl, refl), refl, gives_none bytes l)

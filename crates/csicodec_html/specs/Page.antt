@@ -1,6 +1,6 @@
--- A piece of a page of HTML: the text of a stream, escaped, and around what has attributes a span.
-use Rattle.std.specs.Prelude.{ℕ, ◌≡◌, ⊤, ◌==◌, Bool, true, false, not, ◌&&◌, nat_lt, if◌then◌else◌, List, [], ◌∷◌, ◌++◌, map, filter, codes, encode_utf8}
-use Rattle.std.specs.List.{AllByRecursion, flat_map}
+-- A piece of a page of HTML: the text of a stream, escaped, around what has attributes a span, and around what leads somewhere a link.
+use Rattle.std.specs.Prelude.{ℕ, ◌≡◌, ◌≤◌, ⊤, ◌==◌, nat_eq, Bool, true, false, not, ◌&&◌, ◌||◌, nat_lt, if◌then◌else◌, List, [], ◌∷◌, ◌++◌, length, map, filter, codes, encode_utf8}
+use Rattle.std.specs.List.{AllByRecursion, flat_map, starts_with}
 use Rattle.std.specs.Char.{IsScalar}
 use Rattle.bstr.specs.Utf8.{lossy_chars}
 use Rattle.csicodec_actions.specs.Actions.{Action}
@@ -10,6 +10,7 @@ use Rattle.csicodec_spans.specs.declared.table.Mode.TheVariants as mode
 use Rattle.csicodec_spans.specs.Parts.{Part, IsWhole}
 use Rattle.csicodec_clean.specs.Shown.{shown, IsShown}
 use Rattle.csicodec_clean.specs.Titles.{with_titles}
+use Rattle.csicodec_clean.specs.Links.{Address, Begun, all_behind, is_visible, links_in, longest_url, start}
 use Rattle.csicodec_clean.specs.Cleaned.{longest}
 use Rattle.csicodec_clean.specs.Styled.{IsOf}
 use Rattle.csicodec_html.specs.declared.look.Look.{Look}
@@ -25,16 +26,21 @@ escaped c =
     else if c == 39 then codes "&#39;"
     else encode_utf8 c
 
--- a character of the text, the tag that begins a span that looks so, or the one that ends it: there are no others
+-- a character of the text, the tag that begins a span that looks so, or the one that ends it, the tag that begins a link to there, or
+-- the one that ends it: there are no others
 pub data Piece : Type 0 where
   Char : ℕ → Piece
   Begin : Look → Piece
   End : Piece
+  Open : List ℕ → Piece
+  Shut : Piece
 
 abbrev pub piece_text : Piece → List ℕ
 piece_text (Char c) = escaped c
 piece_text (Begin l) = codes "<span style=" ++ (34 ∷ (css l ++ 34 ∷ 62 ∷ []))
 piece_text End = codes "</span>"
+piece_text (Open url) = codes "<a href=" ++ (34 ∷ (flat_map escaped url ++ 34 ∷ 62 ∷ []))
+piece_text Shut = codes "</a>"
 
 abbrev pub piece_texts : List Piece → List ℕ
 piece_texts pieces = flat_map piece_text pieces
@@ -45,6 +51,8 @@ chars_of [] = []
 chars_of (Char c ∷ pieces) = c ∷ chars_of pieces
 chars_of (Begin l ∷ pieces) = chars_of pieces
 chars_of (End ∷ pieces) = chars_of pieces
+chars_of (Open url ∷ pieces) = chars_of pieces
+chars_of (Shut ∷ pieces) = chars_of pieces
 
 -- a span stands around what looks otherwise than plain text
 abbrev pub begins : Look → List Piece
@@ -57,18 +65,78 @@ ends l = if is_plain l then [] else End ∷ []
 abbrev pub turn : Bool → Look → Look → List Piece
 turn comes old new = if comes then ends old ++ begins new else []
 
+-- an address of http or https
+abbrev pub is_web : List ℕ → Bool
+is_web url = starts_with nat_eq url (codes "http://") || starts_with nat_eq url (codes "https://")
+
+-- where text leads behind a link: to its address, if that is of http or https, and else nowhere, which is no address
+abbrev pub led : List ℕ → List ℕ
+led url = if is_web url then url else []
+
+abbrev pub leads : List ℕ → Bool
+leads to = not (length to == 0)
+
+abbrev pub opens : List ℕ → List Piece
+opens to = if leads to then Open to ∷ [] else []
+
+abbrev pub shuts : List ℕ → List Piece
+shuts to = if leads to then Shut ∷ [] else []
+
+-- where a link comes, the span that is open is ended, so is the link before it, the new one is begun, and then the span once more
+abbrev pub switch : Look → List ℕ → List ℕ → List Piece
+switch l old new =
+    if leads old || leads new then ends l ++ (shuts old ++ (opens new ++ begins l)) else []
+
+-- the same of links in turn, and where text leads behind them
+abbrev pub switches : Look → List ℕ → List Address → List Piece
+switches l to [] = []
+switches l to (a ∷ links) = switch l to (led a.url) ++ switches l (led a.url) links
+
+abbrev pub led_by : List ℕ → List Address → List ℕ
+led_by to [] = to
+led_by to (a ∷ links) = led_by (led a.url) links
+
+-- what a page goes by: whether links pass, how text looks, where it leads, and what has come of a link
+pub record Setting : Type 0 where
+  pub links : Bool
+  pub look : Look
+  pub to : List ℕ
+  pub begun : Begun
+
+abbrev pub setting : Bool → Look → List ℕ → Begun → Setting
+setting links l to b = record { links = links; look = l; to = to; begun = b }
+
+abbrev pub first_set : Bool → Setting
+first_set links = setting links plain [] start
+
+-- behind the actions of a control sequence, and behind bytes of a control string
+abbrev pub behind_actions : Setting → List Action → Setting
+behind_actions s actions = setting s.links (behind_all s.look actions) s.to s.begun
+
+abbrev pub behind_string : Setting → List ℕ → Setting
+behind_string s bytes =
+    setting s.links s.look (led_by s.to (links_in s.links s.begun bytes))
+    (all_behind s.links s.begun bytes)
+
+-- what is open is ended
+abbrev pub closing : Setting → List Piece
+closing s = ends s.look ++ shuts s.to
+
 -- the characters of a run of text that are shown
 abbrev pub shown_pieces : List ℕ → List Piece
 shown_pieces run = map Char (filter shown (lossy_chars run))
 
--- what a part leaves, and the look behind it: a control sequence the turn to the look behind its actions, any other part nothing
-abbrev pub Leaves : Look → Kind → List ℕ → List Piece → Look → Type 0
-Leaves l kind.Csi bytes own after = (actions : List Action) × IsOf bytes actions
-    × (after ≡ behind_all l actions) × (own ≡ turn (sets_any actions) l after)
-Leaves l kind.Text bytes own after = (own ≡ []) × (after ≡ l)
-Leaves l kind.Esc bytes own after = (own ≡ []) × (after ≡ l)
-Leaves l kind.Str bytes own after = (own ≡ []) × (after ≡ l)
-Leaves l kind.Other bytes own after = (own ≡ []) × (after ≡ l)
+-- what a part leaves, and the setting behind it: a control sequence the turn to the look behind its actions, a control string, where
+-- links pass, those that are over with it, and any other part nothing
+abbrev pub Leaves : Setting → Kind → List ℕ → List Piece → Setting → Type 0
+Leaves s kind.Csi bytes own after = (actions : List Action) × IsOf bytes actions
+    × (after ≡ behind_actions s actions)
+    × (own ≡ turn (sets_any actions) s.look (behind_all s.look actions))
+Leaves s kind.Str bytes own after =
+    (own ≡ switches s.look s.to (links_in s.links s.begun bytes)) × (after ≡ behind_string s bytes)
+Leaves s kind.Text bytes own after = (own ≡ []) × (after ≡ s)
+Leaves s kind.Esc bytes own after = (own ≡ []) × (after ≡ s)
+Leaves s kind.Other bytes own after = (own ≡ []) × (after ≡ s)
 
 abbrev pub run_behind : Kind → List ℕ → List ℕ → List ℕ
 run_behind kind.Text run bytes = run ++ bytes
@@ -78,42 +146,66 @@ abbrev pub pieces_behind : Kind → List ℕ → List Piece
 pieces_behind kind.Text run = []
 pieces_behind k run = shown_pieces run
 
--- what is left of the parts, behind a run of text: text goes on with the run, any other part ends it, and at the end a span that is
--- open is ended
-abbrev pub AreLeft : Look → List ℕ → List Part → List Piece → Type 0
-AreLeft l run [] pieces = pieces ≡ shown_pieces run ++ ends l
-AreLeft l run (p ∷ parts) pieces =
-    (own : List Piece) × (after : Look) × (others : List Piece) × Leaves l p.kind p.bytes own after
+-- what is left of the parts, behind a run of text: text goes on with the run, any other part ends it, and at the end what is open is
+-- ended
+abbrev pub AreLeft : Setting → List ℕ → List Part → List Piece → Type 0
+AreLeft s run [] pieces = pieces ≡ shown_pieces run ++ closing s
+AreLeft s run (p ∷ parts) pieces =
+    (own : List Piece) × (after : Setting) × (others : List Piece)
+    × Leaves s p.kind p.bytes own after
     × (pieces ≡ pieces_behind p.kind run ++ (own ++ others))
     × AreLeft after (run_behind p.kind run p.bytes) parts others
 
--- the page that the bytes are
-pub record PageOf (bytes page : List ℕ) : Type 0 where
+-- the page that the bytes are, where links pass or not
+pub record PageWith (links : Bool) (bytes page : List ℕ) : Type 0 where
   pub parts : List Part
   pub whole : IsWhole longest mode.Text bytes parts
   pub pieces : List Piece
-  pub left : AreLeft plain [] (with_titles false parts) pieces
+  pub left : AreLeft (first_set links) [] (with_titles false parts) pieces
   pub all : page ≡ piece_texts pieces
+
+-- without links
+abbrev pub PageOf : List ℕ → List ℕ → Type 0
+PageOf bytes page = PageWith false bytes page
+
+-- an address that a page may lead to: of http or https, and short, of visible characters of ASCII
+pub record IsLed (url : List ℕ) : Type 0 where
+  pub web : is_web url ≡ true
+  pub visible : AllByRecursion (λ b. is_visible b ≡ true) url
+  pub short : length url ≤ longest_url
 
 -- a character that is shown, or a tag
-abbrev pub IsSafe : Piece → Type 0
-IsSafe (Char c) = IsShown c × IsScalar c
-IsSafe (Begin l) = is_plain l ≡ false
-IsSafe End = ⊤
+abbrev pub IsSafe : Bool → Piece → Type 0
+IsSafe links (Char c) = IsShown c × IsScalar c
+IsSafe links (Begin l) = is_plain l ≡ false
+IsSafe links End = ⊤
+IsSafe links (Open url) = (links ≡ true) × IsLed url
+IsSafe links Shut = ⊤
 
--- the tags are in pairs: none begins inside of another, and each is ended
-abbrev pub are_paired : Bool → List Piece → Bool
-are_paired inside [] = if inside then false else true
-are_paired inside (Char c ∷ pieces) = are_paired inside pieces
-are_paired inside (Begin l ∷ pieces) = if inside then false else are_paired true pieces
-are_paired inside (End ∷ pieces) = if inside then are_paired false pieces else false
+-- The tags are in pairs, in a link or not, in a span or not: a span has nothing in it but text, a link text and spans, and each is
+-- ended.
+abbrev pub are_paired : Bool → Bool → List Piece → Bool
+are_paired linked spanned [] = not (linked || spanned)
+are_paired linked spanned (Char c ∷ pieces) = are_paired linked spanned pieces
+are_paired linked spanned (Begin l ∷ pieces) =
+    if spanned then false else are_paired linked true pieces
+are_paired linked spanned (End ∷ pieces) =
+    if spanned then are_paired linked false pieces else false
+are_paired linked spanned (Open url ∷ pieces) =
+    if linked || spanned then false else are_paired true false pieces
+are_paired linked spanned (Shut ∷ pieces) =
+    if linked && not spanned then are_paired false false pieces else false
 
 -- a page of such pieces alone
-pub record IsPage (page : List ℕ) : Type 0 where
+pub record IsPageWith (links : Bool) (page : List ℕ) : Type 0 where
   pub pieces : List Piece
-  pub safe : AllByRecursion IsSafe pieces
-  pub paired : are_paired false pieces ≡ true
+  pub safe : AllByRecursion (IsSafe links) pieces
+  pub paired : are_paired false false pieces ≡ true
   pub all : page ≡ piece_texts pieces
+
+-- without links
+abbrev pub IsPage : List ℕ → Type 0
+IsPage page = IsPageWith false page
 
 -- a byte that may stand in an attribute: none of the five characters that are escaped, and no control
 abbrev pub is_harmless : ℕ → Bool
@@ -122,3 +214,11 @@ is_harmless b = not (nat_lt b 32) &&
 
 abbrev pub IsHarmless : ℕ → Type 0
 IsHarmless b = is_harmless b ≡ true
+
+-- a byte that may stand in an address: a visible character of ASCII that doesn't end it, and begins no tag; `&` begins a reference
+abbrev pub is_quoted : ℕ → Bool
+is_quoted b =
+    is_visible b && (not (b == 34) && (not (b == 39) && (not (b == 60) && not (b == 62))))
+
+abbrev pub IsQuoted : ℕ → Type 0
+IsQuoted b = is_quoted b ≡ true

@@ -1,23 +1,27 @@
 //! Laws of the definitions. Each is the contract of a function that does nothing.
-ghost use Rattle.std.specs.Prelude.{◌≡◌, ℕ, List, encode_utf8_all};
-ghost use Rattle.std.specs.List.{AllByRecursion};
+ghost use Rattle.std.specs.Prelude.{◌≡◌, Bool, ℕ, List, encode_utf8_all, true};
+ghost use Rattle.std.specs.List.{AllByRecursion, flat_map};
 ghost use Rattle.csicodec_clean.specs.Cleaned.{Strips, longest};
+ghost use Rattle.csicodec_clean.specs.Links.{is_visible};
 ghost use Rattle.csicodec_html.specs.Look.{css};
-ghost use Rattle.csicodec_html.specs.Page.{IsHarmless, PageOf, chars_of};
+ghost use Rattle.csicodec_html.specs.Page.{IsHarmless, IsQuoted, PageWith, chars_of, escaped};
 ghost use Rattle.csicodec_html.specs.declared.look.Look.{Look};
 
 /// The characters of a page are those that the bytes are stripped to: none is lost, and none is added.
 pub fn text_stays()
-    ensures { (bytes page text : List ℕ) (p : PageOf bytes page) → Strips longest bytes text
-        → text ≡ encode_utf8_all (chars_of p.pieces) }
+    ensures { (links : Bool) (bytes page text : List ℕ) (p : PageWith links bytes page)
+        → Strips longest bytes text → text ≡ encode_utf8_all (chars_of p.pieces) }
 {}
 
-/// No byte of an attribute ends it, or begins a tag or a reference.
+/// No byte of an attribute ends it, or begins a tag; a reference is one of the five by which characters are escaped, in an address.
 pub fn attributes_end()
-    ensures { (l : Look) → AllByRecursion IsHarmless (css l) }
+    ensures styles { (l : Look) → AllByRecursion IsHarmless (css l) }
+    ensures addresses { (url : List ℕ) → AllByRecursion (λ b. is_visible b ≡ true) url
+        → AllByRecursion IsQuoted (flat_map escaped url) }
 {}
 
-/// Bytes are one page.
+/// Bytes are one page, with links and without.
 pub fn one_page()
-    ensures { (bytes page other : List ℕ) → PageOf bytes page → PageOf bytes other → page ≡ other }
+    ensures { (links : Bool) (bytes page other : List ℕ) → PageWith links bytes page
+        → PageWith links bytes other → page ≡ other }
 {}

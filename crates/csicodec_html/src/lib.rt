@@ -1,9 +1,10 @@
-//! Terminal streams as HTML: the text, escaped, and its attributes as spans. Nothing of a stream gets into a tag.
+//! Terminal streams as HTML: the text, escaped, its attributes as spans, and its links. Nothing else of a stream gets into a tag.
 #![tactic(auto)]
 
 mod colors;
 mod css;
 pub mod laws;
+mod lead;
 mod look;
 mod mark;
 mod page;
@@ -11,5 +12,5 @@ mod rule;
 mod run;
 
 pub use look::Look;
-pub use page::html;
-pub use run::{BEHIND, FRONT, html_all};
+pub use page::{Markup, html, html_with};
+pub use run::{BEHIND, FRONT, html_all, html_all_with};

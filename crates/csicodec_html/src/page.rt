@@ -1,6 +1,6 @@
 //! Bytes that are all there, as a piece of a page.
 ghost use Rattle.std.specs.Prelude.{◌≡◌, ◌++◌, ◌∷◌, [], ℕ, List, OnOk, IfOk};
-ghost use Rattle.csicodec_html.specs.Page.{IsPage, PageOf};
+ghost use Rattle.csicodec_html.specs.Page.{IsPage, IsPageWith, PageOf, PageWith};
 ghost use Rattle.csicodec_html.specs.Private.Marked.{page_byte, page_bytes};
 
 use crate::rule::Spans;
@@ -36,6 +36,14 @@ pub(crate) fn append_page(bytes: &[u8], out: &mut Vec<u8>) -> Result<(), AllocEr
     Ok(())
 }
 
+/// What becomes markup, beside attributes.
+#[derive(Clone, Copy, PartialEq, Eq, Debug)]
+pub struct Markup {
+    /// Whether links (OSC 8) do: those of http and https whose address is visible ASCII, of at most 2,083 bytes, with at most 256 bytes
+    /// of parameters.
+    pub links: bool,
+}
+
 /// The text of untrusted bytes as a piece of a page of HTML: what `strip` leaves of them, with `&`, `<`, `>`, `"` and `'` as references,
 /// and what has attributes (SGR) in spans with a `style`. It stands well in a `pre`.
 ///
@@ -52,7 +60,21 @@ pub fn html(alloc: Global, bytes: &[u8]) -> Result<Vec<u8>, AllocError>
     // It has characters that are shown, escaped, and tags of spans in pairs, and nothing else.
     ensures safe { IfOk result (λ out. IsPage out.items) }
 {
-    let mut cleaner = Cleaner::new(alloc, Spans::new(alloc));
+    html_with(alloc, Markup { links: false }, bytes)
+}
+
+/// The same with what becomes markup. A link stands around the spans of its text, and is ended before another begins, and at the end.
+///
+/// ```text
+/// let markup = Markup { links: true };
+/// html_with(alloc, markup, b"\x1b]8;;http://a.example/?b&c\x07d")?      // "<a href=\"http://a.example/?b&amp;c\">d</a>"
+/// ```
+pub fn html_with(alloc: Global, markup: Markup, bytes: &[u8]) -> Result<Vec<u8>, AllocError>
+    ensures exact { IfOk result (λ out. PageWith markup.links bytes.now out.items) }
+    // Beside those it has tags of links in pairs, to addresses that a page may lead to.
+    ensures safe { IfOk result (λ out. IsPageWith markup.links out.items) }
+{
+    let mut cleaner = Cleaner::new(alloc, Spans::new(alloc, markup.links));
     let mut marked = Vec::new(alloc);
     cleaner.push(bytes, &mut marked)?;
     cleaner.finish(&mut marked)?;

@@ -1,12 +1,13 @@
-//! What stands in the place of a control sequence.
+//! What stands in the place of a control sequence, and of a control string.
 ghost use Rattle.std.specs.Prelude.{◌≡◌, ◌++◌, ◌∷◌, [], map, OnOk};
 ghost use Rattle.csicodec_parser.specs.ActionOf.{action_of};
-ghost use Rattle.csicodec_html.specs.Look.{behind_all, plain, sets_any};
-ghost use Rattle.csicodec_html.specs.Page.{turn};
+ghost use Rattle.csicodec_html.specs.Look.{behind_all, sets_any};
+ghost use Rattle.csicodec_html.specs.Page.{first_set, turn};
 ghost use Rattle.csicodec_html.specs.Private.Marked.{all_marked};
 
+use crate::lead::Lead;
 use crate::look::Look;
-use crate::mark::{append_begin, append_end};
+use crate::mark::{append_begin, append_end, append_shut};
 use csicodec::CSI;
 use csicodec_base::CsiParam;
 use csicodec_clean::Rule;
@@ -75,31 +76,37 @@ fn append_turn(comes: bool, old: Look, new: Look, out: &mut Vec<u8>) -> Result<(
     append_begin(new, out)
 }
 
-/// The rule that turns attributes into spans.
+/// The rule that turns attributes into spans, and links, where they pass, into links of the page.
 #[derive(Drop)]
 pub(crate) struct Spans {
     alloc: Global,
+    links: bool,
     look: Look,
+    lead: Lead,
     /// A place that is kept for the actions of a sequence.
     actions: Vec<CSI>,
 }
 
 impl Model for Spans {
-    ghost use Rattle.csicodec_html.specs.declared.look.Look.{Look};
+    ghost use Rattle.csicodec_clean.specs.Links.{begun};
+    ghost use Rattle.csicodec_html.specs.Page.{Setting, setting};
 
-    ghost Value = { Look };
+    ghost Value = { Setting };
 
-    ghost view = { λ s. s.look };
+    ghost view = { λ s. setting s.links s.look s.lead.to.items
+        (begun s.lead.next.place s.lead.next.params.items s.lead.next.url.items) };
 }
 
 impl Spans {
     /// At the beginning of a stream.
-    pub(crate) fn new(alloc: Global) -> Spans
-        ensures { result ≡ plain }
+    pub(crate) fn new(alloc: Global, links: bool) -> Spans
+        ensures { result ≡ first_set links }
     {
         Spans {
             alloc,
+            links,
             look: Look::plain(),
+            lead: Lead::new(alloc),
             actions: Vec::new(alloc),
         }
     }
@@ -136,11 +143,16 @@ impl Rule for Spans {
         Ok(0)
     }
 
-    fn string(&mut self, _bytes: &[u8], _out: &mut Vec<u8>) -> Result<(), AllocError> {
+    fn string(&mut self, bytes: &[u8], out: &mut Vec<u8>) -> Result<(), AllocError> {
+        if !self.links {
+            return Ok(());
+        }
+        self.lead.append_links(self.look, bytes, out)?;
         Ok(())
     }
 
     fn close(&self, out: &mut Vec<u8>) -> Result<(), AllocError> {
-        append_end(self.look, out)
+        append_end(self.look, out)?;
+        append_shut(&self.lead.to, out)
     }
 }

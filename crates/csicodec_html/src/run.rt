@@ -1,11 +1,10 @@
 //! A stream as a page, as it comes.
 ghost use Rattle.std.specs.Prelude.{◌≡◌, ◌++◌, [], ℕ, List, OnErr, OnOk};
 ghost use Rattle.std.specs.Io.KnownBytes.{Appends, Consumes, IsAtEnd};
-ghost use Rattle.csicodec_html.specs.Page.{IsPage, PageOf};
-ghost use Rattle.csicodec_html.specs.Look.{plain};
+ghost use Rattle.csicodec_html.specs.Page.{IsPage, IsPageWith, PageOf, PageWith, first_set};
 ghost use Rattle.csicodec_clean.specs.Stream.{start_of};
 
-use crate::page::append_page;
+use crate::page::{Markup, append_page};
 use crate::rule::Spans;
 use csicodec_clean::Cleaner;
 use csicodec_filter::{Transform, transform_all};
@@ -39,19 +38,19 @@ struct Page {
 
 impl Model for Page {
     ghost use Rattle.csicodec_clean.specs.Stream.{Between};
-    ghost use Rattle.csicodec_html.specs.declared.look.Look.{Look};
+    ghost use Rattle.csicodec_html.specs.Page.{Setting};
 
-    ghost Value = { Between Look };
+    ghost Value = { Between Setting };
 
     ghost view = { λ p. p.cleaner };
 }
 
 impl Page {
     /// Of which nothing has come.
-    fn new(alloc: Global) -> Page
-        ensures { result ≡ start_of plain }
+    fn new(alloc: Global, links: bool) -> Page
+        ensures { result ≡ start_of (first_set links) }
     {
-        let cleaner = Cleaner::new(alloc, Spans::new(alloc));
+        let cleaner = Cleaner::new(alloc, Spans::new(alloc, links));
         Page { cleaner }
     }
 }
@@ -88,7 +87,7 @@ impl Transform for Page {
 /// Reads to the end, and writes the stream as [`html`](crate::html) makes it of all its bytes, as it comes: after each read all that is
 /// sure is written and flushed.
 ///
-/// It holds a control sequence that isn't over, of fewer than 65536 bytes, and three bytes of a character at most. The errors are
+/// It holds a control sequence that isn't over, of fewer than 65536 bytes, three bytes of a character at most, and two addresses. The errors are
 /// those of `csicodec_clean::clean_run`.
 ///
 /// ```text
@@ -113,5 +112,27 @@ pub fn html_all<R: Read, W: Write>(
         × PageOf bytes (sent ++ unsent) × IsPage (sent ++ unsent)
         × Appends (W.contents output.old) (W.contents output.new) sent) }
 {
-    transform_all(alloc, Page::new(alloc), input, output)
+    html_all_with(alloc, Markup { links: false }, input, output)
+}
+
+/// The same with what becomes markup, as [`html_with`](crate::html_with) makes it.
+pub fn html_all_with<R: Read, W: Write>(
+    alloc: Global,
+    markup: Markup,
+    input: &mut R,
+    output: &mut W,
+) -> Result<(), RunError>
+    ensures ok { OnOk result
+        ((bytes : List ℕ) × (page : List ℕ)
+        × Consumes (R.remaining input.old) (R.remaining input.new) bytes
+        × PageWith markup.links bytes page × IsPageWith markup.links page
+        × Appends (W.contents output.old) (W.contents output.new) page) }
+    ensures end { OnOk result (IsAtEnd (R.remaining input.new)) }
+    ensures front { OnErr result
+        ((bytes : List ℕ) × (more : List ℕ) × (sent : List ℕ) × (unsent : List ℕ)
+        × Consumes (R.remaining input.old) (R.remaining input.new) (bytes ++ more)
+        × PageWith markup.links bytes (sent ++ unsent) × IsPageWith markup.links (sent ++ unsent)
+        × Appends (W.contents output.old) (W.contents output.new) sent) }
+{
+    transform_all(alloc, Page::new(alloc, markup.links), input, output)
 }

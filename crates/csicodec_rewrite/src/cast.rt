@@ -4,7 +4,7 @@ use csicodec_clean::{Cleaner, Dropped, Kept, Rule, strip};
 use csicodec_command::{Failure, Recording, time_of};
 use csicodec_compact::Compactor;
 use csicodec_filter::{Faithful, Filter, NormalForm};
-use csicodec_html::html;
+use csicodec_html::{Markup, html_with};
 use csicodec_streams::{RunError, send};
 use serde_json::Value;
 use std::alloc::{AllocError, Global};
@@ -150,6 +150,7 @@ pub fn rewrite_cast<R: BufRead, W: Write>(
 /// Writes what the programs of a recording wrote as a piece of a page. All of it is held until the recording ends.
 pub fn html_cast<R: BufRead, W: Write>(
     alloc: Global,
+    markup: Markup,
     input: &mut R,
     output: &mut W,
 ) -> Result<(), Failure> {
@@ -167,6 +168,6 @@ pub fn html_cast<R: BufRead, W: Write>(
         }
     }
     reading.end()?;
-    let page = html(alloc, &written).map_err(no_memory)?;
+    let page = html_with(alloc, markup, &written).map_err(no_memory)?;
     Ok(send(output, &page)?)
 }

@@ -12,7 +12,7 @@ use csicodec_command::{
 };
 use csicodec_compact::{Compact, Compactor, compact_all};
 use csicodec_filter::{Faithful, Filter, NormalForm, filter_all};
-use csicodec_html::{BEHIND, FRONT, html_all};
+use csicodec_html::{BEHIND, FRONT, Markup, html_all_with};
 use csicodec_spans::LIMIT;
 use csicodec_streams::{RunError, send};
 use std::alloc::Global;
@@ -22,12 +22,22 @@ use std::process::ExitCode;
 /// What is made of one input after the other.
 #[derive(Drop)]
 enum Work {
-    Filter { faithful: bool },
-    Compact { semicolons: bool },
+    Filter {
+        faithful: bool,
+    },
+    Compact {
+        semicolons: bool,
+    },
     Strip,
-    Clean { passing: Passing },
+    Clean {
+        passing: Passing,
+    },
     /// A page, which ends behind the last input if it has begun.
-    Html { fragment: bool, begun: bool },
+    Html {
+        markup: Markup,
+        fragment: bool,
+        begun: bool,
+    },
 }
 
 /// The rule of `compact`.
@@ -64,10 +74,14 @@ impl Work {
                 let passing = Passing { depth, links };
                 Some(Work::Clean { passing })
             }
-            Task::Html => Some(Work::Html {
-                fragment: run.fragment,
-                begun: false,
-            }),
+            Task::Html => {
+                let markup = Markup { links: run.links };
+                Some(Work::Html {
+                    markup,
+                    fragment: run.fragment,
+                    begun: false,
+                })
+            }
             Task::Explain => None,
         }
     }
@@ -101,6 +115,7 @@ impl Work {
         if let Work::Html {
             fragment: false,
             begun,
+            ..
         } = self
         {
             if !*begun {
@@ -130,7 +145,7 @@ impl Worker for Work {
             }
             Work::Strip => strip_all(alloc, input, output)?,
             Work::Clean { passing } => clean_all_with(alloc, *passing, input, output)?,
-            Work::Html { .. } => html_all(alloc, input, output)?,
+            Work::Html { markup, .. } => html_all_with(alloc, *markup, input, output)?,
         }
         Ok(())
     }
@@ -142,10 +157,13 @@ impl Worker for Work {
         output: &mut W,
     ) -> Result<(), Failure> {
         self.begin(output)?;
-        match self.stage(alloc) {
-            Some(mut stage) => rewrite_cast(alloc, &mut stage, input, output),
-            None => html_cast(alloc, input, output),
+        if let Work::Html { markup, .. } = self {
+            return html_cast(alloc, *markup, input, output);
         }
+        if let Some(mut stage) = self.stage(alloc) {
+            rewrite_cast(alloc, &mut stage, input, output)?;
+        }
+        Ok(())
     }
 
     fn end<W: Write>(&mut self, output: &mut W) -> Result<(), RunError> {

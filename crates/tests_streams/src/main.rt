@@ -49,6 +49,7 @@ fn told(alloc: Global, row: &str) -> Result<String, AllocError> {
         "links" => untrusted::links(alloc, rest),
         "link" => untrusted::link(alloc, rest),
         "html" => untrusted::html(alloc, rest),
+        "page" => untrusted::page(alloc, rest),
         _ => format!(in alloc; "no such row"),
     }
 }

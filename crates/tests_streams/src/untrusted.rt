@@ -4,7 +4,7 @@ use crate::spelling::{bytes_of, law, spelled};
 use csicodec_clean::{
     Cleaner, Depth, Dropped, Kept, Passing, Rule, clean, clean_in, clean_with, strip,
 };
-use csicodec_html::html_all;
+use csicodec_html::{Markup, html_all, html_all_with, html_with};
 use std::alloc::{AllocError, Global};
 
 const WITH_LINKS: Passing = Passing {
@@ -87,6 +87,17 @@ pub(crate) fn html(alloc: Global, word: &str) -> Result<String, AllocError> {
     let page = csicodec_html::html(alloc, &bytes)?;
     let mut written: Vec<u8> = Vec::new(alloc);
     let read = html_all(alloc, &mut bytes.as_slice(), &mut written);
+    let (text, end) = (spelled(alloc, &page)?, law(read.is_ok() && written == page));
+    format!(in alloc; "{text}{end}")
+}
+
+/// `page BYTES`: the same with links.
+pub(crate) fn page(alloc: Global, word: &str) -> Result<String, AllocError> {
+    let bytes = bytes_of(alloc, word)?;
+    let markup = Markup { links: true };
+    let page = html_with(alloc, markup, &bytes)?;
+    let mut written: Vec<u8> = Vec::new(alloc);
+    let read = html_all_with(alloc, markup, &mut bytes.as_slice(), &mut written);
     let (text, end) = (spelled(alloc, &page)?, law(read.is_ok() && written == page));
     format!(in alloc; "{text}{end}")
 }

@@ -4,17 +4,19 @@ use Rattle.std.specs.Prelude.{ℕ, ◌≡◌, ◌==◌, if◌then◌else◌, Lis
 use Rattle.std.specs.List.{flat_map}
 use Rattle.csicodec_actions.specs.Actions.{Action}
 use Rattle.csicodec_clean.specs.Cleaned.{RuleOf, EndOf}
+use Rattle.csicodec_clean.specs.Links.{links_at, next}
 use Rattle.csicodec_clean.specs.Stream.{Between, Takes}
 use Rattle.csicodec_clean.specs.Shown.{shown_text}
 use Rattle.csicodec_clean.specs.Styled.{IsOf}
-use Rattle.csicodec_html.specs.declared.look.Look.{Look}
 use Rattle.csicodec_html.specs.Look.{behind_all, css, sets_any}
-use Rattle.csicodec_html.specs.Page.{Piece, Char, Begin, End, ends, turn}
+use Rattle.csicodec_html.specs.Page.{Piece, Char, Begin, End, Open, Setting, Shut, behind_actions, closing, led_by, setting, switches, turn}
 
 abbrev pub marked : Piece → List ℕ
 marked (Char c) = encode_utf8 c
 marked (Begin l) = 1 ∷ (codes "span style=" ++ (3 ∷ (css l ++ 3 ∷ 2 ∷ [])))
 marked End = 1 ∷ (codes "/span" ++ 2 ∷ [])
+marked (Open url) = 1 ∷ (codes "a href=" ++ (3 ∷ (url ++ 3 ∷ 2 ∷ [])))
+marked Shut = 1 ∷ (codes "/a" ++ 2 ∷ [])
 
 abbrev pub all_marked : List Piece → List ℕ
 all_marked pieces = flat_map marked pieces
@@ -35,23 +37,30 @@ page_byte b =
 abbrev pub page_bytes : List ℕ → List ℕ
 page_bytes bytes = flat_map page_byte bytes
 
--- what is written for a control sequence, and for a control string
-abbrev pub turns : RuleOf Look
+-- behind a byte of a control string
+abbrev pub behind_byte : Setting → ℕ → Setting
+behind_byte s c =
+    setting s.links s.look (led_by s.to (links_at s.links s.begun c)) (next s.links s.begun c)
+
+-- what is written for a control sequence, and for a byte of a control string
+abbrev pub turns : RuleOf Setting
 turns = record {
-  sequence = λ l bytes out after.
-      (actions : List Action) × IsOf bytes actions × (after ≡ behind_all l actions)
-      × (out ≡ all_marked (turn (sets_any actions) l after));
-  byte = λ l b out after. (out ≡ []) × (after ≡ l);
+  sequence = λ s bytes out after.
+      (actions : List Action) × IsOf bytes actions × (after ≡ behind_actions s actions)
+      × (out ≡ all_marked (turn (sets_any actions) s.look (behind_all s.look actions)));
+  byte = λ s c out after.
+      (out ≡ all_marked (switches s.look s.to (links_at s.links s.begun c)))
+      × (after ≡ behind_byte s c);
 }
 
-abbrev pub closes : EndOf Look
-closes l out = out ≡ all_marked (ends l)
+abbrev pub closes : EndOf Setting
+closes s out = out ≡ all_marked (closing s)
 
 -- a page as it comes
-abbrev pub Passes : Between Look → List ℕ → List ℕ → Between Look → Type 0
+abbrev pub Passes : Between Setting → List ℕ → List ℕ → Between Setting → Type 0
 Passes old bytes page new = (text : List ℕ) × Takes turns old bytes text new
     × (page ≡ page_bytes text)
 
-abbrev pub Finishes : Between Look → List ℕ → Type 0
+abbrev pub Finishes : Between Setting → List ℕ → Type 0
 Finishes last page = (close : List ℕ) × closes last.rule close
     × (page ≡ page_bytes (shown_text last.held ++ close))

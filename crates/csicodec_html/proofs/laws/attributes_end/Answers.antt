@@ -1,5 +1,9 @@
 use Rattle.csicodec_html.proofs.Harmless.{css_fine}
+use Rattle.csicodec_html.proofs.Quoted.{all_quoted}
 use Rattle.csicodec_html.proofs.laws.attributes_end.Goals as goal
 
-pub returns : goal.returns
-returns c = css_fine
+pub returns-clause-styles : goal.returns-clause-styles
+returns-clause-styles c = css_fine
+
+pub returns-clause-addresses : goal.returns-clause-addresses
+returns-clause-addresses c = all_quoted

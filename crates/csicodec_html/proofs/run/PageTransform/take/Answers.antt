@@ -3,7 +3,7 @@ use Rattle.std.proofs.lemmas.Grind.{flat_map-append}
 use Rattle.std.proofs.lemmas.Result.{on_ok_weaker}
 use Rattle.csicodec_clean.specs.Stream.{Between, Takes}
 use Rattle.csicodec_clean.proofs.Chunks.{takes_on}
-use Rattle.csicodec_html.specs.declared.look.Look.{Look}
+use Rattle.csicodec_html.specs.Page.{Setting}
 use Rattle.csicodec_html.specs.Private.Marked.{page_byte, page_bytes, turns}
 use Rattle.csicodec_html.proofs.run.PageTransform.take.Goals as goal
 
@@ -12,7 +12,7 @@ returns-clause-passes c =
     let (text, taken, pushed) = c.in_ok-push.ensures.takes in
     let bytes = c.args.bytes.now in
     let old = c.args.out.now.items in
-    let takes = subst (λ (b : Between Look). Takes turns b bytes text c.push.new.self) c.self.view_is taken in
+    let takes = subst (λ (b : Between Setting). Takes turns b bytes text c.push.new.self) c.self.view_is taken in
     on_ok_weaker c.append_page.result
     (λ e. (
       page_bytes text,

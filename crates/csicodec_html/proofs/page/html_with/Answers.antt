@@ -2,11 +2,11 @@ use Rattle.std.proofs.Common.{◌≡◌, ◌++◌, ◌∙◌, List, ℕ, ap, sub
 use Rattle.csicodec_clean.specs.Shown.{shown_text}
 use Rattle.csicodec_clean.specs.Stream.{Between, Takes}
 use Rattle.csicodec_clean.proofs.Chunks.{ends}
-use Rattle.csicodec_html.specs.declared.look.Look.{Look}
+use Rattle.csicodec_html.specs.Page.{Setting}
 use Rattle.csicodec_html.specs.Private.Marked.{closes, page_bytes, turns}
 use Rattle.csicodec_html.proofs.Left.{page_of}
 use Rattle.csicodec_html.proofs.Paired.{is_page}
-use Rattle.csicodec_html.proofs.page.html.Goals as goal
+use Rattle.csicodec_html.proofs.page.html_with.Goals as goal
 
 pub returns-clause-exact : goal.returns-clause-exact
 returns-clause-exact c =
@@ -15,10 +15,10 @@ returns-clause-exact c =
     let bytes = c.args.bytes.now in
     let last = c.push.new.self in
     let rest = shown_text last.held ++ close in
-    let begun = subst (λ (b : Between Look). Takes turns b bytes text last) c.new-cleaner.ensures takes in
+    let begun = subst (λ (b : Between Setting). Takes turns b bytes text last) c.new-cleaner.ensures takes in
     let all : c.deref.result.now ≡ text ++ rest = c.deref.ensures.value ∙ finished ∙ ap (λ (t : List ℕ). t ++ rest) (pushed ∙ ap (λ (t : List ℕ). t ++ text) c.new-marked.ensures.items) in
-    page_of c.new.result bytes (text ++ rest) c.append_page.new.out.items c.new.ensures (ends turns closes c.new.result bytes text close last begun closing)
+    page_of c.args.markup.links c.new.result bytes (text ++ rest) c.append_page.new.out.items c.new.ensures (ends turns closes c.new.result bytes text close last begun closing)
     (c.in_ok-append_page.ensures ∙ ap (λ (t : List ℕ). t ++ page_bytes c.deref.result.now) c.new-out.ensures.items ∙ ap page_bytes all)
 
 pub returns-clause-safe : goal.returns-clause-safe
-returns-clause-safe c = is_page c.args.bytes.now c.append_page.new.out.items (returns-clause-exact c)
+returns-clause-safe c = is_page c.args.markup.links c.args.bytes.now c.append_page.new.out.items (returns-clause-exact c)

@@ -1,6 +1,6 @@
 use Rattle.std.proofs.Common.{◌≡◌, ◌++◌, true, take}
 use Rattle.csicodec_clean.specs.Links.{all_behind, begun, is_linked, link_texts, links_in}
-use Rattle.csicodec_clean.proofs.links.Partial.append_links.Given as goal
+use Rattle.csicodec_clean.proofs.links.LinkReader.append_links.Given as goal
 
 -- the links of the bytes up to here
 abbrev pub invariant-loop-byte : goal.invariant-loop-byte

@@ -2,7 +2,7 @@ use Rattle.std.proofs.Common.{◌≡◌, ◌+◌, ◌++◌, ◌∷◌, [], get_o
 use Rattle.std.proofs.lemmas.List.{take_more}
 use Rattle.csicodec_clean.specs.Links.{begun}
 use Rattle.csicodec_clean.proofs.Linked.{begun_more, linked_more, texts_more}
-use Rattle.csicodec_clean.proofs.links.Partial.append_links.Goals as goal
+use Rattle.csicodec_clean.proofs.links.LinkReader.append_links.Goals as goal
 
 pub loop-byte-preserved : goal.loop-byte-preserved
 loop-byte-preserved c =

@@ -1,0 +1,148 @@
+//! Where text leads: links, read byte by byte.
+ghost use Rattle.std.specs.Prelude.{◌≡◌, ◌++◌, ◌||◌, [], true, OnOk, if◌then◌else◌};
+ghost use Rattle.csicodec_clean.specs.Links.{all_behind, begun, behind, links_at, links_in, start};
+ghost use Rattle.csicodec_html.specs.Page.{is_web, leads, led, led_by, switch, switches};
+ghost use Rattle.csicodec_html.specs.Private.Marked.{all_marked};
+
+use crate::look::Look;
+use crate::mark::{append_begin, append_end, append_open, append_shut, leads};
+use csicodec_clean::{LinkReader, ends_link};
+use std::alloc::{AllocError, Global};
+
+/// Whether the address is one of http or https.
+fn is_web(url: &[u8]) -> bool
+    ensures { result ≡ is_web url.now }
+{
+    url.starts_with(b"http://") || url.starts_with(b"https://")
+}
+
+/// Where a link to the address leads on a page: there, or nowhere, which has no bytes.
+fn led(url: &[u8]) -> &[u8]
+    ensures { result.now ≡ led url.now }
+{
+    if is_web(url) { url } else { &[] }
+}
+
+/// Whether one of two links leads anywhere.
+fn leads_any(old: &[u8], new: &[u8]) -> bool
+    ensures { result ≡ (leads old.now || leads new.now) }
+{
+    leads(old) || leads(new)
+}
+
+/// Appends the tags between text that leads to one place and text that leads to another.
+fn append_switch(look: Look, old: &[u8], new: &[u8], out: &mut Vec<u8>) -> Result<(), AllocError>
+    ensures { OnOk result
+        (out.new.items ≡ out.old.items ++ all_marked (switch look old.now new.now)) }
+{
+    let comes = leads_any(old, new);
+    if !comes {
+        return Ok(());
+    }
+    append_end(look, out)?;
+    append_shut(old, out)?;
+    append_open(new, out)?;
+    append_begin(look, out)
+}
+
+/// Appends them for a link that is over, and sets where it leads.
+fn follow(
+    over: bool,
+    url: &[u8],
+    look: Look,
+    to: &mut Vec<u8>,
+    out: &mut Vec<u8>,
+) -> Result<(), AllocError>
+    ensures text { OnOk result
+        (out.new.items
+        ≡ out.old.items
+        ++ all_marked (if over then switch look to.old.items (led url.now) else [])) }
+    ensures to { OnOk result (to.new.items ≡ (if over then led url.now else to.old.items)) }
+{
+    if !over {
+        return Ok(());
+    }
+    let new = led(url);
+    append_switch(look, to, new, out)?;
+    to.clear();
+    to.extend_from_slice(new)
+}
+
+/// Where text leads, and what has come of the next link.
+#[derive(Drop)]
+pub(crate) struct Lead {
+    /// The address; no bytes where it leads nowhere.
+    pub(crate) to: Vec<u8>,
+    pub(crate) next: LinkReader,
+}
+
+impl Lead {
+    /// At the beginning of a stream.
+    pub(crate) fn new(alloc: Global) -> Lead
+        ensures to { result.to.items ≡ [] }
+        ensures next { begun result.next.place result.next.params.items result.next.url.items
+            ≡ start }
+    {
+        Lead {
+            to: Vec::new(alloc),
+            next: LinkReader::new(alloc),
+        }
+    }
+
+    /// Takes the next byte of a control string, and appends the tags for the link that is over with it.
+    fn append_byte(&mut self, look: Look, byte: u8, out: &mut Vec<u8>) -> Result<(), AllocError>
+        ensures text { OnOk result
+            (out.new.items
+            ≡ out.old.items
+            ++ all_marked
+            (switches look self.old.to.items
+            (links_at true
+            (begun self.old.next.place self.old.next.params.items self.old.next.url.items) byte))) }
+        ensures to { OnOk result
+            (self.new.to.items
+            ≡ led_by self.old.to.items
+            (links_at true
+            (begun self.old.next.place self.old.next.params.items self.old.next.url.items) byte)) }
+        ensures next { OnOk result
+            (begun self.new.next.place self.new.next.params.items self.new.next.url.items
+            ≡ behind
+            (begun self.old.next.place self.old.next.params.items self.old.next.url.items) byte) }
+    {
+        let over = ends_link(self.next.place, byte);
+        follow(over, &self.next.url, look, &mut self.to, out)?;
+        self.next.take(byte)
+    }
+
+    /// The same of each of the bytes in turn.
+    pub(crate) fn append_links(
+        &mut self,
+        look: Look,
+        bytes: &[u8],
+        out: &mut Vec<u8>,
+    ) -> Result<(), AllocError>
+        ensures text { OnOk result
+            (out.new.items
+            ≡ out.old.items
+            ++ all_marked
+            (switches look self.old.to.items
+            (links_in true
+            (begun self.old.next.place self.old.next.params.items self.old.next.url.items)
+            bytes.now))) }
+        ensures to { OnOk result
+            (self.new.to.items
+            ≡ led_by self.old.to.items
+            (links_in true
+            (begun self.old.next.place self.old.next.params.items self.old.next.url.items)
+            bytes.now)) }
+        ensures next { OnOk result
+            (begun self.new.next.place self.new.next.params.items self.new.next.url.items
+            ≡ all_behind true
+            (begun self.old.next.place self.old.next.params.items self.old.next.url.items)
+            bytes.now) }
+    {
+        for byte in bytes {
+            self.append_byte(look, *byte, out)?;
+        }
+        Ok(())
+    }
+}

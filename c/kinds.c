@@ -1,4 +1,4 @@
-/* Each kind of action with its text, and what the calls refuse. */
+/* Each kind of action with its text, each kind of sequence without an action, and what the calls refuse. */
 #include "csicodec.h"
 
 #include <stdio.h>
@@ -6,7 +6,7 @@
 
 #include "kinds.inc"
 
-enum { COUNT = sizeof kinds / sizeof kinds[0] };
+enum { COUNT = sizeof kinds / sizeof kinds[0], FURTHER = sizeof known / sizeof known[0] };
 
 static uint8_t out[256];
 
@@ -25,6 +25,36 @@ static int is_kind(size_t i) {
     if (!kinds[i].read) return 1;
     if (memcmp(&action, &kinds[i].action, sizeof action) || front.params != action.len) return 0;
     return memcmp(params, kinds[i].params, action.len * sizeof params[0]) == 0;
+}
+
+/* What is known of the text of a sequence without an action. */
+static struct csicodec_known known_of(const char *text) {
+    struct csicodec_action action;
+    struct csicodec_param params[32];
+    struct csicodec_front front = csicodec_next((const uint8_t *)text, strlen(text), &action, 1, params, 32);
+    struct csicodec_known none = {0};
+    if (front.status != CSICODEC_OK || front.actions != 1 || front.used != strlen(text)) return none;
+    return csicodec_known(&action, params, front.params);
+}
+
+/* Values, and what stands for those that are left out; and what is no row's list, or isn't all there. */
+static int knows(void) {
+    static const uint32_t copied[CSICODEC_KNOWN_VALUES] = {1, 2, 3, 0, 1, 1, 7, 1};
+    struct csicodec_known is = known_of("\x1b[;2;3;;;;7$v");
+    if (is.kind != CSICODEC_KNOWN_DECCRA || is.count != 8 || memcmp(is.values, copied, sizeof copied)) return 0;
+    is = known_of("\x1b[1;1;1;1;1;1;1;1;1;1;1;1;#{");
+    if (is.kind != CSICODEC_KNOWN_XTPUSHSGR || is.count != CSICODEC_KNOWN_VALUES) return 0;
+    if (known_of("\x1b[1;1;1;1;1;1;1;1;1;1;1;1;1#{").kind || known_of("\x1b[4?J").kind || known_of("\x1b[2J").kind) return 0;
+    struct csicodec_action action = {.kind = CSICODEC_UNSPECIFIED, .final_char = 'K', .place = 1, .len = 2};
+    struct csicodec_param params[] = {{1, ';'}, {1, '?'}, {0, 2}, {2, 2}};
+    is = csicodec_known(&action, params, 3);
+    if (is.kind != CSICODEC_KNOWN_DECSEL || is.count != 1 || is.values[0] != 2) return 0;
+    if (csicodec_known(&action, params, 2).kind || csicodec_known(&action, NULL, 0).kind) return 0;
+    struct csicodec_action wrong[] = {action, action, action, action, action};
+    wrong[0].place = SIZE_MAX, wrong[1].len = SIZE_MAX, wrong[2].first = 1, wrong[3].len = 3, wrong[4].final_char = 0x11004b;
+    for (size_t i = 0; i < sizeof wrong / sizeof wrong[0]; i++)
+        if (csicodec_known(&wrong[i], params, 4).kind) return 0;
+    return 1;
 }
 
 /* How a struct is refused that differs from one that is taken in one field. */
@@ -82,7 +112,12 @@ int main(void) {
         fprintf(stderr, "kinds: ESC %s isn't as promised\n", kinds[i].text + 1);
         return 1;
     }
-    if (!refuses() || !places() || !filters()) return 2;
-    printf("%d kinds\n", (int)COUNT);
+    for (size_t i = 0; i < FURTHER; i++) {
+        if (known_of(known[i].text).kind == known[i].kind) continue;
+        fprintf(stderr, "kinds: ESC %s isn't %s\n", known[i].text + 1, csicodec_kind_name(known[i].kind));
+        return 1;
+    }
+    if (!refuses() || !places() || !filters() || !knows()) return 2;
+    printf("%d kinds, %d of further sequences\n", (int)COUNT, (int)FURTHER);
     return 0;
 }

@@ -180,6 +180,28 @@ struct csicodec_judged {
 struct csicodec_judged csicodec_is_canonical(const struct csicodec_action *action, const struct csicodec_param *params,
                                              size_t params_count);
 
+/* How many values a row of docs/SEQUENCES.md has at most. */
+#define CSICODEC_KNOWN_VALUES 12
+
+/* What is known of a control sequence without an action, in 56 bytes without gaps. */
+struct csicodec_known {
+    /* enum csicodec_known_kind; 0 if no row reads the list. */
+    uint32_t kind;
+    /* How many values there are. */
+    uint32_t count;
+    /* The values, in the order of the comment at the kind, with what stands for each number that was left out; 0 behind them. */
+    uint32_t values[CSICODEC_KNOWN_VALUES];
+};
+
+/* The row of docs/SEQUENCES.md that reads the list of an action of kind CSICODEC_UNSPECIFIED, and its values; the tokens are among
+ * params_count params. Of any other struct, and if they aren't all there, the answer is zeros. It takes no memory.
+ *
+ *     struct csicodec_known known = csicodec_known(&action, params, params_count);
+ *     if (known.kind == CSICODEC_KNOWN_DECSED) erase_unprotected(known.values[0]);
+ */
+struct csicodec_known csicodec_known(const struct csicodec_action *action, const struct csicodec_param *params,
+                                     size_t params_count);
+
 /* What the bytes of a stream up to a place have left open. */
 enum csicodec_filter_mode {
     /* Nothing: characters are shown. A stream begins in this mode. */
@@ -421,10 +443,12 @@ static inline const char *csicodec_status_text(uint32_t status) {
 static_assert(sizeof(struct csicodec_action) == 64, "csicodec_action has 64 bytes");
 static_assert(sizeof(struct csicodec_param) == 16, "csicodec_param has 16 bytes");
 static_assert(sizeof(struct csicodec_cleaning) == 16, "csicodec_cleaning has 16 bytes");
+static_assert(sizeof(struct csicodec_known) == 56, "csicodec_known has 56 bytes");
 #else
 typedef char csicodec_action_has_64_bytes[sizeof(struct csicodec_action) == 64 ? 1 : -1];
 typedef char csicodec_param_has_16_bytes[sizeof(struct csicodec_param) == 16 ? 1 : -1];
 typedef char csicodec_cleaning_has_16_bytes[sizeof(struct csicodec_cleaning) == 16 ? 1 : -1];
+typedef char csicodec_known_has_56_bytes[sizeof(struct csicodec_known) == 56 ? 1 : -1];
 #endif
 
 #include "csicodec_stream.h"

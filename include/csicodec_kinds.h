@@ -698,4 +698,552 @@ enum csicodec_esc_code {
     CSICODEC_ESC_F4_PRESS = 20307
 };
 
+/* Which row of docs/SEQUENCES.md reads a list that no action has: kind of struct csicodec_known. The comment says what stands
+ * behind CSI, each value by its name. */
+enum csicodec_known_kind {
+    /* ? extent 0-3 (or 0) J : erase in the display what isn't protected */
+    CSICODEC_KNOWN_DECSED = 10001,
+    /* ? extent 0-2 (or 0) K : erase in the line what isn't protected */
+    CSICODEC_KNOWN_DECSEL = 10002,
+    /* protection 0-2 (or 0) " q : protection of the characters that follow */
+    CSICODEC_KNOWN_DECSCA = 10003,
+    /* level 61-65; controls 0-2 (or 0) " p : conformance level, and the form of C1 controls */
+    CSICODEC_KNOWN_DECSCL = 10004,
+    /* rate 0-3 (or 0) " t : refresh rate of the screen */
+    CSICODEC_KNOWN_DECSRFR = 10005,
+    /* limit 0-9 (or 0) " u : limit of the transmit rate */
+    CSICODEC_KNOWN_DECSTRL = 10006,
+    /* columns (or 1) ' } : insert columns */
+    CSICODEC_KNOWN_DECIC = 10007,
+    /* columns (or 1) ' ~ : delete columns */
+    CSICODEC_KNOWN_DECDC = 10008,
+    /* reports 0-2 (or 0); unit 0-2 (or 0) ' z : locator reports */
+    CSICODEC_KNOWN_DECELR = 10009,
+    /* events 0-4 (or 0); more 0-4 .. ' { : which events of the locator are reported */
+    CSICODEC_KNOWN_DECSLE = 10010,
+    /* top (or 1); left (or 1); bottom (or 1); right (or 1) ' w : filter rectangle of the locator */
+    CSICODEC_KNOWN_DECEFR = 10011,
+    /* delay 0-65535 (or 0) $ q : delay of disconnecting */
+    CSICODEC_KNOWN_DECSDDT = 10012,
+    /* printer 0-65535 (or 0) $ s : type of the printer */
+    CSICODEC_KNOWN_DECSPRTT = 10013,
+    /* top (or 1); left (or 1); bottom (or 0); right (or 0); attribute (or 0); more .. $ r : change attributes in a rectangle */
+    CSICODEC_KNOWN_DECCARA = 10014,
+    /* top (or 1); left (or 1); bottom (or 0); right (or 0); attribute (or 0); more .. $ t : reverse attributes in a rectangle */
+    CSICODEC_KNOWN_DECRARA = 10015,
+    /* top (or 1); left (or 1); bottom (or 0); right (or 0); page (or 1); to top (or 1); to left (or 1); to page (or 1) $ v :
+     * copy a rectangle */
+    CSICODEC_KNOWN_DECCRA = 10016,
+    /* character (or 32); top (or 1); left (or 1); bottom (or 0); right (or 0) $ x : fill a rectangle with a character */
+    CSICODEC_KNOWN_DECFRA = 10017,
+    /* top (or 1); left (or 1); bottom (or 0); right (or 0) $ z : erase a rectangle */
+    CSICODEC_KNOWN_DECERA = 10018,
+    /* top (or 1); left (or 1); bottom (or 0); right (or 0) $ { : erase in a rectangle what isn't protected */
+    CSICODEC_KNOWN_DECSERA = 10019,
+    /* extent 0-2 (or 0) * x : whether DECCARA and DECRARA change a stream of lines (0 and 1) or a rectangle */
+    CSICODEC_KNOWN_DECSACE = 10020,
+    /* columns 0-255 (or 80) $ | : columns a page */
+    CSICODEC_KNOWN_DECSCPP = 10021,
+    /* display 0-1 (or 0) $ } : whether characters go to the screen or to the status line */
+    CSICODEC_KNOWN_DECSASD = 10022,
+    /* line 0-2 (or 0) $ ~ : status line: none, the terminal's own, or one for programs */
+    CSICODEC_KNOWN_DECSSDT = 10023,
+    /* lines 0-255 (or 24) * | : lines on the screen */
+    CSICODEC_KNOWN_DECSNLS = 10024,
+    /* & x : enable the session */
+    CSICODEC_KNOWN_DECES = 10025,
+    /* set 0-65535 (or 0) * p : character set of the ProPrinter */
+    CSICODEC_KNOWN_DECSPPCS = 10026,
+    /* line 0-5 (or 0); speed 0-11 (or 0) * r : speed of a line */
+    CSICODEC_KNOWN_DECSCS = 10027,
+    /* direction (or 0); kind (or 0); level (or 0) * s : flow control */
+    CSICODEC_KNOWN_DECSFC = 10028,
+    /* port 0-2 (or 0); host (or 0) * u : communication port */
+    CSICODEC_KNOWN_DECSCP = 10029,
+    /* macro 0-63 (or 0) * z : run a macro */
+    CSICODEC_KNOWN_DECINVM = 10030,
+    /* key 0-8 (or 0); control 0-3 (or 0) * } : local function keys */
+    CSICODEC_KNOWN_DECLFKC = 10031,
+    /* confirmation 0-16383 (or 0) + p : secure reset */
+    CSICODEC_KNOWN_DECSR = 10032,
+    /* function 0-5 (or 0); control 0-2 (or 0) + q : local functions */
+    CSICODEC_KNOWN_DECELF = 10033,
+    /* key (or 0); report (or 0) + r : reports of modifier keys */
+    CSICODEC_KNOWN_DECSMKR = 10034,
+    /* port (or 0); bits (or 0); parity (or 0); stop (or 0) + w : parameters of a port */
+    CSICODEC_KNOWN_DECSPP = 10035,
+    /* table 0-3 (or 0) ) { : colour look-up table */
+    CSICODEC_KNOWN_DECSTGLT = 10036,
+    /* hour 0-23 (or 0); minute 0-59 (or 0) , p : time of day */
+    CSICODEC_KNOWN_DECLTOD = 10037,
+    /* terminal 0-10 (or 0) , q : the terminal ID that is told */
+    CSICODEC_KNOWN_DECTID = 10038,
+    /* session 0-1 (or 0) , y : update the session */
+    CSICODEC_KNOWN_DECUS = 10039,
+    /* style 0-2 (or 0) , { : how zero is written */
+    CSICODEC_KNOWN_DECSZS = 10040,
+    /* item 1-2; foreground 0-255; background 0-255 , | : colours of text */
+    CSICODEC_KNOWN_DECAC = 10041,
+    /* attribute 0-15; foreground 0-255; background 0-255 , } : colours of an attribute */
+    CSICODEC_KNOWN_DECATC = 10042,
+    /* volume 0-7; duration 0-255; note 0-25 (or 0); more 0-25 .. , ~ : play notes */
+    CSICODEC_KNOWN_DECPS = 10043,
+    /* minutes 0-60 (or 15) - q : time to the screen saver */
+    CSICODEC_KNOWN_DECCRTST = 10044,
+    /* minutes 0-60 (or 15) - r : time to saving energy */
+    CSICODEC_KNOWN_DECSEST = 10045,
+    /* rate 0-30 (or 30) - p : rate of auto-repeat */
+    CSICODEC_KNOWN_DECARR = 10046,
+    /* volume 0-8 (or 0) SP r : volume of the key click */
+    CSICODEC_KNOWN_DECSKCV = 10047,
+    /* volume 0-8 (or 0) SP t : volume of the warning bell */
+    CSICODEC_KNOWN_DECSWBV = 10048,
+    /* volume 0-8 (or 0) SP u : volume of the margin bell */
+    CSICODEC_KNOWN_DECSMBV = 10049,
+    /* style 0-1 (or 0) SP v : style of the lock key */
+    CSICODEC_KNOWN_DECSLCK = 10050,
+    /* speed 0-9 (or 0) SP p : speed of scrolling */
+    CSICODEC_KNOWN_DECSSCLS = 10051,
+    /* language 0-65535 (or 0); layout 0-65535 (or 0) SP } : language of the keyboard */
+    CSICODEC_KNOWN_DECKBD = 10052,
+    /* mode 0-7 (or 0) SP ~ : terminal mode emulation */
+    CSICODEC_KNOWN_DECTME = 10053,
+    /* ? 5 W : tab stops at every 8 columns */
+    CSICODEC_KNOWN_DECST8C = 10054,
+    /* ? 1 i : print the line of the cursor */
+    CSICODEC_KNOWN_MC_PRINT_CURSOR_LINE = 10055,
+    /* ? 4 i : auto print off */
+    CSICODEC_KNOWN_MC_AUTO_PRINT_OFF = 10056,
+    /* ? 5 i : auto print on */
+    CSICODEC_KNOWN_MC_AUTO_PRINT_ON = 10057,
+    /* ? 10 i : print the whole display */
+    CSICODEC_KNOWN_MC_PRINT_DISPLAY = 10058,
+    /* ? 11 i : print all pages */
+    CSICODEC_KNOWN_MC_PRINT_ALL_PAGES = 10059,
+    /* 0 (or 0) q : all lights of the keyboard off */
+    CSICODEC_KNOWN_DECLL_ALL_OFF = 10060,
+    /* 1 q : num lock light on */
+    CSICODEC_KNOWN_DECLL_NUM_LOCK_ON = 10061,
+    /* 2 q : caps lock light on */
+    CSICODEC_KNOWN_DECLL_CAPS_LOCK_ON = 10062,
+    /* 3 q : scroll lock light on */
+    CSICODEC_KNOWN_DECLL_SCROLL_LOCK_ON = 10063,
+    /* 21 q : num lock light off */
+    CSICODEC_KNOWN_DECLL_NUM_LOCK_OFF = 10064,
+    /* 22 q : caps lock light off */
+    CSICODEC_KNOWN_DECLL_CAPS_LOCK_OFF = 10065,
+    /* 23 q : scroll lock light off */
+    CSICODEC_KNOWN_DECLL_SCROLL_LOCK_OFF = 10066,
+    /* kind 2-4; test (or 0); more .. y : self-test */
+    CSICODEC_KNOWN_DECTST = 10067,
+    /* lines 24-47 t : lines a page, up to 47 */
+    CSICODEC_KNOWN_DECSLPP_UP_TO_47 = 10068,
+    /* lines 49-255 t : lines a page, from 49 on */
+    CSICODEC_KNOWN_DECSLPP_FROM_49 = 10069,
+    /* 48 t : 48 lines a page */
+    CSICODEC_KNOWN_DECSLPP_48 = 10070,
+    /* extent 0-2 (or 0) N : erase in the field */
+    CSICODEC_KNOWN_EF = 10071,
+    /* extent 0-2 O : erase in the area */
+    CSICODEC_KNOWN_EA = 10072,
+    /* extent 0-4 (or 0) Q : select the extent of editing */
+    CSICODEC_KNOWN_SEE = 10073,
+    /* pages (or 1) U : pages forward */
+    CSICODEC_KNOWN_NP = 10074,
+    /* pages (or 1) V : pages back */
+    CSICODEC_KNOWN_PP = 10075,
+    /* string 0-1 (or 0) [ : start or end a reversed string */
+    CSICODEC_KNOWN_SRS = 10076,
+    /* text 0-5 (or 0) \ : parallel texts */
+    CSICODEC_KNOWN_PTX = 10077,
+    /* direction 0-1 (or 0) ^ : implicit direction of movement */
+    CSICODEC_KNOWN_SIMD = 10078,
+    /* kind 0-11 (or 0) o : qualify an area */
+    CSICODEC_KNOWN_DAQ = 10079,
+    /* string 0-1 (or 0) ] : start or end a directed string */
+    CSICODEC_KNOWN_SDS = 10080,
+    /* 0 (or 0) i : print the screen */
+    CSICODEC_KNOWN_MC_PRINT_SCREEN = 10081,
+    /* 1 i : transfer from the first device */
+    CSICODEC_KNOWN_MC_FROM_FIRST_DEVICE = 10082,
+    /* 2 i : transfer to the second device */
+    CSICODEC_KNOWN_MC_TO_SECOND_DEVICE = 10083,
+    /* 3 i : transfer from the second device */
+    CSICODEC_KNOWN_MC_FROM_SECOND_DEVICE = 10084,
+    /* 4 i : printer controller off */
+    CSICODEC_KNOWN_MC_PRINTER_CONTROLLER_OFF = 10085,
+    /* 5 i : printer controller on */
+    CSICODEC_KNOWN_MC_PRINTER_CONTROLLER_ON = 10086,
+    /* 6 i : relay to the second device off */
+    CSICODEC_KNOWN_MC_SECOND_RELAY_OFF = 10087,
+    /* 7 i : relay to the second device on */
+    CSICODEC_KNOWN_MC_SECOND_RELAY_ON = 10088,
+    /* 0 n : answer: ready, no malfunction */
+    CSICODEC_KNOWN_DSR_READY = 10089,
+    /* 1 n : answer: busy, ask again */
+    CSICODEC_KNOWN_DSR_BUSY_ASK_AGAIN = 10090,
+    /* 2 n : answer: busy, another answer follows */
+    CSICODEC_KNOWN_DSR_BUSY_ANSWER_FOLLOWS = 10091,
+    /* 3 n : answer: malfunction, ask again */
+    CSICODEC_KNOWN_DSR_MALFUNCTION_ASK_AGAIN = 10092,
+    /* 4 n : answer: malfunction, another answer follows */
+    CSICODEC_KNOWN_DSR_MALFUNCTION_ANSWER_FOLLOWS = 10093,
+    /* columns (or 1) SP @ : scroll left */
+    CSICODEC_KNOWN_SL = 10094,
+    /* columns (or 1) SP A : scroll right */
+    CSICODEC_KNOWN_SR = 10095,
+    /* height (or 100); width (or 100) SP B : size of characters, in percent */
+    CSICODEC_KNOWN_GSM = 10096,
+    /* size SP C : size of characters */
+    CSICODEC_KNOWN_GSS = 10097,
+    /* font 0-9 (or 0); set (or 0) SP D : a font */
+    CSICODEC_KNOWN_FNT = 10098,
+    /* width SP E : width of a thin space */
+    CSICODEC_KNOWN_TSS = 10099,
+    /* how 0-8 (or 0) SP F : justify the text */
+    CSICODEC_KNOWN_JFY = 10100,
+    /* lines; characters SP G : spacing of lines and characters */
+    CSICODEC_KNOWN_SPI = 10101,
+    /* how 0-6 (or 0) SP H : place the text of the line */
+    CSICODEC_KNOWN_QUAD = 10102,
+    /* unit 0-8 (or 0) SP I : unit of size */
+    CSICODEC_KNOWN_SSU = 10103,
+    /* format 0-15 (or 0) SP J : format of the page */
+    CSICODEC_KNOWN_PFS = 10104,
+    /* spacing 0-6 (or 0) SP K : character spacing */
+    CSICODEC_KNOWN_SHS = 10105,
+    /* spacing 0-9 (or 0) SP L : line spacing */
+    CSICODEC_KNOWN_SVS = 10106,
+    /* repertoire SP M : graphic subrepertoire */
+    CSICODEC_KNOWN_IGS = 10107,
+    /* kind SP O : what device control strings are */
+    CSICODEC_KNOWN_IDCS = 10108,
+    /* page (or 1) SP P : to a page */
+    CSICODEC_KNOWN_PPA = 10109,
+    /* pages (or 1) SP Q : pages forward, place kept */
+    CSICODEC_KNOWN_PPR = 10110,
+    /* pages (or 1) SP R : pages back, place kept */
+    CSICODEC_KNOWN_PPB = 10111,
+    /* direction 0-7 (or 0); effect 0-2 (or 0) SP S : directions of lines and characters */
+    CSICODEC_KNOWN_SPD = 10112,
+    /* height; width SP T : dimensions of the text area */
+    CSICODEC_KNOWN_DTA = 10113,
+    /* column SP U : line home */
+    CSICODEC_KNOWN_SLH = 10114,
+    /* column SP V : line limit */
+    CSICODEC_KNOWN_SLL = 10115,
+    /* key SP W : a function key */
+    CSICODEC_KNOWN_FNK = 10116,
+    /* quality 0-2 (or 0) SP X : print quality */
+    CSICODEC_KNOWN_SPQR = 10117,
+    /* bin (or 0); stacker (or 0) SP Y : sheet eject and feed */
+    CSICODEC_KNOWN_SEF = 10118,
+    /* how 0-2 (or 0) SP Z : expand or contract characters */
+    CSICODEC_KNOWN_PEC = 10119,
+    /* width SP [ : width of a space */
+    CSICODEC_KNOWN_SSW = 10120,
+    /* width (or 0) SP \ : additional character separation */
+    CSICODEC_KNOWN_SACS = 10121,
+    /* variant 0-22 (or 0) SP ] : alternative presentation */
+    CSICODEC_KNOWN_SAPV = 10122,
+    /* stop SP ^ : selective tabulation */
+    CSICODEC_KNOWN_STAB = 10123,
+    /* how 0-2 (or 0) SP _ : combine characters */
+    CSICODEC_KNOWN_GCC = 10124,
+    /* column SP ` : tab stop at the trailing edge */
+    CSICODEC_KNOWN_TATE = 10125,
+    /* column SP a : tab stop at the leading edge */
+    CSICODEC_KNOWN_TALE = 10126,
+    /* column SP b : centred tab stop */
+    CSICODEC_KNOWN_TAC = 10127,
+    /* column; character (or 32) SP c : tab stop centred on a character */
+    CSICODEC_KNOWN_TCC = 10128,
+    /* column SP d : remove a tab stop */
+    CSICODEC_KNOWN_TSR = 10129,
+    /* turn 0-7 (or 0) SP e : orientation of characters */
+    CSICODEC_KNOWN_SCO = 10130,
+    /* width (or 0) SP f : reduced character separation */
+    CSICODEC_KNOWN_SRCS = 10131,
+    /* spacing SP g : character spacing */
+    CSICODEC_KNOWN_SCS = 10132,
+    /* spacing SP h : line spacing */
+    CSICODEC_KNOWN_SLS = 10133,
+    /* line SP i : page home */
+    CSICODEC_KNOWN_SPH = 10134,
+    /* line SP j : page limit */
+    CSICODEC_KNOWN_SPL = 10135,
+    /* attribute .. # { : push attributes, all where none is named */
+    CSICODEC_KNOWN_XTPUSHSGR = 10136,
+    /* attribute .. # p : push attributes, all where none is named */
+    CSICODEC_KNOWN_XTPUSHSGR_P = 10137,
+    /* # } : pop the attributes */
+    CSICODEC_KNOWN_XTPOPSGR = 10138,
+    /* # q : pop the attributes */
+    CSICODEC_KNOWN_XTPOPSGR_Q = 10139,
+    /* place 0-10 (or 0) # P : push the colours */
+    CSICODEC_KNOWN_XTPUSHCOLORS = 10140,
+    /* place 0-10 (or 0) # Q : pop the colours */
+    CSICODEC_KNOWN_XTPOPCOLORS = 10141,
+    /* bits 0-63 (or 0) # y : how checksums are made */
+    CSICODEC_KNOWN_XTCHECKSUM = 10142,
+    /* > resource 0-7 (or 2) n : modifiers of keys off */
+    CSICODEC_KNOWN_XTMODKEYS = 10143,
+    /* > hides 0-3 (or 1) p : when the pointer is hidden */
+    CSICODEC_KNOWN_XTSMPOINTER = 10144,
+    /* > shift 0-3 (or 0) s : whether shift is a modifier in mouse reports */
+    CSICODEC_KNOWN_XTSHIFTESCAPE = 10145,
+    /* > form 0-3; more 0-3 .. t : set the form of titles */
+    CSICODEC_KNOWN_XTSMTITLE = 10146,
+    /* > form 0-3; more 0-3 .. T : reset the form of titles */
+    CSICODEC_KNOWN_XTRMTITLE = 10147,
+    /* function; column; line; first; last T : highlight while the mouse is moved */
+    CSICODEC_KNOWN_XTHIMOUSE = 10148,
+    /* lines 2- ^ : scroll down */
+    CSICODEC_KNOWN_SD = 10149,
+    /* 22 t : push the icon name and the window title */
+    CSICODEC_KNOWN_XTWINOPS_PUSH_TITLES = 10150,
+    /* 23 t : pop the icon name and the window title */
+    CSICODEC_KNOWN_XTWINOPS_POP_TITLES = 10151,
+    /* 10 i : HTML copy of the screen */
+    CSICODEC_KNOWN_MC_HTML_COPY = 10152,
+    /* 11 i : SVG copy of the screen */
+    CSICODEC_KNOWN_MC_SVG_COPY = 10153,
+    /* lines (or 1) + T : scroll down out of the scrollback */
+    CSICODEC_KNOWN_UNSCROLL = 10154,
+    /* 1; colour ] : colour for underline */
+    CSICODEC_KNOWN_LINUX_UNDERLINE_COLOR = 10155,
+    /* 2; colour ] : colour for faint */
+    CSICODEC_KNOWN_LINUX_FAINT_COLOR = 10156,
+    /* 8 ] : make the current colours the default */
+    CSICODEC_KNOWN_LINUX_DEFAULT_COLORS = 10157,
+    /* 9; minutes ] : minutes to a blank screen */
+    CSICODEC_KNOWN_LINUX_BLANK_MINUTES = 10158,
+    /* 10; pitch ] : pitch of the bell, in hertz */
+    CSICODEC_KNOWN_LINUX_BELL_PITCH = 10159,
+    /* 11; length ] : length of the bell, in milliseconds */
+    CSICODEC_KNOWN_LINUX_BELL_LENGTH = 10160,
+    /* 12; console ] : show a console */
+    CSICODEC_KNOWN_LINUX_SHOW_CONSOLE = 10161,
+    /* 13 ] : unblank the screen */
+    CSICODEC_KNOWN_LINUX_UNBLANK = 10162,
+    /* 14; minutes ] : minutes to powering down the screen */
+    CSICODEC_KNOWN_LINUX_POWER_DOWN_MINUTES = 10163,
+    /* 15 ] : show the console before */
+    CSICODEC_KNOWN_LINUX_CONSOLE_BEFORE = 10164,
+    /* 16; interval ] : interval of the cursor's blinking, in milliseconds */
+    CSICODEC_KNOWN_LINUX_BLINK_INTERVAL = 10165,
+    /* ? 0 c : the cursor's look: as it was */
+    CSICODEC_KNOWN_LINUX_CURSOR_AS_IT_WAS = 10166,
+    /* ? look 2-3 c : the cursor's look */
+    CSICODEC_KNOWN_LINUX_CURSOR_2_TO_3 = 10167,
+    /* ? 5 c : the cursor's look: two thirds */
+    CSICODEC_KNOWN_LINUX_CURSOR_TWO_THIRDS = 10168,
+    /* ? look 8-11 c : the cursor's look */
+    CSICODEC_KNOWN_LINUX_CURSOR_8_TO_11 = 10169,
+    /* ? look 16-60; turned 0-255 (or 0); set 0-255 (or 0) c : the cursor's look */
+    CSICODEC_KNOWN_LINUX_CURSOR_16_TO_60 = 10170,
+    /* ? look 112-127; turned 0-255 (or 0); set 0-255 (or 0) c : the cursor's look */
+    CSICODEC_KNOWN_LINUX_CURSOR_112_TO_127 = 10171,
+    /* " v : ask which part of the page is shown */
+    CSICODEC_KNOWN_DECRQDE = 10172,
+    /* what 0-1 (or 0) ' | : ask for the locator's position */
+    CSICODEC_KNOWN_DECRQLP = 10173,
+    /* 1 $ u : ask for the terminal's state */
+    CSICODEC_KNOWN_DECRQTSR_STATE = 10174,
+    /* 2; space 0-2 (or 0) $ u : ask for the colour table */
+    CSICODEC_KNOWN_DECRQTSR_COLORS = 10175,
+    /* 1 $ w : ask for the cursor's state */
+    CSICODEC_KNOWN_DECRQPSR_CURSOR = 10176,
+    /* 2 $ w : ask for the tab stops */
+    CSICODEC_KNOWN_DECRQPSR_TAB_STOPS = 10177,
+    /* & u : ask for the user's supplemental set */
+    CSICODEC_KNOWN_DECRQUPSS = 10178,
+    /* ? 6 n : ask for the cursor's position and page */
+    CSICODEC_KNOWN_DECXCPR_ASK = 10179,
+    /* ? 15 n : ask for the printer's status */
+    CSICODEC_KNOWN_DSR_ASK_PRINTER = 10180,
+    /* ? 25 n : ask whether user-defined keys are locked */
+    CSICODEC_KNOWN_DSR_ASK_USER_KEYS = 10181,
+    /* ? 26 n : ask for the keyboard's language */
+    CSICODEC_KNOWN_DSR_ASK_KEYBOARD = 10182,
+    /* ? 53 n : ask for the locator's status, or answer that it is there */
+    CSICODEC_KNOWN_DSR_LOCATOR = 10183,
+    /* ? 55 n : ask for the locator's status */
+    CSICODEC_KNOWN_DSR_ASK_LOCATOR = 10184,
+    /* ? 56 n : ask for the locator's type */
+    CSICODEC_KNOWN_DSR_ASK_LOCATOR_TYPE = 10185,
+    /* ? 62 n : ask for the room for macros */
+    CSICODEC_KNOWN_DECMSR_ASK = 10186,
+    /* ? 63; request (or 0) n : ask for the checksum of the memory */
+    CSICODEC_KNOWN_DECCKSR = 10187,
+    /* ? 75 n : ask for the integrity of data */
+    CSICODEC_KNOWN_DSR_ASK_DATA = 10188,
+    /* ? 85 n : ask for the sessions */
+    CSICODEC_KNOWN_DSR_ASK_SESSIONS = 10189,
+    /* ? 996 n : ask for the colour scheme */
+    CSICODEC_KNOWN_COLOR_SCHEME_ASK = 10190,
+    /* ? resource 0-7 m : ask for the modifiers of keys */
+    CSICODEC_KNOWN_XTQMODKEYS = 10191,
+    /* ? resource 0-7 g : ask for the format of keys */
+    CSICODEC_KNOWN_XTQFMTKEYS = 10192,
+    /* top (or 1); left (or 1); bottom (or 0); right (or 0) # | : ask for the attributes in a rectangle */
+    CSICODEC_KNOWN_XTREPORTSGR = 10193,
+    /* # R : ask for the stack of colours */
+    CSICODEC_KNOWN_XTREPORTCOLORS = 10194,
+    /* # S : ask for the place on the stack of titles */
+    CSICODEC_KNOWN_XTTITLEPOS = 10195,
+    /* mode 0-65535; state 0-4 $ y : the state of a mode */
+    CSICODEC_KNOWN_DECRPM = 10196,
+    /* ? mode; state 0-4 $ y : the state of a private mode */
+    CSICODEC_KNOWN_DECRPM_PRIVATE = 10197,
+    /* lines; columns; left (or 1); top (or 1); page (or 1) " w : the part of the page that is shown */
+    CSICODEC_KNOWN_DECRPDE = 10198,
+    /* event 0-10; buttons 0-15 (or 0); line (or 0); column (or 0); page (or 0) & w : the locator's position */
+    CSICODEC_KNOWN_DECLRP = 10199,
+    /* confirmation 0-16383 (or 0) * q : confirmation of a secure reset */
+    CSICODEC_KNOWN_DECSRC = 10200,
+    /* blocks * { : room for macros, in blocks of 16 bytes */
+    CSICODEC_KNOWN_DECMSR = 10201,
+    /* ? line; column; page (or 1) R : the cursor's position and page */
+    CSICODEC_KNOWN_DECXCPR = 10202,
+    /* ? 10 n : printer ready */
+    CSICODEC_KNOWN_DSR_PRINTER_READY = 10203,
+    /* ? 11 n : printer not ready */
+    CSICODEC_KNOWN_DSR_PRINTER_NOT_READY = 10204,
+    /* ? 13 n : no printer */
+    CSICODEC_KNOWN_DSR_NO_PRINTER = 10205,
+    /* ? 18 n : printer busy */
+    CSICODEC_KNOWN_DSR_PRINTER_BUSY = 10206,
+    /* ? 19 n : printer with another session */
+    CSICODEC_KNOWN_DSR_PRINTER_OF_ANOTHER_SESSION = 10207,
+    /* ? 20 n : user-defined keys unlocked */
+    CSICODEC_KNOWN_DSR_USER_KEYS_UNLOCKED = 10208,
+    /* ? 21 n : user-defined keys locked */
+    CSICODEC_KNOWN_DSR_USER_KEYS_LOCKED = 10209,
+    /* ? 27; language (or 0); status (or 0); kind (or 0) n : the keyboard's language */
+    CSICODEC_KNOWN_DSR_KEYBOARD = 10210,
+    /* ? 50 n : no locator */
+    CSICODEC_KNOWN_DSR_NO_LOCATOR = 10211,
+    /* ? 57; kind (or 0) n : the locator's type */
+    CSICODEC_KNOWN_DSR_LOCATOR_TYPE = 10212,
+    /* ? 70 n : no data lost */
+    CSICODEC_KNOWN_DSR_NO_DATA_LOST = 10213,
+    /* ? 71 n : malfunction, or power cycle */
+    CSICODEC_KNOWN_DSR_DATA_MALFUNCTION = 10214,
+    /* ? 73 n : nothing to tell of data */
+    CSICODEC_KNOWN_DSR_NOTHING_OF_DATA = 10215,
+    /* ? 83 n : one session */
+    CSICODEC_KNOWN_DSR_ONE_SESSION = 10216,
+    /* ? 997; scheme 0-2 n : 1 a dark, 2 a light colour scheme */
+    CSICODEC_KNOWN_COLOR_SCHEME = 10217,
+    /* ? 4; 6 c : VT132 with advanced video and graphics */
+    CSICODEC_KNOWN_DA1_VT132 = 10218,
+    /* ? 7 c : VT131 */
+    CSICODEC_KNOWN_DA1_VT131 = 10219,
+    /* ? 12; options c : VT125 */
+    CSICODEC_KNOWN_DA1_VT125 = 10220,
+    /* ? 61; extension .. c : VT100 class, with its extensions */
+    CSICODEC_KNOWN_DA1_VT100 = 10221,
+    /* ? 65; extension .. c : VT500 class, with its extensions */
+    CSICODEC_KNOWN_DA1_VT500 = 10222,
+    /* > kind; firmware; options (or 0) c : type, version of the firmware, options */
+    CSICODEC_KNOWN_DA2 = 10223,
+    /* kind 2-3; parity 1-5; bits 1-2; sends; receives; clock; flags x : parameters of the serial line */
+    CSICODEC_KNOWN_DECREPTPARM = 10224,
+    /* 9; height 4-; width t : size of the display, in cells */
+    CSICODEC_KNOWN_XTWINOPS_DISPLAY_SIZE = 10225,
+    /* 48; lines; columns; height (or 0); width (or 0) t : size of the window, in cells and pixels */
+    CSICODEC_KNOWN_IN_BAND_RESIZE = 10226,
+    /* > resource 0-7; format (or 0) f : set the format of keys, or its answer */
+    CSICODEC_KNOWN_XTFMTKEYS = 10227,
+    /* O : focus lost */
+    CSICODEC_KNOWN_FOCUS_LOST = 10228,
+    /* 200 ~ : start of pasted text */
+    CSICODEC_KNOWN_PASTE_START = 10229,
+    /* 201 ~ : end of pasted text */
+    CSICODEC_KNOWN_PASTE_END = 10230,
+    /* code 32-255; column; line M : report of the mouse in urxvt's form */
+    CSICODEC_KNOWN_MOUSE_URXVT = 10231,
+    /* virtual; scan; character; pressed 0-1; held (or 0); times (or 1) _ : a key by Win32's record */
+    CSICODEC_KNOWN_KEY_WIN32 = 10232,
+    /* 27; modifiers 1-256; character ~ : a key by its character (modifyOtherKeys) */
+    CSICODEC_KNOWN_KEY_MODIFY_OTHER_KEYS = 10233,
+    /* character; modifiers 1-256 (or 1) u : a key by its character (kitty; formatOtherKeys of xterm) */
+    CSICODEC_KNOWN_KEY_CHARACTER = 10234,
+    /* 1; modifiers 2-256 A : Up, with modifiers */
+    CSICODEC_KNOWN_KEY_MODIFIED_UP = 10235,
+    /* 1; modifiers 2-256 B : Down, with modifiers */
+    CSICODEC_KNOWN_KEY_MODIFIED_DOWN = 10236,
+    /* 1; modifiers 2-256 C : Right, with modifiers */
+    CSICODEC_KNOWN_KEY_MODIFIED_RIGHT = 10237,
+    /* 1; modifiers 2-256 D : Left, with modifiers */
+    CSICODEC_KNOWN_KEY_MODIFIED_LEFT = 10238,
+    /* 1; modifiers 2-256 E : Begin, with modifiers */
+    CSICODEC_KNOWN_KEY_MODIFIED_BEGIN = 10239,
+    /* 1; modifiers 2-256 F : End, with modifiers */
+    CSICODEC_KNOWN_KEY_MODIFIED_END = 10240,
+    /* 1; modifiers 2-256 P : F1, with modifiers */
+    CSICODEC_KNOWN_KEY_MODIFIED_F1 = 10241,
+    /* 1; modifiers 2-256 Q : F2, with modifiers */
+    CSICODEC_KNOWN_KEY_MODIFIED_F2 = 10242,
+    /* 1; modifiers 2-256 S : F4, with modifiers */
+    CSICODEC_KNOWN_KEY_MODIFIED_F4 = 10243,
+    /* 1; modifiers 1-256 (or 1) ~ : Home */
+    CSICODEC_KNOWN_KEY_HOME = 10244,
+    /* 2; modifiers 1-256 (or 1) ~ : Insert */
+    CSICODEC_KNOWN_KEY_INSERT = 10245,
+    /* 3; modifiers 1-256 (or 1) ~ : Delete */
+    CSICODEC_KNOWN_KEY_DELETE = 10246,
+    /* 4; modifiers 1-256 (or 1) ~ : End */
+    CSICODEC_KNOWN_KEY_END = 10247,
+    /* 5; modifiers 1-256 (or 1) ~ : Page Up */
+    CSICODEC_KNOWN_KEY_PAGE_UP = 10248,
+    /* 6; modifiers 1-256 (or 1) ~ : Page Down */
+    CSICODEC_KNOWN_KEY_PAGE_DOWN = 10249,
+    /* 7; modifiers 1-256 (or 1) ~ : Home (rxvt) */
+    CSICODEC_KNOWN_KEY_HOME_RXVT = 10250,
+    /* 8; modifiers 1-256 (or 1) ~ : End (rxvt) */
+    CSICODEC_KNOWN_KEY_END_RXVT = 10251,
+    /* 11; modifiers 1-256 (or 1) ~ : F1 */
+    CSICODEC_KNOWN_KEY_F1 = 10252,
+    /* 12; modifiers 1-256 (or 1) ~ : F2 */
+    CSICODEC_KNOWN_KEY_F2 = 10253,
+    /* 13; modifiers 1-256 (or 1) ~ : F3 */
+    CSICODEC_KNOWN_KEY_F3 = 10254,
+    /* 14; modifiers 1-256 (or 1) ~ : F4 */
+    CSICODEC_KNOWN_KEY_F4 = 10255,
+    /* 15; modifiers 1-256 (or 1) ~ : F5 */
+    CSICODEC_KNOWN_KEY_F5 = 10256,
+    /* 17; modifiers 1-256 (or 1) ~ : F6 */
+    CSICODEC_KNOWN_KEY_F6 = 10257,
+    /* 18; modifiers 1-256 (or 1) ~ : F7 */
+    CSICODEC_KNOWN_KEY_F7 = 10258,
+    /* 19; modifiers 1-256 (or 1) ~ : F8 */
+    CSICODEC_KNOWN_KEY_F8 = 10259,
+    /* 20; modifiers 1-256 (or 1) ~ : F9 */
+    CSICODEC_KNOWN_KEY_F9 = 10260,
+    /* 21; modifiers 1-256 (or 1) ~ : F10 */
+    CSICODEC_KNOWN_KEY_F10 = 10261,
+    /* 23; modifiers 1-256 (or 1) ~ : F11 */
+    CSICODEC_KNOWN_KEY_F11 = 10262,
+    /* 24; modifiers 1-256 (or 1) ~ : F12 */
+    CSICODEC_KNOWN_KEY_F12 = 10263,
+    /* 25; modifiers 1-256 (or 1) ~ : F13 */
+    CSICODEC_KNOWN_KEY_F13 = 10264,
+    /* 26; modifiers 1-256 (or 1) ~ : F14 */
+    CSICODEC_KNOWN_KEY_F14 = 10265,
+    /* 28; modifiers 1-256 (or 1) ~ : F15 (Help) */
+    CSICODEC_KNOWN_KEY_F15 = 10266,
+    /* 29; modifiers 1-256 (or 1) ~ : F16 (Menu) */
+    CSICODEC_KNOWN_KEY_F16 = 10267,
+    /* 31; modifiers 1-256 (or 1) ~ : F17 */
+    CSICODEC_KNOWN_KEY_F17 = 10268,
+    /* 32; modifiers 1-256 (or 1) ~ : F18 */
+    CSICODEC_KNOWN_KEY_F18 = 10269,
+    /* 33; modifiers 1-256 (or 1) ~ : F19 */
+    CSICODEC_KNOWN_KEY_F19 = 10270,
+    /* 34; modifiers 1-256 (or 1) ~ : F20 */
+    CSICODEC_KNOWN_KEY_F20 = 10271
+};
+
 #endif

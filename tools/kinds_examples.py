@@ -1,5 +1,6 @@
 """An example of each kind, with its text, as a table for the tests in C and in Rust. See kinds."""
 from kinds_header import c_name
+from kinds_known import PREFIX, known
 from kinds_library import BY_NUMBER, is_boxed, of
 from kinds_source import source_name
 from kinds_specs import names_in
@@ -36,6 +37,11 @@ def example(number, group, variant, form, names):
     return f"CSI::{group}({boxed})", fields, params
 
 
+def quoted(text):
+    """A string of C and of Rust."""
+    return '"' + text.replace("\\", "\\\\").replace('"', '\\"') + '"'
+
+
 def examples():
     """Each kind with its text, and whether it is read back."""
     for group in BY_NUMBER:
@@ -62,8 +68,14 @@ pub(crate) fn kinds() -> Vec<(CSI, &'static str, bool)> {
         ),
     ]
 }
+
+/// A text of each kind of sequence without an action.
+pub(crate) fn known() -> Vec<(&'static str, KnownKind)> {
+    vec![
 """
-    return out
+    for name, (_, _, _, text, _, _) in known():
+        out += f"        ({quoted(text)}, KnownKind::{name}),\n"
+    return out + "    ]\n}\n"
 
 
 def c_examples():
@@ -82,5 +94,12 @@ static const struct {
     out += """    {"\\x1b[" "1;2 k", 1, {.kind = CSICODEC_SELECT_CHARACTER_PATH, .first = 1, .second = 2}, {{0, 0}}},
     {"\\x1b[" "0%m", 1, {.kind = CSICODEC_UNSPECIFIED, .final_char = 'm', .len = 2}, {{0, 0}, {1, '%'}}},
 };
+/* Each kind of sequence without an action, and a text of it. */
+static const struct {
+    const char *text;
+    uint32_t kind;
+} known[] = {
 """
-    return out
+    for name, (_, _, _, text, _, _) in known():
+        out += f'    {{"\\x1b[" {quoted(text)}, {PREFIX}{name}}},\n'
+    return out + "};\n"

@@ -1,6 +1,7 @@
 """The part of the header that has the kinds, and the numbers in them. See kinds."""
 import re
 
+from kinds_known import PREFIX, known
 from kinds_library import ESCAPES, NAMED, acting, declared, kinds, low, numbers_of, snake, type_of, variants
 from kinds_table import PATH, PREFIXES
 
@@ -75,12 +76,23 @@ def header_kinds():
         for v, n, doc in rows_:
             out += (comment(doc) if doc else "") + f"    CSICODEC_{PREFIXES.get(name, snake(name))}_{snake(v)} = {n}{',' if (v, n, doc) != rows_[-1] else ''}\n"
         out += "};\n"
-    return out
+    return out + header_known()
+
+
+def header_known():
+    """The kinds of sequences without an action."""
+    out = "\n" + comment("Which row of docs/SEQUENCES.md reads a list that no action has: kind of struct csicodec_known. The comment says what stands behind CSI, each value by its name.", "")
+    out += "enum csicodec_known_kind {\n"
+    rows_ = list(known())
+    for name, (kind, _, form, _, said, _) in rows_:
+        out += comment(f"{form.replace('`', chr(0))} : {said}").replace(chr(0), "`")
+        out += f"    {PREFIX}{name} = {kind}{',' if kind != rows_[-1][1][0] else ''}\n"
+    return out + "};\n"
 
 
 def header_names():
     """What gives the name of a kind."""
-    names = ["CSICODEC_UNSPECIFIED"] + [c_name(group, variant) for _, group, variant, _, _ in kinds()] + ["CSICODEC_SELECT_CHARACTER_PATH"]
+    names = ["CSICODEC_UNSPECIFIED"] + [c_name(group, variant) for _, group, variant, _, _ in kinds()] + ["CSICODEC_SELECT_CHARACTER_PATH"] + [PREFIX + name for name, _ in known()]
     out = "/* The name of a kind in this header, such as \"CSICODEC_CURSOR_UP\"; NULL for another number. */\n"
     out += "static inline const char *csicodec_kind_name(uint32_t kind) {\n    switch (kind) {\n"
     out += "".join(f'    case {name}: return "{name}";\n' for name in names)

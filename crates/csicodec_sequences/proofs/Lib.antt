@@ -9,3 +9,5 @@ pub mod Unread
 pub mod Sequences
 pub mod TextOf
 pub mod Table
+pub mod OneKind
+pub mod Longest

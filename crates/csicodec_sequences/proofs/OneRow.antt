@@ -160,7 +160,7 @@ has-read r list final vs e =
       values = b.1;
     }
 
-unequal : (m n : ℕ) → m ≡ n → not (m == n) ≡ true → ⊥
+pub unequal : (m n : ℕ) → m ≡ n → not (m == n) ≡ true → ⊥
 unequal m n same e = grind arith
 
 pub apart-rows : (q r : Row) (list : List CsiParam) (final : ℕ) (vs ws : List ℕ) → rows_apart q r ≡ true → read_row q list final ≡ Some vs → read_row r list final ≡ Some ws → ⊥

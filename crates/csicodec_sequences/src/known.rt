@@ -1,5 +1,5 @@
 //! A control sequence that a row of the table reads.
-ghost use Rattle.std.specs.Prelude.{◌≡◌, ◌<◌, IfSome, Some, length, slice_get};
+ghost use Rattle.std.specs.Prelude.{◌≡◌, ◌<◌, ◌≤◌, IfSome, Some, length, slice_get};
 ghost use Rattle.std.specs.Fmt.{WritesOnOk};
 ghost use Rattle.std.specs.Option.{option_map};
 ghost use Rattle.csicodec_sequences.specs.Known.{first_reading, reading, reading_of, rows_of};
@@ -123,7 +123,8 @@ impl Known {
 
     /// The values, in the order of the row's slots.
     pub fn values(&self) -> &[u32]
-        ensures { result.now ≡ self.now.values.items }
+        ensures value { result.now ≡ self.now.values.items }
+        ensures few { length result.now ≤ 12 }
     {
         self.values.as_slice()
     }

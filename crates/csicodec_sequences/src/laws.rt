@@ -1,10 +1,11 @@
 //! Laws of rows, and of the table. Each is the contract of a function that does nothing.
-ghost use Rattle.std.specs.Prelude.{◌≡◌, ◌↔◌, ◌++◌, ℕ, List, Some, None, true, slice_get, encode_utf8};
+ghost use Rattle.std.specs.Prelude.{◌≡◌, ◌↔◌, ◌<◌, ◌≤◌, ◌++◌, ℕ, List, length, Some, None, true, slice_get, encode_utf8};
 ghost use Rattle.csicodec_tokens.specs.declared.param.CsiParam.{CsiParam};
 ghost use Rattle.csicodec_tokens.specs.Param.{spells};
 ghost use Rattle.csicodec_tokens.specs.Sequence.{IsFinal, Spellable};
 ghost use Rattle.csicodec_actions.specs.Table.{whole};
 ghost use Rattle.csicodec_sequences.specs.Known.{are_rows, reading, table};
+ghost use Rattle.csicodec_sequences.specs.declared.row.Form.{Form};
 ghost use Rattle.csicodec_sequences.specs.Rows.{Row, fit, is_row, read_row, row_list, form_text};
 
 /// Of any row: the values that it reads back of the list that it writes of them are those that fit its slots, and no others.
@@ -36,6 +37,19 @@ pub fn one_row()
     ensures { (list : List CsiParam) (final i j : ℕ) (q r : Row) (v w : List ℕ) →
         slice_get table i ≡ Some q → slice_get table j ≡ Some r →
         read_row q list final ≡ Some v → read_row r list final ≡ Some w → i ≡ j }
+{}
+
+/// Each row of the table has a kind of its own, above 10000.
+pub fn kinds()
+    ensures above { (i : ℕ) (row : Row) → slice_get table i ≡ Some row → 10000 < row.form.kind }
+    ensures one { (i j : ℕ) (q r : Row) → slice_get table i ≡ Some q → slice_get table j ≡ Some r →
+        q.form.kind ≡ r.form.kind → i ≡ j }
+{}
+
+/// No row of the table reads a list of more than 26 tokens.
+pub fn longest()
+    ensures { (list : List CsiParam) (final : ℕ) (known : Form × List ℕ) →
+        reading list final ≡ Some known → length list ≤ 26 }
 {}
 
 /// The row of the table that reads a list says what is known of it, wherever it stands.

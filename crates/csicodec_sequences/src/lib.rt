@@ -10,7 +10,7 @@ mod rows;
 
 pub use known::Known;
 pub use parts::Parts;
-pub use row::{Form, MOST, Slot, Values};
+pub use row::{Form, LONGEST, MOST, Slot, Values};
 pub use rows::dec::{DEC_FORMS, DEC_MEANINGS, DEC_NAMES, DEC_NUMBERS, DEC_SLOTS, DEC_SOURCES};
 pub use rows::others::{
     OTHER_FORMS, OTHER_MEANINGS, OTHER_NAMES, OTHER_NUMBERS, OTHER_SLOTS, OTHER_SOURCES,

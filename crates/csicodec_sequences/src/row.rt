@@ -10,6 +10,9 @@ use csicodec_base::CsiParam;
 /// How many numbers a form has at most.
 pub const MOST: usize = 12;
 
+/// How many tokens a list has at most that a row reads: two bytes, and 12 numbers with a `;` behind each (law `longest`).
+pub const LONGEST: usize = 26;
+
 /// The values of a row, one for each of its slots, but for those at the end that may be missing.
 pub type Values = ArrayVec<u32, MOST>;
 
@@ -61,6 +64,8 @@ impl Slot {
 /// The form of a control sequence: the bytes around its numbers.
 #[derive(Clone, Copy)]
 pub struct Form {
+    /// Which row it is of: a number above 10000 that no other row has, and that never changes.
+    pub kind: u32,
     /// The byte at the front that makes it private, one of `<` `=` `>` `?`; 0 where there is none.
     pub marker: u8,
     /// The intermediate byte; 0 where there is none.

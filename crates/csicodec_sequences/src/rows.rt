@@ -1,7 +1,8 @@
 //! The table: a row for each control sequence, subject by subject.
 //!
-//! A row is its name, the byte at its front (0 where there is none), its slots, its intermediate byte (0 where there is none),
-//! its final character, its meaning and its source. A slot is a number with a name, from a first to a last one: `number!` says
+//! A row is its kind, its name, the byte at its front (0 where there is none), its slots, its intermediate byte (0 where there is
+//! none), its final character, its meaning and its source. Its kind is the number that C and Rust know it by, which never changes: a new
+//! row takes one that no row has. A slot is a number with a name, from a first to a last one: `number!` says
 //! last what it is where it is left out, `needed!` has to stand there, and `further!` behind a `;` may stand there as often as there
 //! is room for: a row has up to 12 numbers.
 
@@ -56,35 +57,35 @@ macro_rules! slots {
 
 /// The form of a row.
 macro_rules! form {
-    ($name:literal, $marker:expr, [$($slots:tt)*], $intermediate:expr, $control:literal, $meaning:literal, $source:literal) => {
-        Form { marker: $marker, intermediate: $intermediate, control: $control }
+    ($kind:literal, $name:literal, $marker:expr, [$($slots:tt)*], $intermediate:expr, $control:literal, $meaning:literal, $source:literal) => {
+        Form { kind: $kind, marker: $marker, intermediate: $intermediate, control: $control }
     };
 }
 
 /// The slots of a row.
 macro_rules! numbers {
-    ($name:literal, $marker:expr, [$($slots:tt)*], $intermediate:expr, $control:literal, $meaning:literal, $source:literal) => {
+    ($kind:literal, $name:literal, $marker:expr, [$($slots:tt)*], $intermediate:expr, $control:literal, $meaning:literal, $source:literal) => {
         slots!($($slots)*)
     };
 }
 
 /// The name of a row.
 macro_rules! name {
-    ($name:literal, $marker:expr, [$($slots:tt)*], $intermediate:expr, $control:literal, $meaning:literal, $source:literal) => {
+    ($kind:literal, $name:literal, $marker:expr, [$($slots:tt)*], $intermediate:expr, $control:literal, $meaning:literal, $source:literal) => {
         $name
     };
 }
 
 /// What a row means.
 macro_rules! meaning {
-    ($name:literal, $marker:expr, [$($slots:tt)*], $intermediate:expr, $control:literal, $meaning:literal, $source:literal) => {
+    ($kind:literal, $name:literal, $marker:expr, [$($slots:tt)*], $intermediate:expr, $control:literal, $meaning:literal, $source:literal) => {
         $meaning
     };
 }
 
 /// The source of a row.
 macro_rules! source {
-    ($name:literal, $marker:expr, [$($slots:tt)*], $intermediate:expr, $control:literal, $meaning:literal, $source:literal) => {
+    ($kind:literal, $name:literal, $marker:expr, [$($slots:tt)*], $intermediate:expr, $control:literal, $meaning:literal, $source:literal) => {
         $source
     };
 }
@@ -97,7 +98,7 @@ macro_rules! joined {
 
 /// The names of a row's numbers.
 macro_rules! names {
-    ($name:literal, $marker:expr, [$($slots:tt)*], $intermediate:expr, $control:literal, $meaning:literal, $source:literal) => {
+    ($kind:literal, $name:literal, $marker:expr, [$($slots:tt)*], $intermediate:expr, $control:literal, $meaning:literal, $source:literal) => {
         joined!($($slots)*)
     };
 }

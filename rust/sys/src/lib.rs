@@ -124,8 +124,17 @@ pub struct Told {
     pub params: usize,
 }
 
+#[repr(C)]
+#[derive(Clone, Copy, Debug, PartialEq, Eq)]
+pub struct Known {
+    pub kind: u32,
+    pub count: u32,
+    pub values: [u32; 12],
+}
+
 const _: () = assert!(size_of::<Action>() == 64 && size_of::<Param>() == 16);
 const _: () = assert!(size_of::<Cleaning>() == 16 && size_of::<Cleaned>() == 40);
+const _: () = assert!(size_of::<Known>() == 56);
 
 unsafe extern "C" {
     fn csicodec_normalise(bytes: *const u8, len: usize, out: *mut u8, room: usize) -> Normalised;
@@ -161,6 +170,7 @@ unsafe extern "C" {
         params: *const Param,
         params_count: usize,
     ) -> Judged;
+    fn csicodec_known(action: *const Action, params: *const Param, params_count: usize) -> Known;
     fn csicodec_filter(
         mode: u32,
         limit: usize,
@@ -293,6 +303,11 @@ pub fn encode(actions: &[Action], params: &[Param], out: &mut [u8]) -> Encoded {
 pub fn is_canonical(action: &Action, params: &[Param]) -> Judged {
     // SAFETY: as above.
     unsafe { csicodec_is_canonical(action, params.as_ptr(), params.len()) }
+}
+
+pub fn known(action: &Action, params: &[Param]) -> Known {
+    // SAFETY: as above.
+    unsafe { csicodec_known(action, params.as_ptr(), params.len()) }
 }
 
 pub fn filter(mode: u32, limit: usize, bytes: &[u8], out: &mut [u8]) -> Filtered {

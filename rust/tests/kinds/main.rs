@@ -31,3 +31,15 @@ fn each_kind() {
         assert_eq!(back == Ok(vec![action]), read, "{text:?}");
     }
 }
+
+#[test]
+fn each_known_sequence() {
+    for (text, kind) in table::known() {
+        let all: Result<Vec<_>, _> = actions(format!("\x1b[{text}").as_bytes()).collect();
+        let Ok([CSI::Unspecified(unknown)]) = all.as_deref() else {
+            panic!("{text:?} is {all:?}");
+        };
+        let known = Known::of(unknown).map(|known| known.kind());
+        assert_eq!(known, Some(kind), "{text:?}");
+    }
+}

@@ -1,20 +1,52 @@
 //! terminal FILE: plays a stream of a terminal of 24 lines and 80 columns, and writes the screen that it leaves: its lines, and where
 //! the attributes change the control sequences that set them.
 
-use csicodec::{CSI, Cursor, Edit, Esc, EscCode, Event, Parser, Pen, characters};
+use csicodec::{
+    CSI, Cursor, Edit, EraseInDisplay, EraseInLine, Esc, EscCode, Event, Known, KnownKind, Parser,
+    Pen, characters,
+};
+use std::ops::Range;
 use std::{env, error, fs};
 
 const LINES: usize = 24;
 const COLUMNS: usize = 80;
 const BLANK: Cell = Cell {
     character: ' ',
+    safe: false,
     pen: Pen::new(),
 };
 
+/// A cell that is safe stays in selective erasing.
 #[derive(Clone)]
 struct Cell {
     character: char,
+    safe: bool,
     pen: Pen,
+}
+
+fn erase_unsafe(cells: &mut [Cell]) {
+    cells
+        .iter_mut()
+        .filter(|cell| !cell.safe)
+        .for_each(|cell| *cell = BLANK);
+}
+
+/// The lines of a rectangle, or its columns, of so many.
+fn range(first: u32, last: u32, count: usize) -> Range<usize> {
+    let end = if last == 0 {
+        count
+    } else {
+        count.min(last as usize)
+    };
+    (first as usize).saturating_sub(1).min(end)..end
+}
+
+/// Its lines, and its columns.
+fn area(sides: &[u32]) -> (Range<usize>, Range<usize>) {
+    (
+        range(sides[0], sides[2], LINES),
+        range(sides[1], sides[3], COLUMNS),
+    )
 }
 
 #[derive(Default)]
@@ -25,6 +57,7 @@ struct Terminal {
     saved: (usize, usize),
     top: usize,
     bottom: usize,
+    safe: bool,
     pen: Pen,
 }
 
@@ -53,9 +86,16 @@ impl Terminal {
             self.column = 0;
             self.next_line();
         }
-        let pen = self.pen.clone();
-        self.page[self.line][self.column] = Cell { character, pen };
+        self.page[self.line][self.column] = self.cell(character);
         self.column += 1;
+    }
+
+    fn cell(&self, character: char) -> Cell {
+        Cell {
+            character,
+            safe: self.safe,
+            pen: self.pen.clone(),
+        }
     }
 
     fn act(&mut self, action: CSI) {
@@ -73,7 +113,85 @@ impl Terminal {
                 (self.line, self.column) = cursor.target(here, (LINES, COLUMNS)).unwrap_or(here);
             }
             CSI::Edit(edit) => self.edit(edit),
+            CSI::Unspecified(unknown) => {
+                if let Some(known) = Known::of(&unknown) {
+                    self.carry_out(known);
+                }
+            }
             _ => {}
+        }
+    }
+
+    /// What has no action, by its row of docs/SEQUENCES.md.
+    fn carry_out(&mut self, known: Known) {
+        let here = self.column.min(COLUMNS - 1);
+        let inside = (self.top..=self.bottom).contains(&self.line);
+        let values = known.values();
+        let first = values.first().map_or(0, |value| *value);
+        match known.kind() {
+            KnownKind::DECSCA => self.safe = first == 1,
+            KnownKind::DECSED => self.erase_unsafe(EraseInDisplay::from_i64(first.into())),
+            KnownKind::DECSEL => self.erase_unsafe_in_line(EraseInLine::from_i64(first.into())),
+            KnownKind::DECERA => self.edit_area(area(values), |cells| cells.fill(BLANK)),
+            KnownKind::DECSERA => self.edit_area(area(values), erase_unsafe),
+            KnownKind::DECFRA => self.fill(area(&values[1..]), first),
+            KnownKind::DECCRA => {
+                let to = [values[5], values[6]].map(|place| (place as usize).saturating_sub(1));
+                self.copy(area(values), to);
+            }
+            KnownKind::DECIC if inside => {
+                self.edit_lines(Edit::InsertCharacter(first.max(1)), here)
+            }
+            KnownKind::DECDC if inside => {
+                self.edit_lines(Edit::DeleteCharacter(first.max(1)), here)
+            }
+            KnownKind::SL => self.edit_lines(Edit::DeleteCharacter(first.max(1)), 0),
+            KnownKind::SR => self.edit_lines(Edit::InsertCharacter(first.max(1)), 0),
+            _ => {}
+        }
+    }
+
+    fn erase_unsafe(&mut self, erase: Option<EraseInDisplay>) {
+        let lines = erase.map_or(0..0, |erase| erase.lines(self.line, LINES));
+        self.page[lines]
+            .iter_mut()
+            .for_each(|line| erase_unsafe(line));
+        self.erase_unsafe_in_line(erase.and_then(|erase| erase.in_line()));
+    }
+
+    fn erase_unsafe_in_line(&mut self, erase: Option<EraseInLine>) {
+        let here = self.column.min(COLUMNS - 1);
+        let columns = erase.map_or(0..0, |erase| erase.columns(here, COLUMNS));
+        erase_unsafe(&mut self.page[self.line][columns]);
+    }
+
+    fn edit_area(&mut self, area: (Range<usize>, Range<usize>), edit: impl Fn(&mut [Cell])) {
+        for line in &mut self.page[area.0] {
+            edit(&mut line[area.1.clone()]);
+        }
+    }
+
+    /// Fills a rectangle with a character from U+0020 to U+007E, or from U+00A0 to U+00FF.
+    fn fill(&mut self, area: (Range<usize>, Range<usize>), code: u32) {
+        if let Some(character @ (' '..='~' | '\u{a0}'..='\u{ff}')) = char::from_u32(code) {
+            let cell = self.cell(character);
+            self.edit_area(area, |cells| cells.fill(cell.clone()));
+        }
+    }
+
+    fn copy(&mut self, area: (Range<usize>, Range<usize>), to: [usize; 2]) {
+        let before = self.page[area.0].to_vec();
+        for (line, from) in self.page.iter_mut().skip(to[0]).zip(&before) {
+            for (cell, from) in line.iter_mut().skip(to[1]).zip(&from[area.1.clone()]) {
+                *cell = from.clone();
+            }
+        }
+    }
+
+    /// Edits each line between the margins, from a column on.
+    fn edit_lines(&mut self, edit: Edit, from: usize) {
+        for line in &mut self.page[self.top..=self.bottom] {
+            edit.edit_line(line, from, || BLANK);
         }
     }
 

@@ -2,6 +2,7 @@
 #include "csicodec.h"
 
 #include <stdio.h>
+#include <stdlib.h>
 #include <string.h>
 
 #include "kinds.inc"
@@ -27,14 +28,18 @@ static int is_kind(size_t i) {
     return memcmp(params, kinds[i].params, action.len * sizeof params[0]) == 0;
 }
 
-/* What is known of the text of a sequence without an action. */
+/* What is known of a text with ESC [ in front, whose tokens are not cut into actions. */
 static struct csicodec_known known_of(const char *text) {
-    struct csicodec_action action;
     struct csicodec_param params[32];
-    struct csicodec_front front = csicodec_next((const uint8_t *)text, strlen(text), &action, 1, params, 32);
-    struct csicodec_known none = {0};
-    if (front.status != CSICODEC_OK || front.actions != 1 || front.used != strlen(text)) return none;
-    return csicodec_known(&action, params, front.params);
+    struct csicodec_action action = {.kind = CSICODEC_UNSPECIFIED};
+    for (text += 2; text[1]; action.len++) {
+        char *end;
+        params[action.len] = (struct csicodec_param){1, *text};
+        if (*text < '0' || *text > '9') text++;
+        else params[action.len] = (struct csicodec_param){0, strtoll(text, &end, 10)}, text = end;
+    }
+    action.final_char = (uint32_t)*text;
+    return csicodec_known(&action, params, action.len);
 }
 
 /* Values, and what stands for those that are left out; and what is no row's list, or isn't all there. */

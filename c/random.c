@@ -99,6 +99,21 @@ static int of_a_long_sequence(void) {
     return good;
 }
 
+/* Of a dialect, which may be none, every byte is told, or waits. */
+static int of_input(const uint8_t *bytes, size_t len, struct csicodec_action *actions, size_t actions_room, struct csicodec_param *params,
+                    size_t params_room) {
+    uint32_t dialect = any(4), mode = any(7);
+    size_t limit = any(20), looked = 0, at = 0, turns = 0;
+    int is_state = dialect < 3 && mode < 6 && limit;
+    for (; turns <= 2 * len; turns++) {
+        struct csicodec_received event = csicodec_input(dialect, mode, limit, looked, bytes + at, len - at, actions, actions_room, params, params_room);
+        if (event.status != CSICODEC_OK)
+            return event.status == (is_state ? CSICODEC_TRUNCATED : CSICODEC_BAD_STATE) && csicodec_pause(bytes + at, len - at).used <= len - at;
+        mode = event.mode, looked = event.looked, at += event.used;
+    }
+    return 0;
+}
+
 static int all_calls(const uint8_t *bytes, size_t len) {
     size_t room = any(40), actions_room = any(4), params_room = any(6);
     uint8_t *out = block(room);
@@ -141,6 +156,7 @@ static int all_calls(const uint8_t *bytes, size_t len) {
     }
     good &= turns < 2 * len || len == 0;
     good &= at == len || len - at < (stream.limit < 4 ? 4 : stream.limit);
+    good &= of_input(bytes, len, actions, actions_room, params, params_room);
     free(out), free(actions), free(params);
     return good;
 }

@@ -72,6 +72,11 @@ static uint32_t event_with_a_control(const uint8_t *text, size_t len) {
                           sizeof params / sizeof params[0]).status;
 }
 
+static uint32_t input(const uint8_t *text, size_t len) {
+    return csicodec_input(CSICODEC_DIALECT_INPUT, CSICODEC_FILTER_TEXT, 4096, 0, text, len, actions, sizeof actions / sizeof actions[0], params,
+                          sizeof params / sizeof params[0]).status;
+}
+
 static uint32_t judge(const uint8_t *text, size_t len) {
     (void)text, (void)len;
     return csicodec_is_canonical(&actions[front.actions - 1], params, front.params).status;
@@ -161,7 +166,7 @@ int main(void) {
     for (size_t i = 0; i < sizeof texts / sizeof texts[0]; i++) {
         const uint8_t *text = (const uint8_t *)texts[i];
         size_t len = strlen(texts[i]);
-        uint32_t (*const calls[])(const uint8_t *, size_t) = {normalise, next, event, event_with_a_control, encode, judge, filter, compact, encode_compact};
+        uint32_t (*const calls[])(const uint8_t *, size_t) = {normalise, next, event, event_with_a_control, input, encode, judge, filter, compact, encode_compact};
         for (size_t call = 0; call < sizeof calls / sizeof calls[0]; call++) {
             if (starves(calls[call], text, len)) continue;
             fprintf(stderr, "starve: call %zu of ESC %s isn't as promised\n", call, texts[i] + 1);

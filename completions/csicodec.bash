@@ -23,7 +23,7 @@ _csicodec() {
         strip) of="--help" ;;
         clean) of="--colors --links --help" ;;
         html) of="--fragment --links --help" ;;
-        explain) of="--at --color --count --decode --diff --full --grep --json --only --stats --timing --unknown --help" ;;
+        explain) of="--at --color --count --decode --diff --full --grep --input --json --only --stats --timing --unknown --utf8-mouse --help" ;;
         help) COMPREPLY=($(compgen -W "filter compact strip clean html explain" -- "$word")); return ;;
         *) of="filter compact strip clean html explain help --help --version" ;;
     esac

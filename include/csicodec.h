@@ -18,8 +18,8 @@
 #include "csicodec_names.h"
 
 /* The version of this header. csicodec_version() returns the library's, which must be the same number. */
-#define CSICODEC_VERSION "1.3.0"
-#define CSICODEC_VERSION_NUMBER 10300
+#define CSICODEC_VERSION "1.4.0"
+#define CSICODEC_VERSION_NUMBER 10400
 
 #ifdef __cplusplus
 extern "C" {
@@ -41,8 +41,9 @@ enum csicodec_status {
     CSICODEC_MEMORY = 5,
     /* A struct stands for no action: its kind doesn't exist, one of its numbers is out of range, or an unused field isn't 0. */
     CSICODEC_NO_ACTION = 6,
-    /* An argument is wrong: a mode that isn't in enum csicodec_filter_mode, a limit of 0, a depth that isn't in enum csicodec_depth, links
-     * above 1, a struct csicodec_cleaning with a number out of range, or with more bytes held than are passed. */
+    /* An argument is wrong: a mode that isn't in enum csicodec_filter_mode, a limit of 0, a depth that isn't in enum csicodec_depth, a
+     * dialect that isn't in enum csicodec_dialect, links above 1, a struct csicodec_cleaning with a number out of range, or with more
+     * bytes held than are passed. */
     CSICODEC_BAD_STATE = 7
 };
 
@@ -415,6 +416,73 @@ struct csicodec_told {
 struct csicodec_told csicodec_event(uint32_t mode, size_t limit, size_t looked, const uint8_t *bytes, size_t len,
                                     struct csicodec_action *actions, size_t actions_room, struct csicodec_param *params,
                                     size_t params_room);
+
+/* Who wrote a stream. */
+enum csicodec_dialect {
+    /* A program, for a terminal: the events are those of csicodec_event. */
+    CSICODEC_DIALECT_OUTPUT = 0,
+    /* A terminal, for a program: keys, the mouse and answers. */
+    CSICODEC_DIALECT_INPUT = 1,
+    /* The same while mode 1005 is set: the three characters of a mouse report are in UTF-8. */
+    CSICODEC_DIALECT_UTF8_INPUT = 2
+};
+
+/* The events that only a terminal sends. Their numbers follow those of enum csicodec_event_kind. */
+enum csicodec_input_kind {
+    /* SS3 (ESC O) and a character, ' ' to '~': a key of the keypad, an arrow, or F1 to F4. */
+    CSICODEC_INPUT_SS3 = 7,
+    /* ESC [ [ and a character, ' ' to '~': F1 to F5 of Linux' console are 'A' to 'E'. */
+    CSICODEC_INPUT_LINUX = 8,
+    /* ESC [, a number of one digit or two, and $: a key with shift, of rxvt. */
+    CSICODEC_INPUT_RXVT = 9,
+    /* ESC [ M and three characters, which are the last of its bytes: the button, the column and the line, each with 32 added, in bytes
+     * or, of CSICODEC_DIALECT_UTF8_INPUT, in UTF-8. */
+    CSICODEC_INPUT_MOUSE = 10,
+    /* ESC and a character of ASCII: a key with alt. */
+    CSICODEC_INPUT_ALT = 11,
+    /* ESC alone. */
+    CSICODEC_INPUT_ESCAPE = 12
+};
+
+struct csicodec_received {
+    /* CSICODEC_OK, CSICODEC_TRUNCATED, CSICODEC_MEMORY or CSICODEC_BAD_STATE. */
+    uint32_t status;
+    /* Of CSICODEC_OK, enum csicodec_event_kind or enum csicodec_input_kind. */
+    uint32_t kind;
+    /* Of CSICODEC_OK, and of CSICODEC_TRUNCATED from csicodec_input, the mode and `looked` of the next call. */
+    uint32_t mode;
+    /* The character of CSICODEC_INPUT_SS3, CSICODEC_INPUT_LINUX and CSICODEC_INPUT_ALT; the number of CSICODEC_INPUT_RXVT, 0 to 99;
+     * the control of CSICODEC_EVENT_CONTROL. */
+    uint32_t value;
+    size_t looked;
+    /* Of CSICODEC_OK, how many bytes the event has: 0 of a control within a control sequence. */
+    size_t used;
+    /* Of CSICODEC_EVENT_ACTIONS, the number of actions and of tokens. */
+    size_t actions;
+    size_t params;
+};
+
+/* The event at the front of len bytes in a dialect (enum csicodec_dialect), as csicodec_event returns those of output, with the same
+ * state. A string and what is malformed come with all of their bytes. The status is CSICODEC_BAD_STATE for an unknown dialect too.
+ *
+ *     for (;;) {
+ *         struct csicodec_received event = csicodec_input(CSICODEC_DIALECT_INPUT, mode, 4096, looked, bytes + at, held - at,
+ *                                                         actions, 32, params, 32);
+ *         if (event.status == CSICODEC_OK || event.status == CSICODEC_TRUNCATED) mode = event.mode, looked = event.looked;
+ *         if (event.status != CSICODEC_OK) break;
+ *         carry_out(&event, bytes + at);
+ *         at += event.used;
+ *     }
+ *
+ * An ESC at the end waits, as it may be a key or the first byte of another: see csicodec_pause. */
+struct csicodec_received csicodec_input(uint32_t dialect, uint32_t mode, size_t limit, size_t looked, const uint8_t *bytes, size_t len,
+                                        struct csicodec_action *actions, size_t actions_room, struct csicodec_param *params,
+                                        size_t params_room);
+
+/* What len bytes of input that wait are if no more came in time, which the caller decides: CSICODEC_INPUT_ESCAPE for ESC alone,
+ * CSICODEC_INPUT_ALT for ESC and one character of ASCII. Otherwise the status is CSICODEC_TRUNCATED, and they go on waiting in their
+ * state. */
+struct csicodec_received csicodec_pause(const uint8_t *bytes, size_t len);
 
 /* enum csicodec_esc_code: the code of an escape sequence, by its intermediate byte, or 0 for none, and its final byte; 0 if there
  * is no code. */

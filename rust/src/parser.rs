@@ -1,7 +1,7 @@
 //! A stream that comes in pieces.
 
-use crate::Event;
 use crate::stream::Reader;
+use crate::{Dialect, Event, InputEvent};
 use std::io::{self, ErrorKind, Read};
 
 /// Reads a stream that comes in pieces. How it is cut changes only where text, strings and malformed controls are cut; it never cuts
@@ -47,6 +47,32 @@ impl Parser {
             self.held.extend_from_slice(bytes);
             let used = run(&mut self.reader, &self.held, tell);
             self.held.drain(..used);
+        }
+    }
+
+    /// Takes the next bytes that a terminal sent, and passes each event that is sure now: [`inputs`](crate::inputs) says what these are.
+    /// An ESC at the end is held. A parser is for input or for output, not for both.
+    pub fn advance_input<F: FnMut(InputEvent<'_>)>(
+        &mut self,
+        dialect: Dialect,
+        bytes: &[u8],
+        tell: &mut F,
+    ) {
+        self.held.extend_from_slice(bytes);
+        let mut rest = self.held.as_slice();
+        while let Some(event) = self.reader.next_input(dialect, &mut rest) {
+            tell(event);
+        }
+        let used = self.held.len() - rest.len();
+        self.held.drain(..used);
+    }
+
+    /// Takes what is held as a key, and passes it, if it is ESC, or ESC and a character of ASCII: for a caller that waited, and no more
+    /// input came.
+    pub fn pause<F: FnMut(InputEvent<'_>)>(&mut self, tell: &mut F) {
+        if let Some(event) = self.reader.pause(&self.held) {
+            self.held.clear();
+            tell(event);
         }
     }
 

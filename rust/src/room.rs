@@ -1,5 +1,6 @@
 //! Room for the actions of one sequence.
 
+use crate::pending::LIMIT;
 use crate::{CSI, raw, rows};
 
 /// Structs of actions and tokens, as many as any sequence so far had.
@@ -51,6 +52,24 @@ impl Room {
             &mut self.actions,
             &mut self.params,
         )
+    }
+
+    /// The same of input in a dialect.
+    pub(crate) fn input(
+        &mut self,
+        dialect: u32,
+        mode: u32,
+        looked: usize,
+        bytes: &[u8],
+    ) -> raw::Received {
+        loop {
+            let (actions, params) = (&mut self.actions, &mut self.params);
+            let told = raw::input(dialect, mode, LIMIT, looked, bytes, actions, params);
+            if told.actions <= actions.len() && told.params <= params.len() {
+                return told;
+            }
+            self.grow(told.actions, told.params);
+        }
     }
 
     /// Makes as much room as a sequence needs.

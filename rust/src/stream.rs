@@ -1,28 +1,26 @@
 //! A terminal's stream, event by event.
 
-use crate::CSI;
 use crate::event::{Event, StringKind, escape, piece};
 use crate::pending::LIMIT;
-use crate::room::Room;
 use crate::text::ahead_of_esc;
+use crate::{CSI, raw::Told, room::Room};
 
 const TEXT: u32 = 0;
-const ESC: u8 = 0x1b;
 
 /// What the bytes before a place leave open, and room that is kept.
 #[derive(Clone, Debug)]
 pub(crate) struct Reader {
-    mode: u32,
-    looked: usize,
+    pub(crate) mode: u32,
+    pub(crate) looked: usize,
     /// Whether nothing follows the bytes.
     pub(crate) ends: bool,
     /// Of the string that is open.
     string: StringKind,
     /// The actions of a sequence that aren't given yet, from `given` to `count`, and how many bytes it has.
-    given: usize,
-    count: usize,
+    pub(crate) given: usize,
+    pub(crate) count: usize,
     used: usize,
-    room: Room,
+    pub(crate) room: Room,
 }
 
 impl Reader {
@@ -46,8 +44,8 @@ impl Reader {
             return Some(Event::Csi(self.action(rest)));
         }
         match **rest {
-            [first, ..] if first != ESC && self.mode == TEXT => self.text(rest),
-            [ESC, b'[', ..] if self.looked == 0 => self.sequence(rest),
+            [first, ..] if first != 0x1b && self.mode == TEXT => self.text(rest),
+            [0x1b, b'[', ..] if self.looked == 0 => self.sequence(rest),
             _ => self.told(rest),
         }
     }
@@ -80,6 +78,11 @@ impl Reader {
     #[inline(never)]
     fn told<'a>(&mut self, rest: &mut &'a [u8]) -> Option<Event<'a>> {
         let told = self.room.event(self.mode, LIMIT, self.looked, rest);
+        self.event(told, rest)
+    }
+
+    /// The event that was told.
+    pub(crate) fn event<'a>(&mut self, told: Told, rest: &mut &'a [u8]) -> Option<Event<'a>> {
         self.looked = told.looked;
         if told.status != 0 {
             return None;
@@ -102,7 +105,7 @@ impl Reader {
 
     /// The next action of a sequence. Its bytes are used with the last one.
     #[inline(always)]
-    fn action(&mut self, rest: &mut &[u8]) -> CSI {
+    pub(crate) fn action(&mut self, rest: &mut &[u8]) -> CSI {
         let place = self.given;
         self.given += 1;
         if self.given == self.count {

@@ -1,6 +1,7 @@
 pub mod Filter
 pub mod Span
 pub mod Event
+pub mod Input
 pub mod Strip
 pub mod Live
 pub mod Compact

@@ -76,7 +76,7 @@ fn sequence(front: Front) -> Evented
     }
 }
 
-fn event_number(event: Event) -> u32
+pub(crate) fn event_number(event: Event) -> u32
     ensures { result ≡ event_number event }
 {
     match event {
@@ -98,7 +98,7 @@ fn near(limit: usize, bytes: &[u8]) -> &[u8]
 
 /// How many actions and tokens the sequence has that the bytes are without the controls in them, and puts them, as many as there is
 /// room for; none where memory ran out.
-fn lay_read(
+pub(crate) fn lay_read(
     alloc: Global,
     bytes: &[u8],
     actions: &mut [Struct],

@@ -4,6 +4,7 @@
 mod compact;
 mod event;
 mod filter;
+mod input;
 mod known;
 pub mod laws;
 mod live;
@@ -15,6 +16,7 @@ mod version;
 pub use compact::{csicodec_compact, csicodec_compact_semicolons, csicodec_encode_compact};
 pub use event::{Evented, csicodec_event};
 pub use filter::{Filtered, csicodec_filter};
+pub use input::{Received, csicodec_input, csicodec_pause};
 pub use known::csicodec_known;
 pub use live::{Cleaned, Cleaning, csicodec_clean_end, csicodec_clean_step, csicodec_strip_step};
 pub use sequences::{csicodec_encode, csicodec_is_canonical, csicodec_next, csicodec_normalise};

@@ -14,7 +14,7 @@ pub(crate) static TASKS: [(&str, Task, &str); 6] = [
 
 /// The options: how each stands in a command line, the words that have it, none where all have, and which values it has, none
 /// where it has no value.
-pub(crate) static OPTIONS: [(&str, &str, &str); 19] = [
+pub(crate) static OPTIONS: [(&str, &str, &str); 21] = [
     ("--at", "explain", "places, as 120, 120-180 or 120-"),
     ("--color", "explain", "always, never or auto"),
     ("--colors", "clean", "256 or 16"),
@@ -26,6 +26,7 @@ pub(crate) static OPTIONS: [(&str, &str, &str); 19] = [
     ("--full", "explain", ""),
     ("--grep", "explain", "a text"),
     ("--help", "", ""),
+    ("--input", "explain", ""),
     ("--json", "explain", ""),
     ("--links", "clean and html", ""),
     ("--only", "explain", "names, as SGR,CUP"),
@@ -33,6 +34,7 @@ pub(crate) static OPTIONS: [(&str, &str, &str); 19] = [
     ("--stats", "explain", ""),
     ("--timing", "explain", "the file of times that script wrote"),
     ("--unknown", "explain", ""),
+    ("--utf8-mouse", "explain", ""),
     ("--version", "", ""),
 ];
 
@@ -126,12 +128,14 @@ is told, with the time of each. Ahead of each of several FILEs stands its name.
   --diff          of two FILEs the lines that differ, places aside; not with --count, --json, --stats or --timing
   --full          all bytes of each, however many
   --grep TEXT     only what has this text in its bytes or its words
+  --input         what a terminal sends: keys, the mouse and answers; of recordings what was typed
   --json          an object of JSON a line: at, kind, text or hex, and actions with name, words, action and its fields
   --only NAMES    only those with one of these names, with commas between: SGR,DECSET 2004
   --stats         a table alone, at the end: how often each name came, its bytes, and their share of all
   --timing TIMES  when each came, by the file of times that script wrote
   --unknown       only what isn't known, and what is malformed
+  --utf8-mouse    --input, and the mouse's three characters are in UTF-8 (mode 1005)
   -h, --help      this text";
 
 /// The program's name and version.
-pub const VERSION: &str = "csicodec 1.3.0";
+pub const VERSION: &str = "csicodec 1.4.0";

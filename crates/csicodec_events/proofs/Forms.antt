@@ -6,6 +6,7 @@ use Rattle.std.proofs.lemmas.List.{length-drop, take-append-drop, drop-append-le
 use Rattle.csicodec_tokens.specs.declared.param.CsiParam.{CsiParam}
 use Rattle.csicodec_spans.specs.declared.table.Mode.{Mode}
 use Rattle.csicodec_spans.specs.declared.table.Mode.TheVariants as mode
+use Rattle.csicodec_events.specs.declared.event.Event.{Event}
 use Rattle.csicodec_events.specs.declared.event.Events.{Events}
 use Rattle.csicodec_events.specs.declared.input.Dialect.{Dialect}
 use Rattle.csicodec_events.specs.declared.input.Dialect.TheVariants as dialect
@@ -17,13 +18,23 @@ use Rattle.csicodec_events.specs.declared.input.Sent.{Sent}
 use Rattle.csicodec_events.specs.declared.input.Width.{Width}
 use Rattle.csicodec_events.specs.declared.input.Width.TheVariants as width
 use Rattle.csicodec_events.specs.Characters.{is_from}
-use Rattle.csicodec_events.specs.Input.{AreSent, InputChunks, IsSentBy, IsSure, ahead, behind_escape, bytes_of, char_width, csi, escape, escape_in_string, in_input, is_digit, is_opener, is_printable, is_wide, last, last_three, last_two, linux, mouse, rxvt, second, ss3, string, two_digits}
+use Rattle.csicodec_events.specs.Events.{IsTold}
+use Rattle.csicodec_events.specs.Input.{AreSent, InputChunks, IsSent, IsSentBy, IsSure, ahead, behind_escape, bytes_of, char_width, csi, escape, escape_in_string, in_input, is_digit, is_opener, is_printable, is_wide, last, last_three, last_two, linux, mouse, rxvt, second, ss3, string, two_digits}
 use Rattle.csicodec_events.proofs.Run.{parts_of}
 
--- ---- two answers for bytes, and for the same and more: the form is no longer than the bytes, and it stays
+-- ---- two answers for bytes, and for the same and more: the form is none of output and no longer than the bytes, and it stays
+
+abbrev IsOwn : InputEvent → Type 0
+IsOwn (input.Output told) = ⊥
+IsOwn (input.Ss3 b) = Unit {0}
+IsOwn (input.Linux b) = Unit {0}
+IsOwn (input.Rxvt n) = Unit {0}
+IsOwn input.Mouse = Unit {0}
+IsOwn (input.Alt b) = Unit {0}
+IsOwn input.Escape = Unit {0}
 
 abbrev Fits : ℕ → Form → Type 0
-Fits k (form.Whole i n) = (0 < n) × (n ≤ k)
+Fits k (form.Whole i n) = IsOwn i × (0 < n) × (n ≤ k)
 Fits k form.AsOutput = Unit {0}
 Fits k form.Unsure = Unit {0}
 
@@ -36,8 +47,8 @@ record Good (k : ℕ) (f g : Form) : Type 0 where
   fits : Fits k f
   stays : Stays f g
 
-whole : (k n : ℕ) (i : InputEvent) → 0 < n → n ≤ k → Good k (form.Whole i n) (form.Whole i n)
-whole k n i some most = record { fits = (some, most); stays = refl }
+whole : (k n : ℕ) (i : InputEvent) → IsOwn i → 0 < n → n ≤ k → Good k (form.Whole i n) (form.Whole i n)
+whole k n i own some most = record { fits = (own, some, most); stays = refl }
 
 output : (k : ℕ) → Good k form.AsOutput form.AsOutput
 output k = record { fits = tt; stays = refl }
@@ -99,8 +110,8 @@ char_good d (a ∷ bytes) more =
     either_width (suc (length bytes)) (is_wide d a) (second a bytes) width.One (second a (bytes ++ more)) width.One (second_good a bytes more) (record { fits = omega arith; stays = refl })
 
 last_good : (n k : ℕ) (v w : Width) → GoodWidth k v w → Good (n + k) (last n v) (last n w)
-last_good n k width.One w g = rw g.stays (whole (n + k) (n + 1) input.Mouse (omega arith) (omega (arith, g.fits)))
-last_good n k width.Two w g = rw g.stays (whole (n + k) (n + 2) input.Mouse (omega arith) (omega (arith, g.fits)))
+last_good n k width.One w g = rw g.stays (whole (n + k) (n + 1) input.Mouse tt (omega arith) (omega (arith, g.fits)))
+last_good n k width.Two w g = rw g.stays (whole (n + k) (n + 2) input.Mouse tt (omega arith) (omega (arith, g.fits)))
 last_good n k width.Unsure w g = unsure (n + k) (last n w)
 last_good n k width.Wrong w g = rw g.stays (output (n + k))
 
@@ -142,12 +153,12 @@ mouse_good d bytes more =
 
 ss3_good : (bytes more : List ℕ) → Good (suc (suc (length bytes))) (ss3 bytes) (ss3 (bytes ++ more))
 ss3_good [] more = unsure _ _
-ss3_good (b ∷ bytes) more = let k = suc (suc (suc (length bytes))) in either k (is_printable b) _ _ _ _ (whole k 3 (input.Ss3 b) (omega arith) (omega arith)) (whole k 2 (input.Alt 79) (omega arith) (omega arith))
+ss3_good (b ∷ bytes) more = let k = suc (suc (suc (length bytes))) in either k (is_printable b) _ _ _ _ (whole k 3 (input.Ss3 b) tt (omega arith) (omega arith)) (whole k 2 (input.Alt 79) tt (omega arith) (omega arith))
 
 linux_good : (bytes more : List ℕ)
     → Good (suc (suc (suc (length bytes)))) (linux bytes) (linux (bytes ++ more))
 linux_good [] more = unsure _ _
-linux_good (b ∷ bytes) more = let k = suc (suc (suc (suc (length bytes)))) in either k (is_printable b) _ _ _ _ (whole k 4 (input.Linux b) (omega arith) (omega arith)) (output k)
+linux_good (b ∷ bytes) more = let k = suc (suc (suc (suc (length bytes)))) in either k (is_printable b) _ _ _ _ (whole k 4 (input.Linux b) tt (omega arith) (omega arith)) (output k)
 
 two_digits_good : (a b : ℕ) (bytes more : List ℕ)
     → Good (suc (suc (suc (suc (length bytes))))) (two_digits a b bytes)
@@ -162,13 +173,13 @@ two_digits_good a b [] (c ∷ more) = by (is_digit b)
     by true = unsure 4 _
     by false = output 4
 two_digits_good a b (c ∷ bytes) more = let k = suc (suc (suc (suc (suc (length bytes))))) in
-    either k (is_digit b && c == 36) _ _ _ _ (whole k 5 (input.Rxvt (10 * (a - 48) + (b - 48))) (omega arith) (omega arith)) (output k)
+    either k (is_digit b && c == 36) _ _ _ _ (whole k 5 (input.Rxvt (10 * (a - 48) + (b - 48))) tt (omega arith) (omega arith)) (output k)
 
 rxvt_good : (a : ℕ) (bytes more : List ℕ)
     → Good (suc (suc (suc (length bytes)))) (rxvt a bytes) (rxvt a (bytes ++ more))
 rxvt_good a [] more = unsure _ _
 rxvt_good a (b ∷ bytes) more = let k = suc (suc (suc (suc (length bytes)))) in
-    either k (b == 36) _ _ _ _ (whole k 4 (input.Rxvt (a - 48)) (omega arith) (omega arith)) (two_digits_good a b bytes more)
+    either k (b == 36) _ _ _ _ (whole k 4 (input.Rxvt (a - 48)) tt (omega arith) (omega arith)) (two_digits_good a b bytes more)
 
 csi_good : (d : Dialect) (bytes more : List ℕ)
     → Good (suc (suc (length bytes))) (csi d bytes) (csi d (bytes ++ more))
@@ -189,7 +200,7 @@ escape_good d (b ∷ bytes) more = let k = suc (suc (length bytes)) in
     either k (b == 79) _ _ _ _ (ss3_good bytes more)
     (either k (b == 91) _ _ _ _ (csi_good d bytes more)
     (either k (is_opener b) _ _ _ _ (string_good k bytes more)
-    (either k (b == 27 || nat_le 128 b) _ _ _ _ (whole k 1 input.Escape (omega arith) (omega arith)) (whole k 2 (input.Alt b) (omega arith) (omega arith)))))
+    (either k (b == 27 || nat_le 128 b) _ _ _ _ (whole k 1 input.Escape tt (omega arith) (omega arith)) (whole k 2 (input.Alt b) tt (omega arith) (omega arith)))))
 
 in_string_good : (d : Dialect) (bytes more : List ℕ)
     → Good (suc (length bytes)) (escape_in_string d bytes) (escape_in_string d (bytes ++ more))
@@ -259,7 +270,22 @@ pub front : (d : Dialect) (m : Mode) (looked : ℕ) (bytes : List ℕ) (f : Form
 front d m looked bytes f i n found is =
     let same = sym found ∙ is in
     let fits : Fits (length bytes) (form.Whole i n) = subst (Fits (length bytes)) same (ahead_good d m looked bytes []).fits in
-    record { fresh = subst (IsFresh looked) same (ahead_fresh d m looked bytes); some = fits.0; within = fits.1 }
+    record { fresh = subst (IsFresh looked) same (ahead_fresh d m looked bytes); some = fits.1; within = fits.2 }
+
+-- ---- what output has too is told as in output
+
+by_output : (k : ℕ) (f : Form) (e : Events) (bytes : List ℕ) (told : Event) (text rest : List ℕ) (list : List CsiParam) (after : Events) → Fits k f → IsSentBy f e bytes (input.Output told) text rest list after
+    → IsTold told e bytes text rest list after
+by_output k (form.Whole i n) e bytes told text rest list after fits s = absurd (subst IsOwn (sym s.0) fits.0)
+by_output k form.AsOutput e bytes told text rest list after fits s =
+    let is : input.Output told ≡ input.Output s.0 = s.1 in
+    let same : s.0 ≡ told = cc in
+    subst (λ (x : Event). IsTold x e bytes text rest list after) same s.2
+by_output k form.Unsure e bytes told text rest list after fits s = absurd s
+
+pub as_output : (d : Dialect) (e : Events) (bytes : List ℕ) (told : Event) (text rest : List ℕ) (list : List CsiParam) (after : Events) → IsSent d e bytes (input.Output told) text rest list after
+    → IsTold told e bytes text rest list after
+as_output d e bytes told text rest list after s = by_output (length bytes) (ahead d e.mode e.looked bytes) e bytes told text rest list after (ahead_good d e.mode e.looked bytes []).fits s
 
 -- ---- the bytes joined
 

@@ -62,13 +62,14 @@ pub fn is_recording(alloc: Global, bytes: &[u8]) -> Result<bool, Failure> {
     }
 }
 
-/// Explains what the programs of a recording wrote, each event with its time; and its sizes, its markers and its end.
+/// Explains what the programs of a recording wrote, or what was typed, each event with its time; and its sizes, its markers and its end.
 pub fn explain_cast<R: BufRead, W: Write>(
     alloc: Global,
     explainer: &mut Explainer<'_>,
     input: &mut R,
     output: &mut W,
 ) -> Result<(), Failure> {
+    let wanted = if explainer.is_of_input() { "i" } else { "o" };
     let mut reading = Recording::new(alloc);
     let mut line = Vec::new(alloc);
     for _ in 0..u64::MAX {
@@ -80,7 +81,7 @@ pub fn explain_cast<R: BufRead, W: Write>(
         };
         let (code, data) = (code.as_str(), data.as_str());
         match code {
-            "o" => explainer.take(reading.time(), data.as_bytes(), output)?,
+            _ if code == wanted => explainer.take(reading.time(), data.as_bytes(), output)?,
             "r" | "m" | "x" => {
                 let event = Event { code, data };
                 explainer.take_event(reading.time(), &event, output)?;

@@ -10,9 +10,10 @@ mod timing;
 use cast::{explain_cast, is_recording};
 use compare::explain_diff;
 use csicodec_command::{
-    ColorWhen, Failure, Request, Task, Worker, Wrong, asked, failed, is_cast, refused, text_of,
-    words_of, work_through,
+    ColorWhen, Failure, Request, Task, Wanted, Worker, Wrong, asked, failed, is_cast, refused,
+    text_of, words_of, work_through,
 };
+use csicodec_events::Dialect;
 use csicodec_page::{Explainer, Style};
 use csicodec_streams::{CHUNK, RunError, receive};
 use names::are_known;
@@ -96,6 +97,17 @@ impl<'a> Worker for Explained<'a> {
     }
 }
 
+/// Which input is explained; none where it is output.
+fn dialect_of(wanted: Wanted<'_>) -> Option<Dialect> {
+    if wanted.utf8_mouse {
+        Some(Dialect::Utf8Input)
+    } else if wanted.input {
+        Some(Dialect::Input)
+    } else {
+        None
+    }
+}
+
 /// How the streams of a run are explained: in colours if that is asked for, or where a terminal shows them to someone who didn't
 /// say by NO_COLOR that they aren't wanted.
 fn style_of<'a>(rt: &HostRuntime, run: &Request<'a>) -> Style<'a> {
@@ -119,13 +131,14 @@ fn style_of<'a>(rt: &HostRuntime, run: &Request<'a>) -> Style<'a> {
         only: wanted.only,
         at: wanted.at.map(|places| (places.first, places.last)),
         grep: wanted.grep,
+        dialect: dialect_of(wanted),
     }
 }
 
-/// The times of a file that `script` wrote; the status, if it can't be read.
-fn times_of(rt: &HostRuntime, name: &str) -> Result<Timing, u8> {
+/// The times of a file that `script` wrote, of what was typed or of what was written; the status, if it can't be read.
+fn times_of(rt: &HostRuntime, name: &str, typed: bool) -> Result<Timing, u8> {
     let text = text_of(rt, name)?;
-    Timing::of(rt.alloc(), &text).map_err(|failure| failed(rt, failure, name, None))
+    Timing::of(rt.alloc(), &text, typed).map_err(|failure| failed(rt, failure, name, None))
 }
 
 fn explain(rt: &HostRuntime, run: &Request<'_>) -> Result<(), u8> {
@@ -134,7 +147,7 @@ fn explain(rt: &HostRuntime, run: &Request<'_>) -> Result<(), u8> {
         return explain_diff(rt, style, &run.files);
     }
     let timing = match run.timing {
-        Some(name) => Some(times_of(rt, name)?),
+        Some(name) => Some(times_of(rt, name, style.dialect.is_some())?),
         None => None,
     };
     let mut work = Explained {

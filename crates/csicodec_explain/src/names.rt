@@ -4,7 +4,7 @@ use csicodec_command::{Wrong, nearest};
 use std::alloc::Global;
 
 /// The names, but for the numbers that some have behind them.
-static NAMES: [&str; 331] = [
+static NAMES: [&str; 332] = [
     "ACK",
     "ACS",
     "APC",
@@ -176,6 +176,7 @@ static NAMES: [&str; 331] = [
     "ETX",
     "exit",
     "FF",
+    "focus",
     "FNK",
     "FNT",
     "FS",

@@ -1,5 +1,5 @@
 //! The times that `script` wrote beside a recording: a line for each piece, with the seconds since the piece before and how many
-//! bytes it has; in the newer form a letter stands ahead of both, `O` for what was written.
+//! bytes it has; in the newer form a letter stands ahead of both, `O` for what was written, `I` for what was typed.
 
 use csicodec_command::{Failure, micros};
 use csicodec_page::Explainer;
@@ -30,9 +30,9 @@ fn is_seconds(text: &str) -> bool {
             .all(|digit| digit.is_ascii_digit())
 }
 
-/// The seconds since the line before, and how many bytes of what was written came then: none where the line is another's, as of a
+/// The seconds since the line before, and how many bytes came then of what has this letter: none where the line is another's, as of a
 /// signal. Nothing of a line that `script` doesn't write.
-fn line_of(line: &str) -> Option<(u64, usize)> {
+fn line_of(line: &str, wanted: &str) -> Option<(u64, usize)> {
     let mut words = line.split_whitespace();
     let first = words.next()?;
     let letter = first.len() == 1 && first.starts_with(|c: char| c.is_ascii_uppercase());
@@ -48,17 +48,21 @@ fn line_of(line: &str) -> Option<(u64, usize)> {
     if words.next().is_some() {
         return None;
     }
-    Some((micros(seconds), if first == "I" { 0 } else { count }))
+    Some((
+        micros(seconds),
+        if letter && first != wanted { 0 } else { count },
+    ))
 }
 
 impl Timing {
-    /// The pieces of such a file.
-    pub fn of(alloc: Global, text: &str) -> Result<Timing, Failure> {
+    /// The pieces of such a file, of what was typed or of what was written.
+    pub fn of(alloc: Global, text: &str, typed: bool) -> Result<Timing, Failure> {
+        let wanted = if typed { "I" } else { "O" };
         let mut pieces = Vec::new(alloc);
         let (mut time, mut number) = (0u64, 0u64);
         for line in text.lines() {
             number = number.saturating_add(1);
-            let Some((since, count)) = line_of(line) else {
+            let Some((since, count)) = line_of(line, wanted) else {
                 return Err(Failure::Times(number));
             };
             time = time.saturating_add(since);

@@ -2,8 +2,10 @@
 ghost use Rattle.std.specs.Prelude.{◌≤◌, IfOk, length};
 
 use crate::page::Page;
+use crate::sent::Sending;
 use crate::stats::stats_of;
 use crate::style::Style;
+use csicodec_events::Dialect;
 use csicodec_spans::{Kind, LIMIT, Mode, next_span};
 use csicodec_streams::{CHUNK, RunError, keep_from, receive, send};
 use std::alloc::{AllocError, Global};
@@ -29,6 +31,22 @@ fn add_spans(page: &mut Page<'_>, mode: Mode, bytes: &[u8]) -> Result<(usize, Mo
     Ok((bytes.len() - rest.len(), mode))
 }
 
+/// Adds what is sure of these bytes, by the spans of a stream or the events of a dialect; how many bytes it has, and the mode behind it.
+fn add_sure(
+    page: &mut Page<'_>,
+    sending: &mut Sending,
+    dialect: Option<Dialect>,
+    mode: Mode,
+    bytes: &[u8],
+) -> Result<(usize, Mode), AllocError>
+    ensures { IfOk result (λ (used, after). used ≤ length bytes.now) }
+{
+    match dialect {
+        Some(dialect) => sending.add(page, dialect, mode, bytes),
+        None => add_spans(page, mode, bytes),
+    }
+}
+
 /// Streams one after the other, of which some has come. It holds what may go on: less than `LIMIT` bytes, or a span's first bytes.
 #[derive(Drop)]
 pub struct Explainer<'a> {
@@ -36,6 +54,7 @@ pub struct Explainer<'a> {
     style: Style<'a>,
     mode: Mode,
     pending: Vec<u8>,
+    sending: Sending,
     page: Page<'a>,
 }
 
@@ -47,23 +66,52 @@ impl<'a> Explainer<'a> {
             style,
             mode: Mode::Text,
             pending: Vec::new(alloc),
+            sending: Sending::new(alloc),
             page: Page::new(alloc, style),
         }
     }
 
+    /// Whether it tells what a terminal sends, and not what it is sent.
+    pub fn is_of_input(&self) -> bool {
+        self.style.dialect.is_some()
+    }
+
     /// The next bytes.
     fn push(&mut self, time: u64, bytes: &[u8]) -> Result<(), AllocError> {
+        if self.is_of_input() && self.sending.come_at(time) {
+            self.pause()?;
+        }
         self.page.come_at(time, self.pending.is_empty());
         self.pending.extend_from_slice(bytes)?;
-        let (used, mode) = add_spans(&mut self.page, self.mode, &self.pending)?;
+        let (used, mode) = add_sure(
+            &mut self.page,
+            &mut self.sending,
+            self.style.dialect,
+            self.mode,
+            &self.pending,
+        )?;
         self.mode = mode;
         keep_from(&mut self.pending, used);
         Ok(())
     }
 
+    /// Nothing came in time: an ESC that waits is a key of its own.
+    fn pause(&mut self) -> Result<(), AllocError> {
+        if self
+            .sending
+            .pause(&mut self.page, self.mode, &self.pending)?
+        {
+            self.pending.clear();
+            self.mode = Mode::Text;
+        }
+        Ok(())
+    }
+
     /// Nothing comes any more: what isn't over is malformed.
     fn finish(&mut self) -> Result<(), AllocError> {
-        if !self.pending.is_empty() {
+        if self.is_of_input() {
+            self.sending.end(&mut self.page, self.mode, &self.pending)?;
+        } else if !self.pending.is_empty() {
             self.page
                 .add(self.mode, Kind::Other, &self.pending, self.mode, false)?;
         }

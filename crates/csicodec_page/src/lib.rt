@@ -10,6 +10,7 @@ mod known;
 mod line;
 mod names;
 mod page;
+mod sent;
 mod sheet;
 mod stats;
 mod style;

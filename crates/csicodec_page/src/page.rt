@@ -8,6 +8,7 @@ use crate::sheet::Sheet;
 use crate::style::Style;
 use crate::totals::{Summary, Totals};
 use csicodec_base::{CsiParam, Esc, read_csi_into};
+use csicodec_keys::Did;
 use csicodec_parser::CSI;
 use csicodec_readings::{EscReading, LongEscReading, Reading};
 use csicodec_spans::{Kind, Mode};
@@ -91,6 +92,30 @@ impl fmt::Debug for Named {
         let esc = self.0;
         write!(f, "Esc({esc:?})")
     }
+}
+
+/// A line for each action of a control sequence of these tokens; how many they are.
+fn tell_actions(
+    alloc: Global,
+    sheet: &mut Sheet<'_>,
+    span: Told<'_>,
+    params: &[CsiParam],
+    control: char,
+) -> Result<u64, AllocError> {
+    sheet.begin(span)?;
+    let mut count = 0u64;
+    for action in CSI::parse(alloc, params, false, control) {
+        let action = action?;
+        let reading = Reading {
+            action: &action,
+            params,
+            control,
+        };
+        sheet.add_action(span, &Described(&reading), &action)?;
+        count = count.saturating_add(1);
+    }
+    sheet.end()?;
+    Ok(count)
 }
 
 impl<'a> Page<'a> {
@@ -246,35 +271,62 @@ impl<'a> Page<'a> {
         }
     }
 
+    /// What stands at this place, whole.
+    fn span_here<'b>(&self, sort: Sort, bytes: &'b [u8]) -> Told<'b> {
+        Told {
+            sort,
+            place: self.place,
+            time: self.time,
+            bytes,
+            len: bytes.len() as u64,
+        }
+    }
+
     /// A line for each action of a control sequence; how many they are.
     #[inline(never)]
     fn tell_sequence(&mut self, bytes: &[u8]) -> Result<u64, AllocError> {
         let Ok(tail) = read_csi_into(&mut self.params, bytes) else {
             return Err(AllocError);
         };
-        let (params, control) = (self.params.as_slice(), tail.control);
-        let span = Told {
-            sort: Sort::Sequence,
-            place: self.place,
-            time: self.time,
-            bytes,
-            len: bytes.len() as u64,
-        };
-        self.sheet.begin(span)?;
-        let mut count = 0u64;
-        for action in CSI::parse(self.alloc, params, false, control) {
-            let action = action?;
-            let reading = Reading {
-                action: &action,
-                params,
-                control,
-            };
-            self.sheet.add_action(span, &Described(&reading), &action)?;
-            count = count.saturating_add(1);
-        }
-        self.sheet.end()?;
+        let span = self.span_here(Sort::Sequence, bytes);
+        let params = self.params.as_slice();
+        let count = tell_actions(self.alloc, &mut self.sheet, span, params, tail.control)?;
         self.sheet.keep(bytes, count)?;
         Ok(count)
+    }
+
+    /// A control sequence of these tokens, which may have controls in it.
+    pub fn add_read(
+        &mut self,
+        bytes: &[u8],
+        params: &[CsiParam],
+        control: char,
+    ) -> Result<(), AllocError> {
+        self.close()?;
+        let span = self.span_here(Sort::Sequence, bytes);
+        let actions = tell_actions(self.alloc, &mut self.sheet, span, params, control)?;
+        self.totals.add_actions(actions);
+        self.text = false;
+        self.advance(Kind::Csi, 1, bytes.len());
+        Ok(())
+    }
+
+    /// What a user did, and the bytes that say so.
+    pub fn add_did(
+        &mut self,
+        kind: Kind,
+        sort: Sort,
+        bytes: &[u8],
+        did: &Did<'_>,
+    ) -> Result<(), AllocError> {
+        self.close()?;
+        let span = self.span_here(sort, bytes);
+        self.sheet.begin(span)?;
+        self.sheet.add(span, did)?;
+        self.sheet.end()?;
+        self.text = false;
+        self.advance(kind, 1, bytes.len());
+        Ok(())
     }
 
     /// A control sequence.
@@ -292,13 +344,7 @@ impl<'a> Page<'a> {
 
     #[inline(never)]
     fn tell_escape(&mut self, bytes: &[u8]) -> Result<(), AllocError> {
-        let span = Told {
-            sort: Sort::Escape,
-            place: self.place,
-            time: self.time,
-            bytes,
-            len: bytes.len() as u64,
-        };
+        let span = self.span_here(Sort::Escape, bytes);
         self.sheet.begin(span)?;
         let esc = escape_of(bytes);
         self.sheet
@@ -346,8 +392,10 @@ impl<'a> Page<'a> {
             len: bytes.len() as u64,
         };
         self.sheet.begin(span)?;
-        let words = words_of(bytes);
-        self.sheet.add(span, &words)?;
+        match (self.sheet.style().dialect, bytes) {
+            (Some(_), [byte, ..]) => self.sheet.add(span, &Did::of_control(*byte))?,
+            _ => self.sheet.add(span, &words_of(bytes))?,
+        }
         self.sheet.end()?;
         self.sheet.keep(bytes, 0)
     }
@@ -393,13 +441,7 @@ impl<'a> Page<'a> {
     /// Text that is whole.
     fn add_whole_text(&mut self, bytes: &[u8]) -> Result<(), AllocError> {
         self.close()?;
-        let span = Told {
-            sort: Sort::Text,
-            place: self.place,
-            time: self.time,
-            bytes,
-            len: bytes.len() as u64,
-        };
+        let span = self.span_here(Sort::Text, bytes);
         self.sheet.tell_text(span)
     }
 

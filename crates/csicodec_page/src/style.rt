@@ -1,5 +1,6 @@
 //! How a stream is told, and what of it.
 
+use csicodec_events::Dialect;
 use memchr::memmem::find;
 
 /// How a stream is told, and what of it.
@@ -29,6 +30,8 @@ pub struct Style<'a> {
     pub at: Option<(u64, u64)>,
     /// Only what has this text in its bytes or its words; a span is held until it is over.
     pub grep: Option<&'a str>,
+    /// What a terminal sends, in this dialect, and not what it is sent.
+    pub dialect: Option<Dialect>,
 }
 
 /// The name of what is told, and its words.
@@ -83,7 +86,7 @@ impl<'a> Style<'a> {
 
     /// Whether a carriage return and the line feed behind it are told as one.
     pub fn joins_lines(&self) -> bool {
-        !self.json && self.is_plain()
+        !self.json && self.is_plain() && self.dialect.is_none()
     }
 
     /// Whether a span is held until it is over, so that all its bytes are there.

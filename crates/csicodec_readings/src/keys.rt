@@ -143,6 +143,31 @@ pub struct Key<'a> {
     text: &'a [CsiParam],
 }
 
+impl<'a> Key<'a> {
+    /// The key of this name, with these modifiers: 1, and the sum of 1 for shift, 2 for alt, 4 for control (xterm).
+    pub fn named(name: &'static str, modifiers: i64) -> Key<'a> {
+        let event = 1;
+        Press { modifiers, event }.of_key(Code::Name(name))
+    }
+
+    /// The key of a character.
+    pub fn of_character(character: char, modifiers: i64) -> Key<'a> {
+        let event = 1;
+        let code = i64::from(u32::from(character));
+        Press { modifiers, event }.of_key(Code::Point(code))
+    }
+
+    /// The key that sends CSI or SS3 and this letter.
+    pub fn of_letter(letter: char, modifiers: i64) -> Option<Key<'a>> {
+        Some(Key::named(by_letter(letter)?, modifiers))
+    }
+
+    /// The key that sends this number before `~`.
+    pub fn of_number(number: i64, modifiers: i64) -> Option<Key<'a>> {
+        Some(Key::named(by_number(number)?, modifiers))
+    }
+}
+
 impl<'a> fmt::Display for Key<'a> {
     fn fmt<W: fmt::Write>(&self, f: &mut fmt::Formatter<W>) -> fmt::Result {
         f.write_str("key  ")?;

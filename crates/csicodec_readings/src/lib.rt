@@ -17,7 +17,6 @@ mod told;
 
 use crate::escapes::escape_of;
 use crate::intermediates::escape_of_bytes;
-use crate::keys::key_of;
 use crate::list::{intermediate, is_regular, marker, number};
 use crate::otherwise::{Otherwise, read_otherwise};
 use crate::sets::Escape;
@@ -27,7 +26,10 @@ use crate::told::tell_numbers;
 use csicodec_base::{CsiParam, Esc};
 use csicodec_parser::{CSI, Unspecified};
 use csicodec_words::Describe;
+pub use keys::{Key, key_of};
+pub use otherwise::held;
 use std::fmt;
+pub use told::mouse_event;
 
 /// One action of a control sequence, as a terminal reads it.
 #[derive(Clone, Copy)]

@@ -238,14 +238,22 @@ fn colour_scheme<W: fmt::Write>(f: &mut fmt::Formatter<W>, params: &[CsiParam]) 
     })
 }
 
-/// urxvt's report of the mouse (urxvt(7), Mode 1015): 32 and the code of the button, column and line.
-fn mouse<W: fmt::Write>(f: &mut fmt::Formatter<W>, params: &[CsiParam]) -> fmt::Result {
-    let code = number(params, 0).unwrap_or(32).saturating_sub(32);
-    let done = match (code & 64 != 0, code & 32 != 0, code & 3) {
-        (true, _, 0) => "wheel turned up at",
-        (true, _, 1) => "wheel turned down at",
-        (true, _, 2) => "wheel turned left at",
-        (true, _, _) => "wheel turned right at",
+/// What the mouse did, by the code of a report of xterm's mode 1000: bits 1 and 2 are the button, 32 says that it moved, 64 that it is the
+/// wheel, 128 a button from 8 on.
+pub fn mouse_event(code: i64) -> &'static str {
+    match (code & 192, code & 32 != 0, code & 3) {
+        (64, _, 0) => "wheel turned up at",
+        (64, _, 1) => "wheel turned down at",
+        (64, _, 2) => "wheel turned left at",
+        (64, _, _) => "wheel turned right at",
+        (128, true, 0) => "button 8 dragged to",
+        (128, true, 1) => "button 9 dragged to",
+        (128, true, 2) => "button 10 dragged to",
+        (128, true, _) => "button 11 dragged to",
+        (128, _, 0) => "button 8 pressed at",
+        (128, _, 1) => "button 9 pressed at",
+        (128, _, 2) => "button 10 pressed at",
+        (128, _, _) => "button 11 pressed at",
         (_, true, 0) => "button 1 dragged to",
         (_, true, 1) => "button 2 dragged to",
         (_, true, 2) => "button 3 dragged to",
@@ -254,7 +262,13 @@ fn mouse<W: fmt::Write>(f: &mut fmt::Formatter<W>, params: &[CsiParam]) -> fmt::
         (_, _, 1) => "button 2 pressed at",
         (_, _, 2) => "button 3 pressed at",
         _ => "button released at",
-    };
+    }
+}
+
+/// urxvt's report of the mouse (urxvt(7), Mode 1015): 32 and the code of the button, column and line.
+fn mouse<W: fmt::Write>(f: &mut fmt::Formatter<W>, params: &[CsiParam]) -> fmt::Result {
+    let code = number(params, 0).unwrap_or(32).saturating_sub(32);
+    let done = mouse_event(code);
     write!(f, "mouse  {done} ")?;
     fill(f, params, "line {3}, column {2}")?;
     held(f, code)?;

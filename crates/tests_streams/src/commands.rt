@@ -38,6 +38,10 @@ pub(crate) fn command(alloc: Global, line: &str) -> Result<String, AllocError> {
                 let grep = wanted.grep.unwrap_or("all");
                 return format!(in alloc; "{files:?} {stats} {diff} {at:?} {grep}");
             }
+            if wanted.input || wanted.utf8_mouse {
+                let (input, utf8) = (wanted.input, wanted.utf8_mouse);
+                return format!(in alloc; "{files:?} {input} {utf8}");
+            }
             if run.semicolons {
                 return format!(in alloc; "{task:?} {files:?} with semicolons");
             }

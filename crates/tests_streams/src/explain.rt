@@ -1,6 +1,7 @@
 //! What is told of a stream, in lines and in JSON, in any two pieces; and when what came.
 
 use crate::spelling::{bytes_of, law};
+use csicodec_events::Dialect;
 use csicodec_page::{Explainer, Style};
 use std::alloc::{AllocError, Global};
 
@@ -17,6 +18,7 @@ const PLAIN: Style<'static> = Style {
     only: None,
     at: None,
     grep: None,
+    dialect: None,
 };
 
 /// What is told of a stream that comes in these two pieces; nothing where that fails.
@@ -51,23 +53,43 @@ fn lines(alloc: Global, told: &[u8], holds: bool) -> Result<String, AllocError> 
     format!(in alloc; "{end}\n{text}")
 }
 
-/// `explain BYTES`, or `explain --json BYTES`: what is told of the stream.
-pub(crate) fn explain(alloc: Global, words: &str) -> Result<String, AllocError> {
+/// What is told of the bytes, in JSON if `--json` stands ahead of them.
+fn told_by(alloc: Global, dialect: Option<Dialect>, words: &str) -> Result<String, AllocError> {
     let (json, word) = match words.strip_prefix("--json ") {
         Some(word) => (true, word),
         None => (false, words),
     };
-    let style = Style { json, ..PLAIN };
+    let style = Style {
+        json,
+        dialect,
+        ..PLAIN
+    };
     let bytes = bytes_of(alloc, word)?;
     let told = told_of(alloc, style, &bytes, b"");
     let holds = told_in_pieces(alloc, style, &bytes, &told);
     lines(alloc, &told, holds)
 }
 
-/// `timed MICROSECONDS BYTES ..`: what is told of what came then.
-pub(crate) fn timed(alloc: Global, words: &str) -> Result<String, AllocError> {
+/// `explain BYTES`, or `explain --json BYTES`: what is told of the stream.
+pub(crate) fn explain(alloc: Global, words: &str) -> Result<String, AllocError> {
+    told_by(alloc, None, words)
+}
+
+/// `input BYTES`, or `input --json BYTES`: what is told of what a terminal sends.
+pub(crate) fn input(alloc: Global, words: &str) -> Result<String, AllocError> {
+    told_by(alloc, Some(Dialect::Input), words)
+}
+
+/// `input1005 BYTES`, or `input1005 --json BYTES`: the same in mode 1005.
+pub(crate) fn input1005(alloc: Global, words: &str) -> Result<String, AllocError> {
+    told_by(alloc, Some(Dialect::Utf8Input), words)
+}
+
+/// What is told of bytes that came at these times.
+fn told_then(alloc: Global, dialect: Option<Dialect>, words: &str) -> Result<String, AllocError> {
     let style = Style {
         timed: true,
+        dialect,
         ..PLAIN
     };
     let mut output = Vec::new(alloc);
@@ -83,6 +105,16 @@ pub(crate) fn timed(alloc: Global, words: &str) -> Result<String, AllocError> {
     }
     let ended = explainer.end(&mut output).is_ok();
     lines(alloc, &output, ended)
+}
+
+/// `timed MICROSECONDS BYTES ..`: what is told of what came then.
+pub(crate) fn timed(alloc: Global, words: &str) -> Result<String, AllocError> {
+    told_then(alloc, None, words)
+}
+
+/// `pressed MICROSECONDS BYTES ..`: what is told of what a terminal sent then.
+pub(crate) fn pressed(alloc: Global, words: &str) -> Result<String, AllocError> {
+    told_then(alloc, Some(Dialect::Input), words)
 }
 
 /// `totals NAMES BYTES`: what is told at the end where these names alone are told, in JSON.

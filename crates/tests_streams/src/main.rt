@@ -25,7 +25,10 @@ fn told(alloc: Global, row: &str) -> Result<String, AllocError> {
     match word {
         "command" => commands::command(alloc, rest),
         "explain" => explain::explain(alloc, rest),
+        "input" => explain::input(alloc, rest),
+        "input1005" => explain::input1005(alloc, rest),
         "timed" => explain::timed(alloc, rest),
+        "pressed" => explain::pressed(alloc, rest),
         "totals" => explain::totals(alloc, rest),
         "read" => reads::read(alloc, rest),
         "normalise" => forms::normalise(alloc, rest),

@@ -132,6 +132,19 @@ pub struct Known {
     pub values: [u32; 12],
 }
 
+#[repr(C)]
+#[derive(Clone, Copy, Debug, PartialEq, Eq)]
+pub struct Received {
+    pub status: u32,
+    pub kind: u32,
+    pub mode: u32,
+    pub value: u32,
+    pub looked: usize,
+    pub used: usize,
+    pub actions: usize,
+    pub params: usize,
+}
+
 const _: () = assert!(size_of::<Action>() == 64 && size_of::<Param>() == 16);
 const _: () = assert!(size_of::<Cleaning>() == 16 && size_of::<Cleaned>() == 40);
 const _: () = assert!(size_of::<Known>() == 56);
@@ -157,6 +170,19 @@ unsafe extern "C" {
         params: *mut Param,
         params_room: usize,
     ) -> Told;
+    fn csicodec_input(
+        dialect: u32,
+        mode: u32,
+        limit: usize,
+        looked: usize,
+        bytes: *const u8,
+        len: usize,
+        actions: *mut Action,
+        actions_room: usize,
+        params: *mut Param,
+        params_room: usize,
+    ) -> Received;
+    fn csicodec_pause(bytes: *const u8, len: usize) -> Received;
     fn csicodec_encode(
         actions: *const Action,
         count: usize,
@@ -284,6 +310,37 @@ pub fn event(
             params.len(),
         )
     }
+}
+
+pub fn input(
+    dialect: u32,
+    mode: u32,
+    limit: usize,
+    looked: usize,
+    bytes: &[u8],
+    actions: &mut [Action],
+    params: &mut [Param],
+) -> Received {
+    // SAFETY: as above.
+    unsafe {
+        csicodec_input(
+            dialect,
+            mode,
+            limit,
+            looked,
+            bytes.as_ptr(),
+            bytes.len(),
+            actions.as_mut_ptr(),
+            actions.len(),
+            params.as_mut_ptr(),
+            params.len(),
+        )
+    }
+}
+
+pub fn pause(bytes: &[u8]) -> Received {
+    // SAFETY: as above.
+    unsafe { csicodec_pause(bytes.as_ptr(), bytes.len()) }
 }
 
 pub fn encode(actions: &[Action], params: &[Param], out: &mut [u8]) -> Encoded {

@@ -1,0 +1,208 @@
+//! The event at the front of what a terminal sends, where the caller keeps the state.
+ghost use Rattle.std.specs.Prelude.{◌≡◌, ◌⊎◌, ◌<◌, ◌↔◌, Some};
+ghost use Rattle.csicodec_events.specs.declared.input.Dialect.{Dialect};
+ghost use Rattle.csicodec_events.specs.Events.{IsMet};
+ghost use Rattle.csicodec_c.specs.Filter.{mode_number};
+ghost use Rattle.csicodec_c.specs.Input.{IsDone, IsPaused, IsRefused, IsStill, IsWaiting, answered, control_of, dialect_number, input_number, refused, value_of};
+
+use crate::event::{event_number, lay_read};
+use crate::filter::{mode_at, number_of};
+use csicodec_events::{Dialect, Event, Events, InputEvent};
+use csicodec_structs::{Param, Status, Struct};
+use std::alloc::Global;
+
+/// What comes next in what a terminal sends.
+#[repr(C)]
+#[derive(Clone, Copy, Debug, PartialEq, Eq)]
+pub struct Received {
+    /// The number of a `Status`, as in `Evented`; `BadState` also where the dialect is none.
+    pub status: u32,
+    /// Of `Done`, which event.
+    pub kind: u32,
+    /// The mode to go on in.
+    pub mode: u32,
+    /// The control within a control sequence, the character of SS3, Linux and alt, or the number of rxvt.
+    pub value: u32,
+    /// How many bytes of the sequence in front were looked at.
+    pub looked: usize,
+    /// Of `Done`, how many bytes the event has: none for a control within a control sequence.
+    pub used: usize,
+    /// Of a control sequence, how many actions it has.
+    pub actions: usize,
+    /// Of a control sequence, how many tokens belong to them.
+    pub params: usize,
+}
+
+fn refused(why: Status) -> Received
+    ensures { result ≡ refused why }
+{
+    Received {
+        status: why.number(),
+        kind: 0,
+        mode: 0,
+        value: 0,
+        looked: 0,
+        used: 0,
+        actions: 0,
+        params: 0,
+    }
+}
+
+/// An answer without actions: how the stream goes on behind so many bytes.
+fn answer(status: Status, kind: u32, value: u8, after: Events, used: usize) -> Received
+    ensures { result ≡ answered status kind value after used }
+{
+    Received {
+        status: status.number(),
+        kind,
+        mode: number_of(after.mode),
+        value: u32::from(value),
+        looked: after.looked,
+        used,
+        actions: 0,
+        params: 0,
+    }
+}
+
+/// The dialect of a number.
+fn dialect_at(number: u32) -> Option<Dialect>
+    ensures { (dialect : Dialect) → (result ≡ Some dialect) ↔ (number ≡ dialect_number dialect) }
+{
+    match number {
+        0 => Some(Dialect::Output),
+        1 => Some(Dialect::Input),
+        2 => Some(Dialect::Utf8Input),
+        _ => None,
+    }
+}
+
+fn input_number(sent: InputEvent) -> u32
+    ensures { result ≡ input_number sent }
+{
+    match sent {
+        InputEvent::Output(told) => event_number(told),
+        InputEvent::Ss3(_) => 7,
+        InputEvent::Linux(_) => 8,
+        InputEvent::Rxvt(_) => 9,
+        InputEvent::Mouse => 10,
+        InputEvent::Alt(_) => 11,
+        InputEvent::Escape => 12,
+    }
+}
+
+fn control_of(told: Event) -> u8
+    ensures { result ≡ control_of told }
+{
+    match told {
+        Event::Text | Event::Csi(_) | Event::Esc | Event::Str | Event::Other => 0,
+        Event::Control(byte) => byte,
+    }
+}
+
+fn value_of(sent: InputEvent) -> u8
+    ensures { result ≡ value_of sent }
+{
+    match sent {
+        InputEvent::Output(told) => control_of(told),
+        InputEvent::Ss3(byte) | InputEvent::Linux(byte) | InputEvent::Alt(byte) => byte,
+        InputEvent::Rxvt(number) => number,
+        InputEvent::Mouse | InputEvent::Escape => 0,
+    }
+}
+
+/// The event at the front, and of a sequence its actions.
+fn step(
+    alloc: Global,
+    dialect: Dialect,
+    events: Events,
+    bytes: &[u8],
+    actions: &mut [Struct],
+    params: &mut [Param],
+) -> Received
+    requires limit { 0 < events.limit }
+    requires met { IsMet events bytes.now }
+    ensures { IsDone (dialect_number dialect) (mode_number events.mode) events.limit events.looked bytes.now actions.old actions.new params.old params.new result
+        ⊎ (IsWaiting (dialect_number dialect) (mode_number events.mode) events.limit events.looked bytes.now actions.old actions.new params.old params.new result
+        ⊎ IsRefused (dialect_number dialect) (mode_number events.mode) events.limit events.looked bytes.now result) }
+{
+    let mut events = events;
+    let mut list = Vec::new(alloc);
+    let sent = match events.next_in(dialect, bytes, &mut list) {
+        Ok(Some(sent)) => sent,
+        Ok(None) => return answer(Status::Truncated, 0, 0, events, 0),
+        Err(_) => return refused(Status::Memory),
+    };
+    let answer = answer(
+        Status::Done,
+        input_number(sent.event),
+        value_of(sent.event),
+        events,
+        sent.bytes.len(),
+    );
+    match sent.event {
+        InputEvent::Output(told) => match told {
+            Event::Csi(_) => match lay_read(alloc, sent.bytes, actions, params) {
+                Some(front) => Received {
+                    actions: front.actions,
+                    params: front.params,
+                    ..answer
+                },
+                None => refused(Status::Memory),
+            },
+            _ => answer,
+        },
+        _ => answer,
+    }
+}
+
+/// The event at the front of bytes of a dialect that stand in a mode, of which so many were looked at; of a control sequence its
+/// actions and their tokens, as many as there is room for.
+#[unsafe(no_mangle)]
+pub extern "C" fn csicodec_input(
+    alloc: Global,
+    dialect: u32,
+    mode: u32,
+    limit: usize,
+    looked: usize,
+    bytes: &[u8],
+    actions: &mut [Struct],
+    params: &mut [Param],
+) -> Received
+    ensures { IsDone dialect mode limit looked bytes.now actions.old actions.new params.old params.new result
+        ⊎ (IsWaiting dialect mode limit looked bytes.now actions.old actions.new params.old params.new result
+        ⊎ IsRefused dialect mode limit looked bytes.now result) }
+{
+    let Some(dialect) = dialect_at(dialect) else {
+        return refused(Status::BadState);
+    };
+    let Some(mode) = mode_at(mode) else {
+        return refused(Status::BadState);
+    };
+    let events = Events {
+        limit,
+        mode,
+        looked,
+    };
+    if limit == 0 || !events.is_met(bytes) {
+        return refused(Status::BadState);
+    }
+    step(alloc, dialect, events, bytes, actions, params)
+}
+
+/// The event that waiting bytes are where no more came in time: a lone ESC, or ESC and a character. Any others go on waiting.
+#[unsafe(no_mangle)]
+pub extern "C" fn csicodec_pause(bytes: &[u8]) -> Received
+    ensures { IsPaused bytes.now result ⊎ IsStill bytes.now result }
+{
+    let mut events = Events::new(1);
+    match events.pause(bytes) {
+        Some(sent) => answer(
+            Status::Done,
+            input_number(sent.event),
+            value_of(sent.event),
+            events,
+            sent.bytes.len(),
+        ),
+        None => refused(Status::Truncated),
+    }
+}

@@ -1,0 +1,366 @@
+//! Commands: the number that each begins with.
+ghost use Rattle.std.specs.Prelude.{◌≡◌};
+ghost use Rattle.csicodec_osc.specs.Commands.{dynamic_number, dynamic_reset_number, editor_number, folder_number, mark_number, number, palette_number, palette_reset_number, progress_number, title_number};
+
+/// Which title.
+#[derive(Clone, Copy, Debug, PartialEq, Eq)]
+pub enum Title {
+    /// The window's title and the icon's name.
+    Both,
+    /// The icon's name.
+    Icon,
+    /// The window's title.
+    Window,
+}
+
+impl Title {
+    /// What a command begins with.
+    pub(crate) fn number(self) -> &'static [u8]
+        ensures { result.now ≡ title_number self }
+    {
+        match self {
+            Title::Both => b"0",
+            Title::Icon => b"1",
+            Title::Window => b"2",
+        }
+    }
+}
+
+/// Colours that have an index.
+#[derive(Clone, Copy, Debug, PartialEq, Eq)]
+pub enum Palette {
+    /// The palette, from 0 to 255; xterm takes 256 and more for the special ones.
+    Indexed,
+    /// Those of text that is bold (0), underlined (1), blinking (2), inverse (3) or italic (4).
+    Special,
+}
+
+impl Palette {
+    /// What a command begins with.
+    pub(crate) fn number(self) -> &'static [u8]
+        ensures { result.now ≡ palette_number self }
+    {
+        match self {
+            Palette::Indexed => b"4",
+            Palette::Special => b"5",
+        }
+    }
+
+    /// What a command begins with that sets them back.
+    pub(crate) fn reset_number(self) -> &'static [u8]
+        ensures { result.now ≡ palette_reset_number self }
+    {
+        match self {
+            Palette::Indexed => b"104",
+            Palette::Special => b"105",
+        }
+    }
+}
+
+/// Colours that have a name.
+#[derive(Clone, Copy, Debug, PartialEq, Eq)]
+pub enum Dynamic {
+    /// Text.
+    Foreground,
+    /// The background.
+    Background,
+    /// The text cursor.
+    Cursor,
+    /// The pointer.
+    PointerForeground,
+    /// What is around the pointer.
+    PointerBackground,
+    /// Text in a window of a Tektronix terminal.
+    TektronixForeground,
+    /// Its background.
+    TektronixBackground,
+    /// The background of what is selected.
+    HighlightBackground,
+    /// The cursor of a Tektronix terminal.
+    TektronixCursor,
+    /// Text that is selected.
+    HighlightForeground,
+}
+
+impl Dynamic {
+    /// What a command begins with.
+    pub(crate) fn number(self) -> &'static [u8]
+        ensures { result.now ≡ dynamic_number self }
+    {
+        match self {
+            Dynamic::Foreground => b"10",
+            Dynamic::Background => b"11",
+            Dynamic::Cursor => b"12",
+            Dynamic::PointerForeground => b"13",
+            Dynamic::PointerBackground => b"14",
+            Dynamic::TektronixForeground => b"15",
+            Dynamic::TektronixBackground => b"16",
+            Dynamic::HighlightBackground => b"17",
+            Dynamic::TektronixCursor => b"18",
+            Dynamic::HighlightForeground => b"19",
+        }
+    }
+
+    /// What a command begins with that sets it back.
+    pub(crate) fn reset_number(self) -> &'static [u8]
+        ensures { result.now ≡ dynamic_reset_number self }
+    {
+        match self {
+            Dynamic::Foreground => b"110",
+            Dynamic::Background => b"111",
+            Dynamic::Cursor => b"112",
+            Dynamic::PointerForeground => b"113",
+            Dynamic::PointerBackground => b"114",
+            Dynamic::TektronixForeground => b"115",
+            Dynamic::TektronixBackground => b"116",
+            Dynamic::HighlightBackground => b"117",
+            Dynamic::TektronixCursor => b"118",
+            Dynamic::HighlightForeground => b"119",
+        }
+    }
+}
+
+/// How the current folder is said.
+#[derive(Clone, Copy, Debug, PartialEq, Eq)]
+pub enum Folder {
+    /// As an address, `file://host/path` with `%` and two digits for other bytes.
+    Address,
+    /// As a path, with or without quotation marks (ConEmu, Windows Terminal).
+    Path,
+}
+
+impl Folder {
+    /// What a command begins with.
+    pub(crate) fn number(self) -> &'static [u8]
+        ensures { result.now ≡ folder_number self }
+    {
+        match self {
+            Folder::Address => b"7",
+            Folder::Path => b"9;9",
+        }
+    }
+}
+
+/// A mark of a shell.
+#[derive(Clone, Copy, Debug, PartialEq, Eq)]
+pub enum Mark {
+    /// The prompt begins.
+    Prompt,
+    /// The prompt is over, and the command line begins.
+    Command,
+    /// The output begins.
+    Output,
+    /// The command is over; its first field may be the status.
+    End,
+    /// The command line begins, and ends with the line.
+    CommandLine,
+    /// A new line, unless the cursor is at the beginning of one.
+    FreshLine,
+    /// The last command is over, and a prompt begins.
+    NextPrompt,
+    /// A prompt begins, of the kind that its fields say.
+    PromptPart,
+}
+
+impl Mark {
+    /// What a command begins with.
+    pub(crate) fn number(self) -> &'static [u8]
+        ensures { result.now ≡ mark_number self }
+    {
+        match self {
+            Mark::Prompt => b"133;A",
+            Mark::Command => b"133;B",
+            Mark::Output => b"133;C",
+            Mark::End => b"133;D",
+            Mark::CommandLine => b"133;I",
+            Mark::FreshLine => b"133;L",
+            Mark::NextPrompt => b"133;N",
+            Mark::PromptPart => b"133;P",
+        }
+    }
+}
+
+/// A mark of a shell for VS Code.
+#[derive(Clone, Copy, Debug, PartialEq, Eq)]
+pub enum EditorMark {
+    /// The prompt begins.
+    Prompt,
+    /// The prompt is over, and the command line begins.
+    Command,
+    /// The output begins.
+    Output,
+    /// The command is over; its first field may be the status.
+    End,
+    /// The command line itself, and a nonce.
+    CommandText,
+    /// A prompt for a further line begins.
+    Continuation,
+    /// It is over.
+    ContinuationEnd,
+    /// A prompt at the right begins.
+    RightPrompt,
+    /// It is over.
+    RightPromptEnd,
+    /// A property, `name=value`.
+    Property,
+}
+
+impl EditorMark {
+    /// What a command begins with.
+    pub(crate) fn number(self) -> &'static [u8]
+        ensures { result.now ≡ editor_number self }
+    {
+        match self {
+            EditorMark::Prompt => b"633;A",
+            EditorMark::Command => b"633;B",
+            EditorMark::Output => b"633;C",
+            EditorMark::End => b"633;D",
+            EditorMark::CommandText => b"633;E",
+            EditorMark::Continuation => b"633;F",
+            EditorMark::ContinuationEnd => b"633;G",
+            EditorMark::RightPrompt => b"633;H",
+            EditorMark::RightPromptEnd => b"633;I",
+            EditorMark::Property => b"633;P",
+        }
+    }
+}
+
+/// How the progress is shown.
+#[derive(Clone, Copy, Debug, PartialEq, Eq)]
+pub enum Progress {
+    /// Not at all.
+    Off,
+    /// With a percentage.
+    Shown,
+    /// As failed.
+    Failed,
+    /// Without a percentage.
+    Busy,
+    /// As paused.
+    Paused,
+}
+
+impl Progress {
+    /// What a command begins with.
+    pub(crate) fn number(self) -> &'static [u8]
+        ensures { result.now ≡ progress_number self }
+    {
+        match self {
+            Progress::Off => b"9;4;0",
+            Progress::Shown => b"9;4;1",
+            Progress::Failed => b"9;4;2",
+            Progress::Busy => b"9;4;3",
+            Progress::Paused => b"9;4;4",
+        }
+    }
+}
+
+/// A command, without what stands behind its number.
+#[derive(Clone, Copy)]
+pub(crate) enum Command {
+    Title(Title),
+    Colors(Palette),
+    Color(Dynamic),
+    ResetColors(Palette),
+    ResetColor(Dynamic),
+    Link,
+    Clipboard,
+    Folder(Folder),
+    Prompt(Mark),
+    Editor(EditorMark),
+    Progress(Progress),
+    Pointer,
+    KittyNotice,
+    TitledNotice,
+    Notice,
+}
+
+impl Command {
+    /// What it begins with.
+    pub(crate) fn number(self) -> &'static [u8]
+        ensures { result.now ≡ number self }
+    {
+        match self {
+            Command::Title(title) => title.number(),
+            Command::Colors(palette) => palette.number(),
+            Command::Color(color) => color.number(),
+            Command::ResetColors(palette) => palette.reset_number(),
+            Command::ResetColor(color) => color.reset_number(),
+            Command::Link => b"8",
+            Command::Clipboard => b"52",
+            Command::Folder(folder) => folder.number(),
+            Command::Prompt(mark) => mark.number(),
+            Command::Editor(mark) => mark.number(),
+            Command::Progress(progress) => progress.number(),
+            Command::Pointer => b"22",
+            Command::KittyNotice => b"99",
+            Command::TitledNotice => b"777;notify",
+            Command::Notice => b"9",
+        }
+    }
+}
+
+/// How many commands there are.
+pub(crate) const COUNT: usize = 58;
+
+/// All of them. The last one has the number that others go on with, and so is tried when none of them is meant.
+pub(crate) static COMMANDS: [Command; COUNT] = [
+    Command::Title(Title::Both),
+    Command::Title(Title::Icon),
+    Command::Title(Title::Window),
+    Command::Colors(Palette::Indexed),
+    Command::Colors(Palette::Special),
+    Command::Color(Dynamic::Foreground),
+    Command::Color(Dynamic::Background),
+    Command::Color(Dynamic::Cursor),
+    Command::Color(Dynamic::PointerForeground),
+    Command::Color(Dynamic::PointerBackground),
+    Command::Color(Dynamic::TektronixForeground),
+    Command::Color(Dynamic::TektronixBackground),
+    Command::Color(Dynamic::HighlightBackground),
+    Command::Color(Dynamic::TektronixCursor),
+    Command::Color(Dynamic::HighlightForeground),
+    Command::ResetColors(Palette::Indexed),
+    Command::ResetColors(Palette::Special),
+    Command::ResetColor(Dynamic::Foreground),
+    Command::ResetColor(Dynamic::Background),
+    Command::ResetColor(Dynamic::Cursor),
+    Command::ResetColor(Dynamic::PointerForeground),
+    Command::ResetColor(Dynamic::PointerBackground),
+    Command::ResetColor(Dynamic::TektronixForeground),
+    Command::ResetColor(Dynamic::TektronixBackground),
+    Command::ResetColor(Dynamic::HighlightBackground),
+    Command::ResetColor(Dynamic::TektronixCursor),
+    Command::ResetColor(Dynamic::HighlightForeground),
+    Command::Link,
+    Command::Clipboard,
+    Command::Folder(Folder::Address),
+    Command::Folder(Folder::Path),
+    Command::Prompt(Mark::Prompt),
+    Command::Prompt(Mark::Command),
+    Command::Prompt(Mark::Output),
+    Command::Prompt(Mark::End),
+    Command::Prompt(Mark::CommandLine),
+    Command::Prompt(Mark::FreshLine),
+    Command::Prompt(Mark::NextPrompt),
+    Command::Prompt(Mark::PromptPart),
+    Command::Editor(EditorMark::Prompt),
+    Command::Editor(EditorMark::Command),
+    Command::Editor(EditorMark::Output),
+    Command::Editor(EditorMark::End),
+    Command::Editor(EditorMark::CommandText),
+    Command::Editor(EditorMark::Continuation),
+    Command::Editor(EditorMark::ContinuationEnd),
+    Command::Editor(EditorMark::RightPrompt),
+    Command::Editor(EditorMark::RightPromptEnd),
+    Command::Editor(EditorMark::Property),
+    Command::Progress(Progress::Off),
+    Command::Progress(Progress::Shown),
+    Command::Progress(Progress::Failed),
+    Command::Progress(Progress::Busy),
+    Command::Progress(Progress::Paused),
+    Command::Pointer,
+    Command::KittyNotice,
+    Command::TitledNotice,
+    Command::Notice,
+];

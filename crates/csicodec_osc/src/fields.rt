@@ -1,0 +1,56 @@
+//! Fields: what stands between semicolons.
+ghost use Rattle.std.specs.Prelude.{◌≡◌, ◌==◌, ◌++◌, ◌∷◌, true, IfNone, IfSome, option_map, position};
+ghost use Rattle.csicodec_osc.specs.Osc.{IsNext, is_field, list_text};
+ghost use Rattle.csicodec_osc.specs.Private.Reading.{halves};
+
+/// Fields, each behind a `;`.
+///
+/// ```text
+/// let mut fields = Fields { text: Some(b"1;?;7;red") };
+/// fields.next()                // Some("1")
+/// fields.next()                // Some("?"), a question: `Asked::of` tells
+/// ```
+#[derive(Clone, Copy, Debug)]
+pub struct Fields<'a> {
+    /// The fields with the `;` between them; none where no `;` stands behind the number. The empty text is one empty field.
+    pub text: Option<&'a [u8]>,
+}
+
+impl<'a> Fields<'a> {
+    /// Takes the field in front; none is left behind the last one.
+    pub fn next(&mut self) -> Option<&'a [u8]>
+        ensures { IsNext (list_text self.old) (option_map (λ f. f.now) result) (list_text self.new) }
+    {
+        let text = self.text?;
+        match halves(text) {
+            Some((field, rest)) => {
+                self.text = Some(rest);
+                Some(field)
+            }
+            None => {
+                self.text = None;
+                Some(text)
+            }
+        }
+    }
+}
+
+/// What stands ahead of the first `;`, and behind it.
+pub(crate) fn halves(text: &[u8]) -> Option<(&[u8], &[u8])>
+    ensures read { option_map (λ cut. (cut.0.now, cut.1.now)) result ≡ halves text.now }
+    ensures whole { IfSome result (λ cut. text.now ≡ cut.0.now ++ 59 ∷ cut.1.now) }
+    ensures field { IfSome result (λ cut. is_field cut.0.now ≡ true) }
+    ensures none { IfNone result (is_field text.now ≡ true) }
+{
+    let Some(place) = semicolon(text) else {
+        return None;
+    };
+    Some((&text[..place], &text[place + 1..]))
+}
+
+/// Where the first `;` stands.
+fn semicolon(text: &[u8]) -> Option<usize>
+    ensures { result ≡ position (λ b. b == 59) text.now }
+{
+    text.iter().position(|byte| *byte == b';')
+}

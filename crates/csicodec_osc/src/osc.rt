@@ -1,0 +1,245 @@
+//! What an OSC says.
+ghost use Rattle.std.specs.Prelude.{◌≡◌, ◌++◌, [], ◌∷◌, OnOk, Some, option_map};
+ghost use Rattle.std.specs.Fmt.{decimal};
+ghost use Rattle.csicodec_osc.specs.Commands.{form};
+ghost use Rattle.csicodec_osc.specs.Osc.{Known, Says, is_message, said, tail_text, written};
+ghost use Rattle.csicodec_osc.specs.Private.Reading.{behind, percent_of, read_body, read_by};
+
+use crate::asked::Asked;
+use crate::command::{
+    COMMANDS, Command, Dynamic, EditorMark, Folder, Mark, Palette, Progress, Title,
+};
+use crate::fields::{Fields, halves};
+use csicodec_tokens::Text;
+use std::alloc::AllocError;
+
+/// What the content of an OSC says. It borrows the texts, as they stand there: nothing is decoded, and no byte is checked but the
+/// `;` between them.
+#[derive(Clone, Copy, Debug)]
+pub enum Osc<'a> {
+    /// A title.
+    Title(Title, &'a [u8]),
+    /// Colours by their indices: fields in pairs, an index and a colour, or a question for it.
+    Colors(Palette, Fields<'a>),
+    /// A colour, or a question for it; each further field is the next one's of [`Dynamic`].
+    Color(Dynamic, Fields<'a>),
+    /// The colours of these indices as they were at first, or all.
+    ResetColors(Palette, Fields<'a>),
+    /// A colour as it was at first.
+    ResetColor(Dynamic),
+    /// What is printed from now on leads to the address; with none the link ends.
+    Link {
+        /// Without `;`: `name=value`, with `:` between two. Parts of one link have the same `id`.
+        params: &'a [u8],
+        /// Where it leads.
+        address: &'a [u8],
+    },
+    /// The clipboard: what is put there, in base64, or a question for it. What is no base64 clears it.
+    Clipboard {
+        /// Without `;`: letters, as `c` for the clipboard and `p` for the primary selection.
+        selection: &'a [u8],
+        /// The content.
+        content: Asked<'a>,
+    },
+    /// The current folder.
+    Folder(Folder, &'a [u8]),
+    /// A mark of a shell.
+    Prompt(Mark, Fields<'a>),
+    /// A mark of a shell for VS Code.
+    Editor(EditorMark, Fields<'a>),
+    /// Progress, and how much is done, from 0 to 100.
+    Progress(Progress, Option<u8>),
+    /// The shape of the pointer.
+    Pointer(&'a [u8]),
+    /// A notification of kitty's.
+    KittyNotice {
+        /// Without `;`: `name=value`, with `:` between two.
+        metadata: &'a [u8],
+        /// A title, a text, .., as the metadata says.
+        payload: &'a [u8],
+    },
+    /// A notification with a title.
+    TitledNotice {
+        /// Without `;`.
+        title: &'a [u8],
+        /// What it says.
+        text: &'a [u8],
+    },
+    /// A notification. Its first field is neither `4` nor `9`.
+    Notice(&'a [u8]),
+    /// Any other content.
+    Unknown(&'a [u8]),
+}
+
+impl<'a> Osc<'a> {
+    /// What a content says, the bytes between `ESC ]` and what ends it. Each says one thing (law `one`).
+    pub fn read(content: &'a [u8]) -> Osc<'a>
+        ensures { Says content.now (said result) }
+    {
+        for command in &COMMANDS {
+            if let Some(osc) = command.read(content) {
+                return osc;
+            }
+        }
+        Osc::Unknown(content)
+    }
+
+    /// Appends it, without `ESC ]` and what ends it. On `Err`, out of memory, a part of it may have been appended.
+    pub fn write_to(&self, out: &mut Vec<u8>) -> Result<(), AllocError>
+        ensures { OnOk result (out.new.items ≡ out.old.items ++ written (said self.now)) }
+    {
+        match *self {
+            Osc::Title(title, text) => append(out, title.number(), Some(text)),
+            Osc::Colors(palette, list) => append(out, palette.number(), list.text),
+            Osc::Color(color, list) => append(out, color.number(), list.text),
+            Osc::ResetColors(palette, list) => append(out, palette.reset_number(), list.text),
+            Osc::ResetColor(color) => append(out, color.reset_number(), None),
+            Osc::Link { params, address } => append_pair(out, b"8", params, address),
+            Osc::Clipboard { selection, content } => {
+                append_pair(out, b"52", selection, content.as_bytes())
+            }
+            Osc::Folder(folder, text) => append(out, folder.number(), Some(text)),
+            Osc::Prompt(mark, list) => append(out, mark.number(), list.text),
+            Osc::Editor(mark, list) => append(out, mark.number(), list.text),
+            Osc::Progress(progress, percent) => append_percent(out, progress.number(), percent),
+            Osc::Pointer(text) => append(out, b"22", Some(text)),
+            Osc::KittyNotice { metadata, payload } => append_pair(out, b"99", metadata, payload),
+            Osc::TitledNotice { title, text } => append_pair(out, b"777;notify", title, text),
+            Osc::Notice(text) => append(out, b"9", Some(text)),
+            Osc::Unknown(bytes) => out.extend_from_slice(bytes),
+        }
+    }
+}
+
+impl Command {
+    /// What a content says, where it is of this command.
+    fn read<'a>(self, content: &'a [u8]) -> Option<Osc<'a>>
+        ensures { option_map said result ≡ option_map (Known self) (read_by self content.now) }
+    {
+        let tail = behind(self.number(), content)?;
+        self.with(tail)
+    }
+
+    /// The command with what stands behind its number, where that has its form.
+    fn with<'a>(self, tail: Option<&'a [u8]>) -> Option<Osc<'a>>
+        ensures { option_map said result
+            ≡ option_map (Known self) (read_body (form self) (option_map (λ t. t.now) tail.entry)) }
+    {
+        match self {
+            Command::Title(title) => Some(Osc::Title(title, tail?)),
+            Command::Colors(palette) => Some(Osc::Colors(palette, Fields { text: tail })),
+            Command::Color(color) => Some(Osc::Color(color, Fields { text: tail })),
+            Command::ResetColors(palette) => Some(Osc::ResetColors(palette, Fields { text: tail })),
+            Command::ResetColor(color) => tail.is_none().then_some(Osc::ResetColor(color)),
+            Command::Link => {
+                let (params, address) = halves(tail?)?;
+                Some(Osc::Link { params, address })
+            }
+            Command::Clipboard => {
+                let (selection, content) = halves(tail?)?;
+                let content = Asked::of(content);
+                Some(Osc::Clipboard { selection, content })
+            }
+            Command::Folder(folder) => Some(Osc::Folder(folder, tail?)),
+            Command::Prompt(mark) => Some(Osc::Prompt(mark, Fields { text: tail })),
+            Command::Editor(mark) => Some(Osc::Editor(mark, Fields { text: tail })),
+            Command::Progress(progress) => match tail {
+                None => Some(Osc::Progress(progress, None)),
+                Some(text) => Some(Osc::Progress(progress, Some(percent(text)?))),
+            },
+            Command::Pointer => Some(Osc::Pointer(tail?)),
+            Command::KittyNotice => {
+                let (metadata, payload) = halves(tail?)?;
+                Some(Osc::KittyNotice { metadata, payload })
+            }
+            Command::TitledNotice => {
+                let (title, text) = halves(tail?)?;
+                Some(Osc::TitledNotice { title, text })
+            }
+            Command::Notice => {
+                let text = tail?;
+                is_message(text).then_some(Osc::Notice(text))
+            }
+        }
+    }
+}
+
+/// What stands behind a number that a content begins with: nothing, or a `;` and a text.
+fn behind<'a>(number: &[u8], content: &'a [u8]) -> Option<Option<&'a [u8]>>
+    ensures { option_map (λ o. option_map (λ t. t.now) o) result ≡ behind number.now content.now }
+{
+    let Some(rest) = content.strip_prefix(number) else {
+        return None;
+    };
+    tail(rest)
+}
+
+/// Nothing, or a `;` and a text.
+fn tail(rest: &[u8]) -> Option<Option<&[u8]>>
+    ensures { option_map (λ o. option_map (λ t. t.now) o) result ≡ behind [] rest.now }
+{
+    match rest {
+        [] => Some(None),
+        [byte, text @ ..] => (*byte == b';').then_some(Some(text)),
+    }
+}
+
+/// Whether a text is none of ConEmu's commands for progress and the folder.
+fn is_message(text: &[u8]) -> bool
+    ensures { result ≡ is_message text.now }
+{
+    !matches!(text, [b'4' | b'9'] | [b'4' | b'9', b';', ..])
+}
+
+/// A number from 0 to 100 without leading zeros.
+fn percent(text: &[u8]) -> Option<u8>
+    ensures { result ≡ percent_of text.now }
+{
+    match text {
+        [ones @ b'0'..=b'9'] => Some(*ones - b'0'),
+        [tens @ b'1'..=b'9', ones @ b'0'..=b'9'] => Some(10 * (*tens - b'0') + (*ones - b'0')),
+        [b'1', b'0', b'0'] => Some(100),
+        _ => None,
+    }
+}
+
+/// Appends a number, and a text behind a `;` where there is one.
+fn append(out: &mut Vec<u8>, number: &[u8], text: Option<&[u8]>) -> Result<(), AllocError>
+    ensures { OnOk result (out.new.items
+        ≡ out.old.items ++ (number.now ++ tail_text (option_map (λ t. t.now) text.entry))) }
+{
+    out.extend_from_slice(number)?;
+    let Some(text) = text else {
+        return Ok(());
+    };
+    out.push(b';')?;
+    out.extend_from_slice(text)
+}
+
+/// Appends a number, and two texts, each behind a `;`.
+fn append_pair(
+    out: &mut Vec<u8>,
+    number: &[u8],
+    first: &[u8],
+    second: &[u8],
+) -> Result<(), AllocError>
+    ensures { OnOk result (out.new.items
+        ≡ out.old.items ++ (number.now ++ 59 ∷ (first.now ++ 59 ∷ second.now))) }
+{
+    append(out, number, Some(first))?;
+    out.push(b';')?;
+    out.extend_from_slice(second)
+}
+
+/// Appends a number, and a percentage behind a `;` where there is one.
+fn append_percent(out: &mut Vec<u8>, number: &[u8], percent: Option<u8>) -> Result<(), AllocError>
+    ensures { OnOk result (out.new.items
+        ≡ out.old.items ++ (number.now ++ tail_text (option_map decimal percent))) }
+{
+    let Some(percent) = percent else {
+        return append(out, number, None);
+    };
+    let mut text = Text::new();
+    text.push_u8(percent);
+    append(out, number, Some(text.as_bytes()))
+}

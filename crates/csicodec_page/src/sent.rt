@@ -1,0 +1,190 @@
+//! What a terminal sends, each event told.
+ghost use Rattle.std.specs.Prelude.{◌≡◌, ◌<◌, ◌≤◌, IfOk, length};
+ghost use Rattle.csicodec_events.specs.Events.{IsMet};
+
+use crate::line::Sort;
+use crate::page::Page;
+use csicodec_base::CsiParam;
+use csicodec_events::{Dialect, Event, Events, InputEvent, Sent};
+use csicodec_keys::Did;
+use csicodec_spans::{Kind, LIMIT, Mode};
+use std::alloc::{AllocError, Global};
+
+/// What comes so many microseconds behind an ESC, or later, doesn't belong to it.
+const PAUSE: u64 = 50_000;
+
+/// Where a stream of what a terminal sends goes on.
+#[derive(Drop)]
+pub struct Sending {
+    /// The tokens of a control sequence.
+    params: Vec<CsiParam>,
+    /// Of one that waits, how many bytes were looked at.
+    looked: usize,
+    /// When the last bytes came, in microseconds.
+    time: u64,
+}
+
+/// The modes ahead of an event and behind it.
+#[derive(Clone, Copy)]
+struct Modes {
+    before: Mode,
+    after: Mode,
+}
+
+/// The events of bytes in this mode; of those that waited so many were looked at.
+fn resumed(mode: Mode, looked: usize, bytes: &[u8]) -> Events
+    ensures limit { 0 < result.limit }
+    ensures met { IsMet result bytes.now }
+{
+    let events = Events {
+        limit: LIMIT,
+        mode,
+        looked,
+    };
+    if events.is_met(bytes) {
+        events
+    } else {
+        Events {
+            limit: LIMIT,
+            mode,
+            looked: 0,
+        }
+    }
+}
+
+/// Tells what output has too: text is over where ESC follows, and a control within a sequence has no bytes of its own.
+fn tell_output(
+    page: &mut Page<'_>,
+    modes: Modes,
+    event: Event,
+    sent: Sent<'_>,
+    params: &[CsiParam],
+) -> Result<(), AllocError> {
+    let kind = match event {
+        Event::Text => Kind::Text,
+        Event::Esc => Kind::Esc,
+        Event::Str => Kind::Str,
+        Event::Other => Kind::Other,
+        Event::Control(byte) => {
+            let did = Did::of_control(byte);
+            return page.add_did(Kind::Text, Sort::Control, &[], &did);
+        }
+        Event::Csi(control) => {
+            return match Did::of_sequence(params, control) {
+                Some(did) => page.add_did(Kind::Csi, Sort::Sequence, sent.bytes, &did),
+                None => page.add_read(sent.bytes, params, control),
+            };
+        }
+    };
+    let over = sent.rest.first().copied() == Some(0x1b);
+    page.add(modes.before, kind, sent.bytes, modes.after, over)
+}
+
+/// Tells an event; of a control sequence these are the tokens.
+fn tell(
+    page: &mut Page<'_>,
+    modes: Modes,
+    sent: Sent<'_>,
+    params: &[CsiParam],
+) -> Result<(), AllocError> {
+    let (kind, sort, did) = match sent.event {
+        InputEvent::Output(event) => return tell_output(page, modes, event, sent, params),
+        InputEvent::Linux(character) => { (Kind::Csi, Sort::Sequence, Did::of_console(character)) }
+        InputEvent::Rxvt(number) => (Kind::Csi, Sort::Sequence, Did::of_rxvt(number)),
+        InputEvent::Mouse => (Kind::Csi, Sort::Sequence, Did::of_mouse(sent.bytes)),
+        InputEvent::Ss3(character) => (Kind::Esc, Sort::Escape, Did::of_ss3(character)),
+        InputEvent::Alt(character) => (Kind::Esc, Sort::Escape, Did::of_alt(character)),
+        InputEvent::Escape => (Kind::Esc, Sort::Escape, Did::of_escape()),
+    };
+    page.add_did(kind, sort, sent.bytes, &did)
+}
+
+/// Tells the events that are sure; how many bytes they have.
+fn tell_all(
+    page: &mut Page<'_>,
+    dialect: Dialect,
+    events: &mut Events,
+    params: &mut Vec<CsiParam>,
+    bytes: &[u8],
+) -> Result<usize, AllocError>
+    requires limit { 0 < events.old.limit }
+    requires met { IsMet events.old bytes.now }
+    ensures { IfOk result (λ used. used ≤ length bytes.now) }
+{
+    let mut before = events.mode;
+    let mut rest = bytes;
+    while let Some(sent) = events.next_in(dialect, rest, params)? {
+        let after = events.mode;
+        tell(page, Modes { before, after }, sent, params)?;
+        before = after;
+        rest = sent.rest;
+    }
+    Ok(bytes.len() - rest.len())
+}
+
+impl Sending {
+    /// Nothing has come.
+    pub fn new(alloc: Global) -> Sending {
+        Sending {
+            params: Vec::new(alloc),
+            looked: 0,
+            time: 0,
+        }
+    }
+
+    /// Tells the events that are sure of bytes in this mode, which begin with those that waited; how many bytes they have, and the mode
+    /// behind them.
+    pub fn add(
+        &mut self,
+        page: &mut Page<'_>,
+        dialect: Dialect,
+        mode: Mode,
+        bytes: &[u8],
+    ) -> Result<(usize, Mode), AllocError>
+        ensures { IfOk result (λ (used, after). used ≤ length bytes.now) }
+    {
+        let mut events = resumed(mode, self.looked, bytes);
+        let used = tell_all(page, dialect, &mut events, &mut self.params, bytes)?;
+        self.looked = events.looked;
+        Ok((used, events.mode))
+    }
+
+    /// The next bytes come at this time; whether that is too late for what waits.
+    pub fn come_at(&mut self, time: u64) -> bool {
+        let since = time.saturating_sub(self.time);
+        self.time = time;
+        since >= PAUSE
+    }
+
+    /// Tells bytes that wait, in this mode, where nothing came in time, and they are ESC alone or with one character; whether they are.
+    pub fn pause(
+        &mut self,
+        page: &mut Page<'_>,
+        mode: Mode,
+        bytes: &[u8],
+    ) -> Result<bool, AllocError> {
+        let mut events = resumed(mode, self.looked, bytes);
+        let Some(sent) = events.pause(bytes) else {
+            return Ok(false);
+        };
+        let (before, after) = (mode, events.mode);
+        tell(page, Modes { before, after }, sent, &[])?;
+        self.looked = 0;
+        Ok(true)
+    }
+
+    /// Tells bytes that wait, in this mode, where nothing comes any more: text of which a character isn't whole, or what is malformed.
+    pub fn end(&mut self, page: &mut Page<'_>, mode: Mode, bytes: &[u8]) -> Result<(), AllocError> {
+        self.time = 0;
+        if bytes.is_empty() || self.pause(page, mode, bytes)? {
+            return Ok(());
+        }
+        self.looked = 0;
+        let kind = if mode == Mode::Text && bytes.first().copied() != Some(0x1b) {
+            Kind::Text
+        } else {
+            Kind::Other
+        };
+        page.add(mode, kind, bytes, mode, false)
+    }
+}

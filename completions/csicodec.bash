@@ -20,8 +20,8 @@ _csicodec() {
     case $task in
         filter) of="--faithful --help" ;;
         compact) of="--semicolons --help" ;;
-        strip) of="--help" ;;
-        clean) of="--colors --links --help" ;;
+        strip) of="--lines --help" ;;
+        clean) of="--colors --lines --links --help" ;;
         html) of="--fragment --links --help" ;;
         explain) of="--at --color --count --decode --diff --full --grep --input --json --only --stats --timing --unknown --utf8-mouse --help" ;;
         help) COMPREPLY=($(compgen -W "filter compact strip clean html explain" -- "$word")); return ;;

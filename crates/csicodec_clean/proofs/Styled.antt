@@ -66,7 +66,7 @@ pub texts_both : (xs ys : List Item) → item_texts (xs ++ ys) ≡ item_texts xs
 texts_both [] ys = refl
 texts_both (x ∷ xs) ys = ap (λ t. item_text x ++ t) (texts_both xs ys) ∙ sym (append_assoc (item_text x) (item_texts xs) (item_texts ys))
 
-styles_both : (xs ys : List Item) → styles_of (xs ++ ys) ≡ styles_of xs ++ styles_of ys
+pub styles_both : (xs ys : List Item) → styles_of (xs ++ ys) ≡ styles_of xs ++ styles_of ys
 styles_both [] ys = refl
 styles_both (Shown c ∷ xs) ys = styles_both xs ys
 styles_both (Style s ∷ xs) ys = ap (λ t. s ∷ t) (styles_both xs ys)
@@ -279,7 +279,7 @@ module _ {S : Type 0} (of : S → Keeping) where
 
 -- ---- safe
 
-safe_both : (d : Passing) (xs ys : List Item) → AllByRecursion (IsSafe d) xs → AllByRecursion (IsSafe d) ys → AllByRecursion (IsSafe d) (xs ++ ys)
+pub safe_both : (d : Passing) (xs ys : List Item) → AllByRecursion (IsSafe d) xs → AllByRecursion (IsSafe d) ys → AllByRecursion (IsSafe d) (xs ++ ys)
 safe_both d [] ys h k = k
 safe_both d (x ∷ xs) ys h k = (h.0, safe_both d xs ys h.1 k)
 

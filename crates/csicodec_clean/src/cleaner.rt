@@ -4,7 +4,7 @@ ghost use Rattle.csicodec_clean.specs.Shown.{shown_text};
 ghost use Rattle.csicodec_clean.specs.Cleaned.{longest};
 ghost use Rattle.csicodec_clean.specs.Stream.{Takes, start_of};
 
-use crate::rule::Rule;
+use crate::rule::{Anew, Rule};
 use crate::spans::append_clean;
 use crate::text::append_shown;
 use csicodec_base::CsiParam;
@@ -85,5 +85,19 @@ impl<R: Rule + Drop> Cleaner<R> {
     {
         append_shown(&self.held, out)?;
         self.rule.close(out)
+    }
+}
+
+impl<P, R: Rule + Anew<P> + Drop> Anew<P> for Cleaner<R> {
+    ghost use Rattle.csicodec_clean.specs.Stream.{start_of};
+
+    ghost begins = { λ by. start_of (R.begins by) };
+
+    fn begin(&mut self, by: P) {
+        self.rule.begin(by);
+        self.mode = Mode::Text;
+        self.titled = false;
+        self.pending.clear();
+        self.held.clear();
     }
 }

@@ -107,6 +107,15 @@ impl LinkReader {
         }
     }
 
+    /// Goes back to where no control string is open.
+    pub(crate) fn clear(&mut self)
+        ensures { begun self.new.place self.new.params.items self.new.url.items ≡ start }
+    {
+        self.place = Place::Outside;
+        self.params.clear();
+        self.url.clear();
+    }
+
     /// Takes a byte of the parameters.
     fn take_param(&mut self, byte: u8) -> Result<(), AllocError>
         requires { self.now.place ≡ InParams }

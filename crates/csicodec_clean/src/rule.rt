@@ -55,3 +55,13 @@ pub trait Rule {
         ensures { OnOk result
             ((text : List ℕ) × closes self.now text × (out.new.items ≡ out.old.items ++ text)) };
 }
+
+/// What can go back to where nothing has come, by what it is told: a rule, and a stream that one cleans.
+pub trait Anew<P> {
+    /// How it begins by that.
+    ghost begins: { P → Self };
+
+    /// Goes back there.
+    fn begin(&mut self, by: P)
+        ensures { self.new ≡ begins by };
+}

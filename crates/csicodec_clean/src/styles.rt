@@ -10,7 +10,7 @@ ghost use Rattle.csicodec_clean.specs.Styled.{Styles, StylesIn, IsStyled, IsStyl
 use crate::colors::{Depth, reduced};
 use crate::links::{LinkReader, append_end};
 use crate::notes::{Room, StyleNote, append_noted};
-use crate::rule::Rule;
+use crate::rule::{Anew, Rule};
 use crate::whole::clean_whole;
 use csicodec::{CSI, encode};
 use csicodec_base::{CsiParam, Sgr};
@@ -263,6 +263,19 @@ impl Rule for Kept {
             encode(&CSI::Sgr(Sgr::Reset), out)?;
         }
         Ok(())
+    }
+}
+
+impl Anew<Passing> for Kept {
+    ghost use Rattle.csicodec_clean.specs.Styled.{first_kept};
+
+    ghost begins = { first_kept };
+
+    fn begin(&mut self, by: Passing) {
+        self.passing = by;
+        self.styled = false;
+        self.linked = false;
+        self.link.clear();
     }
 }
 

@@ -4,7 +4,7 @@ ghost use Rattle.csicodec_spans.specs.Parts.{IsSequence};
 ghost use Rattle.csicodec_clean.specs.Shown.{IsPlain};
 ghost use Rattle.csicodec_clean.specs.Cleaned.{Ends, Strips, longest};
 
-use crate::rule::Rule;
+use crate::rule::{Anew, Rule};
 use crate::spans::append_clean;
 use crate::text::append_shown;
 use csicodec_base::CsiParam;
@@ -96,6 +96,12 @@ impl Rule for Dropped {
     fn close(&self, _out: &mut Vec<u8>) -> Result<(), AllocError> {
         Ok(())
     }
+}
+
+impl Anew<()> for Dropped {
+    ghost begins = { λ _. record {} };
+
+    fn begin(&mut self, _by: ()) {}
 }
 
 /// The plain text of untrusted bytes: what a terminal would show, and nothing that it would act on but newlines and tabs.

@@ -303,7 +303,12 @@ pub fn refused(rt: &HostRuntime, wrong: Wrong<'_>) -> u8 {
             let word = word.escape_debug();
             eprintln!(rt; "{failure}: {word}\n{HINT}")
         }
-        Wrong::Misplaced(option, of) => eprintln!(rt; "{failure}: {option} (of {of})\n{HINT}"),
+        Wrong::Misplaced(option, of) => match of.split_once(' ') {
+            Some((of, other)) => {
+                eprintln!(rt; "{failure}: {option} (of {of} and {other})\n{HINT}")
+            }
+            None => eprintln!(rt; "{failure}: {option} (of {of})\n{HINT}"),
+        },
         Wrong::Apart(one, other) => eprintln!(rt; "{failure}: {one} and {other}\n{HINT}"),
         Wrong::NoValue(word, values) => { eprintln!(rt; "{failure}: {word} ({values})\n{HINT}") }
         Wrong::NotValue(word, value, values) => {

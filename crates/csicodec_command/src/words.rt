@@ -14,7 +14,7 @@ pub(crate) static TASKS: [(&str, Task, &str); 6] = [
 
 /// The options: how each stands in a command line, the words that have it, none where all have, and which values it has, none
 /// where it has no value.
-pub(crate) static OPTIONS: [(&str, &str, &str); 21] = [
+pub(crate) static OPTIONS: [(&str, &str, &str); 22] = [
     ("--at", "explain", "places, as 120, 120-180 or 120-"),
     ("--color", "explain", "always, never or auto"),
     ("--colors", "clean", "256 or 16"),
@@ -28,6 +28,7 @@ pub(crate) static OPTIONS: [(&str, &str, &str); 21] = [
     ("--help", "", ""),
     ("--input", "explain", ""),
     ("--json", "explain", ""),
+    ("--lines", "strip and clean", ""),
     ("--links", "clean and html", ""),
     ("--only", "explain", "names, as SGR,CUP"),
     ("--semicolons", "compact", ""),
@@ -43,7 +44,7 @@ pub const USAGE: &str = "\
 usage: csicodec                                 control sequences from standard input, in their normal form
        csicodec filter [OPTION ..] [FILE ..]    any terminal stream, with each control sequence in its normal form
        csicodec compact [OPTION ..] [FILE ..]   the same stream for terminals, no longer than it came
-       csicodec strip [FILE ..]                 plain text of any stream: nothing that steers a terminal
+       csicodec strip [OPTION ..] [FILE ..]     plain text of any stream: nothing that steers a terminal
        csicodec clean [OPTION ..] [FILE ..]     the same with its colours and styles
        csicodec html [OPTION ..] [FILE ..]      a page of HTML: the text with its colours and styles
        csicodec explain [OPTION ..] [FILE ..]   what stands in a stream, in words
@@ -81,21 +82,24 @@ actions, where one is found, attributes side by side in one sequence, and every 
 
 /// How `strip` is used.
 pub const STRIP: &str = "\
-usage: csicodec strip [FILE ..]
+usage: csicodec strip [--lines] [FILE ..]
 
 Writes the plain text of each FILE, or of standard input where there is none or it is -: no control sequence, escape sequence or
 string, and of the controls newline and tab alone. What is no UTF-8 becomes U+FFFD.
 
+  --lines        for logs: each line by itself, whatever the one before it left open; CR ends a line too
   -h, --help     this text";
 
 /// How `clean` is used.
 pub const CLEAN: &str = "\
 usage: csicodec clean [OPTION ..] [FILE ..]
 
-Writes the same as strip, with colours and styles, but none that hides text, and none left open at the end.
+Writes the same as strip, with colours and styles, but for the style that hides text (SGR 8), and none left open at the end. Text
+in the colour of its background stays so.
 
   --colors=256   colours by their parts become the nearest of the palette
   --colors=16    all colours become the nearest of the first 16
+  --lines        for logs: each line by itself, whatever the one before it left open; CR ends a line too, and no style goes on
   --links        links too (OSC 8) whose address is visible ASCII of at most 2,083 bytes, and none left open at the end
   -h, --help     this text";
 

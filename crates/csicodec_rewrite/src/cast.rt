@@ -1,10 +1,11 @@
 //! Recordings of asciinema with other data.
 
-use csicodec_clean::{Cleaner, Dropped, Kept, Rule, strip};
+use csicodec_clean::{Cleaner, Dropped, Kept, Passing, strip};
 use csicodec_command::{Failure, Recording, time_of};
 use csicodec_compact::Compactor;
-use csicodec_filter::{Faithful, Filter, NormalForm};
+use csicodec_filter::{Faithful, Filter, NormalForm, Transform};
 use csicodec_html::{Markup, html_with};
+use csicodec_lines::Lines;
 use csicodec_streams::{RunError, send};
 use serde_json::Value;
 use std::alloc::{AllocError, Global};
@@ -23,17 +24,23 @@ pub enum Stage {
     Plain(Cleaner<Dropped>),
     /// The same with its styles.
     Styled(Cleaner<Kept>),
+    /// Plain text, line by line.
+    PlainLines(Lines<Dropped, ()>),
+    /// The same with its styles.
+    StyledLines(Lines<Kept, Passing>),
 }
 
 /// The next data, with a carriage return ahead of each newline that stays: they were dropped, and where a recording is played a
 /// newline alone leads down, and not to the begin of the line.
-fn push_lines<T: Rule + Drop>(
-    cleaner: &mut Cleaner<T>,
+fn push_text<T: Transform>(
+    cleaner: &mut T,
     bytes: &[u8],
     out: &mut Vec<u8>,
-) -> Result<(), AllocError> {
+) -> Result<(), AllocError>
+    requires { T.stands cleaner.old }
+{
     let mut text = Vec::new(*out.allocator());
-    cleaner.push(bytes, &mut text)?;
+    cleaner.take(bytes, &mut text)?;
     for line in text.split_inclusive(|byte| *byte == b'\n') {
         match line.strip_suffix(b"\n".as_slice()) {
             Some(line) => {
@@ -53,14 +60,20 @@ impl Stage {
             Stage::Normal(filter) => filter.push(bytes, out),
             Stage::Faithful(filter) => filter.push(bytes, out),
             Stage::Short(filter) => filter.push(bytes, out),
-            Stage::Plain(cleaner) => push_lines(cleaner, bytes, out),
-            Stage::Styled(cleaner) => push_lines(cleaner, bytes, out),
+            Stage::Plain(cleaner) => push_text(cleaner, bytes, out),
+            Stage::Styled(cleaner) => push_text(cleaner, bytes, out),
+            Stage::PlainLines(lines) => push_text(lines, bytes, out),
+            Stage::StyledLines(lines) => push_text(lines, bytes, out),
         }
     }
 
     /// Whether the data are made safe, so that nothing else of the recording may be a control either.
     fn is_safe(&self) -> bool {
-        matches!(self, Stage::Plain(_) | Stage::Styled(_))
+        match self {
+            Stage::Normal(_) | Stage::Faithful(_) | Stage::Short(_) => false,
+            Stage::Plain(_) | Stage::Styled(_) | Stage::PlainLines(_) | Stage::StyledLines(_) =>
+                true,
+        }
     }
 
     /// Nothing comes any more: what was held is appended.
@@ -71,6 +84,8 @@ impl Stage {
             Stage::Short(filter) => filter.finish(out),
             Stage::Plain(cleaner) => cleaner.finish(out),
             Stage::Styled(cleaner) => cleaner.finish(out),
+            Stage::PlainLines(lines) => lines.end(out),
+            Stage::StyledLines(lines) => lines.end(out),
         }
     }
 }

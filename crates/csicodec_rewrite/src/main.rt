@@ -13,6 +13,7 @@ use csicodec_command::{
 use csicodec_compact::{Compact, Compactor, compact_all};
 use csicodec_filter::{Faithful, Filter, NormalForm, filter_all};
 use csicodec_html::{BEHIND, FRONT, Markup, html_all_with};
+use csicodec_lines::{Lines, clean_lines_all, strip_lines_all};
 use csicodec_spans::LIMIT;
 use csicodec_streams::{RunError, send};
 use std::alloc::Global;
@@ -28,9 +29,12 @@ enum Work {
     Compact {
         semicolons: bool,
     },
-    Strip,
+    Strip {
+        lines: bool,
+    },
     Clean {
         passing: Passing,
+        lines: bool,
     },
     /// A page, which ends behind the last input if it has begun.
     Html {
@@ -68,11 +72,13 @@ impl Work {
             Task::Compact => Some(Work::Compact {
                 semicolons: run.semicolons,
             }),
-            Task::Strip => Some(Work::Strip),
+            Task::Strip => Some(Work::Strip { lines: run.lines }),
             Task::Clean => {
                 let (depth, links) = (depth_of(run.depth), run.links);
-                let passing = Passing { depth, links };
-                Some(Work::Clean { passing })
+                Some(Work::Clean {
+                    passing: Passing { depth, links },
+                    lines: run.lines,
+                })
             }
             Task::Html => {
                 let markup = Markup { links: run.links };
@@ -101,8 +107,13 @@ impl Work {
                 let rule = compact(alloc, *semicolons);
                 Stage::Short(Compactor::new(alloc, LIMIT, rule))
             }
-            Work::Strip => Stage::Plain(Cleaner::new(alloc, Dropped)),
-            Work::Clean { passing } => {
+            Work::Strip { lines: true } => Stage::PlainLines(Lines::stripped(alloc)),
+            Work::Strip { .. } => Stage::Plain(Cleaner::new(alloc, Dropped)),
+            Work::Clean {
+                passing,
+                lines: true,
+            } => Stage::StyledLines(Lines::cleaned(alloc, *passing)),
+            Work::Clean { passing, .. } => {
                 let rule = Kept::letting(alloc, *passing);
                 Stage::Styled(Cleaner::new(alloc, rule))
             }
@@ -143,8 +154,13 @@ impl Worker for Work {
             Work::Compact { semicolons } => {
                 compact_all(alloc, LIMIT, compact(alloc, *semicolons), input, output)?;
             }
-            Work::Strip => strip_all(alloc, input, output)?,
-            Work::Clean { passing } => clean_all_with(alloc, *passing, input, output)?,
+            Work::Strip { lines: true } => strip_lines_all(alloc, input, output)?,
+            Work::Strip { .. } => strip_all(alloc, input, output)?,
+            Work::Clean {
+                passing,
+                lines: true,
+            } => clean_lines_all(alloc, *passing, input, output)?,
+            Work::Clean { passing, .. } => clean_all_with(alloc, *passing, input, output)?,
             Work::Html { markup, .. } => html_all_with(alloc, *markup, input, output)?,
         }
         Ok(())

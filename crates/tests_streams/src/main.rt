@@ -50,6 +50,7 @@ fn told(alloc: Global, row: &str) -> Result<String, AllocError> {
         "shown" => untrusted::shown(alloc, rest),
         "colors" => untrusted::colors(alloc, rest),
         "links" => untrusted::links(alloc, rest),
+        "lines" => untrusted::lines(alloc, rest),
         "link" => untrusted::link(alloc, rest),
         "html" => untrusted::html(alloc, rest),
         "page" => untrusted::page(alloc, rest),

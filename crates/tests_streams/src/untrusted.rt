@@ -2,9 +2,11 @@
 
 use crate::spelling::{bytes_of, law, spelled};
 use csicodec_clean::{
-    Cleaner, Depth, Dropped, Kept, Passing, Rule, clean, clean_in, clean_with, strip,
+    Anew, Cleaner, Depth, Dropped, Kept, Passing, Rule, clean, clean_in, clean_with, strip,
 };
+use csicodec_filter::Transform;
 use csicodec_html::{Markup, html_all, html_all_with, html_with};
+use csicodec_lines::{Lines, clean_lines_all, strip_lines_all};
 use std::alloc::{AllocError, Global};
 
 const WITH_LINKS: Passing = Passing {
@@ -79,6 +81,35 @@ pub(crate) fn link(alloc: Global, words: &str) -> Result<String, AllocError> {
     bytes.extend_from_slice(b"\x07x")?;
     let left = clean_with(alloc, WITH_LINKS, &bytes)?.len();
     format!(in alloc; "{left}")
+}
+
+/// What is left of the lines of bytes that come one by one.
+fn lines_byte_by_byte<R: Rule + Anew<P> + Drop, P: Copy>(
+    alloc: Global,
+    mut lines: Lines<R, P>,
+    bytes: &[u8],
+) -> Result<Vec<u8>, AllocError> {
+    let mut out = Vec::new(alloc);
+    for byte in bytes.iter() {
+        lines.take(&[*byte], &mut out)?;
+    }
+    lines.end(&mut out)?;
+    Ok(out)
+}
+
+/// `lines BYTES`: what `strip` leaves of each line, and what `clean` does where links pass. Byte by byte the same is left.
+pub(crate) fn lines(alloc: Global, word: &str) -> Result<String, AllocError> {
+    let bytes = bytes_of(alloc, word)?;
+    let (mut stripped, mut cleaned): (Vec<u8>, Vec<u8>) = (Vec::new(alloc), Vec::new(alloc));
+    let plain = strip_lines_all(alloc, &mut bytes.as_slice(), &mut stripped);
+    let styled = clean_lines_all(alloc, WITH_LINKS, &mut bytes.as_slice(), &mut cleaned);
+    let holds = plain.is_ok()
+        && styled.is_ok()
+        && lines_byte_by_byte(alloc, Lines::stripped(alloc), &bytes)? == stripped
+        && lines_byte_by_byte(alloc, Lines::cleaned(alloc, WITH_LINKS), &bytes)? == cleaned;
+    let (plain, styled) = (spelled(alloc, &stripped)?, spelled(alloc, &cleaned)?);
+    let end = law(holds);
+    format!(in alloc; "{plain}\t{styled}{end}")
 }
 
 /// `html BYTES`: the piece of a page that they are, which comes of a reader too.

@@ -1,0 +1,52 @@
+-- What went out is a front of the text of the whole log.
+use Rattle.std.proofs.Common.{◌≡◌, ℕ, Bool, false, Option, IfSome, List, [], ◌∷◌, ◌++◌, refl, sym, ap, subst, ◌∙◌, append_assoc, append-nil}
+use Rattle.std.specs.Io.KnownBytes.{Appends, Consumes, IsAtEnd}
+use Rattle.csicodec_filter.specs.Transform.{Begins as BeginsWith, Sends, Transforms}
+use Rattle.csicodec_filter.proofs.Sent.{whole_front}
+use Rattle.csicodec_clean.specs.Cleaned.{EndOf, Ends, RuleOf, longest}
+use Rattle.csicodec_clean.specs.Stream.{Between, IsFrontOf, Takes, start_of}
+use Rattle.csicodec_lines.specs.declared.lines.Lines.{Lines}
+use Rattle.csicodec_lines.specs.Lines.{AreOf, ByLines, joined, lines_from, lines_of}
+use Rattle.csicodec_lines.specs.Stream.{Ending, Passes, ended}
+use Rattle.csicodec_lines.proofs.Ends.{goes_on}
+use Rattle.csicodec_lines.proofs.Texts.{by_lines_as, joined_front, of_as, one_text, parted, same_texts}
+use Rattle.csicodec_lines.proofs.Taken.{transformed}
+
+-- where the rule's text of a line is one text, and what comes of a line is a front of that, however it goes on
+module _ {S P : Type 0} (Begins : P → S) (Gives : RuleOf S) (Closes : EndOf S) (first : Lines S P) (fresh : first.returned ≡ false) (Out : List ℕ → List ℕ → Type 0)
+    (means : (line text : List ℕ) → Ends Gives Closes longest (Begins first.by) line text → Out line text)
+    (one : (line text other : List ℕ) → Out line text → Out line other → text ≡ other)
+    (front : (line more text : List ℕ) (last : Between S) → Takes Gives (start_of (Begins first.by)) line text last → IsFrontOf Out (line ++ more) text)
+  where
+    abbrev Step : Lines S P → List ℕ → List ℕ → Lines S P → Type 0
+    Step = Passes Begins Gives Closes
+
+    lines_front : (read more text : List ℕ) (last : Lines S P) → Step first read text last → IsFrontOf (ByLines Out) (read ++ more) text
+    lines_front read more text last p whole k =
+        let next = goes_on last.returned p.line more in
+        let lines : lines_of (read ++ more) ≡ p.over ++ (p.line ++ next.more) ∷ next.others =
+        ap (λ (r : Bool). lines_from r [] (read ++ more)) (sym fresh) ∙ p.lines more ∙ ap (λ (ls : List (List ℕ)). p.over ++ ls) next.all in
+        let each = subst (λ (ls : List (List ℕ)). AreOf Out ls k.texts) lines k.each in
+        let q = parted Out p.over ((p.line ++ next.more) ∷ next.others) k.texts each in
+        let (own, others, e, is, rest) = q.rest in
+        let same = same_texts Out one p.over q.ahead p.texts q.first (of_as (Ends Gives Closes longest (Begins first.by)) Out means p.over p.texts p.each) in
+        let (longer, f) = front p.line next.more p.own last.line p.takes own is in
+        let (behind, g) = joined_front p.texts others own in
+        let texts : k.texts ≡ p.texts ++ own ∷ others = q.all ∙ ap (λ (ts : List (List ℕ)). ts ++ q.later) same ∙ ap (λ (ts : List (List ℕ)). p.texts ++ ts) e in (
+          longer ++ behind,
+          k.all ∙ ap joined texts ∙ g ∙ ap (λ (t : List ℕ). ended p.texts ++ (t ++ behind)) f ∙ ap (λ (t : List ℕ). ended p.texts ++ t) (append_assoc p.own longer behind)
+              ∙ sym (append_assoc (ended p.texts) p.own (longer ++ behind)) ∙ ap (λ (t : List ℕ). t ++ (longer ++ behind)) (sym p.all),
+        )
+
+    shorter : (bytes sent unsent : List ℕ) → IsFrontOf (ByLines Out) bytes (sent ++ unsent) → IsFrontOf (ByLines Out) bytes sent
+    shorter bytes sent unsent h whole k = let (more, e) = h whole k in (unsent ++ more, e ∙ append_assoc sent unsent more)
+
+    all_front : (bytes text : List ℕ) → Transforms Step (Ending Closes) first bytes text → IsFrontOf (ByLines Out) bytes text
+    all_front bytes text h whole k =
+        let own = by_lines_as (Ends Gives Closes longest (Begins first.by)) Out means bytes text (transformed Begins Gives Closes first bytes text fresh h) in
+        ([], one_text Out one bytes whole text k own ∙ sym (append-nil text))
+
+    pub lines_sent : (bytes more sent : List ℕ) (i k w y : Option (List ℕ)) → Consumes i k (bytes ++ more)
+        → BeginsWith (Sends Step first) (Transforms Step (Ending Closes) first) ((more ≡ []) × IsAtEnd k) bytes sent → Appends w y sent
+        → IfSome i (λ all. (out : List ℕ) × IsFrontOf (ByLines Out) all out × Appends w y out)
+    lines_sent = whole_front (Sends Step first) (Transforms Step (Ending Closes) first) (IsFrontOf (ByLines Out)) shorter (λ read more text (last, p). lines_front read more text last p) all_front

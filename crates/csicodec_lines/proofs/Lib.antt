@@ -1,0 +1,4 @@
+pub mod Ends
+pub mod Texts
+pub mod Taken
+pub mod Fronts

@@ -1,0 +1,132 @@
+-- A log as it comes.
+use Rattle.std.proofs.Common.{◌≡◌, ◌<◌, ℕ, Bool, true, false, List, [], ◌∷◌, ◌++◌, length, ◌==◌, refl, sym, ap, subst, ◌∙◌, ⊎_elim, append_assoc, append-nil}
+use Rattle.std.specs.List.{AllByRecursion, concat}
+use Rattle.csicodec_filter.specs.Transform.{Begins as BeginsWith, GoesOn, Sends, Transforms}
+use Rattle.csicodec_clean.specs.Shown.{shown_text}
+use Rattle.csicodec_clean.specs.Cleaned.{EndOf, Ends, RuleOf, longest}
+use Rattle.csicodec_clean.specs.Stream.{Takes, start_of}
+use Rattle.csicodec_clean.proofs.Chunks.{ends as at_end, takes_none, takes_on}
+use Rattle.csicodec_lines.specs.declared.lines.Lines.{Lines}
+use Rattle.csicodec_lines.specs.Lines.{AreOf, ByLines, IsWithin, ends_line, joined, joins, lines_from, lines_of}
+use Rattle.csicodec_lines.specs.Stream.{AreTaken, Ending, Passes, begun, ended}
+use Rattle.csicodec_lines.proofs.Ends.{all_within_on, one_end, one_joins}
+use Rattle.csicodec_lines.proofs.Texts.{ended_on, joined_on, of_on}
+
+module _ {S P : Type 0} (Begins : P → S) (Gives : RuleOf S) (Closes : EndOf S) where
+  abbrev Step : Lines S P → List ℕ → List ℕ → Lines S P → Type 0
+  Step = Passes Begins Gives Closes
+
+  -- nothing came yet
+  pub passes_none : (by : P) → Step (begun Begins by) [] [] (begun Begins by)
+  passes_none by = record {
+    by = refl;
+    over = [];
+    texts = [];
+    line = [];
+    own = [];
+    lines = λ more. refl;
+    each = refl;
+    takes = takes_none Gives (Begins by);
+    all = refl;
+  }
+
+  -- bytes that end no line
+  pub goes_within : (old new : Lines S P) (bytes more : List ℕ) → 0 < length bytes → AllByRecursion IsWithin bytes → new.by ≡ old.by → new.returned ≡ false → Takes Gives old.line bytes more new.line
+      → GoesOn Step old bytes more new
+  goes_within old new bytes more some within by returned takes first read text p = record {
+    by = by ∙ p.by;
+    over = p.over;
+    texts = p.texts;
+    line = p.line ++ bytes;
+    own = p.own ++ more;
+    lines = λ later.
+        ap (lines_from first.returned []) (append_assoc read bytes later) ∙ p.lines (bytes ++ later)
+        ∙ ap (λ (ls : List (List ℕ)). p.over ++ ls) (all_within_on old.returned bytes p.line later some within ∙ ap (λ (r : Bool). lines_from r (p.line ++ bytes) later) (sym returned));
+    each = p.each;
+    takes = takes_on Gives (start_of (Begins first.by)) old.line new.line p.line bytes p.own more p.takes takes;
+    all = ap (λ (t : List ℕ). t ++ more) p.all ∙ append_assoc (ended p.texts) p.own more;
+  }
+
+  -- one that joins the end before it
+  pub goes_joining : (old new : Lines S P) (b : ℕ) → joins old.returned b ≡ true → new.by ≡ old.by → new.returned ≡ false → new.line ≡ old.line → GoesOn Step old (b ∷ []) [] new
+  goes_joining old new b joining by returned line first read text p = record {
+    by = by ∙ p.by;
+    over = p.over;
+    texts = p.texts;
+    line = p.line;
+    own = p.own;
+    lines = λ later.
+        ap (lines_from first.returned []) (append_assoc read (b ∷ []) later) ∙ p.lines (b ∷ later)
+        ∙ ap (λ (ls : List (List ℕ)). p.over ++ ls) (one_joins old.returned b p.line later joining ∙ ap (λ (r : Bool). lines_from r p.line later) (sym returned));
+    each = p.each;
+    takes = rw line p.takes;
+    all = append-nil text ∙ p.all;
+  }
+
+  -- one that ends a line
+  pub goes_over : (old new : Lines S P) (b : ℕ) (rest : List ℕ) → joins old.returned b ≡ false → ends_line b ≡ true → Ending Closes old rest → new.by ≡ old.by → new.returned ≡ (b == 13)
+      → new.line ≡ start_of (Begins old.by) → GoesOn Step old (b ∷ []) (rest ++ 10 ∷ []) new
+  goes_over old new b rest joining ends (close, closes, shown) by returned line first read text p =
+      let own = p.own ++ rest in
+      let whole = at_end Gives Closes (Begins first.by) p.line p.own close old.line p.takes closes in
+      let one : Ends Gives Closes longest (Begins first.by) p.line own = subst (λ (t : List ℕ). Ends Gives Closes longest (Begins first.by) p.line (p.own ++ t)) (sym shown) whole in
+      record {
+        by = by ∙ p.by;
+        over = p.over ++ p.line ∷ [];
+        texts = p.texts ++ own ∷ [];
+        line = [];
+        own = [];
+        lines = λ later.
+            ap (lines_from first.returned []) (append_assoc read (b ∷ []) later) ∙ p.lines (b ∷ later)
+            ∙ ap (λ (ls : List (List ℕ)). p.over ++ ls) (one_end old.returned b p.line later joining ends ∙ ap (λ (r : Bool). p.line ∷ lines_from r [] later) (sym returned))
+            ∙ sym (append_assoc p.over (p.line ∷ []) (lines_from new.returned [] later));
+        each = of_on (Ends Gives Closes longest (Begins first.by)) p.over p.texts p.line own p.each one;
+        takes = rw (line, p.by) (takes_none Gives (Begins first.by));
+        all = ap (λ (t : List ℕ). t ++ (rest ++ 10 ∷ [])) p.all ∙ append_assoc (ended p.texts) p.own (rest ++ 10 ∷ []) ∙ ap (λ (t : List ℕ). ended p.texts ++ t) (sym (append_assoc p.own rest (10 ∷ [])))
+            ∙ sym (ended_on p.texts own) ∙ sym (append-nil (ended (p.texts ++ own ∷ [])));
+      }
+
+  -- the end
+  pub by_lines : (first last : Lines S P) (bytes text rest : List ℕ) → first.returned ≡ false → Step first bytes text last → Ending Closes last rest
+      → ByLines (Ends Gives Closes longest (Begins first.by)) bytes (text ++ rest)
+  by_lines first last bytes text rest fresh p (close, closes, shown) =
+      let Out = Ends Gives Closes longest (Begins first.by) in
+      let own = p.own ++ rest in
+      let whole = at_end Gives Closes (Begins first.by) p.line p.own close last.line p.takes closes in
+      let one : Out p.line own = subst (λ (t : List ℕ). Out p.line (p.own ++ t)) (sym shown) whole in
+      let lines : lines_of bytes ≡ p.over ++ p.line ∷ [] =
+      ap (lines_from false []) (sym (append-nil bytes)) ∙ ap (λ (r : Bool). lines_from r [] (bytes ++ [])) (sym fresh) ∙ p.lines [] in
+      record {
+        texts = p.texts ++ own ∷ [];
+        each = subst (λ (ls : List (List ℕ)). AreOf Out ls (p.texts ++ own ∷ [])) (sym lines) (of_on Out p.over p.texts p.line own p.each one);
+        all = ap (λ (t : List ℕ). t ++ rest) p.all ∙ append_assoc (ended p.texts) p.own rest ∙ sym (joined_on p.texts own);
+      }
+
+  pub transformed : (first : Lines S P) (bytes text : List ℕ) → first.returned ≡ false → Transforms Step (Ending Closes) first bytes text → ByLines (Ends Gives Closes longest (Begins first.by)) bytes text
+  transformed first bytes text fresh (last, sure, rest, passed, ending, split) = rw split (by_lines first last bytes sure rest fresh passed ending)
+
+  -- with what a rule writes at any end, the front is one of a whole text
+  pub begins : (first : Lines S P) (AreAll : Type 0) (bytes sent : List ℕ) → first.returned ≡ false → ((after : S) → (close : List ℕ) × Closes after close)
+      → BeginsWith (Sends Step first) (Transforms Step (Ending Closes) first) AreAll bytes sent → (unsent : List ℕ) × ByLines (Ends Gives Closes longest (Begins first.by)) bytes (sent ++ unsent)
+  begins first AreAll bytes sent fresh always (unsent, h) = ⊎_elim
+      (λ (k : Sends Step first bytes (sent ++ unsent)).
+      let (last, passed) = k in
+      let (close, closes) = always last.line.rule in
+      let rest = shown_text last.line.held ++ close in
+      (unsent ++ rest, subst (ByLines (Ends Gives Closes longest (Begins first.by)) bytes) (append_assoc sent unsent rest) (by_lines first last bytes (sent ++ unsent) rest fresh passed (close, closes, refl))))
+      (λ (k : AreAll × Transforms Step (Ending Closes) first bytes (sent ++ unsent)). (unsent, transformed first bytes (sent ++ unsent) fresh k.1))
+      h
+
+  -- chunks in turn
+  taken_on : (first old last : Lines S P) (bytes text : List ℕ) (chunks : List (List ℕ)) (more : List ℕ) → Step first bytes text old → AreTaken Step old chunks more last
+      → Step first (bytes ++ concat chunks) (text ++ more) last
+  taken_on first old last bytes text [] more p (none, same) = rw (none, same, append-nil bytes, append-nil text) p
+  taken_on first old last bytes text (chunk ∷ chunks) more p (mid, one, others, goes, e, rest) =
+      let all = taken_on first mid last (bytes ++ chunk) (text ++ one) chunks others (goes first bytes text p) rest in
+      rw (← append_assoc bytes chunk (concat chunks), e, ← append_assoc text one others) all
+
+  pub any_chunks : (by : P) (chunks : List (List ℕ)) (text rest : List ℕ) (last : Lines S P) → AreTaken Step (begun Begins by) chunks text last → Ending Closes last rest
+      → ByLines (Ends Gives Closes longest (Begins by)) (concat chunks) (text ++ rest)
+  any_chunks by chunks text rest last taken ending =
+      let first = begun Begins by in
+      by_lines first last (concat chunks) text rest refl (taken_on first first last [] [] chunks text (passes_none by) taken) ending

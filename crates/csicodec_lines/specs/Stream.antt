@@ -1,0 +1,51 @@
+-- A log as it comes, chunk by chunk.
+use Rattle.std.specs.Prelude.{ℕ, ◌≡◌, false, List, [], ◌∷◌, ◌++◌}
+use Rattle.std.specs.List.{concat}
+use Rattle.csicodec_filter.specs.Transform.{EndsOf, GoesOn, PassesOf}
+use Rattle.csicodec_clean.specs.Cleaned.{RuleOf, EndOf, Ends, longest}
+use Rattle.csicodec_clean.specs.Stream.{Closing, Takes, start_of}
+use Rattle.csicodec_lines.specs.declared.lines.Lines.{Lines}
+use Rattle.csicodec_lines.specs.Lines.{AreOf, ByLines, lines_from}
+
+-- where nothing has come
+abbrev pub begun : {S P : Type 0} → (P → S) → P → Lines S P
+begun Begins by = record { by = by; line = start_of (Begins by); returned = false }
+
+-- texts, a newline behind each
+abbrev pub ended : List (List ℕ) → List ℕ
+ended [] = []
+ended (text ∷ texts) = text ++ 10 ∷ ended texts
+
+-- Since it has begun, these bytes: the lines that are over and their texts, what has come of the one behind them, and its text as
+-- far as that is sure. Whatever comes behind the bytes goes on with that line.
+pub record Passes {S P : Type 0} (Begins : P → S) (Gives : RuleOf S) (Closes : EndOf S)
+    (first : Lines S P) (bytes text : List ℕ) (last : Lines S P) : Type 0 where
+  pub by : last.by ≡ first.by
+  pub over : List (List ℕ)
+  pub texts : List (List ℕ)
+  pub line : List ℕ
+  pub own : List ℕ
+  pub lines : (more : List ℕ) → lines_from first.returned [] (bytes ++ more)
+      ≡ over ++ lines_from last.returned line more
+  pub each : AreOf (Ends Gives Closes longest (Begins first.by)) over texts
+  pub takes : Takes Gives (start_of (Begins first.by)) line own last.line
+  pub all : text ≡ ended texts ++ own
+
+-- at the end, what ends the line
+abbrev pub Ending : {S P : Type 0} → EndOf S → EndsOf (Lines S P)
+Ending Closes last text = Closing Closes last.line text
+
+-- chunks in turn, and all that they append
+abbrev pub AreTaken : {S P : Type 0} → PassesOf (Lines S P) → Lines S P → List (List ℕ) → List ℕ
+    → Lines S P → Type 0
+AreTaken Step old [] text new = (text ≡ []) × (new ≡ old)
+AreTaken {S} {P} Step old (chunk ∷ chunks) text new =
+    (mid : Lines S P) × (first : List ℕ) × (others : List ℕ) × GoesOn Step old chunk first mid
+    × (text ≡ first ++ others) × AreTaken Step mid chunks others new
+
+-- it doesn't matter how a log is cut into chunks: what they append, and the end, is the text of all of it
+abbrev pub AnyChunks : {S P : Type 0} → (P → S) → RuleOf S → EndOf S → Type 0
+AnyChunks {S} {P} Begins Gives Closes = (by : P) (chunks : List (List ℕ)) (text rest : List ℕ)
+    (last : Lines S P) → AreTaken (Passes Begins Gives Closes) (begun Begins by) chunks text last
+    → Ending Closes last rest
+    → ByLines (Ends Gives Closes longest (Begins by)) (concat chunks) (text ++ rest)

@@ -1,0 +1,158 @@
+//! A stream of lines, each of which is cleaned by itself, as it comes.
+ghost use Rattle.std.specs.Prelude.{◌≡◌, ◌<◌, ◌++◌, ◌∷◌, [], ℕ, List, OnOk, IfOk, true, length, ⊤};
+ghost use Rattle.std.specs.List.{AllByRecursion};
+ghost use Rattle.csicodec_filter.specs.Transform.{GoesOn};
+ghost use Rattle.csicodec_lines.specs.Lines.{IsWithin, ends_line, joins};
+ghost use Rattle.csicodec_lines.specs.Private.Cut.{BeginsWithEnd};
+ghost use Rattle.csicodec_lines.specs.Stream.{Passes, begun};
+ghost use Rattle.csicodec_clean.specs.Steps.{bare};
+ghost use Rattle.csicodec_clean.specs.Styled.{first_kept};
+
+use csicodec_clean::{Anew, Cleaner, Dropped, Kept, Passing, Rule};
+use csicodec_filter::Transform;
+use memchr::memchr2;
+use std::alloc::{AllocError, Global};
+
+/// Whether the byte is the LF of a CR LF, which ends no line of its own.
+fn joins(returned: bool, byte: u8) -> bool
+    ensures { result ≡ joins returned byte }
+{
+    returned && byte == b'\n'
+}
+
+/// What stands ahead of the first byte that ends a line, and what from that on.
+fn split_line(bytes: &[u8]) -> (&[u8], &[u8])
+    ensures whole { bytes.now ≡ result.0.now ++ result.1.now }
+    ensures front { AllByRecursion IsWithin result.0.now }
+    ensures end { BeginsWithEnd result.1.now }
+{
+    match memchr2(b'\n', b'\r', bytes) {
+        Some(end) => bytes.split_at(end),
+        None => bytes.split_at(bytes.len()),
+    }
+}
+
+/// A stream that is cleaned by a rule, line by line, as it comes: a newline ends what is open, and stands in the output.
+///
+/// A CR alone ends a line as LF does, and CR LF is one end. Of a line it holds what a [`Cleaner`] does.
+#[derive(Drop)]
+pub struct Lines<R, P> {
+    /// By what the rule begins each line.
+    by: P,
+    /// What has come of the line.
+    line: Cleaner<R>,
+    /// The line before it ended with a CR, and nothing has come behind that.
+    returned: bool,
+}
+
+impl Lines<Dropped, ()> {
+    /// A stream that is stripped, of which nothing has come.
+    pub fn stripped(alloc: Global) -> Lines<Dropped, ()>
+        ensures { result ≡ begun (λ (_ : ⊤). bare) tt }
+    {
+        Lines {
+            by: (),
+            line: Cleaner::new(alloc, Dropped),
+            returned: false,
+        }
+    }
+}
+
+impl Lines<Kept, Passing> {
+    /// A stream of which this passes, and of which nothing has come.
+    pub fn cleaned(alloc: Global, passing: Passing) -> Lines<Kept, Passing>
+        ensures { result ≡ begun first_kept passing }
+    {
+        Lines {
+            by: passing,
+            line: Cleaner::new(alloc, Kept::letting(alloc, passing)),
+            returned: false,
+        }
+    }
+}
+
+impl<R: Rule + Anew<P> + Drop, P: Copy> Lines<R, P> {
+    /// Takes bytes that end no line.
+    fn take_within(&mut self, bytes: &[u8], out: &mut Vec<u8>) -> Result<(), AllocError>
+        requires { AllByRecursion IsWithin bytes.now }
+        ensures { OnOk result
+            ((more : List ℕ)
+            × GoesOn (Passes R.begins R.gives R.closes) self.old bytes.now more self.new
+            × (out.new.items ≡ out.old.items ++ more)) }
+    {
+        if bytes.is_empty() {
+            return Ok(());
+        }
+        self.line.push(bytes, out)?;
+        self.returned = false;
+        Ok(())
+    }
+
+    /// Takes a byte that ends a line, or joins the one that has.
+    fn take_end(&mut self, byte: u8, out: &mut Vec<u8>) -> Result<(), AllocError>
+        requires { ends_line byte ≡ true }
+        ensures { OnOk result
+            ((more : List ℕ)
+            × GoesOn (Passes R.begins R.gives R.closes) self.old (byte ∷ []) more self.new
+            × (out.new.items ≡ out.old.items ++ more)) }
+    {
+        if joins(self.returned, byte) {
+            self.returned = false;
+            return Ok(());
+        }
+        self.line.finish(out)?;
+        out.push(b'\n')?;
+        self.line.begin(self.by);
+        self.returned = byte == b'\r';
+        Ok(())
+    }
+
+    /// Takes bytes up to the end of a line, and answers what is behind it.
+    fn take_line<'a>(&mut self, bytes: &'a [u8], out: &mut Vec<u8>) -> Result<&'a [u8], AllocError>
+        ensures taken { IfOk result (λ rest. (front : List ℕ) × (more : List ℕ)
+            × (bytes.now ≡ front ++ rest.now)
+            × GoesOn (Passes R.begins R.gives R.closes) self.old front more self.new
+            × (out.new.items ≡ out.old.items ++ more)) }
+        ensures less { IfOk result
+            (λ rest. 0 < length bytes.now → length rest.now < length bytes.now) }
+    {
+        let (front, behind) = split_line(bytes);
+        self.take_within(front, out)?;
+        match behind.split_first() {
+            Some((end, rest)) => {
+                self.take_end(*end, out)?;
+                Ok(rest)
+            }
+            None => Ok(behind),
+        }
+    }
+}
+
+impl<R: Rule + Anew<P> + Drop, P: Copy> Transform for Lines<R, P> {
+    ghost use Rattle.std.specs.Prelude.{⊤};
+    ghost use Rattle.csicodec_lines.specs.Stream.{Ending, Passes};
+
+    ghost stands = { λ now. ⊤ };
+
+    ghost passes = { Passes R.begins R.gives R.closes };
+
+    ghost rests = { λ _. ⊤ };
+
+    ghost ends = { Ending R.closes };
+
+    fn take(&mut self, bytes: &[u8], out: &mut Vec<u8>) -> Result<(), AllocError> {
+        let mut rest = bytes;
+        while !rest.is_empty() {
+            rest = self.take_line(rest, out)?;
+        }
+        Ok(())
+    }
+
+    fn pause(&mut self, _out: &mut Vec<u8>) -> Result<(), AllocError> {
+        Ok(())
+    }
+
+    fn end(&mut self, out: &mut Vec<u8>) -> Result<(), AllocError> {
+        self.line.finish(out)
+    }
+}

@@ -17,13 +17,36 @@ use csicodec_base::CsiParam;
 use csicodec_parser::Unspecified;
 use std::fmt;
 
-/// What is said of a row.
+/// The file of rows that a row stands in.
 #[derive(Clone, Copy)]
-struct Texts {
-    name: &'static str,
-    meaning: &'static str,
-    source: &'static str,
-    numbers: &'static str,
+enum Table {
+    Dec,
+    Others,
+    Reports,
+}
+
+/// Where a row stands: its place in its file, from 0 on.
+#[derive(Clone, Copy)]
+struct Place {
+    table: Table,
+    index: usize,
+}
+
+impl Place {
+    /// What stands at the same place of the texts of its file.
+    fn text(
+        self,
+        dec: &'static [&'static str],
+        others: &'static [&'static str],
+        reports: &'static [&'static str],
+    ) -> &'static str {
+        let texts = match self.table {
+            Table::Dec => dec,
+            Table::Others => others,
+            Table::Reports => reports,
+        };
+        texts.get(self.index).copied().unwrap_or("")
+    }
 }
 
 /// A control sequence that has no action, by its row of the table and its values. It prints its numbers and its final
@@ -38,7 +61,7 @@ struct Texts {
 #[derive(Drop)]
 pub struct Known {
     form: Form,
-    texts: Texts,
+    place: Place,
     values: Values,
 }
 
@@ -56,37 +79,46 @@ impl Known {
     pub fn read(params: &[CsiParam], control: char) -> Option<Known>
         ensures { option_map reading_of result ≡ reading params.now control }
     {
-        if let Some((place, form, values)) = first_known(&DEC_FORMS, &DEC_SLOTS, params, control) {
-            let texts = dec_texts(place);
+        if let Some((index, form, values)) = first_known(&DEC_FORMS, &DEC_SLOTS, params, control) {
+            let place = Place {
+                table: Table::Dec,
+                index,
+            };
             return Some(Known {
                 form,
-                texts,
+                place,
                 values,
             });
         }
-        if let Some((place, form, values)) = first_known(
+        if let Some((index, form, values)) = first_known(
             &OTHER_FORMS,
             &OTHER_SLOTS,
             params,
             control,
         ) {
-            let texts = other_texts(place);
+            let place = Place {
+                table: Table::Others,
+                index,
+            };
             return Some(Known {
                 form,
-                texts,
+                place,
                 values,
             });
         }
-        if let Some((place, form, values)) = first_known(
+        if let Some((index, form, values)) = first_known(
             &REPORT_FORMS,
             &REPORT_SLOTS,
             params,
             control,
         ) {
-            let texts = report_texts(place);
+            let place = Place {
+                table: Table::Reports,
+                index,
+            };
             return Some(Known {
                 form,
-                texts,
+                place,
                 values,
             });
         }
@@ -102,23 +134,23 @@ impl Known {
 
     /// Its name: the mnemonic of its source.
     pub fn name(&self) -> &'static str {
-        self.texts.name
+        self.place.text(&DEC_NAMES, &OTHER_NAMES, &REPORT_NAMES)
     }
 
     /// What a terminal does, or what it says by it.
     pub fn meaning(&self) -> &'static str {
-        self.texts.meaning
+        self.place.text(&DEC_MEANINGS, &OTHER_MEANINGS, &REPORT_MEANINGS)
     }
 
     /// Where it is from: the document, and in it the clause or the heading.
     pub fn source(&self) -> &'static str {
-        self.texts.source
+        self.place.text(&DEC_SOURCES, &OTHER_SOURCES, &REPORT_SOURCES)
     }
 
     /// The names of its numbers, in order, a `;` behind each; the last one of a row with further numbers is that of all that
     /// follow.
     pub fn numbers(&self) -> &'static str {
-        self.texts.numbers
+        self.place.text(&DEC_NUMBERS, &OTHER_NUMBERS, &REPORT_NUMBERS)
     }
 
     /// The values, in the order of the row's slots.
@@ -134,38 +166,6 @@ impl Known {
         ensures { result ≡ slice_get self.now.values.items index }
     {
         self.values.as_slice().get(index).copied()
-    }
-}
-
-/// The text at a place.
-fn text_at(texts: &'static [&'static str], place: usize) -> &'static str {
-    texts.get(place).copied().unwrap_or("")
-}
-
-fn dec_texts(place: usize) -> Texts {
-    Texts {
-        name: text_at(&DEC_NAMES, place),
-        meaning: text_at(&DEC_MEANINGS, place),
-        source: text_at(&DEC_SOURCES, place),
-        numbers: text_at(&DEC_NUMBERS, place),
-    }
-}
-
-fn other_texts(place: usize) -> Texts {
-    Texts {
-        name: text_at(&OTHER_NAMES, place),
-        meaning: text_at(&OTHER_MEANINGS, place),
-        source: text_at(&OTHER_SOURCES, place),
-        numbers: text_at(&OTHER_NUMBERS, place),
-    }
-}
-
-fn report_texts(place: usize) -> Texts {
-    Texts {
-        name: text_at(&REPORT_NAMES, place),
-        meaning: text_at(&REPORT_MEANINGS, place),
-        source: text_at(&REPORT_SOURCES, place),
-        numbers: text_at(&REPORT_NUMBERS, place),
     }
 }
 

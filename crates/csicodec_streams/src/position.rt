@@ -100,6 +100,9 @@ pub fn take_position(bytes: &[u8], out: &mut TextBuffer) -> usize
     ensures short { result ≤ 48 }
 {
     let len = position_len(b'1', bytes);
+    if len == 0 {
+        return 0;
+    }
     match append_front(bytes, len, out) {
         Ok(()) => len,
         Err(_) => 0,

@@ -8,7 +8,7 @@ use crate::sheet::Sheet;
 use crate::style::Style;
 use crate::totals::{Summary, Totals};
 use csicodec_base::{CsiParam, Esc, read_csi_into};
-use csicodec_keys::Did;
+use csicodec_inputs::Did;
 use csicodec_parser::CSI;
 use csicodec_readings::{EscReading, LongEscReading, Reading};
 use csicodec_spans::{Kind, Mode};

@@ -6,7 +6,7 @@ use crate::line::Sort;
 use crate::page::Page;
 use csicodec_base::CsiParam;
 use csicodec_events::{Dialect, Event, Events, InputEvent, Sent};
-use csicodec_keys::Did;
+use csicodec_inputs::Did;
 use csicodec_spans::{Kind, LIMIT, Mode};
 use std::alloc::{AllocError, Global};
 

@@ -3,7 +3,8 @@
 use crate::cast::explain_cast;
 use crate::diff::{Line, Side, lines_of};
 use csicodec_command::{Failure, Worker, work_through};
-use csicodec_page::{Explainer, Style};
+use csicodec_page::Explainer;
+use csicodec_sheet::Style;
 use csicodec_streams::{RunError, send};
 use std::alloc::{AllocError, Global};
 use std::io::{BufRead, Read, Write};

@@ -14,7 +14,8 @@ use csicodec_command::{
     text_of, words_of, work_through,
 };
 use csicodec_events::Dialect;
-use csicodec_page::{Explainer, Style};
+use csicodec_page::Explainer;
+use csicodec_sheet::Style;
 use csicodec_streams::{CHUNK, RunError, receive};
 use names::are_known;
 use std::alloc::Global;

@@ -2,19 +2,10 @@
 #![tactic(auto)]
 
 mod controls;
-mod decoded;
 mod explain;
-mod fields;
-mod json;
-mod known;
-mod line;
-mod names;
 mod page;
 mod sent;
-mod sheet;
 mod stats;
-mod style;
 mod totals;
 
 pub use explain::Explainer;
-pub use style::Style;

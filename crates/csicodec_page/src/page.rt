@@ -1,16 +1,12 @@
 //! The spans of a stream, each told when it is over.
 
 use crate::controls::{is_control, words_of};
-use crate::decoded::clipboard_bytes;
-use crate::line::{Sort, Told, whole_characters};
-use crate::names::Names;
-use crate::sheet::Sheet;
-use crate::style::Style;
 use crate::totals::{Summary, Totals};
 use csicodec_base::{CsiParam, Esc, read_csi_into};
 use csicodec_inputs::Did;
 use csicodec_parser::CSI;
 use csicodec_readings::{EscReading, LongEscReading, Reading};
+use csicodec_sheet::{Names, Sheet, Sort, Style, Told, clipboard_bytes, whole_characters};
 use csicodec_spans::{Kind, Mode};
 use csicodec_strings::{ControlString, FRONT};
 use csicodec_words::Described;

@@ -1,6 +1,6 @@
 //! How much of a stream is what.
 
-use crate::names::Names;
+use csicodec_sheet::Names;
 use csicodec_spans::Kind;
 use std::fmt;
 

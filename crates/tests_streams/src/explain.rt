@@ -2,7 +2,8 @@
 
 use crate::spelling::{bytes_of, law};
 use csicodec_events::Dialect;
-use csicodec_page::{Explainer, Style};
+use csicodec_page::Explainer;
+use csicodec_sheet::Style;
 use std::alloc::{AllocError, Global};
 
 const PLAIN: Style<'static> = Style {

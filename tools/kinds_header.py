@@ -1,7 +1,7 @@
 """The part of the header that has the kinds, and the numbers in them. See kinds."""
 import re
 
-from kinds_known import PREFIX, known
+from kinds_known import GONE, GONE_MEANING, PREFIX, known
 from kinds_library import ESCAPES, NAMED, acting, declared, kinds, low, numbers_of, snake, type_of, variants
 from kinds_table import PATH, PREFIXES
 
@@ -83,16 +83,16 @@ def header_known():
     """The kinds of sequences without an action."""
     out = "\n" + comment("Which row of docs/SEQUENCES.md reads a list that no action has: kind of struct csicodec_known. The comment says what stands behind CSI, each value by its name.", "")
     out += "enum csicodec_known_kind {\n"
-    rows_ = list(known())
-    for name, (kind, _, form, _, said, _) in rows_:
-        out += comment(f"{form.replace('`', chr(0))} : {said}").replace(chr(0), "`")
-        out += f"    {PREFIX}{name} = {kind}{',' if kind != rows_[-1][1][0] else ''}\n"
+    said_of = [(name, kind, f"{form} : {said}") for name, (kind, _, form, _, said, _) in known()] + [(name, kind, GONE_MEANING) for name, kind in GONE.items()]
+    for name, kind, said in said_of:
+        out += comment(said.replace("`", chr(0))).replace(chr(0), "`")
+        out += f"    {PREFIX}{name} = {kind}{',' if name != said_of[-1][0] else ''}\n"
     return out + "};\n"
 
 
 def header_names():
     """What gives the name of a kind."""
-    names = ["CSICODEC_UNSPECIFIED"] + [c_name(group, variant) for _, group, variant, _, _ in kinds()] + ["CSICODEC_SELECT_CHARACTER_PATH"] + [PREFIX + name for name, _ in known()]
+    names = ["CSICODEC_UNSPECIFIED"] + [c_name(group, variant) for _, group, variant, _, _ in kinds()] + ["CSICODEC_SELECT_CHARACTER_PATH"] + [PREFIX + name for name in [*(name for name, _ in known()), *GONE]]
     out = "/* The name of a kind in this header, such as \"CSICODEC_CURSOR_UP\"; NULL for another number. */\n"
     out += "static inline const char *csicodec_kind_name(uint32_t kind) {\n    switch (kind) {\n"
     out += "".join(f'    case {name}: return "{name}";\n' for name in names)

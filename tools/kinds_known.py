@@ -14,6 +14,9 @@ PARTS = re.compile(rf"(\d+),\s*{TEXT},\s*{BYTE},\s*\[(.*)\],\s*{BYTE},\s*'((?:[^
 SLOT = re.compile(rf"(needed|number|further)!\({TEXT}, (\d+), (\d+)(?:, (\d+))?\)")
 LARGEST = 2**32 - 1
 PREFIX = "CSICODEC_KNOWN_"
+# The kinds of the rows that went since an action has their lists, by their names in numbers.txt: the constants stay, and no list is of such a kind.
+GONE = {}
+GONE_MEANING = "no list any more: an action has those that it had"
 
 
 def byte(text):

@@ -1,7 +1,7 @@
 """What the package for Rust has for each kind: the library's types, and their structs. See kinds."""
 import re
 
-from kinds_known import known
+from kinds_known import GONE, GONE_MEANING, known
 from kinds_library import BY_NUMBER, IN_TURN, declared, has_tokens, is_boxed, low, numbers_of, of, span, type_of
 from kinds_source import source_name
 from kinds_specs import names_in
@@ -138,4 +138,6 @@ def rust_known():
     out = "//! The kinds of sequences without an action. Written by tools/kinds.\n\nuse crate::known::KnownKind;\n\nimpl KnownKind {\n"
     for name, (kind, _, form, _, said, source) in known():
         out += f"    /// `` {form} ``: {said} ({source}).\n    pub const {name}: KnownKind = KnownKind({kind});\n"
+    for name, kind in GONE.items():
+        out += f"    /// {GONE_MEANING.capitalize()}.\n    pub const {name}: KnownKind = KnownKind({kind});\n"
     return out + "}\n"

@@ -1,7 +1,7 @@
 //! What is written of a span: a line in words, or an object of JSON, with what was asked for; and how often each name stood.
 #![tactic(auto)]
 
-mod decoded;
+mod clipboard;
 mod fields;
 mod json;
 mod known;
@@ -10,7 +10,7 @@ mod names;
 mod sheet;
 mod style;
 
-pub use decoded::clipboard_bytes;
+pub use clipboard::clipboard_bytes;
 pub use line::{Sort, Told, whole_characters};
 pub use names::{Names, Sum};
 pub use sheet::Sheet;

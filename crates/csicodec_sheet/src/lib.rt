@@ -1,10 +1,10 @@
 //! What is written of a span: a line in words, or an object of JSON, with what was asked for; and how often each name stood.
 #![tactic(auto)]
 
+mod cache;
 mod clipboard;
 mod fields;
 mod json;
-mod known;
 mod line;
 mod names;
 mod sheet;

@@ -1,11 +1,11 @@
 //! The lines of spans: each with its place and its bytes, and a line for each of its actions; or an object of JSON.
 
+use crate::cache::Remembered;
 use crate::clipboard::Clipboard;
 use crate::fields::JsonFields;
 use crate::json::{
     append_action, append_begin_object, append_decoded, append_end, append_object, append_string,
 };
-use crate::known::Remembered;
 use crate::line::{
     Place, Told, append_begin, append_bytes, append_margin, append_name, append_text_words,
 };

@@ -3,15 +3,15 @@
 
 mod cache;
 mod clipboard;
+mod counts;
 mod fields;
 mod json;
 mod line;
-mod names;
 mod sheet;
 mod style;
 
 pub use clipboard::clipboard_bytes;
+pub use counts::{Names, Sum};
 pub use line::{Sort, Told, whole_characters};
-pub use names::{Names, Sum};
 pub use sheet::Sheet;
 pub use style::Style;

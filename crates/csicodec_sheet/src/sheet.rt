@@ -2,6 +2,7 @@
 
 use crate::cache::Remembered;
 use crate::clipboard::Clipboard;
+use crate::counts::Names;
 use crate::fields::JsonFields;
 use crate::json::{
     append_action, append_begin_object, append_decoded, append_end, append_object, append_string,
@@ -9,7 +10,6 @@ use crate::json::{
 use crate::line::{
     Place, Told, append_begin, append_bytes, append_margin, append_name, append_text_words,
 };
-use crate::names::Names;
 use crate::style::{Style, name_of};
 use csicodec_strings::Shown;
 use std::alloc::{AllocError, Global};

@@ -1,8 +1,8 @@
 //! A stream in words, as it comes.
 ghost use Rattle.std.specs.Prelude.{◌≤◌, IfOk, length};
 
+use crate::input::Sending;
 use crate::page::Page;
-use crate::sent::Sending;
 use crate::stats::stats_of;
 use csicodec_events::Dialect;
 use csicodec_sheet::Style;

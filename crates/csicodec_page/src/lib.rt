@@ -3,8 +3,8 @@
 
 mod controls;
 mod explain;
+mod input;
 mod page;
-mod sent;
 mod stats;
 mod totals;
 

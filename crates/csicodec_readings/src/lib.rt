@@ -2,6 +2,7 @@
 //! it otherwise than the codec, or the codec has no action for it, the words of what terminals make of it.
 #![tactic(auto)]
 
+mod by_number;
 mod dec;
 mod ecma;
 mod escapes;
@@ -13,8 +14,8 @@ mod otherwise;
 mod sets;
 mod table;
 mod template;
-mod told;
 
+use crate::by_number::tell_numbers;
 use crate::escapes::escape_of;
 use crate::intermediates::escape_of_bytes;
 use crate::list::{intermediate, is_regular, marker, number};
@@ -22,14 +23,13 @@ use crate::otherwise::{Otherwise, read_otherwise};
 use crate::sets::Escape;
 use crate::table::{Parts, words};
 use crate::template::fill;
-use crate::told::tell_numbers;
+pub use by_number::mouse_event;
 use csicodec_base::{CsiParam, Esc};
 use csicodec_parser::{CSI, Unspecified};
 use csicodec_words::Describe;
 pub use keys::{Key, key_of};
 pub use otherwise::held;
 use std::fmt;
-pub use told::mouse_event;
 
 /// One action of a control sequence, as a terminal reads it.
 #[derive(Clone, Copy)]

@@ -9,11 +9,11 @@ mod escapes;
 mod intermediates;
 mod keys;
 mod list;
-mod others;
 mod otherwise;
 mod sets;
 mod table;
 mod template;
+mod terminals;
 
 use crate::by_number::tell_numbers;
 use crate::escapes::escape_of;

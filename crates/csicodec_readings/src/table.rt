@@ -3,7 +3,7 @@
 
 use crate::dec::DEC;
 use crate::ecma::ECMA;
-use crate::others::{KITTY, LINUX, XTERM};
+use crate::terminals::{KITTY, LINUX, XTERM};
 
 /// A control sequence by its parts: the marker and the intermediate byte, 0 where there is none, and the final character.
 #[derive(Clone, Copy, PartialEq, Eq)]

@@ -4,7 +4,7 @@
 mod colors;
 mod css;
 pub mod laws;
-mod lead;
+mod links;
 mod look;
 mod mark;
 mod page;

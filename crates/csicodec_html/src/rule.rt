@@ -5,7 +5,7 @@ ghost use Rattle.csicodec_html.specs.Look.{behind_all, sets_any};
 ghost use Rattle.csicodec_html.specs.Page.{first_set, turn};
 ghost use Rattle.csicodec_html.specs.Private.Marked.{all_marked};
 
-use crate::lead::Lead;
+use crate::links::Lead;
 use crate::look::Look;
 use crate::mark::{append_begin, append_end, append_shut};
 use csicodec::CSI;

@@ -2,7 +2,7 @@ use Rattle.std.proofs.Common.{◌≡◌, ◌++◌, true, take}
 use Rattle.csicodec_clean.specs.Links.{all_behind, begun, links_in}
 use Rattle.csicodec_html.specs.Page.{led_by, switches}
 use Rattle.csicodec_html.specs.Private.Marked.{all_marked}
-use Rattle.csicodec_html.proofs.lead.Lead.append_links.Given as goal
+use Rattle.csicodec_html.proofs.links.Lead.append_links.Given as goal
 
 -- the links of the bytes up to here
 abbrev pub invariant-loop-byte : goal.invariant-loop-byte

@@ -3,7 +3,7 @@ use Rattle.std.proofs.lemmas.List.{take_more}
 use Rattle.csicodec_clean.specs.Links.{begun}
 use Rattle.csicodec_clean.proofs.Linked.{begun_more}
 use Rattle.csicodec_html.proofs.Links.{text_more, to_more}
-use Rattle.csicodec_html.proofs.lead.Lead.append_links.Goals as goal
+use Rattle.csicodec_html.proofs.links.Lead.append_links.Goals as goal
 
 pub loop-byte-preserved : goal.loop-byte-preserved
 loop-byte-preserved c =

@@ -1,7 +1,7 @@
 use Rattle.std.proofs.Common.{sym, ◌∙◌}
 use Rattle.std.proofs.lemmas.Result.{on_ok_weaker}
 use Rattle.csicodec_html.proofs.Joined.{switched}
-use Rattle.csicodec_html.proofs.lead.append_switch.Goals as goal
+use Rattle.csicodec_html.proofs.links.append_switch.Goals as goal
 
 pub returns : goal.returns
 returns c = on_ok_weaker c.append_begin.result

@@ -5,7 +5,7 @@ use Rattle.csicodec_clean.specs.Links.{begun}
 use Rattle.csicodec_html.specs.Page.{led, switch}
 use Rattle.csicodec_html.specs.Private.Marked.{all_marked}
 use Rattle.csicodec_html.proofs.Links.{over_text, over_to}
-use Rattle.csicodec_html.proofs.lead.Lead.append_byte.Goals as goal
+use Rattle.csicodec_html.proofs.links.Lead.append_byte.Goals as goal
 
 pub returns-clause-text : goal.returns-clause-text
 returns-clause-text c =

@@ -6,10 +6,10 @@ mod css;
 pub mod laws;
 mod links;
 mod look;
-mod mark;
 mod page;
 mod rule;
 mod run;
+mod tags;
 
 pub use look::Look;
 pub use page::{Markup, html, html_with};

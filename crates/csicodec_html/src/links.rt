@@ -5,7 +5,7 @@ ghost use Rattle.csicodec_html.specs.Page.{is_web, leads, led, led_by, switch, s
 ghost use Rattle.csicodec_html.specs.Private.Marked.{all_marked};
 
 use crate::look::Look;
-use crate::mark::{append_begin, append_end, append_open, append_shut, leads};
+use crate::tags::{append_begin, append_end, append_open, append_shut, leads};
 use csicodec_clean::{LinkReader, ends_link};
 use std::alloc::{AllocError, Global};
 

@@ -7,7 +7,7 @@ ghost use Rattle.csicodec_html.specs.Private.Marked.{all_marked};
 
 use crate::links::Lead;
 use crate::look::Look;
-use crate::mark::{append_begin, append_end, append_shut};
+use crate::tags::{append_begin, append_end, append_shut};
 use csicodec::CSI;
 use csicodec_base::CsiParam;
 use csicodec_clean::Rule;

@@ -1,7 +1,7 @@
 use Rattle.std.proofs.Common.{◌≡◌, ◌++◌, ◌∷◌, [], List, ℕ, true, ap, sym, ◌∙◌, codes}
 use Rattle.csicodec_html.specs.Page.{leads}
 use Rattle.csicodec_html.proofs.Joined.{opened, three}
-use Rattle.csicodec_html.proofs.mark.append_open.Goals as goal
+use Rattle.csicodec_html.proofs.tags.append_open.Goals as goal
 
 pub returns : goal.returns
 returns c =

@@ -1,7 +1,7 @@
 use Rattle.std.proofs.Common.{◌≡◌, ◌++◌, ◌∷◌, [], List, ℕ, false, ap, sym, ◌∙◌, codes}
 use Rattle.csicodec_html.specs.Look.{css, is_plain}
 use Rattle.csicodec_html.proofs.Joined.{begun, three}
-use Rattle.csicodec_html.proofs.mark.append_begin.Goals as goal
+use Rattle.csicodec_html.proofs.tags.append_begin.Goals as goal
 
 pub returns : goal.returns
 returns c =

@@ -7,7 +7,7 @@ use Rattle.csicodec_spans.specs.declared.table.Mode.{Mode}
 use Rattle.csicodec_spans.specs.declared.table.Mode.TheVariants as modes
 use Rattle.csicodec_clean.specs.declared.colors.Depth.{Depth}
 use Rattle.csicodec_clean.specs.declared.colors.Depth.TheVariants as depths
-use Rattle.csicodec_clean.specs.declared.pause.Pause.{Pause}
+use Rattle.csicodec_clean.specs.declared.step.Pause.{Pause}
 use Rattle.csicodec_clean.specs.Cleaned.{RuleOf, Strips, drops, longest}
 use Rattle.csicodec_clean.specs.Steps.{AreStepped, Steps, bare, beginning, ending}
 use Rattle.csicodec_clean.specs.Styled.{Keeping, StylesIn, resumed, keeps, without_links}

@@ -1,7 +1,7 @@
 -- What the calls that clean untrusted text step by step answer a C program.
 use Rattle.std.specs.Prelude.{ℕ, ◌≡◌, ◌≤◌, ◌⊎◌, Bool, List, [], ◌∷◌, ◌++◌, length, take, drop}
 use Rattle.csicodec_clean.specs.declared.colors.Depth.{Depth}
-use Rattle.csicodec_clean.specs.declared.pause.Pause.{Pause}
+use Rattle.csicodec_clean.specs.declared.step.Pause.{Pause}
 use Rattle.csicodec_clean.specs.Cleaned.{RuleOf, drops}
 use Rattle.csicodec_clean.specs.Steps.{Steps, bare, ending}
 use Rattle.csicodec_clean.specs.Styled.{Keeping, resumed, keeps}

@@ -12,7 +12,7 @@ use Rattle.csicodec_spans.specs.Parts.{Part, IsUnsure}
 use Rattle.csicodec_spans.proofs.Kept.{unsure_short}
 use Rattle.csicodec_spans.proofs.Spanned.{rest_is}
 use Rattle.csicodec_clean.specs.declared.colors.Depth.{Depth}
-use Rattle.csicodec_clean.specs.declared.pause.Pause.{Pause}
+use Rattle.csicodec_clean.specs.declared.step.Pause.{Pause}
 use Rattle.csicodec_clean.specs.declared.whole.Dropped.{Dropped}
 use Rattle.csicodec_clean.specs.Shown.{IsRead, shown_text}
 use Rattle.csicodec_clean.specs.Titles.{with_titles}

@@ -4,7 +4,7 @@ use Rattle.csicodec_actions.specs.Actions as action
 use Rattle.csicodec_actions.specs.Table.{text}
 use Rattle.csicodec_base.specs.declared.sgr.Sgr.TheVariants as sgr
 use Rattle.csicodec_spans.specs.declared.table.Mode.TheVariants as mode
-use Rattle.csicodec_clean.specs.declared.pause.Pause.{Pause}
+use Rattle.csicodec_clean.specs.declared.step.Pause.{Pause}
 use Rattle.csicodec_clean.specs.declared.whole.Dropped.{Dropped}
 use Rattle.csicodec_clean.specs.Shown.{shown_text}
 use Rattle.csicodec_clean.specs.Cleaned.{RuleOf, longest}

@@ -7,7 +7,7 @@ ghost use Rattle.csicodec_names.specs.declared.color.SrgbaTuple.{SrgbaTuple};
 ghost use Rattle.csicodec_clean.specs.Cleaned.{Ends, Strips, drops, ends_bare, longest};
 ghost use Rattle.csicodec_clean.specs.Palette.{IsNearest, nearest_of_16, nearest_of_256};
 ghost use Rattle.csicodec_clean.specs.declared.colors.Depth.{Depth};
-ghost use Rattle.csicodec_clean.specs.declared.pause.Pause.{Pause};
+ghost use Rattle.csicodec_clean.specs.declared.step.Pause.{Pause};
 ghost use Rattle.csicodec_clean.specs.declared.styles.Passing.{Passing};
 ghost use Rattle.csicodec_clean.specs.declared.whole.Dropped.{Dropped};
 ghost use Rattle.csicodec_clean.specs.Shown.{IsPlain};

@@ -1,7 +1,7 @@
 use Rattle.std.proofs.Common.{◌≡◌, ◌+◌, ◌-◌, ◌++◌, ◌∙◌, ap, length, take, arith}
 use Rattle.std.proofs.lemmas.Grind.{common_steps}
 use Rattle.csicodec_clean.proofs.Paused.{stepped}
-use Rattle.csicodec_clean.proofs.pause.append_step.Goals as goal
+use Rattle.csicodec_clean.proofs.step.append_step.Goals as goal
 
 pub returns-clause-steps : goal.returns-clause-steps
 returns-clause-steps g c =

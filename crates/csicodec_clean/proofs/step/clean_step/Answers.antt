@@ -1,5 +1,5 @@
 use Rattle.csicodec_clean.proofs.Paused.{styled_steps}
-use Rattle.csicodec_clean.proofs.pause.clean_step.Goals as goal
+use Rattle.csicodec_clean.proofs.step.clean_step.Goals as goal
 
 pub returns-clause-steps : goal.returns-clause-steps
 returns-clause-steps c =

@@ -12,11 +12,11 @@ use Rattle.csicodec_clean.specs.Cleaned.{RuleOf, Strips, drops, longest}
 use Rattle.csicodec_clean.specs.Steps.{AreStepped, Steps, bare, beginning, ending}
 use Rattle.csicodec_clean.specs.Styled.{Keeping, StylesIn, resumed, keeps, without_links}
 use Rattle.csicodec_clean.proofs.Paused.{cleaned_steps, stripped_steps}
-use Rattle.csicodec_c.specs.declared.live.Cleaned.{Cleaned}
-use Rattle.csicodec_c.specs.declared.live.Cleaning.{Cleaning}
+use Rattle.csicodec_c.specs.declared.step.Cleaned.{Cleaned}
+use Rattle.csicodec_c.specs.declared.step.Cleaning.{Cleaning}
 use Rattle.csicodec_c.specs.declared.strip.Stripped.{Stripped}
 use Rattle.csicodec_c.specs.Filter.{mode_number}
-use Rattle.csicodec_c.specs.Live.{AreCalls, IsCleanStep, IsEnd, IsStep, IsStripStep, numbers, zeros}
+use Rattle.csicodec_c.specs.Step.{AreCalls, IsCleanStep, IsEnd, IsStep, IsStripStep, numbers, zeros}
 use Rattle.csicodec_structs.specs.Room.{Fills}
 use Rattle.csicodec_c.specs.Strip.{bit, depth_number}
 

@@ -3,6 +3,6 @@ pub mod Span
 pub mod Event
 pub mod Input
 pub mod Strip
-pub mod Live
+pub mod Step
 pub mod Compact
 pub mod Version

@@ -4,9 +4,9 @@ ghost use Rattle.std.specs.List.{concat};
 ghost use Rattle.csicodec_clean.specs.declared.colors.Depth.{Depth};
 ghost use Rattle.csicodec_clean.specs.Cleaned.{Strips, longest};
 ghost use Rattle.csicodec_clean.specs.Styled.{StylesIn, without_links};
-ghost use Rattle.csicodec_c.specs.Live.{AreCalls, IsCleanStep, IsEnd, IsStripStep, zeros};
+ghost use Rattle.csicodec_c.specs.Step.{AreCalls, IsCleanStep, IsEnd, IsStripStep, zeros};
 ghost use Rattle.csicodec_c.specs.Strip.{depth_number};
-ghost use Rattle.csicodec_c.specs.declared.live.Cleaning.{Cleaning};
+ghost use Rattle.csicodec_c.specs.declared.step.Cleaning.{Cleaning};
 ghost use Rattle.csicodec_c.specs.declared.strip.Stripped.{Stripped};
 
 /// However untrusted text is cut into steps, what they put and the end is what `strip` makes of all of it, or `clean` in a depth.

@@ -1,7 +1,7 @@
 //! Untrusted text as it comes, by a state that the caller keeps.
 ghost use Rattle.std.specs.Prelude.{◌≡◌, ◌≤◌, ◌⊎◌, Bool, length, IfSome, IfNone};
 ghost use Rattle.csicodec_clean.specs.declared.step.Pause.{Pause};
-ghost use Rattle.csicodec_c.specs.Live.{IsCleanRefused, IsCleanStep, IsEnd, IsEndRefused, IsState, IsStripRefused, IsStripStep, numbers, refused};
+ghost use Rattle.csicodec_c.specs.Step.{IsCleanRefused, IsCleanStep, IsEnd, IsEndRefused, IsState, IsStripRefused, IsStripStep, numbers, refused};
 ghost use Rattle.csicodec_c.specs.Strip.{bit};
 
 use crate::filter::{mode_at, number_of};

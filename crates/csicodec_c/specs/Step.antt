@@ -5,8 +5,8 @@ use Rattle.csicodec_clean.specs.declared.step.Pause.{Pause}
 use Rattle.csicodec_clean.specs.Cleaned.{RuleOf, drops}
 use Rattle.csicodec_clean.specs.Steps.{Steps, bare, ending}
 use Rattle.csicodec_clean.specs.Styled.{Keeping, resumed, keeps}
-use Rattle.csicodec_c.specs.declared.live.Cleaned.{Cleaned}
-use Rattle.csicodec_c.specs.declared.live.Cleaning.{Cleaning}
+use Rattle.csicodec_c.specs.declared.step.Cleaned.{Cleaned}
+use Rattle.csicodec_c.specs.declared.step.Cleaning.{Cleaning}
 use Rattle.csicodec_c.specs.declared.strip.Stripped.{Stripped}
 use Rattle.csicodec_c.specs.Filter.{mode_number}
 use Rattle.csicodec_structs.specs.Room.{Fills}

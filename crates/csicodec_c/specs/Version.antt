@@ -1,4 +1,4 @@
--- The version of the library, 1.4.0.
+-- The version of the library, 1.5.0.
 use Rattle.std.specs.Prelude.{ℕ, ◌+◌, ◌*◌}
 
 abbrev pub version : ℕ

@@ -139,18 +139,21 @@ impl Known {
 
     /// What a terminal does, or what it says by it.
     pub fn meaning(&self) -> &'static str {
-        self.place.text(&DEC_MEANINGS, &OTHER_MEANINGS, &REPORT_MEANINGS)
+        self.place
+            .text(&DEC_MEANINGS, &OTHER_MEANINGS, &REPORT_MEANINGS)
     }
 
     /// Where it is from: the document, and in it the clause or the heading.
     pub fn source(&self) -> &'static str {
-        self.place.text(&DEC_SOURCES, &OTHER_SOURCES, &REPORT_SOURCES)
+        self.place
+            .text(&DEC_SOURCES, &OTHER_SOURCES, &REPORT_SOURCES)
     }
 
     /// The names of its numbers, in order, a `;` behind each; the last one of a row with further numbers is that of all that
     /// follow.
     pub fn numbers(&self) -> &'static str {
-        self.place.text(&DEC_NUMBERS, &OTHER_NUMBERS, &REPORT_NUMBERS)
+        self.place
+            .text(&DEC_NUMBERS, &OTHER_NUMBERS, &REPORT_NUMBERS)
     }
 
     /// The values, in the order of the row's slots.

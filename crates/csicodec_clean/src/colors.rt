@@ -51,9 +51,9 @@ fn first_place(index: u8) -> SrgbaTuple
     }
 }
 
-/// The colour of a place of xterm's palette.
+/// The colour of a place of xterm's palette, from 0 to 255.
 #[tactic(auto, unfolding(crate::specs::Palette::palette))]
-fn palette(index: u8) -> SrgbaTuple
+pub fn palette(index: u8) -> SrgbaTuple
     ensures { result ≡ palette index }
 {
     if index < 16 {

@@ -1,9 +1,9 @@
-pub mod Harmless
-pub mod Quoted
-pub mod Marks
-pub mod Turned
-pub mod Links
-pub mod Left
-pub mod Paired
+pub mod Addresses
+pub mod Declarations
 pub mod Joined
+pub mod Left
+pub mod Links
+pub mod Marks
+pub mod Paired
 pub mod Streamed
+pub mod Turned

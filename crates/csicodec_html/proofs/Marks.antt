@@ -12,8 +12,8 @@ use Rattle.csicodec_html.specs.declared.look.Look.{Look}
 use Rattle.csicodec_html.specs.Look.{css}
 use Rattle.csicodec_html.specs.Page.{IsHarmless, is_harmless, IsSafe, Piece, Char, Begin, End, Open, Shut, escaped, piece_text, piece_texts}
 use Rattle.csicodec_html.specs.Private.Marked.{all_marked, marked, page_byte, page_bytes}
-use Rattle.csicodec_html.proofs.Harmless.{Fine, apart, css_fine, fine}
-use Rattle.csicodec_html.proofs.Quoted.{IsVisible, ascii, below}
+use Rattle.csicodec_html.proofs.Declarations.{Fine, apart, css_fine, fine}
+use Rattle.csicodec_html.proofs.Addresses.{IsVisible, ascii, below}
 
 -- a byte or character that passes a test isn't one that doesn't
 differs : (test : ℕ → Bool) (b k : ℕ) → test b ≡ true → test k ≡ false → (b == k) ≡ false

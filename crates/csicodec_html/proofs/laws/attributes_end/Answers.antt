@@ -1,5 +1,5 @@
-use Rattle.csicodec_html.proofs.Harmless.{css_fine}
-use Rattle.csicodec_html.proofs.Quoted.{all_quoted}
+use Rattle.csicodec_html.proofs.Declarations.{css_fine}
+use Rattle.csicodec_html.proofs.Addresses.{all_quoted}
 use Rattle.csicodec_html.proofs.laws.attributes_end.Goals as goal
 
 pub returns-clause-styles : goal.returns-clause-styles

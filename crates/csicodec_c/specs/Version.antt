@@ -2,4 +2,4 @@
 use Rattle.std.specs.Prelude.{ℕ, ◌+◌, ◌*◌}
 
 abbrev pub version : ℕ
-version = 10000 * 1 + (100 * 4 + 0)
+version = 10000 * 1 + (100 * 5 + 0)

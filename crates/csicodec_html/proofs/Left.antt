@@ -20,7 +20,7 @@ use Rattle.csicodec_html.specs.declared.look.Look.{Look}
 use Rattle.csicodec_html.specs.Look.{behind_all, is_plain, sets_any}
 use Rattle.csicodec_html.specs.Page.{AreLeft, Begin, Char, End, IsSafe, Leaves, Open, PageWith, Piece, Setting, Shut, begins, behind_actions, behind_string, closing, ends, first_set, is_web, leads, led, opens, pieces_behind, run_behind, shown_pieces, shuts, switch, switches, turn}
 use Rattle.csicodec_html.specs.Private.Marked.{all_marked, closes, marked, page_bytes, turns}
-use Rattle.csicodec_html.proofs.Links.{given}
+use Rattle.csicodec_html.proofs.Leads.{given}
 use Rattle.csicodec_html.proofs.Marks.{pieces}
 
 marked_chars : (cs : List ℕ) → all_marked (map Char cs) ≡ encode_utf8_all cs

@@ -2,7 +2,7 @@ pub mod Addresses
 pub mod Declarations
 pub mod Joined
 pub mod Left
-pub mod Links
+pub mod Leads
 pub mod Marks
 pub mod Paired
 pub mod Streamed

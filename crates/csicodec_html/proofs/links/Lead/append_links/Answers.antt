@@ -2,7 +2,7 @@ use Rattle.std.proofs.Common.{◌≡◌, ◌+◌, ◌++◌, ◌∷◌, [], get_o
 use Rattle.std.proofs.lemmas.List.{take_more}
 use Rattle.csicodec_clean.specs.Links.{begun}
 use Rattle.csicodec_clean.proofs.Linked.{begun_more}
-use Rattle.csicodec_html.proofs.Links.{text_more, to_more}
+use Rattle.csicodec_html.proofs.Leads.{text_more, to_more}
 use Rattle.csicodec_html.proofs.links.Lead.append_links.Goals as goal
 
 pub loop-byte-preserved : goal.loop-byte-preserved

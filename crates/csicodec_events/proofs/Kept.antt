@@ -21,11 +21,11 @@ stopped (b ∷ bytes) more lt = by (is_passed b) lt (stopped bytes more)
     by true h on = let same = on (omega (arith, h)) in omega (arith, same)
     by false h on = refl
 
-record SameStop (e : Events) (bytes more : List ℕ) : Type 0 where
-  over : before_stop e (bytes ++ more) ≡ before_stop e bytes
-  behind : from_stop e (bytes ++ more) ≡ from_stop e bytes ++ more
+pub record SameStop (e : Events) (bytes more : List ℕ) : Type 0 where
+  pub over : before_stop e (bytes ++ more) ≡ before_stop e bytes
+  pub behind : from_stop e (bytes ++ more) ≡ from_stop e bytes ++ more
 
-same_stop : (e : Events) (bytes more rest : List ℕ) (b : ℕ) → from_stop e bytes ≡ b ∷ rest
+pub same_stop : (e : Events) (bytes more rest : List ℕ) (b : ℕ) → from_stop e bytes ≡ b ∷ rest
     → SameStop e bytes more
 same_stop e bytes more rest b stands =
     let start = max 2 e.looked in
@@ -42,7 +42,7 @@ same_stop e bytes more rest b stands =
       behind = ap (λ (k : ℕ). drop k (bytes ++ more)) same ∙ drop-append-le n bytes more (omega (arith, low));
     }
 
-begins_more : (bytes more : List ℕ) → BeginsCsi bytes → BeginsCsi (bytes ++ more)
+pub begins_more : (bytes more : List ℕ) → BeginsCsi bytes → BeginsCsi (bytes ++ more)
 begins_more bytes more b = (b.0 ++ more, ap (λ (x : List ℕ). x ++ more) b.1)
 
 pub control_more : (e after : Events) (bytes text rest more : List ℕ) (list : List CsiParam) (b : ℕ)

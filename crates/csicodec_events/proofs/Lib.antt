@@ -6,3 +6,10 @@ pub mod Spans
 pub mod Run
 pub mod Kept
 pub mod Forms
+pub mod Fronts
+pub mod Unfinished
+pub mod Moves
+pub mod Divided
+pub mod Looked
+pub mod AllDivided
+pub mod Chunks

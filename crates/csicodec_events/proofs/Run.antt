@@ -92,7 +92,7 @@ front_dropped n bytes more le =
     ∙ ap (λ (k : ℕ). drop k (front ++ (drop n bytes ++ more))) (sym len) ∙ drop-append_seam front (drop n bytes ++ more)
 
 -- where a sequence waited it stops where it would have stopped
-stop_on : (looked : ℕ) (bytes more : List ℕ) → looked ≤ length bytes → 2 ≤ length bytes
+pub stop_on : (looked : ℕ) (bytes more : List ℕ) → looked ≤ length bytes → 2 ≤ length bytes
     → drop (stop looked bytes) bytes ≡ []
     → stop (length (take (stop looked bytes) bytes)) (bytes ++ more) ≡ stop looked (bytes ++ more)
 stop_on looked bytes more le two none =
@@ -119,7 +119,7 @@ told_back : (x : Event) (e : Events) (n : ℕ) (bytes text rest : List ℕ) (lis
     → IsTold x (onward e e.mode n) bytes text rest list after
     → IsTold x e bytes text rest list after
 told_back event.Text e n bytes text rest list after same t =
-    record { held = t.held; behind = t.behind; span = span_back e n _ bytes (text ++ t.held) t.behind after t.span; holds = t.holds; goes_on = t.goes_on }
+    record { some = t.some; held = t.held; behind = t.behind; span = span_back e n _ bytes (text ++ t.held) t.behind after t.span; holds = t.holds; goes_on = t.goes_on }
 told_back (event.Control b) e n bytes text rest list after same t = let c = t.1 in
     rw (← same) (t.0, record { more = c.more; stands = c.stands; control = c.control; short = c.short; none = c.none; stays = c.stays; looked = c.looked })
 told_back (event.Csi final) e n bytes text rest list after same t = let c = t.1 in
@@ -130,7 +130,7 @@ told_back event.Other e n bytes text rest list after same (inl t) = inl (t.0, sp
 told_back event.Other e n bytes text rest list after same (inr t) = let w = t.1 in
     rw (← same) (inr (t.0, record { next = w.next; why = w.why; goes = w.goes; on = w.on }))
 
-met_within : (e : Events) (bytes : List ℕ) → IsMet e bytes → e.looked ≤ length bytes
+pub met_within : (e : Events) (bytes : List ℕ) → IsMet e bytes → e.looked ≤ length bytes
 met_within e bytes (inl none) = omega (arith, none)
 met_within e bytes (inr m) = m.1
 

@@ -1,5 +1,5 @@
 -- From the span in front to what a step promises.
-use Rattle.std.proofs.Common.{◌≡◌, ℕ, ◌<◌, ◌≤◌, true, List, [], ◌∷◌, ◌++◌, length, take, drop, refl, sym, ap, subst, ◌∙◌, inl, inr, append_assoc, append-nil, arith}
+use Rattle.std.proofs.Common.{◌≡◌, ℕ, ◌<◌, ◌≤◌, List, [], ◌∷◌, ◌++◌, length, take, drop, refl, sym, ap, subst, ◌∙◌, inl, inr, append_assoc, append-nil, arith}
 use Rattle.std.proofs.Math.Seq.{take-append_seam, drop-append_seam}
 use Rattle.std.proofs.lemmas.List.{length-take, take-append-drop, take-append-le, drop-append-le}
 use Rattle.csicodec_tokens.specs.declared.param.CsiParam.{CsiParam}
@@ -13,7 +13,7 @@ use Rattle.csicodec_events.specs.declared.event.Event.TheVariants as event
 use Rattle.csicodec_events.specs.declared.event.Events.{Events}
 use Rattle.csicodec_events.specs.declared.event.Told.{Told}
 use Rattle.csicodec_events.specs.Characters.{is_unfinished}
-use Rattle.csicodec_events.specs.Events.{BeginsCsi, IsHeld, IsSpan, IsTold, onward}
+use Rattle.csicodec_events.specs.Events.{BeginsCsi, IsBegun, IsHeld, IsSpan, IsTold, onward}
 use Rattle.csicodec_events.specs.Private.Steps.{HasTold, HasWaited}
 use Rattle.csicodec_events.proofs.Steps.{told_on}
 
@@ -66,6 +66,7 @@ text_told e bytes t list after m n span behind none is front back on cuts maxima
     let whole : bytes ≡ take n span ++ (drop n span ++ behind) = parts ∙ ap (λ (l : List ℕ). l ++ behind) (sym halves) ∙ append_assoc (take n span) (drop n span) behind in
     let long : length t.bytes.now ≡ n = omega (arith, ap length front', length-take n span, le) in
     told_on e bytes t list after m event.Text is on (record {
+      some = omega (arith, long, some);
       held = drop n span;
       behind = behind;
       span = record { next = m; cuts = rw (front', halves) cuts; maximal = maximal; on = on };
@@ -73,11 +74,14 @@ text_told e bytes t list after m n span behind none is front back on cuts maxima
       goes_on = back';
     }) (record { parts = rw (front', back') whole; some = omega (arith, long, some); further = omega (arith, long, some, none) })
 
-all_held : (bytes text held behind : List ℕ) → bytes ≡ held ++ behind → 0 < length held
-    → IsHeld text held behind → is_unfinished bytes ≡ true
-all_held bytes text held [] parts some (inl h) = ap is_unfinished (parts ∙ append-nil held) ∙ h
-all_held bytes text held [] parts some (inr h) = absurd (omega (arith, some, ap length h.0))
-all_held bytes text held (b ∷ behind) parts some h = absurd (omega (arith, some, ap length h))
+all_held : (e : Events) (m : Mode) (bytes text held behind : List ℕ)
+    → Cuts e.limit e.mode bytes kind.Text held behind m → bytes ≡ held ++ behind → 0 < length held
+    → IsHeld text held behind → IsBegun e bytes
+all_held e m bytes text held [] cuts parts some (inl h) =
+    let same : bytes ≡ held = parts ∙ append-nil held in
+    (ap is_unfinished same ∙ h, (m, subst (λ (x : List ℕ). Cuts e.limit e.mode bytes kind.Text x [] m) (sym same) cuts))
+all_held e m bytes text held [] cuts parts some (inr h) = absurd (omega (arith, some, ap length h.0))
+all_held e m bytes text held (b ∷ behind) cuts parts some h = absurd (omega (arith, some, ap length h))
 
 pub text_waits : (e : Events) (bytes : List ℕ) (m : Mode) (n : ℕ) (span behind : List ℕ)
     → 0 < e.limit → e.looked ≡ 0 → (BeginsCsi bytes → ⊥)
@@ -88,7 +92,7 @@ text_waits e bytes m n span behind limit none other cuts zero holds =
     let some = cut_some e.limit e.mode bytes kind.Text span behind m limit cuts in
     let here = subst (λ (k : ℕ). IsHeld (take k span) (drop k span) behind) zero holds in
     record {
-      waits = inr (inl (other, all_held bytes [] span behind parts some here, refl));
+      waits = inr (inl (other, all_held e m bytes [] span behind cuts parts some here, refl));
       again = λ more. inl none;
       limit = refl;
     }

@@ -2,15 +2,15 @@
 --
 -- All but control sequences are as the table of modes cuts them (`Cuts` of csicodec_spans). Of a control sequence DEC's terminals
 -- and xterm carry out each C0 control within it when it comes, ignore DEL, and read the sequence as if neither were there.
-use Rattle.std.specs.Prelude.{ℕ, ◌≡◌, ◌+◌, ◌-◌, ◌*◌, ◌<◌, ◌≤◌, ◌⊎◌, max, Bool, true, false, not, filter, List, [], ◌∷◌, ◌++◌, length, take, drop}
-use Rattle.std.specs.List.{prefix_len}
+use Rattle.std.specs.Prelude.{ℕ, ◌≡◌, ◌+◌, ◌-◌, ◌*◌, ◌<◌, ◌≤◌, ◌⊎◌, ◌==◌, ◌&&◌, max, Bool, true, false, not, filter, if◌then◌else◌, List, [], ◌∷◌, ◌++◌, length, take, drop}
+use Rattle.std.specs.List.{flat_map, prefix_len}
 use Rattle.csicodec_tokens.specs.declared.param.CsiParam.{CsiParam}
 use Rattle.csicodec_tokens.specs.Sequence.{Seq}
 use Rattle.csicodec_spans.specs.declared.table.Kind.{Kind}
 use Rattle.csicodec_spans.specs.declared.table.Kind.TheVariants as kind
 use Rattle.csicodec_spans.specs.declared.table.Mode.{Mode}
 use Rattle.csicodec_spans.specs.declared.table.Mode.TheVariants as mode
-use Rattle.csicodec_spans.specs.Table.{controls, csi_finals, del, intermediates, parameters, within}
+use Rattle.csicodec_spans.specs.Table.{controls, csi_finals, del, intermediates, openers, parameters, within}
 use Rattle.csicodec_spans.specs.Parts.{Cuts, IsMaximal, IsUnsure}
 use Rattle.csicodec_events.specs.declared.event.Event.{Event}
 use Rattle.csicodec_events.specs.declared.event.Event.TheVariants as event
@@ -117,8 +117,9 @@ abbrev pub IsHeld : List ℕ → List ℕ → List ℕ → Type 0
 IsHeld text held [] = (is_unfinished held ≡ true) ⊎ ((held ≡ []) × EndsWhole text)
 IsHeld text held (b ∷ behind) = held ≡ []
 
--- A span of text, without what is held of it.
+-- A span of text, without what is held of it: some bytes, at least.
 pub record IsText (e : Events) (bytes text rest : List ℕ) (after : Events) : Type 0 where
+  pub some : 0 < length text
   pub held : List ℕ
   pub behind : List ℕ
   pub span : IsSpan e kind.Text bytes (text ++ held) behind after
@@ -143,12 +144,17 @@ IsTold event.Other e bytes text rest list after =
 abbrev pub Tells : Events → List ℕ → Told → List CsiParam → Events → Type 0
 Tells e bytes told list after = IsTold told.event e bytes told.bytes.now told.rest.now list after
 
+-- The bytes are text, and the beginning of a character.
+abbrev pub IsBegun : Events → List ℕ → Type 0
+IsBegun e bytes = (is_unfinished bytes ≡ true)
+    × ((next : Mode) × Cuts e.limit e.mode bytes kind.Text bytes [] next)
+
 -- Nothing is told before more bytes come: a sequence isn't over, or the bytes are the beginning of a character, or nothing is
 -- sure of them.
 abbrev pub Waits : Events → List ℕ → Events → Type 0
 Waits e bytes after =
     (BeginsCsi bytes × IsOpen e (before_stop e bytes) (from_stop e bytes) after)
-    ⊎ (((BeginsCsi bytes → ⊥) × (is_unfinished bytes ≡ true) × (after ≡ e))
+    ⊎ (((BeginsCsi bytes → ⊥) × IsBegun e bytes × (after ≡ e))
     ⊎ ((BeginsCsi bytes → ⊥) × IsUnsure e.limit e.mode bytes × (after ≡ e)))
 
 -- ---- from call to call
@@ -180,3 +186,43 @@ InChunks e held (chunk ∷ chunks) told rest after =
     (now : List Told) × (later : List Told) × (kept : List ℕ) × (mid : Events) × (waiting : Events)
     × (told ≡ now ++ later) × AreTold e (held ++ chunk) now kept mid × Waits mid kept waiting
     × InChunks waiting kept chunks later rest after
+
+-- ---- what doesn't depend on the chunks
+
+-- an event, or a byte of one, or with no bytes the place where a string or what went wrong begins
+pub record Piece : Type 0 where
+  pub event : Event
+  pub bytes : List ℕ
+
+abbrev pub piece : Event → List ℕ → Piece
+piece x bytes = record { event = x; bytes = bytes }
+
+abbrev pub byte_by_byte : Event → List ℕ → List Piece
+byte_by_byte x [] = []
+byte_by_byte x (b ∷ bytes) = piece x (b ∷ []) ∷ byte_by_byte x bytes
+
+-- a string begins with ESC and its opener, and what goes wrong with ESC; where either goes on, it doesn't
+abbrev pub begins : Event → List ℕ → Bool
+begins event.Str (a ∷ b ∷ bytes) = a == 27 && within openers b
+begins event.Other (a ∷ bytes) = a == 27
+begins x bytes = false
+
+abbrev pub divided : Event → List ℕ → List Piece
+divided x bytes = (if begins x bytes then piece x [] ∷ [] else []) ++ byte_by_byte x bytes
+
+-- An event in as many pieces as it could come in: text, strings and what goes wrong byte by byte, and all else whole.
+abbrev pub pieces_of : Event → List ℕ → List Piece
+pieces_of event.Text bytes = divided event.Text bytes
+pieces_of event.Str bytes = divided event.Str bytes
+pieces_of event.Other bytes = divided event.Other bytes
+pieces_of x bytes = piece x bytes ∷ []
+
+abbrev pub pieces : List Told → List Piece
+pieces told = flat_map (λ (t : Told). pieces_of t.event t.bytes.now) told
+
+-- Two streams are told alike but for where text, strings and what went wrong are cut; the same waits, and they go on alike.
+pub record AreAlike (told others : List Told) (rest rest' : List ℕ)
+    (after after' : Events) : Type 0 where
+  pub same : pieces told ≡ pieces others
+  pub waits : rest ≡ rest'
+  pub on : after ≡ after'

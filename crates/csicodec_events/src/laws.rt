@@ -1,5 +1,5 @@
 //! Laws of the definitions. Each is the contract of a function that does nothing.
-ghost use Rattle.std.specs.Prelude.{◌≡◌, ◌++◌, ℕ, List};
+ghost use Rattle.std.specs.Prelude.{◌≡◌, ◌++◌, ℕ, List, []};
 ghost use Rattle.std.specs.List.{concat, flat_map};
 ghost use Rattle.csicodec_tokens.specs.declared.param.CsiParam.{CsiParam};
 ghost use Rattle.csicodec_events.specs.declared.event.Event.TheVariants as event;
@@ -9,7 +9,7 @@ ghost use Rattle.csicodec_spans.specs.declared.table.Mode.{Mode};
 ghost use Rattle.csicodec_events.specs.declared.input.Dialect.{Dialect};
 ghost use Rattle.csicodec_events.specs.declared.input.Sent.{Sent};
 ghost use Rattle.csicodec_events.specs.Input.{InputChunks, IsSure, ahead, bytes_of as sent_bytes};
-ghost use Rattle.csicodec_events.specs.Events.{BeginsCsi, InChunks, IsMet, IsTold, Tells, Waits, bytes_of};
+ghost use Rattle.csicodec_events.specs.Events.{AreAlike, BeginsCsi, InChunks, IsMet, IsTold, Tells, Waits, bytes_of};
 
 /// In whatever chunks a stream comes, the bytes of its events joined, and then what waits, are its bytes: nothing is lost, added or
 /// moved.
@@ -18,6 +18,17 @@ pub fn joined()
     ensures { (e after : Events) (held rest : List ℕ) (chunks : List (List ℕ)) (told : List Told) →
         InChunks e held chunks told rest after
         → held ++ concat chunks ≡ flat_map bytes_of told ++ rest }
+{}
+
+/// The events of a stream don't depend on the chunks that it came in, but for where text, strings and what went wrong are cut: with
+/// these byte by byte, the lists of events are the same, each string begins at the same place, and control sequences, the controls in
+/// them and escape sequences are whole, at the same places. The same bytes wait, and the stream goes on with the same.
+#[tactic(auto, using(crate::proofs::Chunks::alike))]
+pub fn any_chunks()
+    ensures { (e after after' : Events) (chunks others : List (List ℕ)) (told told' : List Told)
+        (rest rest' : List ℕ) → e.looked ≡ 0 → concat chunks ≡ concat others
+        → InChunks e [] chunks told rest after → InChunks e [] others told' rest' after'
+        → AreAlike told told' rest rest' after after' }
 {}
 
 /// What is told of a control sequence that waited is told of it where it comes at once.

@@ -1,0 +1,279 @@
+-- A span as the smallest steps: a step for each of its parts.
+use Rattle.std.proofs.Common.{◌≡◌, ◌≢◌, ◌⊎◌, ℕ, ◌<◌, Bool, true, false, List, [], ◌∷◌, ◌++◌, length, refl, sym, ap, subst, ◌∙◌, inl, inr, append_assoc, arith}
+use Rattle.std.specs.Prelude.{◌==◌, if◌then◌else◌}
+use Rattle.std.specs.List.{AllByRecursion, flat_map}
+use Rattle.std.proofs.lemmas.Bool.{both_ways, cases_Bool, eqb-true}
+use Rattle.csicodec_spans.specs.declared.table.Kind.{Kind}
+use Rattle.csicodec_spans.specs.declared.table.Kind.TheVariants as kind
+use Rattle.csicodec_spans.specs.declared.table.Mode.{Mode}
+use Rattle.csicodec_spans.specs.declared.table.Mode.TheVariants as mode
+use Rattle.csicodec_spans.specs.Parts.{Part, part, Allows, AllowsCsi, AreAll, AreFirstParts, AreOne, IsFirstPart, IsMaximal, IsMore, bytes_of}
+use Rattle.csicodec_spans.specs.Table.{Answer, More, ahead}
+use Rattle.csicodec_spans.proofs.Agrees.{opens, text_goes_on}
+use Rattle.csicodec_spans.proofs.Kept.{parts_join}
+use Rattle.csicodec_events.specs.declared.event.Event.{Event}
+use Rattle.csicodec_events.specs.declared.event.Event.TheVariants as event
+use Rattle.csicodec_events.specs.declared.event.Events.{Events}
+use Rattle.csicodec_events.specs.Characters.{is_unfinished}
+use Rattle.csicodec_events.specs.Events.{BeginsCsi, IsHeld, IsSpan, IsText, Piece, begins, byte_by_byte, divided, onward, piece, pieces_of}
+use Rattle.csicodec_events.proofs.Fronts.{event_of, front}
+use Rattle.csicodec_events.proofs.Moves.{Divides, IsPart, move_divides, none_divides, one_divides, one_part}
+use Rattle.csicodec_events.proofs.Unfinished.{text_sure}
+
+-- ---- pieces of bytes
+
+pub by_byte_on : (x : Event) (a b : List ℕ) → byte_by_byte x (a ++ b) ≡ byte_by_byte x a ++ byte_by_byte x b
+by_byte_on x [] b = refl
+by_byte_on x (c ∷ a) b = ap (λ (ps : List Piece). piece x (c ∷ []) ∷ ps) (by_byte_on x a b)
+
+divided_on : (x : Event) (a b : List ℕ) → begins x (a ++ b) ≡ begins x a
+    → divided x (a ++ b) ≡ divided x a ++ byte_by_byte x b
+divided_on x a b same =
+    let start = λ (t : Bool). if t then piece x [] ∷ [] else [] in
+    ap (λ (t : Bool). start t ++ byte_by_byte x (a ++ b)) same ∙ ap (λ (ps : List Piece). start (begins x a) ++ ps) (by_byte_on x a b)
+    ∙ sym (append_assoc (start (begins x a)) (byte_by_byte x a) (byte_by_byte x b))
+
+pub divided_further : (x : Event) (a : List ℕ) → begins x a ≡ false → divided x a ≡ byte_by_byte x a
+divided_further x a none = ap (λ (t : Bool). (if t then piece x [] ∷ [] else []) ++ byte_by_byte x a) none
+
+-- a string, or what went wrong
+abbrev IsDivided : Kind → Type 0
+IsDivided k = (k ≡ kind.Str) ⊎ (k ≡ kind.Other)
+
+pieces_divided : (k : Kind) (text : List ℕ) → IsDivided k
+    → pieces_of (event_of k) text ≡ divided (event_of k) text
+pieces_divided k text (inl str) = rw str refl
+pieces_divided k text (inr other) = rw other refl
+
+no_text : (k : Kind) → IsDivided k → k ≡ kind.Text → ⊥
+no_text k (inl str) text = cc
+no_text k (inr other) text = cc
+
+-- ---- where no sequence begins
+
+more_other : (m : Mode) (bytes : List ℕ) → IsMore (ahead m bytes) → BeginsCsi bytes → ⊥
+more_other m bytes more b = subst IsMore (ap (ahead m) b.1 ∙ opens m b.0) more
+
+csi_kind : (limit : ℕ) (bytes text : List ℕ) (k : Kind) (a : Mode) → AllowsCsi limit bytes k text a
+    → (k ≡ kind.Csi) ⊎ (k ≡ kind.Other)
+csi_kind limit bytes text kind.Text a h = absurd h
+csi_kind limit bytes text kind.Csi a h = inl refl
+csi_kind limit bytes text kind.Esc a h = absurd h
+csi_kind limit bytes text kind.Str a h = absurd h
+csi_kind limit bytes text kind.Other a h = inr refl
+
+-- a part of another kind than these stands where no sequence begins
+kind_other : (limit : ℕ) (m a : Mode) (bytes rest : List ℕ) (p : Part) → p.kind ≢ kind.Csi
+    → p.kind ≢ kind.Other → IsFirstPart limit m bytes p rest a → BeginsCsi bytes → ⊥
+kind_other limit m a bytes rest p csi other h b = elim (csi_kind limit bytes p.bytes p.kind a (subst (λ (f : Answer). Allows f limit bytes p.kind p.bytes a) (ap (ahead m) b.1 ∙ opens m b.0) h.1)) [
+  | inl is ↦ csi is
+  | inr is ↦ other is
+]
+
+-- ---- parts that go on with what is open
+
+abbrev GoOn : ℕ → Mode → List ℕ → List Part → Type 0
+GoOn limit m bytes parts = (some more : List Part) (rest : List ℕ) (after : Mode)
+    → parts ≡ some ++ more → 0 < length more → AreFirstParts limit m bytes some rest after
+    → IsMore (ahead after rest)
+
+go_on_behind : (limit : ℕ) (m a : Mode) (bytes rest : List ℕ) (p : Part) (parts : List Part)
+    → IsFirstPart limit m bytes p rest a → AreOne limit m bytes [] (p ∷ parts)
+    → GoOn limit a rest parts
+go_on_behind limit m a bytes rest p parts first one some more behind after e second s =
+    one (p ∷ some) more behind after (ap (λ (x : List Part). p ∷ x) e) (omega arith) second (rest, a, first, s)
+
+go_on_next : (limit : ℕ) (m a : Mode) (bytes rest : List ℕ) (p : Part) (parts : List Part)
+    → IsFirstPart limit m bytes p rest a → GoOn limit m bytes (p ∷ parts) → GoOn limit a rest parts
+go_on_next limit m a bytes rest p parts first on some more behind after e second s =
+    on (p ∷ some) more behind after (ap (λ (x : List Part). p ∷ x) e) second (rest, a, first, s)
+
+abbrev pub at : Events → Mode → Events
+at e m = onward e m 0
+
+go_divides : (parts : List Part) (e : Events) (m a : Mode) (bytes rest : List ℕ) (k : Kind)
+    → IsDivided k → GoOn e.limit m bytes parts
+    → AllByRecursion (λ (p : Part). p.kind ≡ k) parts
+    → AreFirstParts e.limit m bytes parts rest a
+    → Divides (at e m) bytes (byte_by_byte (event_of k) (flat_map bytes_of parts)) rest (at e a)
+go_divides [] e m a bytes rest k is on all s = rw (s.0, s.1) (none_divides (at e m) bytes)
+go_divides (p ∷ parts) e m a bytes rest k is on all s =
+    let x = event_of k in
+    let more = on [] (p ∷ parts) bytes m refl (omega arith) (refl, refl) in
+    let other = more_other m bytes more in
+    let f = front e.limit m s.1 bytes s.0 p other s.2 in
+    let none : begins x p.bytes ≡ false = subst (λ (j : Kind). begins (event_of j) p.bytes ≡ false) all.0 (f.goes more) in
+    let others = go_divides parts e s.1 a s.0 rest k is (go_on_next e.limit m s.1 bytes s.0 p parts s.2 on) all.1 s.3 in
+    subst (λ (ps : List Piece). Divides (at e m) bytes ps rest (at e a)) (sym (by_byte_on x p.bytes (flat_map bytes_of parts)))
+    (move_divides (at e m) (at e s.1) (at e a) bytes s.0 rest (byte_by_byte x p.bytes) (byte_by_byte x (flat_map bytes_of parts)) (inl (record {
+      other = other;
+      p = p;
+      next = s.1;
+      first = s.2;
+      sure = λ text. absurd (no_text k is (sym all.0 ∙ text));
+      told = sym (divided_further x p.bytes none) ∙ sym (pieces_divided k p.bytes is) ∙ ap (λ (j : Kind). pieces_of (event_of j) p.bytes) (sym all.0);
+      on = refl;
+    })) others)
+
+-- a string, or what went wrong
+all_divides : (parts : List Part) (e after : Events) (a : Mode) (bytes text rest : List ℕ) (k : Kind)
+    → IsDivided k → (BeginsCsi bytes → ⊥) → AreAll k text parts
+    → AreOne e.limit e.mode bytes [] parts → AreFirstParts e.limit e.mode bytes parts rest a
+    → after ≡ at e a → Divides e bytes (pieces_of (event_of k) text) rest after
+all_divides [] e after a bytes text rest k is other all one s on = absurd (omega (arith, all.some))
+all_divides (p ∷ parts) e after a bytes text rest k is other all one s on =
+    let x = event_of k in
+    let back = flat_map bytes_of parts in
+    let f = front e.limit e.mode s.1 bytes s.0 p other s.2 in
+    let same : begins x (p.bytes ++ back) ≡ begins x p.bytes = subst (λ (j : Kind). begins (event_of j) (p.bytes ++ back) ≡ begins (event_of j) p.bytes) all.all.0 (f.same back) in
+    let others = go_divides parts e s.1 a s.0 rest k is (go_on_behind e.limit e.mode s.1 bytes s.0 p parts s.2 one) all.all.1 s.3 in
+    let told : pieces_of (event_of k) text ≡ divided x p.bytes ++ byte_by_byte x back = pieces_divided k text is ∙ ap (divided x) (sym all.joined) ∙ divided_on x p.bytes back same in
+    rw (told, on) (move_divides e (at e s.1) (at e a) bytes s.0 rest (divided x p.bytes) (byte_by_byte x back) (inl (record {
+      other = other;
+      p = p;
+      next = s.1;
+      first = s.2;
+      sure = λ is_text. absurd (no_text k is (sym all.all.0 ∙ is_text));
+      told = sym (pieces_divided k p.bytes is) ∙ ap (λ (j : Kind). pieces_of (event_of j) p.bytes) (sym all.all.0);
+      on = refl;
+    })) others)
+
+-- an escape sequence
+pub esc_divides : (e : Events) (bytes text rest : List ℕ) (after : Events)
+    → IsSpan e kind.Esc bytes text rest after → Divides e bytes (pieces_of event.Esc text) rest after
+esc_divides e bytes text rest after s =
+    let first = subst (λ (ps : List Part). AreFirstParts e.limit e.mode bytes ps rest s.next) s.cuts.span s.cuts.first in
+    let here = one_part e.limit e.mode s.next bytes rest (part kind.Esc text) first in
+    one_divides e after bytes rest (pieces_of event.Esc text) (inl (record {
+      other = kind_other e.limit e.mode s.next bytes rest (part kind.Esc text) (λ is. cc) (λ is. cc) here;
+      p = part kind.Esc text;
+      next = s.next;
+      first = here;
+      sure = λ is. absurd cc;
+      told = refl;
+      on = s.on;
+    }))
+
+first_other : (limit : ℕ) (m a : Mode) (bytes text rest : List ℕ) (k : Kind) (parts : List Part)
+    → k ≢ kind.Csi → k ≢ kind.Other → AreAll k text parts → AreFirstParts limit m bytes parts rest a
+    → BeginsCsi bytes → ⊥
+first_other limit m a bytes text rest k [] csi other all s = absurd (omega (arith, all.some))
+first_other limit m a bytes text rest k (p ∷ parts) csi other all s =
+    kind_other limit m s.1 bytes s.0 p (λ is. csi (sym all.all.0 ∙ is)) (λ is. other (sym all.all.0 ∙ is)) s.2
+
+pub str_divides : (e : Events) (bytes text rest : List ℕ) (after : Events)
+    → IsSpan e kind.Str bytes text rest after → Divides e bytes (pieces_of event.Str text) rest after
+str_divides e bytes text rest after s =
+    let c = s.cuts in
+    let none = first_other e.limit e.mode s.next bytes text rest kind.Str c.parts (λ is. cc) (λ is. cc) c.span c.first in
+    all_divides c.parts e after s.next bytes text rest kind.Str (inl refl) none c.span c.one c.first s.on
+
+pub other_divides : (e : Events) (bytes text rest : List ℕ) (after : Events)
+    → (BeginsCsi bytes → ⊥) → IsSpan e kind.Other bytes text rest after
+    → Divides e bytes (pieces_of event.Other text) rest after
+other_divides e bytes text rest after none s =
+    let c = s.cuts in
+    all_divides c.parts e after s.next bytes text rest kind.Other (inr refl) none c.span c.one c.first s.on
+
+-- ---- text
+
+-- bytes other than ESC
+abbrev AreFree : List ℕ → Type 0
+AreFree bytes = AllByRecursion (λ (b : ℕ). (b == 27) ≡ false) bytes
+
+record IsTextRun (parts : List Part) (a : Mode) : Type 0 where
+  free : AreFree (flat_map bytes_of parts)
+  text : 0 < length parts → a ≡ mode.Text
+
+last_text : (limit : ℕ) (parts : List Part) (m a : Mode) (bytes rest : List ℕ)
+    → AreFirstParts limit m bytes parts rest a → m ≡ mode.Text → (0 < length parts → a ≡ mode.Text)
+    → a ≡ mode.Text
+last_text limit [] m a bytes rest s text others = s.1 ∙ text
+last_text limit (p ∷ parts) m a bytes rest s text others = others (omega arith)
+
+text_run : (limit : ℕ) (parts : List Part) (m a : Mode) (bytes rest : List ℕ)
+    → GoOn limit m bytes parts → AllByRecursion (λ (p : Part). p.kind ≡ kind.Text) parts
+    → AreFirstParts limit m bytes parts rest a → IsTextRun parts a
+text_run limit [] m a bytes rest on all s = record { free = tt; text = λ some. absurd (omega (arith, some)) }
+text_run limit (p ∷ parts) m a bytes rest on all s =
+    let more = on [] (p ∷ parts) bytes m refl (omega arith) (refl, refl) in
+    let f = (front limit m s.1 bytes s.0 p (more_other m bytes more) s.2).text all.0 in
+    let r = text_run limit parts s.1 a s.0 rest (go_on_next limit m s.1 bytes s.0 p parts s.2 on) all.1 s.3 in
+    let back = flat_map bytes_of parts in
+    record {
+      free = subst AreFree (ap (λ (x : List ℕ). x ++ back) (sym f.0.1)) (f.0.2, r.free);
+      text = λ some. last_text limit parts s.1 a s.0 rest s.3 f.1 r.text;
+    }
+
+not_esc : (b : ℕ) → (b == 27) ≡ false → b ≢ 27
+not_esc b e is = let yes : (b == 27) ≡ true = ap (λ (x : ℕ). x == 27) is in both_ways (b == 27) e yes
+
+text_bytes : (e : Events) (v held behind : List ℕ)
+    → ((u w : List ℕ) → v ≡ u ++ w → 0 < length w → is_unfinished (w ++ (held ++ behind)) ≡ false)
+    → AreFree (v ++ held)
+    → Divides (at e mode.Text) (v ++ (held ++ behind)) (byte_by_byte event.Text v) (held ++ behind) (at e mode.Text)
+text_bytes e [] held behind sure free = none_divides (at e mode.Text) (held ++ behind)
+text_bytes e (b ∷ v) held behind sure free =
+    let rest = v ++ (held ++ behind) in
+    let here : IsFirstPart e.limit mode.Text (b ∷ rest) (part kind.Text (b ∷ [])) rest mode.Text =
+    (refl, subst (λ (f : Answer). Allows f e.limit (b ∷ rest) kind.Text (b ∷ []) mode.Text) (sym (text_goes_on b rest (not_esc b free.0))) (refl, refl, refl)) in
+    let others = text_bytes e v held behind (λ u w is some. sure (b ∷ u) w (ap (λ (x : List ℕ). b ∷ x) is) some) free.1 in
+    move_divides (at e mode.Text) (at e mode.Text) (at e mode.Text) (b ∷ rest) rest (held ++ behind) (piece event.Text (b ∷ []) ∷ []) (byte_by_byte event.Text v) (inl (record {
+      other = λ begins. not_esc b free.0 (let same = begins.1 in cc);
+      p = part kind.Text (b ∷ []);
+      next = mode.Text;
+      first = here;
+      sure = λ is. sure [] (b ∷ v) refl (omega arith);
+      told = refl;
+      on = refl;
+    })) others
+
+-- behind text that is as long as it can be stands ESC
+esc_behind : (m : Mode) (behind more : List ℕ) (c : ℕ) → m ≡ mode.Text
+    → IsMaximal kind.Text m behind → behind ≡ c ∷ more → c ≡ 27
+esc_behind m behind more c text maximal e = elim (cases_Bool (c == 27)) [
+  | inl is ↦ eqb-true c 27 is
+  | inr other ↦
+      let goes : ahead m behind ≡ More kind.Text 1 mode.Text = ap (λ (n : Mode). ahead n behind) text ∙ ap (ahead mode.Text) e ∙ text_goes_on c more (not_esc c other) in
+      absurd (maximal (inl refl) (subst IsMore (sym goes) tt))
+]
+
+text_from : (parts : List Part) (e after : Events) (last_mode : Mode) (bytes text held behind rest : List ℕ)
+    → 0 < length text → AreAll kind.Text (text ++ held) parts → AreOne e.limit e.mode bytes [] parts
+    → AreFirstParts e.limit e.mode bytes parts behind last_mode → IsMaximal kind.Text last_mode behind
+    → IsHeld text held behind → rest ≡ held ++ behind → after ≡ at e last_mode
+    → Divides e bytes (pieces_of event.Text text) rest after
+text_from parts e after last_mode bytes [] held behind rest some all one s maximal holds back on = absurd (omega (arith, some))
+text_from [] e after last_mode bytes (c ∷ v) held behind rest some all one s maximal holds back on = absurd (omega (arith, all.some))
+text_from (p ∷ parts) e after last_mode bytes (c ∷ v) held behind rest some all one s maximal holds back on =
+    let none = first_other e.limit e.mode last_mode bytes (c ∷ (v ++ held)) behind kind.Text (p ∷ parts) (λ is. cc) (λ is. cc) all s in
+    let f = (front e.limit e.mode s.1 bytes s.0 p none s.2).text all.all.0 in
+    let b = f.0.0 in
+    let others = flat_map bytes_of parts in
+    let joined : b ∷ others ≡ c ∷ (v ++ held) = ap (λ (x : List ℕ). x ++ others) (sym f.0.1) ∙ all.joined in
+    let byte : p.bytes ≡ c ∷ [] = f.0.1 ∙ ap (λ (x : ℕ). x ∷ []) (let first : b ≡ c = cc in first) in
+    let later : others ≡ v ++ held = cc in
+    let r = text_run e.limit parts s.1 last_mode s.0 behind (go_on_behind e.limit e.mode s.1 bytes s.0 p parts s.2 one) all.all.1 s.3 in
+    let is_text = last_text e.limit parts s.1 last_mode s.0 behind s.3 f.1 r.text in
+    let esc = λ (d : ℕ) (more : List ℕ) (e : behind ≡ d ∷ more). esc_behind last_mode behind more d is_text maximal e in
+    let rests : s.0 ≡ v ++ (held ++ behind) = parts_join e.limit parts s.1 s.0 behind last_mode s.3 ∙ ap (λ (x : List ℕ). x ++ behind) later ∙ append_assoc v held behind in
+    let whole : bytes ≡ (c ∷ v) ++ (held ++ behind) = s.2.0 ∙ ap (λ (x : List ℕ). x ++ s.0) byte ∙ ap (λ (x : List ℕ). c ∷ x) rests in
+    let sure = λ (u w : List ℕ) (split : c ∷ v ≡ u ++ w) (full : 0 < length w). text_sure (c ∷ v) u w held behind holds split full esc in
+    let run = text_bytes e v held behind (λ u w split full. sure (c ∷ u) w (ap (λ (x : List ℕ). c ∷ x) split) full) (subst AreFree later r.free) in
+    let first : IsPart e bytes (piece event.Text (c ∷ []) ∷ []) (v ++ (held ++ behind)) (at e mode.Text) = record {
+      other = none;
+      p = p;
+      next = mode.Text;
+      first = subst (λ (m : Mode). IsFirstPart e.limit e.mode bytes p (v ++ (held ++ behind)) m) f.1 (subst (λ (x : List ℕ). IsFirstPart e.limit e.mode bytes p x s.1) rests s.2);
+      sure = λ is. subst (λ (x : List ℕ). is_unfinished x ≡ false) (sym whole) (sure [] (c ∷ v) refl (omega arith));
+      told = sym (ap (λ (k : Kind). pieces_of (event_of k) p.bytes) all.all.0 ∙ ap (pieces_of event.Text) byte);
+      on = refl;
+    } in
+    let end : after ≡ at e mode.Text = on ∙ ap (at e) is_text in
+    rw (back, end) (move_divides e (at e mode.Text) (at e mode.Text) bytes (v ++ (held ++ behind)) (held ++ behind) (piece event.Text (c ∷ []) ∷ []) (byte_by_byte event.Text v) (inl first) run)
+
+pub text_divides : (e : Events) (bytes text rest : List ℕ) (after : Events)
+    → IsText e bytes text rest after → Divides e bytes (pieces_of event.Text text) rest after
+text_divides e bytes text rest after t =
+    let s = t.span in
+    text_from s.cuts.parts e after s.next bytes text t.held t.behind rest t.some s.cuts.span s.cuts.one s.cuts.first s.maximal t.holds t.goes_on s.on

@@ -107,7 +107,7 @@ pub record Goes (e : Events) (bytes : List ℕ) (ps : List Piece) (rest : List �
 none_looked : (e after : Events) (m : Mode) (rest : List ℕ) → after ≡ onward e m 0 → IsLooked after rest
 none_looked e after m rest on = inl (ap (λ (a : Events). a.looked) on)
 
-told_goes : (x : Event) (e : Events) (bytes text rest : List ℕ) (list : List CsiParam) (after : Events)
+pub told_goes : (x : Event) (e : Events) (bytes text rest : List ℕ) (list : List CsiParam) (after : Events)
     → IsLooked e bytes → IsTold x e bytes text rest list after
     → Goes e bytes (pieces_of x text) rest after
 told_goes event.Text e bytes text rest list after l h =

@@ -138,6 +138,12 @@ all_divides (p ∷ parts) e after a bytes text rest k is other all one s on =
       on = refl;
     })) others)
 
+pub esc_other : (e : Events) (bytes text rest : List ℕ) (after : Events)
+    → IsSpan e kind.Esc bytes text rest after → BeginsCsi bytes → ⊥
+esc_other e bytes text rest after s =
+    let first = subst (λ (ps : List Part). AreFirstParts e.limit e.mode bytes ps rest s.next) s.cuts.span s.cuts.first in
+    kind_other e.limit e.mode s.next bytes rest (part kind.Esc text) (λ is. cc) (λ is. cc) (one_part e.limit e.mode s.next bytes rest (part kind.Esc text) first)
+
 -- an escape sequence
 pub esc_divides : (e : Events) (bytes text rest : List ℕ) (after : Events)
     → IsSpan e kind.Esc bytes text rest after → Divides e bytes (pieces_of event.Esc text) rest after
@@ -145,7 +151,7 @@ esc_divides e bytes text rest after s =
     let first = subst (λ (ps : List Part). AreFirstParts e.limit e.mode bytes ps rest s.next) s.cuts.span s.cuts.first in
     let here = one_part e.limit e.mode s.next bytes rest (part kind.Esc text) first in
     one_divides e after bytes rest (pieces_of event.Esc text) (inl (record {
-      other = kind_other e.limit e.mode s.next bytes rest (part kind.Esc text) (λ is. cc) (λ is. cc) here;
+      other = esc_other e bytes text rest after s;
       p = part kind.Esc text;
       next = s.next;
       first = here;
@@ -161,12 +167,21 @@ first_other limit m a bytes text rest k [] csi other all s = absurd (omega (arit
 first_other limit m a bytes text rest k (p ∷ parts) csi other all s =
     kind_other limit m s.1 bytes s.0 p (λ is. csi (sym all.all.0 ∙ is)) (λ is. other (sym all.all.0 ∙ is)) s.2
 
+pub str_other : (e : Events) (bytes text rest : List ℕ) (after : Events)
+    → IsSpan e kind.Str bytes text rest after → BeginsCsi bytes → ⊥
+str_other e bytes text rest after s =
+    first_other e.limit e.mode s.next bytes text rest kind.Str s.cuts.parts (λ is. cc) (λ is. cc) s.cuts.span s.cuts.first
+
+pub text_other : (e : Events) (bytes text rest : List ℕ) (after : Events)
+    → IsText e bytes text rest after → BeginsCsi bytes → ⊥
+text_other e bytes text rest after t = let s = t.span in
+    first_other e.limit e.mode s.next bytes (text ++ t.held) t.behind kind.Text s.cuts.parts (λ is. cc) (λ is. cc) s.cuts.span s.cuts.first
+
 pub str_divides : (e : Events) (bytes text rest : List ℕ) (after : Events)
     → IsSpan e kind.Str bytes text rest after → Divides e bytes (pieces_of event.Str text) rest after
 str_divides e bytes text rest after s =
     let c = s.cuts in
-    let none = first_other e.limit e.mode s.next bytes text rest kind.Str c.parts (λ is. cc) (λ is. cc) c.span c.first in
-    all_divides c.parts e after s.next bytes text rest kind.Str (inl refl) none c.span c.one c.first s.on
+    all_divides c.parts e after s.next bytes text rest kind.Str (inl refl) (str_other e bytes text rest after s) c.span c.one c.first s.on
 
 pub other_divides : (e : Events) (bytes text rest : List ℕ) (after : Events)
     → (BeginsCsi bytes → ⊥) → IsSpan e kind.Other bytes text rest after

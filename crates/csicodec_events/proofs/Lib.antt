@@ -13,3 +13,4 @@ pub mod Divided
 pub mod Looked
 pub mod AllDivided
 pub mod Chunks
+pub mod Looks

@@ -49,7 +49,7 @@ told_joined (t ∷ told) e bytes rest after s =
     parts_of t.event e bytes t.bytes.now t.rest.now s.0 s.1 s.2 ∙ ap (λ (x : List ℕ). t.bytes.now ++ x) (told_joined told s.1 t.rest.now rest after s.3)
     ∙ sym (append_assoc t.bytes.now (flat_map bytes_of told) rest)
 
-both : (now later : List Told)
+pub both : (now later : List Told)
     → flat_map bytes_of (now ++ later) ≡ flat_map bytes_of now ++ flat_map bytes_of later
 both [] later = refl
 both (t ∷ now) later = ap (λ (x : List ℕ). t.bytes.now ++ x) (both now later) ∙ sym (append_assoc t.bytes.now (flat_map bytes_of now) (flat_map bytes_of later))

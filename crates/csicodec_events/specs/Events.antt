@@ -226,3 +226,32 @@ pub record AreAlike (told others : List Told) (rest rest' : List ℕ)
   pub same : pieces told ≡ pieces others
   pub waits : rest ≡ rest'
   pub on : after ≡ after'
+
+-- ---- how often a byte of a control sequence is looked at
+
+abbrev pub is_csi : List ℕ → Bool
+is_csi (a ∷ b ∷ bytes) = a == 27 && b == 91
+is_csi bytes = false
+
+-- How many bytes are looked at of a control sequence in front: to find where it stops, those behind what was looked at, up to there
+-- and with the one there; and where it is over, all of these once more, to read it.
+abbrev pub looks : Events → List ℕ → Events → ℕ
+looks e bytes after =
+    let front = length (take (stop e.looked bytes + 1) bytes) in
+    if is_csi bytes then front - max 2 e.looked + (if after.looked == 0 then front else 0) else 0
+
+-- .. for these events, one after the other
+abbrev pub looks_told : (told : List Told) (e : Events) (bytes rest : List ℕ) (after : Events)
+    → AreTold e bytes told rest after → ℕ
+looks_told [] e bytes rest after s = 0
+looks_told (t ∷ told) e bytes rest after (list, mid, tells, others) =
+    looks e bytes mid + looks_told told mid t.rest.now rest after others
+
+-- .. in all chunks, for the events of each and then until it waits
+abbrev pub looks_in : (chunks : List (List ℕ)) (e : Events) (held : List ℕ) (told : List Told)
+    (rest : List ℕ) (after : Events) → InChunks e held chunks told rest after → ℕ
+looks_in [] e held told rest after c = 0
+looks_in (chunk ∷ chunks) e held told rest after
+    (now, later, kept, mid, waiting, whole, first, waits, others) =
+    looks_told now e (held ++ chunk) kept mid first + looks mid kept waiting
+    + looks_in chunks waiting kept later rest after others

@@ -1,5 +1,5 @@
 //! Laws of the definitions. Each is the contract of a function that does nothing.
-ghost use Rattle.std.specs.Prelude.{◌≡◌, ◌++◌, ℕ, List, []};
+ghost use Rattle.std.specs.Prelude.{◌≡◌, ◌≤◌, ◌*◌, ◌++◌, ℕ, List, [], length};
 ghost use Rattle.std.specs.List.{concat, flat_map};
 ghost use Rattle.csicodec_tokens.specs.declared.param.CsiParam.{CsiParam};
 ghost use Rattle.csicodec_events.specs.declared.event.Event.TheVariants as event;
@@ -9,7 +9,7 @@ ghost use Rattle.csicodec_spans.specs.declared.table.Mode.{Mode};
 ghost use Rattle.csicodec_events.specs.declared.input.Dialect.{Dialect};
 ghost use Rattle.csicodec_events.specs.declared.input.Sent.{Sent};
 ghost use Rattle.csicodec_events.specs.Input.{InputChunks, IsSure, ahead, bytes_of as sent_bytes};
-ghost use Rattle.csicodec_events.specs.Events.{AreAlike, BeginsCsi, InChunks, IsMet, IsTold, Tells, Waits, bytes_of};
+ghost use Rattle.csicodec_events.specs.Events.{AreAlike, BeginsCsi, InChunks, IsMet, IsTold, Tells, Waits, bytes_of, looks_in, stop};
 
 /// In whatever chunks a stream comes, the bytes of its events joined, and then what waits, are its bytes: nothing is lost, added or
 /// moved.
@@ -29,6 +29,18 @@ pub fn any_chunks()
         (rest rest' : List ℕ) → e.looked ≡ 0 → concat chunks ≡ concat others
         → InChunks e [] chunks told rest after → InChunks e [] others told' rest' after'
         → AreAlike told told' rest rest' after after' }
+{}
+
+/// In whatever chunks a stream comes, and however many they are, no more than twice its bytes are looked at for its control sequences: to
+/// find where one stops, only those that weren't looked at before, since where that is doesn't depend on the others, and once more all
+/// of it, to read it.
+pub fn looks()
+    ensures behind { (looked : ℕ) (front other bytes : List ℕ) → 2 ≤ looked
+        → length front ≡ looked → length other ≡ looked
+        → stop looked (front ++ bytes) ≡ stop looked (other ++ bytes) }
+    ensures once { (e after : Events) (chunks : List (List ℕ)) (told : List Told) (rest : List ℕ)
+        → e.looked ≡ 0 → (c : InChunks e [] chunks told rest after)
+        → looks_in chunks e [] told rest after c ≤ 2 * length (concat chunks) }
 {}
 
 /// What is told of a control sequence that waited is told of it where it comes at once.

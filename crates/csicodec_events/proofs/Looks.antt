@@ -1,0 +1,187 @@
+-- No byte of a control sequence is looked at again to find where it stops.
+use Rattle.std.proofs.Common.{◌≡◌, ℕ, ◌+◌, ◌-◌, ◌*◌, ◌<◌, ◌≤◌, max, List, [], ◌∷◌, ◌++◌, length, take, drop, refl, sym, ap, ◌∙◌, inl, inr, append-nil, take_all, arith}
+use Rattle.std.specs.List.{concat, flat_map, prefix_len}
+use Rattle.std.specs.Prelude.{◌==◌, ◌&&◌, Bool, true, false, if◌then◌else◌}
+use Rattle.std.proofs.lemmas.Bool.{and_parts, eqb-true}
+use Rattle.std.proofs.lemmas.List.{drop_at, length-append, length-drop, length-take}
+use Rattle.csicodec_tokens.specs.declared.param.CsiParam.{CsiParam}
+use Rattle.csicodec_spans.specs.declared.table.Mode.{Mode}
+use Rattle.csicodec_events.specs.declared.event.Event.{Event}
+use Rattle.csicodec_events.specs.declared.event.Event.TheVariants as event
+use Rattle.csicodec_events.specs.declared.event.Events.{Events}
+use Rattle.csicodec_events.specs.declared.event.Told.{Told}
+use Rattle.csicodec_events.specs.Events.{AreTold, BeginsCsi, GoesWrong, InChunks, IsOpen, IsTold, Waits, before_stop, bytes_of, from_stop, is_passed, is_csi, looks, looks_in, looks_told, stop}
+use Rattle.csicodec_events.proofs.AllDivided.{told_goes}
+use Rattle.csicodec_events.proofs.Divided.{esc_other, str_other, text_other}
+use Rattle.csicodec_events.proofs.Looked.{IsLooked, looked_met, looked_more, over_inside}
+use Rattle.csicodec_events.proofs.Run.{both, chunks_joined, met_within}
+use Rattle.csicodec_events.proofs.Steps.{halves, stop_behind}
+use Rattle.csicodec_events.proofs.Unfinished.{refuted}
+
+pub stops_behind : (looked : ℕ) (front other bytes : List ℕ) → 2 ≤ looked → length front ≡ looked
+    → length other ≡ looked → stop looked (front ++ bytes) ≡ stop looked (other ++ bytes)
+stops_behind looked front other bytes two a b =
+    let start : max 2 looked ≡ looked = omega (arith, two) in
+    let same : drop (max 2 looked) (front ++ bytes) ≡ drop (max 2 looked) (other ++ bytes) = drop_at front bytes (max 2 looked) (a ∙ sym start) ∙ sym (drop_at other bytes (max 2 looked) (b ∙ sym start)) in
+    ap (λ (x : List ℕ). max 2 looked + prefix_len is_passed x) same
+
+-- ---- one event
+
+csi_false : (bytes : List ℕ) → (BeginsCsi bytes → ⊥) → is_csi bytes ≡ false
+csi_false [] other = refl
+csi_false (a ∷ []) other = refl
+csi_false (a ∷ b ∷ bytes) other = refuted (a == 27 && b == 91) (λ e.
+    let h = and_parts (a == 27) (b == 91) e in
+    let esc = eqb-true a 27 h.0 in
+    let bracket = eqb-true b 91 h.1 in
+    other (bytes, cc))
+
+-- what stands before the place where it stops, and the byte there
+abbrev front : Events → List ℕ → ℕ
+front e bytes = length (take (stop e.looked bytes + 1) bytes)
+
+abbrev reads : Events → ℕ → ℕ
+reads after n = if after.looked == 0 then n else 0
+
+at_most : (t : Bool) (n : ℕ) → (if t then n else 0) ≤ n
+at_most true n = omega arith
+at_most false n = omega arith
+
+looks_most : (e after : Events) (bytes : List ℕ)
+    → looks e bytes after ≤ front e bytes - max 2 e.looked + reads after (front e bytes)
+looks_most e after bytes = at_most (is_csi bytes) (front e bytes - max 2 e.looked + reads after (front e bytes))
+
+reads_most : (after : Events) (n : ℕ) → reads after n ≤ n
+reads_most after n = at_most (after.looked == 0) n
+
+reads_none : (after : Events) (n : ℕ) → 0 < after.looked → reads after n ≡ 0
+reads_none after n some = by (after.looked == 0) refl
+  where
+    by : (t : Bool) → (after.looked == 0) ≡ t → (if t then n else 0) ≡ 0
+    by true e = absurd (omega (arith, some, eqb-true after.looked 0 e))
+    by false e = refl
+
+-- what was looked at, and what is looked at now, are bytes of the event, each twice at most, or noted
+abbrev IsCounted : Events → List ℕ → List ℕ → Events → Type 0
+IsCounted e bytes text after =
+    looks e bytes after + (e.looked - 2) ≤ 2 * length text + (after.looked - 2)
+
+none_counted : (e after : Events) (bytes text : List ℕ) → IsLooked e bytes → (BeginsCsi bytes → ⊥)
+    → IsCounted e bytes text after
+none_counted e after bytes text (inl none) other =
+    let no : looks e bytes after ≡ 0 = ap (λ (t : Bool). if t then front e bytes - max 2 e.looked + reads after (front e bytes) else 0) (csi_false bytes other) in
+    omega (arith, none, no)
+none_counted e after bytes text (inr l) other = absurd (other l.0)
+
+goes_longer : (over behind text rest : List ℕ) (m : Mode) → GoesWrong over behind text rest m
+    → length over ≤ length text
+goes_longer over [] text rest m g = omega (arith, ap length g.0)
+goes_longer over (b ∷ more) text rest m (inl g) = omega (arith, ap length g.1, length-append over (b ∷ []))
+goes_longer over (b ∷ more) text rest m (inr g) = omega (arith, ap length g.1)
+
+told_counted : (x : Event) (e : Events) (bytes text rest : List ℕ) (list : List CsiParam)
+    (after : Events) → IsLooked e bytes → IsTold x e bytes text rest list after
+    → IsCounted e bytes text after
+told_counted event.Text e bytes text rest list after l h = none_counted e after bytes text l (text_other e bytes text rest after h)
+told_counted (event.Control b) e bytes text rest list after l h =
+    let at = stop e.looked bytes in
+    let c = h.1 in
+    let place = (halves e bytes).some (omega (arith, ap length c.stands)) in
+    let s = stop_behind e.looked bytes in
+    let looked : after.looked ≡ length (before_stop e bytes) + 1 = ap (λ (a : Events). a.looked) c.looked in
+    let none = reads_none after (front e bytes) (omega (arith, looked)) in
+    let most = looks_most e after bytes in
+    omega (arith, most, none, looked, place, s.0, s.1, length-take (at + 1) bytes)
+told_counted (event.Csi final) e bytes text rest list after l h =
+    let at = stop e.looked bytes in
+    let c = h.1 in
+    let place = (halves e bytes).some (omega (arith, ap length c.stands)) in
+    let s = stop_behind e.looked bytes in
+    let most = looks_most e after bytes in
+    let whole = reads_most after (front e bytes) in
+    omega (arith, most, whole, place, s.0, s.1, length-take (at + 1) bytes, ap length c.whole, length-append (before_stop e bytes) (c.last ∷ []))
+told_counted event.Esc e bytes text rest list after l h = none_counted e after bytes text l (esc_other e bytes text rest after h)
+told_counted event.Str e bytes text rest list after l h = none_counted e after bytes text l (str_other e bytes text rest after h)
+told_counted event.Other e bytes text rest list after l (inl h) = none_counted e after bytes text l h.0
+told_counted event.Other e bytes text rest list after l (inr h) =
+    let at = stop e.looked bytes in
+    let s = stop_behind e.looked bytes in
+    let met = met_within e bytes (looked_met e bytes l) in
+    let long = goes_longer (before_stop e bytes) (from_stop e bytes) text rest h.1.next h.1.goes in
+    let most = looks_most e after bytes in
+    let whole = reads_most after (front e bytes) in
+    omega (arith, most, whole, met, long, s.0, s.1, length-take at bytes, length-take (at + 1) bytes, ap length h.0.1)
+
+-- ---- where the stream waits
+
+wait_counted : (e after : Events) (bytes : List ℕ) → IsLooked e bytes → Waits e bytes after
+    → IsCounted e bytes [] after
+wait_counted e after bytes l (inl w) =
+    let at = stop e.looked bytes in
+    let o = w.1 in
+    let s = stop_behind e.looked bytes in
+    let met = met_within e bytes (looked_met e bytes l) in
+    let looked : after.looked ≡ length (before_stop e bytes) = ap (λ (a : Events). a.looked) o.looked in
+    let some : 2 ≤ after.looked = omega (arith, looked, s.1, length-take at bytes, ap length w.0.1) in
+    let none = reads_none after (front e bytes) (omega (arith, some)) in
+    let most = looks_most e after bytes in
+    omega (arith, most, none, looked, met, s.0, s.1, length-take at bytes, length-take (at + 1) bytes, length-drop at bytes, ap length o.ends, ap length w.0.1)
+wait_counted e after bytes l (inr (inl w)) = none_counted e after bytes [] l w.0
+wait_counted e after bytes l (inr (inr w)) = none_counted e after bytes [] l w.0
+
+open_looked : (e after : Events) (bytes : List ℕ) → IsLooked e bytes → BeginsCsi bytes
+    → IsOpen e (before_stop e bytes) (from_stop e bytes) after → IsLooked after bytes
+open_looked e after bytes l begins o =
+    let over = before_stop e bytes in
+    let h = halves e bytes in
+    let looked : after.looked ≡ length over = ap (λ (a : Events). a.looked) o.looked in
+    let whole : bytes ≡ over = h.whole ∙ ap (λ (x : List ℕ). over ++ x) o.ends ∙ append-nil over in
+    let front : take after.looked bytes ≡ over = take_all after.looked bytes (omega (arith, looked, ap length whole)) ∙ whole in
+    inr (begins, omega (arith, looked, ap length whole), rw front (over_inside e bytes begins l))
+
+waits_looked : (e after : Events) (bytes : List ℕ) → IsLooked e bytes → Waits e bytes after
+    → IsLooked after bytes
+waits_looked e after bytes l (inl w) = open_looked e after bytes l w.0 w.1
+waits_looked e after bytes l (inr (inl w)) = rw w.2 l
+waits_looked e after bytes l (inr (inr w)) = rw w.2 l
+
+-- ---- all events
+
+record AllCounted (e : Events) (told : List Told) (rest : List ℕ) (after : Events) (n : ℕ) : Type 0
+  where
+    count : n + (e.looked - 2) ≤ 2 * length (flat_map bytes_of told) + (after.looked - 2)
+    looked : IsLooked after rest
+
+all_counted : (told : List Told) (e after : Events) (bytes rest : List ℕ) → IsLooked e bytes
+    → (s : AreTold e bytes told rest after)
+    → AllCounted e told rest after (looks_told told e bytes rest after s)
+all_counted [] e after bytes rest l s = rw (s.0, s.1) (record { count = omega arith; looked = l })
+all_counted (t ∷ told) e after bytes rest l s =
+    let first = told_counted t.event e bytes t.bytes.now t.rest.now s.0 s.1 l s.2 in
+    let looked = (told_goes t.event e bytes t.bytes.now t.rest.now s.0 s.1 l s.2).looked in
+    let others = all_counted told s.1 after t.rest.now rest looked s.3 in
+    record {
+      count = let more = others.count in omega (arith, first, more, length-append t.bytes.now (flat_map bytes_of told));
+      looked = others.looked;
+    }
+
+chunks_counted : (chunks : List (List ℕ)) (e after : Events) (held rest : List ℕ) (told : List Told)
+    → IsLooked e held → (c : InChunks e held chunks told rest after)
+    → AllCounted e told rest after (looks_in chunks e held told rest after c)
+chunks_counted [] e after held rest told l (none, same, on) = rw (none, same, on) (record { count = omega arith; looked = l })
+chunks_counted (chunk ∷ chunks) e after held rest told l (now, later, kept, mid, waiting, whole, first, waits, others) =
+    let a = all_counted now e mid (held ++ chunk) kept (looked_more e held chunk l) first in
+    let w = wait_counted mid waiting kept a.looked waits in
+    let r = chunks_counted chunks waiting after kept rest later (waits_looked mid waiting kept a.looked waits) others in
+    let size : length (flat_map bytes_of told) ≡ length (flat_map bytes_of now) + length (flat_map bytes_of later) = ap (λ (x : List Told). length (flat_map bytes_of x)) whole ∙ ap length (both now later) ∙ length-append (flat_map bytes_of now) (flat_map bytes_of later) in
+    record { count = let x = a.count in let y = r.count in omega (arith, x, w, y, size); looked = r.looked }
+
+pub looks_once : (e after : Events) (chunks : List (List ℕ)) (told : List Told) (rest : List ℕ)
+    → e.looked ≡ 0 → (c : InChunks e [] chunks told rest after)
+    → looks_in chunks e [] told rest after c ≤ 2 * length (concat chunks)
+looks_once e after chunks told rest none c =
+    let r = chunks_counted chunks e after [] rest told (inl none) c in
+    let within = met_within after rest (looked_met after rest r.looked) in
+    let all = ap length (chunks_joined e after [] rest chunks told c) in
+    let count = r.count in
+    omega (arith, count, within, all, none, length-append (flat_map bytes_of told) rest)

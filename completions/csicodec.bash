@@ -20,7 +20,7 @@ _csicodec() {
     case $task in
         filter) of="--faithful --help" ;;
         compact) of="--semicolons --help" ;;
-        strip) of="--lines --help" ;;
+        strip) of="--check --lines --help" ;;
         clean) of="--colors --lines --links --help" ;;
         html) of="--fragment --links --help" ;;
         explain) of="--at --color --count --decode --diff --full --grep --input --json --only --stats --timing --unknown --utf8-mouse --help" ;;

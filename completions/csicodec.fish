@@ -12,6 +12,7 @@ complete -c csicodec -n '__fish_seen_subcommand_from filter' -l faithful -d 'for
 complete -c csicodec -n '__fish_seen_subcommand_from filter' -l help -d 'this text'
 complete -c csicodec -n '__fish_seen_subcommand_from compact' -l semicolons -d 'colours with semicolons, as 38;5;9, also where colons are as short'
 complete -c csicodec -n '__fish_seen_subcommand_from compact' -l help -d 'this text'
+complete -c csicodec -n '__fish_seen_subcommand_from strip' -l check -d 'writes nothing: the status is 0 if that is how each FILE is, else 1, and the first place is told where it isn'\''t'
 complete -c csicodec -n '__fish_seen_subcommand_from strip' -l lines -d 'for logs: each line by itself, whatever the one before it left open; CR ends a line too'
 complete -c csicodec -n '__fish_seen_subcommand_from strip' -l help -d 'this text'
 complete -c csicodec -n '__fish_seen_subcommand_from clean' -l colors -x -a '256 16' -d '256 or 16: colours by their parts become the nearest of the palette'

@@ -79,7 +79,7 @@ some_encoded : (c : ℕ) → 0 < length (encode_utf8 c)
 unfolding encode_utf8
 some_encoded c = grind (arith, nat_tests)
 
-read_encoded : (cs more : List ℕ) → all_scalars cs ≡ true → lossy_chars (encode_utf8_all cs ++ more) ≡ cs ++ lossy_chars more
+pub read_encoded : (cs more : List ℕ) → all_scalars cs ≡ true → lossy_chars (encode_utf8_all cs ++ more) ≡ cs ++ lossy_chars more
 read_encoded [] more all = refl
 read_encoded (c ∷ cs) more all =
     let both : (scalar c ≡ true) × (all_scalars cs ≡ true) = and_parts (scalar c) (all_scalars cs) all in

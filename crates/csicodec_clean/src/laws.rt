@@ -1,5 +1,5 @@
 //! Laws of the definitions. Each is the contract of a function that does nothing.
-ghost use Rattle.std.specs.Prelude.{◌≡◌, ◌∷◌, ◌++◌, [], ℕ, List, false, length, slice_get, true};
+ghost use Rattle.std.specs.Prelude.{◌≡◌, ◌≢◌, ◌∷◌, ◌++◌, [], ℕ, List, false, length, slice_get, true};
 ghost use Rattle.std.specs.List.{AllByRecursion, Contains, concat};
 ghost use Rattle.csicodec_clean.specs.Links.{Address, IsLink, Stood, StoodIn, begun, link_body, links_in, start};
 ghost use Rattle.csicodec_clean.specs.declared.links.Place.TheVariants.{Outside};
@@ -10,6 +10,7 @@ ghost use Rattle.csicodec_clean.specs.declared.colors.Depth.{Depth};
 ghost use Rattle.csicodec_clean.specs.declared.step.Pause.{Pause};
 ghost use Rattle.csicodec_clean.specs.declared.styles.Passing.{Passing};
 ghost use Rattle.csicodec_clean.specs.declared.whole.Dropped.{Dropped};
+ghost use Rattle.csicodec_clean.specs.Check.{IsFault};
 ghost use Rattle.csicodec_clean.specs.Shown.{IsPlain};
 ghost use Rattle.csicodec_clean.specs.Titles.{InTitle, IsText, with_titles};
 ghost use Rattle.csicodec_spans.specs.Parts.{IsWhole, Part, part};
@@ -58,6 +59,13 @@ pub fn titles()
 /// Text that is plain already stays as it is.
 pub fn plain_stays()
     ensures { (text other : List ℕ) → IsPlain text → Strips longest text other → other ≡ text }
+{}
+
+/// Bytes with a fault are no plain text, and `strip` makes something else of them.
+pub fn faults()
+    ensures plain { (bytes rest : List ℕ) (at line : ℕ) → IsFault bytes rest at line → ¬ IsPlain bytes }
+    ensures stripped { (bytes rest text : List ℕ) (at line : ℕ) → IsFault bytes rest at line
+        → Strips longest bytes text → text ≢ bytes }
 {}
 
 /// What was stripped is stripped: twice is once.

@@ -10,7 +10,7 @@ use bstr::{ByteVec, decode_utf8};
 use std::alloc::AllocError;
 
 /// Whether the character is a newline, a tab, or no control.
-fn is_shown(char: char) -> bool
+pub(crate) fn is_shown(char: char) -> bool
     ensures { result ≡ shown char }
 {
     char == '\n' || char == '\t' || ' ' <= char && (char < '\u{7f}' || '\u{a0}' <= char)

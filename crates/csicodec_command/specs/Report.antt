@@ -4,6 +4,16 @@ use Rattle.std.specs.Fmt.{decimal}
 use Rattle.csicodec_streams.specs.Words.{run_error_text, run_status}
 use Rattle.csicodec_command.specs.declared.report.Failure.{Failure}
 use Rattle.csicodec_command.specs.declared.report.Failure.TheVariants as failure
+use Rattle.csicodec_command.specs.declared.report.Found.{Found}
+use Rattle.csicodec_command.specs.declared.report.Found.TheVariants as found
+
+-- what stands where plain text ends
+abbrev pub found_text : Found → List ℕ
+found_text found.Sequence = codes "a control sequence"
+found_text found.String = codes "a control string"
+found_text found.Escape = codes "an escape sequence"
+found_text (found.Control n) = codes "the control character " ++ decimal n
+found_text found.NotUtf8 = codes "bytes that are no UTF-8"
 
 -- the text of each failure, without the line's end
 abbrev pub line : Failure → List ℕ
@@ -17,6 +27,8 @@ line failure.NotValue = codes "csicodec: not a value"
 line failure.Open = codes "csicodec: the file can't be opened"
 line (failure.Recording n) = codes "csicodec: line " ++ decimal n ++ codes ": not an asciicast of version 2 or 3"
 line (failure.Times n) = codes "csicodec: line " ++ decimal n ++ codes ": no time of script"
+line (failure.NotPlain at n what) =
+    codes "csicodec: byte " ++ decimal at ++ codes ", line " ++ decimal n ++ codes ": " ++ found_text what
 line (failure.Run error) = codes "csicodec: " ++ run_error_text error
 
 -- the status of each failure
@@ -31,4 +43,5 @@ status failure.NotValue = 64
 status failure.Open = 2
 status (failure.Recording _) = 1
 status (failure.Times _) = 1
+status (failure.NotPlain _ _ _) = 1
 status (failure.Run error) = run_status error

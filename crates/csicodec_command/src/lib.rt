@@ -12,6 +12,6 @@ pub use command::{
     ColorWhen, Colors, Command, Places, Request, Task, Wanted, Wrong, command_of, nearest,
 };
 pub use recording::{Recording, micros, time_of};
-pub use report::Failure;
+pub use report::{Failure, Found};
 pub use run::{Worker, asked, failed, is_cast, refused, text_of, words_of, work_through};
 pub use words::{USAGE, VERSION};

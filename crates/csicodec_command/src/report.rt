@@ -1,6 +1,6 @@
 //! What a program tells of a run that failed.
 ghost use Rattle.std.specs.Prelude.{◌≡◌, Some};
-ghost use Rattle.csicodec_command.specs.Report.{line, status};
+ghost use Rattle.csicodec_command.specs.Report.{found_text, line, status};
 ghost use Rattle.csicodec_command.specs.declared.report.Failure.TheVariants.{Run as Ran};
 
 use csicodec_streams::RunError;
@@ -9,6 +9,35 @@ use std::fmt;
 /// The status where the reader of the output went away: the one that a shell tells of a program that SIGPIPE ended (128 + 13), as
 /// most programs end then.
 pub const GONE: u8 = 141;
+
+/// What stands where a stream is plain text no more.
+#[derive(Clone, Copy, Debug, PartialEq, Eq)]
+pub enum Found {
+    /// ESC and `[`.
+    Sequence,
+    /// ESC and what opens an OSC, a DCS, an SOS, a PM or an APC.
+    String,
+    /// Another ESC.
+    Escape,
+    /// A control character, by its code: of C0, DEL or of C1.
+    Control(u8),
+    /// What is no UTF-8.
+    NotUtf8,
+}
+
+impl fmt::Display for Found {
+    ghost output = { λ found. Some (found_text found) };
+
+    fn fmt<W: fmt::Write>(&self, f: &mut fmt::Formatter<W>) -> fmt::Result {
+        match self {
+            Found::Sequence => f.write_str("a control sequence"),
+            Found::String => f.write_str("a control string"),
+            Found::Escape => f.write_str("an escape sequence"),
+            Found::Control(code) => write!(f, "the control character {code}"),
+            Found::NotUtf8 => f.write_str("bytes that are no UTF-8"),
+        }
+    }
+}
 
 /// Why a run failed.
 #[derive(Clone, Copy)]
@@ -33,6 +62,8 @@ pub enum Failure {
     Recording(u64),
     /// The line of this number, counted from 1, isn't one of the times that `script` writes.
     Times(u64),
+    /// At this byte of the input, counted from 0, and in this line, counted from 1, it is plain text no more.
+    NotPlain(u64, u64, Found),
     /// The stream wasn't read or written to its end.
     Run(RunError),
 }
@@ -60,7 +91,7 @@ impl Failure {
             | Failure::NoValue
             | Failure::NotValue => 64,
             Failure::Open => 2,
-            Failure::Recording(_) | Failure::Times(_) => 1,
+            Failure::Recording(_) | Failure::Times(_) | Failure::NotPlain(_, _, _) => 1,
             Failure::Run(error) => error.status(),
         }
     }
@@ -85,6 +116,9 @@ impl fmt::Display for Failure {
                 "csicodec: line {line}: not an asciicast of version 2 or 3"
             ),
             Failure::Times(line) => write!(f, "csicodec: line {line}: no time of script"),
+            Failure::NotPlain(at, line, found) => {
+                write!(f, "csicodec: byte {at}, line {line}: {found}")
+            }
             Failure::Run(error) => write!(f, "csicodec: {error}"),
         }
     }

@@ -14,8 +14,9 @@ pub(crate) static TASKS: [(&str, Task, &str); 6] = [
 
 /// The options: how each stands in a command line, the words that have it, none where all have, and which values it has, none
 /// where it has no value.
-pub(crate) static OPTIONS: [(&str, &str, &str); 22] = [
+pub(crate) static OPTIONS: [(&str, &str, &str); 23] = [
     ("--at", "explain", "places, as 120, 120-180 or 120-"),
+    ("--check", "strip", ""),
     ("--color", "explain", "always, never or auto"),
     ("--colors", "clean", "256 or 16"),
     ("--count", "explain", ""),
@@ -82,11 +83,12 @@ actions, where one is found, attributes side by side in one sequence, and every 
 
 /// How `strip` is used.
 pub const STRIP: &str = "\
-usage: csicodec strip [--lines] [FILE ..]
+usage: csicodec strip [OPTION ..] [FILE ..]
 
 Writes the plain text of each FILE, or of standard input where there is none or it is -: no control sequence, escape sequence or
 string, and of the controls newline and tab alone. What is no UTF-8 becomes U+FFFD.
 
+  --check        writes nothing: the status is 0 if that is how each FILE is, else 1, and the first place is told where it isn't
   --lines        for logs: each line by itself, whatever the one before it left open; CR ends a line too
   -h, --help     this text";
 

@@ -91,7 +91,7 @@ impl Stage {
 }
 
 /// What went wrong where memory ran out.
-fn no_memory(_: AllocError) -> Failure {
+pub(crate) fn no_memory(_: AllocError) -> Failure {
     Failure::Run(RunError::Memory)
 }
 
@@ -162,13 +162,8 @@ pub fn rewrite_cast<R: BufRead, W: Write>(
     reading.end()
 }
 
-/// Writes what the programs of a recording wrote as a piece of a page. All of it is held until the recording ends.
-pub fn html_cast<R: BufRead, W: Write>(
-    alloc: Global,
-    markup: Markup,
-    input: &mut R,
-    output: &mut W,
-) -> Result<(), Failure> {
+/// What the programs of a recording wrote. All of it is held.
+pub(crate) fn written_of<R: BufRead>(alloc: Global, input: &mut R) -> Result<Vec<u8>, Failure> {
     let mut reading = Recording::new(alloc);
     let mut line = Vec::new(alloc);
     let mut written = Vec::new(alloc);
@@ -183,6 +178,17 @@ pub fn html_cast<R: BufRead, W: Write>(
         }
     }
     reading.end()?;
+    Ok(written)
+}
+
+/// Writes what the programs of a recording wrote as a piece of a page.
+pub fn html_cast<R: BufRead, W: Write>(
+    alloc: Global,
+    markup: Markup,
+    input: &mut R,
+    output: &mut W,
+) -> Result<(), Failure> {
+    let written = written_of(alloc, input)?;
     let page = html_with(alloc, markup, &written).map_err(no_memory)?;
     Ok(send(output, &page)?)
 }

@@ -4,8 +4,10 @@
 #![tactic(auto)]
 
 mod cast;
+mod check;
 
 use cast::{Stage, html_cast, rewrite_cast};
+use check::{check_cast, check_stream};
 use csicodec_clean::{Cleaner, Depth, Dropped, Kept, Passing, clean_all_with, strip_all};
 use csicodec_command::{
     Colors, Failure, Request, Task, Worker, Wrong, asked, refused, words_of, work_through,
@@ -32,6 +34,8 @@ enum Work {
     Strip {
         lines: bool,
     },
+    /// Nothing: it is told where an input is plain text no more.
+    Check,
     Clean {
         passing: Passing,
         lines: bool,
@@ -72,6 +76,7 @@ impl Work {
             Task::Compact => Some(Work::Compact {
                 semicolons: run.semicolons,
             }),
+            Task::Strip if run.check => Some(Work::Check),
             Task::Strip => Some(Work::Strip { lines: run.lines }),
             Task::Clean => {
                 let (depth, links) = (depth_of(run.depth), run.links);
@@ -117,7 +122,7 @@ impl Work {
                 let rule = Kept::letting(alloc, *passing);
                 Stage::Styled(Cleaner::new(alloc, rule))
             }
-            Work::Html { .. } => return None,
+            Work::Check | Work::Html { .. } => return None,
         })
     }
 
@@ -154,6 +159,7 @@ impl Worker for Work {
             Work::Compact { semicolons } => {
                 compact_all(alloc, LIMIT, compact(alloc, *semicolons), input, output)?;
             }
+            Work::Check => check_stream(alloc, input)?,
             Work::Strip { lines: true } => strip_lines_all(alloc, input, output)?,
             Work::Strip { .. } => strip_all(alloc, input, output)?,
             Work::Clean {
@@ -173,8 +179,10 @@ impl Worker for Work {
         output: &mut W,
     ) -> Result<(), Failure> {
         self.begin(output)?;
-        if let Work::Html { markup, .. } = self {
-            return html_cast(alloc, *markup, input, output);
+        match self {
+            Work::Check => return check_cast(alloc, input),
+            Work::Html { markup, .. } => return html_cast(alloc, *markup, input, output),
+            _ => {}
         }
         if let Some(mut stage) = self.stage(alloc) {
             rewrite_cast(alloc, &mut stage, input, output)?;

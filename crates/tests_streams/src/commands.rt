@@ -19,6 +19,10 @@ pub(crate) fn command(alloc: Global, line: &str) -> Result<String, AllocError> {
                 let depth = run.depth;
                 return format!(in alloc; "{task:?} {files:?} {depth:?}");
             }
+            if run.check {
+                let lines = run.lines;
+                return format!(in alloc; "{task:?} {files:?} checked {lines}");
+            }
             if run.lines {
                 let links = run.links;
                 return format!(in alloc; "{task:?} {files:?} by lines {links}");

@@ -52,6 +52,7 @@ fn told(alloc: Global, row: &str) -> Result<String, AllocError> {
         "links" => untrusted::links(alloc, rest),
         "lines" => untrusted::lines(alloc, rest),
         "link" => untrusted::link(alloc, rest),
+        "check" => untrusted::check(alloc, rest),
         "html" => untrusted::html(alloc, rest),
         "page" => untrusted::page(alloc, rest),
         _ => format!(in alloc; "no such row"),

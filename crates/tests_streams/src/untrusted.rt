@@ -2,7 +2,8 @@
 
 use crate::spelling::{bytes_of, law, spelled};
 use csicodec_clean::{
-    Anew, Cleaner, Depth, Dropped, Kept, Passing, Rule, clean, clean_in, clean_with, strip,
+    Anew, Checked, Cleaner, Depth, Dropped, Kept, Passing, Rule, check_all, clean, clean_in,
+    clean_with, strip,
 };
 use csicodec_filter::Transform;
 use csicodec_html::{Markup, html_all, html_all_with, html_with};
@@ -110,6 +111,26 @@ pub(crate) fn lines(alloc: Global, word: &str) -> Result<String, AllocError> {
     let (plain, styled) = (spelled(alloc, &stripped)?, spelled(alloc, &cleaned)?);
     let end = law(holds);
     format!(in alloc; "{plain}\t{styled}{end}")
+}
+
+/// `check BYTES`: whether they are plain text, or the byte and the line where they are no more. Byte by byte it is the same.
+pub(crate) fn check(alloc: Global, word: &str) -> Result<String, AllocError> {
+    let bytes = bytes_of(alloc, word)?;
+    let mut pieces = Checked::new(alloc);
+    for byte in bytes.iter() {
+        if !pieces.push(&[*byte])? {
+            break;
+        }
+    }
+    let Ok(whole) = check_all(alloc, &mut bytes.as_slice()) else {
+        return format!(in alloc; "not read");
+    };
+    let (at, line, plain) = (whole.at, whole.line, whole.rest.is_empty());
+    let end = law(pieces.at == at && pieces.line == line && pieces.rest.is_empty() == plain);
+    if plain {
+        return format!(in alloc; "plain{end}");
+    }
+    format!(in alloc; "{at}\t{line}{end}")
 }
 
 /// `html BYTES`: the piece of a page that they are, which comes of a reader too.

@@ -1,0 +1,131 @@
+-- Where plain text ends.
+use Rattle.std.proofs.Common.{◌≡◌, ◌≢◌, ◌<◌, ◌≤◌, ◌-◌, ◌+◌, ◌^◌, ◌==◌, ℕ, true, false, None, Some, cond, min, nat_eq, List, [], ◌∷◌, ◌++◌, length, length-append, take, drop, encode_utf8, encode_utf8_all, refl, sym, ap, subst, ◌∙◌, arith, append_assoc, append-nil}
+use Rattle.std.specs.Prelude.{suc}
+use Rattle.std.specs.List.{AllByRecursion}
+use Rattle.std.specs.Str.{all_scalars}
+use Rattle.std.proofs.lemmas.Bool.{and_from, and_parts, false≢true}
+use Rattle.std.proofs.lemmas.List.{append_cancel_left}
+use Rattle.std.proofs.lemmas.Bool.Decides.{nat_tests}
+use Rattle.std.proofs.lemmas.List.Sums.{sum_by-append}
+use Rattle.std.proofs.Math.Seq.{take-append_seam, drop-append_seam}
+use lib.Utf8.{scalar}
+use Rattle.bstr.specs.Utf8.{Decoded, decoded, lossy_chars}
+use Rattle.bstr.proofs.lemmas.EncodeLemmas.{decoded-encode, lossy_chars-encode}
+use Rattle.bstr.proofs.lemmas.PieceLemmas.{piece-bounds}
+use Rattle.bstr.proofs.lemmas.SoundLemmas.{SpellsChar-decoded}
+use Rattle.csicodec_clean.specs.Cleaned.{Strips}
+use Rattle.csicodec_clean.specs.Check.{IsFault, IsHidden, Stands, counted, line_ends}
+use Rattle.csicodec_clean.specs.Shown.{IsPlain, IsShown, shown}
+use Rattle.csicodec_clean.specs.Private.Steps.{IsBehindShown}
+use Rattle.csicodec_clean.proofs.Plain.{plain_on, scalars_lossy, strips_plain}
+use Rattle.csicodec_clean.proofs.Shows.{encoded_on}
+use Rattle.csicodec_clean.proofs.Sure.{sure_piece}
+use Rattle.csicodec_clean.proofs.Told.{read_encoded}
+
+-- a character in front has bytes, and they are there
+pub char_within : (bytes : List ℕ) (c size : ℕ) → Some c ≡ (decoded bytes).char → size ≡ (decoded bytes).size → (0 < size) × (size ≤ length bytes)
+char_within [] c size char same = absurd (let e : Some c ≡ None = char in cc)
+char_within (b ∷ bytes) c size char same =
+    let bounds = piece-bounds (b ∷ bytes) (omega arith) in
+    (omega (arith, same, bounds.0), omega (arith, same, bounds.2))
+
+-- one that is shown is plain text
+pub one_plain : (bytes : List ℕ) (c size : ℕ) → Some c ≡ (decoded bytes).char → size ≡ (decoded bytes).size → shown c ≡ true → IsPlain (take size bytes)
+one_plain bytes c size char same shows =
+    let s = SpellsChar-decoded bytes c (sym char) in
+    let own = encode_utf8 c in
+    let text : take size bytes ≡ own =
+    ap (λ (i : ℕ). take i bytes) (same ∙ sym s.width) ∙ ap (λ (t : List ℕ). take (length own) t) s.bytes ∙ take-append_seam own (drop (decoded bytes).size bytes) in
+    (c ∷ [], and_from (scalar c) true s.scalar refl, (shows, tt), text ∙ sym (append-nil own))
+
+pub hidden_one : (bytes : List ℕ) (c : ℕ) → Some c ≡ (decoded bytes).char → shown c ≡ false → IsHidden bytes
+hidden_one bytes c char hides = λ d is. let e : Some c ≡ Some d = char ∙ is in cc
+
+pub hidden_bad : (bytes : List ℕ) → None ≡ (decoded bytes).char → IsHidden bytes
+hidden_bad bytes bad = λ d is. absurd (let e : None ≡ Some d = bad ∙ is in cc)
+
+pub hidden_none : (bytes : List ℕ) → bytes ≡ [] → IsHidden bytes
+hidden_none [] none = hidden_bad [] refl
+hidden_none (b ∷ bytes) none = absurd (omega (arith, ap length none))
+
+-- what decodes so whatever follows
+pub sure_char : (bytes : List ℕ) (c : ℕ) → 0 < length bytes → Some c ≡ (decoded bytes).char → (more : List ℕ) → decoded (bytes ++ more) ≡ decoded bytes
+sure_char bytes c some char more = sure_piece bytes more some (λ none. absurd (let e : Some c ≡ None = char ∙ none in cc))
+
+pub sure_bad : (bytes : List ℕ) (size : ℕ) → 0 < length bytes → size ≡ (decoded bytes).size → nat_eq size (length bytes) ≡ false → (more : List ℕ) → decoded (bytes ++ more) ≡ decoded bytes
+sure_bad bytes size some same other more =
+    let bounds = piece-bounds bytes some in
+    sure_piece bytes more some (λ none. grind (arith, nat_tests, bounds.2, same, other))
+
+pub hidden_more : (bytes more : List ℕ) → decoded (bytes ++ more) ≡ decoded bytes → IsHidden bytes → IsHidden (bytes ++ more)
+hidden_more bytes more same hidden = λ c is. hidden c (ap (λ (p : Decoded). p.char) (sym same) ∙ is)
+
+-- ---- places
+
+counted_on : (n m k : ℕ) → n ≡ counted m → min (n + k) (2 ^ 64 - 1) ≡ counted (m + k)
+counted_on n m k e = omega (arith, e)
+
+-- the plain text in front is passed, and the rest is kept
+pub kept_rest : (held rest kept : List ℕ) (len : ℕ) → IsBehindShown held rest → len ≡ length held - length rest → kept ≡ drop len held → kept ≡ rest
+kept_rest held rest kept len (front, e, plain) long own =
+    let n : len ≡ length front = omega (arith, long, ap length e, length-append front rest) in
+    own ∙ ap (λ (i : ℕ). drop i held) n ∙ ap (λ (t : List ℕ). drop (length front) t) e ∙ drop-append_seam front rest
+
+pub passed : (bytes held rest kept : List ℕ) (at line len ends a l : ℕ) → Stands bytes held at line → IsBehindShown held rest → len ≡ length held - length rest → kept ≡ drop len held
+    → ends ≡ line_ends (take len held) → a ≡ min (at + len) (2 ^ 64 - 1) → l ≡ min (line + ends) (2 ^ 64 - 1) → Stands bytes kept a l
+passed bytes held rest kept at line len ends a l s (front, e, plain) long left own there here =
+    let n : len ≡ length front = omega (arith, long, ap length e, length-append front rest) in
+    let text : take len held ≡ front = ap (λ (i : ℕ). take i held) n ∙ ap (λ (t : List ℕ). take (length front) t) e ∙ take-append_seam front rest in
+    let m : ends ≡ line_ends front = own ∙ ap line_ends text in
+    let size = length-append s.front front in
+    let lines = sum_by-append (λ (b : ℕ). cond (b == 10) 1 0) s.front front in
+    record {
+      front = s.front ++ front;
+      whole = s.whole ∙ ap (λ t. s.front ++ t) e ∙ sym (append_assoc s.front front rest) ∙ ap (λ t. (s.front ++ front) ++ t) (sym (kept_rest held rest kept len (front, e, plain) long left));
+      plain = plain_on s.front front s.plain plain;
+      place = there ∙ counted_on at (length s.front) len s.place ∙ ap counted (omega (arith, n, size));
+      number = here ∙ counted_on line (suc (line_ends s.front)) ends s.number ∙ ap counted (omega (arith, m, lines));
+    }
+
+-- more came
+pub more_came : (bytes held more : List ℕ) (at line : ℕ) → Stands bytes held at line → Stands (bytes ++ more) (held ++ more) at line
+more_came bytes held more at line s = record {
+  front = s.front;
+  whole = ap (λ t. t ++ more) s.whole ∙ append_assoc s.front held more;
+  plain = s.plain;
+  place = s.place;
+  number = s.number;
+}
+
+-- where no rest is left, all is plain
+pub all_plain : (bytes rest : List ℕ) (at line : ℕ) → Stands bytes rest at line → rest ≡ [] → IsPlain bytes
+all_plain bytes rest at line s none = subst IsPlain (sym (s.whole ∙ ap (λ t. s.front ++ t) none ∙ append-nil s.front)) s.plain
+
+-- ---- what is no plain text
+
+behind_all : (P : ℕ → Type 0) (xs ys : List ℕ) → AllByRecursion P (xs ++ ys) → AllByRecursion P ys
+behind_all P [] ys h = h
+behind_all P (x ∷ xs) ys h = behind_all P xs ys h.1
+
+-- what stands behind plain text in plain text is plain
+plain_behind : (front rest : List ℕ) → IsPlain front → IsPlain (front ++ rest) → IsPlain rest
+plain_behind front rest (cs, scalars, all, e) (ds, s, h, f) =
+    let later = lossy_chars rest in
+    let read : lossy_chars (front ++ rest) ≡ cs ++ later = ap (λ (t : List ℕ). lossy_chars (t ++ rest)) e ∙ read_encoded cs rest scalars in
+    let same : ds ≡ cs ++ later = sym (lossy_chars-encode ds s) ∙ ap lossy_chars (sym f) ∙ read in
+    let bytes : front ++ rest ≡ front ++ encode_utf8_all later = f ∙ ap encode_utf8_all same ∙ encoded_on cs later ∙ ap (λ (t : List ℕ). t ++ encode_utf8_all later) (sym e) in
+    (later, scalars_lossy rest, behind_all IsShown cs later (subst (AllByRecursion IsShown) same h), append_cancel_left front rest (encode_utf8_all later) bytes)
+
+-- and begins with a character that is shown
+plain_seen : (text : List ℕ) → 0 < length text → IsHidden text → ¬ IsPlain text
+plain_seen text some hidden ([], scalars, all, e) = absurd (omega (arith, some, ap length e))
+plain_seen text some hidden (c ∷ cs, scalars, all, e) =
+    let both = and_parts (scalar c) (all_scalars cs) scalars in
+    let char = ap (λ (t : List ℕ). (decoded t).char) e ∙ ap (λ (p : Decoded). p.char) (decoded-encode c (encode_utf8_all cs) both.0) in
+    false≢true (sym (hidden c char) ∙ all.0)
+
+pub not_plain : (bytes rest : List ℕ) (at line : ℕ) → IsFault bytes rest at line → ¬ IsPlain bytes
+not_plain bytes rest at line (s, some, hidden) plain = plain_seen rest some hidden (plain_behind s.front rest s.plain (subst IsPlain s.whole plain))
+
+pub not_left : (limit : ℕ) (bytes rest text : List ℕ) (at line : ℕ) → IsFault bytes rest at line → Strips limit bytes text → text ≢ bytes
+not_left limit bytes rest text at line fault strips = λ same. not_plain bytes rest at line fault (subst IsPlain same (strips_plain limit bytes text strips))

@@ -1,0 +1,9 @@
+use Rattle.csicodec_clean.specs.Cleaned.{longest}
+use Rattle.csicodec_clean.proofs.Checks.{not_left, not_plain}
+use Rattle.csicodec_clean.proofs.laws.faults.Goals as goal
+
+pub returns-clause-plain : goal.returns-clause-plain
+returns-clause-plain c = not_plain
+
+pub returns-clause-stripped : goal.returns-clause-stripped
+returns-clause-stripped c = not_left longest

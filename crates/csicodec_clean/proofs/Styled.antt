@@ -30,7 +30,7 @@ use Rattle.csicodec_clean.specs.declared.styles.Passing.{Passing}
 use Rattle.csicodec_clean.specs.Links.{Address, Begun, IsLink, all_behind, is_linked, link_text, link_texts, links_at, links_in, next, no_address, start}
 use Rattle.csicodec_clean.specs.Styled.{hides, is_reset, kept, Item, Shown, Style, Link, item_text, item_texts, shown_items, Leaves, begun_behind, run_behind, items_behind, AreLeft, is_open, styles_of, links_of, ends_of, closed, StylesIn, IsSafe, IsStyledIn, Keeping, keeping, first_kept, behind_styles, behind_byte, keeps, resets}
 use Rattle.csicodec_clean.proofs.Linked.{fine_behind, fine_links, linked_on, links_none}
-use Rattle.csicodec_clean.proofs.Palette.{reduced_alone, reduced_hides, reduced_twice}
+use Rattle.csicodec_clean.proofs.Reduced.{reduced_alone, reduced_hides, reduced_twice}
 use Rattle.csicodec_clean.proofs.Plain.{kept_shown, scalars_lossy}
 
 -- ---- one action behind the other

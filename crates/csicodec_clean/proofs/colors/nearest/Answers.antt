@@ -1,6 +1,6 @@
 use Rattle.std.proofs.Common.{◌≡◌, ◌+◌, ◌-◌, ◌∙◌, ap, suc, sym, arith}
 use Rattle.csicodec_clean.specs.Palette.{distance}
-use Rattle.csicodec_clean.proofs.Palette.{further_step, nearer_step, none_more}
+use Rattle.csicodec_clean.proofs.Reduced.{further_step, nearer_step, none_more}
 use Rattle.csicodec_clean.proofs.colors.nearest.Goals as goal
 
 pub loop-place-preserved-then-here-least : goal.loop-place-preserved-then-here-least

@@ -1,4 +1,4 @@
-use Rattle.csicodec_clean.proofs.Palette.{nearest_16, nearest_256}
+use Rattle.csicodec_clean.proofs.Reduced.{nearest_16, nearest_256}
 use Rattle.csicodec_clean.proofs.laws.nearest.Goals as goal
 
 pub returns-clause-of_256 : goal.returns-clause-of_256

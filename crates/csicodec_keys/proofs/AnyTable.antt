@@ -1,0 +1,76 @@
+-- Any table whose rows are apart: what is written of a key is read as the same row.
+use Rattle.std.proofs.Common.{◌≡◌, ℕ, List, [], ◌∷◌, Some, refl, ap, ◌∙◌, inl, inr, subst}
+use Rattle.std.specs.Prelude.{Bool, true, not, cond, find, ◌==◌, ◌&&◌, ◌||◌}
+use Rattle.std.specs.List.{list_all}
+use Rattle.std.proofs.lemmas.Bool.{and_parts, and_from, cases_Bool, eqb-true, eq-eqb}
+use Rattle.std.proofs.lemmas.Option.{same_Some}
+use Rattle.csicodec_keys.specs.declared.code.KeyCode.{KeyCode}
+use Rattle.csicodec_keys.specs.declared.rows.Row.{Row}
+use Rattle.csicodec_keys.specs.Codes.{same_code}
+use Rattle.csicodec_keys.specs.Rows.{row_at, row_of}
+use Rattle.csicodec_keys.proofs.Codes.{same-code}
+use Rattle.csicodec_keys.proofs.Options.{not-both}
+
+-- no two rows have one number and one final character
+abbrev pub differ : Row → Row → Bool
+differ q r = not (q.number == r.number) || not (q.control == r.control)
+
+abbrev pub are_apart : List Row → Bool
+are_apart [] = true
+are_apart (r ∷ rows) = list_all (differ r) rows && are_apart rows
+
+-- what holds of all rows holds of the one that is found, and it passes the test
+pub found-all : (test p : Row → Bool) (rows : List Row) (r : Row) → list_all p rows ≡ true → find test rows ≡ Some r → p r ≡ true
+found-all test p [] r h e = cc
+found-all test p (q ∷ rows) r h e =
+    let both = and_parts (p q) (list_all p rows) h in
+    elim (cases_Bool (test q)) [
+      | inl here ↦ subst (λ (x : Row). p x ≡ true) (same_Some q r (rw here at e)) both.0
+      | inr later ↦ found-all test p rows r both.1 (rw later at e)
+    ]
+
+found-passes : (test : Row → Bool) (rows : List Row) (r : Row) → find test rows ≡ Some r → test r ≡ true
+found-passes test [] r e = cc
+found-passes test (q ∷ rows) r e = elim (cases_Bool (test q)) [
+  | inl here ↦ subst (λ (x : Row). test x ≡ true) (same_Some q r (rw here at e)) here
+  | inr later ↦ found-passes test rows r (rw later at e)
+]
+
+here-at : (q : Row) (rows : List Row) → row_at (q ∷ rows) q.number q.control ≡ Some q
+unfolding row_at
+here-at q rows =
+    ap (λ (b : Bool). cond b (Some q) (row_at rows q.number q.control))
+    (and_from (q.number == q.number) (q.control == q.control) (eq-eqb q.number q.number refl) (eq-eqb q.control q.control refl))
+
+any-found : (test : Row → Bool) (rows : List Row) (r : Row) → are_apart rows ≡ true → find test rows ≡ Some r → row_at rows r.number r.control ≡ Some r
+unfolding row_at
+any-found test [] r h e = cc
+any-found test (q ∷ rows) r h e =
+    let both = and_parts (list_all (differ q) rows) (are_apart rows) h in
+    elim (cases_Bool (test q)) [
+      | inl here ↦ subst (λ (x : Row). row_at (q ∷ rows) x.number x.control ≡ Some x) (same_Some q r (rw here at e)) (here-at q rows)
+      | inr later ↦
+          let apart : differ q r ≡ true = found-all test (differ q) rows r both.0 (rw later at e) in
+          ap (λ (b : Bool). cond b (Some q) (row_at rows r.number r.control)) (not-both (q.number == r.number) (q.control == r.control) apart)
+          ∙ any-found test rows r both.1 (rw later at e)
+    ]
+
+pub any-row : (rows : List Row) (code : KeyCode) (held : ℕ) (r : Row) → are_apart rows ≡ true → row_of rows code held ≡ Some r → row_at rows r.number r.control ≡ Some r
+unfolding row_of
+any-row rows code held r h e = any-found (λ (x : Row). same_code x.code code && (x.held == held)) rows r h e
+
+-- a row that is found by a key has it
+pub record Has (r : Row) (code : KeyCode) (held : ℕ) : Type 0 where
+  pub code_is : r.code ≡ code
+  pub held_is : r.held ≡ held
+
+pub row-has : (rows : List Row) (code : KeyCode) (held : ℕ) (r : Row) → row_of rows code held ≡ Some r → Has r code held
+unfolding row_of
+row-has rows code held r e =
+    let p = and_parts (same_code r.code code) (r.held == held) (found-passes (λ (x : Row). same_code x.code code && (x.held == held)) rows r e) in
+    record { code_is = same-code r.code code p.0; held_is = eqb-true r.held held p.1 }
+
+-- what holds of all rows of a table holds of one that is found by its key
+pub row-all : (p : Row → Bool) (rows : List Row) (code : KeyCode) (held : ℕ) (r : Row) → list_all p rows ≡ true → row_of rows code held ≡ Some r → p r ≡ true
+unfolding row_of
+row-all p rows code held r h e = found-all (λ (x : Row). same_code x.code code && (x.held == held)) p rows r h e

@@ -1,0 +1,13 @@
+pub mod Codes
+pub mod Options
+pub mod AnyTable
+pub mod Lists
+pub mod Tables
+pub mod Legacy
+pub mod Kitty
+pub mod Others
+pub mod Records
+pub mod Trip
+pub mod Spelled
+pub mod Fronts
+pub mod Told

@@ -1,0 +1,83 @@
+-- A list is read as what it was written of.
+use Rattle.std.proofs.Common.{◌≡◌, ℕ, ◌+◌, ◌-◌, ◌<◌, ◌≤◌, List, [], ◌∷◌, ◌++◌, length, None, Some, refl, ap, ◌∙◌, inl, inr, pos, arith, length-append, append_assoc}
+use Rattle.std.specs.Prelude.{Bool, true, false, ◌==◌, ◌&&◌, nat_lt, if◌then◌else◌, option_and_then}
+use Rattle.std.specs.Option.{option_map}
+use Rattle.std.proofs.lemmas.Bool.{and_parts, cases_Bool, eqb-true, lt-ltb}
+use lib.Utf8.{scalar, scalars}
+use Rattle.csicodec_tokens.specs.declared.param.CsiParam.TheVariants.{Integer}
+use Rattle.csicodec_keys.specs.declared.key.KeyEvent.{KeyEvent}
+use Rattle.csicodec_keys.specs.declared.key.KeyEvent.TheVariants as event
+use Rattle.csicodec_keys.specs.Fields.{char_of, characters, colon_list, from_separator, held_front, held_list, held_of, is_empty, is_plain, number_of, read_list, text_front, text_list, with_char, written_list}
+
+held-of : (held : ℕ) → held < 256 → held_of (pos (held + 1)) ≡ Some held
+held-of held h =
+    let low : nat_lt 0 (held + 1) ≡ true = lt-ltb 0 (held + 1) (omega arith) in
+    let high : nat_lt (held + 1) 257 ≡ true = lt-ltb (held + 1) 257 (omega arith) in
+    let back : held + 1 - 1 ≡ held = omega arith in
+    rw (low, high, back) refl
+
+number-of : (n : ℕ) → nat_lt n 4294967296 ≡ true → number_of (pos n) ≡ Some n
+number-of n h = rw h refl
+
+char-of : (c : ℕ) → scalar c ≡ true → char_of (pos c) ≡ Some c
+char-of c h = ap (λ (b : Bool). if b then Some c else None) h
+
+not-full : (n : ℕ) → n < 8 → (n == 8) ≡ false
+not-full n h = grind arith
+
+with-char : (text : List ℕ) (c : ℕ) → scalar c ≡ true → length text < 8 → with_char text (pos c) ≡ Some (text ++ c ∷ [])
+unfolding with_char
+with-char text c s h =
+    ap (λ (b : Bool). if b then None else option_map (λ x. text ++ x ∷ []) (char_of (pos c))) (not-full (length text) h) ∙ ap (option_map (λ x. text ++ x ∷ [])) (char-of c s)
+
+chars-read : (text : List ℕ) (c : ℕ) (cs : List ℕ) → scalars (c ∷ cs) ≡ true → length text + length (c ∷ cs) ≤ 8 → characters text (Integer (pos c) ∷ colon_list cs) ≡ Some (text ++ c ∷ cs)
+chars-read text c [] s h = ap (option_and_then (λ more. characters more [])) (with-char text c (and_parts (scalar c) true s).0 (omega (arith, h)))
+chars-read text c (d ∷ ds) s h =
+    let p = and_parts (scalar c) (scalars (d ∷ ds)) s in
+    ap (option_and_then (λ more. characters more (colon_list (d ∷ ds)))) (with-char text c p.0 (omega (arith, h)))
+    ∙ (chars-read (text ++ c ∷ []) d ds p.1 (omega (arith, h, length-append text (c ∷ [])))
+    ∙ ap Some (append_assoc text (c ∷ []) (d ∷ ds)))
+
+text-read : (text : List ℕ) → scalars text ≡ true → length text ≤ 8 → text_front (text_list text) ≡ Some text
+text-read [] s h = refl
+text-read (c ∷ cs) s h = chars-read [] c cs s (omega (arith, h))
+
+-- behind a number
+separated : (held : ℕ) (e : KeyEvent) (text : List ℕ) → from_separator (held_list held e (is_empty text) ++ text_list text) ≡ Some (held_list held e (is_empty text) ++ text_list text)
+separated held event.Press [] = elim (cases_Bool (held == 0)) [ inl none ↦ rw none refl | inr some ↦ rw some refl ]
+separated held event.Press (c ∷ cs) = elim (cases_Bool (held == 0)) [ inl none ↦ rw none refl | inr some ↦ rw some refl ]
+separated held event.Repeat text = refl
+separated held event.Release text = refl
+
+held-read : (held : ℕ) (e : KeyEvent) (text : List ℕ) → held < 256 → held_front (held_list held e (is_empty text) ++ text_list text) ≡ Some (held, e, text_list text)
+held-read held event.Press [] h = elim (cases_Bool (held == 0)) [ inl none ↦ rw (none, eqb-true held 0 none) refl | inr some ↦ rw (some, held-of held h) refl ]
+held-read held event.Press (c ∷ cs) h = elim (cases_Bool (held == 0)) [ inl none ↦ rw (none, eqb-true held 0 none) refl | inr some ↦ rw (some, held-of held h) refl ]
+held-read held event.Repeat text h = rw (held-of held h) refl
+held-read held event.Release text h = rw (held-of held h) refl
+
+-- the number stands there
+with-number : (n held : ℕ) (e : KeyEvent) (text : List ℕ) → nat_lt n 4294967296 ≡ true → held < 256 → scalars text ≡ true → length text ≤ 8
+    → read_list (Integer (pos n) ∷ (held_list held e (is_empty text) ++ text_list text)) ≡ Some (record { number = n; held = held; event = e; text = text })
+with-number n held e text small h s short =
+    rw (number-of n small, separated held e text, held-read held e text h, text-read text s short) refl
+
+no-true : (b : Bool) → (b && false) ≡ true → ⊥
+no-true true h = cc
+no-true false h = cc
+
+-- nothing is said but a key of number 1
+plain-parts : (held : ℕ) (e : KeyEvent) (text : List ℕ) → is_plain held e text ≡ true → (held ≡ 0) × (e ≡ event.Press) × (text ≡ [])
+plain-parts held event.Press [] h = (eqb-true held 0 (and_parts (held == 0) true h).0, refl, refl)
+plain-parts held event.Press (c ∷ cs) h = absurd (no-true (held == 0) h)
+plain-parts held event.Repeat text h = absurd (no-true (held == 0) h)
+plain-parts held event.Release text h = absurd (no-true (held == 0) h)
+
+pub list-read : (n held : ℕ) (e : KeyEvent) (text : List ℕ) → nat_lt n 4294967296 ≡ true → held < 256 → scalars text ≡ true → length text ≤ 8
+    → read_list (written_list n held e text) ≡ Some (record { number = n; held = held; event = e; text = text })
+list-read n held e text small h s short = elim (cases_Bool ((n == 1) && is_plain held e text)) [
+  | inl alone ↦
+      let p = and_parts (n == 1) (is_plain held e text) alone in
+      let q = plain-parts held e text p.1 in
+      rw (eqb-true n 1 p.0, q.0, q.1, q.2) refl
+  | inr more ↦ rw more (with-number n held e text small h s short)
+]

@@ -1,0 +1,112 @@
+-- What a list of a key spells: digits, `:` and `;`, and it is one control sequence.
+use Rattle.std.proofs.Common.{◌≡◌, ℕ, ℤ, pos, ◌+◌, ◌<◌, ◌≤◌, List, [], ◌∷◌, ◌++◌, sym, inl, inr, arith, subst}
+use Rattle.std.specs.Prelude.{Bool, true, false, ◌==◌, ◌&&◌, ◌≤ℤ◌}
+use Rattle.std.proofs.lemmas.Bool.{and_parts, cases_Bool}
+use Rattle.std.proofs.lemmas.Int.{ints}
+use lib.Utf8.{scalar, scalar_fits, scalars}
+use Rattle.csicodec_tokens.specs.declared.param.CsiParam.{CsiParam}
+use Rattle.csicodec_tokens.specs.declared.param.CsiParam.TheVariants.{Integer, P}
+use Rattle.csicodec_tokens.specs.Digits.{AreDigits, IsDigit, largest}
+use Rattle.csicodec_tokens.specs.Sequence.{Apart, Spellable, Spells}
+use Rattle.csicodec_keys.specs.declared.key.KeyEvent.{KeyEvent}
+use Rattle.csicodec_keys.specs.declared.key.KeyEvent.TheVariants as event
+use Rattle.csicodec_keys.specs.Win32.{record_list}
+use Rattle.csicodec_keys.specs.Fields.{colon_list, held_list, is_empty, is_plain, text_list, written_list}
+
+-- ---- lists of numbers with separators between
+
+-- a number may stand first, or none
+abbrev IsFirst : Bool → ℤ → Type 0
+IsFirst true z = (pos 0 ≤ℤ z) × (z ≤ℤ pos largest)
+IsFirst false z = ⊥
+
+abbrev pub Good : Bool → List CsiParam → Type 0
+Good b [] = Unit {0}
+Good b (Integer z ∷ ts) = IsFirst b z × Good false ts
+Good b (P c ∷ ts) = ((58 ≤ c) × (c ≤ 59)) × Good true ts
+
+apart : (z : ℤ) (ts : List CsiParam) → Good false ts → Apart (Integer z) ts
+apart z [] h = tt
+apart z (Integer y ∷ ts) h = absurd h.0
+apart z (P c ∷ ts) h = tt
+
+pub spellable : (b : Bool) (list : List CsiParam) → Good b list → Spellable list
+spellable b [] h = tt
+spellable true (Integer z ∷ ts) h = (h.0, apart z ts h.1, spellable false ts h.1)
+spellable false (Integer z ∷ ts) h = absurd h.0
+spellable b (P c ∷ ts) h =
+    let low : 58 ≤ c = h.0.0 in
+    let high : c ≤ 59 = h.0.1 in
+    (((omega (arith, low), omega (arith, high)), λ (d : IsDigit c). omega (arith, low, d.1)), tt, spellable true ts h.1)
+
+-- ---- their bytes
+
+abbrev pub AreIn : List ℕ → Type 0
+AreIn [] = Unit {0}
+AreIn (b ∷ bs) = ((48 ≤ b) × (b ≤ 59)) × AreIn bs
+
+in-append : (xs ys : List ℕ) → AreIn xs → AreIn ys → AreIn (xs ++ ys)
+in-append [] ys h i = i
+in-append (x ∷ xs) ys h i = (h.0, in-append xs ys h.1 i)
+
+in-digits : (ds : List ℕ) → AreDigits ds → AreIn ds
+in-digits [] h = tt
+in-digits (d ∷ ds) h = ((h.0.0, omega (arith, h.0.1)), in-digits ds h.1)
+
+pub spelled-in : (b : Bool) (list : List CsiParam) (text : List ℕ) → Good b list → Spells text list → AreIn text
+spelled-in b [] text h s = subst AreIn (sym s) tt
+spelled-in b (Integer z ∷ ts) text h s = subst AreIn (sym s.2) (in-append s.0 s.1 (in-digits s.0 s.3.1) (spelled-in false ts s.1 h.1 s.4))
+spelled-in b (P c ∷ ts) text h s =
+    let low : 58 ≤ c = h.0.0 in
+    subst AreIn (sym s.2) (in-append s.0 s.1 (subst AreIn (sym s.3) ((omega (arith, low), h.0.1), tt)) (spelled-in true ts s.1 h.1 s.4))
+
+-- ---- the list of a key
+
+number : (n : ℕ) → n < 4294967296 → IsFirst true (pos n)
+number n h = (omega (arith, ints), omega (arith, ints, h))
+
+abbrev IsSeparator : ℕ → Type 0
+IsSeparator c = (58 ≤ c) × (c ≤ 59)
+
+semicolon : IsSeparator 59
+semicolon = (omega arith, omega arith)
+
+colon : IsSeparator 58
+colon = (omega arith, omega arith)
+
+lifted : (list : List CsiParam) → Good false list → Good true list
+lifted [] h = tt
+lifted (Integer z ∷ ts) h = absurd h.0
+lifted (P c ∷ ts) h = h
+
+good-colons : (cs : List ℕ) → scalars cs ≡ true → Good false (colon_list cs)
+good-colons [] s = tt
+good-colons (c ∷ cs) s = let p = and_parts (scalar c) (scalars cs) s in (colon, (number c (scalar_fits c p.0), good-colons cs p.1))
+
+good-text : (text : List ℕ) → scalars text ≡ true → Good false (text_list text)
+good-text [] s = tt
+good-text (c ∷ cs) s = let p = and_parts (scalar c) (scalars cs) s in (semicolon, (number c (scalar_fits c p.0), good-colons cs p.1))
+
+good-held : (held : ℕ) (e : KeyEvent) (bare : Bool) (rest : List CsiParam) → held < 256 → Good false rest → Good false (held_list held e bare ++ rest)
+good-held held event.Press true rest h g = elim (cases_Bool (held == 0)) [
+  | inl none ↦ rw none g
+  | inr some ↦ rw some (semicolon, (number (held + 1) (omega (arith, h)), g))
+]
+good-held held event.Press false rest h g = elim (cases_Bool (held == 0)) [
+  | inl none ↦ rw none (semicolon, lifted rest g)
+  | inr some ↦ rw some (semicolon, (number (held + 1) (omega (arith, h)), g))
+]
+good-held held event.Repeat bare rest h g = (semicolon, (number (held + 1) (omega (arith, h)), (colon, (number 2 (omega arith), g))))
+good-held held event.Release bare rest h g = (semicolon, (number (held + 1) (omega (arith, h)), (colon, (number 3 (omega arith), g))))
+
+pub good-list : (n held : ℕ) (e : KeyEvent) (text : List ℕ) → n < 4294967296 → held < 256 → scalars text ≡ true → Good true (written_list n held e text)
+good-list n held e text small h s =
+    let behind : Good false (held_list held e (is_empty text) ++ text_list text) = good-held held e (is_empty text) (text_list text) h (good-text text s) in
+    elim (cases_Bool ((n == 1) && is_plain held e text)) [
+      | inl alone ↦ rw alone (lifted (held_list held e (is_empty text) ++ text_list text) behind)
+      | inr more ↦ rw more (number n small, behind)
+    ]
+
+pub good-record : (vk uc kd cs : ℕ) → vk < 4294967296 → uc < 4294967296 → kd < 4294967296 → cs < 4294967296 → Good true (record_list (record { vk = vk; uc = uc; kd = kd; cs = cs }))
+good-record vk uc kd cs a b c d =
+    (number vk a, (semicolon, (number 0 (omega arith), (semicolon, (number uc b, (semicolon, (number kd c, (semicolon, (number cs d, (semicolon, (number 1 (omega arith), tt)))))))))))

@@ -1,0 +1,316 @@
+-- The forms in which a key stands in a stream: how each is read, what is written of a key in an encoding, and its bytes.
+use Rattle.std.specs.Prelude.{ℕ, pos, ◌-◌, ◌+◌, ◌%◌, ◌==◌, ◌&&◌, ◌||◌, nat_le, nat_lt, not, Bool, is_none, List, [], ◌∷◌, ◌++◌, Option, Some, None, if◌then◌else◌, option_and_then, encode_utf8}
+use Rattle.std.specs.Option.{option_map, option_or}
+use Rattle.csicodec_tokens.specs.declared.param.CsiParam.{CsiParam}
+use Rattle.csicodec_tokens.specs.declared.param.CsiParam.TheVariants.{Integer, P}
+use Rattle.csicodec_tokens.specs.Param.{spells}
+use Rattle.csicodec_events.specs.declared.event.Event.TheVariants as told
+use Rattle.csicodec_events.specs.declared.input.InputEvent.{InputEvent}
+use Rattle.csicodec_events.specs.declared.input.InputEvent.TheVariants as sent
+use Rattle.csicodec_keys.specs.declared.code.KeyCode.{KeyCode}
+use Rattle.csicodec_keys.specs.declared.code.KeyCode.TheVariants as code
+use Rattle.csicodec_keys.specs.declared.key.Encoding.{Encoding}
+use Rattle.csicodec_keys.specs.declared.key.Encoding.TheVariants as encoding
+use Rattle.csicodec_keys.specs.declared.key.KeyEvent.{KeyEvent}
+use Rattle.csicodec_keys.specs.declared.key.KeyEvent.TheVariants as event
+use Rattle.csicodec_keys.specs.declared.rows.Row.{Row}
+use Rattle.csicodec_keys.specs.Win32.{down_of, read_win32, record_list, record_of, went}
+use Rattle.csicodec_keys.specs.Tables.{controls, csi_keys, kitty_keys, linux_keys, other_keys, rxvt_keys, rxvt_ss3, ss3_cursor, ss3_keys}
+use Rattle.csicodec_keys.specs.declared.writing.Form.{Form}
+use Rattle.csicodec_keys.specs.declared.writing.Form.TheVariants as form
+use Rattle.csicodec_keys.specs.Characters.{is_alt, is_typed}
+use Rattle.csicodec_keys.specs.Fields.{Says, is_empty, read_list, written_list}
+use Rattle.csicodec_keys.specs.Keys.{Stroke, is_press, is_release}
+use Rattle.csicodec_keys.specs.Rows.{row_at, row_of}
+
+-- a press of a key that types nothing
+abbrev pub pressed : KeyCode → ℕ → Stroke
+pressed k held = record { code = k; held = held; event = event.Press; text = [] }
+
+abbrev pub pressed_row : Row → Stroke
+pressed_row r = pressed r.code r.held
+
+-- a press of a key that types this character
+abbrev pub typing : ℕ → Stroke
+typing c = record { code = code.Char c; held = 0; event = event.Press; text = c ∷ [] }
+
+-- with alt
+abbrev pub with_alt : ℕ → ℕ
+with_alt held = if nat_lt held 128 then held + 2 else held
+
+-- ---- reading
+
+-- a character of text, or a control
+abbrev pub read_char : ℕ → Option Stroke
+read_char c = if is_typed c then Some (typing c) else option_map pressed_row (row_at controls 0 c)
+
+-- a character behind ESC
+abbrev pub read_alt : ℕ → Option Stroke
+read_alt c =
+    if is_typed c then Some (pressed (code.Char c) 2)
+    else option_map (λ (r : Row). pressed r.code (with_alt r.held)) (row_at controls 0 c)
+
+-- a character behind SS3
+abbrev pub read_ss3 : ℕ → Option Stroke
+read_ss3 c =
+    option_map pressed_row
+    (option_or (row_at ss3_keys 0 c) (option_or (row_at ss3_cursor 0 c) (row_at rxvt_ss3 0 c)))
+
+-- the row of a number and a final character
+abbrev pub csi_row : ℕ → ℕ → Option Row
+csi_row number control =
+    option_or (row_at kitty_keys number control)
+    (option_or (row_at csi_keys number control) (row_at rxvt_keys number control))
+
+-- modifiers stand in the form or in the list
+abbrev pub held_by : ℕ → ℕ → Option ℕ
+held_by row list = if row == 0 then Some list else if list == 0 then Some row else None
+
+-- this key, with what a list says
+abbrev pub saying : Says → KeyCode → ℕ → Stroke
+saying says k held = record { code = k; held = held; event = says.event; text = says.text }
+
+abbrev pub row_key : Says → Row → Option Stroke
+row_key says r = option_map (saying says r.code) (held_by r.held says.held)
+
+-- a number that no row has is a character, before `u`
+abbrev pub char_key : Says → ℕ → Option Stroke
+char_key says control =
+    if (control == 117) && is_typed says.number then
+    Some (saying says (code.Char says.number) says.held)
+    else None
+
+abbrev pub key_by : Says → ℕ → Option Row → Option Stroke
+key_by says control None = char_key says control
+key_by says control (Some r) = row_key says r
+
+abbrev pub said_key : Says → ℕ → Option Stroke
+said_key says control = key_by says control (csi_row says.number control)
+
+-- the key of a number
+abbrev pub numbered : ℕ → Option KeyCode
+numbered n =
+    option_or (option_map (λ (r : Row). r.code) (row_at other_keys n 126))
+    (if is_typed n then Some (code.Char n) else None)
+
+-- 27 before `~`, and the number of a character in the place of a text (modifyOtherKeys)
+abbrev pub other_key : Says → ℕ → List ℕ → Option Stroke
+other_key says control [] = None
+other_key says control (n ∷ []) =
+    if (control == 126) && (says.number == 27) then
+    option_map (λ k. record { code = k; held = says.held; event = says.event; text = [] })
+    (numbered n)
+    else None
+other_key says control (n ∷ m ∷ ns) = None
+
+-- `^`, `@` and `a` to `d`, which only rxvt uses for keys
+abbrev pub is_rxvt : ℕ → Bool
+is_rxvt c = (c == 64) || (c == 94) || (nat_le 97 c && nat_le c 100)
+
+-- xterm says no event and no text; with `u` it writes as kitty does (formatOtherKeys)
+abbrev pub told_by : Says → ℕ → Encoding
+told_by says control =
+    if is_rxvt control then encoding.Rxvt else
+    if (control == 117) || not (is_press says.event && is_empty says.text) then encoding.Kitty else
+    encoding.Legacy
+
+abbrev pub ss3_by : ℕ → Encoding
+ss3_by c = if is_rxvt c then encoding.Rxvt else encoding.Legacy
+
+abbrev pub by : Encoding → Option Stroke → Option (Encoding × Stroke)
+by e key = option_map (λ k. (e, k)) key
+
+abbrev pub read_listed : List CsiParam → ℕ → Option (Encoding × Stroke)
+read_listed list control =
+    option_and_then
+    (λ says. option_or (by (told_by says control) (said_key says control))
+    (by encoding.ModifyOtherKeys (other_key says control says.text))) (read_list list)
+
+abbrev pub read_csi : List CsiParam → ℕ → Option (Encoding × Stroke)
+read_csi list control =
+    option_or (read_listed list control) (by encoding.Win32 (read_win32 list control))
+
+-- the key of an event; that of text is by its characters
+abbrev pub read_event : InputEvent → List CsiParam → Option (Encoding × Stroke)
+read_event (sent.Output (told.Csi control)) list = read_csi list control
+read_event (sent.Output (told.Control b)) list = by encoding.Legacy (read_char b)
+read_event (sent.Output told.Text) list = None
+read_event (sent.Output told.Esc) list = None
+read_event (sent.Output told.Str) list = None
+read_event (sent.Output told.Other) list = None
+read_event (sent.Ss3 b) list = by (ss3_by b) (read_ss3 b)
+read_event (sent.Linux b) list = by encoding.Linux (option_map pressed_row (row_at linux_keys 0 b))
+read_event (sent.Rxvt n) list = by encoding.Rxvt (option_map pressed_row (row_at rxvt_keys n 36))
+read_event sent.Mouse list = None
+read_event (sent.Alt b) list = by encoding.Legacy (read_alt b)
+read_event sent.Escape list = by encoding.Legacy (Some (pressed code.Escape 0))
+
+-- ---- what is written
+
+-- the control of a key with what is held down
+abbrev pub control_form : KeyCode → ℕ → Option Form
+control_form k held = option_map (λ (r : Row). form.Text r.control) (row_of controls k held)
+
+-- the same behind ESC, where alt is held down too
+abbrev pub alt_control : KeyCode → ℕ → Option Form
+alt_control k held =
+    if nat_lt held 2 then None
+    else option_map (λ (r : Row). form.Alt r.control) (row_of controls k (held - 2))
+
+abbrev pub ss3_form : KeyCode → ℕ → Option Form
+ss3_form k held = option_map (λ (r : Row). form.Ss3 r.control) (row_of ss3_keys k held)
+
+-- what a key of a character types: what it says, if that is one character, or the character itself where shift isn't held down
+abbrev pub text_of : ℕ → ℕ → List ℕ → Option ℕ
+text_of c held [] = if held == 0 then Some c else None
+text_of c held (d ∷ []) = Some d
+text_of c held (d ∷ e ∷ ds) = None
+
+abbrev pub text_form : Option ℕ → Option Form
+text_form None = None
+text_form (Some d) = if is_typed d then Some (form.Text d) else None
+
+abbrev pub char_form : KeyCode → ℕ → List ℕ → Option Form
+char_form (code.Char c) held text =
+    if nat_lt held 2 then text_form (text_of c held text) else
+    if (held == 2) && is_alt c then Some (form.Alt c) else None
+char_form code.Escape held text = if held == 0 then Some form.Escape else None
+char_form _ held text = None
+
+-- a row whose modifiers are its own, or one with modifiers in its list
+abbrev pub csi_form : KeyCode → ℕ → Option Form
+csi_form k held = option_or
+    (option_map (λ (r : Row). form.Csi r.number 0 r.control) (row_of csi_keys k held))
+    (option_map (λ (r : Row). form.Csi r.number held r.control) (row_of csi_keys k 0))
+
+abbrev pub legacy_form : Stroke → ℕ → Option Form
+legacy_form s held =
+    option_or (control_form s.code held)
+    (option_or (alt_control s.code held)
+    (option_or (ss3_form s.code held)
+    (option_or (char_form s.code held s.text) (csi_form s.code held))))
+
+-- shift, alt and ctrl, of which xterm's encoding knows; the locks aren't said, and a key with others held down has no form
+abbrev pub xterm_held : ℕ → Option ℕ
+xterm_held held = if nat_lt (held % 64) 8 then Some (held % 8) else None
+
+-- a character that no row has, before `u`
+abbrev pub kitty_char : Stroke → KeyCode → Option Form
+kitty_char s (code.Char c) =
+    if is_typed c && is_none (csi_row c 117) then Some (form.Typed c s.held s.event 117) else None
+kitty_char s _ = None
+
+abbrev pub kitty_row : Stroke → Row → Form
+kitty_row s r = form.Typed r.number s.held s.event r.control
+
+-- a character that no row has
+abbrev pub char_number : KeyCode → Option ℕ
+char_number (code.Char c) = if is_typed c && is_none (row_at other_keys c 126) then Some c else None
+char_number _ = None
+
+-- the number of a key, or of its character
+abbrev pub other_number : KeyCode → Option ℕ
+other_number k =
+    option_or (option_map (λ (r : Row). r.number) (row_of other_keys k 0)) (char_number k)
+
+abbrev pub other_form : KeyCode → ℕ → Option Form
+other_form k held =
+    if held == 0 then None else option_map (λ n. form.Other n held) (other_number k)
+
+-- rxvt's `$` is no final character
+abbrev pub rxvt_row : Row → Form
+rxvt_row r = if r.control == 36 then form.Rxvt r.number else form.Csi r.number 0 r.control
+
+abbrev pub rxvt_form : KeyCode → ℕ → Option Form
+rxvt_form k held =
+    option_or (option_map rxvt_row (row_of rxvt_keys k held))
+    (option_map (λ (r : Row). form.Ss3 r.control) (row_of rxvt_ss3 k held))
+
+abbrev pub linux_form : KeyCode → ℕ → Option Form
+linux_form k held = option_map (λ (r : Row). form.Linux r.control) (row_of linux_keys k held)
+
+-- what is said of a press and of a repeat alone
+abbrev pub but_release : KeyEvent → Option Form → Option Form
+but_release e f = if is_release e then None else f
+
+-- by what xterm's encoding says of modifiers
+abbrev pub xterm_form : Stroke → (ℕ → Option Form) → Option Form
+xterm_form s made = but_release s.event (option_and_then made (xterm_held s.held))
+
+-- the form of a key in an encoding
+abbrev pub form_of : Encoding → Stroke → Option Form
+form_of encoding.Legacy s = xterm_form s (legacy_form s)
+form_of encoding.ModifyOtherKeys s = xterm_form s (other_form s.code)
+form_of encoding.Kitty s =
+    option_or (option_map (kitty_row s) (row_of kitty_keys s.code 0))
+    (option_or (option_map (kitty_row s) (row_of csi_keys s.code 0)) (kitty_char s s.code))
+form_of encoding.Win32 s = option_map (λ r. form.Win32 r) (record_of s)
+form_of encoding.Rxvt s = xterm_form s (rxvt_form s.code)
+form_of encoding.Linux s = xterm_form s (linux_form s.code)
+
+-- ---- a form as an event and as bytes; `text` is what the key types
+
+abbrev pub key_alone : Option (Encoding × Stroke) → Option Stroke
+key_alone read = option_map (λ r. r.1) read
+
+abbrev pub event_of : Form → InputEvent
+event_of (form.Text c) = sent.Output told.Text
+event_of (form.Alt c) = sent.Alt c
+event_of (form.Ss3 c) = sent.Ss3 c
+event_of (form.Linux c) = sent.Linux c
+event_of (form.Rxvt n) = sent.Rxvt n
+event_of form.Escape = sent.Escape
+event_of (form.Csi n held control) = sent.Output (told.Csi control)
+event_of (form.Other n held) = sent.Output (told.Csi 126)
+event_of (form.Typed n held e control) = sent.Output (told.Csi control)
+event_of (form.Win32 r) = sent.Output (told.Csi 95)
+
+abbrev pub list_of : Form → List ℕ → List CsiParam
+list_of (form.Csi n held control) text = written_list n held event.Press []
+list_of (form.Other n held) text = written_list 27 held event.Press (n ∷ [])
+list_of (form.Typed n held e control) text = written_list n held e text
+list_of (form.Win32 r) text = record_list r
+list_of _ text = []
+
+-- the key that is read of a form, by its event and its list; that of text is by its character
+abbrev pub read_form : Form → List ℕ → Option Stroke
+read_form (form.Text c) text = read_char c
+read_form f text = key_alone (read_event (event_of f) (list_of f text))
+
+abbrev pub form_bytes : Form → List ℕ → List ℕ
+form_bytes (form.Text c) text = encode_utf8 c
+form_bytes (form.Alt c) text = 27 ∷ encode_utf8 c
+form_bytes (form.Ss3 c) text = 27 ∷ 79 ∷ encode_utf8 c
+form_bytes (form.Linux c) text = 27 ∷ 91 ∷ 91 ∷ encode_utf8 c
+form_bytes (form.Rxvt n) text = 27 ∷ 91 ∷ spells (Integer (pos n) ∷ P 36 ∷ [])
+form_bytes form.Escape text = 27 ∷ []
+form_bytes (form.Csi n held control) text =
+    27 ∷ 91 ∷ (spells (written_list n held event.Press []) ++ encode_utf8 control)
+form_bytes (form.Other n held) text =
+    27 ∷ 91 ∷ (spells (written_list 27 held event.Press (n ∷ [])) ++ encode_utf8 126)
+form_bytes (form.Typed n held e control) text =
+    27 ∷ 91 ∷ (spells (written_list n held e text) ++ encode_utf8 control)
+form_bytes (form.Win32 r) text = 27 ∷ 91 ∷ (spells (record_list r) ++ encode_utf8 95)
+
+-- ---- what an encoding can say
+
+-- the character that xterm's encoding says of a key: what it types, alone
+abbrev pub typed_or : ℕ → List ℕ → ℕ
+typed_or c [] = c
+typed_or c (d ∷ ds) = d
+
+abbrev pub legacy_said : KeyCode → ℕ → List ℕ → Stroke
+legacy_said (code.Char c) held text =
+    if nat_lt held 2 then typing (typed_or c text) else pressed (code.Char c) held
+legacy_said k held text = pressed k held
+
+-- Of a key that it has a form for: kitty's says all, Win32's a repeat as a press; the others no event and no lock, and xterm's shift
+-- and text only by the character that is typed.
+abbrev pub said : Encoding → Stroke → Stroke
+said encoding.Legacy s = legacy_said s.code (s.held % 8) s.text
+said encoding.ModifyOtherKeys s = pressed s.code (s.held % 8)
+said encoding.Kitty s = s
+said encoding.Win32 s =
+    record { code = s.code; held = s.held; event = went (down_of s.event); text = s.text }
+said encoding.Rxvt s = pressed s.code (s.held % 8)
+said encoding.Linux s = pressed s.code (s.held % 8)

@@ -1,0 +1,9 @@
+pub mod Codes
+pub mod Characters
+pub mod Keys
+pub mod Rows
+pub mod Tables
+pub mod Fields
+pub mod Win32
+pub mod Forms
+pub mod Sent

@@ -1,0 +1,32 @@
+-- The bytes of a form in a stream: csicodec_events tells them as the event and the list that the key is read of.
+use Rattle.std.specs.Prelude.{ℕ, ◌≤◌, List, [], ◌++◌, length}
+use Rattle.csicodec_tokens.specs.declared.param.CsiParam.{CsiParam}
+use Rattle.csicodec_spans.specs.declared.table.Mode.TheVariants as mode
+use Rattle.csicodec_events.specs.declared.event.Events.{Events}
+use Rattle.csicodec_events.specs.declared.input.Dialect.TheVariants as dialect
+use Rattle.csicodec_events.specs.declared.input.InputEvent.{InputEvent}
+use Rattle.csicodec_events.specs.declared.input.InputEvent.TheVariants as sent
+use Rattle.csicodec_events.specs.Input.{IsSent, IsSentBy, paused}
+use Rattle.csicodec_keys.specs.declared.writing.Form.{Form}
+use Rattle.csicodec_keys.specs.declared.writing.Form.TheVariants as form
+use Rattle.csicodec_keys.specs.Forms.{event_of, list_of}
+
+-- a stream in which nothing is open
+abbrev pub fresh : ℕ → Events
+fresh limit = record { limit = limit; mode = mode.Text; looked = 0 }
+
+-- they are this event with this list, whatever follows
+abbrev pub IsFront : List ℕ → InputEvent → List CsiParam → Type 0
+IsFront bytes e list = (limit : ℕ) (more : List ℕ) → length bytes ≤ limit
+    → IsSent dialect.Input (fresh limit) (bytes ++ more) e bytes more list (fresh limit)
+
+-- .. where no more comes for now
+abbrev pub IsPaused : List ℕ → InputEvent → Type 0
+IsPaused bytes e = (limit : ℕ)
+    → IsSentBy (paused bytes) (fresh limit) bytes e bytes [] [] (fresh limit)
+
+-- Text is read by its characters, and ESC alone is a key where no more comes.
+abbrev pub IsToldAs : Form → List ℕ → List ℕ → Type 0
+IsToldAs (form.Text c) text bytes = Unit {0}
+IsToldAs form.Escape text bytes = IsPaused bytes sent.Escape
+IsToldAs f text bytes = IsFront bytes (event_of f) (list_of f text)

@@ -1,0 +1,207 @@
+//! The list of a key before its final character, read and written.
+ghost use Rattle.std.specs.Prelude.{◌≡◌};
+ghost use Rattle.std.specs.Option.{option_map};
+ghost use Rattle.csicodec_keys.specs.Fields.{behind_held, char_of, characters, event_field, event_of, from_separator, held_field, held_front, held_of, number_front, number_of, read_list, says_of, text_front, with_char};
+
+use crate::key::{KeyEvent, Typed};
+use csicodec_tokens::CsiParam;
+
+/// What a list says.
+#[derive(Drop)]
+pub(crate) struct Fields {
+    /// The number of the key.
+    pub(crate) number: u32,
+    /// The bits of the modifiers.
+    pub(crate) held: u8,
+    /// What happens to the key.
+    pub(crate) event: KeyEvent,
+    /// What it types.
+    pub(crate) text: Typed,
+}
+
+pub(crate) fn number_of(number: i64) -> Option<u32>
+    ensures { result ≡ number_of number }
+{
+    if number < 0 || number > 0xffff_ffff {
+        return None;
+    }
+    Some(number as u32)
+}
+
+fn held_of(number: i64) -> Option<u8>
+    ensures { result ≡ held_of number }
+{
+    if number < 1 || number > 256 {
+        return None;
+    }
+    Some((number - 1) as u8)
+}
+
+fn event_of(number: i64) -> Option<KeyEvent>
+    ensures { result ≡ event_of number }
+{
+    match number {
+        1 => Some(KeyEvent::Press),
+        2 => Some(KeyEvent::Repeat),
+        3 => Some(KeyEvent::Release),
+        _ => None,
+    }
+}
+
+fn char_of(number: i64) -> Option<char>
+    ensures { result ≡ char_of number }
+{
+    if number < 0 || number > 0x10_ffff {
+        return None;
+    }
+    char::from_u32(number as u32)
+}
+
+/// What begins with the `;` behind a number and those behind its colons.
+fn from_separator(tokens: &[CsiParam]) -> Option<&[CsiParam]>
+    ensures { option_map (λ rest. rest.now) result ≡ from_separator tokens.now }
+{
+    match tokens {
+        [] => Some(tokens),
+        [CsiParam::Integer(_), others @ ..] => from_separator(others),
+        [CsiParam::P(byte), others @ ..] => {
+            if *byte == b';' {
+                Some(tokens)
+            } else if *byte == b':' {
+                from_separator(others)
+            } else {
+                None
+            }
+        }
+    }
+}
+
+/// The number, and what is behind it and its alternatives.
+fn number_front(tokens: &[CsiParam]) -> Option<(u32, &[CsiParam])>
+    ensures { option_map (λ f. (f.0, f.1.now)) result ≡ number_front tokens.now }
+{
+    match tokens {
+        [] => Some((1, tokens)),
+        [CsiParam::P(_), ..] => None,
+        [CsiParam::Integer(number), others @ ..] => {
+            let number = number_of(*number)?;
+            Some((number, from_separator(others)?))
+        }
+    }
+}
+
+/// Behind the colon behind the modifiers.
+fn event_field(held: u8, tokens: &[CsiParam]) -> Option<(u8, KeyEvent, &[CsiParam])>
+    ensures { option_map (λ f. (f.0, f.1, f.2.now)) result ≡ event_field held tokens.now }
+{
+    match tokens {
+        [CsiParam::Integer(number), others @ ..] => Some((held, event_of(*number)?, others)),
+        _ => None,
+    }
+}
+
+/// Behind the modifiers.
+fn behind_held(held: u8, tokens: &[CsiParam]) -> Option<(u8, KeyEvent, &[CsiParam])>
+    ensures { option_map (λ f. (f.0, f.1, f.2.now)) result ≡ behind_held held tokens.now }
+{
+    match tokens {
+        [] => Some((held, KeyEvent::Press, tokens)),
+        [CsiParam::Integer(_), ..] => None,
+        [CsiParam::P(byte), others @ ..] => {
+            if *byte == b':' {
+                event_field(held, others)
+            } else {
+                Some((held, KeyEvent::Press, tokens))
+            }
+        }
+    }
+}
+
+/// Behind the first `;`.
+fn held_field(tokens: &[CsiParam]) -> Option<(u8, KeyEvent, &[CsiParam])>
+    ensures { option_map (λ f. (f.0, f.1, f.2.now)) result ≡ held_field tokens.now }
+{
+    match tokens {
+        [CsiParam::Integer(number), others @ ..] => behind_held(held_of(*number)?, others),
+        _ => Some((0, KeyEvent::Press, tokens)),
+    }
+}
+
+/// The modifiers, the event, and what is behind them.
+fn held_front(tokens: &[CsiParam]) -> Option<(u8, KeyEvent, &[CsiParam])>
+    ensures { option_map (λ f. (f.0, f.1, f.2.now)) result ≡ held_front tokens.now }
+{
+    match tokens {
+        [] => Some((0, KeyEvent::Press, tokens)),
+        [CsiParam::Integer(_), ..] => None,
+        [CsiParam::P(byte), others @ ..] => {
+            if *byte == b';' {
+                held_field(others)
+            } else {
+                None
+            }
+        }
+    }
+}
+
+/// The text and one more character, where there is room.
+#[tactic(auto, unfolding(crate::specs::Fields::with_char))]
+fn with_char(text: Typed, number: i64) -> Option<Typed>
+    ensures { option_map (λ t. t.items) result ≡ with_char text.items number }
+{
+    let mut text = text;
+    if text.is_full() {
+        return None;
+    }
+    text.push(char_of(number)?);
+    Some(text)
+}
+
+/// The characters of a text, behind these.
+fn characters(text: Typed, tokens: &[CsiParam]) -> Option<Typed>
+    ensures { option_map (λ t. t.items) result ≡ characters text.items tokens.now }
+{
+    match tokens {
+        [] => Some(text),
+        [CsiParam::Integer(number), others @ ..] => characters(with_char(text, *number)?, others),
+        [CsiParam::P(byte), others @ ..] => {
+            if *byte == b':' {
+                characters(text, others)
+            } else {
+                None
+            }
+        }
+    }
+}
+
+/// The text, and nothing behind it.
+fn text_front(tokens: &[CsiParam]) -> Option<Typed>
+    ensures { option_map (λ t. t.items) result ≡ text_front tokens.now }
+{
+    match tokens {
+        [] => Some(Typed::new()),
+        [CsiParam::Integer(_), ..] => None,
+        [CsiParam::P(byte), others @ ..] => {
+            if *byte == b';' {
+                characters(Typed::new(), others)
+            } else {
+                None
+            }
+        }
+    }
+}
+
+/// What a list says.
+pub(crate) fn read_list(params: &[CsiParam]) -> Option<Fields>
+    ensures { option_map says_of result ≡ read_list params.now }
+{
+    let (number, behind) = number_front(params)?;
+    let (held, event, behind) = held_front(behind)?;
+    let text = text_front(behind)?;
+    Some(Fields {
+        number,
+        held,
+        event,
+        text,
+    })
+}

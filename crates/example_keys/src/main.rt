@@ -6,9 +6,10 @@
 
 ghost use Rattle.std.specs.Prelude.{◌≡◌, ◌++◌, List, ℕ, IfOk};
 
-use csicodec::CsiParam::{Integer, P};
+use bitflags::Flags;
 use csicodec::{CSI, CsiParam, MouseButton, MouseReport};
 use csicodec_events::{Dialect, Event, Events, InputEvent, Sent};
+use csicodec_keys::{KeyCode, Modifiers, read};
 use std::alloc::{AllocError, Global};
 use std::io::Read;
 
@@ -17,8 +18,8 @@ use std::io::Read;
 enum Did {
     /// So many bytes of text.
     Typed(usize),
-    /// A key by its name, and the number of what is held: 1 and shift 1, alt 2, control 4 (xterm).
-    Key(&'static str, i64),
+    /// A key by its name, and what is held down with it: 1 and shift 1, alt 2, control 4.
+    Key(&'static str, u16),
     /// A character with alt.
     Alt(char),
     /// A button at this line and column, from 1 on.
@@ -29,79 +30,56 @@ enum Did {
     Other,
 }
 
-/// The key of a final character, behind CSI or SS3.
-fn key(control: char) -> Option<&'static str> {
-    match control {
-        'A' => Some("up"),
-        'B' => Some("down"),
-        'C' => Some("right"),
-        'D' => Some("left"),
-        'F' => Some("end"),
-        'H' => Some("home"),
-        'P' => Some("F1"),
-        'Q' => Some("F2"),
-        'R' => Some("F3"),
-        'S' => Some("F4"),
+/// The name of a key.
+fn name(code: KeyCode) -> Option<&'static str> {
+    match code {
+        KeyCode::Up => Some("up"),
+        KeyCode::Down => Some("down"),
+        KeyCode::Right => Some("right"),
+        KeyCode::Left => Some("left"),
+        KeyCode::End => Some("end"),
+        KeyCode::Home => Some("home"),
+        KeyCode::Insert => Some("insert"),
+        KeyCode::Delete => Some("delete"),
+        KeyCode::PageUp => Some("page up"),
+        KeyCode::PageDown => Some("page down"),
+        KeyCode::Escape => Some("escape"),
+        KeyCode::F(1) => Some("F1"),
+        KeyCode::F(2) => Some("F2"),
+        KeyCode::F(3) => Some("F3"),
+        KeyCode::F(4) => Some("F4"),
+        KeyCode::F(5) => Some("F5"),
         _ => None,
     }
 }
 
-/// The key of a number, before `~`, and from rxvt before `$`, `^` or `@`.
-fn numbered(number: i64) -> Option<&'static str> {
-    match number {
-        1 | 7 => Some("home"),
-        2 => Some("insert"),
-        3 => Some("delete"),
-        4 | 8 => Some("end"),
-        5 => Some("page up"),
-        6 => Some("page down"),
-        15 => Some("F5"),
-        _ => None,
-    }
-}
-
-/// A function key of Linux' console.
-fn linux(character: u8) -> Option<&'static str> {
-    match character {
-        b'A' => Some("F1"),
-        b'B' => Some("F2"),
-        b'C' => Some("F3"),
-        b'D' => Some("F4"),
-        b'E' => Some("F5"),
-        _ => None,
-    }
-}
-
-fn named(name: Option<&'static str>, held: i64) -> Did {
-    match name {
-        Some(name) => Did::Key(name, held),
-        None => Did::Other,
-    }
-}
-
-/// The key of a control sequence.
-fn key_of(params: &[CsiParam], control: char) -> Did {
-    match params {
-        [] => named(key(control), 1),
-        [Integer(1), P(b';'), Integer(held)] => named(key(control), *held),
-        [Integer(number)] => match control {
-            '~' => named(numbered(*number), 1),
-            '^' => named(numbered(*number), 5),
-            '@' => named(numbered(*number), 6),
-            _ => Did::Other,
+/// The key of an event, whichever encoding it came in.
+fn key(event: InputEvent, params: &[CsiParam]) -> Did {
+    let Some((_, key)) = read(event, params) else {
+        return Did::Other;
+    };
+    match key.code {
+        KeyCode::Char(character) if key.modifiers == Modifiers::ALT => Did::Alt(character),
+        code => match name(code) {
+            Some(name) => Did::Key(name, u16::from(key.modifiers.bits()) + 1),
+            None => Did::Other,
         },
-        _ => Did::Other,
     }
 }
 
-/// What a control sequence says: the mouse by its action, keys by their tokens.
-fn sequence(alloc: Global, params: &[CsiParam], control: char) -> Result<Did, AllocError> {
+/// What a control sequence says: the mouse by its action, all else as a key.
+fn sequence(
+    alloc: Global,
+    event: InputEvent,
+    params: &[CsiParam],
+    control: char,
+) -> Result<Did, AllocError> {
     match CSI::parse(alloc, params, false, control).next() {
         Some(Ok(CSI::Mouse(MouseReport::SGR1006 { x, y, button, .. }))) => {
             Ok(Did::Mouse(button, y, x))
         }
         Some(Err(error)) => Err(error),
-        _ => Ok(key_of(params, control)),
+        _ => Ok(key(event, params)),
     }
 }
 
@@ -119,17 +97,10 @@ fn pressed(bytes: &[u8]) -> Did {
 
 fn meaning(alloc: Global, sent: &Sent<'_>, params: &[CsiParam]) -> Result<Did, AllocError> {
     Ok(match sent.event {
-        InputEvent::Output(event) => match event {
-            Event::Text => Did::Typed(sent.bytes.len()),
-            Event::Csi(control) => sequence(alloc, params, control)?,
-            _ => Did::Other,
-        },
-        InputEvent::Ss3(character) => named(key(char::from(character)), 1),
-        InputEvent::Linux(character) => named(linux(character), 1),
-        InputEvent::Rxvt(number) => named(numbered(i64::from(number)), 2),
+        InputEvent::Output(Event::Text) => Did::Typed(sent.bytes.len()),
+        InputEvent::Output(Event::Csi(control)) => sequence(alloc, sent.event, params, control)?,
         InputEvent::Mouse => pressed(sent.bytes),
-        InputEvent::Alt(character) => Did::Alt(char::from(character)),
-        InputEvent::Escape => Did::Key("escape", 1),
+        event => key(event, params),
     })
 }
 

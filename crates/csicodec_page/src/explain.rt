@@ -17,7 +17,15 @@ fn add_spans(page: &mut Page<'_>, mode: Mode, bytes: &[u8]) -> Result<(usize, Mo
     ensures { IfOk result (λ (used, after). used ≤ length bytes.now) }
 {
     let (mut mode, mut rest) = (mode, bytes);
-    while let Some(cut) = next_span(LIMIT, mode, rest) {
+    loop {
+        let known = page.add_known(mode, rest)?;
+        if known > 0 {
+            rest = rest.split_at(known).1;
+            continue;
+        }
+        let Some(cut) = next_span(LIMIT, mode, rest) else {
+            return Ok((bytes.len() - rest.len(), mode));
+        };
         page.add(
             mode,
             cut.span.kind,
@@ -28,7 +36,6 @@ fn add_spans(page: &mut Page<'_>, mode: Mode, bytes: &[u8]) -> Result<(usize, Mo
         mode = cut.mode;
         rest = cut.rest;
     }
-    Ok((bytes.len() - rest.len(), mode))
 }
 
 /// Adds what is sure of these bytes, by the spans of a stream or the events of a dialect; how many bytes it has, and the mode behind it.

@@ -1,4 +1,5 @@
 //! The spans of a stream, each told when it is over.
+ghost use Rattle.std.specs.Prelude.{◌≤◌, IfOk, length};
 
 use crate::controls::{is_control, words_of};
 use crate::totals::{Summary, Totals};
@@ -46,6 +47,23 @@ pub struct Page<'a> {
     /// Whether the last span was text.
     text: bool,
     totals: Totals,
+}
+
+/// The control sequence in front, where it is as most are: `ESC [`, bytes from 20 to 3f, and one from 40 to 7e; else no bytes.
+#[inline(always)]
+fn sequence_front(bytes: &[u8]) -> &[u8]
+    ensures { length result.now ≤ length bytes.now }
+{
+    let [0x1b, b'[', list @ ..] = bytes else {
+        return &[];
+    };
+    let Some(at) = list.iter().position(|byte| !matches!(byte, 0x20..=0x3f)) else {
+        return &[];
+    };
+    match list.get(at) {
+        Some(0x40..=0x7e) => bytes.get(..at.saturating_add(3)).unwrap_or(&[]),
+        _ => &[],
+    }
 }
 
 /// The escape sequence that a span of that kind is.
@@ -301,9 +319,7 @@ impl<'a> Page<'a> {
         self.close()?;
         let span = self.span_here(Sort::Sequence, bytes);
         let actions = tell_actions(self.alloc, &mut self.sheet, span, params, control)?;
-        self.totals.add_actions(actions);
-        self.text = false;
-        self.advance(Kind::Csi, 1, bytes.len());
+        self.end_sequence(actions, bytes.len());
         Ok(())
     }
 
@@ -325,6 +341,14 @@ impl<'a> Page<'a> {
         Ok(())
     }
 
+    /// A control sequence of so many actions and bytes was told.
+    #[inline(always)]
+    fn end_sequence(&mut self, actions: u64, len: usize) {
+        self.totals.add_actions(actions);
+        self.text = false;
+        self.advance(Kind::Csi, 1, len);
+    }
+
     /// A control sequence.
     fn add_sequence(&mut self, bytes: &[u8]) -> Result<(), AllocError> {
         self.close()?;
@@ -332,10 +356,28 @@ impl<'a> Page<'a> {
             Some(actions) => actions,
             None => self.tell_sequence(bytes)?,
         };
-        self.totals.add_actions(actions);
-        self.text = false;
-        self.advance(Kind::Csi, 1, bytes.len());
+        self.end_sequence(actions, bytes.len());
         Ok(())
+    }
+
+    /// A control sequence in front that was told before, where nothing is open: so nothing of it is read. How many bytes it has, 0 where
+    /// there is none.
+    #[inline(always)]
+    pub fn add_known(&mut self, mode: Mode, bytes: &[u8]) -> Result<usize, AllocError>
+        ensures { IfOk result (λ used. used ≤ length bytes.now) }
+    {
+        let front = sequence_front(bytes);
+        if mode != Mode::Text || front.is_empty() {
+            return Ok(0);
+        }
+        self.close()?;
+        match self.sheet.recall(self.time, self.place, front)? {
+            Some(actions) => {
+                self.end_sequence(actions, front.len());
+                Ok(front.len())
+            }
+            None => Ok(0),
+        }
     }
 
     #[inline(never)]

@@ -8,6 +8,7 @@ import tarfile
 import tempfile
 
 from release_build import TARGETS, TOP, Stop, run, sum_of, version
+from release_web import modules_of
 
 # Debian's names of the processors.
 DEBIAN = {"x86_64-linux": "amd64", "aarch64-linux": "arm64"}
@@ -91,9 +92,9 @@ def node(dist, out, room):
     folder = f"{room}/node/package"
     copy([f"web/{name}" for name in ("csicodec.mjs", "csicodec.d.ts", "package.json", "README.md")], folder)
     copy(["LICENSE", f"{dist}/NOTICE"], folder)
-    for name in ("csicodec.wasm", "explain.wasm"):
-        with gzip.open(f"{dist}/web/{name}.gz") as packed, open(f"{folder}/{name}", "wb") as file:
-            file.write(packed.read())
+    for name, held in modules_of(f"{dist}/web/index.html").items():
+        with open(f"{folder}/{name}.wasm", "wb") as file:
+            file.write(held)
     pack(folder, "package", f"{out}/csicodec-{version()}.tgz")
 
 

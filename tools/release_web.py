@@ -2,6 +2,7 @@
 compiled by the kit's clang and linked by its linker; binaryen then makes the memory one of 32 bits, which every browser has.
 """
 import base64
+import gzip
 import os
 import re
 import shutil
@@ -125,8 +126,8 @@ def packed(held):
     return b"\x1f\x8b\x08\0\0\0\0\0\x02\x03" + body + struct.pack("<II", zlib.crc32(held), len(held) % 2**32)
 
 
-def page(to):
-    """The page as one file, with the modules packed inside, so that it also works from a folder with no server."""
+def page(to, packed_modules):
+    """The page as one file, with the modules packed inside, so that it also works from a folder with no server. They lie nowhere else."""
     with open(f"{TOP}/web/index.html", encoding="utf-8") as file:
         text = file.read()
     for name, word in PAGE.items():
@@ -134,19 +135,27 @@ def page(to):
             text = text.replace(f"<!-- {name} -->", f'<script type="text/plain" id="{word}">\n{file.read()}</script>')
     with open(f"{TOP}/web/page.mjs", encoding="utf-8") as file:
         text = text.replace("<!-- page.mjs -->", file.read()).replace('<span id="version"></span>', version())
-    for name in MODULES:
-        with open(f"{to}/{name}.wasm.gz", "rb") as file:
-            text_of = base64.b64encode(file.read()).decode()
+    for name, held in packed_modules.items():
+        text_of = base64.b64encode(held).decode()
         text = text.replace(f"<!-- {name}.wasm -->", f'<script type="text/plain" id="{name}-wasm">{text_of}</script>')
     with open(f"{to}/index.html", "w", encoding="utf-8") as file:
         file.write(text)
 
 
 def build(kit, made, to, room):
-    """The modules, packed, and the page, from what was built for ARM."""
+    """The page, and in it the modules, from what was built for ARM."""
     os.makedirs(to, exist_ok=True)
+    packed_modules = {}
     for name, crate in MODULES.items():
         module(kit, made, crate, f"{room}/{name}.wasm", room)
-        with open(f"{room}/{name}.wasm", "rb") as file, open(f"{to}/{name}.wasm.gz", "wb") as packed_file:
-            packed_file.write(packed(file.read()))
-    page(to)
+        with open(f"{room}/{name}.wasm", "rb") as file:
+            packed_modules[name] = packed(file.read())
+    page(to, packed_modules)
+
+
+def modules_of(page_file):
+    """The modules that the page has inside, by name."""
+    with open(page_file, encoding="utf-8") as file:
+        text = file.read()
+    found = {name: re.search(f'id="{name}-wasm">([^<]+)<', text)[1] for name in MODULES}
+    return {name: gzip.decompress(base64.b64decode(held)) for name, held in found.items()}

@@ -42,7 +42,7 @@ pub use Rattle.csicodec_parser.specs.Groups
 pub use Rattle.csicodec_parser.specs.Look
 pub use Rattle.csicodec_parser.specs.Place
 pub use Rattle.csicodec_parser.specs.Progress
-pub use Rattle.csicodec_parser.specs.Run
+pub use Rattle.csicodec_parser.specs.Next
 pub use Rattle.csicodec_parser.specs.Segments
 pub use Rattle.csicodec_streams.specs.Decoding
 pub use Rattle.csicodec_streams.specs.Refusals

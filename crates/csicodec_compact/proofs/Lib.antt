@@ -2,4 +2,4 @@ pub mod Told
 pub mod Joined
 pub mod JoinedLists
 pub mod Beside
-pub mod Again
+pub mod Meaning

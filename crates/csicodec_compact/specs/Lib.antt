@@ -1,4 +1,4 @@
 pub mod Compacts
 pub mod Runs
-pub mod Again
+pub mod Meaning
 pub mod Private

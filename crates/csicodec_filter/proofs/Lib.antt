@@ -1,3 +1,3 @@
 pub mod Sent
 pub mod Filtered
-pub mod Again
+pub mod Meaning

@@ -1,5 +1,5 @@
 pub mod Faithful
 pub mod Filter
-pub mod Again
+pub mod Meaning
 pub mod Transform
 pub mod Private

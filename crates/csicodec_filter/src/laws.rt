@@ -3,7 +3,7 @@ ghost use Rattle.std.specs.Prelude.{◌<◌, ℕ, List};
 ghost use Rattle.csicodec_spans.specs.declared.table.Mode.{Mode};
 ghost use Rattle.csicodec_spans.specs.Parts.{Part, IsWhole};
 ghost use Rattle.csicodec_filter.specs.Filter.{AreWritten};
-ghost use Rattle.csicodec_filter.specs.Again.{KeepsMeaning, StandInPlace, Within, singles};
+ghost use Rattle.csicodec_filter.specs.Meaning.{KeepsMeaning, StandInPlace, Within, singles};
 
 use crate::rewrite::Rewrite;
 

@@ -11,3 +11,4 @@ pub mod Trip
 pub mod Spelled
 pub mod Fronts
 pub mod Told
+pub mod Written

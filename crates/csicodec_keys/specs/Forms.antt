@@ -1,6 +1,7 @@
 -- The forms in which a key stands in a stream: how each is read, what is written of a key in an encoding, and its bytes.
 use Rattle.std.specs.Prelude.{ℕ, pos, ◌-◌, ◌+◌, ◌%◌, ◌==◌, ◌&&◌, ◌||◌, nat_le, nat_lt, not, Bool, is_none, List, [], ◌∷◌, ◌++◌, Option, Some, None, if◌then◌else◌, option_and_then, encode_utf8}
-use Rattle.std.specs.Option.{option_map, option_or}
+use Rattle.std.specs.List.{list_all}
+use Rattle.std.specs.Option.{is_some, option_map, option_or}
 use Rattle.csicodec_tokens.specs.declared.param.CsiParam.{CsiParam}
 use Rattle.csicodec_tokens.specs.declared.param.CsiParam.TheVariants.{Integer, P}
 use Rattle.csicodec_tokens.specs.Param.{spells}
@@ -247,6 +248,13 @@ form_of encoding.Kitty s =
 form_of encoding.Win32 s = option_map (λ r. form.Win32 r) (record_of s)
 form_of encoding.Rxvt s = xterm_form s (rxvt_form s.code)
 form_of encoding.Linux s = xterm_form s (linux_form s.code)
+
+-- each key of these rows has a form in the encoding, with what its row says is held down, or with this held down
+abbrev pub are_written : Encoding → List Row → Bool
+are_written e rows = list_all (λ (r : Row). is_some (form_of e (pressed_row r))) rows
+
+abbrev pub are_written_with : Encoding → ℕ → List Row → Bool
+are_written_with e held rows = list_all (λ (r : Row). is_some (form_of e (pressed r.code held))) rows
 
 -- ---- a form as an event and as bytes; `text` is what the key types
 

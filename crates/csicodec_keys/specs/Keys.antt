@@ -5,10 +5,10 @@ use Rattle.csicodec_keys.specs.declared.code.KeyCode.TheVariants as code
 use Rattle.csicodec_keys.specs.declared.key.Key.{Key}
 use Rattle.csicodec_keys.specs.declared.key.KeyEvent.{KeyEvent}
 use Rattle.csicodec_keys.specs.declared.key.KeyEvent.TheVariants as event
-use Rattle.csicodec_keys.specs.declared.key.Modifiers.{Modifiers}
+use Rattle.csicodec_keys.specs.declared.key.KeyModifiers.{KeyModifiers}
 use lib.Utf8.{scalar, scalars}
 
-abbrev pub modifier_bits : Modifiers → ℕ
+abbrev pub modifier_bits : KeyModifiers → ℕ
 modifier_bits modifiers = modifiers.bits
 
 abbrev pub is_press : KeyEvent → Bool

@@ -17,71 +17,71 @@ pub type Typed = ArrayVec<char, MOST>;
 ///
 /// Its operations are those of the trait `bitflags::Flags`.
 #[derive(Clone, Copy, PartialEq, Eq, Hash, Debug)]
-pub struct Modifiers {
+pub struct KeyModifiers {
     pub(crate) bits: u8,
 }
 
-impl Modifiers {
+impl KeyModifiers {
     /// No key.
-    pub const NONE: Modifiers = Modifiers { bits: 0 };
+    pub const NONE: KeyModifiers = KeyModifiers { bits: 0 };
     /// Shift.
-    pub const SHIFT: Modifiers = Modifiers { bits: 1 };
+    pub const SHIFT: KeyModifiers = KeyModifiers { bits: 1 };
     /// Alt, Option of a Mac.
-    pub const ALT: Modifiers = Modifiers { bits: 2 };
+    pub const ALT: KeyModifiers = KeyModifiers { bits: 2 };
     /// Control.
-    pub const CTRL: Modifiers = Modifiers { bits: 4 };
+    pub const CTRL: KeyModifiers = KeyModifiers { bits: 4 };
     /// Super, the key of Windows, Command of a Mac.
-    pub const SUPER: Modifiers = Modifiers { bits: 8 };
+    pub const SUPER: KeyModifiers = KeyModifiers { bits: 8 };
     /// Hyper.
-    pub const HYPER: Modifiers = Modifiers { bits: 16 };
+    pub const HYPER: KeyModifiers = KeyModifiers { bits: 16 };
     /// Meta.
-    pub const META: Modifiers = Modifiers { bits: 32 };
+    pub const META: KeyModifiers = KeyModifiers { bits: 32 };
     /// Caps lock is on.
-    pub const CAPS_LOCK: Modifiers = Modifiers { bits: 64 };
+    pub const CAPS_LOCK: KeyModifiers = KeyModifiers { bits: 64 };
     /// Num lock is on.
-    pub const NUM_LOCK: Modifiers = Modifiers { bits: 128 };
+    pub const NUM_LOCK: KeyModifiers = KeyModifiers { bits: 128 };
 }
 
-static MODIFIERS: [Flag<Modifiers>; 9] = [
+static MODIFIERS: [Flag<KeyModifiers>; 9] = [
     Flag {
         name: "NONE",
-        value: Modifiers::NONE,
+        value: KeyModifiers::NONE,
     },
     Flag {
         name: "SHIFT",
-        value: Modifiers::SHIFT,
+        value: KeyModifiers::SHIFT,
     },
     Flag {
         name: "ALT",
-        value: Modifiers::ALT,
+        value: KeyModifiers::ALT,
     },
     Flag {
         name: "CTRL",
-        value: Modifiers::CTRL,
+        value: KeyModifiers::CTRL,
     },
     Flag {
         name: "SUPER",
-        value: Modifiers::SUPER,
+        value: KeyModifiers::SUPER,
     },
     Flag {
         name: "HYPER",
-        value: Modifiers::HYPER,
+        value: KeyModifiers::HYPER,
     },
     Flag {
         name: "META",
-        value: Modifiers::META,
+        value: KeyModifiers::META,
     },
     Flag {
         name: "CAPS_LOCK",
-        value: Modifiers::CAPS_LOCK,
+        value: KeyModifiers::CAPS_LOCK,
     },
     Flag {
         name: "NUM_LOCK",
-        value: Modifiers::NUM_LOCK,
+        value: KeyModifiers::NUM_LOCK,
     },
 ];
 
-impl Flags for Modifiers {
+impl Flags for KeyModifiers {
     type Bits = u8;
 
     ghost exact = { ⊤ };
@@ -90,7 +90,7 @@ impl Flags for Modifiers {
 
     ghost set_of = { modifier_bits };
 
-    fn flags<'a>() -> &'a [Flag<Modifiers>] {
+    fn flags<'a>() -> &'a [Flag<KeyModifiers>] {
         &MODIFIERS
     }
 
@@ -98,8 +98,8 @@ impl Flags for Modifiers {
         self.bits
     }
 
-    fn from_bits_retain(bits: u8) -> Modifiers {
-        Modifiers { bits }
+    fn from_bits_retain(bits: u8) -> KeyModifiers {
+        KeyModifiers { bits }
     }
 }
 
@@ -151,7 +151,7 @@ pub struct Key {
     /// Which key.
     pub code: KeyCode,
     /// What is held down with it.
-    pub modifiers: Modifiers,
+    pub modifiers: KeyModifiers,
     /// What happens to it.
     pub event: KeyEvent,
     /// The characters that it types; none where it types nothing, or the encoding doesn't say.

@@ -1,10 +1,12 @@
 //! Laws of the encodings. Each is the contract of a function that does nothing.
 ghost use Rattle.std.specs.Prelude.{◌≡◌, Some, true};
+ghost use Rattle.csicodec_keys.specs.declared.key.Encoding.TheVariants as encoding;
 ghost use Rattle.csicodec_keys.specs.declared.key.Encoding.{Encoding};
 ghost use Rattle.csicodec_keys.specs.declared.writing.Form.{Form};
-ghost use Rattle.csicodec_keys.specs.Forms.{form_bytes, form_of, read_form, said};
+ghost use Rattle.csicodec_keys.specs.Forms.{are_written, are_written_with, form_bytes, form_of, read_form, said};
 ghost use Rattle.csicodec_keys.specs.Keys.{Stroke, is_stroke};
 ghost use Rattle.csicodec_keys.specs.Sent.{IsToldAs};
+ghost use Rattle.csicodec_keys.specs.Tables.{controls, csi_keys, kitty_keys, linux_keys, other_keys, rxvt_keys, rxvt_ss3, ss3_keys, win32_keys};
 
 /// What is written of a key in an encoding is read as what that encoding can say of it.
 pub fn round_trip()
@@ -18,4 +20,19 @@ pub fn round_trip()
 pub fn told()
     ensures { (encoding : Encoding) (key : Stroke) (form : Form) → is_stroke key ≡ true →
         form_of encoding key ≡ Some form → IsToldAs form key.text (form_bytes form key.text) }
+{}
+
+/// Each key of a table is written in the encoding of that table, with what its row says is held down; with modifyOtherKeys, which writes
+/// nothing without a modifier, with ctrl.
+pub fn every_row()
+    ensures legacy { (controls : are_written encoding.Legacy controls ≡ true)
+        × (ss3 : are_written encoding.Legacy ss3_keys ≡ true)
+        × (csi : are_written encoding.Legacy csi_keys ≡ true) }
+    ensures other { are_written_with encoding.ModifyOtherKeys 4 other_keys ≡ true }
+    ensures kitty { (keys : are_written encoding.Kitty kitty_keys ≡ true)
+        × (csi : are_written encoding.Kitty csi_keys ≡ true) }
+    ensures win32 { are_written encoding.Win32 win32_keys ≡ true }
+    ensures rxvt { (keys : are_written encoding.Rxvt rxvt_keys ≡ true)
+        × (ss3 : are_written encoding.Rxvt rxvt_ss3 ≡ true) }
+    ensures linux { are_written encoding.Linux linux_keys ≡ true }
 {}

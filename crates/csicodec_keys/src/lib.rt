@@ -15,6 +15,6 @@ mod win32;
 mod writing;
 
 pub use code::KeyCode;
-pub use key::{Encoding, Key, KeyEvent, MOST, Modifiers, Typed};
+pub use key::{Encoding, Key, KeyEvent, KeyModifiers, MOST, Typed};
 pub use reading::{read, read_char};
 pub use writing::write;

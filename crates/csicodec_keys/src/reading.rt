@@ -9,7 +9,7 @@ ghost use Rattle.csicodec_keys.specs.Win32.{read_win32};
 
 use crate::code::KeyCode;
 use crate::fields::{Fields, read_list};
-use crate::key::{Encoding, Key, KeyEvent, Modifiers, Typed};
+use crate::key::{Encoding, Key, KeyEvent, KeyModifiers, Typed};
 use crate::rows::{
     Row, controls, csi_keys, kitty_keys, linux_keys, other_keys, row_at, rxvt_keys, rxvt_ss3,
     ss3_cursor, ss3_keys,
@@ -31,7 +31,7 @@ fn pressed(code: KeyCode, held: u8) -> Key
 {
     Key {
         code,
-        modifiers: Modifiers { bits: held },
+        modifiers: KeyModifiers { bits: held },
         event: KeyEvent::Press,
         text: Typed::new(),
     }
@@ -45,7 +45,7 @@ fn typing(character: char) -> Key
     text.push(character);
     Key {
         code: KeyCode::Char(character),
-        modifiers: Modifiers { bits: 0 },
+        modifiers: KeyModifiers { bits: 0 },
         event: KeyEvent::Press,
         text,
     }
@@ -124,7 +124,7 @@ fn row_key(fields: Fields, row: Row) -> Option<Key>
     let held = held_by(row.held, fields.held)?;
     Some(Key {
         code: row.code,
-        modifiers: Modifiers { bits: held },
+        modifiers: KeyModifiers { bits: held },
         event: fields.event,
         text: fields.text,
     })
@@ -140,7 +140,7 @@ fn char_key(fields: Fields, control: char) -> Option<Key>
     }
     Some(Key {
         code: KeyCode::Char(character),
-        modifiers: Modifiers { bits: fields.held },
+        modifiers: KeyModifiers { bits: fields.held },
         event: fields.event,
         text: fields.text,
     })
@@ -210,7 +210,7 @@ fn other_key(fields: &Fields, control: char) -> Option<Key>
     }
     Some(Key {
         code: numbered(*character)?,
-        modifiers: Modifiers { bits: fields.held },
+        modifiers: KeyModifiers { bits: fields.held },
         event: fields.event,
         text: Typed::new(),
     })

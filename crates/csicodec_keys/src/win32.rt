@@ -6,7 +6,7 @@ ghost use Rattle.csicodec_keys.specs.Win32.{alone_record, behind_number, bit, ch
 
 use crate::code::KeyCode;
 use crate::fields::number_of;
-use crate::key::{Key, KeyEvent, Modifiers, Typed};
+use crate::key::{Key, KeyEvent, KeyModifiers, Typed};
 use crate::reading::is_typed;
 use crate::rows::{Row, row_at, row_of, win32_keys};
 use csicodec_tokens::CsiParam;
@@ -145,7 +145,7 @@ fn win32_key(told: Record) -> Option<Key>
     let code = win32_code(win32_row(told.vk, told.cs / 256 % 2 == 1), character)?;
     Some(Key {
         code,
-        modifiers: Modifiers {
+        modifiers: KeyModifiers {
             bits: held_in(told.cs),
         },
         event: went(told.kd),

@@ -17,7 +17,7 @@ use Rattle.csicodec_parser.specs.Groups.{group}
 use Rattle.csicodec_parser.specs.Cut.{IsRestAfter}
 use Rattle.csicodec_parser.specs.Segments.{Actions}
 use Rattle.csicodec_parser.specs.Progress.{Progress, ActionsOf, HasEnded, most_left}
-use Rattle.csicodec_parser.specs.Run.{Answers, AnswersRef, IsRef, Nexts, NextsRef}
+use Rattle.csicodec_parser.specs.Next.{Answers, AnswersRef, IsRef, Nexts, NextsRef}
 use Rattle.csicodec_parser.specs.Private.Steps.{rest_action, actions, actions_after, left_at, fresh_cost, from_at, GoesBy, CanGo, CutsOn, all_of, has_failed, Stands, Sound}
 use Rattle.csicodec_parser.proofs.Blocks.{after_some}
 use Rattle.csicodec_parser.proofs.Cuts.{actions_are, actions_only, actions_count, first_rest, more_rest}

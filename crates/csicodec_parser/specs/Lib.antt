@@ -5,6 +5,6 @@ pub mod Groups
 pub mod Look
 pub mod Place
 pub mod Progress
-pub mod Run
+pub mod Next
 pub mod Segments
 pub mod Private

@@ -4,7 +4,7 @@ ghost use Rattle.csicodec_tokens.specs.declared.param.CsiParam.{CsiParam};
 ghost use Rattle.csicodec_actions.specs.Actions.{Unspecified as Unknown};
 ghost use Rattle.csicodec_parser.specs.ActionOf.{action_of};
 ghost use Rattle.csicodec_parser.specs.Groups.{group as group_of_list, has_odd, marked, start};
-ghost use Rattle.csicodec_parser.specs.Run.{IsRef};
+ghost use Rattle.csicodec_parser.specs.Next.{IsRef};
 ghost use Rattle.csicodec_parser.specs.Segments.{Actions};
 ghost use Rattle.csicodec_actions.specs.Table.{unboxed, whole};
 ghost use Rattle.csicodec_parser.specs.Private.Steps.{with_semicolon, block, rest_action, left_at, fresh_cost, from_at, GoesBy, CanGo, CutsOn};
@@ -409,7 +409,7 @@ impl<L: Look> Run<L> {
 impl<L: Look> Iterator for Run<L> {
     ghost use Rattle.std.specs.Iterator.{at_most};
     ghost use Rattle.csicodec_parser.specs.Progress.{most_left};
-    ghost use Rattle.csicodec_parser.specs.Run.{Nexts};
+    ghost use Rattle.csicodec_parser.specs.Next.{Nexts};
 
     type Item = Result<CSI, AllocError>;
 
@@ -479,7 +479,7 @@ impl CSI {
 impl<'a> Run<Tokens<'a>> {
     ghost use Rattle.csicodec_parser.specs.Progress.{HasEnded, most_left};
     ghost use Rattle.csicodec_parser.specs.Cut.{IsRestAfter};
-    ghost use Rattle.csicodec_parser.specs.Run.{NextsRef};
+    ghost use Rattle.csicodec_parser.specs.Next.{NextsRef};
 
     /// The unread end of the caller's list: all of it before the first `next`, and never `Some` of nothing after one. It may be
     /// kept for as long as the list. `None` after the last action, and after an `Err`.

@@ -8,7 +8,7 @@ use Rattle.std.proofs.lemmas.List.{flat_map_more, take_more}
 use Rattle.std.proofs.lemmas.Option.{get_or_from_slice_get, slice_get_within}
 use Rattle.csicodec_actions.specs.Actions.{Action}
 use Rattle.csicodec_parser.specs.declared.parser.ActionRef.{ActionRef}
-use Rattle.csicodec_parser.specs.Run.{IsRef}
+use Rattle.csicodec_parser.specs.Next.{IsRef}
 use Rattle.csicodec_structs.specs.declared.lay.Counts.{Counts}
 use Rattle.csicodec_structs.specs.declared.structs.Param.{Param}
 use Rattle.csicodec_structs.specs.declared.structs.Struct.{Struct}

@@ -6,7 +6,7 @@ use Rattle.csicodec_tokens.specs.declared.param.CsiParam.{CsiParam}
 use Rattle.csicodec_actions.specs.Actions.{Action}
 use Rattle.csicodec_parser.specs.declared.parser.ActionRef.{ActionRef}
 use Rattle.csicodec_parser.specs.Progress.{ActionsOf, HasEnded, Progress}
-use Rattle.csicodec_parser.specs.Run.{AnswersRef, IsRef, NextsRef}
+use Rattle.csicodec_parser.specs.Next.{AnswersRef, IsRef, NextsRef}
 use Rattle.csicodec_parser.specs.Segments.{Actions}
 use Rattle.csicodec_structs.proofs.Laid.{take_got}
 

@@ -11,7 +11,7 @@ use Rattle.csicodec_parser.specs.declared.parser.ActionRef.{ActionRef}
 use Rattle.csicodec_parser.specs.declared.parser.ActionRef.TheVariants.{Small}
 use Rattle.csicodec_parser.specs.ActionOf.{action_of}
 use Rattle.csicodec_parser.specs.Progress.{HasEnded, Progress, begun}
-use Rattle.csicodec_parser.specs.Run.{IsRef, NextsRef}
+use Rattle.csicodec_parser.specs.Next.{IsRef, NextsRef}
 use Rattle.csicodec_parser.specs.Segments.{Actions}
 use Rattle.csicodec_streams.specs.Decoding.{NormalisesTo}
 use Rattle.csicodec_structs.proofs.Running.{same_list}

@@ -4,7 +4,7 @@ ghost use Rattle.csicodec_actions.specs.Actions.{Action, Unspecified as Unknown}
 ghost use Rattle.csicodec_actions.specs.Devices.{device_of};
 ghost use Rattle.csicodec_actions.specs.Table.{boxed};
 ghost use Rattle.csicodec_parser.specs.ActionOf.{action_of};
-ghost use Rattle.csicodec_parser.specs.Run.{IsRef};
+ghost use Rattle.csicodec_parser.specs.Next.{IsRef};
 ghost use Rattle.csicodec_parser.specs.Segments.{Actions};
 ghost use Rattle.csicodec_structs.specs.Next.{Lays};
 ghost use Rattle.csicodec_structs.specs.Private.Fronts.{LaysOne, PutsBehind, headed, large_of};

@@ -9,7 +9,7 @@ ghost use Rattle.std.specs.Prelude.{◌≡◌, ◌++◌, List, ℕ, IfOk};
 use bitflags::Flags;
 use csicodec::{CSI, CsiParam, MouseButton, MouseReport};
 use csicodec_events::{Dialect, Event, Events, InputEvent, Sent};
-use csicodec_keys::{KeyCode, Modifiers, read};
+use csicodec_keys::{KeyCode, KeyModifiers, read};
 use std::alloc::{AllocError, Global};
 use std::io::Read;
 
@@ -59,7 +59,7 @@ fn key(event: InputEvent, params: &[CsiParam]) -> Did {
         return Did::Other;
     };
     match key.code {
-        KeyCode::Char(character) if key.modifiers == Modifiers::ALT => Did::Alt(character),
+        KeyCode::Char(character) if key.modifiers == KeyModifiers::ALT => Did::Alt(character),
         code => match name(code) {
             Some(name) => Did::Key(name, u16::from(key.modifiers.bits()) + 1),
             None => Did::Other,

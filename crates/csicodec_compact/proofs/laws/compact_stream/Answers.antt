@@ -1,4 +1,4 @@
-use Rattle.csicodec_compact.proofs.Again.{has_again, no_longer}
+use Rattle.csicodec_compact.proofs.Meaning.{has_again, no_longer}
 use Rattle.csicodec_compact.proofs.laws.compact_stream.Goals as goal
 
 pub returns : goal.returns

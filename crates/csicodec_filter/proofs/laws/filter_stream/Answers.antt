@@ -1,4 +1,4 @@
-use Rattle.csicodec_filter.proofs.Again.{filter_stream_lem}
+use Rattle.csicodec_filter.proofs.Meaning.{filter_stream_lem}
 use Rattle.csicodec_filter.proofs.laws.filter_stream.Goals as goal
 
 pub returns : goal.returns

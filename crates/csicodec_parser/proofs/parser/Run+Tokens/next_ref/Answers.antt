@@ -3,7 +3,7 @@ use Rattle.csicodec_tokens.specs.declared.param.CsiParam.{CsiParam}
 use Rattle.csicodec_parser.specs.ActionOf.{action_of}
 use Rattle.csicodec_parser.specs.Progress.{Progress}
 use Rattle.csicodec_parser.specs.Private.Steps.{rest_action}
-use Rattle.csicodec_parser.specs.Run.{IsRef}
+use Rattle.csicodec_parser.specs.Next.{IsRef}
 use Rattle.csicodec_parser.proofs.NextLemmas.{goes_ok, ref_none, ref_ok, rest_alone, sound_ok}
 use Rattle.csicodec_parser.proofs.parser.Run+Tokens.next_ref.Goals as goal
 

@@ -6,9 +6,9 @@ use Rattle.std.specs.List.{flat_map}
 use Rattle.csicodec_spans.specs.declared.table.Mode.{Mode}
 use Rattle.csicodec_spans.specs.Parts.{Part, bytes_of}
 use Rattle.csicodec_spans.proofs.Spanned.{whole_joined}
-use Rattle.csicodec_filter.proofs.Again.{AreMeant, again}
+use Rattle.csicodec_filter.proofs.Meaning.{AreMeant, again}
 use Rattle.csicodec_compact.specs.Runs.{AreRuns, IsRun, CompactsAll}
-use Rattle.csicodec_compact.specs.Again.{HasAgain, HasShortRows}
+use Rattle.csicodec_compact.specs.Meaning.{HasAgain, HasShortRows}
 
 -- what is written for a run is no longer than its row
 are_meant : (limit : ℕ) (runs : List (List Part)) (parts : List Part) (text : List ℕ) → HasShortRows limit parts → AreRuns runs parts text → AreMeant limit runs parts text

@@ -3,7 +3,7 @@ use Rattle.std.specs.Prelude.{ℕ, ◌≡◌, ◌≤◌, List, ◌++◌, length}
 use Rattle.std.specs.List.{flat_map}
 use Rattle.csicodec_spans.specs.declared.table.Mode.{Mode}
 use Rattle.csicodec_spans.specs.Parts.{Part, bytes_of, IsWhole}
-use Rattle.csicodec_filter.specs.Again.{AreCsi, StandInPlace}
+use Rattle.csicodec_filter.specs.Meaning.{AreCsi, StandInPlace}
 use Rattle.csicodec_compact.specs.Runs.{CompactsAll}
 
 -- control sequences that stand side by side have no more than `limit` bytes

@@ -26,7 +26,7 @@ use Rattle.csicodec_spans.proofs.OneSpan.{none_unsure}
 use Rattle.csicodec_spans.proofs.Rows.{Sound, kept}
 use Rattle.csicodec_spans.proofs.Spanned.{whole_joined}
 use Rattle.csicodec_filter.specs.Filter.{AreWritten, IsWritten}
-use Rattle.csicodec_filter.specs.Again.{AreCsi, Means, MeanTheSame, StandInPlace, singles, KeepsMeaning, Within}
+use Rattle.csicodec_filter.specs.Meaning.{AreCsi, Means, MeanTheSame, StandInPlace, singles, KeepsMeaning, Within}
 
 -- ---- a part depends on what is behind it as far as two bytes
 

@@ -337,7 +337,7 @@ fn is_dec_mode(mode: DecPrivateMode) -> bool
     }
 }
 
-/// The same of a mode of the standard.
+/// A mode of the standard is read as itself by its code, or by a number that has none.
 fn is_terminal_mode(mode: TerminalMode) -> bool
     ensures { IsTrue result ↔ Good Terminal mode }
 {

@@ -217,7 +217,7 @@ impl LinkReader {
         Ok(linked)
     }
 
-    /// The same of each of the bytes in turn.
+    /// Takes bytes of a control string in turn, appends the links that are over with them, and answers whether one is open then.
     pub(crate) fn append_links(
         &mut self,
         bytes: &[u8],

@@ -57,7 +57,7 @@ fn append_style(depth: Depth, action: &CSI, out: &mut Vec<u8>) -> Result<(), All
     }
 }
 
-/// The same of each of the actions in turn.
+/// Appends the styles of each of the actions in turn.
 pub(crate) fn append_styles(
     depth: Depth,
     actions: &[CSI],

@@ -146,7 +146,7 @@ impl Lists {
         }
     }
 
-    /// The same of a text that may be the bytes of a sequence before `m`, of which the list is known.
+    /// Whether a text is read as this list before `m`: at once where it is the bytes that the list came in.
     fn is_list_as(
         &mut self,
         text: &[u8],

@@ -101,7 +101,7 @@ impl Written {
         }
     }
 
-    /// The same of a vector.
+    /// Ends the open list in a vector.
     pub(crate) fn close_into(&mut self, out: &mut Vec<u8>) -> Result<(), AllocError>
         ensures text { OnOk result (out.new.items ≡ out.old.items ++ closing self.old.form) }
         ensures form { self.new.form ≡ Form.Whole }
@@ -219,7 +219,7 @@ impl Written {
         out.push_slice(span)
     }
 
-    /// The same of the first bytes.
+    /// Writes so many bytes in front, which are no control sequence: the list before them is over.
     #[inline(always)]
     pub(crate) fn pass_front(
         &mut self,

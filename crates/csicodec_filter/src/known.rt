@@ -40,7 +40,7 @@ impl<N: Note> Known<N> {
         self.memo.find(bytes, &mut self.note)
     }
 
-    /// The same of fewer bytes than a place is told for: with others behind.
+    /// Looks up fewer bytes than a place is told for: with others behind.
     #[inline(never)]
     fn look_at_end(&mut self, limit: usize, bytes: &[u8]) -> usize
         requires { AreKnown N.notes self.old.memo.slots.items }
@@ -77,7 +77,7 @@ impl<N: Note> Known<N> {
         self.memo.recall(bytes, out)
     }
 
-    /// The same of fewer bytes than a place is told for.
+    /// Recalls the text of fewer bytes than a place is told for.
     #[inline(never)]
     fn recall_at_end(&mut self, limit: usize, bytes: &[u8], out: &mut TextBuffer) -> usize
         requires { AreKnown N.notes self.old.memo.slots.items }

@@ -113,7 +113,7 @@ impl Lead {
         self.next.take(byte)
     }
 
-    /// The same of each of the bytes in turn.
+    /// Takes bytes of a control string in turn, and appends the tags for each link that is over with them.
     pub(crate) fn append_links(
         &mut self,
         look: Look,

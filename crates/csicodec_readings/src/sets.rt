@@ -143,7 +143,7 @@ pub fn designated(place: u8, between: &[u8], last: u8) -> Option<Escape> {
     Some(Escape::Set(place, find(rows, between, last).unwrap_or(another)))
 }
 
-/// The same of several bytes a character; it becomes what stands behind `$`, and G0 where nothing does.
+/// A set of several bytes a character; it becomes what stands behind `$`, and G0 where nothing does.
 pub fn designated_of_several(between: &[u8], last: u8) -> Option<Escape> {
     let (place, behind) = between.split_first().unwrap_or((&b'(', &[]));
     let (place, _) = place_of(*place)?;

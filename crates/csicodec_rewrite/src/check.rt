@@ -48,7 +48,7 @@ fn push_line(checked: &mut Checked, line: &[u8]) -> Result<bool, AllocError> {
     checked.push(b"\n")
 }
 
-/// The same of what the programs of a recording wrote, where the places are.
+/// Checks what the programs of a recording wrote; the places are those in it.
 pub fn check_cast<R: BufRead>(alloc: Global, input: &mut R) -> Result<(), Failure> {
     let written = written_of(alloc, input)?;
     let mut checked = Checked::new(alloc);

@@ -19,7 +19,7 @@ fn before_esc_16(lanes: u8x16) -> usize
         .trailing_zeros() as usize
 }
 
-/// The same of twice as many.
+/// How many of 32 lanes stand before the first ESC among them.
 #[inline(always)]
 fn before_esc_32(lanes: u8x32) -> usize
     ensures { (k : ℕ) → k < result → k < 32 → stays Mode.Text (slice_index lanes k) ≡ true }

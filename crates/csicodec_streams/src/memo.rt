@@ -196,7 +196,7 @@ impl<N: Note> Memo<N> {
         self.seek_beside(place.group, same, bytes)
     }
 
-    /// The same of the others with that mark.
+    /// Where these bytes stand among the other places with that mark.
     #[cold]
     #[inline(never)]
     fn seek_beside(&self, group: usize, same: u64, bytes: &[u8]) -> Option<usize>
@@ -548,7 +548,7 @@ fn same_16(a: u8x16, b: u8x16) -> usize
     a.simd_ne(b).to_bitmask().trailing_zeros() as usize
 }
 
-/// The same of longer ones.
+/// As many of 32 bytes are the same in front.
 #[inline(always)]
 fn same_32(a: u8x32, b: u8x32) -> usize
     ensures same { take result a ≡ take result b }

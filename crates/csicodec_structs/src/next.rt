@@ -118,7 +118,7 @@ fn next_long(alloc: Global, bytes: &[u8], actions: &mut [Struct], params: &mut [
     answer(alloc, &list, tail.control, used, actions, params)
 }
 
-/// The same of a sequence of up to 32 tokens, which take no memory.
+/// Reads a sequence of up to 32 tokens, which take no memory.
 #[cold]
 #[inline(never)]
 fn next_wide(alloc: Global, bytes: &[u8], actions: &mut [Struct], params: &mut [Param]) -> Front

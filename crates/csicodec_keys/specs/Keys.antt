@@ -5,7 +5,7 @@ use Rattle.csicodec_keys.specs.declared.code.KeyCode.TheVariants as code
 use Rattle.csicodec_keys.specs.declared.key.Key.{Key}
 use Rattle.csicodec_keys.specs.declared.key.KeyEvent.{KeyEvent}
 use Rattle.csicodec_keys.specs.declared.key.KeyEvent.TheVariants as event
-use Rattle.csicodec_keys.specs.declared.key.KeyModifiers.{KeyModifiers}
+use Rattle.csicodec_keys.specs.declared.modifiers.KeyModifiers.{KeyModifiers}
 use lib.Utf8.{scalar, scalars}
 
 abbrev pub modifier_bits : KeyModifiers → ℕ

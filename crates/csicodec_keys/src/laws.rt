@@ -25,14 +25,14 @@ pub fn told()
 /// Each key of a table is written in the encoding of that table, with what its row says is held down; with modifyOtherKeys, which writes
 /// nothing without a modifier, with ctrl.
 pub fn every_row()
-    ensures legacy { (controls : are_written encoding.Legacy controls ≡ true)
-        × (ss3 : are_written encoding.Legacy ss3_keys ≡ true)
-        × (csi : are_written encoding.Legacy csi_keys ≡ true) }
+    ensures legacy { (are_written encoding.Legacy controls ≡ true)
+        × (are_written encoding.Legacy ss3_keys ≡ true)
+        × (are_written encoding.Legacy csi_keys ≡ true) }
     ensures other { are_written_with encoding.ModifyOtherKeys 4 other_keys ≡ true }
-    ensures kitty { (keys : are_written encoding.Kitty kitty_keys ≡ true)
-        × (csi : are_written encoding.Kitty csi_keys ≡ true) }
+    ensures kitty { (are_written encoding.Kitty kitty_keys ≡ true)
+        × (are_written encoding.Kitty csi_keys ≡ true) }
     ensures win32 { are_written encoding.Win32 win32_keys ≡ true }
-    ensures rxvt { (keys : are_written encoding.Rxvt rxvt_keys ≡ true)
-        × (ss3 : are_written encoding.Rxvt rxvt_ss3 ≡ true) }
+    ensures rxvt { (are_written encoding.Rxvt rxvt_keys ≡ true)
+        × (are_written encoding.Rxvt rxvt_ss3 ≡ true) }
     ensures linux { are_written encoding.Linux linux_keys ≡ true }
 {}

@@ -9,12 +9,14 @@ mod code;
 mod fields;
 mod key;
 pub mod laws;
+mod modifiers;
 mod reading;
 mod rows;
 mod win32;
 mod writing;
 
 pub use code::KeyCode;
-pub use key::{Encoding, Key, KeyEvent, KeyModifiers, MOST, Typed};
+pub use key::{Encoding, Key, KeyEvent, MOST, Typed};
+pub use modifiers::KeyModifiers;
 pub use reading::{read, read_char};
 pub use writing::write;

@@ -9,7 +9,8 @@ ghost use Rattle.csicodec_keys.specs.Win32.{read_win32};
 
 use crate::code::KeyCode;
 use crate::fields::{Fields, read_list};
-use crate::key::{Encoding, Key, KeyEvent, KeyModifiers, Typed};
+use crate::key::{Encoding, Key, KeyEvent, Typed};
+use crate::modifiers::KeyModifiers;
 use crate::rows::{
     Row, controls, csi_keys, kitty_keys, linux_keys, other_keys, row_at, rxvt_keys, rxvt_ss3,
     ss3_cursor, ss3_keys,

@@ -6,7 +6,8 @@ ghost use Rattle.csicodec_keys.specs.Win32.{alone_record, behind_number, bit, ch
 
 use crate::code::KeyCode;
 use crate::fields::number_of;
-use crate::key::{Key, KeyEvent, KeyModifiers, Typed};
+use crate::key::{Key, KeyEvent, Typed};
+use crate::modifiers::KeyModifiers;
 use crate::reading::is_typed;
 use crate::rows::{Row, row_at, row_of, win32_keys};
 use csicodec_tokens::CsiParam;

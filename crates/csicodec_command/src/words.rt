@@ -144,4 +144,4 @@ is told, with the time of each. Ahead of each of several FILEs stands its name.
   -h, --help      this text";
 
 /// The program's name and version.
-pub const VERSION: &str = "csicodec 1.5.0";
+pub const VERSION: &str = "csicodec 1.6.0";

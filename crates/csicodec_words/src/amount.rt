@@ -9,9 +9,6 @@ pub fn counted<W: fmt::Write>(
     count: u32,
     unit: &'static str,
 ) -> fmt::Result {
-    if count == 1 {
-        write!(f, "{words} {count} {unit}")
-    } else {
-        write!(f, "{words} {count} {unit}s")
-    }
+    write!(f, "{words} {count} {unit}")?;
+    if count == 1 { Ok(()) } else { f.write_str("s") }
 }

@@ -97,10 +97,11 @@ pub fn margins<W: fmt::Write>(
     last: &OneBased,
 ) -> fmt::Result {
     let (first, last) = (first.as_one_based(), last.as_one_based());
+    f.write_str(name)?;
     match (first, last) {
-        (1, u32::MAX) => write!(f, "{name} the whole screen"),
-        (_, u32::MAX) => write!(f, "{name} {unit} {first} to the last"),
-        _ => write!(f, "{name} {unit}s {first} to {last}"),
+        (1, u32::MAX) => f.write_str(" the whole screen"),
+        (_, u32::MAX) => write!(f, " {unit} {first} to the last"),
+        _ => write!(f, " {unit}s {first} to {last}"),
     }
 }
 

@@ -1,31 +1,29 @@
 //! What a terminal is, and its graphics, in words.
 
 use crate::describe::Describe;
+use crate::numbered::words_of;
 use csicodec_actions::{
     Device, DeviceAttribute, DeviceAttributeFlags, DeviceAttributes, XtSmGraphics, XtSmGraphicsItem,
 };
-use csicodec_base::{CsiParam, DeviceAttributeCodes};
+use csicodec_base::CsiParam;
 use std::fmt;
 
 impl Describe for Device {
     fn describe<W: fmt::Write>(&self, f: &mut fmt::Formatter<W>) -> fmt::Result {
-        match self {
-            Device::DeviceAttributes(attributes) => attributes.describe(f),
-            Device::SoftReset => f.write_str("DECSTR  soft reset"),
-            Device::RequestPrimaryDeviceAttributes => {
-                f.write_str("DA1  ask for the terminal's class and extensions")
-            }
-            Device::RequestSecondaryDeviceAttributes => {
-                f.write_str("DA2  ask for the terminal's type and version")
-            }
-            Device::RequestTertiaryDeviceAttributes => { f.write_str("DA3  ask for the unit's ID") }
-            Device::RequestTerminalNameAndVersion => {
-                f.write_str("XTVERSION  ask for the terminal's name and version")
-            }
-            Device::RequestTerminalParameters(number) => line_asked(f, *number),
-            Device::StatusReport => f.write_str("DSR  ask for the terminal's status"),
-            Device::XtSmGraphics(graphics) => graphics.describe(f),
-        }
+        f.write_str(match self {
+            Device::DeviceAttributes(attributes) => return attributes.describe(f),
+            Device::SoftReset => "DECSTR  soft reset",
+            Device::RequestPrimaryDeviceAttributes =>
+                "DA1  ask for the terminal's class and extensions",
+            Device::RequestSecondaryDeviceAttributes =>
+                "DA2  ask for the terminal's type and version",
+            Device::RequestTertiaryDeviceAttributes => "DA3  ask for the unit's ID",
+            Device::RequestTerminalNameAndVersion =>
+                "XTVERSION  ask for the terminal's name and version",
+            Device::RequestTerminalParameters(number) => return line_asked(f, *number),
+            Device::StatusReport => "DSR  ask for the terminal's status",
+            Device::XtSmGraphics(graphics) => return graphics.describe(f),
+        })
     }
 }
 
@@ -73,7 +71,7 @@ fn extensions<W: fmt::Write>(
 impl Describe for DeviceAttribute {
     fn describe<W: fmt::Write>(&self, f: &mut fmt::Formatter<W>) -> fmt::Result {
         match self {
-            DeviceAttribute::Code(code) => f.write_str(extension(code)),
+            DeviceAttribute::Code(code) => tell_extension(f, code.to_i64()),
             DeviceAttribute::Unspecified(CsiParam::Integer(number)) => {
                 tell_extension(f, *number)
             }
@@ -84,53 +82,43 @@ impl Describe for DeviceAttribute {
 
 /// The extension of this number, as a terminal tells it (DA1): by its name, where the codec, DEC or xterm has one.
 pub fn tell_extension<W: fmt::Write>(f: &mut fmt::Formatter<W>, number: i64) -> fmt::Result {
-    match DeviceAttributeCodes::from_i64(number) {
-        Some(code) => f.write_str(extension(&code)),
-        None => match other_extension(number) {
-            Some(name) => f.write_str(name),
-            None => write!(f, "extension {number}"),
-        },
+    match words_of(&EXTENSION_NAMES, number) {
+        Some(name) => f.write_str(name),
+        None => write!(f, "extension {number}"),
     }
 }
 
-/// Extensions that the codec has no code for (DEC's manuals of VT420 to VT525; xterm's ctlseqs; 52 of foot and others).
-fn other_extension(number: i64) -> Option<&'static str> {
-    Some(match number {
-        7 => "soft character set (DRCS)",
-        12 => "Serbo-Croatian characters",
-        14 => "8-bit interface",
-        16 => "locator port",
-        17 => "terminal state interrogation",
-        19 => "sessions",
-        23 => "Greek",
-        24 => "Turkish",
-        28 => "rectangular editing",
-        32 => "text macros",
-        42 => "Latin-2",
-        44 => "PCTerm",
-        45 => "soft key map",
-        46 => "ASCII emulation",
-        52 => "clipboard",
-        _ => return None,
-    })
-}
-
-fn extension(code: &DeviceAttributeCodes) -> &'static str {
-    match code {
-        DeviceAttributeCodes::Columns132 => "132 columns",
-        DeviceAttributeCodes::Printer => "printer",
-        DeviceAttributeCodes::RegisGraphics => "ReGIS graphics",
-        DeviceAttributeCodes::SixelGraphics => "sixel graphics",
-        DeviceAttributeCodes::SelectiveErase => "selective erase",
-        DeviceAttributeCodes::UserDefinedKeys => "user-defined keys",
-        DeviceAttributeCodes::NationalReplacementCharsets => "national replacement character sets",
-        DeviceAttributeCodes::TechnicalCharacters => "technical characters",
-        DeviceAttributeCodes::UserWindows => "user windows",
-        DeviceAttributeCodes::HorizontalScrolling => "horizontal scrolling",
-        DeviceAttributeCodes::AnsiColor => "ANSI colours",
-        DeviceAttributeCodes::AnsiTextLocator => "text locator",
-    }
-}
+/// The extensions by their numbers: those of the codec's codes, and others (DEC's manuals of VT420 to VT525; xterm's ctlseqs; 52 of
+/// foot and others).
+static EXTENSION_NAMES: [(i64, &str); 27] = [
+    (1, "132 columns"),
+    (2, "printer"),
+    (3, "ReGIS graphics"),
+    (4, "sixel graphics"),
+    (6, "selective erase"),
+    (7, "soft character set (DRCS)"),
+    (8, "user-defined keys"),
+    (9, "national replacement character sets"),
+    (12, "Serbo-Croatian characters"),
+    (14, "8-bit interface"),
+    (15, "technical characters"),
+    (16, "locator port"),
+    (17, "terminal state interrogation"),
+    (18, "user windows"),
+    (19, "sessions"),
+    (21, "horizontal scrolling"),
+    (22, "ANSI colours"),
+    (23, "Greek"),
+    (24, "Turkish"),
+    (28, "rectangular editing"),
+    (29, "text locator"),
+    (32, "text macros"),
+    (42, "Latin-2"),
+    (44, "PCTerm"),
+    (45, "soft key map"),
+    (46, "ASCII emulation"),
+    (52, "clipboard"),
+];
 
 /// The second number is an action of a request or a status of an answer: 0 is only a status and 4 only an action, and of
 /// 1 to 3 both meanings are told.

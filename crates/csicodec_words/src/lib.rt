@@ -11,6 +11,7 @@ mod esc;
 mod keyboard;
 mod mode;
 mod mouse;
+mod numbered;
 mod other_modes;
 mod sgr;
 mod window;
@@ -21,6 +22,7 @@ use csicodec_parser::{CSI, Unspecified};
 pub use describe::{Describe, Described};
 pub use device::tell_extension;
 pub use mode::{private_mode_name, terminal_mode_name};
+pub use numbered::{Numbered, words_of};
 use std::fmt;
 
 /// In the words of its subject.

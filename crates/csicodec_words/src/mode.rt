@@ -1,9 +1,10 @@
 //! Modes, in words.
 
 use crate::describe::Describe;
-use crate::other_modes::{other_mode, other_terminal_mode};
+use crate::numbered::words_of;
+use crate::other_modes::{UNNAMED, UNNAMED_PRIVATE, other_mode, other_terminal_mode};
 use csicodec_actions::{DecPrivateMode, Mode, TerminalMode, XtermKeyModifierResource};
-use csicodec_base::{DecPrivateModeCode, TerminalModeCode};
+use csicodec_base::TerminalModeCode;
 use std::fmt;
 
 /// What is done to a mode.
@@ -46,9 +47,9 @@ fn private<W: fmt::Write>(
 ) -> fmt::Result {
     let number = mode.number();
     let words = match mode {
-        DecPrivateMode::Code(code) => match in_one(code, deed) {
+        DecPrivateMode::Code(_) => match in_one(number, deed) {
             Some(words) => return write!(f, "{name} {number}  {words}"),
-            None => private_mode(code),
+            None => words_of(&PRIVATE_MODES, i64::from(number)).unwrap_or(UNNAMED_PRIVATE),
         },
         DecPrivateMode::Unspecified(number) => other_mode(*number),
     };
@@ -64,7 +65,7 @@ fn terminal<W: fmt::Write>(
 ) -> fmt::Result {
     let number = mode.number();
     let words = match mode {
-        TerminalMode::Code(code) => terminal_mode(code),
+        TerminalMode::Code(_) => words_of(&TERMINAL_MODES, i64::from(number)).unwrap_or(UNNAMED),
         TerminalMode::Unspecified(number) => other_terminal_mode(*number),
     };
     let deed = match (mode, deed) {
@@ -83,103 +84,103 @@ fn done<W: fmt::Write>(
     words: &'static str,
     deed: Deed,
 ) -> fmt::Result {
-    match deed {
-        Deed::Set => write!(f, "{name} {number}  {words} on"),
-        Deed::Reset => write!(f, "{name} {number}  {words} off"),
-        Deed::Save => write!(f, "{name} {number}  save the mode: {words}"),
-        Deed::Restore => write!(f, "{name} {number}  restore the mode: {words}"),
-        Deed::Query => write!(f, "{name} {number}  ask for the mode: {words}"),
-    }
+    let (ahead, behind) = match deed {
+        Deed::Set => ("", " on"),
+        Deed::Reset => ("", " off"),
+        Deed::Save => ("save the mode: ", ""),
+        Deed::Restore => ("restore the mode: ", ""),
+        Deed::Query => ("ask for the mode: ", ""),
+    };
+    write!(f, "{name} {number}  {ahead}{words}{behind}")
 }
 
+/// What is set of modes whose states are more than on and off.
+static SET: [(i64, &str); 2] = [
+    (1048, "save the cursor"),
+    (1049, "save the cursor, alternate screen on, erased"),
+];
+
+/// What is reset of them.
+static RESET: [(i64, &str); 5] = [
+    (2, "ANSI mode (DECANM) off: VT52"),
+    (3, "132 columns (DECCOLM) off: 80"),
+    (1047, "alternate screen off, erased before"),
+    (1048, "restore the cursor"),
+    (1049, "alternate screen off, restore the cursor"),
+];
+
 /// What is done to a mode whose states are more than on and off.
-fn in_one(code: &DecPrivateModeCode, deed: Deed) -> Option<&'static str> {
-    match (code, deed) {
-        (DecPrivateModeCode::DecAnsiMode, Deed::Reset) => Some("ANSI mode (DECANM) off: VT52"),
-        (DecPrivateModeCode::Select132Columns, Deed::Reset) => {
-            Some("132 columns (DECCOLM) off: 80")
-        }
-        (DecPrivateModeCode::OptEnableAlternateScreen, Deed::Reset) => {
-            Some("alternate screen off, erased before")
-        }
-        (DecPrivateModeCode::SaveCursor, Deed::Set) => Some("save the cursor"),
-        (DecPrivateModeCode::SaveCursor, Deed::Reset) => Some("restore the cursor"),
-        (DecPrivateModeCode::ClearAndEnableAlternateScreen, Deed::Set) => {
-            Some("save the cursor, alternate screen on, erased")
-        }
-        (DecPrivateModeCode::ClearAndEnableAlternateScreen, Deed::Reset) => {
-            Some("alternate screen off, restore the cursor")
-        }
-        _ => None,
+fn in_one(number: u32, deed: Deed) -> Option<&'static str> {
+    match deed {
+        Deed::Set => words_of(&SET, i64::from(number)),
+        Deed::Reset => words_of(&RESET, i64::from(number)),
+        Deed::Save | Deed::Restore | Deed::Query => None,
     }
 }
 
 /// What the private mode of this number is called.
 pub fn private_mode_name(number: u16) -> &'static str {
-    match DecPrivateMode::from(number) {
-        DecPrivateMode::Code(code) => private_mode(&code),
-        DecPrivateMode::Unspecified(number) => other_mode(number),
+    match words_of(&PRIVATE_MODES, i64::from(number)) {
+        Some(words) => words,
+        None => other_mode(number),
     }
 }
 
 /// What the mode of this number is called.
 pub fn terminal_mode_name(number: u16) -> &'static str {
-    match TerminalMode::from(number) {
-        TerminalMode::Code(code) => terminal_mode(&code),
-        TerminalMode::Unspecified(number) => other_terminal_mode(number),
+    match words_of(&TERMINAL_MODES, i64::from(number)) {
+        Some(words) => words,
+        None => other_terminal_mode(number),
     }
 }
 
-fn private_mode(code: &DecPrivateModeCode) -> &'static str {
-    match code {
-        DecPrivateModeCode::ApplicationCursorKeys => "application cursor keys (DECCKM)",
-        DecPrivateModeCode::DecAnsiMode => "ANSI mode (DECANM)",
-        DecPrivateModeCode::Select132Columns => "132 columns (DECCOLM)",
-        DecPrivateModeCode::SmoothScroll => "smooth scroll (DECSCLM)",
-        DecPrivateModeCode::ReverseVideo => "reverse video (DECSCNM)",
-        DecPrivateModeCode::OriginMode => "origin at the margins (DECOM)",
-        DecPrivateModeCode::AutoWrap => "auto-wrap (DECAWM)",
-        DecPrivateModeCode::AutoRepeat => "auto-repeat of keys (DECARM)",
-        DecPrivateModeCode::StartBlinkingCursor => "blinking cursor",
-        DecPrivateModeCode::ShowCursor => "visible cursor (DECTCEM)",
-        DecPrivateModeCode::ReverseWraparound => "reverse wraparound (XTREVWRAP)",
-        DecPrivateModeCode::EnableAlternateScreen => "alternate screen",
-        DecPrivateModeCode::LeftRightMarginMode => "left and right margins (DECLRMM)",
-        DecPrivateModeCode::SixelDisplayMode => "sixel display mode (DECSDM)",
-        DecPrivateModeCode::MouseTracking => "reports of mouse buttons",
-        DecPrivateModeCode::HighlightMouseTracking => "reports of mouse highlighting",
-        DecPrivateModeCode::ButtonEventMouse => "reports of mouse drags",
-        DecPrivateModeCode::AnyEventMouse => "reports of mouse motions",
-        DecPrivateModeCode::FocusTracking => "reports of focus",
-        DecPrivateModeCode::Utf8Mouse => "mouse reports in UTF-8",
-        DecPrivateModeCode::SGRMouse => "mouse reports in SGR form (cells)",
-        DecPrivateModeCode::SGRPixelsMouse => "mouse reports in SGR form (pixels)",
-        DecPrivateModeCode::XTermMetaSendsEscape => "meta sends ESC",
-        DecPrivateModeCode::XTermAltSendsEscape => "alt sends ESC",
-        DecPrivateModeCode::OptEnableAlternateScreen => "alternate screen",
-        DecPrivateModeCode::SaveCursor => "saved cursor",
-        DecPrivateModeCode::ClearAndEnableAlternateScreen => "alternate screen with a saved cursor",
-        DecPrivateModeCode::UsePrivateColorRegistersForEachGraphic =>
-            "private colours for each image",
-        DecPrivateModeCode::BracketedPaste => "bracketed paste",
-        DecPrivateModeCode::SynchronizedOutput => "synchronized output",
-        DecPrivateModeCode::GraphemeClustering => "width by grapheme clusters",
-        DecPrivateModeCode::MinTTYApplicationEscapeKeyMode => "application escape key",
-        DecPrivateModeCode::SixelScrollsRight => "cursor to the right of sixel images",
-        DecPrivateModeCode::Win32InputMode => "Win32 input mode",
-    }
-}
+/// The private modes that the codec has a code for, by their numbers.
+static PRIVATE_MODES: [(i64, &str); 34] = [
+    (1, "application cursor keys (DECCKM)"),
+    (2, "ANSI mode (DECANM)"),
+    (3, "132 columns (DECCOLM)"),
+    (4, "smooth scroll (DECSCLM)"),
+    (5, "reverse video (DECSCNM)"),
+    (6, "origin at the margins (DECOM)"),
+    (7, "auto-wrap (DECAWM)"),
+    (8, "auto-repeat of keys (DECARM)"),
+    (12, "blinking cursor"),
+    (25, "visible cursor (DECTCEM)"),
+    (45, "reverse wraparound (XTREVWRAP)"),
+    (47, "alternate screen"),
+    (69, "left and right margins (DECLRMM)"),
+    (80, "sixel display mode (DECSDM)"),
+    (1000, "reports of mouse buttons"),
+    (1001, "reports of mouse highlighting"),
+    (1002, "reports of mouse drags"),
+    (1003, "reports of mouse motions"),
+    (1004, "reports of focus"),
+    (1005, "mouse reports in UTF-8"),
+    (1006, "mouse reports in SGR form (cells)"),
+    (1016, "mouse reports in SGR form (pixels)"),
+    (1036, "meta sends ESC"),
+    (1039, "alt sends ESC"),
+    (1047, "alternate screen"),
+    (1048, "saved cursor"),
+    (1049, "alternate screen with a saved cursor"),
+    (1070, "private colours for each image"),
+    (2004, "bracketed paste"),
+    (2026, "synchronized output"),
+    (2027, "width by grapheme clusters"),
+    (7727, "application escape key"),
+    (8452, "cursor to the right of sixel images"),
+    (9001, "Win32 input mode"),
+];
 
-fn terminal_mode(code: &TerminalModeCode) -> &'static str {
-    match code {
-        TerminalModeCode::KeyboardAction => "keyboard lock (KAM)",
-        TerminalModeCode::Insert => "insert mode (IRM)",
-        TerminalModeCode::BiDirectionalSupportMode => "bidirectional support (BDSM)",
-        TerminalModeCode::SendReceive => "local echo (SRM)",
-        TerminalModeCode::AutomaticNewline => "newline at line feed (LNM)",
-        TerminalModeCode::ShowCursor => "visible cursor",
-    }
-}
+/// The modes of the standard that the codec has a code for, by their numbers.
+static TERMINAL_MODES: [(i64, &str); 6] = [
+    (2, "keyboard lock (KAM)"),
+    (4, "insert mode (IRM)"),
+    (8, "bidirectional support (BDSM)"),
+    (12, "local echo (SRM)"),
+    (20, "newline at line feed (LNM)"),
+    (25, "visible cursor"),
+];
 
 fn keys(resource: &XtermKeyModifierResource) -> &'static str {
     match resource {

@@ -42,7 +42,8 @@ pub fn held<W: fmt::Write>(f: &mut fmt::Formatter<W>, modifiers: &Modifiers) -> 
         (Modifiers::CTRL, "control"),
     ] {
         if modifiers.contains(key) {
-            write!(f, "{ahead}{name}")?;
+            f.write_str(ahead)?;
+            f.write_str(name)?;
             ahead = ", ";
         }
     }

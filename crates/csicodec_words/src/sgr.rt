@@ -1,7 +1,7 @@
 //! Attributes of text, in words.
 
 use crate::describe::Describe;
-use csicodec_base::{AnsiColor, Blink, ColorSpec, Font, Intensity, Sgr, Underline, VerticalAlign};
+use csicodec_base::{Blink, ColorSpec, Font, Intensity, Sgr, Underline, VerticalAlign};
 use std::fmt;
 
 impl Describe for Sgr {
@@ -76,47 +76,48 @@ fn tell_color<W: fmt::Write>(
     what: &'static str,
     color: &ColorSpec,
 ) -> fmt::Result {
+    write!(f, "SGR  {what} ")?;
     match color {
-        ColorSpec::Default => write!(f, "SGR  {what} default"),
-        ColorSpec::PaletteIndex(index) => match AnsiColor::from_u8(*index) {
-            Some(named) => {
-                let name = name_of(named);
-                write!(f, "SGR  {what} {name}")
-            }
-            None => {
-                let index = *index;
-                write!(f, "SGR  {what} palette {index}")
-            }
-        },
-        ColorSpec::TrueColor(parts) => {
-            let (red, green, blue, alpha) = parts.to_srgb_u8();
-            write!(f, "SGR  {what} rgb {red},{green},{blue}")?;
-            if alpha == 255 {
-                return Ok(());
-            }
-            write!(f, ", alpha {alpha}")
-        }
+        ColorSpec::Default => f.write_str("default"),
+        ColorSpec::PaletteIndex(index) => tell_place(f, *index),
+        ColorSpec::TrueColor(parts) => tell_parts(f, parts.to_srgb_u8()),
     }
 }
 
-/// The names of ECMA-48 for the first 8, and `bright` ahead for the next.
-fn name_of(color: AnsiColor) -> &'static str {
-    match color {
-        AnsiColor::Black => "black",
-        AnsiColor::Maroon => "red",
-        AnsiColor::Green => "green",
-        AnsiColor::Olive => "yellow",
-        AnsiColor::Navy => "blue",
-        AnsiColor::Purple => "magenta",
-        AnsiColor::Teal => "cyan",
-        AnsiColor::Silver => "white",
-        AnsiColor::Grey => "bright black",
-        AnsiColor::Red => "bright red",
-        AnsiColor::Lime => "bright green",
-        AnsiColor::Yellow => "bright yellow",
-        AnsiColor::Blue => "bright blue",
-        AnsiColor::Fuchsia => "bright magenta",
-        AnsiColor::Aqua => "bright cyan",
-        AnsiColor::White => "bright white",
+fn tell_place<W: fmt::Write>(f: &mut fmt::Formatter<W>, index: u8) -> fmt::Result {
+    match NAMES.get(usize::from(index)) {
+        Some(name) => f.write_str(name),
+        None => write!(f, "palette {index}"),
     }
 }
+
+fn tell_parts<W: fmt::Write>(
+    f: &mut fmt::Formatter<W>,
+    (red, green, blue, alpha): (u8, u8, u8, u8),
+) -> fmt::Result {
+    write!(f, "rgb {red},{green},{blue}")?;
+    if alpha == 255 {
+        return Ok(());
+    }
+    write!(f, ", alpha {alpha}")
+}
+
+/// The first 16 of the palette: the names of ECMA-48 for the first 8, and `bright` ahead for the next.
+static NAMES: [&str; 16] = [
+    "black",
+    "red",
+    "green",
+    "yellow",
+    "blue",
+    "magenta",
+    "cyan",
+    "white",
+    "bright black",
+    "bright red",
+    "bright green",
+    "bright yellow",
+    "bright blue",
+    "bright magenta",
+    "bright cyan",
+    "bright white",
+];

@@ -2,6 +2,7 @@
 
 use crate::describe::Describe;
 use csicodec_actions::Window;
+use csicodec_base::OneBased;
 use std::fmt;
 
 impl Describe for Window {
@@ -10,13 +11,11 @@ impl Describe for Window {
         match self {
             Window::MoveWindow { x, y } => write!(f, " {x}, {y} (or answer: it stands there)"),
             Window::ResizeWindowPixels { width, height } => {
-                side(f, " width", *width)?;
-                side(f, ", height", *height)?;
+                sides(f, *width, *height)?;
                 f.write_str(" (or answer: its size, or the text area's)")
             }
             Window::ResizeWindowCells { width, height } => {
-                side(f, " width", *width)?;
-                side(f, ", height", *height)?;
+                sides(f, *width, *height)?;
                 f.write_str(" (or answer: its size)")
             }
             Window::ReportCellSizePixelsResponse { width, height } => {
@@ -31,14 +30,34 @@ impl Describe for Window {
                 bottom,
                 right,
             } => {
-                let (top, bottom) = (top.as_one_based(), bottom.as_one_based());
-                let (left, right) = (left.as_one_based(), right.as_one_based());
-                write!(f, " {top} to {bottom}, columns {left} to {right}")?;
+                range(f, " ", top, bottom)?;
+                range(f, ", columns ", left, right)?;
                 write!(f, " of page {page_number}, request {request_id}")
             }
             _ => Ok(()),
         }
     }
+}
+
+/// The lines or columns from one to another.
+fn range<W: fmt::Write>(
+    f: &mut fmt::Formatter<W>,
+    ahead: &'static str,
+    from: &OneBased,
+    to: &OneBased,
+) -> fmt::Result {
+    let (from, to) = (from.as_one_based(), to.as_one_based());
+    write!(f, "{ahead}{from} to {to}")
+}
+
+/// A width and a height to set.
+fn sides<W: fmt::Write>(
+    f: &mut fmt::Formatter<W>,
+    width: Option<i64>,
+    height: Option<i64>,
+) -> fmt::Result {
+    side(f, " width", width)?;
+    side(f, ", height", height)
 }
 
 /// A width or a height to set: one that is absent stays as it is, and 0 is the display's.
@@ -47,10 +66,11 @@ fn side<W: fmt::Write>(
     name: &'static str,
     size: Option<i64>,
 ) -> fmt::Result {
+    f.write_str(name)?;
     match size {
-        Some(0) => write!(f, "{name} of the display"),
-        Some(size) => write!(f, "{name} {size}"),
-        None => write!(f, "{name} as it is"),
+        Some(0) => f.write_str(" of the display"),
+        Some(size) => write!(f, " {size}"),
+        None => f.write_str(" as it is"),
     }
 }
 
@@ -60,9 +80,10 @@ fn told_side<W: fmt::Write>(
     name: &'static str,
     size: Option<i64>,
 ) -> fmt::Result {
+    f.write_str(name)?;
     match size {
-        Some(size) => write!(f, "{name} {size}"),
-        None => write!(f, "{name} not told"),
+        Some(size) => write!(f, " {size}"),
+        None => f.write_str(" not told"),
     }
 }
 

@@ -1,59 +1,130 @@
 //! Sequences without an action, of which a number has words of its own.
 
 use crate::list::{count_fields, marker, number, positive};
-use crate::otherwise::held;
+use crate::otherwise::{held, tell_held};
 use crate::table::Parts;
-use crate::template::fill;
+use crate::template::{fill, write_parts};
 use csicodec_base::CsiParam;
-use csicodec_words::{private_mode_name, tell_extension, terminal_mode_name};
+use csicodec_words::{private_mode_name, tell_extension, terminal_mode_name, words_of};
 use std::fmt;
 
-/// Tells a sequence of this form; false, and nothing is written, where it is none of these.
-pub fn tell_numbers<W: fmt::Write>(
-    f: &mut fmt::Formatter<W>,
-    form: Parts,
-    params: &[CsiParam],
-) -> Result<bool, fmt::Error> {
+/// A sequence of which a number has words of its own.
+#[derive(Clone, Copy)]
+pub enum Told {
+    /// DECRPM.
+    Mode,
+    /// DECSCL.
+    Conformance,
+    /// DA1's answer, of this class.
+    Class(&'static str),
+    /// A report of the mouse in urxvt's form.
+    Mouse,
+    /// A key in Win32 input mode.
+    KeyRecord,
+    /// DECREPTPARM.
+    SerialLine,
+    /// XTPUSHSGR.
+    Pushed,
+    /// A rectangle whose attributes change, and how.
+    Rectangle(&'static str),
+    /// These words, with holes for numbers.
+    Filled(&'static str),
+}
+
+/// What a sequence of this form is, if it is one of these.
+pub fn told_of(form: Parts, params: &[CsiParam]) -> Option<Told> {
     let first = number(params, 0).unwrap_or(0);
     match (form.marker, form.between, form.control) {
-        (0 | b'?', b'$', 'y') => mode_told(f, params)?,
-        (0, b'"', 'p') if (61..=65).contains(&first) => conformance(f, first, params)?,
-        (b'?', 0, 'c') if first == 61 => class_told(f, "VT100", params)?,
-        (b'?', 0, 'c') if first == 65 => class_told(f, "VT500", params)?,
-        (b'?', 0, 'n') if first == 997 => colour_scheme(f, params)?,
-        (0, 0, 'M') if params.len() == 5 && count_fields(params) == 3 => mouse(f, params)?,
-        (0, 0, '_') if count_fields(params) <= 6 => key_record(f, params)?,
-        (0, 0, 'r') if count_fields(params) == 2 => scrolling_region(f, params)?,
-        (0, 0, 't') if first >= 24 && params.len() == 1 => fill(
-            f,
-            params,
-            "DECSLPP  {1#line} a page",
-        )?,
-        (0, 0, 'x') => serial_line(f, params)?,
-        (0, 0, ']') if first == 9 && positive(params, 1).is_none() => {
-            f.write_str("Linux  screen never blanks")?;
-        }
-        (0, 0, ']') if first == 14 && positive(params, 1).is_none() => {
-            f.write_str("Linux  screen never powers down")?;
-        }
+        (0 | b'?', b'$', 'y') => Some(Told::Mode),
+        (0, b'"', 'p') if (61..=65).contains(&first) => Some(Told::Conformance),
+        (b'?', 0, 'c') => class_of(first),
+        (b'?', 0, 'n') if first == 997 => Some(Told::Filled(colour_scheme(params))),
         (b'>', 0, 'c') if params.len() <= 2 => {
-            f.write_str("DA2  ask for the terminal's type and version")?;
+            Some(Told::Filled("DA2  ask for the terminal's type and version"))
         }
-        (0, b'#', '{' | 'p') => pushed(f, params)?,
-        (0, b'$', 'r') => rectangle(f, "DECCARA  change attributes", params)?,
-        (0, b'$', 't') => rectangle(f, "DECRARA  reverse attributes", params)?,
-        (0, 0, 'm') if params.len() == 1 => return attribute(f, first),
-        _ => return Ok(false),
+        (0, b'#', '{' | 'p') => Some(Told::Pushed),
+        (0, b'$', 'r') => Some(Told::Rectangle("DECCARA  change attributes")),
+        (0, b'$', 't') => Some(Told::Rectangle("DECRARA  reverse attributes")),
+        (0, 0, _) => bare(form.control, first, params),
+        _ => None,
     }
-    Ok(true)
+}
+
+/// DA1's answer of a class that the codec has no code for.
+fn class_of(first: i64) -> Option<Told> {
+    match first {
+        61 => Some(Told::Class("VT100")),
+        65 => Some(Told::Class("VT500")),
+        _ => None,
+    }
+}
+
+/// What a sequence is that has neither a marker nor an intermediate byte.
+fn bare(control: char, first: i64, params: &[CsiParam]) -> Option<Told> {
+    match control {
+        'M' if params.len() == 5 && count_fields(params) == 3 => Some(Told::Mouse),
+        '_' if count_fields(params) <= 6 => Some(Told::KeyRecord),
+        'r' if count_fields(params) == 2 => Some(Told::Filled(scrolling_region(params))),
+        't' if first >= 24 && params.len() == 1 => Some(Told::Filled("DECSLPP  {1#line} a page")),
+        'x' => Some(Told::SerialLine),
+        ']' if positive(params, 1).is_none() => Some(Told::Filled(words_of(&NEVER, first)?)),
+        'm' if params.len() == 1 => Some(Told::Filled(words_of(&UNREAD, first)?)),
+        _ => None,
+    }
+}
+
+/// What Linux' console never does where no number of minutes is behind this one (console_codes(4)).
+static NEVER: [(i64, &str); 2] = [
+    (9, "Linux  screen never blanks"),
+    (14, "Linux  screen never powers down"),
+];
+
+/// Attributes of ECMA-48 (8.3.117) that the codec has no code for, each alone.
+static UNREAD: [(i64, &str); 12] = [
+    (20, "SGR  Fraktur on"),
+    (26, "SGR  proportional spacing on"),
+    (50, "SGR  proportional spacing off"),
+    (51, "SGR  framed on"),
+    (52, "SGR  encircled on"),
+    (54, "SGR  framed and encircled off"),
+    (60, "SGR  ideogram underline or right side line on"),
+    (
+        61,
+        "SGR  ideogram double underline or double right side line on",
+    ),
+    (62, "SGR  ideogram overline or left side line on"),
+    (
+        63,
+        "SGR  ideogram double overline or double left side line on",
+    ),
+    (64, "SGR  ideogram stress marking on"),
+    (65, "SGR  ideogram lines off"),
+];
+
+/// Tells such a sequence, whose list this is.
+pub fn tell_numbers<W: fmt::Write>(
+    f: &mut fmt::Formatter<W>,
+    told: Told,
+    params: &[CsiParam],
+) -> fmt::Result {
+    match told {
+        Told::Mode => mode_told(f, params),
+        Told::Conformance => conformance(f, params),
+        Told::Class(class) => class_told(f, class, params),
+        Told::Mouse => mouse(f, params),
+        Told::KeyRecord => key_record(f, params),
+        Told::SerialLine => serial_line(f, params),
+        Told::Pushed => pushed(f, params),
+        Told::Rectangle(name) => rectangle(f, name, params),
+        Told::Filled(words) => fill(f, params, words),
+    }
 }
 
 /// DECSTBM with one of its numbers left out, which the codec doesn't read: the first line, or the last (VT100 User Guide).
-fn scrolling_region<W: fmt::Write>(f: &mut fmt::Formatter<W>, params: &[CsiParam]) -> fmt::Result {
-    let top = positive(params, 0).unwrap_or(1);
+fn scrolling_region(params: &[CsiParam]) -> &'static str {
     match positive(params, 1) {
-        Some(bottom) => write!(f, "DECSTBM  scrolling region: lines {top} to {bottom}"),
-        None => write!(f, "DECSTBM  scrolling region: line {top} to the last"),
+        Some(_) => "DECSTBM  scrolling region: lines {1} to {2}",
+        None => "DECSTBM  scrolling region: line {1} to the last",
     }
 }
 
@@ -79,14 +150,26 @@ fn serial_line<W: fmt::Write>(f: &mut fmt::Formatter<W>, params: &[CsiParam]) ->
         Some(5) => "even parity",
         _ => "no parity",
     };
-    let bits = if number(params, 2) == Some(2) { 7 } else { 8 };
+    let bits = match number(params, 2) {
+        Some(2) => "7",
+        _ => "8",
+    };
     let sent = speed(number(params, 3).unwrap_or(0));
     let received = speed(number(params, 4).unwrap_or(0));
-    write!(
+    write_parts(
         f,
-        "DECREPTPARM  answer: serial line, {parity}, {bits} bits, "
-    )?;
-    write!(f, "{sent} and {received} baud")
+        &[
+            "DECREPTPARM  answer: serial line, ",
+            parity,
+            ", ",
+            bits,
+            " bits, ",
+            sent,
+            " and ",
+            received,
+            " baud",
+        ],
+    )
 }
 
 /// The attributes that XTPUSHSGR, DECCARA and DECRARA name by a number (xterm's ctlseqs; DEC VT510).
@@ -122,8 +205,8 @@ fn tell_attributes<W: fmt::Write>(
         };
         f.write_str(ahead)?;
         ahead = ", ";
-        match ATTRIBUTES.iter().find(|row| row.0 == code) {
-            Some(row) => f.write_str(row.1)?,
+        match words_of(&ATTRIBUTES, code) {
+            Some(name) => f.write_str(name)?,
             None => write!(f, "{code}")?,
         }
     }
@@ -187,20 +270,17 @@ fn mode_told<W: fmt::Write>(f: &mut fmt::Formatter<W>, params: &[CsiParam]) -> f
         Ok(mode) => terminal_mode_name(mode),
         Err(_) => "unnamed mode",
     };
-    write!(f, "DECRPM {mode}  answer: {name} {state}")
+    write!(f, "DECRPM {mode}  answer: ")?;
+    write_parts(f, &[name, " ", state])
 }
 
 /// DECSCL: a level from 61 to 65, and in which form C1 controls are sent.
-fn conformance<W: fmt::Write>(
-    f: &mut fmt::Formatter<W>,
-    level: i64,
-    params: &[CsiParam],
-) -> fmt::Result {
-    let class = match level {
-        61 => "1 (VT100)",
-        62 => "2 (VT200)",
-        63 => "3 (VT300)",
-        64 => "4 (VT400)",
+fn conformance<W: fmt::Write>(f: &mut fmt::Formatter<W>, params: &[CsiParam]) -> fmt::Result {
+    let class = match number(params, 0) {
+        Some(61) => "1 (VT100)",
+        Some(62) => "2 (VT200)",
+        Some(63) => "3 (VT300)",
+        Some(64) => "4 (VT400)",
         _ => "5 (VT500)",
     };
     let form = match number(params, 1) {
@@ -208,7 +288,7 @@ fn conformance<W: fmt::Write>(
         Some(0 | 2) => ", C1 controls as single bytes",
         _ => "",
     };
-    write!(f, "DECSCL  conformance level {class}{form}")
+    write_parts(f, &["DECSCL  conformance level ", class, form])
 }
 
 /// DA1's answer of a class that the codec has no code for: its extensions, behind the marker and the class.
@@ -217,7 +297,7 @@ fn class_told<W: fmt::Write>(
     class: &'static str,
     params: &[CsiParam],
 ) -> fmt::Result {
-    write!(f, "DA1  answer: {class} class")?;
+    write_parts(f, &["DA1  answer: ", class, " class"])?;
     let mut ahead = ", with ";
     for token in params.get(2..).unwrap_or(&[]) {
         if let CsiParam::Integer(number) = token {
@@ -230,38 +310,67 @@ fn class_told<W: fmt::Write>(
 }
 
 /// contour's and kitty's report of a colour scheme.
-fn colour_scheme<W: fmt::Write>(f: &mut fmt::Formatter<W>, params: &[CsiParam]) -> fmt::Result {
-    f.write_str(match number(params, 1) {
+fn colour_scheme(params: &[CsiParam]) -> &'static str {
+    match number(params, 1) {
         Some(1) => "colour scheme  answer: dark (contour, kitty)",
         Some(2) => "colour scheme  answer: light (contour, kitty)",
         _ => "colour scheme  answer: unknown (contour, kitty)",
-    })
+    }
 }
+
+/// What the mouse did with one of four buttons, by the two low bits of its code.
+type Events = [&'static str; 4];
+
+static WHEEL: Events = [
+    "wheel turned up at",
+    "wheel turned down at",
+    "wheel turned left at",
+    "wheel turned right at",
+];
+
+static DRAGGED: Events = [
+    "button 1 dragged to",
+    "button 2 dragged to",
+    "button 3 dragged to",
+    "moved to",
+];
+
+static PRESSED: Events = [
+    "button 1 pressed at",
+    "button 2 pressed at",
+    "button 3 pressed at",
+    "button released at",
+];
+
+static DRAGGED_FROM_8: Events = [
+    "button 8 dragged to",
+    "button 9 dragged to",
+    "button 10 dragged to",
+    "button 11 dragged to",
+];
+
+static PRESSED_FROM_8: Events = [
+    "button 8 pressed at",
+    "button 9 pressed at",
+    "button 10 pressed at",
+    "button 11 pressed at",
+];
 
 /// What the mouse did, by the code of a report of xterm's mode 1000: bits 1 and 2 are the button, 32 says that it moved, 64 that it is the
 /// wheel, 128 a button from 8 on.
 pub fn mouse_event(code: i64) -> &'static str {
-    match (code & 192, code & 32 != 0, code & 3) {
-        (64, _, 0) => "wheel turned up at",
-        (64, _, 1) => "wheel turned down at",
-        (64, _, 2) => "wheel turned left at",
-        (64, _, _) => "wheel turned right at",
-        (128, true, 0) => "button 8 dragged to",
-        (128, true, 1) => "button 9 dragged to",
-        (128, true, 2) => "button 10 dragged to",
-        (128, true, _) => "button 11 dragged to",
-        (128, _, 0) => "button 8 pressed at",
-        (128, _, 1) => "button 9 pressed at",
-        (128, _, 2) => "button 10 pressed at",
-        (128, _, _) => "button 11 pressed at",
-        (_, true, 0) => "button 1 dragged to",
-        (_, true, 1) => "button 2 dragged to",
-        (_, true, 2) => "button 3 dragged to",
-        (_, true, _) => "moved to",
-        (_, _, 0) => "button 1 pressed at",
-        (_, _, 1) => "button 2 pressed at",
-        (_, _, 2) => "button 3 pressed at",
-        _ => "button released at",
+    let [first, second, third, last] = match (code & 192, code & 32 != 0) {
+        (64, _) => &WHEEL,
+        (128, true) => &DRAGGED_FROM_8,
+        (128, false) => &PRESSED_FROM_8,
+        (_, true) => &DRAGGED,
+        (_, false) => &PRESSED,
+    };
+    match code & 3 {
+        0 => first,
+        1 => second,
+        2 => third,
+        _ => last,
     }
 }
 
@@ -269,8 +378,8 @@ pub fn mouse_event(code: i64) -> &'static str {
 fn mouse<W: fmt::Write>(f: &mut fmt::Formatter<W>, params: &[CsiParam]) -> fmt::Result {
     let code = number(params, 0).unwrap_or(32).saturating_sub(32);
     let done = mouse_event(code);
-    write!(f, "mouse  {done} ")?;
-    fill(f, params, "line {3}, column {2}")?;
+    write_parts(f, &["mouse  ", done])?;
+    fill(f, params, " line {3}, column {2}")?;
     held(f, code)?;
     f.write_str(" (urxvt form)")
 }
@@ -288,32 +397,6 @@ fn key_record<W: fmt::Write>(f: &mut fmt::Formatter<W>, params: &[CsiParam]) -> 
         ", released"
     })?;
     let keys = number(params, 4).unwrap_or(0);
-    let mut ahead = ", with ";
-    for (bits, name) in [(16, "shift"), (3, "alt"), (12, "control")] {
-        if keys & bits != 0 {
-            write!(f, "{ahead}{name}")?;
-            ahead = ", ";
-        }
-    }
+    tell_held(f, keys, [(16, "shift"), (3, "alt"), (12, "control")])?;
     f.write_str(" (Win32 input mode)")
-}
-
-/// Attributes of ECMA-48 (8.3.117) that the codec has no code for, each alone; false, and nothing is written, of any other.
-fn attribute<W: fmt::Write>(f: &mut fmt::Formatter<W>, code: i64) -> Result<bool, fmt::Error> {
-    f.write_str(match code {
-        20 => "SGR  Fraktur on",
-        26 => "SGR  proportional spacing on",
-        50 => "SGR  proportional spacing off",
-        51 => "SGR  framed on",
-        52 => "SGR  encircled on",
-        54 => "SGR  framed and encircled off",
-        60 => "SGR  ideogram underline or right side line on",
-        61 => "SGR  ideogram double underline or double right side line on",
-        62 => "SGR  ideogram overline or left side line on",
-        63 => "SGR  ideogram double overline or double left side line on",
-        64 => "SGR  ideogram stress marking on",
-        65 => "SGR  ideogram lines off",
-        _ => return Ok(false),
-    })?;
-    Ok(true)
 }

@@ -1,5 +1,6 @@
 //! Escape sequences with more than one intermediate byte, which the codec has no code for.
 
+use crate::escapes::named;
 use crate::sets::{Escape, designated, designated_of_several};
 
 /// What stands between ESC and the final byte of an escape sequence, and the final byte, where the bytes are such a
@@ -22,19 +23,8 @@ pub fn escape_of_bytes(bytes: &[u8]) -> Option<Escape> {
     }
     let found = match first {
         b'$' => designated_of_several(behind, last),
-        b'%' if behind == b"/".as_slice() => Some(Escape::Named(coding(last))),
+        b'%' => named(between, last),
         _ => designated(*first, behind, last),
     };
     Some(found.unwrap_or(Escape::Named("unknown  escape sequence")))
-}
-
-/// Another coding system that doesn't come back (ECMA-35, 15.4; the register of ISO: ISO-IR 190 to 196).
-fn coding(last: u8) -> &'static str {
-    match last {
-        b'G' | b'H' | b'I' => "DOCS  UTF-8 on, without return",
-        b'@' | b'C' | b'E' => "DOCS  UCS-2 on, without return",
-        b'A' | b'D' | b'F' => "DOCS  UCS-4 on, without return",
-        b'J' | b'K' | b'L' => "DOCS  UTF-16 on, without return",
-        _ => "DOCS  another coding system, without return",
-    }
 }

@@ -3,6 +3,7 @@
 use crate::list::{intermediate, is_regular, is_semicolon, marker};
 use csicodec_base::CsiParam;
 use csicodec_strings::is_seen;
+use csicodec_words::words_of;
 use std::fmt;
 
 /// The key that a list before this final character is, if it is one: `1;5` before a letter, `3;5` before `~`, `27;5;13` before `~`, or
@@ -49,7 +50,7 @@ fn by_code<'a>(
     match third {
         Some(field) if code == 27 => Some(press.of_key(point(one(field)?))),
         Some(_) => None,
-        None => Some(press.of_key(Code::Name(by_number(code)?))),
+        None => Some(press.of_key(Code::Name(words_of(&NUMBERS, code)?))),
     }
 }
 
@@ -164,7 +165,7 @@ impl<'a> Key<'a> {
 
     /// The key that sends this number before `~`.
     pub fn of_number(number: i64, modifiers: i64) -> Option<Key<'a>> {
-        Some(Key::named(by_number(number)?, modifiers))
+        Some(Key::named(words_of(&NUMBERS, number)?, modifiers))
     }
 }
 
@@ -252,51 +253,52 @@ fn by_letter(control: char) -> Option<&'static str> {
     })
 }
 
-fn by_number(code: i64) -> Option<&'static str> {
-    Some(match code {
-        1 | 7 => "Home",
-        2 => "Insert",
-        3 => "Delete",
-        4 | 8 => "End",
-        5 => "Page Up",
-        6 => "Page Down",
-        11 => "F1",
-        12 => "F2",
-        13 => "F3",
-        14 => "F4",
-        15 => "F5",
-        17 => "F6",
-        18 => "F7",
-        19 => "F8",
-        20 => "F9",
-        21 => "F10",
-        23 => "F11",
-        24 => "F12",
-        25 => "F13",
-        26 => "F14",
-        28 => "F15 (Help)",
-        29 => "F16 (Menu)",
-        31 => "F17",
-        32 => "F18",
-        33 => "F19",
-        34 => "F20",
-        _ => return None,
-    })
-}
+/// The keys that send a number before `~`.
+static NUMBERS: [(i64, &str); 28] = [
+    (1, "Home"),
+    (2, "Insert"),
+    (3, "Delete"),
+    (4, "End"),
+    (5, "Page Up"),
+    (6, "Page Down"),
+    (7, "Home"),
+    (8, "End"),
+    (11, "F1"),
+    (12, "F2"),
+    (13, "F3"),
+    (14, "F4"),
+    (15, "F5"),
+    (17, "F6"),
+    (18, "F7"),
+    (19, "F8"),
+    (20, "F9"),
+    (21, "F10"),
+    (23, "F11"),
+    (24, "F12"),
+    (25, "F13"),
+    (26, "F14"),
+    (28, "F15 (Help)"),
+    (29, "F16 (Menu)"),
+    (31, "F17"),
+    (32, "F18"),
+    (33, "F19"),
+    (34, "F20"),
+];
+
+/// Characters whose keys have a name.
+static CHARACTERS: [(i64, &str); 5] = [
+    (9, "Tab"),
+    (13, "Enter"),
+    (27, "Escape"),
+    (32, "Space"),
+    (127, "Backspace"),
+];
 
 /// The key of a number of kitty's protocol: a character's, or one from the area for private use.
 fn point(code: i64) -> Code {
-    match code {
-        9 => Code::Name("Tab"),
-        13 => Code::Name("Enter"),
-        27 => Code::Name("Escape"),
-        32 => Code::Name("Space"),
-        127 => Code::Name("Backspace"),
-        57344..=57454 => match kitty(code) {
-            Some(name) => Code::Name(name),
-            None => Code::Point(code),
-        },
-        _ => Code::Point(code),
+    match words_of(&CHARACTERS, code).or(kitty(code)) {
+        Some(name) => Code::Name(name),
+        None => Code::Point(code),
     }
 }
 

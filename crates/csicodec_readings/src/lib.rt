@@ -15,7 +15,7 @@ mod table;
 mod template;
 mod terminals;
 
-use crate::by_number::tell_numbers;
+use crate::by_number::{tell_numbers, told_of};
 use crate::escapes::escape_of;
 use crate::intermediates::escape_of_bytes;
 use crate::list::{intermediate, is_regular, marker, number};
@@ -125,8 +125,8 @@ fn unread<W: fmt::Write>(f: &mut fmt::Formatter<W>, unknown: &Unspecified) -> fm
         between: intermediate(params),
         control,
     };
-    if tell_numbers(f, form, params)? {
-        return Ok(());
+    if let Some(told) = told_of(form, params) {
+        return tell_numbers(f, told, params);
     }
     match words(form, number(params, 0).unwrap_or(0)) {
         Some(words) => fill(f, params, words),

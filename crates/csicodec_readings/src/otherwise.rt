@@ -1,6 +1,7 @@
 //! Sequences that terminals read otherwise than the codec's table, which is termwiz's.
 
 use crate::list::{intermediate, marker, number, positive};
+use crate::template::write_parts;
 use csicodec_base::CsiParam;
 use std::fmt;
 
@@ -116,19 +117,6 @@ fn checksum(params: &[CsiParam]) -> Option<Otherwise> {
     }))
 }
 
-/// A number, or the last where there is none.
-#[derive(Drop)]
-struct Last(Option<i64>);
-
-impl fmt::Display for Last {
-    fn fmt<W: fmt::Write>(&self, f: &mut fmt::Formatter<W>) -> fmt::Result {
-        match self.0 {
-            Some(value) => write!(f, "{value}"),
-            None => f.write_str("the last"),
-        }
-    }
-}
-
 impl fmt::Display for Instead {
     fn fmt<W: fmt::Write>(&self, f: &mut fmt::Formatter<W>) -> fmt::Result {
         match self {
@@ -138,13 +126,8 @@ impl fmt::Display for Instead {
                 y,
                 released,
             } => {
-                let button = 8 + (code & 3);
-                let done = match (released, code & 32 != 0) {
-                    (true, _) => "released at",
-                    (false, true) => "dragged to",
-                    (false, false) => "pressed at",
-                };
-                write!(f, "mouse  button {button} {done} line {y}, column {x}")?;
+                write_event(f, *code, *released)?;
+                write!(f, " line {y}, column {x}")?;
                 held(f, *code)
             }
             Instead::Margins { left } => {
@@ -161,27 +144,63 @@ impl fmt::Display for Instead {
                 bottom,
                 right,
             } => {
-                let (bottom, right) = (Last(*bottom), Last(*right));
-                write!(
-                    f,
-                    "DECRQCRA  ask for the checksum of lines {top} to {bottom}, "
-                )?;
-                write!(f, "columns {left} to {right} of ")?;
-                match page {
-                    Some(page) => write!(f, "page {page}, request {request}"),
-                    None => write!(f, "all pages, request {request}"),
-                }
+                f.write_str("DECRQCRA  ask for the checksum of ")?;
+                write_range(f, "lines", *top, *bottom)?;
+                write_range(f, ", columns", *left, *right)?;
+                write_page(f, *page)?;
+                write!(f, ", request {request}")
             }
         }
     }
 }
 
+/// A button from 8 on by the low bits of its code, and what it did, by whether it was released, and else by bit 32.
+fn write_event<W: fmt::Write>(f: &mut fmt::Formatter<W>, code: i64, released: bool) -> fmt::Result {
+    let button = 8 + (code & 3);
+    let done = match (released, code & 32 != 0) {
+        (true, _) => "released at",
+        (false, true) => "dragged to",
+        (false, false) => "pressed at",
+    };
+    write!(f, "mouse  button {button} {done}")
+}
+
+/// Lines or columns from one to another.
+fn write_range<W: fmt::Write>(
+    f: &mut fmt::Formatter<W>,
+    name: &'static str,
+    from: i64,
+    to: Option<i64>,
+) -> fmt::Result {
+    write!(f, "{name} {from} to ")?;
+    match to {
+        Some(to) => write!(f, "{to}"),
+        None => f.write_str("the last"),
+    }
+}
+
+fn write_page<W: fmt::Write>(f: &mut fmt::Formatter<W>, page: Option<i64>) -> fmt::Result {
+    match page {
+        Some(page) => write!(f, " of page {page}"),
+        None => f.write_str(" of all pages"),
+    }
+}
+
 /// The keys that are held down, by the bits of a mouse's code.
 pub fn held<W: fmt::Write>(f: &mut fmt::Formatter<W>, code: i64) -> fmt::Result {
+    tell_held(f, code, [(4, "shift"), (8, "alt"), (16, "control")])
+}
+
+/// The keys that are held down, each by the bits of which one is set.
+pub fn tell_held<W: fmt::Write>(
+    f: &mut fmt::Formatter<W>,
+    code: i64,
+    keys: [(i64, &'static str); 3],
+) -> fmt::Result {
     let mut ahead = ", with ";
-    for (bit, name) in [(4, "shift"), (8, "alt"), (16, "control")] {
-        if code & bit != 0 {
-            write!(f, "{ahead}{name}")?;
+    for (bits, name) in keys {
+        if code & bits != 0 {
+            write_parts(f, &[ahead, name])?;
             ahead = ", ";
         }
     }

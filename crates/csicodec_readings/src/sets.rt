@@ -20,8 +20,9 @@ impl fmt::Display for Escape {
     }
 }
 
-/// A set by the intermediate bytes behind the one that says what it becomes, and its final byte.
-type SetRow = (&'static [u8], u8, &'static str);
+/// A set, or another escape sequence, by its intermediate bytes, of a set those behind the one that says what it becomes, and its
+/// final byte.
+pub type SetRow = (&'static [u8], u8, &'static str);
 
 /// Sets of 94 characters: of DEC (VT510 Programmer Reference, SCS) and xterm's ctlseqs (Designate G0 Character Set); `@`, `I` and
 /// `J` of the register of ISO (ISO-IR 2, 13 and 14); `U` and `K` of console_codes(4).
@@ -108,8 +109,8 @@ static SETS_OF_SEVERAL: [SetRow; 16] = [
     (b"", b'Q', "JIS X 0213 of 2004, plane 1"),
 ];
 
-/// The set of a table that has these bytes.
-fn find(rows: &[SetRow], between: &[u8], last: u8) -> Option<&'static str> {
+/// What a table has for these bytes.
+pub fn find(rows: &[SetRow], between: &[u8], last: u8) -> Option<&'static str> {
     for (known, name, set) in rows {
         if *known == between && *name == last {
             return Some(*set);

@@ -6,7 +6,7 @@ use crate::ecma::ECMA;
 use crate::terminals::{KITTY, LINUX, XTERM};
 
 /// A control sequence by its parts: the marker and the intermediate byte, 0 where there is none, and the final character.
-#[derive(Clone, Copy, PartialEq, Eq)]
+#[derive(Clone, Copy)]
 pub struct Parts {
     /// One of `< = > ?`.
     pub marker: u8,
@@ -22,12 +22,8 @@ pub type Row = (u8, u8, char, Option<i64>, &'static str);
 /// The words of the first row of a table that has this form, and this first number where it has one.
 fn find(rows: &[Row], form: Parts, first: i64) -> Option<&'static str> {
     for (marker, between, control, number, words) in rows {
-        let same = Parts {
-            marker: *marker,
-            between: *between,
-            control: *control,
-        } == form;
-        if same && number.is_none_or(|number| number == first) {
+        let same = *marker == form.marker && *between == form.between && *control == form.control;
+        if same && number.unwrap_or(first) == first {
             return Some(*words);
         }
     }

@@ -35,31 +35,37 @@ pub enum Did<'a> {
     UnknownNumber(u8),
 }
 
+/// The keys of the keypad that send SS3 and a character from `j` to `y`, in that order.
+static KEYPAD: [&str; 16] = [
+    "keypad multiply",
+    "keypad add",
+    "keypad separator",
+    "keypad subtract",
+    "keypad decimal",
+    "keypad divide",
+    "keypad 0",
+    "keypad 1",
+    "keypad 2",
+    "keypad 3",
+    "keypad 4",
+    "keypad 5",
+    "keypad 6",
+    "keypad 7",
+    "keypad 8",
+    "keypad 9",
+];
+
 /// The keys of the keypad that send SS3 and a character (DEC VT220; xterm's ctlseqs, VT220-Style Function Keys).
 fn keypad(character: u8) -> Option<&'static str> {
-    Some(match character {
-        b' ' => "keypad Space",
-        b'I' => "keypad Tab",
-        b'M' => "keypad Enter",
-        b'X' => "keypad equal",
-        b'j' => "keypad multiply",
-        b'k' => "keypad add",
-        b'l' => "keypad separator",
-        b'm' => "keypad subtract",
-        b'n' => "keypad decimal",
-        b'o' => "keypad divide",
-        b'p' => "keypad 0",
-        b'q' => "keypad 1",
-        b'r' => "keypad 2",
-        b's' => "keypad 3",
-        b't' => "keypad 4",
-        b'u' => "keypad 5",
-        b'v' => "keypad 6",
-        b'w' => "keypad 7",
-        b'x' => "keypad 8",
-        b'y' => "keypad 9",
-        _ => return None,
-    })
+    match character {
+        b' ' => Some("keypad Space"),
+        b'I' => Some("keypad Tab"),
+        b'M' => Some("keypad Enter"),
+        b'X' => Some("keypad equal"),
+        _ => KEYPAD
+            .get(usize::from(character.checked_sub(b'j')?))
+            .copied(),
+    }
 }
 
 /// The function keys of Linux' console (console_codes(4)).

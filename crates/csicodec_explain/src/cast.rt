@@ -22,44 +22,98 @@ fn size_of_screen(data: &str) -> Option<(u32, u32)> {
     Some((columns.parse::<u32>().ok()?, lines.parse::<u32>().ok()?))
 }
 
+/// The data of an event as they are shown.
+fn shown(data: &str) -> Quoted<'_> {
+    Quoted {
+        bytes: data.as_bytes(),
+        more: false,
+    }
+}
+
+/// A size that the terminal was given.
+fn write_resize<W: fmt::Write>(f: &mut fmt::Formatter<W>, data: &str) -> fmt::Result {
+    match size_of_screen(data) {
+        Some((columns, lines)) => write!(f, "resize  {columns} columns, {lines} lines"),
+        None => write!(f, "resize  {}", shown(data)),
+    }
+}
+
+/// The status of the program at its end.
+fn write_exit<W: fmt::Write>(f: &mut fmt::Formatter<W>, data: &str) -> fmt::Result {
+    match data.parse::<u32>() {
+        Ok(status) => write!(f, "exit  status {status}"),
+        Err(_) => write!(f, "exit  status {}", shown(data)),
+    }
+}
+
 /// A name, two blanks, and the words.
 impl<'a> fmt::Display for Event<'a> {
     fn fmt<W: fmt::Write>(&self, f: &mut fmt::Formatter<W>) -> fmt::Result {
-        let bytes = self.data.as_bytes();
-        let data = Quoted { bytes, more: false };
         match self.code {
-            "r" => match size_of_screen(self.data) {
-                Some((columns, lines)) => write!(f, "resize  {columns} columns, {lines} lines"),
-                None => write!(f, "resize  {data}"),
-            },
-            "m" => write!(f, "marker  {data}"),
-            _ => match self.data.parse::<u32>() {
-                Ok(status) => write!(f, "exit  status {status}"),
-                Err(_) => write!(f, "exit  status {data}"),
-            },
+            "r" => write_resize(f, self.data),
+            "m" => write!(f, "marker  {}", shown(self.data)),
+            _ => write_exit(f, self.data),
         }
+    }
+}
+
+/// The first line with its end, and what is behind it.
+pub fn line_front(bytes: &[u8]) -> (&[u8], &[u8]) {
+    let mut len = 0usize;
+    for byte in bytes {
+        len = len.saturating_add(1);
+        if *byte == b'\n' {
+            break;
+        }
+    }
+    bytes.split_at_checked(len).unwrap_or((bytes, &[]))
+}
+
+/// The first line of an input, where that is whole and may be an object of JSON.
+fn object_front(bytes: &[u8]) -> Option<&str> {
+    if bytes.first().copied() != Some(b'{') {
+        return None;
+    }
+    let (line, _behind) = line_front(bytes);
+    let line = line.strip_suffix(b"\n".as_slice())?;
+    std::str::from_utf8(line).ok()
+}
+
+/// Whether an object is the first line of a recording.
+fn is_header(object: &Value) -> bool {
+    match object.get("version") {
+        Some(version) => matches!(version.as_u64(), Some(2 | 3)),
+        None => false,
     }
 }
 
 /// Whether the first bytes of an input are the first line of a recording: an object of JSON with the version.
 pub fn is_recording(alloc: Global, bytes: &[u8]) -> Result<bool, Failure> {
-    if bytes.first().copied() != Some(b'{') {
-        return Ok(false);
-    }
-    let Some(end) = bytes.iter().position(|byte| *byte == b'\n') else {
-        return Ok(false);
-    };
-    let Ok(line) = std::str::from_utf8(bytes.get(..end).unwrap_or(bytes)) else {
+    let Some(line) = object_front(bytes) else {
         return Ok(false);
     };
     match Value::from_str(alloc, line) {
-        Ok(header) => {
-            let version = header.get("version").and_then(Value::as_u64).unwrap_or(0);
-            Ok(version == 2 || version == 3)
-        }
+        Ok(object) => Ok(is_header(&object)),
         Err(error) if error.is_memory() => Err(Failure::Run(RunError::Memory)),
         Err(_) => Ok(false),
     }
+}
+
+/// Explains an event: what a program wrote or what was typed, by its code; a size, a marker or the end. Others are left out.
+fn explain_event<W: Write>(
+    explainer: &mut Explainer<'_>,
+    time: u64,
+    event: Event<'_>,
+    output: &mut W,
+) -> Result<(), RunError> {
+    let wanted = if explainer.is_of_input() { "i" } else { "o" };
+    if event.code == wanted {
+        return explainer.take(time, event.data.as_bytes(), output);
+    }
+    if matches!(event.code, "r" | "m" | "x") {
+        return explainer.take_event(time, &event, output);
+    }
+    Ok(())
 }
 
 /// Explains what the programs of a recording wrote, or what was typed, each event with its time; and its sizes, its markers and its end.
@@ -69,7 +123,6 @@ pub fn explain_cast<R: BufRead, W: Write>(
     input: &mut R,
     output: &mut W,
 ) -> Result<(), Failure> {
-    let wanted = if explainer.is_of_input() { "i" } else { "o" };
     let mut reading = Recording::new(alloc);
     let mut line = Vec::new(alloc);
     for _ in 0..u64::MAX {
@@ -79,15 +132,11 @@ pub fn explain_cast<R: BufRead, W: Write>(
         let Some((code, data)) = reading.take_any(text)? else {
             continue;
         };
-        let (code, data) = (code.as_str(), data.as_str());
-        match code {
-            _ if code == wanted => explainer.take(reading.time(), data.as_bytes(), output)?,
-            "r" | "m" | "x" => {
-                let event = Event { code, data };
-                explainer.take_event(reading.time(), &event, output)?;
-            }
-            _ => {}
-        }
+        let event = Event {
+            code: code.as_str(),
+            data: data.as_str(),
+        };
+        explain_event(explainer, reading.time(), event, output)?;
     }
     Ok(())
 }

@@ -1,6 +1,6 @@
 //! What differs between two streams in words.
 
-use crate::cast::explain_cast;
+use crate::cast::{explain_cast, line_front};
 use crate::diff::{Line, Side, lines_of};
 use csicodec_command::{Failure, Worker, work_through};
 use csicodec_page::Explainer;
@@ -23,18 +23,29 @@ struct Compared<'a> {
     differs: bool,
 }
 
-/// What went wrong where memory ran out.
-fn no_memory(_: AllocError) -> RunError {
-    RunError::Memory
-}
-
 /// The lines of a text.
 fn split(alloc: Global, text: &[u8]) -> Result<Vec<&[u8]>, AllocError> {
     let mut lines = Vec::new(alloc);
-    for line in text.split_inclusive(|byte| *byte == b'\n') {
+    let mut rest = text;
+    for _ in 0..text.len() {
+        if rest.is_empty() {
+            break;
+        }
+        let (line, behind) = line_front(rest);
         lines.push(line)?;
+        rest = behind;
     }
     Ok(lines)
+}
+
+/// Marks a place and those near it.
+fn mark_near(near: &mut [bool], place: usize) {
+    let behind = place.saturating_add(NEAR).saturating_add(1);
+    for at in place.saturating_sub(NEAR)..behind {
+        if let Some(it) = near.get_mut(at) {
+            *it = true;
+        }
+    }
 }
 
 /// Whether each line stands near one that differs.
@@ -42,42 +53,44 @@ fn shown(alloc: Global, lines: &[Line<'_>]) -> Result<Vec<bool>, AllocError> {
     let mut near = vec![in alloc; false; lines.len()]?;
     for (place, line) in lines.iter().enumerate() {
         if line.side != Side::Both {
-            let (first, behind) = (
-                place.saturating_sub(NEAR),
-                place.saturating_add(NEAR).saturating_add(1),
-            );
-            for at in first..behind {
-                if let Some(it) = near.get_mut(at) {
-                    *it = true;
-                }
-            }
+            mark_near(&mut near, place);
         }
     }
     Ok(near)
+}
+
+/// A line behind the mark of where it is.
+fn append_marked(out: &mut Vec<u8>, line: Line<'_>) -> Result<(), AllocError> {
+    out.push(match line.side {
+        Side::Both => b' ',
+        Side::First => b'-',
+        Side::Second => b'+',
+    })?;
+    out.extend_from_slice(line.text)
+}
+
+/// The lines that are shown, with `@@` ahead of each run of them.
+fn runs(alloc: Global, lines: &[Line<'_>], shown: &[bool]) -> Result<Vec<u8>, AllocError> {
+    let mut out = Vec::new(alloc);
+    let mut before = false;
+    for (place, line) in lines.iter().enumerate() {
+        let is_shown = shown.get(place).copied().unwrap_or(false);
+        if is_shown && !before {
+            out.extend_from_slice(b"@@\n")?;
+        }
+        if is_shown {
+            append_marked(&mut out, *line)?;
+        }
+        before = is_shown;
+    }
+    Ok(out)
 }
 
 /// The lines that differ and those near them, as `diff -u` marks them, with `@@` ahead of each run of them; nothing where none does.
 fn told<'b>(alloc: Global, first: &'b [u8], second: &'b [u8]) -> Result<Vec<u8>, AllocError> {
     let (first, second) = (split(alloc, first)?, split(alloc, second)?);
     let lines = lines_of(alloc, &first, &second)?;
-    let near = shown(alloc, &lines)?;
-    let mut out = Vec::new(alloc);
-    let mut before = false;
-    for (line, is_near) in lines.iter().zip(near.iter()) {
-        if *is_near {
-            if !before {
-                out.extend_from_slice(b"@@\n")?;
-            }
-            out.push(match line.side {
-                Side::Both => b' ',
-                Side::First => b'-',
-                Side::Second => b'+',
-            })?;
-            out.extend_from_slice(line.text)?;
-        }
-        before = *is_near;
-    }
-    Ok(out)
+    runs(alloc, &lines, &shown(alloc, &lines)?)
 }
 
 impl<'a> Compared<'a> {
@@ -118,12 +131,16 @@ impl<'a> Worker for Compared<'a> {
     }
 
     fn end<W: Write>(&mut self, output: &mut W) -> Result<(), RunError> {
-        let [first, second] = self.texts.as_slice() else {
+        let (Some(first), Some(second)) = (self.texts.first(), self.texts.get(1)) else {
             return Ok(());
         };
-        let told = told(self.alloc, first, second).map_err(no_memory)?;
-        self.differs = !told.is_empty();
-        send(output, &told)
+        match told(self.alloc, first, second) {
+            Ok(told) => {
+                self.differs = !told.is_empty();
+                send(output, &told)
+            }
+            Err(_) => Err(RunError::Memory),
+        }
     }
 }
 

@@ -10,8 +10,8 @@ mod timing;
 use cast::{explain_cast, is_recording};
 use compare::explain_diff;
 use csicodec_command::{
-    ColorWhen, Failure, Request, Task, Wanted, Worker, Wrong, asked, failed, is_cast, refused,
-    text_of, words_of, work_through,
+    ColorWhen, Failure, Places, Request, Task, Wanted, Worker, Wrong, asked, failed, is_cast,
+    refused, text_of, words_of, work_through,
 };
 use csicodec_events::Dialect;
 use csicodec_page::Explainer;
@@ -109,16 +109,26 @@ fn dialect_of(wanted: Wanted<'_>) -> Option<Dialect> {
     }
 }
 
-/// How the streams of a run are explained: in colours if that is asked for, or where a terminal shows them to someone who didn't
-/// say by NO_COLOR that they aren't wanted.
-fn style_of<'a>(rt: &HostRuntime, run: &Request<'a>) -> Style<'a> {
-    let wanted = run.wanted;
-    let live = rt.stdout().is_terminal();
-    let color = match run.color {
+/// The first and the last place.
+fn ends_of(places: Option<Places>) -> Option<(u64, u64)> {
+    let places = places?;
+    Some((places.first, places.last))
+}
+
+/// Whether lines are told in colours: if that is asked for, or where a terminal shows them to someone who didn't say by NO_COLOR that
+/// they aren't wanted.
+fn is_colored(rt: &HostRuntime, color: ColorWhen, live: bool) -> bool {
+    match color {
         ColorWhen::Always => true,
         ColorWhen::Never => false,
         ColorWhen::Auto => live && env::var(rt, "NO_COLOR").is_err(),
-    };
+    }
+}
+
+/// How the streams of a run are explained.
+fn style_of<'a>(rt: &HostRuntime, run: &Request<'a>) -> Style<'a> {
+    let wanted = run.wanted;
+    let live = rt.stdout().is_terminal();
     Style {
         full: wanted.full,
         json: wanted.json,
@@ -126,11 +136,11 @@ fn style_of<'a>(rt: &HostRuntime, run: &Request<'a>) -> Style<'a> {
         stats: wanted.stats,
         unknown: wanted.unknown,
         decode: wanted.decode,
-        color: color && !wanted.json,
+        color: !wanted.json && is_colored(rt, run.color, live),
         timed: false,
         live,
         only: wanted.only,
-        at: wanted.at.map(|places| (places.first, places.last)),
+        at: ends_of(wanted.at),
         grep: wanted.grep,
         dialect: dialect_of(wanted),
     }
@@ -139,7 +149,10 @@ fn style_of<'a>(rt: &HostRuntime, run: &Request<'a>) -> Style<'a> {
 /// The times of a file that `script` wrote, of what was typed or of what was written; the status, if it can't be read.
 fn times_of(rt: &HostRuntime, name: &str, typed: bool) -> Result<Timing, u8> {
     let text = text_of(rt, name)?;
-    Timing::of(rt.alloc(), &text, typed).map_err(|failure| failed(rt, failure, name, None))
+    match Timing::of(rt.alloc(), &text, typed) {
+        Ok(timing) => Ok(timing),
+        Err(failure) => Err(failed(rt, failure, name, None)),
+    }
 }
 
 fn explain(rt: &HostRuntime, run: &Request<'_>) -> Result<(), u8> {
@@ -163,7 +176,9 @@ fn explain(rt: &HostRuntime, run: &Request<'_>) -> Result<(), u8> {
 /// Explains what the words of the command line ask for, if they do so in names that there are; the status, if that failed.
 fn checked(rt: &HostRuntime, run: &Request<'_>) -> Result<(), u8> {
     if let Some(names) = run.wanted.only {
-        are_known(rt.alloc(), names).map_err(|wrong| refused(rt, wrong))?;
+        if let Err(wrong) = are_known(rt.alloc(), names) {
+            return Err(refused(rt, wrong));
+        }
     }
     explain(rt, run)
 }

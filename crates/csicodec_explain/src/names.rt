@@ -353,13 +353,20 @@ static NUMBERED: [&str; 10] = [
     "XTSAVE",
 ];
 
+/// Whether this name is among others, in capitals or not.
+fn is_among(names: &[&str], name: &str) -> bool {
+    for known in names {
+        if known.eq_ignore_ascii_case(name) {
+            return true;
+        }
+    }
+    false
+}
+
 /// Whether something is told by this name.
 fn is_known(name: &str) -> bool {
     let (first, _behind) = name.split_once(' ').unwrap_or((name, ""));
-    NAMES.iter().any(|known| known.eq_ignore_ascii_case(name))
-        || NUMBERED
-            .iter()
-            .any(|known| known.eq_ignore_ascii_case(first))
+    is_among(&NAMES, name) || is_among(&NUMBERED, first)
 }
 
 /// What is wrong with a name that nothing is told by.
@@ -371,7 +378,10 @@ fn unknown<'a>(alloc: Global, name: &'a str) -> Wrong<'a> {
             Err(_) => return Wrong::Memory,
         }
     }
-    Wrong::NoName(name, best.map(|(known, _)| known))
+    match best {
+        Some((known, _)) => Wrong::NoName(name, Some(known)),
+        None => Wrong::NoName(name, None),
+    }
 }
 
 /// Something is told by each of these names, with commas between them.

@@ -1,6 +1,7 @@
 //! The times that `script` wrote beside a recording: a line for each piece, with the seconds since the piece before and how many
 //! bytes it has; in the newer form a letter stands ahead of both, `O` for what was written, `I` for what was typed.
 
+use crate::cast::line_front;
 use csicodec_command::{Failure, micros};
 use csicodec_page::Explainer;
 use csicodec_streams::{CHUNK, RunError, receive};
@@ -20,44 +21,67 @@ pub struct Timing {
     front: bool,
 }
 
+/// Whether a text is decimal digits.
+fn are_digits(text: &str) -> bool {
+    for digit in text.as_bytes() {
+        if !digit.is_ascii_digit() {
+            return false;
+        }
+    }
+    true
+}
+
 /// Whether a text is a number of seconds: decimal digits with at most one point.
 fn is_seconds(text: &str) -> bool {
     let (whole, part) = text.split_once('.').unwrap_or((text, ""));
-    !whole.is_empty()
-        && whole
-            .bytes()
-            .chain(part.bytes())
-            .all(|digit| digit.is_ascii_digit())
+    !whole.is_empty() && are_digits(whole) && are_digits(part)
+}
+
+/// The letter ahead of the seconds, in the newer form.
+fn letter_of(word: &str) -> Option<u8> {
+    match word.as_bytes().first().copied() {
+        Some(letter) if word.len() == 1 && letter.is_ascii_uppercase() => Some(letter),
+        _ => None,
+    }
+}
+
+/// How many bytes came, of what has the letter that is wanted or none.
+fn count_of(letter: Option<u8>, wanted: u8, count: &str) -> Option<usize> {
+    let count = count.parse::<usize>().ok()?;
+    match letter {
+        Some(letter) if letter != wanted => Some(0),
+        _ => Some(count),
+    }
 }
 
 /// The seconds since the line before, and how many bytes came then of what has this letter: none where the line is another's, as of a
 /// signal. Nothing of a line that `script` doesn't write.
-fn line_of(line: &str, wanted: &str) -> Option<(u64, usize)> {
+fn line_of(line: &str, wanted: u8) -> Option<(u64, usize)> {
     let mut words = line.split_whitespace();
     let first = words.next()?;
-    let letter = first.len() == 1 && first.starts_with(|c: char| c.is_ascii_uppercase());
-    let seconds = if letter { words.next()? } else { first };
+    let letter = letter_of(first);
+    let seconds = if letter.is_some() {
+        words.next()?
+    } else {
+        first
+    };
     if !is_seconds(seconds) {
         return None;
     }
-    let count = words.next();
-    if letter && first != "O" && first != "I" {
+    if !matches!(letter, None | Some(b'O' | b'I')) {
         return Some((micros(seconds), 0));
     }
-    let count = count?.parse::<usize>().ok()?;
+    let count = count_of(letter, wanted, words.next()?)?;
     if words.next().is_some() {
         return None;
     }
-    Some((
-        micros(seconds),
-        if letter && first != wanted { 0 } else { count },
-    ))
+    Some((micros(seconds), count))
 }
 
 impl Timing {
     /// The pieces of such a file, of what was typed or of what was written.
     pub fn of(alloc: Global, text: &str, typed: bool) -> Result<Timing, Failure> {
-        let wanted = if typed { "I" } else { "O" };
+        let wanted = if typed { b'I' } else { b'O' };
         let mut pieces = Vec::new(alloc);
         let (mut time, mut number) = (0u64, 0u64);
         for line in text.lines() {
@@ -78,27 +102,40 @@ impl Timing {
         })
     }
 
-    /// How many of these bytes came at once, and when. Behind the last piece all come when it did.
-    fn next(&mut self, bytes: &[u8]) -> (usize, u64) {
-        if self.front {
-            self.front = false;
-            if bytes.starts_with(b"Script started on ".as_slice()) {
-                let end = bytes.iter().position(|byte| *byte == b'\n');
-                return (end.map_or(bytes.len(), |end| end.saturating_add(1)), 0);
-            }
+    /// How many of these bytes are of the line that `script` puts ahead of the recording.
+    fn ahead(&mut self, bytes: &[u8]) -> usize {
+        let front = self.front;
+        self.front = false;
+        if !front || !bytes.starts_with(b"Script started on ".as_slice()) {
+            return 0;
         }
+        let (line, _behind) = line_front(bytes);
+        line.len()
+    }
+
+    /// How many of so many bytes came at once, and when. Behind the last piece all come when it did.
+    fn piece(&mut self, len: usize) -> (usize, u64) {
         let Some((count, time)) = self.pieces.get(self.at).copied() else {
-            let last = self.pieces.last().copied().unwrap_or((0, 0));
-            return (bytes.len(), last.1);
+            let (_, last) = self.pieces.last().copied().unwrap_or((0, 0));
+            return (len, last);
         };
         let left = count.saturating_sub(self.taken);
-        if left > bytes.len() {
-            self.taken = self.taken.saturating_add(bytes.len());
-            return (bytes.len(), time);
+        if left > len {
+            self.taken = self.taken.saturating_add(len);
+            return (len, time);
         }
         self.at = self.at.saturating_add(1);
         self.taken = 0;
         (left, time)
+    }
+
+    /// How many of these bytes came at once, and when.
+    fn next(&mut self, bytes: &[u8]) -> (usize, u64) {
+        let ahead = self.ahead(bytes);
+        if ahead > 0 {
+            return (ahead, 0);
+        }
+        self.piece(bytes.len())
     }
 
     /// Explains bytes, each piece with its time.

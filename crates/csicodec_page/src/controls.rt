@@ -1,8 +1,56 @@
 //! Control characters that stand in text: the set C0 of ISO 646 (ECMA-48, 8.3; ISO-IR 1), and what terminals do.
 
+/// The names of the set C0, by their bytes, and what each does; ESC stands in no text.
+static C0: [&str; 32] = [
+    "NUL  nothing",
+    "SOH  start of heading",
+    "STX  start of text",
+    "ETX  end of text",
+    "EOT  end of transmission",
+    "ENQ  ask for the answerback message",
+    "ACK  acknowledge",
+    "BEL  ring the bell",
+    "BS  cursor left 1 column",
+    "HT  cursor to the next tab stop",
+    "LF  cursor down 1 line, scrolling",
+    "VT  cursor down 1 line, scrolling (line tabulation)",
+    "FF  cursor down 1 line, scrolling (form feed)",
+    "CR  cursor to column 1",
+    "SO  G1 into GL",
+    "SI  G0 into GL",
+    "DLE  data link escape",
+    "DC1  transmission on (XON)",
+    "DC2  device control 2",
+    "DC3  transmission off (XOFF)",
+    "DC4  device control 4",
+    "NAK  negative acknowledge",
+    "SYN  synchronous idle",
+    "ETB  end of a block",
+    "CAN  cancel what is open",
+    "EM  end of medium",
+    "SUB  cancel what is open, show an error character",
+    "control",
+    "FS  file separator",
+    "GS  group separator",
+    "RS  record separator",
+    "US  unit separator",
+];
+
 /// Whether a byte is a control character of text: C0 but for ESC, which begins something else, and DEL.
 pub fn is_control(byte: u8) -> bool {
     byte < b' ' || byte == 0x7f
+}
+
+/// Text up to its first control character, with that, and what is behind it.
+#[inline(always)]
+pub fn text_front(bytes: &[u8]) -> (&[u8], &[u8]) {
+    for (at, byte) in bytes.iter().enumerate() {
+        if is_control(*byte) {
+            let front = at.saturating_add(1);
+            return bytes.split_at_checked(front).unwrap_or((bytes, &[]));
+        }
+    }
+    (bytes, &[])
 }
 
 /// The name of a control character, or of a carriage return with a line feed behind it, and what it does.
@@ -14,39 +62,8 @@ pub fn words_of(bytes: &[u8]) -> &'static str {
 }
 
 fn control_words(byte: u8) -> &'static str {
-    match byte {
-        0x00 => "NUL  nothing",
-        0x01 => "SOH  start of heading",
-        0x02 => "STX  start of text",
-        0x03 => "ETX  end of text",
-        0x04 => "EOT  end of transmission",
-        0x05 => "ENQ  ask for the answerback message",
-        0x06 => "ACK  acknowledge",
-        0x07 => "BEL  ring the bell",
-        0x08 => "BS  cursor left 1 column",
-        0x09 => "HT  cursor to the next tab stop",
-        0x0a => "LF  cursor down 1 line, scrolling",
-        0x0b => "VT  cursor down 1 line, scrolling (line tabulation)",
-        0x0c => "FF  cursor down 1 line, scrolling (form feed)",
-        0x0d => "CR  cursor to column 1",
-        0x0e => "SO  G1 into GL",
-        0x0f => "SI  G0 into GL",
-        0x10 => "DLE  data link escape",
-        0x11 => "DC1  transmission on (XON)",
-        0x12 => "DC2  device control 2",
-        0x13 => "DC3  transmission off (XOFF)",
-        0x14 => "DC4  device control 4",
-        0x15 => "NAK  negative acknowledge",
-        0x16 => "SYN  synchronous idle",
-        0x17 => "ETB  end of a block",
-        0x18 => "CAN  cancel what is open",
-        0x19 => "EM  end of medium",
-        0x1a => "SUB  cancel what is open, show an error character",
-        0x1c => "FS  file separator",
-        0x1d => "GS  group separator",
-        0x1e => "RS  record separator",
-        0x1f => "US  unit separator",
-        0x7f => "DEL  nothing",
-        _ => "control",
+    if byte == 0x7f {
+        return "DEL  nothing";
     }
+    C0.get(usize::from(byte)).copied().unwrap_or("control")
 }

@@ -12,6 +12,11 @@ use std::alloc::{AllocError, Global};
 use std::fmt::Display;
 use std::io::{Read, Write};
 
+/// What went wrong where memory ran out.
+fn no_memory(_: AllocError) -> RunError {
+    RunError::Memory
+}
+
 /// Adds the lines of all spans that are sure; how many bytes they are, and the mode behind them.
 fn add_spans(page: &mut Page<'_>, mode: Mode, bytes: &[u8]) -> Result<(usize, Mode), AllocError>
     ensures { IfOk result (λ (used, after). used ≤ length bytes.now) }
@@ -142,8 +147,8 @@ impl<'a> Explainer<'a> {
         timed: bool,
         output: &mut W,
     ) -> Result<(), RunError> {
-        self.finish().map_err(|_| RunError::Memory)?;
-        self.page.begin(name, timed).map_err(|_| RunError::Memory)?;
+        self.finish().map_err(no_memory)?;
+        self.page.begin(name, timed).map_err(no_memory)?;
         self.flush(output)
     }
 
@@ -155,7 +160,7 @@ impl<'a> Explainer<'a> {
         bytes: &[u8],
         output: &mut W,
     ) -> Result<(), RunError> {
-        self.push(time, bytes).map_err(|_| RunError::Memory)?;
+        self.push(time, bytes).map_err(no_memory)?;
         self.flush(output)
     }
 
@@ -166,9 +171,7 @@ impl<'a> Explainer<'a> {
         words: &T,
         output: &mut W,
     ) -> Result<(), RunError> {
-        self.page
-            .add_event(time, words)
-            .map_err(|_| RunError::Memory)?;
+        self.page.add_event(time, words).map_err(no_memory)?;
         self.flush(output)
     }
 
@@ -185,7 +188,7 @@ impl<'a> Explainer<'a> {
     /// The bytes of a read of at most `CHUNK` bytes. The lines of all spans that are over are written and flushed, and where someone
     /// looks on that of a text too, if nothing more is there at once.
     pub fn take_read<W: Write>(&mut self, bytes: &[u8], output: &mut W) -> Result<(), RunError> {
-        self.push_read(bytes).map_err(|_| RunError::Memory)?;
+        self.push_read(bytes).map_err(no_memory)?;
         self.flush(output)
     }
 
@@ -207,21 +210,29 @@ impl<'a> Explainer<'a> {
         Err(RunError::Read)
     }
 
+    /// Writes the totals.
+    fn send_totals<W: Write>(&self, output: &mut W) -> Result<(), RunError> {
+        let summary = self.page.summary();
+        let told = summary.to_string(self.alloc).map_err(no_memory)?;
+        send(output, told.as_bytes())
+    }
+
+    /// Writes the table of names.
+    fn send_names<W: Write>(&self, output: &mut W) -> Result<(), RunError> {
+        let (names, all) = self.page.names();
+        let told = stats_of(self.alloc, names, all, self.style.json).map_err(no_memory)?;
+        send(output, told.as_bytes())
+    }
+
     /// The last lines, and the sums where they are asked for.
     pub fn end<W: Write>(&mut self, output: &mut W) -> Result<(), RunError> {
-        self.finish().map_err(|_| RunError::Memory)?;
+        self.finish().map_err(no_memory)?;
         self.flush(output)?;
         if self.style.count {
-            let summary = self.page.summary();
-            let told = summary.to_string(self.alloc).map_err(|_| RunError::Memory)?;
-            send(output, told.as_bytes())?;
+            self.send_totals(output)?;
         }
         if self.style.stats {
-            let (names, all) = self.page.names();
-            let told = stats_of(self.alloc, names, all, self.style.json).map_err(
-                |_| RunError::Memory,
-            )?;
-            send(output, told.as_bytes())?;
+            self.send_names(output)?;
         }
         Ok(())
     }

@@ -1,7 +1,7 @@
 //! The spans of a stream, each told when it is over.
 ghost use Rattle.std.specs.Prelude.{◌≤◌, IfOk, length};
 
-use crate::controls::{is_control, words_of};
+use crate::controls::{is_control, text_front, words_of};
 use crate::totals::{Summary, Totals};
 use csicodec_base::{CsiParam, Esc, read_csi_into};
 use csicodec_inputs::Did;
@@ -57,13 +57,14 @@ fn sequence_front(bytes: &[u8]) -> &[u8]
     let [0x1b, b'[', list @ ..] = bytes else {
         return &[];
     };
-    let Some(at) = list.iter().position(|byte| !matches!(byte, 0x20..=0x3f)) else {
-        return &[];
-    };
-    match list.get(at) {
-        Some(0x40..=0x7e) => bytes.get(..at.saturating_add(3)).unwrap_or(&[]),
-        _ => &[],
+    for (at, byte) in list.iter().enumerate() {
+        match *byte {
+            0x20..=0x3f => {}
+            0x40..=0x7e => return bytes.get(..at.saturating_add(3)).unwrap_or(&[]),
+            _ => return &[],
+        }
     }
+    &[]
 }
 
 /// The escape sequence that a span of that kind is.
@@ -106,6 +107,64 @@ impl fmt::Debug for Named {
         let esc = self.0;
         write!(f, "Esc({esc:?})")
     }
+}
+
+/// What a span is told as of which more could have come.
+fn sort_of(kind: Kind) -> Sort {
+    match kind {
+        Kind::Text => Sort::Text,
+        Kind::Str => Sort::String,
+        Kind::Csi | Kind::Esc | Kind::Other => Sort::Malformed,
+    }
+}
+
+/// A span of these words.
+fn tell_words<T: Display>(
+    sheet: &mut Sheet<'_>,
+    span: Told<'_>,
+    words: &T,
+) -> Result<(), AllocError> {
+    sheet.begin(span)?;
+    sheet.add(span, words)?;
+    sheet.end()
+}
+
+/// A string, which may be closed, and what it puts into the clipboard, where that is asked for.
+fn tell_string(
+    alloc: Global,
+    sheet: &mut Sheet<'_>,
+    span: Told<'_>,
+    closed: bool,
+) -> Result<(), AllocError> {
+    let string = ControlString {
+        front: span.bytes,
+        len: span.len,
+        closed,
+    };
+    sheet.begin(span)?;
+    sheet.add(span, &string)?;
+    if sheet.style().decode {
+        if let Some(bytes) = clipboard_bytes(alloc, span.bytes)? {
+            sheet.add_decoded(span, &bytes)?;
+        }
+    }
+    sheet.end()
+}
+
+/// What went wrong, which may be a long escape sequence.
+fn tell_wrong(
+    sheet: &mut Sheet<'_>,
+    totals: &mut Totals,
+    kind: Kind,
+    span: Told<'_>,
+) -> Result<(), AllocError> {
+    let Some(reading) = long_escape(kind, span.bytes, span.len) else {
+        return tell_words(sheet, span, &Malformed(span.len));
+    };
+    let mut span = span;
+    span.sort = Sort::Escape;
+    totals.add_long_escape(span.len);
+    tell_words(sheet, span, &Described(&reading))
 }
 
 /// A line for each action of a control sequence of these tokens; how many they are.
@@ -228,50 +287,20 @@ impl<'a> Page<'a> {
 
     /// Tells the span of which more could have come.
     fn close_open(&mut self) -> Result<(), AllocError> {
-        let len = self.open.len;
-        let mut span = Told {
-            sort: Sort::Malformed,
+        let kind = self.open.kind;
+        let span = Told {
+            sort: sort_of(kind),
             place: self.open.place,
             time: self.open.time,
             bytes: &self.open.front,
-            len,
+            len: self.open.len,
         };
         self.open.len = 0;
-        match self.open.kind {
-            Kind::Text => {
-                span.sort = Sort::Text;
-                self.sheet.tell_text(span)
-            }
-            Kind::Str => {
-                span.sort = Sort::String;
-                self.sheet.begin(span)?;
-                let string = ControlString {
-                    front: span.bytes,
-                    len,
-                    closed: self.open.closed,
-                };
-                self.sheet.add(span, &string)?;
-                if self.sheet.style().decode {
-                    if let Some(bytes) = clipboard_bytes(self.alloc, span.bytes)? {
-                        self.sheet.add_decoded(span, &bytes)?;
-                    }
-                }
-                self.sheet.end()
-            }
+        match kind {
+            Kind::Text => self.sheet.tell_text(span),
+            Kind::Str => tell_string(self.alloc, &mut self.sheet, span, self.open.closed),
             Kind::Csi | Kind::Esc | Kind::Other => {
-                match long_escape(self.open.kind, span.bytes, len) {
-                    Some(reading) => {
-                        span.sort = Sort::Escape;
-                        self.sheet.begin(span)?;
-                        self.sheet.add(span, &Described(&reading))?;
-                        self.totals.add_long_escape(len);
-                    }
-                    None => {
-                        self.sheet.begin(span)?;
-                        self.sheet.add(span, &Malformed(len))?;
-                    }
-                }
-                self.sheet.end()
+                tell_wrong(&mut self.sheet, &mut self.totals, kind, span)
             }
         }
     }
@@ -412,9 +441,7 @@ impl<'a> Page<'a> {
             bytes: &[],
             len: 0,
         };
-        self.sheet.begin(span)?;
-        self.sheet.add(span, words)?;
-        self.sheet.end()
+        tell_words(&mut self.sheet, span, words)
     }
 
     /// A control character that stands in text, or a carriage return with a line feed.
@@ -430,8 +457,9 @@ impl<'a> Page<'a> {
             len: bytes.len() as u64,
         };
         self.sheet.begin(span)?;
-        match (self.sheet.style().dialect, bytes) {
-            (Some(_), [byte, ..]) => self.sheet.add(span, &Did::of_control(*byte))?,
+        let is_input = self.sheet.style().dialect.is_some();
+        match bytes.first() {
+            Some(byte) if is_input => self.sheet.add(span, &Did::of_control(*byte))?,
             _ => self.sheet.add(span, &words_of(bytes))?,
         }
         self.sheet.end()?;
@@ -511,10 +539,14 @@ impl<'a> Page<'a> {
         let spans = if self.text { 0 } else { 1 };
         self.text = true;
         self.totals.add(Kind::Text, spans, 0);
-        let mut left = bytes.len();
-        for part in bytes.split_inclusive(|byte| is_control(*byte)) {
-            left = left.saturating_sub(part.len());
-            self.add_text_part(part, over && left == 0)?;
+        let mut rest = bytes;
+        for _ in 0..bytes.len() {
+            if rest.is_empty() {
+                break;
+            }
+            let (part, behind) = text_front(rest);
+            self.add_text_part(part, over && behind.is_empty())?;
+            rest = behind;
         }
         Ok(())
     }

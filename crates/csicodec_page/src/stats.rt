@@ -18,21 +18,38 @@ struct Row<'a> {
     json: bool,
 }
 
+impl<'a> Row<'a> {
+    /// Its share of all bytes, in thousandths.
+    fn share(&self) -> u64 {
+        let bytes = self.sum.bytes.saturating_mul(1000);
+        bytes.checked_div(self.all).unwrap_or(0)
+    }
+
+    fn write_object<W: fmt::Write>(&self, f: &mut fmt::Formatter<W>) -> fmt::Result {
+        let (name, times, bytes) = (self.name, self.sum.times, self.sum.bytes);
+        write!(f, "{{\"kind\":\"stats\",\"name\":\"{name}\"")?;
+        write!(f, ",\"times\":{times},\"bytes\":{bytes}")?;
+        let share = self.share();
+        let (whole, tenths) = (share / 10, share % 10);
+        write!(f, ",\"share\":{whole}.{tenths}}}\n")
+    }
+
+    fn write_line<W: fmt::Write>(&self, f: &mut fmt::Formatter<W>) -> fmt::Result {
+        let (name, times, bytes) = (self.name, self.sum.times, self.sum.bytes);
+        write!(f, "{name:<24}{times:>10}{bytes:>13}")?;
+        let share = self.share();
+        let (whole, tenths) = (share / 10, share % 10);
+        write!(f, "{whole:>6}.{tenths}%\n")
+    }
+}
+
 impl<'a> fmt::Display for Row<'a> {
     fn fmt<W: fmt::Write>(&self, f: &mut fmt::Formatter<W>) -> fmt::Result {
-        let (name, times, bytes) = (self.name, self.sum.times, self.sum.bytes);
-        let share = bytes
-            .saturating_mul(1000)
-            .checked_div(self.all)
-            .unwrap_or(0);
-        let (whole, tenths) = (share / 10, share % 10);
         if self.json {
-            return write!(
-                f,
-                "{{\"kind\":\"stats\",\"name\":\"{name}\",\"times\":{times},\"bytes\":{bytes},\"share\":{whole}.{tenths}}}\n"
-            );
+            self.write_object(f)
+        } else {
+            self.write_line(f)
         }
-        write!(f, "{name:<24}{times:>10}{bytes:>13}{whole:>6}.{tenths}%\n")
     }
 }
 

@@ -77,47 +77,60 @@ pub struct Summary<'a> {
     pub json: bool,
 }
 
-impl<'a> fmt::Display for Summary<'a> {
-    fn fmt<W: fmt::Write>(&self, f: &mut fmt::Formatter<W>) -> fmt::Result {
-        let (totals, names) = (self.totals, self.names);
-        if !self.json {
-            return write!(f, "{totals}{names}");
-        }
+/// A total as a member of an object of JSON.
+fn write_member<W: fmt::Write>(f: &mut fmt::Formatter<W>, name: &str, total: Total) -> fmt::Result {
+    let (spans, bytes) = (total.spans, total.bytes);
+    write!(f, ",\"{name}\":{{\"spans\":{spans}")?;
+    write!(f, ",\"bytes\":{bytes}}}")
+}
+
+/// All totals as members.
+fn write_members<W: fmt::Write>(f: &mut fmt::Formatter<W>, totals: &Totals) -> fmt::Result {
+    write_member(f, "text", totals.text)?;
+    write_member(f, "csi", totals.sequences)?;
+    write_member(f, "escape", totals.escapes)?;
+    write_member(f, "string", totals.strings)?;
+    write_member(f, "malformed", totals.malformed)?;
+    let actions = totals.actions;
+    write!(f, ",\"actions\":{actions}")
+}
+
+impl<'a> Summary<'a> {
+    fn write_object<W: fmt::Write>(&self, f: &mut fmt::Formatter<W>) -> fmt::Result {
         f.write_str("{\"kind\":\"totals\"")?;
-        for (name, total) in [
-            ("text", totals.text),
-            ("csi", totals.sequences),
-            ("escape", totals.escapes),
-            ("string", totals.strings),
-            ("malformed", totals.malformed),
-        ] {
-            let (spans, bytes) = (total.spans, total.bytes);
-            write!(f, ",\"{name}\":{{\"spans\":{spans},\"bytes\":{bytes}}}")?;
-        }
-        let actions = totals.actions;
-        write!(f, ",\"actions\":{actions},\"names\":{{")?;
-        names.write_members(f)?;
+        write_members(f, &self.totals)?;
+        f.write_str(",\"names\":{")?;
+        self.names.write_members(f)?;
         f.write_str("}}\n")
     }
 }
 
-impl fmt::Display for Total {
+impl<'a> fmt::Display for Summary<'a> {
     fn fmt<W: fmt::Write>(&self, f: &mut fmt::Formatter<W>) -> fmt::Result {
-        let (spans, bytes) = (self.spans, self.bytes);
-        write!(f, "{spans:>10} {bytes:>12} bytes")
+        if self.json {
+            return self.write_object(f);
+        }
+        let (totals, names) = (self.totals, self.names);
+        write!(f, "{totals}{names}")
     }
+}
+
+/// A line of one kind, with its end.
+fn write_line<W: fmt::Write>(f: &mut fmt::Formatter<W>, name: &str, total: Total) -> fmt::Result {
+    let (spans, bytes) = (total.spans, total.bytes);
+    write!(f, "{name:<18}{spans:>10} ")?;
+    write!(f, "{bytes:>12} bytes\n")
 }
 
 /// A line for each kind, with its end.
 impl fmt::Display for Totals {
     fn fmt<W: fmt::Write>(&self, f: &mut fmt::Formatter<W>) -> fmt::Result {
-        let (text, sequences, escapes) = (self.text, self.sequences, self.escapes);
-        let (strings, malformed, actions) = (self.strings, self.malformed, self.actions);
-        write!(f, "text              {text}\n")?;
-        write!(f, "control sequences {sequences}\n")?;
+        write_line(f, "text", self.text)?;
+        write_line(f, "control sequences", self.sequences)?;
+        let actions = self.actions;
         write!(f, "  actions         {actions:>10}\n")?;
-        write!(f, "escape sequences  {escapes}\n")?;
-        write!(f, "strings           {strings}\n")?;
-        write!(f, "malformed         {malformed}\n")
+        write_line(f, "escape sequences", self.escapes)?;
+        write_line(f, "strings", self.strings)?;
+        write_line(f, "malformed", self.malformed)
     }
 }

@@ -25,6 +25,16 @@ struct Entry {
 }
 
 impl Entry {
+    /// Where nothing is kept.
+    fn new(alloc: Global) -> Entry {
+        Entry {
+            kept: Vec::new(alloc),
+            len: 0,
+            hash: 0,
+            actions: 0,
+        }
+    }
+
     /// What was told, and of how many actions, where this is the sequence.
     #[inline(always)]
     fn recall(&self, hash: u32, bytes: &[u8]) -> Option<(&[u8], u64)> {
@@ -96,13 +106,7 @@ impl Remembered {
     /// Makes room.
     fn make_slots(&mut self) -> Result<(), AllocError> {
         for _ in 0..BUCKETS.saturating_mul(WAYS) {
-            let slot = Entry {
-                kept: Vec::new(self.alloc),
-                len: 0,
-                hash: 0,
-                actions: 0,
-            };
-            self.slots.push(slot)?;
+            self.slots.push(Entry::new(self.alloc))?;
         }
         Ok(())
     }
@@ -111,8 +115,9 @@ impl Remembered {
     fn place_in(&self, first: usize) -> usize {
         for way in 0..WAYS {
             let place = first.saturating_add(way);
-            if self.slots.get(place).is_some_and(|slot| slot.len == 0) {
-                return place;
+            match self.slots.get(place) {
+                Some(slot) if slot.len == 0 => return place,
+                _ => {}
             }
         }
         first.saturating_add(self.turn)

@@ -3,13 +3,14 @@
 use base64::DecodeAllocError;
 use base64::engine::general_purpose::STANDARD;
 use csicodec_strings::{Quoted, Shown};
+use memchr::memchr;
 use std::alloc::{AllocError, Global};
 use std::fmt;
 
 /// The text of an OSC 52 in base64, where the string is one, whole and closed.
 fn clipboard_text(string: &[u8]) -> Option<&[u8]> {
     let rest = string.strip_prefix(b"\x1b]52;".as_slice())?;
-    let at = rest.iter().position(|byte| *byte == b';')?;
+    let at = memchr(b';', rest)?;
     let text = rest.get(at.saturating_add(1)..)?;
     match text.strip_suffix(b"\x07".as_slice()) {
         Some(text) => Some(text),

@@ -32,6 +32,21 @@ pub struct Names {
     others: Sum,
 }
 
+/// How many bytes a name has less than the most that are counted.
+fn left(row: &(&str, Sum)) -> u64 {
+    u64::MAX.saturating_sub(row.1.bytes)
+}
+
+/// A name as a member of an object of JSON, with a comma ahead of it.
+fn write_member<W: fmt::Write>(out: &mut W, name: &str, times: u64) -> fmt::Result {
+    write!(out, ",\"{name}\":{times}")
+}
+
+/// A line of a name, with its end.
+fn write_line<W: fmt::Write>(out: &mut W, name: &str, times: u64) -> fmt::Result {
+    write!(out, "  {name:<16}{times:>10}\n")
+}
+
 impl Names {
     /// Nothing was told.
     pub fn new(alloc: Global) -> Names {
@@ -63,7 +78,7 @@ impl Names {
         for (name, sum) in &self.sums {
             rows.push((name.as_str(), *sum))?;
         }
-        rows.sort_by_key(|(_, sum)| u64::MAX.saturating_sub(sum.bytes))?;
+        rows.sort_by_key(left)?;
         Ok((rows, self.others))
     }
 
@@ -72,8 +87,7 @@ impl Names {
         let others = self.others.times;
         write!(out, "\"other names\":{others}")?;
         for (name, sum) in &self.sums {
-            let times = sum.times;
-            write!(out, ",\"{name}\":{times}")?;
+            write_member(out, name.as_str(), sum.times)?;
         }
         Ok(())
     }
@@ -83,12 +97,10 @@ impl Names {
 impl fmt::Display for Names {
     fn fmt<W: fmt::Write>(&self, f: &mut fmt::Formatter<W>) -> fmt::Result {
         for (name, sum) in &self.sums {
-            let times = sum.times;
-            write!(f, "  {name:<16}{times:>10}\n")?;
+            write_line(f, name.as_str(), sum.times)?;
         }
-        let others = self.others.times;
-        if others > 0 {
-            write!(f, "  other names     {others:>10}\n")?;
+        if self.others.times > 0 {
+            write_line(f, "other names", self.others.times)?;
         }
         Ok(())
     }

@@ -47,14 +47,55 @@ pub struct JsonFields {
 
 /// Whether a byte is of a name or a number.
 fn is_word(byte: u8) -> bool {
-    byte.is_ascii_alphanumeric() || byte == b'_' || byte == b'-'
+    matches!(byte, b'0'..=b'9' | b'A'..=b'Z' | b'a'..=b'z' | b'_' | b'-')
 }
 
 /// The name in front, and what is behind it.
 fn name_front(text: &[u8]) -> (&[u8], &[u8]) {
-    match text.iter().position(|byte| !is_word(*byte)) {
-        Some(at) => text.split_at(at),
-        None => (text, &[]),
+    let mut len = 0usize;
+    for byte in text {
+        if !is_word(*byte) {
+            break;
+        }
+        len = len.saturating_add(1);
+    }
+    text.split_at_checked(len).unwrap_or((text, &[]))
+}
+
+/// Whether a word stands as it is: a number, or whether something is so.
+fn is_bare(word: &[u8]) -> bool {
+    match word.first() {
+        Some(b'0'..=b'9' | b'-') => true,
+        _ => word == b"true".as_slice() || word == b"false".as_slice(),
+    }
+}
+
+/// A character without its marks; a word without marks as it is.
+fn without_marks(word: &[u8]) -> &[u8] {
+    match word.strip_prefix(b"'".as_slice()) {
+        Some(rest) => rest.strip_suffix(b"'".as_slice()).unwrap_or(word),
+        None => word,
+    }
+}
+
+/// A text between quotation marks, unless it is empty.
+fn append_text(out: &mut Vec<u8>, text: &[u8]) -> Result<(), AllocError> {
+    if text.is_empty() {
+        return Ok(());
+    }
+    out.push(b'"')?;
+    out.extend_from_slice(text)?;
+    Ok(out.push(b'"')?)
+}
+
+/// A word as a value.
+fn append_word(out: &mut Vec<u8>, word: &[u8]) -> Result<(), AllocError> {
+    if word == b"None".as_slice() {
+        out.extend_from_slice(b"null")
+    } else if is_bare(word) {
+        out.extend_from_slice(word)
+    } else {
+        append_text(out, without_marks(word))
     }
 }
 
@@ -242,18 +283,7 @@ impl JsonFields {
 
     /// The word that is read, as a value.
     fn write_word(&mut self) -> Result<(), AllocError> {
-        let word = self.word.as_slice();
-        match word {
-            b"None" => self.out.extend_from_slice(b"null")?,
-            b"true" | b"false" | [b'0'..=b'9' | b'-', ..] => self.out.extend_from_slice(word)?,
-            [b'\'', inner @ .., b'\''] | inner => {
-                if !inner.is_empty() {
-                    self.out.push(b'"')?;
-                    self.out.extend_from_slice(inner)?;
-                    self.out.push(b'"')?;
-                }
-            }
-        }
+        append_word(&mut self.out, &self.word)?;
         self.word.clear();
         Ok(())
     }

@@ -44,18 +44,23 @@ fn says_unknown(name: &str, rest: &str) -> bool {
     name == "unknown" || rest.starts_with("unknown")
 }
 
-/// Whether one of the names that are asked for is this: the whole of it, or its first word, in capitals or not; or `unknown`, of
-/// what has a name and is unknown all the same.
+/// Whether one of the names that are asked for is this, in capitals or not.
+fn is_among(names: &str, name: &str) -> bool {
+    for asked in names.split(',') {
+        if asked.eq_ignore_ascii_case(name) {
+            return true;
+        }
+    }
+    false
+}
+
+/// Whether one of the names that are asked for is this: the whole of it, or its first word; or `unknown`, of what has a name and is
+/// unknown all the same.
 fn is_named(names: &str, name: &str, rest: &str) -> bool {
     let (first, _rest) = name.split_once(' ').unwrap_or((name, ""));
-    let unknown = if says_unknown(name, rest) {
-        "unknown"
-    } else {
-        name
-    };
-    names.split(',').any(|asked| asked.eq_ignore_ascii_case(name)
-        || asked.eq_ignore_ascii_case(first)
-        || asked.eq_ignore_ascii_case(unknown))
+    is_among(names, name)
+        || is_among(names, first)
+        || (says_unknown(name, rest) && is_among(names, "unknown"))
 }
 
 impl<'a> Style<'a> {

@@ -4,6 +4,7 @@
 
 mod command;
 mod recording;
+mod refusal;
 mod report;
 mod run;
 mod words;

@@ -24,10 +24,9 @@ pub fn micros(text: &str) -> u64 {
     let (whole, part) = text.split_once('.').unwrap_or((text, ""));
     let mut fraction = 0u64;
     let mut unit = 100_000u64;
-    for digit in part.bytes() {
-        fraction = fraction.saturating_add(u64::from(digit.saturating_sub(b'0')).saturating_mul(
-            unit,
-        ));
+    for digit in part.as_bytes() {
+        let value = u64::from((*digit).saturating_sub(b'0'));
+        fraction = fraction.saturating_add(value.saturating_mul(unit));
         unit /= 10;
     }
     match whole.parse::<u64>() {

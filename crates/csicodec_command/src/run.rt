@@ -1,8 +1,9 @@
 //! A run of a program: its words, its inputs one after the other, and what it tells of what failed.
 
 use crate::command::{Command, Request, Wrong, command_of};
+use crate::refusal::{Refusal, advice_of};
 use crate::report::{Failure, GONE};
-use crate::words::{HINT, USAGE, VERSION, WAITS};
+use crate::words::{VERSION, WAITS};
 use csicodec_streams::RunError;
 use std::alloc::Global;
 use std::env;
@@ -54,7 +55,10 @@ struct Output {
 impl Output {
     /// Whether its reader went away.
     fn is_gone(&self) -> bool {
-        self.fault.is_some_and(is_gone)
+        match self.fault {
+            Some(fault) => is_gone(fault),
+            None => false,
+        }
     }
 }
 
@@ -143,7 +147,10 @@ fn stopped(
 
 /// Opens a file; the status, if that failed.
 fn opened(rt: &HostRuntime, name: &str) -> Result<File, u8> {
-    File::open(rt, name).map_err(|error| failed(rt, Failure::Open, name, Some(error)))
+    match File::open(rt, name) {
+        Ok(file) => Ok(file),
+        Err(error) => Err(failed(rt, Failure::Open, name, Some(error))),
+    }
 }
 
 /// The text of a file; the status, if it can't be read.
@@ -279,51 +286,14 @@ fn is_file(rt: &HostRuntime, word: &str) -> bool {
 /// Says what is wrong with the command line, and how the program is used; the status that it ends with.
 pub fn refused(rt: &HostRuntime, wrong: Wrong<'_>) -> u8 {
     let failure = wrong.failure();
-    let _told = match wrong {
-        Wrong::Nothing => eprintln!(rt; "{failure}\n{USAGE}"),
-        Wrong::NoCommand(word, _) if is_file(rt, word) => {
-            let word = word.escape_debug();
-            eprintln!(rt;
-                "{failure}: {word} (a file: csicodec explain {word} tells what is in it)\n{USAGE}"
-            )
-        }
-        Wrong::NoCommand(word, Some(known)) => {
-            let word = word.escape_debug();
-            eprintln!(rt; "{failure}: {word} (the nearest is {known})\n{USAGE}")
-        }
-        Wrong::NoCommand(word, None) => {
-            let word = word.escape_debug();
-            eprintln!(rt; "{failure}: {word}\n{USAGE}")
-        }
-        Wrong::UnknownOption(word, Some(known)) => {
-            let word = word.escape_debug();
-            eprintln!(rt; "{failure}: {word} (the nearest is {known})\n{HINT}")
-        }
-        Wrong::UnknownOption(word, None) => {
-            let word = word.escape_debug();
-            eprintln!(rt; "{failure}: {word}\n{HINT}")
-        }
-        Wrong::Misplaced(option, of) => match of.split_once(' ') {
-            Some((of, other)) => {
-                eprintln!(rt; "{failure}: {option} (of {of} and {other})\n{HINT}")
-            }
-            None => eprintln!(rt; "{failure}: {option} (of {of})\n{HINT}"),
-        },
-        Wrong::Apart(one, other) => eprintln!(rt; "{failure}: {one} and {other}\n{HINT}"),
-        Wrong::NoValue(word, values) => { eprintln!(rt; "{failure}: {word} ({values})\n{HINT}") }
-        Wrong::NotValue(word, value, values) => {
-            let value = value.escape_debug();
-            eprintln!(rt; "{failure} of {word}: {value} ({values})\n{HINT}")
-        }
-        Wrong::NoName(name, Some(known)) => {
-            let name = name.escape_debug();
-            eprintln!(rt; "{failure} of --only: {name} (the nearest is {known})\n{HINT}")
-        }
-        Wrong::NoName(name, None) => {
-            let name = name.escape_debug();
-            eprintln!(rt; "{failure} of --only: {name} (names, as SGR,CUP)\n{HINT}")
-        }
-        Wrong::NotText | Wrong::Memory => eprintln!(rt; "{failure}"),
+    let is_file = match wrong {
+        Wrong::NoCommand(word, _) => is_file(rt, word),
+        _ => false,
+    };
+    let refusal = Refusal::new(wrong, is_file);
+    let _told = match advice_of(wrong) {
+        Some(advice) => eprintln!(rt; "{failure}{refusal}\n{advice}"),
+        None => eprintln!(rt; "{failure}"),
     };
     failure.status()
 }

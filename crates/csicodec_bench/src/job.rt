@@ -1,7 +1,7 @@
 //! What the program is asked for.
 
 /// A call of the library.
-#[derive(Clone, Copy, Debug, PartialEq, Eq)]
+#[derive(Clone, Copy)]
 pub enum Call {
     /// `decode_all` of all bytes.
     Decode,
@@ -14,7 +14,7 @@ pub enum Call {
 }
 
 /// A call, and how often it is done.
-#[derive(Clone, Copy, Debug, PartialEq, Eq)]
+#[derive(Clone, Copy)]
 pub struct Job {
     /// Which.
     pub call: Call,

@@ -5,7 +5,7 @@
 mod job;
 mod work;
 
-use job::{Job, USAGE};
+use job::Job;
 use std::env;
 use std::io::Read;
 use std::process::ExitCode;
@@ -37,12 +37,8 @@ fn main(rt: HostRuntime) -> ExitCode {
         },
         Err(stopped) => {
             // Where standard error is gone too, the status is all that can be told.
-            let _told = match stopped {
-                Stopped::Usage => eprintln!(rt; "{USAGE}"),
-                Stopped::Read => eprintln!(rt; "csicodec_bench: read failed"),
-                Stopped::Refused => eprintln!(rt; "csicodec_bench: not control sequences alone"),
-                Stopped::Memory => eprintln!(rt; "csicodec_bench: out of memory"),
-            };
+            let words = stopped.words();
+            let _told = eprintln!(rt; "{words}");
             ExitCode::FAILURE
         }
     }

@@ -1,13 +1,13 @@
 //! The calls, each over and over.
 
-use crate::job::{Call, Job};
+use crate::job::{Call, Job, USAGE};
 use csicodec::{
     CSI, DecodeError, ReadCsi, ReadError, RunError, decode_all, encode_all, normalise, read_csi,
 };
 use std::alloc::{AllocError, AllocFailed, Global};
 
 /// Why the job wasn't done.
-#[derive(Clone, Copy, Debug, PartialEq, Eq)]
+#[derive(Clone, Copy)]
 pub enum Stopped {
     /// The words are no job.
     Usage,
@@ -17,6 +17,18 @@ pub enum Stopped {
     Refused,
     /// Memory ran out.
     Memory,
+}
+
+impl Stopped {
+    /// What is told of it.
+    pub fn words(self) -> &'static str {
+        match self {
+            Stopped::Usage => USAGE,
+            Stopped::Read => "csicodec_bench: read failed",
+            Stopped::Refused => "csicodec_bench: not control sequences alone",
+            Stopped::Memory => "csicodec_bench: out of memory",
+        }
+    }
 }
 
 impl From<AllocError> for Stopped {

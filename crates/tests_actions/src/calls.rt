@@ -7,7 +7,13 @@
 //! | `read` | bytes | `read_csi`: the list, the final, and what is left |
 //! | `fronts` | bytes | `read_csi` of each of their fronts but themselves, the empty one first |
 //! | `twice` | bytes | what `normalise` writes, and `again the same` where it writes that of its own output |
+//! | `values` | a name | a line for each value of the table of that name (`values.rt`) |
+//! | `texts`, `error`, `held`, `escapes` | | what is printed (`texts.rt`) |
+//! | `known` | what stands behind `ESC [` in a sequence | the row of the second table that reads it (`known.rt`) |
+//! | others | numbers, tokens | a value that is built of them (`built.rt`) |
 use crate::spell::{bytes_of, spelled, tokens_of};
+use crate::values::values;
+use crate::{built, known, texts};
 use csicodec::{Cracked, decode_all, encode_all, normalise, parse_all, read_csi};
 use std::alloc::{AllocError, Global};
 
@@ -92,6 +98,12 @@ pub fn told(alloc: Global, line: &str) -> Result<String, AllocError> {
         "read" => read(alloc, &bytes_of(alloc, rest)?),
         "fronts" => fronts(alloc, &bytes_of(alloc, rest)?),
         "twice" => twice(alloc, &bytes_of(alloc, rest)?),
-        _ => format!(in alloc; "no such call"),
+        "values" => values(alloc, rest),
+        "texts" => texts::texts(alloc, rest),
+        "error" => texts::error(alloc, rest),
+        "held" => texts::held(alloc, rest),
+        "escapes" => texts::escapes(alloc),
+        "known" => known::known(alloc, rest),
+        _ => built::told(alloc, word, rest),
     }
 }

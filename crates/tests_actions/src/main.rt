@@ -1,19 +1,26 @@
 //! Sequences, what each stands for, and how that is written; and calls of the library with their answers: a table.
 //!
 //! A line of standard input that begins with `\` is a sequence, or bytes that are none. The program writes the line, and behind it, with tabs
-//! between, the actions that the sequence stands for, as `{:?}` writes them, and the text of these; `read otherwise` where that text stands
-//! for others, and `parsed otherwise` where `parse_all` of its list does. Of a refusal it writes the error. Any other line is a word for a call
-//! and what it is made with (`calls.rt`); behind it stand the answers. An empty line, and one that begins with `#`, stays as it is.
+//! between, the actions that the sequence stands for, as `{:?}` writes them, and the text of these (`shown.rt`); and `parsed otherwise` where
+//! `parse_all` of its list stands for others. Of a refusal it writes the error. Any other line is a word for a call, for values or for
+//! what is printed, and what it is made with (`calls.rt`); behind it stand the answers. An empty line, and one that begins with `#`, stays as
+//! it is.
 //!
-//! Bytes are spelled with `\e` for ESC, `\a` for BEL and `\\` for `\`, in the answers those from 80 on as `\x` and two digits; tokens
+//! Bytes are spelled with `\e` for ESC, `\a` for BEL and `\\` for `\`, in the answers 0 and those from 80 on as `\x` and two digits; tokens
 //! stand between spaces: a number, or one character for a byte, with a `'` before it where it is a digit, and `\s` for the space. The files
 //! `stdin` and `stdout` beside `src/` are the table, which was written by hand.
 #![tactic(auto)]
 
+mod built;
 mod calls;
+mod known;
+mod shown;
 mod spell;
+mod texts;
+mod values;
 
-use csicodec::{CSI, Esc, decode_all, encode_all, parse_all, read_csi};
+use csicodec::{CSI, Esc, decode_all, parse_all, read_csi};
+use shown::shown;
 use spell::{bytes_of, spelled};
 use std::alloc::{AllocError, Global};
 
@@ -26,19 +33,6 @@ fn is_parsed(alloc: Global, bytes: &[u8], actions: &[CSI]) -> Result<bool, Alloc
         }
         _ => Ok(true),
     }
-}
-
-/// Whether these actions, of which this was written, display so too, are canonical, and are read back.
-fn read_back(alloc: Global, actions: &[CSI], written: &[u8]) -> Result<bool, AllocError> {
-    let mut displayed = String::new(alloc);
-    for action in actions {
-        if !action.is_canonical(alloc, false)? {
-            return Ok(false);
-        }
-        displayed.push_str(action.to_string(alloc)?.as_str())?;
-    }
-    let same = matches!(decode_all(alloc, written, false), Ok(read) if read.as_slice() == actions);
-    Ok(same && displayed.as_bytes() == written)
 }
 
 /// What is told of these bytes: an escape sequence is ESC and one or two bytes, of which the first isn't `[`.
@@ -54,13 +48,11 @@ fn told(alloc: Global, bytes: &[u8]) -> Result<String, AllocError> {
     }
     match decode_all(alloc, bytes, false) {
         Ok(actions) => {
-            let written = encode_all(alloc, &actions)?;
-            let text = spelled(alloc, &written)?;
-            let same = read_back(alloc, &actions, &written)?;
-            let end = if same { "" } else { "\tread otherwise" };
-            let parsed = is_parsed(alloc, bytes, &actions)?;
-            let list = if parsed { "" } else { "\tparsed otherwise" };
-            format!(in alloc; "{actions:?}\t{text}{end}{list}")
+            let mut told = shown(alloc, &actions, false)?;
+            if !is_parsed(alloc, bytes, &actions)? {
+                told.push_str("\tparsed otherwise")?;
+            }
+            Ok(told)
         }
         Err(error) => format!(in alloc; "{error:?}"),
     }

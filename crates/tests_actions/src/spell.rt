@@ -28,7 +28,7 @@ pub fn spelled(alloc: Global, text: &[u8]) -> Result<String, AllocError> {
         match *byte {
             0x1b => line.push_str("\\e")?,
             b'\\' => line.push_str("\\\\")?,
-            0x80.. => line.push_str(format!(in alloc; "\\x{byte:02x}")?.as_str())?,
+            0 | 0x80.. => line.push_str(format!(in alloc; "\\x{byte:02x}")?.as_str())?,
             byte => line.push(char::from(byte))?,
         }
     }
@@ -36,7 +36,7 @@ pub fn spelled(alloc: Global, text: &[u8]) -> Result<String, AllocError> {
 }
 
 /// The token that a word spells, if it spells one.
-fn token_of(word: &str) -> Option<CsiParam> {
+pub fn token_of(word: &str) -> Option<CsiParam> {
     if let Ok(number) = word.parse() {
         return Some(CsiParam::Integer(number));
     }

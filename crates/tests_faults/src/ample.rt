@@ -18,6 +18,15 @@ pub(crate) const BEHIND: DecodeError = DecodeError::Read {
     error: ReadError::Truncated { at: 2 },
 };
 
+/// An attribute, a fault, and then a request that takes memory.
+pub(crate) const FAULT_FIRST: &[u8] = b"\x1b[1m\x07\x1b[x";
+
+/// Its fault.
+pub(crate) const FIRST: DecodeError = DecodeError::Read {
+    start: 4,
+    error: ReadError::NotCsi { at: 0 },
+};
+
 /// An answer of a terminal that names so many extensions that a list of them grows three times.
 pub(crate) const ANSWER: &[u8] = b"\x1b[?62;1;2;6;8;9;15;22;98;99c";
 
@@ -27,56 +36,68 @@ pub(crate) const WINDOW: &[u8] = b"\x1b[3;1;2t";
 /// A geometry of graphics that is set.
 pub(crate) const GRAPHICS: &[u8] = b"\x1b[?2;3;800;600S";
 
+/// A sequence's tokens, and its actions.
+#[derive(Drop)]
+pub(crate) struct Sequence {
+    pub(crate) params: Vec<CsiParam>,
+    pub(crate) actions: Vec<CSI>,
+}
+
 #[derive(Drop)]
 pub(crate) struct Ample {
-    /// The tokens of `INPUT`.
-    pub(crate) params: Vec<CsiParam>,
-    /// Its actions, the last of them unknown.
-    pub(crate) actions: Vec<CSI>,
+    /// `INPUT`, the last of its actions unknown.
+    pub(crate) input: Sequence,
+    /// `WINDOW`, one action.
+    pub(crate) window: Sequence,
+    /// `ANSWER`, one action.
+    pub(crate) answer: Sequence,
+    /// `GRAPHICS`, one action.
+    pub(crate) graphics: Sequence,
     /// The actions of `NO_PARAMETERS`.
     pub(crate) decoded: Vec<CSI>,
-    /// The tokens of `WINDOW`.
-    pub(crate) fields: Vec<CsiParam>,
-    /// Its action.
-    pub(crate) window: Vec<CSI>,
-    /// An attribute, and an unknown action that holds these tokens and so isn't read back.
+    /// An attribute, and an unknown action that holds the tokens of `WINDOW` and so isn't read back.
     pub(crate) unreadable: Vec<CSI>,
-    /// The tokens of `ANSWER`.
-    pub(crate) answer: Vec<CsiParam>,
-    /// Its one action.
-    pub(crate) device: Vec<CSI>,
-    /// The tokens of `GRAPHICS`.
-    pub(crate) geometry: Vec<CsiParam>,
-    /// Its one action.
-    pub(crate) graphics: Vec<CSI>,
 }
 
 impl Ample {
     pub(crate) fn new(alloc: Global) -> Result<Ample, AllocError> {
-        let answer = tokens(alloc, ANSWER)?;
-        let geometry = tokens(alloc, GRAPHICS)?;
-        let window = Window::MoveWindow { x: 1, y: 2 };
         Ok(Ample {
-            params: tokens(alloc, INPUT)?,
-            actions: bold_and(alloc, tokens(alloc, b"\x1b[1231231;3m")?, 'm')?,
+            input: input(alloc)?,
+            window: window(alloc)?,
+            answer: parsed(alloc, ANSWER, 'c')?,
+            graphics: parsed(alloc, GRAPHICS, 'S')?,
             decoded: bold_and(alloc, Vec::new(alloc), 'z')?,
-            fields: tokens(alloc, WINDOW)?,
-            window: vec![in alloc; CSI::Window(Box::new(alloc, window)?)]?,
             unreadable: bold_and(alloc, tokens(alloc, WINDOW)?, 't')?,
-            device: parse_all(alloc, &answer, false, 'c')?,
-            answer,
-            graphics: parse_all(alloc, &geometry, false, 'S')?,
-            geometry,
         })
     }
 
     /// The unknown action.
     pub(crate) fn unknown(&self) -> Option<&Unspecified> {
-        match self.actions.last() {
+        match self.input.actions.last() {
             Some(CSI::Unspecified(unknown)) => Some(unknown),
             _ => None,
         }
     }
+}
+
+fn input(alloc: Global) -> Result<Sequence, AllocError> {
+    let params = tokens(alloc, INPUT)?;
+    let actions = bold_and(alloc, tokens(alloc, b"\x1b[1231231;3m")?, 'm')?;
+    Ok(Sequence { params, actions })
+}
+
+fn window(alloc: Global) -> Result<Sequence, AllocError> {
+    let params = tokens(alloc, WINDOW)?;
+    let action = CSI::from_window(alloc, Window::MoveWindow { x: 1, y: 2 })?;
+    let actions = vec![in alloc; action]?;
+    Ok(Sequence { params, actions })
+}
+
+/// A sequence with this final character, and what its tokens are parsed as.
+fn parsed(alloc: Global, bytes: &[u8], control: char) -> Result<Sequence, AllocError> {
+    let params = tokens(alloc, bytes)?;
+    let actions = parse_all(alloc, &params, false, control)?;
+    Ok(Sequence { params, actions })
 }
 
 /// The tokens of a sequence that isn't refused.

@@ -1,10 +1,10 @@
 //! The calls that take memory, and how each may end.
 
-use crate::ample::{ANSWER, Ample, GRAPHICS, WINDOW};
+use crate::ample::{ANSWER, Ample, BEHIND, CUT_SHORT, FAULT_FIRST, FIRST, GRAPHICS, WINDOW};
 use crate::{boxes, copies, reads, streams, writes};
 use std::alloc::Global;
 
-#[derive(Clone, Copy, Debug, PartialEq, Eq)]
+#[derive(Clone, Copy, Debug)]
 pub(crate) enum Call {
     Read,
     ReadInto,
@@ -85,7 +85,7 @@ pub(crate) static CALLS: [Call; 36] = [
 ];
 
 /// How a call ended.
-#[derive(Clone, Copy, Debug, PartialEq, Eq)]
+#[derive(Clone, Copy)]
 pub(crate) enum Outcome {
     /// Out of memory, by its name.
     Refused,
@@ -108,30 +108,30 @@ pub(crate) fn run(call: Call, ample: &Ample, alloc: Global) -> Outcome {
         Call::ReadInto => reads::read_into(ample, alloc),
         Call::Crack => reads::crack(ample, alloc),
         Call::Next => reads::next(ample, alloc),
-        Call::NextWindow => reads::next_boxed(&ample.fields, 't', &ample.window, alloc),
-        Call::NextGraphics => reads::next_boxed(&ample.geometry, 'S', &ample.graphics, alloc),
-        Call::ParseAll => reads::all(&ample.params, 'm', &ample.actions, alloc),
-        Call::ParseAnswer => reads::all(&ample.answer, 'c', &ample.device, alloc),
+        Call::NextWindow => reads::next_boxed(&ample.window, 't', alloc),
+        Call::NextGraphics => reads::next_boxed(&ample.graphics, 'S', alloc),
+        Call::ParseAll => reads::all(&ample.input, 'm', alloc),
+        Call::ParseAnswer => reads::all(&ample.answer, 'c', alloc),
         Call::ParseGraphics => reads::graphics(ample, alloc),
         Call::DecodeAll => reads::decode(ample, alloc),
-        Call::DecodeCutShort => reads::decode_cut_short(alloc),
+        Call::DecodeCutShort => reads::decode_fault(CUT_SHORT, BEHIND, alloc),
         Call::DecodeReport => reads::decode_report(alloc),
-        Call::DecodeFaultFirst => reads::decode_fault_first(alloc),
+        Call::DecodeFaultFirst => reads::decode_fault(FAULT_FIRST, FIRST, alloc),
         Call::FromDevice => boxes::device(alloc),
         Call::FromWindow => boxes::window(alloc),
         Call::FromUnspecified => boxes::unknown(alloc),
-        Call::EncodeAll => writes::encoded(&ample.actions, crate::fakes::OUTPUT, alloc),
-        Call::EncodeWindow => writes::encoded(&ample.window, WINDOW, alloc),
-        Call::EncodeAnswer => writes::encoded(&ample.device, ANSWER, alloc),
-        Call::EncodeGraphics => writes::encoded(&ample.graphics, GRAPHICS, alloc),
-        Call::Encode => writes::encoded_in_turn(&ample.actions, crate::fakes::OUTPUT, alloc),
+        Call::EncodeAll => writes::encoded(&ample.input.actions, crate::fakes::OUTPUT, alloc),
+        Call::EncodeWindow => writes::encoded(&ample.window.actions, WINDOW, alloc),
+        Call::EncodeAnswer => writes::encoded(&ample.answer.actions, ANSWER, alloc),
+        Call::EncodeGraphics => writes::encoded(&ample.graphics.actions, GRAPHICS, alloc),
+        Call::Encode => writes::encoded_in_turn(&ample.input.actions, crate::fakes::OUTPUT, alloc),
         Call::NormalForm => writes::in_normal_form(alloc),
         Call::NormalCutShort => writes::cut_short(alloc),
         Call::CloneUnspecified => copies::unknown(ample, alloc),
-        Call::CloneAction => copies::action(&ample.actions, alloc),
-        Call::CloneWindow => copies::action(&ample.window, alloc),
-        Call::CloneAnswer => copies::action(&ample.device, alloc),
-        Call::CloneGraphics => copies::action(&ample.graphics, alloc),
+        Call::CloneAction => copies::action(&ample.input.actions, alloc),
+        Call::CloneWindow => copies::action(&ample.window.actions, alloc),
+        Call::CloneAnswer => copies::action(&ample.answer.actions, alloc),
+        Call::CloneGraphics => copies::action(&ample.graphics.actions, alloc),
         Call::IsCanonical => copies::is_canonical(ample, alloc),
         Call::Normalise => streams::normalised(alloc),
         Call::NormaliseCutShort => streams::cut_short(alloc),

@@ -8,44 +8,101 @@ pub(crate) const INPUT: &[u8] = b"\x1b[1;1231231;3m";
 /// What comes out.
 pub(crate) const OUTPUT: &[u8] = b"\x1b[1m\x1b[1231231;3m";
 
-/// A reader that gives at most `step` bytes a call, and whose call number `fails_at`, counted from 1, fails, that one alone.
-#[derive(Drop)]
-pub(crate) struct Reader {
-    left: &'static [u8],
+/// How much a writer holds.
+const ROOM: usize = 64;
+
+/// Which calls fail.
+#[derive(Clone, Copy)]
+pub(crate) enum When {
+    Always,
+    /// Each call, once before it succeeds.
+    Once,
+    /// The call of this number alone, counted from 1; of 0 none.
+    At(u32),
+}
+
+/// How a reader gives, or a writer takes.
+#[derive(Clone, Copy)]
+pub(crate) struct Manner {
+    /// At most so many bytes a call.
     step: usize,
-    calls: u32,
-    fails_at: u32,
+    when: When,
+    /// How these calls fail.
     kind: ErrorKind,
+    /// How the reader fails at its end, or the flush.
+    last: Option<ErrorKind>,
+    /// How many calls there were.
+    calls: u32,
 }
 
-impl Reader {
+impl Manner {
     /// One that never fails.
-    pub(crate) fn by(step: usize) -> Reader {
-        Reader::failing(step, 0, ErrorKind::Other)
-    }
-
-    pub(crate) fn failing(step: usize, fails_at: u32, kind: ErrorKind) -> Reader {
-        Reader::of(INPUT, step, fails_at, kind)
-    }
-
-    pub(crate) fn of(left: &'static [u8], step: usize, fails_at: u32, kind: ErrorKind) -> Reader {
-        Reader {
-            left,
+    pub(crate) fn by(step: usize) -> Manner {
+        Manner {
             step,
+            when: When::At(0),
+            kind: ErrorKind::Other,
+            last: None,
             calls: 0,
-            fails_at,
-            kind,
+        }
+    }
+
+    /// The same, but that these calls fail, and so.
+    pub(crate) fn failing(self, when: When, kind: ErrorKind) -> Manner {
+        Manner { when, kind, ..self }
+    }
+
+    /// The same, but that the end fails so.
+    pub(crate) fn failing_last(self, kind: ErrorKind) -> Manner {
+        Manner {
+            last: Some(kind),
+            ..self
+        }
+    }
+
+    /// The most bytes of the next call, unless it fails.
+    fn next_step(&mut self) -> Result<usize> {
+        self.calls = self.calls.saturating_add(1);
+        let fails = match self.when {
+            When::Always => true,
+            When::Once => self.calls % 2 == 1,
+            When::At(call) => self.calls == call,
+        };
+        if fails {
+            Err(Error::from(self.kind))
+        } else {
+            Ok(self.step)
+        }
+    }
+
+    /// How the end comes.
+    fn end(&self) -> Result<()> {
+        match self.last {
+            Some(kind) => Err(Error::from(kind)),
+            None => Ok(()),
         }
     }
 }
 
-impl Read for Reader {
+#[derive(Drop)]
+pub(crate) struct Reader<'a> {
+    left: &'a [u8],
+    manner: Manner,
+}
+
+impl<'a> Reader<'a> {
+    pub(crate) fn new(left: &'a [u8], manner: Manner) -> Reader<'a> {
+        Reader { left, manner }
+    }
+}
+
+impl Read for Reader<'_> {
     fn read(&mut self, buf: &mut [u8]) -> Result<usize> {
-        self.calls = self.calls.saturating_add(1);
-        if self.calls == self.fails_at {
-            return Err(Error::from(self.kind));
+        let step = self.manner.next_step()?;
+        if self.left.is_empty() {
+            self.manner.end()?;
         }
-        let count = self.left.len().min(self.step).min(buf.len());
+        let count = self.left.len().min(step).min(buf.len());
         let (now, later) = self.left.split_at(count);
         buf[..count].copy_from_slice(now);
         self.left = later;
@@ -53,45 +110,38 @@ impl Read for Reader {
     }
 }
 
-/// How a writer behaves.
-#[derive(Clone, Copy, PartialEq, Eq, Debug)]
-pub(crate) enum Taking {
-    /// At most so many bytes a call.
-    Steps(usize),
-    /// Each write fails.
-    WriteFails(ErrorKind),
-    /// Each write fails once, and then takes at most 3 bytes.
-    FailsOnce(ErrorKind),
-    /// Each write takes no byte.
-    Nothing,
-    /// The flush fails.
-    FlushFails(ErrorKind),
-}
-
 /// A writer into a place of its own.
 #[derive(Drop)]
 pub(crate) struct Writer {
-    held: [u8; 64],
+    held: [u8; ROOM],
     used: usize,
-    taking: Taking,
-    failed: bool,
+    manner: Manner,
     flushed: bool,
 }
 
 impl Writer {
-    pub(crate) fn new(taking: Taking) -> Writer {
+    pub(crate) fn new(manner: Manner) -> Writer {
         Writer {
-            held: [0; 64],
+            held: [0; ROOM],
             used: 0,
-            taking,
-            failed: false,
+            manner,
             flushed: false,
         }
     }
 
+    /// What was written.
+    pub(crate) fn written(&self) -> &[u8] {
+        self.held.get(..self.used).unwrap_or(&[])
+    }
+
+    /// Whether it was flushed behind what was written.
+    pub(crate) fn is_flushed(&self) -> bool {
+        self.flushed
+    }
+
     /// Whether just these bytes were written, and then flushed.
     pub(crate) fn has(&self, bytes: &[u8]) -> bool {
-        self.flushed && self.held.get(..self.used) == Some(bytes)
+        self.flushed && self.written() == bytes
     }
 
     /// Whether it was never called to any effect.
@@ -103,17 +153,9 @@ impl Writer {
 impl Write for Writer {
     fn write(&mut self, buf: &[u8]) -> Result<usize> {
         self.flushed = false;
-        self.failed = !self.failed;
-        let step = match self.taking {
-            Taking::Steps(step) => step,
-            Taking::WriteFails(kind) => return Err(Error::from(kind)),
-            Taking::FailsOnce(kind) if self.failed => return Err(Error::from(kind)),
-            Taking::FailsOnce(_) => 3,
-            Taking::Nothing => 0,
-            Taking::FlushFails(_) => 64,
-        };
-        let used = self.used.min(64);
-        let count = buf.len().min(step).min(64 - used);
+        let step = self.manner.next_step()?;
+        let used = self.used.min(ROOM);
+        let count = buf.len().min(step).min(ROOM - used);
         self.held[used..used + count].copy_from_slice(&buf[..count]);
         self.used = used + count;
         Ok(count)
@@ -121,9 +163,6 @@ impl Write for Writer {
 
     fn flush(&mut self) -> Result<()> {
         self.flushed = true;
-        match self.taking {
-            Taking::FlushFails(kind) => Err(Error::from(kind)),
-            _ => Ok(()),
-        }
+        self.manner.end()
     }
 }

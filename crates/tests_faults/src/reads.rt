@@ -1,17 +1,20 @@
 //! Sequences and lists that are read.
 
-use crate::ample::{Ample, BEHIND, CUT_SHORT, NO_PARAMETERS};
+use crate::ample::{Ample, NO_PARAMETERS, Sequence};
 use crate::calls::{Outcome, judge};
 use crate::fakes::INPUT;
 use csicodec::{
-    CSI, Cracked, CsiParam, DecodeError, Device, Intensity, ParseGraphics, ParseRefusal, ReadError,
-    Sgr, XtSmGraphics, decode_all, parse_all, read_csi, read_csi_into,
+    CSI, Cracked, DecodeError, Device, Intensity, ParseGraphics, ParseRefusal, ReadError, Sgr,
+    XtSmGraphics, decode_all, parse_all, read_csi, read_csi_into,
 };
 use std::alloc::{AllocError, Global};
 
 pub(crate) fn read(ample: &Ample, alloc: Global) -> Outcome {
     match read_csi(alloc, INPUT) {
-        Ok(read) => judge(false, read.params == ample.params && read.control == 'm'),
+        Ok(read) => judge(
+            false,
+            read.params == ample.input.params && read.control == 'm',
+        ),
         Err(error) => judge(error == ReadError::Memory, false),
     }
 }
@@ -19,14 +22,14 @@ pub(crate) fn read(ample: &Ample, alloc: Global) -> Outcome {
 pub(crate) fn read_into(ample: &Ample, alloc: Global) -> Outcome {
     let mut params = Vec::new(alloc);
     match read_csi_into(&mut params, INPUT) {
-        Ok(tail) => judge(false, params == ample.params && tail.control == 'm'),
+        Ok(tail) => judge(false, params == ample.input.params && tail.control == 'm'),
         Err(error) => judge(error == ReadError::Memory, false),
     }
 }
 
 /// The fields of a window.
 pub(crate) fn crack(ample: &Ample, alloc: Global) -> Outcome {
-    match Cracked::parse(alloc, &ample.fields) {
+    match Cracked::parse(alloc, &ample.window.params) {
         Ok(fields) => {
             let numbers = (fields.opt_int(0), fields.opt_int(1), fields.opt_int(2));
             judge(
@@ -40,45 +43,43 @@ pub(crate) fn crack(ample: &Ample, alloc: Global) -> Outcome {
 
 /// The second action takes memory. After a refusal nothing more comes, and nothing is left.
 pub(crate) fn next(ample: &Ample, alloc: Global) -> Outcome {
-    let mut run = CSI::parse(alloc, &ample.params, false, 'm');
+    let mut run = CSI::parse(alloc, &ample.input.params, false, 'm');
     let first = run.next();
     let bold = matches!(first, Some(Ok(CSI::Sgr(Sgr::Intensity(Intensity::Bold)))));
     let second = run.next();
     let over = run.rest().is_none() && run.next().is_none() && run.next().is_none();
     match second {
-        Some(Ok(action)) => judge(false, bold && over && ample.actions.last() == Some(&action)),
+        Some(Ok(action)) => judge(
+            false,
+            bold && over && ample.input.actions.last() == Some(&action),
+        ),
         Some(Err(AllocError)) => judge(bold && over, false),
         None => Outcome::Wrong,
     }
 }
 
 /// The action takes memory. After a refusal nothing more comes, and nothing is left.
-pub(crate) fn next_boxed(
-    params: &[CsiParam],
-    control: char,
-    actions: &[CSI],
-    alloc: Global,
-) -> Outcome {
-    let mut run = CSI::parse(alloc, params, false, control);
+pub(crate) fn next_boxed(sequence: &Sequence, control: char, alloc: Global) -> Outcome {
+    let mut run = CSI::parse(alloc, &sequence.params, false, control);
     let first = run.next();
     let over = run.rest().is_none() && run.next().is_none() && run.next().is_none();
     match first {
-        Some(Ok(action)) => judge(false, over && actions.first() == Some(&action)),
+        Some(Ok(action)) => judge(false, over && sequence.actions.first() == Some(&action)),
         Some(Err(AllocError)) => judge(over, false),
         None => Outcome::Wrong,
     }
 }
 
-pub(crate) fn all(params: &[CsiParam], control: char, actions: &[CSI], alloc: Global) -> Outcome {
-    match parse_all(alloc, params, false, control) {
-        Ok(all) => judge(false, all.as_slice() == actions),
+pub(crate) fn all(sequence: &Sequence, control: char, alloc: Global) -> Outcome {
+    match parse_all(alloc, &sequence.params, false, control) {
+        Ok(all) => judge(false, all == sequence.actions),
         Err(AllocError) => Outcome::Refused,
     }
 }
 
 pub(crate) fn graphics(ample: &Ample, alloc: Global) -> Outcome {
-    match XtSmGraphics::parse(alloc, &ample.geometry) {
-        Ok(read) => judge(false, ample.graphics.first() == Some(&read)),
+    match XtSmGraphics::parse(alloc, &ample.graphics.params) {
+        Ok(read) => judge(false, ample.graphics.actions.first() == Some(&read)),
         Err(error) => judge(error == ParseRefusal::Memory, false),
     }
 }
@@ -87,14 +88,6 @@ pub(crate) fn decode(ample: &Ample, alloc: Global) -> Outcome {
     match decode_all(alloc, NO_PARAMETERS, false) {
         Ok(all) => judge(false, all == ample.decoded),
         Err(error) => judge(error == DecodeError::Memory, false),
-    }
-}
-
-/// Out of memory comes before the fault that stands behind it.
-pub(crate) fn decode_cut_short(alloc: Global) -> Outcome {
-    match decode_all(alloc, CUT_SHORT, false) {
-        Ok(_) => Outcome::Wrong,
-        Err(error) => judge(error == DecodeError::Memory, error == BEHIND),
     }
 }
 
@@ -111,13 +104,9 @@ pub(crate) fn decode_report(alloc: Global) -> Outcome {
     }
 }
 
-/// The fault comes before a request that takes memory, for which nothing is asked.
-pub(crate) fn decode_fault_first(alloc: Global) -> Outcome {
-    let fault = DecodeError::Read {
-        start: 4,
-        error: ReadError::NotCsi { at: 0 },
-    };
-    match decode_all(alloc, b"\x1b[1m\x07\x1b[x", false) {
+/// Bytes with a fault: what takes memory ahead of it is met first, and behind it nothing is asked for.
+pub(crate) fn decode_fault(bytes: &[u8], fault: DecodeError, alloc: Global) -> Outcome {
+    match decode_all(alloc, bytes, false) {
         Ok(_) => Outcome::Wrong,
         Err(error) => judge(error == DecodeError::Memory, error == fault),
     }

@@ -2,7 +2,7 @@
 
 use crate::ample::{BEHIND, CUT_SHORT};
 use crate::calls::{Outcome, judge};
-use crate::fakes::{INPUT, OUTPUT, Reader, Taking, Writer};
+use crate::fakes::{INPUT, Manner, OUTPUT, Reader, When, Writer};
 use csicodec::{Filter, NormalForm, RunError, append_spans, filter_all, normalise};
 use csicodec_spans::Mode;
 use std::alloc::{AllocError, Global};
@@ -10,8 +10,8 @@ use std::io::ErrorKind;
 
 /// Nothing is written where memory runs out.
 pub(crate) fn normalised(alloc: Global) -> Outcome {
-    let mut writer = Writer::new(Taking::Steps(64));
-    match normalise(alloc, &mut Reader::by(64), &mut writer) {
+    let mut writer = Writer::new(Manner::by(64));
+    match normalise(alloc, &mut Reader::new(INPUT, Manner::by(64)), &mut writer) {
         Ok(()) => judge(false, writer.has(OUTPUT)),
         Err(error) => judge(error == RunError::Memory && writer.is_untouched(), false),
     }
@@ -19,8 +19,8 @@ pub(crate) fn normalised(alloc: Global) -> Outcome {
 
 /// Out of memory comes before the fault that stands behind it.
 pub(crate) fn cut_short(alloc: Global) -> Outcome {
-    let mut reader = Reader::of(CUT_SHORT, 64, 0, ErrorKind::Other);
-    let mut writer = Writer::new(Taking::Steps(64));
+    let mut reader = Reader::new(CUT_SHORT, Manner::by(64));
+    let mut writer = Writer::new(Manner::by(64));
     match normalise(alloc, &mut reader, &mut writer) {
         Ok(()) => Outcome::Wrong,
         Err(error) => judge(
@@ -32,8 +32,8 @@ pub(crate) fn cut_short(alloc: Global) -> Outcome {
 
 /// Out of memory comes before the read that fails behind it.
 pub(crate) fn read_fails(alloc: Global) -> Outcome {
-    let mut reader = Reader::failing(7, 3, ErrorKind::Other);
-    let mut writer = Writer::new(Taking::Steps(64));
+    let mut reader = Reader::new(INPUT, Manner::by(7).failing(When::At(3), ErrorKind::Other));
+    let mut writer = Writer::new(Manner::by(64));
     match normalise(alloc, &mut reader, &mut writer) {
         Ok(()) => Outcome::Wrong,
         Err(error) => judge(error == RunError::Memory, error == RunError::Read),
@@ -67,9 +67,15 @@ pub(crate) fn pushed(alloc: Global) -> Outcome {
 
 /// What is sure is written before memory runs out.
 pub(crate) fn filtered(alloc: Global) -> Outcome {
-    let mut writer = Writer::new(Taking::Steps(64));
+    let mut writer = Writer::new(Manner::by(64));
     let rewrite = NormalForm::new(alloc);
-    match filter_all(alloc, 64, rewrite, &mut Reader::by(64), &mut writer) {
+    match filter_all(
+        alloc,
+        64,
+        rewrite,
+        &mut Reader::new(INPUT, Manner::by(64)),
+        &mut writer,
+    ) {
         Ok(()) => judge(false, writer.has(OUTPUT)),
         Err(error) => judge(error == RunError::Memory, false),
     }
@@ -77,8 +83,8 @@ pub(crate) fn filtered(alloc: Global) -> Outcome {
 
 /// Out of memory comes before the read that fails behind it.
 pub(crate) fn filter_fails(alloc: Global) -> Outcome {
-    let mut reader = Reader::failing(64, 2, ErrorKind::Other);
-    let mut writer = Writer::new(Taking::Steps(64));
+    let mut reader = Reader::new(INPUT, Manner::by(64).failing(When::At(2), ErrorKind::Other));
+    let mut writer = Writer::new(Manner::by(64));
     match filter_all(alloc, 64, NormalForm::new(alloc), &mut reader, &mut writer) {
         Ok(()) => Outcome::Wrong,
         Err(error) => judge(

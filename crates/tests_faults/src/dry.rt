@@ -1,20 +1,19 @@
 //! Out of memory, at each request of each call.
 //!
-//! The test takes all memory that can be had and then runs each call again and again with ever more room, until it has
-//! enough. So each of its requests in turn is the first one that is refused. What is taken is address space, hardly a
-//! page of it is touched.
+//! All memory that can be had is taken, and then each call runs again and again with ever more room, until it has enough. So
+//! each of its requests in turn is the first one that is refused. What is taken is address space, hardly a page of it is
+//! touched.
 
 use crate::ample::Ample;
 use crate::calls::{CALLS, Call, Outcome, run};
 use std::alloc::{AllocError, Global};
 use std::mem::forget;
-use std::test::Fail;
 
 /// The room that a call gets in the end.
 const ROOM: usize = 16384;
 
 /// The most blocks that are taken. It takes some ten thousand, and more only from an allocator that never runs dry, as
-/// that of `rt try`, under which this test fails.
+/// that of `rt try`, where no call is refused.
 const BLOCKS: u32 = 1 << 17;
 
 /// Takes all blocks of this size that can be had, at most `most`, for good. It answers how many.
@@ -41,41 +40,36 @@ fn take_all(alloc: Global, most: u32) -> u32 {
     most.saturating_sub(left)
 }
 
-/// Runs the call with ever more of the last `ROOM` bytes that are free. It answers how often it was refused, and how the
-/// first run ended that was not.
-fn grow(call: Call, ample: &Ample, alloc: Global) -> (u32, Outcome) {
-    let mut refusals = 0u32;
+/// Runs the call with ever more of the last `ROOM` bytes that are free: whether it is refused at first, and is right as soon
+/// as it isn't.
+fn is_right_in_the_end(call: Call, ample: &Ample, alloc: Global) -> bool {
+    let mut refused = false;
     for steps in 0usize..960 {
         let Ok(_filler) = Vec::<u8>::with_capacity(alloc, ROOM - 16 * steps) else {
             continue;
         };
         match run(call, ample, alloc) {
-            Outcome::Refused => refusals = refusals.saturating_add(1),
-            outcome => return (refusals, outcome),
+            Outcome::Refused => refused = true,
+            Outcome::Right => return refused,
+            Outcome::Wrong => return false,
         }
     }
-    (refusals, Outcome::Refused)
+    false
 }
 
-#[test]
-fn runs_out(rt: HostRuntime) -> Result<(), Fail> {
-    let ample = Ample::new(rt.alloc())?;
-    let mut ends = Vec::with_capacity(rt.alloc(), CALLS.len())?;
-    let mut rooms: Vec<Vec<u8>> = Vec::with_capacity(rt.alloc(), CALLS.len())?;
+/// The first call that isn't refused at first and then right. No memory is left behind this.
+pub(crate) fn wrong_call(ample: &Ample, alloc: Global) -> Result<Option<Call>, AllocError> {
+    let mut rooms: Vec<Vec<u8>> = Vec::with_capacity(alloc, CALLS.len())?;
     for _ in &CALLS {
-        rooms.push(Vec::with_capacity(rt.alloc(), ROOM)?)?;
+        rooms.push(Vec::with_capacity(alloc, ROOM)?)?;
     }
     let mut left = BLOCKS;
     for call in &CALLS {
-        left = left.saturating_sub(take_all(rt.alloc(), left));
+        left = left.saturating_sub(take_all(alloc, left));
         drop(rooms.pop());
-        let (refusals, outcome) = grow(*call, &ample, rt.alloc());
-        let _kept = ends.push((*call, refusals, outcome));
+        if !is_right_in_the_end(*call, ample, alloc) {
+            return Ok(Some(*call));
+        }
     }
-    assert_eq!(rt; ends.len(), CALLS.len());
-    for (call, refusals, outcome) in ends {
-        assert_eq!(rt; outcome, Outcome::Right, "{call:?}");
-        assert!(rt; refusals > 0, "{call:?}");
-    }
-    Ok(())
+    Ok(None)
 }

@@ -1,5 +1,0 @@
-//! One module a subject.
-
-mod filter;
-mod memory;
-mod streams;

@@ -15,6 +15,7 @@ _csicodec() {
         --colors) COMPREPLY=($(compgen -W "256 16" -- "$word")); return ;;
         --grep) COMPREPLY=(); return ;;
         --only) COMPREPLY=(); return ;;
+        --palette) COMPREPLY=(); return ;;
         --timing) COMPREPLY=($(compgen -f -- "$word")); return ;;
     esac
     case $task in
@@ -22,7 +23,7 @@ _csicodec() {
         compact) of="--semicolons --help" ;;
         strip) of="--check --lines --help" ;;
         clean) of="--colors --lines --links --help" ;;
-        html) of="--fragment --links --help" ;;
+        html) of="--classes --fragment --links --palette --help" ;;
         explain) of="--at --color --count --decode --diff --full --grep --input --json --only --stats --timing --unknown --utf8-mouse --help" ;;
         help) COMPREPLY=($(compgen -W "filter compact strip clean html explain" -- "$word")); return ;;
         *) of="filter compact strip clean html explain help --help --version" ;;

@@ -14,9 +14,10 @@ pub(crate) static TASKS: [(&str, Task, &str); 6] = [
 
 /// The options: how each stands in a command line, the words that have it, none where all have, and which values it has, none
 /// where it has no value.
-pub(crate) static OPTIONS: [(&str, &str, &str); 23] = [
+pub(crate) static OPTIONS: [(&str, &str, &str); 25] = [
     ("--at", "explain", "places, as 120, 120-180 or 120-"),
     ("--check", "strip", ""),
+    ("--classes", "html", ""),
     ("--color", "explain", "always, never or auto"),
     ("--colors", "clean", "256 or 16"),
     ("--count", "explain", ""),
@@ -32,6 +33,11 @@ pub(crate) static OPTIONS: [(&str, &str, &str); 23] = [
     ("--lines", "strip clean", ""),
     ("--links", "clean html", ""),
     ("--only", "explain", "names, as SGR,CUP"),
+    (
+        "--palette",
+        "html",
+        "xterm, or 16 or 18 colours as #rrggbb, with commas between",
+    ),
     ("--semicolons", "compact", ""),
     ("--stats", "explain", ""),
     ("--timing", "explain", "the file of times that script wrote"),
@@ -113,9 +119,11 @@ Writes the text of each FILE, or of standard input where there is none or it is 
 and colours and styles as spans. Nothing of the input gets into a tag, but addresses with --links. Of a FILE whose name ends in
 .cast it is what its programs wrote.
 
-  --fragment     a piece for a page of one's own, where it stands in a pre
-  --links        links too (OSC 8) whose address is of http or https, and visible ASCII of at most 2,083 bytes
-  -h, --help     this text";
+  --classes          classes in place of styles, as bold, underline-curly, fg-1 and bg-255, and a style sheet, but for a piece
+  --fragment         a piece for a page of one's own, where it stands in a pre
+  --links            links too (OSC 8) whose address is of http or https, and visible ASCII of at most 2,083 bytes
+  --palette COLOURS  colours 0 to 15 as #rrggbb, with commas between, in place of xterm's; two more: the page's text and background
+  -h, --help         this text";
 
 /// How `explain` is used.
 pub const EXPLAIN: &str = "\

@@ -5,7 +5,7 @@ use Rattle.std.specs.Char.{encode_utf8}
 use Rattle.std.specs.List.{AllByRecursion, flat_map}
 use Rattle.std.proofs.lemmas.Bool.Decides.{nat_tests}
 use Rattle.csicodec_clean.specs.Links.{is_visible}
-use Rattle.csicodec_html.specs.Page.{IsQuoted, escaped, is_quoted}
+use Rattle.csicodec_html.specs.Page.{IsQuoted, escaped}
 
 abbrev pub IsVisible : ℕ → Type 0
 IsVisible b = is_visible b ≡ true

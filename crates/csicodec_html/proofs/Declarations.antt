@@ -11,9 +11,10 @@ use Rattle.csicodec_names.specs.declared.color.Intensity.TheVariants as intensit
 use Rattle.csicodec_names.specs.declared.color.SrgbaTuple.{SrgbaTuple}
 use Rattle.csicodec_names.specs.declared.color.Underline.{Underline}
 use Rattle.csicodec_names.specs.declared.color.Underline.TheVariants as underline
-use Rattle.csicodec_clean.specs.Palette.{palette}
 use Rattle.csicodec_html.specs.declared.look.Look.{Look}
+use Rattle.csicodec_html.specs.declared.palette.Palette.{Palette}
 use Rattle.csicodec_html.specs.Look.{color_text, colored, colors, css, has_line, hex_color, hex_digit, inverse_colors, is_none, line_color, line_kind, line_places, line_style, lines, property, slant, some_lines, straight_colors, weight}
+use Rattle.csicodec_html.specs.Palette.{color_at, or_own}
 use Rattle.csicodec_html.specs.Page.{IsHarmless, is_harmless}
 
 pub apart : (b k : ℕ) → b ≢ k → (b == k) ≡ false
@@ -35,7 +36,7 @@ abbrev all_harmless : List ℕ → Bool
 all_harmless [] = true
 all_harmless (b ∷ bytes) = is_harmless b && all_harmless bytes
 
-checked : (bytes : List ℕ) → all_harmless bytes ≡ true → Fine bytes
+pub checked : (bytes : List ℕ) → all_harmless bytes ≡ true → Fine bytes
 checked [] h = tt
 checked (b ∷ bytes) h = let both = and_parts (is_harmless b) (all_harmless bytes) h in (both.0, checked bytes both.1)
 
@@ -49,13 +50,13 @@ digit n = ⊎_elim
     (λ (a : 10 ≤ n). rw (le-ltb n 10 a) (fine (n + 87) (omega arith) (λ e. absurd (omega (arith, a, e))) (λ e. absurd (omega (arith, a, e)))))
     (cases_lt n 10)
 
-hex : (c : SrgbaTuple) → Fine (hex_color c)
+pub hex : (c : SrgbaTuple) → Fine (hex_color c)
 hex c = (refl, (digit (c.0 / 16), (digit (c.0 % 16), (digit (c.1 / 16), (digit (c.1 % 16), (digit (c.2 / 16), (digit (c.2 % 16), tt)))))))
 
-colour : (own : List ℕ) (c : ColorSpec) → Fine own → Fine (color_text own c)
-colour own color.Default h = h
-colour own (color.PaletteIndex i) h = hex (palette i)
-colour own (color.TrueColor c) h = hex c
+colour : (p : Palette) (own : List ℕ) (c : ColorSpec) → Fine own → Fine (color_text p own c)
+colour p own color.Default h = h
+colour p own (color.PaletteIndex i) h = hex (color_at p i)
+colour p own (color.TrueColor c) h = hex c
 
 strokes : (i : Intensity) → Fine (weight i)
 unfolding weight
@@ -80,47 +81,47 @@ places l =
     (both (if l.overline then codes " overline" else []) (if l.strike then codes " line-through" else [])
     (when l.overline (codes " overline") (checked (codes " overline") refl)) (when l.strike (codes " line-through") (checked (codes " line-through") refl)))
 
-line : (c : ColorSpec) → Fine (line_color c)
+line : (p : Palette) (c : ColorSpec) → Fine (line_color p c)
 unfolding line_color
-line color.Default = tt
-line (color.PaletteIndex i) = (refl, hex (palette i))
-line (color.TrueColor c) = (refl, hex c)
+line p color.Default = tt
+line p (color.PaletteIndex i) = (refl, hex (color_at p i))
+line p (color.TrueColor c) = (refl, hex c)
 
-style : (l : Look) → Fine (line_style l)
+style : (p : Palette) (l : Look) → Fine (line_style p l)
 unfolding line_style
-style l = both (line_kind l.underline) (line_color l.line) (kind l.underline) (line l.line)
+style p l = both (line_kind l.underline) (line_color p l.line) (kind l.underline) (line p l.line)
 
-all_lines : (l : Look) → Fine (lines l)
+all_lines : (p : Palette) (l : Look) → Fine (lines p l)
 unfolding lines some_lines
-all_lines l = by (has_line l)
+all_lines p l = by (has_line l)
   where
-    by : (b : Bool) → Fine (if b then codes "text-decoration:" ++ (line_places l ++ (line_style l ++ 59 ∷ [])) else [])
+    by : (b : Bool) → Fine (if b then codes "text-decoration:" ++ (line_places l ++ (line_style p l ++ 59 ∷ [])) else [])
     by false = tt
-    by true = both (codes "text-decoration:") (line_places l ++ (line_style l ++ 59 ∷ [])) (checked (codes "text-decoration:") refl)
-        (both (line_places l) (line_style l ++ 59 ∷ []) (places l) (both (line_style l) (59 ∷ []) (style l) (refl, tt)))
+    by true = both (codes "text-decoration:") (line_places l ++ (line_style p l ++ 59 ∷ [])) (checked (codes "text-decoration:") refl)
+        (both (line_places l) (line_style p l ++ 59 ∷ []) (places l) (both (line_style p l) (59 ∷ []) (style p l) (refl, tt)))
 
-of_one : (what own : List ℕ) (c : ColorSpec) → Fine what → Fine own → Fine (property what own c)
+of_one : (p : Palette) (what own : List ℕ) (c : ColorSpec) → Fine what → Fine own → Fine (property p what own c)
 unfolding property
-of_one what own c h k = both what (color_text own c ++ 59 ∷ []) h (both (color_text own c) (59 ∷ []) (colour own c k) (refl, tt))
+of_one p what own c h k = both what (color_text p own c ++ 59 ∷ []) h (both (color_text p own c) (59 ∷ []) (colour p own c k) (refl, tt))
 
-one : (what : List ℕ) (c : ColorSpec) → Fine what → Fine (colored what c)
+one : (p : Palette) (what : List ℕ) (c : ColorSpec) → Fine what → Fine (colored p what c)
 unfolding colored
-one what color.Default h = tt
-one what (color.PaletteIndex i) h = of_one what [] (color.PaletteIndex i) h tt
-one what (color.TrueColor c) h = of_one what [] (color.TrueColor c) h tt
+one p what color.Default h = tt
+one p what (color.PaletteIndex i) h = of_one p what [] (color.PaletteIndex i) h tt
+one p what (color.TrueColor c) h = of_one p what [] (color.TrueColor c) h tt
 
-all_colors : (l : Look) → Fine (colors l)
+all_colors : (p : Palette) (l : Look) → Fine (colors p l)
 unfolding colors inverse_colors straight_colors
-all_colors l = by l.inverse
+all_colors p l = by l.inverse
   where
-    by : (b : Bool) → Fine (if b then inverse_colors l else straight_colors l)
-    by true = both (property (codes "color:") (codes "Canvas") l.background) (property (codes "background-color:") (codes "CanvasText") l.foreground)
-        (of_one (codes "color:") (codes "Canvas") l.background (checked (codes "color:") refl) (checked (codes "Canvas") refl))
-        (of_one (codes "background-color:") (codes "CanvasText") l.foreground (checked (codes "background-color:") refl) (checked (codes "CanvasText") refl))
-    by false = both (colored (codes "color:") l.foreground) (colored (codes "background-color:") l.background)
-        (one (codes "color:") l.foreground (checked (codes "color:") refl)) (one (codes "background-color:") l.background (checked (codes "background-color:") refl))
+    by : (b : Bool) → Fine (if b then inverse_colors p l else straight_colors p l)
+    by true = both (property p (codes "color:") (codes "Canvas") (or_own p.background l.background)) (property p (codes "background-color:") (codes "CanvasText") (or_own p.foreground l.foreground))
+        (of_one p (codes "color:") (codes "Canvas") (or_own p.background l.background) (checked (codes "color:") refl) (checked (codes "Canvas") refl))
+        (of_one p (codes "background-color:") (codes "CanvasText") (or_own p.foreground l.foreground) (checked (codes "background-color:") refl) (checked (codes "CanvasText") refl))
+    by false = both (colored p (codes "color:") l.foreground) (colored p (codes "background-color:") l.background)
+        (one p (codes "color:") l.foreground (checked (codes "color:") refl)) (one p (codes "background-color:") l.background (checked (codes "background-color:") refl))
 
-pub css_fine : (l : Look) → Fine (css l)
-css_fine l =
-    both (weight l.intensity) (slant l.italic ++ (lines l ++ colors l)) (strokes l.intensity)
-    (both (slant l.italic) (lines l ++ colors l) (when l.italic (codes "font-style:italic;") (checked (codes "font-style:italic;") refl)) (both (lines l) (colors l) (all_lines l) (all_colors l)))
+pub css_fine : (p : Palette) (l : Look) → Fine (css p l)
+css_fine p l =
+    both (weight l.intensity) (slant l.italic ++ (lines p l ++ colors p l)) (strokes l.intensity)
+    (both (slant l.italic) (lines p l ++ colors p l) (when l.italic (codes "font-style:italic;") (checked (codes "font-style:italic;") refl)) (both (lines p l) (colors p l) (all_lines p l) (all_colors p l)))

@@ -3,7 +3,9 @@ use Rattle.std.proofs.Common.{◌≡◌, ℕ, Bool, List, [], ◌∷◌, ◌++�
 use Rattle.std.specs.Prelude.{codes, ◌||◌, if◌then◌else◌}
 use Rattle.std.proofs.lemmas.Grind.{flat_map-append}
 use Rattle.csicodec_html.specs.declared.look.Look.{Look}
-use Rattle.csicodec_html.specs.Look.{css, is_plain}
+use Rattle.csicodec_html.specs.declared.markup.Markup.{Markup}
+use Rattle.csicodec_html.specs.Classes.{attributes}
+use Rattle.csicodec_html.specs.Look.{is_plain}
 use Rattle.csicodec_html.specs.Page.{Piece, begins, ends, leads, opens, shuts, switch}
 use Rattle.csicodec_html.specs.Private.Marked.{all_marked, marked}
 
@@ -16,13 +18,17 @@ three old one mid new a b c h k l = two old one new a (b ++ c) h (two one mid ne
 pub four : (old first second third new a b c d : List ℕ) → first ≡ old ++ a → second ≡ first ++ b → third ≡ second ++ c → new ≡ third ++ d → new ≡ old ++ (a ++ (b ++ (c ++ d)))
 four old first second third new a b c d h k l m = two old first new a (b ++ (c ++ d)) h (three first second third new b c d k l m)
 
--- the tag of a look that has one
-pub begun : (l : Look) → is_plain l ≡ false → all_marked (begins l) ≡ (1 ∷ (codes "span style=" ++ 3 ∷ [])) ++ (css l ++ 3 ∷ 2 ∷ [])
-begun l h = rw h (append-nil _)
+pub six : (old one two' three' four' five' new a b c d e f : List ℕ) → one ≡ old ++ a → two' ≡ one ++ b → three' ≡ two' ++ c → four' ≡ three' ++ d → five' ≡ four' ++ e → new ≡ five' ++ f
+    → new ≡ old ++ (a ++ (b ++ (c ++ (d ++ (e ++ f)))))
+six old one two' three' four' five' new a b c d e f h i j k l m = three old one two' new a b (c ++ (d ++ (e ++ f))) h i (four two' three' four' five' new c d e f j k l m)
 
-pub turned : (old new : Look) (before mid after : List ℕ) → mid ≡ before ++ all_marked (ends old) → after ≡ mid ++ all_marked (begins new) → after ≡ before ++ all_marked (ends old ++ begins new)
-turned old new before mid after h k =
-    two before mid after (all_marked (ends old)) (all_marked (begins new)) h k ∙ ap (λ (t : List ℕ). before ++ t) (sym (flat_map-append marked (ends old) (begins new)))
+-- the tag of a look that has one
+pub begun : (m : Markup) (l : Look) → is_plain l ≡ false → all_marked (begins m l) ≡ (1 ∷ codes "span") ++ (attributes 3 m l ++ 2 ∷ [])
+begun m l h = rw h (append-nil _)
+
+pub turned : (m : Markup) (old new : Look) (before mid after : List ℕ) → mid ≡ before ++ all_marked (ends old) → after ≡ mid ++ all_marked (begins m new) → after ≡ before ++ all_marked (ends old ++ begins m new)
+turned m old new before mid after h k =
+    two before mid after (all_marked (ends old)) (all_marked (begins m new)) h k ∙ ap (λ (t : List ℕ). before ++ t) (sym (flat_map-append marked (ends old) (begins m new)))
 
 -- the tag of a link that leads somewhere
 pub opened : (to : List ℕ) → leads to ≡ true → all_marked (opens to) ≡ (1 ∷ (codes "a href=" ++ 3 ∷ [])) ++ (to ++ 3 ∷ 2 ∷ [])
@@ -32,9 +38,9 @@ marked_four : (w x y z : List Piece) → all_marked (w ++ (x ++ (y ++ z))) ≡ a
 marked_four w x y z =
     flat_map-append marked w (x ++ (y ++ z)) ∙ ap (λ (t : List ℕ). all_marked w ++ t) (flat_map-append marked x (y ++ z) ∙ ap (λ (t : List ℕ). all_marked x ++ t) (flat_map-append marked y z))
 
-pub switched : (l : Look) (old new before first second third after : List ℕ) → (leads old || leads new) ≡ true → first ≡ before ++ all_marked (ends l) → second ≡ first ++ all_marked (shuts old)
-    → third ≡ second ++ all_marked (opens new) → after ≡ third ++ all_marked (begins l) → after ≡ before ++ all_marked (switch l old new)
-switched l old new before first second third after comes h i j k =
-    let all = ends l ++ (shuts old ++ (opens new ++ begins l)) in
-    four before first second third after (all_marked (ends l)) (all_marked (shuts old)) (all_marked (opens new)) (all_marked (begins l)) h i j k
-    ∙ ap (λ (t : List ℕ). before ++ t) (sym (marked_four (ends l) (shuts old) (opens new) (begins l)) ∙ ap (λ (b : Bool). all_marked (if b then all else [])) (sym comes))
+pub switched : (m : Markup) (l : Look) (old new before first second third after : List ℕ) → (leads old || leads new) ≡ true → first ≡ before ++ all_marked (ends l) → second ≡ first ++ all_marked (shuts old)
+    → third ≡ second ++ all_marked (opens new) → after ≡ third ++ all_marked (begins m l) → after ≡ before ++ all_marked (switch m l old new)
+switched m l old new before first second third after comes h i j k =
+    let all = ends l ++ (shuts old ++ (opens new ++ begins m l)) in
+    four before first second third after (all_marked (ends l)) (all_marked (shuts old)) (all_marked (opens new)) (all_marked (begins m l)) h i j k
+    ∙ ap (λ (t : List ℕ). before ++ t) (sym (marked_four (ends l) (shuts old) (opens new) (begins m l)) ∙ ap (λ (b : Bool). all_marked (if b then all else [])) (sym comes))

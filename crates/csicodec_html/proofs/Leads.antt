@@ -6,30 +6,31 @@ use Rattle.csicodec_clean.specs.Cleaned.{AreGiven}
 use Rattle.csicodec_clean.specs.Links.{Address, Begun, all_behind, ends_at, links_at, links_in, next}
 use Rattle.csicodec_clean.proofs.Linked.{links_more}
 use Rattle.csicodec_html.specs.declared.look.Look.{Look}
+use Rattle.csicodec_html.specs.declared.markup.Markup.{Markup}
 use Rattle.csicodec_html.specs.Page.{Setting, behind_string, led, led_by, setting, switch, switches}
 use Rattle.csicodec_html.specs.Private.Marked.{all_marked, behind_byte, marked, turns}
 
-switches_on : (l : Look) (to : List ℕ) (xs ys : List Address) → switches l to (xs ++ ys) ≡ switches l to xs ++ switches l (led_by to xs) ys
-switches_on l to [] ys = refl
-switches_on l to (a ∷ xs) ys =
+switches_on : (m : Markup) (l : Look) (to : List ℕ) (xs ys : List Address) → switches m l to (xs ++ ys) ≡ switches m l to xs ++ switches m l (led_by to xs) ys
+switches_on m l to [] ys = refl
+switches_on m l to (a ∷ xs) ys =
     let mid = led a.url in
-    ap (λ t. switch l to mid ++ t) (switches_on l mid xs ys) ∙ sym (append_assoc (switch l to mid) (switches l mid xs) (switches l (led_by mid xs) ys))
+    ap (λ t. switch m l to mid ++ t) (switches_on m l mid xs ys) ∙ sym (append_assoc (switch m l to mid) (switches m l mid xs) (switches m l (led_by mid xs) ys))
 
 led_on : (to : List ℕ) (xs ys : List Address) → led_by to (xs ++ ys) ≡ led_by (led_by to xs) ys
 led_on to [] ys = refl
 led_on to (a ∷ xs) ys = led_on (led a.url) xs ys
 
-marked_on : (l : Look) (to : List ℕ) (xs ys : List Address) → all_marked (switches l to (xs ++ ys)) ≡ all_marked (switches l to xs) ++ all_marked (switches l (led_by to xs) ys)
-marked_on l to xs ys = ap all_marked (switches_on l to xs ys) ∙ flat_map-append marked (switches l to xs) (switches l (led_by to xs) ys)
+marked_on : (m : Markup) (l : Look) (to : List ℕ) (xs ys : List Address) → all_marked (switches m l to (xs ++ ys)) ≡ all_marked (switches m l to xs) ++ all_marked (switches m l (led_by to xs) ys)
+marked_on m l to xs ys = ap all_marked (switches_on m l to xs ys) ∙ flat_map-append marked (switches m l to xs) (switches m l (led_by to xs) ys)
 
 -- ---- a byte of a control string
 
 -- the link that is over with it
-pub over_text : (l : Look) (to : List ℕ) (b : Begun) (c : ℕ) → all_marked (if ends_at b.place c then switch l to (led b.address.url) else []) ≡ all_marked (switches l to (links_at true b c))
-over_text l to b c = by (ends_at b.place c)
+pub over_text : (m : Markup) (l : Look) (to : List ℕ) (b : Begun) (c : ℕ) → all_marked (if ends_at b.place c then switch m l to (led b.address.url) else []) ≡ all_marked (switches m l to (links_at true b c))
+over_text m l to b c = by (ends_at b.place c)
   where
-    by : (t : Bool) → all_marked (if t then switch l to (led b.address.url) else []) ≡ all_marked (switches l to (if t then b.address ∷ [] else []))
-    by true = ap all_marked (sym (append-nil (switch l to (led b.address.url))))
+    by : (t : Bool) → all_marked (if t then switch m l to (led b.address.url) else []) ≡ all_marked (switches m l to (if t then b.address ∷ [] else []))
+    by true = ap all_marked (sym (append-nil (switch m l to (led b.address.url))))
     by false = refl
 
 pub over_to : (to : List ℕ) (b : Begun) (c : ℕ) → (if ends_at b.place c then led b.address.url else to) ≡ led_by to (links_at true b c)
@@ -40,14 +41,14 @@ over_to to b c = by (ends_at b.place c)
     by false = refl
 
 -- a byte more
-pub text_more : (l : Look) (b old : Begun) (xs first to mid out text : List ℕ) (c : ℕ) → old ≡ all_behind true b xs → mid ≡ led_by to (links_in true b xs) → out ≡ first ++ all_marked (switches l to (links_in true b xs))
-    → text ≡ out ++ all_marked (switches l mid (links_at true old c)) → text ≡ first ++ all_marked (switches l to (links_in true b (xs ++ c ∷ [])))
-text_more l b old xs first to mid out text c here led was now =
+pub text_more : (m : Markup) (l : Look) (b old : Begun) (xs first to mid out text : List ℕ) (c : ℕ) → old ≡ all_behind true b xs → mid ≡ led_by to (links_in true b xs) → out ≡ first ++ all_marked (switches m l to (links_in true b xs))
+    → text ≡ out ++ all_marked (switches m l mid (links_at true old c)) → text ≡ first ++ all_marked (switches m l to (links_in true b (xs ++ c ∷ [])))
+text_more m l b old xs first to mid out text c here led was now =
     let links = links_in true b xs in
     let more = links_at true old c in
-    now ∙ ap (λ t. t ++ all_marked (switches l mid more)) was ∙ append_assoc first (all_marked (switches l to links)) (all_marked (switches l mid more))
-    ∙ ap (λ (t : List ℕ). first ++ (all_marked (switches l to links) ++ all_marked (switches l t more))) led ∙ ap (λ t. first ++ t) (sym (marked_on l to links more))
-    ∙ ap (λ (t : List Address). first ++ all_marked (switches l to t)) (sym (links_more b old xs c here))
+    now ∙ ap (λ t. t ++ all_marked (switches m l mid more)) was ∙ append_assoc first (all_marked (switches m l to links)) (all_marked (switches m l mid more))
+    ∙ ap (λ (t : List ℕ). first ++ (all_marked (switches m l to links) ++ all_marked (switches m l t more))) led ∙ ap (λ t. first ++ t) (sym (marked_on m l to links more))
+    ∙ ap (λ (t : List Address). first ++ all_marked (switches m l to t)) (sym (links_more b old xs c here))
 
 pub to_more : (b old : Begun) (xs to mid after : List ℕ) (c : ℕ) → old ≡ all_behind true b xs → mid ≡ led_by to (links_in true b xs) → after ≡ led_by mid (links_at true old c) → after ≡ led_by to (links_in true b (xs ++ c ∷ []))
 to_more b old xs to mid after c here was now =
@@ -56,42 +57,42 @@ to_more b old xs to mid after c here was now =
 -- ---- a control string
 
 -- what the rule gives for it, byte by byte
-pub given : (bytes : List ℕ) (s after : Setting) (text : List ℕ) → AreGiven turns s bytes text after → (text ≡ all_marked (switches s.look s.to (links_in s.links s.begun bytes))) × (after ≡ behind_string s bytes)
+pub given : (bytes : List ℕ) (s after : Setting) (text : List ℕ) → AreGiven turns s bytes text after → (text ≡ all_marked (switches s.markup s.look s.to (links_in s.markup.links s.begun bytes))) × (after ≡ behind_string s bytes)
 given [] s after text h = h
 given (c ∷ bytes) s after text (first, mid, others, here, e, rest) =
     let behind = behind_byte s c in
     let r = given bytes behind after others (subst (λ (m : Setting). AreGiven turns m bytes others after) here.1 rest) in
-    let links = links_at s.links s.begun c in
-    let more = links_in s.links (next s.links s.begun c) bytes in (
-      e ∙ ap (λ t. t ++ others) here.0 ∙ ap (λ t. all_marked (switches s.look s.to links) ++ t) r.0 ∙ sym (marked_on s.look s.to links more),
-      r.1 ∙ ap (λ (t : List ℕ). setting s.links s.look t (all_behind s.links (next s.links s.begun c) bytes)) (sym (led_on s.to links more)),
+    let links = links_at s.markup.links s.begun c in
+    let more = links_in s.markup.links (next s.markup.links s.begun c) bytes in (
+      e ∙ ap (λ t. t ++ others) here.0 ∙ ap (λ t. all_marked (switches s.markup s.look s.to links) ++ t) r.0 ∙ sym (marked_on s.markup s.look s.to links more),
+      r.1 ∙ ap (λ (t : List ℕ). setting s.markup s.look t (all_behind s.markup.links (next s.markup.links s.begun c) bytes)) (sym (led_on s.to links more)),
     )
 
-gives : (bytes : List ℕ) (s : Setting) → AreGiven turns s bytes (all_marked (switches s.look s.to (links_in s.links s.begun bytes))) (behind_string s bytes)
+gives : (bytes : List ℕ) (s : Setting) → AreGiven turns s bytes (all_marked (switches s.markup s.look s.to (links_in s.markup.links s.begun bytes))) (behind_string s bytes)
 gives [] s = (refl, refl)
 gives (c ∷ bytes) s =
     let mid = behind_byte s c in
-    let links = links_at s.links s.begun c in
-    let more = links_in s.links (next s.links s.begun c) bytes in
-    let others = all_marked (switches s.look mid.to more) in (
-      all_marked (switches s.look s.to links),
+    let links = links_at s.markup.links s.begun c in
+    let more = links_in s.markup.links (next s.markup.links s.begun c) bytes in
+    let others = all_marked (switches s.markup s.look mid.to more) in (
+      all_marked (switches s.markup s.look s.to links),
       mid,
       others,
       (refl, refl),
-      marked_on s.look s.to links more,
-      subst (λ (t : List ℕ). AreGiven turns mid bytes others (setting s.links s.look t (all_behind s.links (next s.links s.begun c) bytes))) (sym (led_on s.to links more)) (gives bytes mid),
+      marked_on s.markup s.look s.to links more,
+      subst (λ (t : List ℕ). AreGiven turns mid bytes others (setting s.markup s.look t (all_behind s.markup.links (next s.markup.links s.begun c) bytes))) (sym (led_on s.to links more)) (gives bytes mid),
     )
 
 -- where links pass, and where they don't
-pub gives_links : (bytes : List ℕ) (s : Setting) → s.links ≡ true → AreGiven turns s bytes (all_marked (switches s.look s.to (links_in true s.begun bytes))) (setting s.links s.look (led_by s.to (links_in true s.begun bytes)) (all_behind true s.begun bytes))
+pub gives_links : (bytes : List ℕ) (s : Setting) → s.markup.links ≡ true → AreGiven turns s bytes (all_marked (switches s.markup s.look s.to (links_in true s.begun bytes))) (setting s.markup s.look (led_by s.to (links_in true s.begun bytes)) (all_behind true s.begun bytes))
 gives_links bytes s e = subst
-    (λ (b : Bool). AreGiven turns s bytes (all_marked (switches s.look s.to (links_in b s.begun bytes))) (setting s.links s.look (led_by s.to (links_in b s.begun bytes)) (all_behind b s.begun bytes)))
+    (λ (b : Bool). AreGiven turns s bytes (all_marked (switches s.markup s.look s.to (links_in b s.begun bytes))) (setting s.markup s.look (led_by s.to (links_in b s.begun bytes)) (all_behind b s.begun bytes)))
     e
     (gives bytes s)
 
-pub gives_none : (bytes : List ℕ) (s : Setting) → s.links ≡ false → AreGiven turns s bytes [] s
+pub gives_none : (bytes : List ℕ) (s : Setting) → s.markup.links ≡ false → AreGiven turns s bytes [] s
 gives_none [] s e = (refl, refl)
 gives_none (c ∷ bytes) s e =
-    let text : [] ≡ all_marked (switches s.look s.to (links_at s.links s.begun c)) = ap (λ (b : Bool). all_marked (switches s.look s.to (links_at b s.begun c))) (sym e) in
-    let same : s ≡ behind_byte s c = ap (λ (b : Bool). setting s.links s.look (led_by s.to (links_at b s.begun c)) (next b s.begun c)) (sym e) in
+    let text : [] ≡ all_marked (switches s.markup s.look s.to (links_at s.markup.links s.begun c)) = ap (λ (b : Bool). all_marked (switches s.markup s.look s.to (links_at b s.begun c))) (sym e) in
+    let same : s ≡ behind_byte s c = ap (λ (b : Bool). setting s.markup s.look (led_by s.to (links_at b s.begun c)) (next b s.begun c)) (sym e) in
     ([], s, [], (text, same), refl, gives_none bytes s e)

@@ -17,6 +17,7 @@ use Rattle.csicodec_clean.specs.Links.{Address, Begun, IsLink, links_in, start}
 use Rattle.csicodec_clean.proofs.Linked.{fine_behind, fine_links, links_none}
 use Rattle.csicodec_clean.proofs.Plain.{kept_shown, scalars_lossy}
 use Rattle.csicodec_html.specs.declared.look.Look.{Look}
+use Rattle.csicodec_html.specs.declared.markup.Markup.{Markup}
 use Rattle.csicodec_html.specs.Look.{behind_all, is_plain, sets_any}
 use Rattle.csicodec_html.specs.Page.{AreLeft, Begin, Char, End, IsSafe, Leaves, Open, PageWith, Piece, Setting, Shut, begins, behind_actions, behind_string, closing, ends, first_set, is_web, leads, led, opens, pieces_behind, run_behind, shown_pieces, shuts, switch, switches, turn}
 use Rattle.csicodec_html.specs.Private.Marked.{all_marked, closes, marked, page_bytes, turns}
@@ -58,11 +59,11 @@ goes p parts kind.Text s mid after run first next others text last is (none, sam
   all = ap (λ (t : List ℕ). (t ++ shown_text last) ++ all_marked (closing after)) (all ∙ ap (λ (t : List ℕ). t ++ others) none) ∙ r.all;
 }
 goes p parts kind.Csi s mid after run first next others text last is (out, (actions, isof, behind, e), made, none) all r =
-    ended p parts s mid after run first others text last (turn (sets_any actions) s.look (behind_all s.look actions)) (rw is (actions, isof, behind, refl)) (rw is refl) (rw is refl)
+    ended p parts s mid after run first others text last (turn s.markup (sets_any actions) s.look (behind_all s.look actions)) (rw is (actions, isof, behind, refl)) (rw is refl) (rw is refl)
     (made ∙ ap (λ (t : List ℕ). shown_text run ++ t) e) all (rw none at r)
 goes p parts kind.Str s mid after run first next others text last is (out, gives, made, none) all r =
     let g = given p.bytes s mid out gives in
-    ended p parts s mid after run first others text last (switches s.look s.to (links_in s.links s.begun p.bytes)) (rw is (refl, g.1)) (rw is refl) (rw is refl)
+    ended p parts s mid after run first others text last (switches s.markup s.look s.to (links_in s.markup.links s.begun p.bytes)) (rw is (refl, g.1)) (rw is refl) (rw is refl)
     (made ∙ ap (λ (t : List ℕ). shown_text run ++ t) g.0) all (rw none at r)
 goes p parts kind.Esc s mid after run first next others text last is (made, same, none) all r =
     ended p parts s mid after run first others text last [] (rw is (refl, same)) (rw is refl) (rw is refl) (made ∙ sym (append-nil (shown_text run))) all (rw none at r)
@@ -80,122 +81,126 @@ left_of (p ∷ parts) s after run text last (first, mid, next, others, step, e, 
 
 -- ---- safe
 
-abbrev Safe : Bool → List Piece → Type 0
-Safe links ps = AllByRecursion (IsSafe links) ps
+abbrev Safe : Markup → List Piece → Type 0
+Safe m ps = AllByRecursion (IsSafe m) ps
 
-safe_both : (links : Bool) (xs ys : List Piece) → Safe links xs → Safe links ys → Safe links (xs ++ ys)
-safe_both links [] ys h k = k
-safe_both links (x ∷ xs) ys h k = (h.0, safe_both links xs ys h.1 k)
+safe_both : (m : Markup) (xs ys : List Piece) → Safe m xs → Safe m ys → Safe m (xs ++ ys)
+safe_both m [] ys h k = k
+safe_both m (x ∷ xs) ys h k = (h.0, safe_both m xs ys h.1 k)
 
-safe_chars : (links : Bool) (cs : List ℕ) → all_scalars cs ≡ true → AllByRecursion IsShown cs → Safe links (map Char cs)
-safe_chars links [] a h = tt
-safe_chars links (c ∷ cs) a h = let both = and_parts (scalar c) (all_scalars cs) a in ((h.0, both.0), safe_chars links cs both.1 h.1)
+safe_chars : (m : Markup) (cs : List ℕ) → all_scalars cs ≡ true → AllByRecursion IsShown cs → Safe m (map Char cs)
+safe_chars m [] a h = tt
+safe_chars m (c ∷ cs) a h = let both = and_parts (scalar c) (all_scalars cs) a in ((h.0, both.0), safe_chars m cs both.1 h.1)
 
-safe_run : (links : Bool) (run : List ℕ) → Safe links (shown_pieces run)
-safe_run links run = let k = kept_shown (lossy_chars run) (scalars_lossy run) in safe_chars links (filter shown (lossy_chars run)) k.0 k.1
+safe_run : (m : Markup) (run : List ℕ) → Safe m (shown_pieces run)
+safe_run m run = let k = kept_shown (lossy_chars run) (scalars_lossy run) in safe_chars m (filter shown (lossy_chars run)) k.0 k.1
 
-safe_ends : (links : Bool) (l : Look) → Safe links (ends l)
-safe_ends links l = by (is_plain l)
+safe_ends : (m : Markup) (l : Look) → Safe m (ends l)
+safe_ends m l = by (is_plain l)
   where
-    by : (b : Bool) → Safe links (if b then [] else End ∷ [])
+    by : (b : Bool) → Safe m (if b then [] else End ∷ [])
     by true = tt
     by false = (tt, tt)
 
-safe_begins : (links : Bool) (l : Look) → Safe links (begins l)
-safe_begins links l = by (is_plain l) refl
+safe_begins : (m : Markup) (l : Look) → Safe m (begins m l)
+safe_begins m l = by (is_plain l) refl
   where
-    by : (b : Bool) → is_plain l ≡ b → Safe links (if b then [] else Begin l ∷ [])
+    by : (b : Bool) → is_plain l ≡ b → Safe m (if b then [] else Begin m l ∷ [])
     by true e = tt
-    by false e = (e, tt)
+    by false e = ((refl, e), tt)
 
-safe_shuts : (links : Bool) (to : List ℕ) → Safe links (shuts to)
-safe_shuts links to = by (leads to)
+safe_shuts : (m : Markup) (to : List ℕ) → Safe m (shuts to)
+safe_shuts m to = by (leads to)
   where
-    by : (b : Bool) → Safe links (if b then Shut ∷ [] else [])
+    by : (b : Bool) → Safe m (if b then Shut ∷ [] else [])
     by true = (tt, tt)
     by false = tt
 
-safe_opens : (a : Address) → IsLink a → Safe true (opens (led a.url))
-safe_opens a h = by (is_web a.url) refl
+safe_opens : (m : Markup) → m.links ≡ true → (a : Address) → IsLink a → Safe m (opens (led a.url))
+safe_opens m pass a h = by (is_web a.url) refl
   where
-    there : is_web a.url ≡ true → (b : Bool) → Safe true (if b then Open a.url ∷ [] else [])
-    there e true = ((refl, record { web = e; visible = h.url; short = h.short }), tt)
+    there : is_web a.url ≡ true → (b : Bool) → Safe m (if b then Open a.url ∷ [] else [])
+    there e true = ((pass, record { web = e; visible = h.url; short = h.short }), tt)
     there e false = tt
 
-    by : (b : Bool) → is_web a.url ≡ b → Safe true (opens (if b then a.url else []))
+    by : (b : Bool) → is_web a.url ≡ b → Safe m (opens (if b then a.url else []))
     by true e = there e (leads a.url)
     by false e = tt
 
-safe_closing : (links : Bool) (s : Setting) → Safe links (closing s)
-safe_closing links s = safe_both links (ends s.look) (shuts s.to) (safe_ends links s.look) (safe_shuts links s.to)
+safe_closing : (m : Markup) (s : Setting) → Safe m (closing s)
+safe_closing m s = safe_both m (ends s.look) (shuts s.to) (safe_ends m s.look) (safe_shuts m s.to)
 
-safe_turn : (links : Bool) (old new : Look) (comes : Bool) → Safe links (turn comes old new)
-safe_turn links old new true = safe_both links (ends old) (begins new) (safe_ends links old) (safe_begins links new)
-safe_turn links old new false = tt
+safe_turn : (m : Markup) (old new : Look) (comes : Bool) → Safe m (turn m comes old new)
+safe_turn m old new true = safe_both m (ends old) (begins m new) (safe_ends m old) (safe_begins m new)
+safe_turn m old new false = tt
 
-safe_switch : (l : Look) (old : List ℕ) (a : Address) → IsLink a → Safe true (switch l old (led a.url))
-safe_switch l old a h = by (leads old || leads new)
+safe_switch : (m : Markup) → m.links ≡ true → (l : Look) (old : List ℕ) (a : Address) → IsLink a → Safe m (switch m l old (led a.url))
+safe_switch m pass l old a h = by (leads old || leads new)
   where
     new : List ℕ
     new = led a.url
 
-    by : (b : Bool) → Safe true (if b then ends l ++ (shuts old ++ (opens new ++ begins l)) else [])
-    by true = safe_both true (ends l) (shuts old ++ (opens new ++ begins l)) (safe_ends true l)
-        (safe_both true (shuts old) (opens new ++ begins l) (safe_shuts true old) (safe_both true (opens new) (begins l) (safe_opens a h) (safe_begins true l)))
+    by : (b : Bool) → Safe m (if b then ends l ++ (shuts old ++ (opens new ++ begins m l)) else [])
+    by true = safe_both m (ends l) (shuts old ++ (opens new ++ begins m l)) (safe_ends m l)
+        (safe_both m (shuts old) (opens new ++ begins m l) (safe_shuts m old) (safe_both m (opens new) (begins m l) (safe_opens m pass a h) (safe_begins m l)))
     by false = tt
 
-safe_switches : (l : Look) (to : List ℕ) (links : List Address) → AllByRecursion IsLink links → Safe true (switches l to links)
-safe_switches l to [] h = tt
-safe_switches l to (a ∷ links) h = safe_both true (switch l to (led a.url)) (switches l (led a.url) links) (safe_switch l to a h.0) (safe_switches l (led a.url) links h.1)
+safe_switches : (m : Markup) → m.links ≡ true → (l : Look) (to : List ℕ) (links : List Address) → AllByRecursion IsLink links → Safe m (switches m l to links)
+safe_switches m pass l to [] h = tt
+safe_switches m pass l to (a ∷ links) h =
+    safe_both m (switch m l to (led a.url)) (switches m l (led a.url) links) (safe_switch m pass l to a h.0) (safe_switches m pass l (led a.url) links h.1)
 
-safe_string : (links : Bool) (l : Look) (to : List ℕ) (b : Begun) (bytes : List ℕ) → IsLink b.address → Safe links (switches l to (links_in links b bytes))
-safe_string true l to b bytes h = safe_switches l to (links_in true b bytes) (fine_links true bytes b h)
-safe_string false l to b bytes h = subst (λ (links : List Address). Safe false (switches l to links)) (sym (links_none bytes b)) tt
+safe_string : (m : Markup) (l : Look) (to : List ℕ) (b : Begun) (bytes : List ℕ) → IsLink b.address → Safe m (switches m l to (links_in m.links b bytes))
+safe_string m l to b bytes h = by m.links refl
+  where
+    by : (t : Bool) → m.links ≡ t → Safe m (switches m l to (links_in t b bytes))
+    by true pass = safe_switches m pass l to (links_in true b bytes) (fine_links true bytes b h)
+    by false pass = subst (λ (links : List Address). Safe m (switches m l to links)) (sym (links_none bytes b)) tt
 
-safe_leaves : (s after : Setting) (k : Kind) (bytes : List ℕ) (own : List Piece) → IsLink s.begun.address → Leaves s k bytes own after → Safe s.links own
-safe_leaves s after kind.Csi bytes own h (actions, isof, behind, e) = subst (Safe s.links) (sym e) (safe_turn s.links s.look (behind_all s.look actions) (sets_any actions))
-safe_leaves s after kind.Str bytes own h (e, behind) = subst (Safe s.links) (sym e) (safe_string s.links s.look s.to s.begun bytes h)
-safe_leaves s after kind.Text bytes own h (e, same) = subst (Safe s.links) (sym e) tt
-safe_leaves s after kind.Esc bytes own h (e, same) = subst (Safe s.links) (sym e) tt
-safe_leaves s after kind.Other bytes own h (e, same) = subst (Safe s.links) (sym e) tt
+safe_leaves : (s after : Setting) (k : Kind) (bytes : List ℕ) (own : List Piece) → IsLink s.begun.address → Leaves s k bytes own after → Safe s.markup own
+safe_leaves s after kind.Csi bytes own h (actions, isof, behind, e) = subst (Safe s.markup) (sym e) (safe_turn s.markup s.look (behind_all s.look actions) (sets_any actions))
+safe_leaves s after kind.Str bytes own h (e, behind) = subst (Safe s.markup) (sym e) (safe_string s.markup s.look s.to s.begun bytes h)
+safe_leaves s after kind.Text bytes own h (e, same) = subst (Safe s.markup) (sym e) tt
+safe_leaves s after kind.Esc bytes own h (e, same) = subst (Safe s.markup) (sym e) tt
+safe_leaves s after kind.Other bytes own h (e, same) = subst (Safe s.markup) (sym e) tt
 
-safe_behind : (links : Bool) (k : Kind) (run : List ℕ) → Safe links (pieces_behind k run)
-safe_behind links kind.Text run = tt
-safe_behind links kind.Csi run = safe_run links run
-safe_behind links kind.Esc run = safe_run links run
-safe_behind links kind.Str run = safe_run links run
-safe_behind links kind.Other run = safe_run links run
+safe_behind : (m : Markup) (k : Kind) (run : List ℕ) → Safe m (pieces_behind k run)
+safe_behind m kind.Text run = tt
+safe_behind m kind.Csi run = safe_run m run
+safe_behind m kind.Esc run = safe_run m run
+safe_behind m kind.Str run = safe_run m run
+safe_behind m kind.Other run = safe_run m run
 
--- behind a part: whether links pass is as before, and what has come of a link may pass
+-- behind a part: what becomes markup is as before, and what has come of a link may pass
 record Stays (s after : Setting) : Type 0 where
-  links : after.links ≡ s.links
+  markup : after.markup ≡ s.markup
   fine : IsLink after.begun.address
 
-stays : (s after mid : Setting) → after ≡ mid → mid.links ≡ s.links → IsLink mid.begun.address → Stays s after
-stays s after mid e same h = record { links = ap (λ (x : Setting). x.links) e ∙ same; fine = subst (λ (x : Setting). IsLink x.begun.address) (sym e) h }
+stays : (s after mid : Setting) → after ≡ mid → mid.markup ≡ s.markup → IsLink mid.begun.address → Stays s after
+stays s after mid e same h = record { markup = ap (λ (x : Setting). x.markup) e ∙ same; fine = subst (λ (x : Setting). IsLink x.begun.address) (sym e) h }
 
 stays_behind : (s after : Setting) (k : Kind) (bytes : List ℕ) (own : List Piece) → IsLink s.begun.address → Leaves s k bytes own after → Stays s after
 stays_behind s after kind.Csi bytes own h (actions, isof, behind, e) = stays s after (behind_actions s actions) behind refl h
-stays_behind s after kind.Str bytes own h (e, behind) = stays s after (behind_string s bytes) behind refl (fine_behind s.links bytes s.begun h)
+stays_behind s after kind.Str bytes own h (e, behind) = stays s after (behind_string s bytes) behind refl (fine_behind s.markup.links bytes s.begun h)
 stays_behind s after kind.Text bytes own h (e, same) = stays s after s same refl h
 stays_behind s after kind.Esc bytes own h (e, same) = stays s after s same refl h
 stays_behind s after kind.Other bytes own h (e, same) = stays s after s same refl h
 
-pub safe_left : (parts : List Part) (s : Setting) (run : List ℕ) (ps : List Piece) → IsLink s.begun.address → AreLeft s run parts ps → Safe s.links ps
-safe_left [] s run ps h e = subst (Safe s.links) (sym e) (safe_both s.links (shown_pieces run) (closing s) (safe_run s.links run) (safe_closing s.links s))
+pub safe_left : (parts : List Part) (s : Setting) (run : List ℕ) (ps : List Piece) → IsLink s.begun.address → AreLeft s run parts ps → Safe s.markup ps
+safe_left [] s run ps h e = subst (Safe s.markup) (sym e) (safe_both s.markup (shown_pieces run) (closing s) (safe_run s.markup run) (safe_closing s.markup s))
 safe_left (p ∷ parts) s run ps h (own, after, others, leaves, e, rest) =
     let stay = stays_behind s after p.kind p.bytes own h leaves in
-    let later : Safe s.links others = subst (λ (b : Bool). Safe b others) stay.links (safe_left parts after (run_behind p.kind run p.bytes) others stay.fine rest) in
-    subst (Safe s.links) (sym e)
-    (safe_both s.links (pieces_behind p.kind run) (own ++ others) (safe_behind s.links p.kind run) (safe_both s.links own others (safe_leaves s after p.kind p.bytes own h leaves) later))
+    let later : Safe s.markup others = subst (λ (n : Markup). Safe n others) stay.markup (safe_left parts after (run_behind p.kind run p.bytes) others stay.fine rest) in
+    subst (Safe s.markup) (sym e)
+    (safe_both s.markup (pieces_behind p.kind run) (own ++ others) (safe_behind s.markup p.kind run) (safe_both s.markup own others (safe_leaves s after p.kind p.bytes own h leaves) later))
 
 -- nothing has come of a link
 pub none_begun : IsLink start.address
 none_begun = record { params = tt; few = omega arith; url = tt; short = omega arith }
 
 -- what the rule leaves, byte by byte, is the page
-pub page_of : (links : Bool) (s : Setting) (bytes text page : List ℕ) → s ≡ first_set links → Ends turns closes longest s bytes text → page ≡ page_bytes text → PageWith links bytes page
-page_of links s bytes text page starts e same =
+pub page_of : (m : Markup) (s : Setting) (bytes text page : List ℕ) → s ≡ first_set m → Ends turns closes longest s bytes text → page ≡ page_bytes text → PageWith m bytes page
+page_of m s bytes text page starts e same =
     let c = e.cleans in
     let r = left_of (with_titles false c.parts) s e.after [] c.before c.run c.steps in
     let left = subst (λ (x : Setting). AreLeft x [] (with_titles false c.parts) r.pieces) starts r.left in
@@ -205,5 +210,5 @@ page_of links s bytes text page starts e same =
       pieces = r.pieces;
       left = left;
       all = same ∙ ap page_bytes (e.all ∙ ap (λ (t : List ℕ). e.before ++ t) e.closes ∙ ap (λ (t : List ℕ). t ++ all_marked (closing e.after)) c.all ∙ r.all)
-          ∙ pieces links r.pieces (safe_left (with_titles false c.parts) (first_set links) [] r.pieces none_begun left);
+          ∙ pieces m r.pieces (safe_left (with_titles false c.parts) (first_set m) [] r.pieces none_begun left);
     }

@@ -4,6 +4,8 @@ pub mod Joined
 pub mod Left
 pub mod Leads
 pub mod Marks
+pub mod Named
 pub mod Paired
+pub mod Rules
 pub mod Streamed
 pub mod Turned

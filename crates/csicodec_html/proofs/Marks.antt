@@ -1,6 +1,6 @@
 -- Pieces as the first step marks them are, byte by byte, what stands on the page.
 use Rattle.std.proofs.Common.{◌≡◌, ◌≤◌, ◌<◌, ◌+◌, ◌/◌, ℕ, Bool, true, false, List, [], ◌∷◌, ◌++◌, refl, sym, ap, ◌∙◌, ⊎_elim, append-nil, arith, lt-ltb, le-ltb}
-use Rattle.std.specs.Prelude.{codes, ◌==◌}
+use Rattle.std.specs.Prelude.{codes, ◌==◌, if◌then◌else◌, Option, Some, None}
 use Rattle.std.specs.Char.{encode_utf8}
 use lib.Utf8.{next}
 use Rattle.std.specs.List.{AllByRecursion, flat_map}
@@ -9,10 +9,14 @@ use Rattle.std.proofs.lemmas.Bool.Decides.{nat_tests}
 use Rattle.std.proofs.lemmas.Grind.{flat_map-append}
 use Rattle.csicodec_clean.specs.Shown.{IsShown, shown}
 use Rattle.csicodec_html.specs.declared.look.Look.{Look}
+use Rattle.csicodec_html.specs.declared.markup.Markup.{Markup}
+use Rattle.csicodec_html.specs.declared.classes.Class.{Class}
+use Rattle.csicodec_html.specs.Classes.{ahead, attributes, behind_slot, class_name, classes_of, has_true, names, rest_attribute, slot_text, style_attribute, true_colors}
 use Rattle.csicodec_html.specs.Look.{css}
 use Rattle.csicodec_html.specs.Page.{IsHarmless, is_harmless, IsSafe, Piece, Char, Begin, End, Open, Shut, escaped, piece_text, piece_texts}
 use Rattle.csicodec_html.specs.Private.Marked.{all_marked, marked, page_byte, page_bytes}
 use Rattle.csicodec_html.proofs.Declarations.{Fine, apart, css_fine, fine}
+use Rattle.csicodec_html.proofs.Named.{name_fine, true_fine}
 use Rattle.csicodec_html.proofs.Addresses.{IsVisible, ascii, below}
 
 -- a byte or character that passes a test isn't one that doesn't
@@ -60,8 +64,49 @@ char c h = ⊎_elim
     far : 128 ≤ c → (k : ℕ) → k < 128 → (c == k) ≡ false
     far a k b = apart c k (λ e. absurd (omega (arith, a, b, e)))
 
-begin : (l : Look) → page_bytes (marked (Begin l)) ≡ piece_text (Begin l)
-begin l = ap (λ (t : List ℕ). codes "<span style=" ++ (34 ∷ t)) (flat_map-append page_byte (css l) (3 ∷ 2 ∷ []) ∙ ap (λ (t : List ℕ). t ++ 34 ∷ 62 ∷ []) (all_fine (css l) (css_fine l)))
+quoted : (style : List ℕ) → Fine style → page_bytes (style_attribute 3 style) ≡ style_attribute 34 style
+quoted style h = ap (λ (t : List ℕ). codes " style=" ++ (34 ∷ t)) (flat_map-append page_byte style (3 ∷ []) ∙ ap (λ (t : List ℕ). t ++ 34 ∷ []) (all_fine style h))
+
+of_ahead : (came : Bool) → page_bytes (ahead 3 came) ≡ ahead 34 came
+of_ahead true = refl
+of_ahead false = refl
+
+of_slot : (came : Bool) (slot : Option Class) → page_bytes (slot_text 3 came slot) ≡ slot_text 34 came slot
+of_slot came None = refl
+of_slot came (Some c) =
+    flat_map-append page_byte (ahead 3 came) (class_name c) ∙ ap (λ (t : List ℕ). t ++ page_bytes (class_name c)) (of_ahead came) ∙ ap (λ (t : List ℕ). ahead 34 came ++ t) (all_fine (class_name c) (name_fine c))
+
+of_names : (came : Bool) (slots : List (Option Class)) → page_bytes (names 3 came slots) ≡ names 34 came slots
+of_names true [] = refl
+of_names false [] = refl
+of_names came (slot ∷ slots) =
+    let next = behind_slot came slot in
+    flat_map-append page_byte (slot_text 3 came slot) (names 3 next slots) ∙ ap (λ (t : List ℕ). t ++ page_bytes (names 3 next slots)) (of_slot came slot)
+    ∙ ap (λ (t : List ℕ). slot_text 34 came slot ++ t) (of_names next slots)
+
+of_rest : (l : Look) → page_bytes (rest_attribute 3 l) ≡ rest_attribute 34 l
+of_rest l = by (has_true l)
+  where
+    by : (b : Bool) → page_bytes (if b then style_attribute 3 (true_colors l) else []) ≡ (if b then style_attribute 34 (true_colors l) else [])
+    by true = quoted (true_colors l) (true_fine l)
+    by false = refl
+
+of_attributes : (m : Markup) (l : Look) → page_bytes (attributes 3 m l) ≡ attributes 34 m l
+of_attributes m l = by m.classes
+  where
+    slots : List (Option Class)
+    slots = classes_of l
+
+    style : List ℕ
+    style = css m.palette l
+
+    by : (b : Bool) → page_bytes (if b then names 3 false slots ++ rest_attribute 3 l else style_attribute 3 style) ≡ (if b then names 34 false slots ++ rest_attribute 34 l else style_attribute 34 style)
+    by true = flat_map-append page_byte (names 3 false slots) (rest_attribute 3 l) ∙ ap (λ (t : List ℕ). t ++ page_bytes (rest_attribute 3 l)) (of_names false slots) ∙ ap (λ (t : List ℕ). names 34 false slots ++ t) (of_rest l)
+    by false = quoted style (css_fine m.palette l)
+
+begin : (m : Markup) (l : Look) → page_bytes (marked (Begin m l)) ≡ piece_text (Begin m l)
+begin m l =
+    ap (λ (t : List ℕ). codes "<span" ++ t) (flat_map-append page_byte (attributes 3 m l) (2 ∷ []) ∙ ap (λ (t : List ℕ). t ++ 62 ∷ []) (of_attributes m l))
 
 visible_shown : (c : ℕ) → IsVisible c → IsShown c
 visible_shown c h = grind (arith, nat_tests, h)
@@ -76,14 +121,14 @@ address (c ∷ url) h = ap (λ (t : List ℕ). t ++ page_bytes url) (visible c h
 open_link : (url : List ℕ) → AllByRecursion IsVisible url → page_bytes (marked (Open url)) ≡ piece_text (Open url)
 open_link url h = ap (λ (t : List ℕ). codes "<a href=" ++ (34 ∷ t)) (flat_map-append page_byte url (3 ∷ 2 ∷ []) ∙ ap (λ (t : List ℕ). t ++ 34 ∷ 62 ∷ []) (address url h))
 
-piece : (links : Bool) (p : Piece) → IsSafe links p → page_bytes (marked p) ≡ piece_text p
-piece links (Char c) h = char c h.0
-piece links (Begin l) h = begin l
-piece links End h = refl
-piece links (Open url) h = open_link url h.1.visible
-piece links Shut h = refl
+piece : (m : Markup) (p : Piece) → IsSafe m p → page_bytes (marked p) ≡ piece_text p
+piece m (Char c) h = char c h.0
+piece m (Begin n l) h = begin n l
+piece m End h = refl
+piece m (Open url) h = open_link url h.1.visible
+piece m Shut h = refl
 
-pub pieces : (links : Bool) (ps : List Piece) → AllByRecursion (IsSafe links) ps → page_bytes (all_marked ps) ≡ piece_texts ps
-pieces links [] h = refl
-pieces links (p ∷ ps) h =
-    flat_map-append page_byte (marked p) (all_marked ps) ∙ ap (λ (t : List ℕ). t ++ page_bytes (all_marked ps)) (piece links p h.0) ∙ ap (λ (t : List ℕ). piece_text p ++ t) (pieces links ps h.1)
+pub pieces : (m : Markup) (ps : List Piece) → AllByRecursion (IsSafe m) ps → page_bytes (all_marked ps) ≡ piece_texts ps
+pieces m [] h = refl
+pieces m (p ∷ ps) h =
+    flat_map-append page_byte (marked p) (all_marked ps) ∙ ap (λ (t : List ℕ). t ++ page_bytes (all_marked ps)) (piece m p h.0) ∙ ap (λ (t : List ℕ). piece_text p ++ t) (pieces m ps h.1)

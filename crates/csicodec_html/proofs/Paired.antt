@@ -15,6 +15,7 @@ use Rattle.csicodec_clean.specs.Links.{Address, links_in}
 use Rattle.csicodec_clean.proofs.Again.{of_once}
 use Rattle.csicodec_clean.proofs.Shows.{encoded_on}
 use Rattle.csicodec_html.specs.declared.look.Look.{Look}
+use Rattle.csicodec_html.specs.declared.markup.Markup.{Markup}
 use Rattle.csicodec_html.specs.Look.{behind_all, is_plain, sets_any}
 use Rattle.csicodec_html.specs.Page.{AreLeft, Begin, Char, End, IsPageWith, Leaves, Open, PageWith, Piece, Setting, Shut, are_paired, begins, behind_actions, chars_of, closing, ends, first_set, leads, led, led_by, opens, piece_texts, pieces_behind, run_behind, shown_pieces, shuts, switch, switches, turn}
 use Rattle.csicodec_html.proofs.Left.{none_begun, safe_left}
@@ -35,10 +36,10 @@ paired_ends a l ps = by (is_plain l)
     by true = refl
     by false = refl
 
-paired_begins : (a : Bool) (l : Look) (ps : List Piece) → are_paired a false (begins l ++ ps) ≡ are_paired a (inside l) ps
-paired_begins a l ps = by (is_plain l)
+paired_begins : (m : Markup) (a : Bool) (l : Look) (ps : List Piece) → are_paired a false (begins m l ++ ps) ≡ are_paired a (inside l) ps
+paired_begins m a l ps = by (is_plain l)
   where
-    by : (b : Bool) → are_paired a false ((if b then [] else Begin l ∷ []) ++ ps) ≡ are_paired a (not b) ps
+    by : (b : Bool) → are_paired a false ((if b then [] else Begin m l ∷ []) ++ ps) ≡ are_paired a (not b) ps
     by true = refl
     by false = refl
 
@@ -56,11 +57,11 @@ paired_opens to ps = by (leads to)
     by true = refl
     by false = refl
 
-paired_turn : (a : Bool) (old : Look) (actions : List Action) (ps : List Piece) → are_paired a (inside old) (turn (sets_any actions) old (behind_all old actions) ++ ps) ≡ are_paired a (inside (behind_all old actions)) ps
-paired_turn a old actions ps = by (sets_any actions) refl
+paired_turn : (m : Markup) (a : Bool) (old : Look) (actions : List Action) (ps : List Piece) → are_paired a (inside old) (turn m (sets_any actions) old (behind_all old actions) ++ ps) ≡ are_paired a (inside (behind_all old actions)) ps
+paired_turn m a old actions ps = by (sets_any actions) refl
   where
-    by : (b : Bool) → sets_any actions ≡ b → are_paired a (inside old) (turn b old (behind_all old actions) ++ ps) ≡ are_paired a (inside (behind_all old actions)) ps
-    by true e = ap (are_paired a (inside old)) (append_assoc (ends old) (begins (behind_all old actions)) ps) ∙ paired_ends a old (begins (behind_all old actions) ++ ps) ∙ paired_begins a (behind_all old actions) ps
+    by : (b : Bool) → sets_any actions ≡ b → are_paired a (inside old) (turn m b old (behind_all old actions) ++ ps) ≡ are_paired a (inside (behind_all old actions)) ps
+    by true e = ap (are_paired a (inside old)) (append_assoc (ends old) (begins m (behind_all old actions)) ps) ∙ paired_ends a old (begins m (behind_all old actions) ++ ps) ∙ paired_begins m a (behind_all old actions) ps
     by false e = ap (λ (l : Look). are_paired a (inside l) ps) (sym (unset old actions e))
 
 -- where neither of two links leads anywhere
@@ -72,29 +73,29 @@ neither false false e = refl
 four_on : (w x y z ps : List Piece) → (w ++ (x ++ (y ++ z))) ++ ps ≡ w ++ (x ++ (y ++ (z ++ ps)))
 four_on w x y z ps = append_assoc w (x ++ (y ++ z)) ps ∙ ap (λ (t : List Piece). w ++ t) (append_assoc x (y ++ z) ps ∙ ap (λ (t : List Piece). x ++ t) (append_assoc y z ps))
 
-paired_switch : (l : Look) (old new : List ℕ) (ps : List Piece) → are_paired (leads old) (inside l) (switch l old new ++ ps) ≡ are_paired (leads new) (inside l) ps
-paired_switch l old new ps = by (leads old || leads new) refl
+paired_switch : (m : Markup) (l : Look) (old new : List ℕ) (ps : List Piece) → are_paired (leads old) (inside l) (switch m l old new ++ ps) ≡ are_paired (leads new) (inside l) ps
+paired_switch m l old new ps = by (leads old || leads new) refl
   where
     by : (b : Bool) → (leads old || leads new) ≡ b
-        → are_paired (leads old) (inside l) ((if b then ends l ++ (shuts old ++ (opens new ++ begins l)) else []) ++ ps) ≡ are_paired (leads new) (inside l) ps
+        → are_paired (leads old) (inside l) ((if b then ends l ++ (shuts old ++ (opens new ++ begins m l)) else []) ++ ps) ≡ are_paired (leads new) (inside l) ps
     by true e =
-        ap (are_paired (leads old) (inside l)) (four_on (ends l) (shuts old) (opens new) (begins l) ps) ∙ paired_ends (leads old) l (shuts old ++ (opens new ++ (begins l ++ ps)))
-        ∙ paired_shuts old (opens new ++ (begins l ++ ps)) ∙ paired_opens new (begins l ++ ps) ∙ paired_begins (leads new) l ps
+        ap (are_paired (leads old) (inside l)) (four_on (ends l) (shuts old) (opens new) (begins m l) ps) ∙ paired_ends (leads old) l (shuts old ++ (opens new ++ (begins m l ++ ps)))
+        ∙ paired_shuts old (opens new ++ (begins m l ++ ps)) ∙ paired_opens new (begins m l ++ ps) ∙ paired_begins m (leads new) l ps
     by false e = ap (λ (b : Bool). are_paired b (inside l) ps) (neither (leads old) (leads new) e)
 
-paired_switches : (l : Look) (to : List ℕ) (links : List Address) (ps : List Piece) → are_paired (leads to) (inside l) (switches l to links ++ ps) ≡ are_paired (leads (led_by to links)) (inside l) ps
-paired_switches l to [] ps = refl
-paired_switches l to (a ∷ links) ps =
+paired_switches : (m : Markup) (l : Look) (to : List ℕ) (links : List Address) (ps : List Piece) → are_paired (leads to) (inside l) (switches m l to links ++ ps) ≡ are_paired (leads (led_by to links)) (inside l) ps
+paired_switches m l to [] ps = refl
+paired_switches m l to (a ∷ links) ps =
     let mid = led a.url in
-    ap (are_paired (leads to) (inside l)) (append_assoc (switch l to mid) (switches l mid links) ps) ∙ paired_switch l to mid (switches l mid links ++ ps) ∙ paired_switches l mid links ps
+    ap (are_paired (leads to) (inside l)) (append_assoc (switch m l to mid) (switches m l mid links) ps) ∙ paired_switch m l to mid (switches m l mid links ++ ps) ∙ paired_switches m l mid links ps
 
 -- in a link or not, and in a span or not
 abbrev paired_in : Setting → List Piece → Bool
 paired_in s ps = are_paired (leads s.to) (inside s.look) ps
 
 paired_leaves : (s after : Setting) (k : Kind) (bytes : List ℕ) (own ps : List Piece) → Leaves s k bytes own after → paired_in s (own ++ ps) ≡ paired_in after ps
-paired_leaves s after kind.Csi bytes own ps (actions, isof, behind, e) = rw (e, behind) (paired_turn (leads s.to) s.look actions ps)
-paired_leaves s after kind.Str bytes own ps (e, behind) = rw (e, behind) (paired_switches s.look s.to (links_in s.links s.begun bytes) ps)
+paired_leaves s after kind.Csi bytes own ps (actions, isof, behind, e) = rw (e, behind) (paired_turn s.markup (leads s.to) s.look actions ps)
+paired_leaves s after kind.Str bytes own ps (e, behind) = rw (e, behind) (paired_switches s.markup s.look s.to (links_in s.markup.links s.begun bytes) ps)
 paired_leaves s after kind.Text bytes own ps h = rw (h.0, h.1) refl
 paired_leaves s after kind.Esc bytes own ps h = rw (h.0, h.1) refl
 paired_leaves s after kind.Other bytes own ps h = rw (h.0, h.1) refl
@@ -115,11 +116,11 @@ paired_left [] s run ps h =
 paired_left (p ∷ parts) s run ps (own, after, others, leaves, e, rest) =
     ap (paired_in s) e ∙ paired_behind (leads s.to) (inside s.look) p.kind run (own ++ others) ∙ paired_leaves s after p.kind p.bytes own others leaves ∙ paired_left parts after (run_behind p.kind run p.bytes) others rest
 
-pub is_page : (links : Bool) (bytes page : List ℕ) → PageWith links bytes page → IsPageWith links page
-is_page links bytes page p = record {
+pub is_page : (m : Markup) (bytes page : List ℕ) → PageWith m bytes page → IsPageWith m page
+is_page m bytes page p = record {
   pieces = p.pieces;
-  safe = safe_left (with_titles false p.parts) (first_set links) [] p.pieces none_begun p.left;
-  paired = paired_left (with_titles false p.parts) (first_set links) [] p.pieces p.left;
+  safe = safe_left (with_titles false p.parts) (first_set m) [] p.pieces none_begun p.left;
+  paired = paired_left (with_titles false p.parts) (first_set m) [] p.pieces p.left;
   all = p.all;
 }
 
@@ -128,7 +129,7 @@ is_page links bytes page p = record {
 chars_both : (xs ys : List Piece) → chars_of (xs ++ ys) ≡ chars_of xs ++ chars_of ys
 chars_both [] ys = refl
 chars_both (Char c ∷ xs) ys = ap (λ (t : List ℕ). c ∷ t) (chars_both xs ys)
-chars_both (Begin l ∷ xs) ys = chars_both xs ys
+chars_both (Begin m l ∷ xs) ys = chars_both xs ys
 chars_both (End ∷ xs) ys = chars_both xs ys
 chars_both (Open url ∷ xs) ys = chars_both xs ys
 chars_both (Shut ∷ xs) ys = chars_both xs ys
@@ -155,31 +156,31 @@ bare_ends l = by (is_plain l)
     by true = refl
     by false = refl
 
-bare_begins : (l : Look) → IsBare (begins l)
-bare_begins l = by (is_plain l)
+bare_begins : (m : Markup) (l : Look) → IsBare (begins m l)
+bare_begins m l = by (is_plain l)
   where
-    by : (b : Bool) → IsBare (if b then [] else Begin l ∷ [])
+    by : (b : Bool) → IsBare (if b then [] else Begin m l ∷ [])
     by true = refl
     by false = refl
 
 bare_shuts : (to : List ℕ) → IsBare (shuts to)
 bare_shuts to = bare_if (leads to) (Shut ∷ []) refl
 
-bare_switch : (l : Look) (old new : List ℕ) → IsBare (switch l old new)
-bare_switch l old new =
-    bare_if (leads old || leads new) (ends l ++ (shuts old ++ (opens new ++ begins l)))
-    (bare_both (ends l) (shuts old ++ (opens new ++ begins l)) (bare_ends l)
-    (bare_both (shuts old) (opens new ++ begins l) (bare_shuts old) (bare_both (opens new) (begins l) (bare_if (leads new) (Open new ∷ []) refl) (bare_begins l))))
+bare_switch : (m : Markup) (l : Look) (old new : List ℕ) → IsBare (switch m l old new)
+bare_switch m l old new =
+    bare_if (leads old || leads new) (ends l ++ (shuts old ++ (opens new ++ begins m l)))
+    (bare_both (ends l) (shuts old ++ (opens new ++ begins m l)) (bare_ends l)
+    (bare_both (shuts old) (opens new ++ begins m l) (bare_shuts old) (bare_both (opens new) (begins m l) (bare_if (leads new) (Open new ∷ []) refl) (bare_begins m l))))
 
-bare_switches : (l : Look) (to : List ℕ) (links : List Address) → IsBare (switches l to links)
-bare_switches l to [] = refl
-bare_switches l to (a ∷ links) = bare_both (switch l to (led a.url)) (switches l (led a.url) links) (bare_switch l to (led a.url)) (bare_switches l (led a.url) links)
+bare_switches : (m : Markup) (l : Look) (to : List ℕ) (links : List Address) → IsBare (switches m l to links)
+bare_switches m l to [] = refl
+bare_switches m l to (a ∷ links) = bare_both (switch m l to (led a.url)) (switches m l (led a.url) links) (bare_switch m l to (led a.url)) (bare_switches m l (led a.url) links)
 
 bare_leaves : (s after : Setting) (k : Kind) (bytes : List ℕ) (own : List Piece) → Leaves s k bytes own after → IsBare own
 bare_leaves s after kind.Csi bytes own (actions, isof, behind, e) =
     let new = behind_all s.look actions in
-    ap chars_of e ∙ bare_if (sets_any actions) (ends s.look ++ begins new) (bare_both (ends s.look) (begins new) (bare_ends s.look) (bare_begins new))
-bare_leaves s after kind.Str bytes own (e, behind) = ap chars_of e ∙ bare_switches s.look s.to (links_in s.links s.begun bytes)
+    ap chars_of e ∙ bare_if (sets_any actions) (ends s.look ++ begins s.markup new) (bare_both (ends s.look) (begins s.markup new) (bare_ends s.look) (bare_begins s.markup new))
+bare_leaves s after kind.Str bytes own (e, behind) = ap chars_of e ∙ bare_switches s.markup s.look s.to (links_in s.markup.links s.begun bytes)
 bare_leaves s after kind.Text bytes own h = ap chars_of h.0
 bare_leaves s after kind.Esc bytes own h = ap chars_of h.0
 bare_leaves s after kind.Other bytes own h = ap chars_of h.0
@@ -210,9 +211,9 @@ text_left (p ∷ parts) s run ps (own, after, others, leaves, e, rest) =
     by kind.Str h r = text_part s after kind.Str run p.bytes own others h ∙ ap (λ (t : List ℕ). shown_text run ++ t) r
     by kind.Other h r = text_part s after kind.Other run p.bytes own others h ∙ ap (λ (t : List ℕ). shown_text run ++ t) r
 
-pub text_stays : (links : Bool) (bytes page text : List ℕ) (p : PageWith links bytes page) → Strips longest bytes text → text ≡ text_of p.pieces
-text_stays links bytes page text p s =
-    s.left ∙ ap (λ (ps : List Part). stripped [] (with_titles false ps)) (whole_once longest mode.Text bytes s.parts p.parts s.whole p.whole) ∙ sym (text_left (with_titles false p.parts) (first_set links) [] p.pieces p.left)
+pub text_stays : (m : Markup) (bytes page text : List ℕ) (p : PageWith m bytes page) → Strips longest bytes text → text ≡ text_of p.pieces
+text_stays m bytes page text p s =
+    s.left ∙ ap (λ (ps : List Part). stripped [] (with_titles false ps)) (whole_once longest mode.Text bytes s.parts p.parts s.whole p.whole) ∙ sym (text_left (with_titles false p.parts) (first_set m) [] p.pieces p.left)
 
 -- ---- one page
 
@@ -223,7 +224,7 @@ record Same (xs ys : List Piece) (s t : Setting) : Type 0 where
 leaves_once : (s one other : Setting) (k : Kind) (bytes : List ℕ) (xs ys : List Piece) → Leaves s k bytes xs one → Leaves s k bytes ys other → Same xs ys one other
 leaves_once s one other kind.Csi bytes xs ys (actions, isof, e, made) (again, isof', f, made') =
     let same = of_once bytes actions again isof isof' in
-    record { pieces = made ∙ ap (λ (x : List Action). turn (sets_any x) s.look (behind_all s.look x)) same ∙ sym made'; settings = e ∙ ap (behind_actions s) same ∙ sym f }
+    record { pieces = made ∙ ap (λ (x : List Action). turn s.markup (sets_any x) s.look (behind_all s.look x)) same ∙ sym made'; settings = e ∙ ap (behind_actions s) same ∙ sym f }
 leaves_once s one other kind.Text bytes xs ys h k = record { pieces = h.0 ∙ sym k.0; settings = h.1 ∙ sym k.1 }
 leaves_once s one other kind.Esc bytes xs ys h k = record { pieces = h.0 ∙ sym k.0; settings = h.1 ∙ sym k.1 }
 leaves_once s one other kind.Str bytes xs ys h k = record { pieces = h.0 ∙ sym k.0; settings = h.1 ∙ sym k.1 }
@@ -237,8 +238,8 @@ left_once (p ∷ parts) s run xs ys (own, after, others, leaves, e, rest) (own',
     e ∙ ap (λ (t : List Piece). pieces_behind p.kind run ++ (t ++ others)) same.pieces
     ∙ ap (λ (t : List Piece). pieces_behind p.kind run ++ (own' ++ t)) (left_once parts after' next others others' (subst (λ (x : Setting). AreLeft x next parts others) same.settings rest) rest') ∙ sym f
 
-pub one_page : (links : Bool) (bytes page other : List ℕ) → PageWith links bytes page → PageWith links bytes other → page ≡ other
-one_page links bytes page other p q =
+pub one_page : (m : Markup) (bytes page other : List ℕ) → PageWith m bytes page → PageWith m bytes other → page ≡ other
+one_page m bytes page other p q =
     let same = whole_once longest mode.Text bytes p.parts q.parts p.whole q.whole in
-    let left = subst (λ (ps : List Part). AreLeft (first_set links) [] (with_titles false ps) p.pieces) same p.left in
-    p.all ∙ ap piece_texts (left_once (with_titles false q.parts) (first_set links) [] p.pieces q.pieces left q.left) ∙ sym q.all
+    let left = subst (λ (ps : List Part). AreLeft (first_set m) [] (with_titles false ps) p.pieces) same p.left in
+    p.all ∙ ap piece_texts (left_once (with_titles false q.parts) (first_set m) [] p.pieces q.pieces left q.left) ∙ sym q.all

@@ -11,8 +11,9 @@ use Rattle.csicodec_base.specs.declared.sgr.Sgr.{Sgr}
 use Rattle.csicodec_base.specs.declared.sgr.Sgr.TheVariants as sgr
 use Rattle.csicodec_actions.specs.Actions.{Action}
 use Rattle.csicodec_actions.specs.Actions as action
-use Rattle.csicodec_clean.specs.Palette.{palette}
 use Rattle.csicodec_html.specs.declared.look.Look.{Look}
+use Rattle.csicodec_html.specs.declared.palette.Palette.{Palette}
+use Rattle.csicodec_html.specs.Palette.{color_at, or_own}
 
 -- where nothing is set
 abbrev pub plain : Look
@@ -99,10 +100,10 @@ abbrev pub hex_color : SrgbaTuple → List ℕ
 hex_color c = 35 ∷ (two_digits c.0 ++ (two_digits c.1 ++ two_digits c.2))
 
 -- a colour, with a name for the page's own
-abbrev pub color_text : List ℕ → ColorSpec → List ℕ
-color_text own color.Default = own
-color_text own (color.PaletteIndex i) = hex_color (palette i)
-color_text own (color.TrueColor c) = hex_color c
+abbrev pub color_text : Palette → List ℕ → ColorSpec → List ℕ
+color_text p own color.Default = own
+color_text p own (color.PaletteIndex i) = hex_color (color_at p i)
+color_text p own (color.TrueColor c) = hex_color c
 
 unfoldable pub weight : Intensity → List ℕ
 weight intensity.Normal = []
@@ -122,8 +123,8 @@ line_kind underline.Dotted = codes " dotted"
 line_kind underline.Dashed = codes " dashed"
 
 -- a colour of the lines that isn't the text's
-unfoldable pub line_color : ColorSpec → List ℕ
-line_color c = if is_default c then [] else 32 ∷ color_text [] c
+unfoldable pub line_color : Palette → ColorSpec → List ℕ
+line_color p c = if is_default c then [] else 32 ∷ color_text p [] c
 
 unfoldable pub line_places : Look → List ℕ
 line_places l =
@@ -131,36 +132,37 @@ line_places l =
     ++ ((if l.overline then codes " overline" else [])
     ++ (if l.strike then codes " line-through" else []))
 
-unfoldable pub line_style : Look → List ℕ
-line_style l = line_kind l.underline ++ line_color l.line
+unfoldable pub line_style : Palette → Look → List ℕ
+line_style p l = line_kind l.underline ++ line_color p l.line
 
-unfoldable pub some_lines : Look → List ℕ
-some_lines l = codes "text-decoration:" ++ (line_places l ++ (line_style l ++ 59 ∷ []))
+unfoldable pub some_lines : Palette → Look → List ℕ
+some_lines p l = codes "text-decoration:" ++ (line_places l ++ (line_style p l ++ 59 ∷ []))
 
-unfoldable pub lines : Look → List ℕ
-lines l = if has_line l then some_lines l else []
+unfoldable pub lines : Palette → Look → List ℕ
+lines p l = if has_line l then some_lines p l else []
 
 -- what a colour is of, and the colour, with a name for the page's own
-unfoldable pub property : List ℕ → List ℕ → ColorSpec → List ℕ
-property what own c = what ++ (color_text own c ++ 59 ∷ [])
+unfoldable pub property : Palette → List ℕ → List ℕ → ColorSpec → List ℕ
+property p what own c = what ++ (color_text p own c ++ 59 ∷ [])
 
 -- of one that isn't the page's own
-unfoldable pub colored : List ℕ → ColorSpec → List ℕ
-colored what c = if is_default c then [] else property what [] c
+unfoldable pub colored : Palette → List ℕ → ColorSpec → List ℕ
+colored p what c = if is_default c then [] else property p what [] c
 
--- text and background where they change places: the page's own colours have names then
-unfoldable pub inverse_colors : Look → List ℕ
-inverse_colors l =
-    property (codes "color:") (codes "Canvas") l.background
-    ++ property (codes "background-color:") (codes "CanvasText") l.foreground
+-- text and background where they change places: the page's own colours that aren't given have names then
+unfoldable pub inverse_colors : Palette → Look → List ℕ
+inverse_colors p l =
+    property p (codes "color:") (codes "Canvas") (or_own p.background l.background)
+    ++ property p (codes "background-color:") (codes "CanvasText")
+    (or_own p.foreground l.foreground)
 
-unfoldable pub straight_colors : Look → List ℕ
-straight_colors l =
-    colored (codes "color:") l.foreground ++ colored (codes "background-color:") l.background
+unfoldable pub straight_colors : Palette → Look → List ℕ
+straight_colors p l =
+    colored p (codes "color:") l.foreground ++ colored p (codes "background-color:") l.background
 
-unfoldable pub colors : Look → List ℕ
-colors l = if l.inverse then inverse_colors l else straight_colors l
+unfoldable pub colors : Palette → Look → List ℕ
+colors p l = if l.inverse then inverse_colors p l else straight_colors p l
 
 -- the declarations of a look
-abbrev pub css : Look → List ℕ
-css l = weight l.intensity ++ (slant l.italic ++ (lines l ++ colors l))
+abbrev pub css : Palette → Look → List ℕ
+css p l = weight l.intensity ++ (slant l.italic ++ (lines p l ++ colors p l))

@@ -14,7 +14,10 @@ use Rattle.csicodec_clean.specs.Links.{Address, Begun, all_behind, is_visible, l
 use Rattle.csicodec_clean.specs.Cleaned.{longest}
 use Rattle.csicodec_clean.specs.Styled.{IsOf}
 use Rattle.csicodec_html.specs.declared.look.Look.{Look}
-use Rattle.csicodec_html.specs.Look.{behind_all, css, is_plain, plain, sets_any}
+use Rattle.csicodec_html.specs.declared.markup.Markup.{Markup}
+use Rattle.csicodec_html.specs.Classes.{attributes}
+use Rattle.csicodec_html.specs.Look.{behind_all, is_plain, plain, sets_any}
+use Rattle.csicodec_html.specs.Palette.{xterm}
 
 -- a character on the page: one that HTML could take for markup by its name or number, any other one as UTF-8
 abbrev pub escaped : ℕ → List ℕ
@@ -30,14 +33,14 @@ escaped c =
 -- the one that ends it: there are no others
 pub data Piece : Type 0 where
   Char : ℕ → Piece
-  Begin : Look → Piece
+  Begin : Markup → Look → Piece
   End : Piece
   Open : List ℕ → Piece
   Shut : Piece
 
 abbrev pub piece_text : Piece → List ℕ
 piece_text (Char c) = escaped c
-piece_text (Begin l) = codes "<span style=" ++ (34 ∷ (css l ++ 34 ∷ 62 ∷ []))
+piece_text (Begin m l) = codes "<span" ++ (attributes 34 m l ++ 62 ∷ [])
 piece_text End = codes "</span>"
 piece_text (Open url) = codes "<a href=" ++ (34 ∷ (flat_map escaped url ++ 34 ∷ 62 ∷ []))
 piece_text Shut = codes "</a>"
@@ -49,21 +52,21 @@ piece_texts pieces = flat_map piece_text pieces
 abbrev pub chars_of : List Piece → List ℕ
 chars_of [] = []
 chars_of (Char c ∷ pieces) = c ∷ chars_of pieces
-chars_of (Begin l ∷ pieces) = chars_of pieces
+chars_of (Begin m l ∷ pieces) = chars_of pieces
 chars_of (End ∷ pieces) = chars_of pieces
 chars_of (Open url ∷ pieces) = chars_of pieces
 chars_of (Shut ∷ pieces) = chars_of pieces
 
 -- a span stands around what looks otherwise than plain text
-abbrev pub begins : Look → List Piece
-begins l = if is_plain l then [] else Begin l ∷ []
+abbrev pub begins : Markup → Look → List Piece
+begins m l = if is_plain l then [] else Begin m l ∷ []
 
 abbrev pub ends : Look → List Piece
 ends l = if is_plain l then [] else End ∷ []
 
 -- where attributes come, the span of the look before them is ended, and one of the look behind them is begun
-abbrev pub turn : Bool → Look → Look → List Piece
-turn comes old new = if comes then ends old ++ begins new else []
+abbrev pub turn : Markup → Bool → Look → Look → List Piece
+turn m comes old new = if comes then ends old ++ begins m new else []
 
 -- an address of http or https
 abbrev pub is_web : List ℕ → Bool
@@ -83,40 +86,40 @@ abbrev pub shuts : List ℕ → List Piece
 shuts to = if leads to then Shut ∷ [] else []
 
 -- where a link comes, the span that is open is ended, so is the link before it, the new one is begun, and then the span once more
-abbrev pub switch : Look → List ℕ → List ℕ → List Piece
-switch l old new =
-    if leads old || leads new then ends l ++ (shuts old ++ (opens new ++ begins l)) else []
+abbrev pub switch : Markup → Look → List ℕ → List ℕ → List Piece
+switch m l old new =
+    if leads old || leads new then ends l ++ (shuts old ++ (opens new ++ begins m l)) else []
 
 -- the same of links in turn, and where text leads behind them
-abbrev pub switches : Look → List ℕ → List Address → List Piece
-switches l to [] = []
-switches l to (a ∷ links) = switch l to (led a.url) ++ switches l (led a.url) links
+abbrev pub switches : Markup → Look → List ℕ → List Address → List Piece
+switches m l to [] = []
+switches m l to (a ∷ links) = switch m l to (led a.url) ++ switches m l (led a.url) links
 
 abbrev pub led_by : List ℕ → List Address → List ℕ
 led_by to [] = to
 led_by to (a ∷ links) = led_by (led a.url) links
 
--- what a page goes by: whether links pass, how text looks, where it leads, and what has come of a link
+-- what a page goes by: what becomes markup, how text looks, where it leads, and what has come of a link
 pub record Setting : Type 0 where
-  pub links : Bool
+  pub markup : Markup
   pub look : Look
   pub to : List ℕ
   pub begun : Begun
 
-abbrev pub setting : Bool → Look → List ℕ → Begun → Setting
-setting links l to b = record { links = links; look = l; to = to; begun = b }
+abbrev pub setting : Markup → Look → List ℕ → Begun → Setting
+setting m l to b = record { markup = m; look = l; to = to; begun = b }
 
-abbrev pub first_set : Bool → Setting
-first_set links = setting links plain [] start
+abbrev pub first_set : Markup → Setting
+first_set m = setting m plain [] start
 
 -- behind the actions of a control sequence, and behind bytes of a control string
 abbrev pub behind_actions : Setting → List Action → Setting
-behind_actions s actions = setting s.links (behind_all s.look actions) s.to s.begun
+behind_actions s actions = setting s.markup (behind_all s.look actions) s.to s.begun
 
 abbrev pub behind_string : Setting → List ℕ → Setting
 behind_string s bytes =
-    setting s.links s.look (led_by s.to (links_in s.links s.begun bytes))
-    (all_behind s.links s.begun bytes)
+    setting s.markup s.look (led_by s.to (links_in s.markup.links s.begun bytes))
+    (all_behind s.markup.links s.begun bytes)
 
 -- what is open is ended
 abbrev pub closing : Setting → List Piece
@@ -131,9 +134,10 @@ shown_pieces run = map Char (filter shown (lossy_chars run))
 abbrev pub Leaves : Setting → Kind → List ℕ → List Piece → Setting → Type 0
 Leaves s kind.Csi bytes own after = (actions : List Action) × IsOf bytes actions
     × (after ≡ behind_actions s actions)
-    × (own ≡ turn (sets_any actions) s.look (behind_all s.look actions))
+    × (own ≡ turn s.markup (sets_any actions) s.look (behind_all s.look actions))
 Leaves s kind.Str bytes own after =
-    (own ≡ switches s.look s.to (links_in s.links s.begun bytes)) × (after ≡ behind_string s bytes)
+    (own ≡ switches s.markup s.look s.to (links_in s.markup.links s.begun bytes))
+    × (after ≡ behind_string s bytes)
 Leaves s kind.Text bytes own after = (own ≡ []) × (after ≡ s)
 Leaves s kind.Esc bytes own after = (own ≡ []) × (after ≡ s)
 Leaves s kind.Other bytes own after = (own ≡ []) × (after ≡ s)
@@ -156,17 +160,20 @@ AreLeft s run (p ∷ parts) pieces =
     × (pieces ≡ pieces_behind p.kind run ++ (own ++ others))
     × AreLeft after (run_behind p.kind run p.bytes) parts others
 
--- the page that the bytes are, where links pass or not
-pub record PageWith (links : Bool) (bytes page : List ℕ) : Type 0 where
+-- the page that the bytes are, by what becomes markup
+pub record PageWith (m : Markup) (bytes page : List ℕ) : Type 0 where
   pub parts : List Part
   pub whole : IsWhole longest mode.Text bytes parts
   pub pieces : List Piece
-  pub left : AreLeft (first_set links) [] (with_titles false parts) pieces
+  pub left : AreLeft (first_set m) [] (with_titles false parts) pieces
   pub all : page ≡ piece_texts pieces
 
--- without links
+-- without links, with styles in place of classes, and xterm's palette
+abbrev pub simple : Markup
+simple = record { links = false; classes = false; palette = xterm }
+
 abbrev pub PageOf : List ℕ → List ℕ → Type 0
-PageOf bytes page = PageWith false bytes page
+PageOf bytes page = PageWith simple bytes page
 
 -- an address that a page may lead to: of http or https, and short, of visible characters of ASCII
 pub record IsLed (url : List ℕ) : Type 0 where
@@ -174,20 +181,20 @@ pub record IsLed (url : List ℕ) : Type 0 where
   pub visible : AllByRecursion (λ b. is_visible b ≡ true) url
   pub short : length url ≤ longest_url
 
--- a character that is shown, or a tag
-abbrev pub IsSafe : Bool → Piece → Type 0
-IsSafe links (Char c) = IsShown c × IsScalar c
-IsSafe links (Begin l) = is_plain l ≡ false
-IsSafe links End = ⊤
-IsSafe links (Open url) = (links ≡ true) × IsLed url
-IsSafe links Shut = ⊤
+-- a character that is shown, or a tag of such a page
+abbrev pub IsSafe : Markup → Piece → Type 0
+IsSafe m (Char c) = IsShown c × IsScalar c
+IsSafe m (Begin n l) = (n ≡ m) × (is_plain l ≡ false)
+IsSafe m End = ⊤
+IsSafe m (Open url) = (m.links ≡ true) × IsLed url
+IsSafe m Shut = ⊤
 
 -- The tags are in pairs, in a link or not, in a span or not: a span has nothing in it but text, a link text and spans, and each is
 -- ended.
 abbrev pub are_paired : Bool → Bool → List Piece → Bool
 are_paired linked spanned [] = not (linked || spanned)
 are_paired linked spanned (Char c ∷ pieces) = are_paired linked spanned pieces
-are_paired linked spanned (Begin l ∷ pieces) =
+are_paired linked spanned (Begin m l ∷ pieces) =
     if spanned then false else are_paired linked true pieces
 are_paired linked spanned (End ∷ pieces) =
     if spanned then are_paired linked false pieces else false
@@ -197,15 +204,14 @@ are_paired linked spanned (Shut ∷ pieces) =
     if linked && not spanned then are_paired false false pieces else false
 
 -- a page of such pieces alone
-pub record IsPageWith (links : Bool) (page : List ℕ) : Type 0 where
+pub record IsPageWith (m : Markup) (page : List ℕ) : Type 0 where
   pub pieces : List Piece
-  pub safe : AllByRecursion (IsSafe links) pieces
+  pub safe : AllByRecursion (IsSafe m) pieces
   pub paired : are_paired false false pieces ≡ true
   pub all : page ≡ piece_texts pieces
 
--- without links
 abbrev pub IsPage : List ℕ → Type 0
-IsPage page = IsPageWith false page
+IsPage page = IsPageWith simple page
 
 -- a byte that may stand in an attribute: none of the five characters that are escaped, and no control
 abbrev pub is_harmless : ℕ → Bool

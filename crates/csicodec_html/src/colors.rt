@@ -2,8 +2,8 @@
 ghost use Rattle.std.specs.Prelude.{◌≡◌, ◌<◌, ◌++◌, OnOk};
 ghost use Rattle.csicodec_html.specs.Look.{color_text, hex_color, hex_digit, two_digits};
 
+use crate::palette::Palette;
 use csicodec_base::{ColorSpec, SrgbaTuple};
-use csicodec_clean::palette;
 use std::alloc::AllocError;
 
 /// A digit of base sixteen.
@@ -22,7 +22,7 @@ fn append_part(part: u8, out: &mut Vec<u8>) -> Result<(), AllocError>
 }
 
 /// Appends a colour by its parts. Its alpha isn't looked at.
-fn append_parts(color: SrgbaTuple, out: &mut Vec<u8>) -> Result<(), AllocError>
+pub(crate) fn append_parts(color: SrgbaTuple, out: &mut Vec<u8>) -> Result<(), AllocError>
     ensures { OnOk result (out.new.items ≡ out.old.items ++ hex_color color) }
 {
     out.push(b'#')?;
@@ -33,15 +33,16 @@ fn append_parts(color: SrgbaTuple, out: &mut Vec<u8>) -> Result<(), AllocError>
 
 /// Appends a colour, for which `own` stands where it is the page's own.
 pub(crate) fn append_color(
+    palette: &Palette,
     own: &[u8],
     color: ColorSpec,
     out: &mut Vec<u8>,
 ) -> Result<(), AllocError>
-    ensures { OnOk result (out.new.items ≡ out.old.items ++ color_text own.now color) }
+    ensures { OnOk result (out.new.items ≡ out.old.items ++ color_text palette.now own.now color) }
 {
     match color {
         ColorSpec::Default => out.extend_from_slice(own),
-        ColorSpec::PaletteIndex(index) => append_parts(palette(index), out),
+        ColorSpec::PaletteIndex(index) => append_parts(palette.color(index), out),
         ColorSpec::TrueColor(color) => append_parts(color, out),
     }
 }

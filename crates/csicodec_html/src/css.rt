@@ -4,6 +4,7 @@ ghost use Rattle.csicodec_html.specs.Look.{colored, colors, css, inverse_colors,
 
 use crate::colors::append_color;
 use crate::look::{Look, is_default, is_none};
+use crate::palette::{Palette, or_own};
 use csicodec_base::{ColorSpec, Intensity, Underline};
 use std::alloc::AllocError;
 
@@ -45,14 +46,18 @@ fn append_line_kind(underline: Underline, out: &mut Vec<u8>) -> Result<(), Alloc
 
 /// Appends the colour of the lines, if it isn't the text's.
 #[tactic(auto, unfolding(crate::specs::Look::line_color))]
-fn append_line_color(color: ColorSpec, out: &mut Vec<u8>) -> Result<(), AllocError>
-    ensures { OnOk result (out.new.items ≡ out.old.items ++ line_color color) }
+fn append_line_color(
+    palette: &Palette,
+    color: ColorSpec,
+    out: &mut Vec<u8>,
+) -> Result<(), AllocError>
+    ensures { OnOk result (out.new.items ≡ out.old.items ++ line_color palette.now color) }
 {
     if is_default(color) {
         return Ok(());
     }
     out.push(b' ')?;
-    append_color(&[], color, out)
+    append_color(palette, &[], color, out)
 }
 
 /// Appends where there are lines.
@@ -67,97 +72,105 @@ fn append_line_places(look: Look, out: &mut Vec<u8>) -> Result<(), AllocError>
 
 /// Appends how they look.
 #[tactic(auto, unfolding(crate::specs::Look::line_style))]
-fn append_line_style(look: Look, out: &mut Vec<u8>) -> Result<(), AllocError>
-    ensures { OnOk result (out.new.items ≡ out.old.items ++ line_style look) }
+fn append_line_style(palette: &Palette, look: Look, out: &mut Vec<u8>) -> Result<(), AllocError>
+    ensures { OnOk result (out.new.items ≡ out.old.items ++ line_style palette.now look) }
 {
     append_line_kind(look.underline, out)?;
-    append_line_color(look.line, out)
+    append_line_color(palette, look.line, out)
 }
 
 /// Appends lines, of which there is one at least.
 #[tactic(auto, unfolding(crate::specs::Look::some_lines))]
-fn append_some_lines(look: Look, out: &mut Vec<u8>) -> Result<(), AllocError>
-    ensures { OnOk result (out.new.items ≡ out.old.items ++ some_lines look) }
+fn append_some_lines(palette: &Palette, look: Look, out: &mut Vec<u8>) -> Result<(), AllocError>
+    ensures { OnOk result (out.new.items ≡ out.old.items ++ some_lines palette.now look) }
 {
     out.extend_from_slice(b"text-decoration:")?;
     append_line_places(look, out)?;
-    append_line_style(look, out)?;
+    append_line_style(palette, look, out)?;
     Ok(out.push(b';')?)
 }
 
 /// Appends the lines.
 #[tactic(auto, unfolding(crate::specs::Look::lines))]
-fn append_lines(look: Look, out: &mut Vec<u8>) -> Result<(), AllocError>
-    ensures { OnOk result (out.new.items ≡ out.old.items ++ lines look) }
+fn append_lines(palette: &Palette, look: Look, out: &mut Vec<u8>) -> Result<(), AllocError>
+    ensures { OnOk result (out.new.items ≡ out.old.items ++ lines palette.now look) }
 {
     if !look.has_line() {
         return Ok(());
     }
-    append_some_lines(look, out)
+    append_some_lines(palette, look, out)
 }
 
 /// Appends what a colour is of, and the colour, for which `own` stands where it is the page's own.
 #[tactic(auto, unfolding(crate::specs::Look::property))]
-fn append_property(
+pub(crate) fn append_property(
+    palette: &Palette,
     what: &[u8],
     own: &[u8],
     color: ColorSpec,
     out: &mut Vec<u8>,
 ) -> Result<(), AllocError>
-    ensures { OnOk result (out.new.items ≡ out.old.items ++ property what.now own.now color) }
+    ensures { OnOk result (out.new.items ≡ out.old.items ++ property palette.now what.now own.now color) }
 {
     out.extend_from_slice(what)?;
-    append_color(own, color, out)?;
+    append_color(palette, own, color, out)?;
     Ok(out.push(b';')?)
 }
 
 /// Appends the same of a colour that isn't the page's own.
 #[tactic(auto, unfolding(crate::specs::Look::colored))]
-fn append_colored(what: &[u8], color: ColorSpec, out: &mut Vec<u8>) -> Result<(), AllocError>
-    ensures { OnOk result (out.new.items ≡ out.old.items ++ colored what.now color) }
+fn append_colored(
+    palette: &Palette,
+    what: &[u8],
+    color: ColorSpec,
+    out: &mut Vec<u8>,
+) -> Result<(), AllocError>
+    ensures { OnOk result (out.new.items ≡ out.old.items ++ colored palette.now what.now color) }
 {
     if is_default(color) {
         return Ok(());
     }
-    append_property(what, &[], color, out)
+    append_property(palette, what, &[], color, out)
 }
 
 /// Appends the colours of text and background where they change places.
 #[tactic(auto, unfolding(crate::specs::Look::inverse_colors))]
-fn append_inverse(look: Look, out: &mut Vec<u8>) -> Result<(), AllocError>
-    ensures { OnOk result (out.new.items ≡ out.old.items ++ inverse_colors look) }
+fn append_inverse(palette: &Palette, look: Look, out: &mut Vec<u8>) -> Result<(), AllocError>
+    ensures { OnOk result (out.new.items ≡ out.old.items ++ inverse_colors palette.now look) }
 {
-    append_property(b"color:", b"Canvas", look.background, out)?;
-    append_property(b"background-color:", b"CanvasText", look.foreground, out)
+    let text = or_own(palette.background, look.background);
+    let ground = or_own(palette.foreground, look.foreground);
+    append_property(palette, b"color:", b"Canvas", text, out)?;
+    append_property(palette, b"background-color:", b"CanvasText", ground, out)
 }
 
 /// Appends them where they don't.
 #[tactic(auto, unfolding(crate::specs::Look::straight_colors))]
-fn append_straight(look: Look, out: &mut Vec<u8>) -> Result<(), AllocError>
-    ensures { OnOk result (out.new.items ≡ out.old.items ++ straight_colors look) }
+fn append_straight(palette: &Palette, look: Look, out: &mut Vec<u8>) -> Result<(), AllocError>
+    ensures { OnOk result (out.new.items ≡ out.old.items ++ straight_colors palette.now look) }
 {
-    append_colored(b"color:", look.foreground, out)?;
-    append_colored(b"background-color:", look.background, out)
+    append_colored(palette, b"color:", look.foreground, out)?;
+    append_colored(palette, b"background-color:", look.background, out)
 }
 
 /// Appends the colours of text and background.
 #[tactic(auto, unfolding(crate::specs::Look::colors))]
-fn append_colors(look: Look, out: &mut Vec<u8>) -> Result<(), AllocError>
-    ensures { OnOk result (out.new.items ≡ out.old.items ++ colors look) }
+fn append_colors(palette: &Palette, look: Look, out: &mut Vec<u8>) -> Result<(), AllocError>
+    ensures { OnOk result (out.new.items ≡ out.old.items ++ colors palette.now look) }
 {
     if look.inverse {
-        append_inverse(look, out)
+        append_inverse(palette, look, out)
     } else {
-        append_straight(look, out)
+        append_straight(palette, look, out)
     }
 }
 
 /// Appends the declarations of a look.
-pub(crate) fn append_css(look: Look, out: &mut Vec<u8>) -> Result<(), AllocError>
-    ensures { OnOk result (out.new.items ≡ out.old.items ++ css look) }
+pub(crate) fn append_css(palette: &Palette, look: Look, out: &mut Vec<u8>) -> Result<(), AllocError>
+    ensures { OnOk result (out.new.items ≡ out.old.items ++ css palette.now look) }
 {
     append_weight(look.intensity, out)?;
     append_if(look.italic, b"font-style:italic;", out)?;
-    append_lines(look, out)?;
-    append_colors(look, out)
+    append_lines(palette, look, out)?;
+    append_colors(palette, look, out)
 }

@@ -1,27 +1,33 @@
 //! Laws of the definitions. Each is the contract of a function that does nothing.
-ghost use Rattle.std.specs.Prelude.{◌≡◌, Bool, ℕ, List, encode_utf8_all, true};
+ghost use Rattle.std.specs.Prelude.{◌≡◌, ℕ, List, encode_utf8_all, true};
 ghost use Rattle.std.specs.List.{AllByRecursion, flat_map};
 ghost use Rattle.csicodec_clean.specs.Cleaned.{Strips, longest};
 ghost use Rattle.csicodec_clean.specs.Links.{is_visible};
+ghost use Rattle.csicodec_html.specs.Classes.{class_name, true_colors};
 ghost use Rattle.csicodec_html.specs.Look.{css};
 ghost use Rattle.csicodec_html.specs.Page.{IsHarmless, IsQuoted, PageWith, chars_of, escaped};
+ghost use Rattle.csicodec_html.specs.declared.classes.Class.{Class};
 ghost use Rattle.csicodec_html.specs.declared.look.Look.{Look};
+ghost use Rattle.csicodec_html.specs.declared.markup.Markup.{Markup};
+ghost use Rattle.csicodec_html.specs.declared.palette.Palette.{Palette};
 
 /// The characters of a page are those that the bytes are stripped to: none is lost, and none is added.
 pub fn text_stays()
-    ensures { (links : Bool) (bytes page text : List ℕ) (p : PageWith links bytes page)
+    ensures { (m : Markup) (bytes page text : List ℕ) (p : PageWith m bytes page)
         → Strips longest bytes text → text ≡ encode_utf8_all (chars_of p.pieces) }
 {}
 
 /// No byte of an attribute ends it, or begins a tag; a reference is one of the five by which characters are escaped, in an address.
 pub fn attributes_end()
-    ensures styles { (l : Look) → AllByRecursion IsHarmless (css l) }
+    ensures styles { (p : Palette) (l : Look) → AllByRecursion IsHarmless (css p l) }
     ensures addresses { (url : List ℕ) → AllByRecursion (λ b. is_visible b ≡ true) url
         → AllByRecursion IsQuoted (flat_map escaped url) }
+    ensures classes { (c : Class) → AllByRecursion IsHarmless (class_name c) }
+    ensures colors { (l : Look) → AllByRecursion IsHarmless (true_colors l) }
 {}
 
-/// Bytes are one page, with links and without.
+/// Bytes are one page, whatever becomes markup.
 pub fn one_page()
-    ensures { (links : Bool) (bytes page other : List ℕ) → PageWith links bytes page
-        → PageWith links bytes other → page ≡ other }
+    ensures { (m : Markup) (bytes page other : List ℕ) → PageWith m bytes page
+        → PageWith m bytes other → page ≡ other }
 {}

@@ -1,16 +1,26 @@
 //! Terminal streams as HTML: the text, escaped, its attributes as spans, and its links. Nothing else of a stream gets into a tag.
 #![tactic(auto)]
 
+mod attributes;
+mod classes;
 mod colors;
 mod css;
+mod given;
 pub mod laws;
 mod links;
 mod look;
+mod markup;
 mod page;
+mod palette;
 mod rule;
 mod run;
+mod sheet;
 mod tags;
 
+pub use given::{given_color, given_palette};
 pub use look::Look;
-pub use page::{Markup, html, html_with};
-pub use run::{BEHIND, FRONT, html_all, html_all_with};
+pub use markup::Markup;
+pub use page::{html, html_with};
+pub use palette::Palette;
+pub use run::{html_all, html_all_with};
+pub use sheet::{BEHIND, BODY, HEAD, RULES, front};

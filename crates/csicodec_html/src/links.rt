@@ -5,6 +5,7 @@ ghost use Rattle.csicodec_html.specs.Page.{is_web, leads, led, led_by, switch, s
 ghost use Rattle.csicodec_html.specs.Private.Marked.{all_marked};
 
 use crate::look::Look;
+use crate::markup::Markup;
 use crate::tags::{append_begin, append_end, append_open, append_shut, leads};
 use csicodec_clean::{LinkReader, ends_link};
 use std::alloc::{AllocError, Global};
@@ -31,9 +32,15 @@ fn leads_any(old: &[u8], new: &[u8]) -> bool
 }
 
 /// Appends the tags between text that leads to one place and text that leads to another.
-fn append_switch(look: Look, old: &[u8], new: &[u8], out: &mut Vec<u8>) -> Result<(), AllocError>
+fn append_switch(
+    markup: &Markup,
+    look: Look,
+    old: &[u8],
+    new: &[u8],
+    out: &mut Vec<u8>,
+) -> Result<(), AllocError>
     ensures { OnOk result
-        (out.new.items ≡ out.old.items ++ all_marked (switch look old.now new.now)) }
+        (out.new.items ≡ out.old.items ++ all_marked (switch markup.now look old.now new.now)) }
 {
     let comes = leads_any(old, new);
     if !comes {
@@ -42,13 +49,14 @@ fn append_switch(look: Look, old: &[u8], new: &[u8], out: &mut Vec<u8>) -> Resul
     append_end(look, out)?;
     append_shut(old, out)?;
     append_open(new, out)?;
-    append_begin(look, out)
+    append_begin(markup, look, out)
 }
 
 /// Appends them for a link that is over, and sets where it leads.
 fn follow(
     over: bool,
     url: &[u8],
+    markup: &Markup,
     look: Look,
     to: &mut Vec<u8>,
     out: &mut Vec<u8>,
@@ -56,14 +64,14 @@ fn follow(
     ensures text { OnOk result
         (out.new.items
         ≡ out.old.items
-        ++ all_marked (if over then switch look to.old.items (led url.now) else [])) }
+        ++ all_marked (if over then switch markup.now look to.old.items (led url.now) else [])) }
     ensures to { OnOk result (to.new.items ≡ (if over then led url.now else to.old.items)) }
 {
     if !over {
         return Ok(());
     }
     let new = led(url);
-    append_switch(look, to, new, out)?;
+    append_switch(markup, look, to, new, out)?;
     to.clear();
     to.extend_from_slice(new)
 }
@@ -90,12 +98,18 @@ impl Lead {
     }
 
     /// Takes the next byte of a control string, and appends the tags for the link that is over with it.
-    fn append_byte(&mut self, look: Look, byte: u8, out: &mut Vec<u8>) -> Result<(), AllocError>
+    fn append_byte(
+        &mut self,
+        markup: &Markup,
+        look: Look,
+        byte: u8,
+        out: &mut Vec<u8>,
+    ) -> Result<(), AllocError>
         ensures text { OnOk result
             (out.new.items
             ≡ out.old.items
             ++ all_marked
-            (switches look self.old.to.items
+            (switches markup.now look self.old.to.items
             (links_at true
             (begun self.old.next.place self.old.next.params.items self.old.next.url.items) byte))) }
         ensures to { OnOk result
@@ -109,13 +123,14 @@ impl Lead {
             (begun self.old.next.place self.old.next.params.items self.old.next.url.items) byte) }
     {
         let over = ends_link(self.next.place, byte);
-        follow(over, &self.next.url, look, &mut self.to, out)?;
+        follow(over, &self.next.url, markup, look, &mut self.to, out)?;
         self.next.take(byte)
     }
 
     /// Takes bytes of a control string in turn, and appends the tags for each link that is over with them.
     pub(crate) fn append_links(
         &mut self,
+        markup: &Markup,
         look: Look,
         bytes: &[u8],
         out: &mut Vec<u8>,
@@ -124,7 +139,7 @@ impl Lead {
             (out.new.items
             ≡ out.old.items
             ++ all_marked
-            (switches look self.old.to.items
+            (switches markup.now look self.old.to.items
             (links_in true
             (begun self.old.next.place self.old.next.params.items self.old.next.url.items)
             bytes.now))) }
@@ -141,7 +156,7 @@ impl Lead {
             bytes.now) }
     {
         for byte in bytes {
-            self.append_byte(look, *byte, out)?;
+            self.append_byte(markup, look, *byte, out)?;
         }
         Ok(())
     }

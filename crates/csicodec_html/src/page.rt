@@ -3,6 +3,7 @@ ghost use Rattle.std.specs.Prelude.{◌≡◌, ◌++◌, ◌∷◌, [], ℕ, Lis
 ghost use Rattle.csicodec_html.specs.Page.{IsPage, IsPageWith, PageOf, PageWith};
 ghost use Rattle.csicodec_html.specs.Private.Marked.{page_byte, page_bytes};
 
+use crate::markup::Markup;
 use crate::rule::Spans;
 use csicodec_clean::Cleaner;
 use std::alloc::{AllocError, Global};
@@ -36,19 +37,11 @@ pub(crate) fn append_page(bytes: &[u8], out: &mut Vec<u8>) -> Result<(), AllocEr
     Ok(())
 }
 
-/// What becomes markup, beside attributes.
-#[derive(Clone, Copy, PartialEq, Eq, Debug)]
-pub struct Markup {
-    /// Whether links (OSC 8) do: those of http and https whose address is visible ASCII, of at most 2,083 bytes, with at most 256 bytes
-    /// of parameters.
-    pub links: bool,
-}
-
 /// The text of untrusted bytes as a piece of a page of HTML: what `strip` leaves of them, with `&`, `<`, `>`, `"` and `'` as references,
 /// and what has attributes (SGR) in spans with a `style`. It stands well in a `pre`.
 ///
 /// Of the attributes it shows bold, faint, italic, lines below of each kind and their colours, lines above and through, inverse, and
-/// colours: those of the palette as xterm has them, and those by their parts without their alpha. What is concealed is shown. A span
+/// colours: those of numbers as xterm has them, and those by their parts without their alpha. What is concealed is shown. A span
 /// is ended before another begins, and at the end.
 ///
 /// ```text
@@ -60,21 +53,21 @@ pub fn html(alloc: Global, bytes: &[u8]) -> Result<Vec<u8>, AllocError>
     // It has characters that are shown, escaped, and tags of spans in pairs, and nothing else.
     ensures safe { IfOk result (λ out. IsPage out.items) }
 {
-    html_with(alloc, Markup { links: false }, bytes)
+    html_with(alloc, Markup::default(), bytes)
 }
 
 /// The same with what becomes markup. A link stands around the spans of its text, and is ended before another begins, and at the end.
 ///
 /// ```text
-/// let markup = Markup { links: true };
+/// let markup = Markup { links: true, ..Markup::default() };
 /// html_with(alloc, markup, b"\x1b]8;;http://a.example/?b&c\x07d")?      // "<a href=\"http://a.example/?b&amp;c\">d</a>"
 /// ```
 pub fn html_with(alloc: Global, markup: Markup, bytes: &[u8]) -> Result<Vec<u8>, AllocError>
-    ensures exact { IfOk result (λ out. PageWith markup.links bytes.now out.items) }
+    ensures exact { IfOk result (λ out. PageWith markup bytes.now out.items) }
     // Beside those it has tags of links in pairs, to addresses that a page may lead to.
-    ensures safe { IfOk result (λ out. IsPageWith markup.links out.items) }
+    ensures safe { IfOk result (λ out. IsPageWith markup out.items) }
 {
-    let mut cleaner = Cleaner::new(alloc, Spans::new(alloc, markup.links));
+    let mut cleaner = Cleaner::new(alloc, Spans::new(alloc, markup));
     let mut marked = Vec::new(alloc);
     cleaner.push(bytes, &mut marked)?;
     cleaner.finish(&mut marked)?;

@@ -7,6 +7,7 @@ ghost use Rattle.csicodec_html.specs.Private.Marked.{all_marked};
 
 use crate::links::Lead;
 use crate::look::Look;
+use crate::markup::Markup;
 use crate::tags::{append_begin, append_end, append_shut};
 use csicodec::CSI;
 use csicodec_base::CsiParam;
@@ -66,21 +67,27 @@ fn sets_any(actions: &[CSI]) -> bool
 }
 
 /// Appends the tags between two looks, if attributes come.
-fn append_turn(comes: bool, old: Look, new: Look, out: &mut Vec<u8>) -> Result<(), AllocError>
-    ensures { OnOk result (out.new.items ≡ out.old.items ++ all_marked (turn comes old new)) }
+fn append_turn(
+    markup: &Markup,
+    comes: bool,
+    old: Look,
+    new: Look,
+    out: &mut Vec<u8>,
+) -> Result<(), AllocError>
+    ensures { OnOk result (out.new.items ≡ out.old.items ++ all_marked (turn markup.now comes old new)) }
 {
     if !comes {
         return Ok(());
     }
     append_end(old, out)?;
-    append_begin(new, out)
+    append_begin(markup, new, out)
 }
 
 /// The rule that turns attributes into spans, and links, where they pass, into links of the page.
 #[derive(Drop)]
 pub(crate) struct Spans {
     alloc: Global,
-    links: bool,
+    markup: Markup,
     look: Look,
     lead: Lead,
     /// A place that is kept for the actions of a sequence.
@@ -93,18 +100,18 @@ impl Model for Spans {
 
     ghost Value = { Setting };
 
-    ghost view = { λ s. setting s.links s.look s.lead.to.items
+    ghost view = { λ s. setting s.markup s.look s.lead.to.items
         (begun s.lead.next.place s.lead.next.params.items s.lead.next.url.items) };
 }
 
 impl Spans {
     /// At the beginning of a stream.
-    pub(crate) fn new(alloc: Global, links: bool) -> Spans
-        ensures { result ≡ first_set links }
+    pub(crate) fn new(alloc: Global, markup: Markup) -> Spans
+        ensures { result ≡ first_set markup }
     {
         Spans {
             alloc,
-            links,
+            markup,
             look: Look::plain(),
             lead: Lead::new(alloc),
             actions: Vec::new(alloc),
@@ -129,7 +136,7 @@ impl Rule for Spans {
         self.actions.clear();
         parse_into(self.alloc, params, false, control, &mut self.actions)?;
         let new = behind_each(self.look, &self.actions);
-        append_turn(sets_any(&self.actions), self.look, new, out)?;
+        append_turn(&self.markup, sets_any(&self.actions), self.look, new, out)?;
         self.look = new;
         Ok(())
     }
@@ -144,10 +151,10 @@ impl Rule for Spans {
     }
 
     fn string(&mut self, bytes: &[u8], out: &mut Vec<u8>) -> Result<(), AllocError> {
-        if !self.links {
+        if !self.markup.links {
             return Ok(());
         }
-        self.lead.append_links(self.look, bytes, out)?;
+        self.lead.append_links(&self.markup, self.look, bytes, out)?;
         Ok(())
     }
 

@@ -4,7 +4,8 @@ ghost use Rattle.std.specs.Io.KnownBytes.{Appends, Consumes, IsAtEnd};
 ghost use Rattle.csicodec_html.specs.Page.{IsPage, IsPageWith, PageOf, PageWith, first_set};
 ghost use Rattle.csicodec_clean.specs.Stream.{start_of};
 
-use crate::page::{Markup, append_page};
+use crate::markup::Markup;
+use crate::page::append_page;
 use crate::rule::Spans;
 use csicodec_clean::Cleaner;
 use csicodec_filter::{Transform, transform_all};
@@ -12,23 +13,6 @@ use csicodec_streams::RunError;
 use std::alloc::{AllocError, Global};
 use std::io::{Read, Write};
 use std::marker::Model;
-
-/// What stands ahead of the pieces of a page of their own.
-pub const FRONT: &str = "<!DOCTYPE html>
-<html>
-<head>
-<meta charset=\"utf-8\">
-<meta name=\"color-scheme\" content=\"light dark\">
-<title>csicodec</title>
-</head>
-<body>
-<pre>";
-
-/// What stands behind them.
-pub const BEHIND: &str = "</pre>
-</body>
-</html>
-";
 
 /// A stream that becomes a page as it comes.
 #[derive(Drop)]
@@ -47,10 +31,10 @@ impl Model for Page {
 
 impl Page {
     /// Of which nothing has come.
-    fn new(alloc: Global, links: bool) -> Page
-        ensures { result ≡ start_of (first_set links) }
+    fn new(alloc: Global, markup: Markup) -> Page
+        ensures { result ≡ start_of (first_set markup) }
     {
-        let cleaner = Cleaner::new(alloc, Spans::new(alloc, links));
+        let cleaner = Cleaner::new(alloc, Spans::new(alloc, markup));
         Page { cleaner }
     }
 }
@@ -112,7 +96,7 @@ pub fn html_all<R: Read, W: Write>(
         × PageOf bytes (sent ++ unsent) × IsPage (sent ++ unsent)
         × Appends (W.contents output.old) (W.contents output.new) sent) }
 {
-    html_all_with(alloc, Markup { links: false }, input, output)
+    html_all_with(alloc, Markup::default(), input, output)
 }
 
 /// The same with what becomes markup, as [`html_with`](crate::html_with) makes it.
@@ -125,14 +109,14 @@ pub fn html_all_with<R: Read, W: Write>(
     ensures ok { OnOk result
         ((bytes : List ℕ) × (page : List ℕ)
         × Consumes (R.remaining input.old) (R.remaining input.new) bytes
-        × PageWith markup.links bytes page × IsPageWith markup.links page
+        × PageWith markup bytes page × IsPageWith markup page
         × Appends (W.contents output.old) (W.contents output.new) page) }
     ensures end { OnOk result (IsAtEnd (R.remaining input.new)) }
     ensures front { OnErr result
         ((bytes : List ℕ) × (more : List ℕ) × (sent : List ℕ) × (unsent : List ℕ)
         × Consumes (R.remaining input.old) (R.remaining input.new) (bytes ++ more)
-        × PageWith markup.links bytes (sent ++ unsent) × IsPageWith markup.links (sent ++ unsent)
+        × PageWith markup bytes (sent ++ unsent) × IsPageWith markup (sent ++ unsent)
         × Appends (W.contents output.old) (W.contents output.new) sent) }
 {
-    transform_all(alloc, Page::new(alloc, markup.links), input, output)
+    transform_all(alloc, Page::new(alloc, markup), input, output)
 }

@@ -3,21 +3,21 @@ ghost use Rattle.std.specs.Prelude.{◌≡◌, ◌++◌, OnOk};
 ghost use Rattle.csicodec_html.specs.Page.{begins, ends, leads, opens, shuts};
 ghost use Rattle.csicodec_html.specs.Private.Marked.{all_marked};
 
-use crate::css::append_css;
+use crate::attributes::append_attributes;
 use crate::look::Look;
+use crate::markup::Markup;
 use std::alloc::AllocError;
 
 /// Appends the tag that begins a span of this look, if that has one.
-pub(crate) fn append_begin(look: Look, out: &mut Vec<u8>) -> Result<(), AllocError>
-    ensures { OnOk result (out.new.items ≡ out.old.items ++ all_marked (begins look)) }
+pub(crate) fn append_begin(markup: &Markup, look: Look, out: &mut Vec<u8>) -> Result<(), AllocError>
+    ensures { OnOk result (out.new.items ≡ out.old.items ++ all_marked (begins markup.now look)) }
 {
     if look.is_plain() {
         return Ok(());
     }
-    out.extend_from_slice(b"\x01span style=\x03")?;
-    append_css(look, out)?;
-    out.extend_from_slice(b"\x03\x02")?;
-    Ok(())
+    out.extend_from_slice(b"\x01span")?;
+    append_attributes(markup, look, out)?;
+    Ok(out.push(2)?)
 }
 
 /// Appends the tag that ends a span of this look, if that has one.

@@ -5,8 +5,9 @@
 
 mod cast;
 mod check;
+mod palette;
 
-use cast::{Stage, html_cast, rewrite_cast};
+use cast::{Stage, html_cast, no_memory, rewrite_cast};
 use check::{check_cast, check_stream};
 use csicodec_clean::{Cleaner, Depth, Dropped, Kept, Passing, clean_all_with, strip_all};
 use csicodec_command::{
@@ -14,10 +15,11 @@ use csicodec_command::{
 };
 use csicodec_compact::{Compact, Compactor, compact_all};
 use csicodec_filter::{Faithful, Filter, NormalForm, filter_all};
-use csicodec_html::{BEHIND, FRONT, Markup, html_all_with};
+use csicodec_html::{BEHIND, Markup, Palette, front, html_all_with};
 use csicodec_lines::{Lines, clean_lines_all, strip_lines_all};
 use csicodec_spans::LIMIT;
 use csicodec_streams::{RunError, send};
+use palette::palette_of;
 use std::alloc::Global;
 use std::io::{BufRead, Read, Write};
 use std::process::ExitCode;
@@ -66,35 +68,45 @@ fn depth_of(asked: Colors) -> Depth {
     }
 }
 
+/// What of a stream becomes markup.
+fn markup_of<'a>(alloc: Global, run: &Request<'a>) -> Result<Markup, Wrong<'a>> {
+    let palette = match run.palette {
+        Some(text) => palette_of(alloc, text)?,
+        None => Palette::default(),
+    };
+    Ok(Markup {
+        links: run.links,
+        classes: run.classes,
+        palette,
+    })
+}
+
 impl Work {
-    /// Of a run; none where another program does it.
-    fn new(run: &Request<'_>) -> Option<Work> {
-        match run.task {
-            Task::Filter => Some(Work::Filter {
+    /// Of a run; an error where another program does it.
+    fn new<'a>(alloc: Global, run: &Request<'a>) -> Result<Work, Wrong<'a>> {
+        Ok(match run.task {
+            Task::Filter => Work::Filter {
                 faithful: run.faithful,
-            }),
-            Task::Compact => Some(Work::Compact {
+            },
+            Task::Compact => Work::Compact {
                 semicolons: run.semicolons,
-            }),
-            Task::Strip if run.check => Some(Work::Check),
-            Task::Strip => Some(Work::Strip { lines: run.lines }),
+            },
+            Task::Strip if run.check => Work::Check,
+            Task::Strip => Work::Strip { lines: run.lines },
             Task::Clean => {
                 let (depth, links) = (depth_of(run.depth), run.links);
-                Some(Work::Clean {
+                Work::Clean {
                     passing: Passing { depth, links },
                     lines: run.lines,
-                })
+                }
             }
-            Task::Html => {
-                let markup = Markup { links: run.links };
-                Some(Work::Html {
-                    markup,
-                    fragment: run.fragment,
-                    begun: false,
-                })
-            }
-            Task::Explain => None,
-        }
+            Task::Html => Work::Html {
+                markup: markup_of(alloc, run)?,
+                fragment: run.fragment,
+                begun: false,
+            },
+            Task::Explain => return Err(Wrong::Nothing),
+        })
     }
 
     /// What the data of a recording go through, if a recording is made of it.
@@ -127,16 +139,17 @@ impl Work {
     }
 
     /// Writes what stands ahead of the first input.
-    fn begin<W: Write>(&mut self, output: &mut W) -> Result<(), RunError> {
+    fn begin<W: Write>(&mut self, alloc: Global, output: &mut W) -> Result<(), Failure> {
         if let Work::Html {
+            markup,
             fragment: false,
             begun,
-            ..
         } = self
         {
             if !*begun {
                 *begun = true;
-                return send(output, FRONT.as_bytes());
+                let text = front(alloc, *markup).map_err(no_memory)?;
+                return Ok(send(output, &text)?);
             }
         }
         Ok(())
@@ -150,7 +163,7 @@ impl Worker for Work {
         input: &mut R,
         output: &mut W,
     ) -> Result<(), Failure> {
-        self.begin(output)?;
+        self.begin(alloc, output)?;
         match self {
             Work::Filter { faithful: true } => {
                 filter_all(alloc, LIMIT, Faithful::new(alloc), input, output)?;
@@ -178,7 +191,7 @@ impl Worker for Work {
         input: &mut R,
         output: &mut W,
     ) -> Result<(), Failure> {
-        self.begin(output)?;
+        self.begin(alloc, output)?;
         match self {
             Work::Check => return check_cast(alloc, input),
             Work::Html { markup, .. } => return html_cast(alloc, *markup, input, output),
@@ -204,9 +217,9 @@ fn started(rt: &HostRuntime) -> Result<(), u8> {
     let Some(run) = asked(rt, &words)? else {
         return Ok(());
     };
-    match Work::new(&run) {
-        Some(mut work) => work_through(rt, &mut work, &run.files),
-        None => Err(refused(rt, Wrong::Nothing)),
+    match Work::new(rt.alloc(), &run) {
+        Ok(mut work) => work_through(rt, &mut work, &run.files),
+        Err(wrong) => Err(refused(rt, wrong)),
     }
 }
 

@@ -38,6 +38,13 @@ pub(crate) fn command(alloc: Global, line: &str) -> Result<String, AllocError> {
                 let decode = wanted.decode;
                 return format!(in alloc; "{color:?} {timing} {decode}");
             }
+            if run.classes {
+                return format!(in alloc; "{task:?} {files:?} in classes");
+            }
+            if run.palette.is_some() {
+                let palette = run.palette.unwrap_or("none");
+                return format!(in alloc; "{task:?} {files:?} in {palette}");
+            }
             if run.fragment {
                 return format!(in alloc; "{task:?} {files:?} as a piece");
             }

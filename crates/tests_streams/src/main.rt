@@ -10,6 +10,7 @@ mod commands;
 mod events;
 mod explain;
 mod forms;
+mod pages;
 mod reads;
 mod shortest;
 mod spans;
@@ -55,6 +56,9 @@ fn told(alloc: Global, row: &str) -> Result<String, AllocError> {
         "check" => untrusted::check(alloc, rest),
         "html" => untrusted::html(alloc, rest),
         "page" => untrusted::page(alloc, rest),
+        "palette" => pages::palette(alloc, rest),
+        "classes" => pages::classes(alloc, rest),
+        "rule" => pages::rule(alloc, rest),
         _ => format!(in alloc; "no such row"),
     }
 }

@@ -146,7 +146,10 @@ pub(crate) fn html(alloc: Global, word: &str) -> Result<String, AllocError> {
 /// `page BYTES`: the same with links.
 pub(crate) fn page(alloc: Global, word: &str) -> Result<String, AllocError> {
     let bytes = bytes_of(alloc, word)?;
-    let markup = Markup { links: true };
+    let markup = Markup {
+        links: true,
+        ..Markup::default()
+    };
     let page = html_with(alloc, markup, &bytes)?;
     let mut written: Vec<u8> = Vec::new(alloc);
     let read = html_all_with(alloc, markup, &mut bytes.as_slice(), &mut written);

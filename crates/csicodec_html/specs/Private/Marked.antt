@@ -8,12 +8,13 @@ use Rattle.csicodec_clean.specs.Links.{links_at, next}
 use Rattle.csicodec_clean.specs.Stream.{Between, Takes}
 use Rattle.csicodec_clean.specs.Shown.{shown_text}
 use Rattle.csicodec_clean.specs.Styled.{IsOf}
-use Rattle.csicodec_html.specs.Look.{behind_all, css, sets_any}
+use Rattle.csicodec_html.specs.Classes.{attributes}
+use Rattle.csicodec_html.specs.Look.{behind_all, sets_any}
 use Rattle.csicodec_html.specs.Page.{Piece, Char, Begin, End, Open, Setting, Shut, behind_actions, closing, led_by, setting, switches, turn}
 
 abbrev pub marked : Piece → List ℕ
 marked (Char c) = encode_utf8 c
-marked (Begin l) = 1 ∷ (codes "span style=" ++ (3 ∷ (css l ++ 3 ∷ 2 ∷ [])))
+marked (Begin m l) = 1 ∷ (codes "span" ++ (attributes 3 m l ++ 2 ∷ []))
 marked End = 1 ∷ (codes "/span" ++ 2 ∷ [])
 marked (Open url) = 1 ∷ (codes "a href=" ++ (3 ∷ (url ++ 3 ∷ 2 ∷ [])))
 marked Shut = 1 ∷ (codes "/a" ++ 2 ∷ [])
@@ -40,16 +41,17 @@ page_bytes bytes = flat_map page_byte bytes
 -- behind a byte of a control string
 abbrev pub behind_byte : Setting → ℕ → Setting
 behind_byte s c =
-    setting s.links s.look (led_by s.to (links_at s.links s.begun c)) (next s.links s.begun c)
+    setting s.markup s.look (led_by s.to (links_at s.markup.links s.begun c))
+    (next s.markup.links s.begun c)
 
 -- what is written for a control sequence, and for a byte of a control string
 abbrev pub turns : RuleOf Setting
 turns = record {
   sequence = λ s bytes out after.
       (actions : List Action) × IsOf bytes actions × (after ≡ behind_actions s actions)
-      × (out ≡ all_marked (turn (sets_any actions) s.look (behind_all s.look actions)));
+      × (out ≡ all_marked (turn s.markup (sets_any actions) s.look (behind_all s.look actions)));
   byte = λ s c out after.
-      (out ≡ all_marked (switches s.look s.to (links_at s.links s.begun c)))
+      (out ≡ all_marked (switches s.markup s.look s.to (links_at s.markup.links s.begun c)))
       × (after ≡ behind_byte s c);
 }
 

@@ -7,6 +7,6 @@ use Rattle.csicodec_html.proofs.css.append_straight.Goals as goal
 pub returns : goal.returns
 unfolding straight_colors
 returns c = on_ok_weaker c.append_colored-2.result
-    (λ e. two c.args.out.now.items c.append_colored.new.out.items c.append_colored-2.new.out.items (colored (codes "color:") c.args.look.foreground)
-    (colored (codes "background-color:") c.args.look.background) c.in_ok-append_colored.ensures e)
+    (λ e. two c.args.out.now.items c.append_colored.new.out.items c.append_colored-2.new.out.items (colored c.args.palette.now (codes "color:") c.args.look.foreground)
+    (colored c.args.palette.now (codes "background-color:") c.args.look.background) c.in_ok-append_colored.ensures e)
     c.append_colored-2.ensures

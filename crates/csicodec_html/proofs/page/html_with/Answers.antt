@@ -17,8 +17,8 @@ returns-clause-exact c =
     let rest = shown_text last.held ++ close in
     let begun = subst (λ (b : Between Setting). Takes turns b bytes text last) c.new-cleaner.ensures takes in
     let all : c.deref.result.now ≡ text ++ rest = c.deref.ensures.value ∙ finished ∙ ap (λ (t : List ℕ). t ++ rest) (pushed ∙ ap (λ (t : List ℕ). t ++ text) c.new-marked.ensures.items) in
-    page_of c.args.markup.links c.new.result bytes (text ++ rest) c.append_page.new.out.items c.new.ensures (ends turns closes c.new.result bytes text close last begun closing)
+    page_of c.args.markup c.new.result bytes (text ++ rest) c.append_page.new.out.items c.new.ensures (ends turns closes c.new.result bytes text close last begun closing)
     (c.in_ok-append_page.ensures ∙ ap (λ (t : List ℕ). t ++ page_bytes c.deref.result.now) c.new-out.ensures.items ∙ ap page_bytes all)
 
 pub returns-clause-safe : goal.returns-clause-safe
-returns-clause-safe c = is_page c.args.markup.links c.args.bytes.now c.append_page.new.out.items (returns-clause-exact c)
+returns-clause-safe c = is_page c.args.markup c.args.bytes.now c.append_page.new.out.items (returns-clause-exact c)

@@ -1,4 +1,4 @@
-use Rattle.std.proofs.Common.{◌≡◌, ◌++◌, ◌∙◌, [], Bool, List, ℕ, ap}
+use Rattle.std.proofs.Common.{◌++◌, ◌∙◌, [], Bool, List, ℕ, ap}
 use Rattle.std.specs.Prelude.{if◌then◌else◌}
 use Rattle.std.proofs.lemmas.Result.{on_ok_weaker}
 use Rattle.csicodec_clean.specs.Links.{begun}
@@ -11,12 +11,13 @@ pub returns-clause-text : goal.returns-clause-text
 returns-clause-text c =
     let lead = c.args.self.now in
     let look = c.args.look in
+    let m = c.args.markup.now in
     let out = c.args.out.now.items in
     let to = lead.to.items in
     let old = begun lead.next.place lead.next.params.items lead.next.url.items in
     on_ok_weaker c.take.result
-    (λ _. c.in_ok-follow.ensures.text ∙ ap (λ (u : List ℕ). out ++ all_marked (if c.ends_link-over.result then switch look to (led u) else [])) c.deref.ensures.value
-    ∙ ap (λ (b : Bool). out ++ all_marked (if b then switch look to (led old.address.url) else [])) c.ends_link-over.ensures ∙ ap (λ (t : List ℕ). out ++ t) (over_text look to old c.args.byte))
+    (λ _. c.in_ok-follow.ensures.text ∙ ap (λ (u : List ℕ). out ++ all_marked (if c.ends_link-over.result then switch m look to (led u) else [])) c.deref.ensures.value
+    ∙ ap (λ (b : Bool). out ++ all_marked (if b then switch m look to (led old.address.url) else [])) c.ends_link-over.ensures ∙ ap (λ (t : List ℕ). out ++ t) (over_text m look to old c.args.byte))
     c.take.ensures
 
 pub returns-clause-to : goal.returns-clause-to

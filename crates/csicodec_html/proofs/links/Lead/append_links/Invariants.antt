@@ -11,7 +11,7 @@ invariant-loop-byte l =
     let first = begun lead.next.place lead.next.params.items lead.next.url.items in
     let front = take l.byte-index l.bytes in
     record {
-      text : l.out.items ≡ l.initial.out.items ++ all_marked (switches l.look lead.to.items (links_in true first front));
+      text : l.out.items ≡ l.initial.out.items ++ all_marked (switches l.markup l.look lead.to.items (links_in true first front));
       to : l.self.to.items ≡ led_by lead.to.items (links_in true first front);
       next : begun l.self.next.place l.self.next.params.items l.self.next.url.items ≡ all_behind true first front;
     }

@@ -1,0 +1,139 @@
+-- Classes of CSS that say how text looks, and the attributes of a span.
+use Rattle.std.specs.Prelude.{ℕ, Bool, true, false, not, ◌||◌, List, [], ◌∷◌, ◌++◌, codes, if◌then◌else◌, Option, Some, None}
+use Rattle.std.specs.Fmt.{decimal}
+use Rattle.csicodec_names.specs.declared.color.ColorSpec.{ColorSpec}
+use Rattle.csicodec_names.specs.declared.color.ColorSpec.TheVariants as color
+use Rattle.csicodec_names.specs.declared.color.Intensity.{Intensity}
+use Rattle.csicodec_names.specs.declared.color.Intensity.TheVariants as intensity
+use Rattle.csicodec_names.specs.declared.color.Underline.{Underline}
+use Rattle.csicodec_names.specs.declared.color.Underline.TheVariants as underline
+use Rattle.csicodec_html.specs.declared.classes.Class.{Class}
+use Rattle.csicodec_html.specs.declared.classes.Class.TheVariants as kind
+use Rattle.csicodec_html.specs.declared.classes.Part.{Part}
+use Rattle.csicodec_html.specs.declared.classes.Part.TheVariants as part
+use Rattle.csicodec_html.specs.declared.look.Look.{Look}
+use Rattle.csicodec_html.specs.declared.markup.Markup.{Markup}
+use Rattle.csicodec_html.specs.Look.{css, has_line, hex_color, is_none}
+
+-- ---- the names
+
+-- what a colour is of
+abbrev pub part_name : Part → List ℕ
+part_name part.Text = codes "fg-"
+part_name part.Ground = codes "bg-"
+part_name part.Line = codes "line-"
+
+-- the names of classes: there are no others
+abbrev pub class_name : Class → List ℕ
+class_name kind.Bold = codes "bold"
+class_name kind.Faint = codes "faint"
+class_name kind.Italic = codes "italic"
+class_name kind.Underline = codes "underline"
+class_name kind.Double = codes "underline-double"
+class_name kind.Curly = codes "underline-curly"
+class_name kind.Dotted = codes "underline-dotted"
+class_name kind.Dashed = codes "underline-dashed"
+class_name kind.Overline = codes "overline"
+class_name kind.Strike = codes "strike"
+class_name kind.TextAsGround = codes "fg-background"
+class_name kind.GroundAsText = codes "bg-foreground"
+class_name (kind.Color p i) = part_name p ++ decimal i
+
+-- ---- the classes of a look
+
+abbrev pub class_if : Bool → Class → Option Class
+class_if is_there c = if is_there then Some c else None
+
+abbrev pub weight_class : Intensity → Option Class
+weight_class intensity.Normal = None
+weight_class intensity.Bold = Some kind.Bold
+weight_class intensity.Half = Some kind.Faint
+
+-- the kind of the lines, where it isn't a single one
+abbrev pub lines_class : Underline → Option Class
+lines_class underline.None = None
+lines_class underline.Single = None
+lines_class underline.Double = Some kind.Double
+lines_class underline.Curly = Some kind.Curly
+lines_class underline.Dotted = Some kind.Dotted
+lines_class underline.Dashed = Some kind.Dashed
+
+-- a colour by its number, and the class for the page's own, if there is one; a colour by its parts has none
+abbrev pub color_class : Part → Option Class → ColorSpec → Option Class
+color_class p own color.Default = own
+color_class p own (color.PaletteIndex i) = Some (kind.Color p i)
+color_class p own (color.TrueColor c) = None
+
+-- the colours that text and background have, which may have changed places, and that of lines, where there are any
+abbrev pub text_color : Look → ColorSpec
+text_color l = if l.inverse then l.background else l.foreground
+
+abbrev pub ground_color : Look → ColorSpec
+ground_color l = if l.inverse then l.foreground else l.background
+
+abbrev pub lines_color : Look → ColorSpec
+lines_color l = if has_line l then l.line else color.Default
+
+abbrev pub classes_of : Look → List (Option Class)
+classes_of l =
+    weight_class l.intensity ∷ class_if l.italic kind.Italic
+    ∷ class_if (not (is_none l.underline)) kind.Underline ∷ lines_class l.underline
+    ∷ class_if l.overline kind.Overline ∷ class_if l.strike kind.Strike
+    ∷ color_class part.Text (class_if l.inverse kind.TextAsGround) (text_color l)
+    ∷ color_class part.Ground (class_if l.inverse kind.GroundAsText) (ground_color l)
+    ∷ color_class part.Line None (lines_color l) ∷ []
+
+-- ---- the attributes of a span, where `q` is the byte that stands for a quotation mark
+
+-- what stands ahead of a class, by whether one came before
+abbrev pub ahead : ℕ → Bool → List ℕ
+ahead q came = if came then 32 ∷ [] else codes " class=" ++ q ∷ []
+
+abbrev pub slot_text : ℕ → Bool → Option Class → List ℕ
+slot_text q came None = []
+slot_text q came (Some c) = ahead q came ++ class_name c
+
+abbrev pub behind_slot : Bool → Option Class → Bool
+behind_slot came None = came
+behind_slot came (Some c) = true
+
+-- the names of the classes that are there, with a blank between two; no attribute where there are none
+abbrev pub names : ℕ → Bool → List (Option Class) → List ℕ
+names q came [] = if came then q ∷ [] else []
+names q came (slot ∷ slots) = slot_text q came slot ++ names q (behind_slot came slot) slots
+
+abbrev pub is_true : ColorSpec → Bool
+is_true color.Default = false
+is_true (color.PaletteIndex i) = false
+is_true (color.TrueColor c) = true
+
+abbrev pub property_of : Part → List ℕ
+property_of part.Text = codes "color:"
+property_of part.Ground = codes "background-color:"
+property_of part.Line = codes "text-decoration-color:"
+
+-- a colour by its parts
+abbrev pub true_color : Part → ColorSpec → List ℕ
+true_color p color.Default = []
+true_color p (color.PaletteIndex i) = []
+true_color p (color.TrueColor c) = property_of p ++ (hex_color c ++ 59 ∷ [])
+
+unfoldable pub true_colors : Look → List ℕ
+true_colors l =
+    true_color part.Text (text_color l)
+    ++ (true_color part.Ground (ground_color l) ++ true_color part.Line (lines_color l))
+
+abbrev pub has_true : Look → Bool
+has_true l = is_true (text_color l) || (is_true (ground_color l) || is_true (lines_color l))
+
+abbrev pub style_attribute : ℕ → List ℕ → List ℕ
+style_attribute q style = codes " style=" ++ (q ∷ (style ++ q ∷ []))
+
+-- colours by their parts stand in a style where all else is a class
+abbrev pub rest_attribute : ℕ → Look → List ℕ
+rest_attribute q l = if has_true l then style_attribute q (true_colors l) else []
+
+abbrev pub attributes : ℕ → Markup → Look → List ℕ
+attributes q m l =
+    if m.classes then names q false (classes_of l) ++ rest_attribute q l
+    else style_attribute q (css m.palette l)

@@ -1,0 +1,97 @@
+//! The attributes of a span, with controls in place of the quotation marks.
+ghost use Rattle.std.specs.Prelude.{◌≡◌, ◌++◌, [], ◌∷◌, OnOk};
+ghost use Rattle.csicodec_html.specs.Classes.{attributes, has_true, is_true, property_of, rest_attribute, style_attribute, true_color, true_colors};
+ghost use Rattle.csicodec_html.specs.Look.{css};
+
+use crate::classes::{Part, append_classes};
+use crate::colors::append_parts;
+use crate::css::append_css;
+use crate::look::Look;
+use crate::markup::Markup;
+use crate::palette::Palette;
+use csicodec_base::ColorSpec;
+use std::alloc::AllocError;
+
+/// Whether it is a colour by its parts.
+fn is_true(color: ColorSpec) -> bool
+    ensures { result ≡ is_true color }
+{
+    matches!(color, ColorSpec::TrueColor(_))
+}
+
+/// Whether one of its colours is.
+fn has_true(look: Look) -> bool
+    ensures { result ≡ has_true look }
+{
+    is_true(look.text_color()) || is_true(look.ground_color()) || is_true(look.lines_color())
+}
+
+/// Appends the name of the property of a colour.
+pub(crate) fn append_property_of(part: Part, out: &mut Vec<u8>) -> Result<(), AllocError>
+    ensures { OnOk result (out.new.items ≡ out.old.items ++ property_of part) }
+{
+    match part {
+        Part::Text => out.extend_from_slice(b"color:"),
+        Part::Ground => out.extend_from_slice(b"background-color:"),
+        Part::Line => out.extend_from_slice(b"text-decoration-color:"),
+    }
+}
+
+/// Appends the declaration of a colour by its parts.
+fn append_true(part: Part, color: ColorSpec, out: &mut Vec<u8>) -> Result<(), AllocError>
+    ensures { OnOk result (out.new.items ≡ out.old.items ++ true_color part color) }
+{
+    let ColorSpec::TrueColor(color) = color else {
+        return Ok(());
+    };
+    append_property_of(part, out)?;
+    append_parts(color, out)?;
+    Ok(out.push(b';')?)
+}
+
+/// Appends those of all colours by their parts.
+#[tactic(auto, unfolding(crate::specs::Classes::true_colors))]
+fn append_true_colors(look: Look, out: &mut Vec<u8>) -> Result<(), AllocError>
+    ensures { OnOk result (out.new.items ≡ out.old.items ++ true_colors look) }
+{
+    append_true(Part::Text, look.text_color(), out)?;
+    append_true(Part::Ground, look.ground_color(), out)?;
+    append_true(Part::Line, look.lines_color(), out)
+}
+
+/// Appends the style of what no class says, if there is anything.
+fn append_rest(look: Look, out: &mut Vec<u8>) -> Result<(), AllocError>
+    ensures { OnOk result (out.new.items ≡ out.old.items ++ rest_attribute 3 look) }
+{
+    if !has_true(look) {
+        return Ok(());
+    }
+    out.extend_from_slice(b" style=\x03")?;
+    append_true_colors(look, out)?;
+    Ok(out.push(3)?)
+}
+
+/// Appends the style of a look.
+fn append_style(palette: &Palette, look: Look, out: &mut Vec<u8>) -> Result<(), AllocError>
+    ensures { OnOk result
+        (out.new.items ≡ out.old.items ++ style_attribute 3 (css palette.now look)) }
+{
+    out.extend_from_slice(b" style=\x03")?;
+    append_css(palette, look, out)?;
+    Ok(out.push(3)?)
+}
+
+/// Appends the attributes of a span that looks so: classes, and a style for colours by their parts, or a style for all.
+pub(crate) fn append_attributes(
+    markup: &Markup,
+    look: Look,
+    out: &mut Vec<u8>,
+) -> Result<(), AllocError>
+    ensures { OnOk result (out.new.items ≡ out.old.items ++ attributes 3 markup.now look) }
+{
+    if !markup.classes {
+        return append_style(&markup.palette, look, out);
+    }
+    append_classes(&look.classes(), out)?;
+    append_rest(look, out)
+}

@@ -1,0 +1,31 @@
+//! What becomes markup, and how.
+ghost use Rattle.std.specs.Prelude.{◌≡◌};
+ghost use Rattle.csicodec_html.specs.Page.{simple};
+
+use crate::palette::Palette;
+
+/// What becomes markup, beside attributes, and the colours of those.
+#[derive(Clone, Copy, PartialEq, Eq, Debug)]
+pub struct Markup {
+    /// Whether links (OSC 8) do: those of http and https whose address is visible ASCII, of at most 2,083 bytes, with at most 256 bytes
+    /// of parameters.
+    pub links: bool,
+    /// Whether attributes become classes of spans, as `bold` and `fg-1`, which a style sheet gives their meaning, in place of styles;
+    /// colours by their parts are styles still.
+    pub classes: bool,
+    /// The colours of numbers, and the page's own.
+    pub palette: Palette,
+}
+
+/// No links, no classes, and xterm's palette.
+impl Default for Markup {
+    ghost is_default = { λ markup. markup ≡ simple };
+
+    fn default() -> Markup {
+        Markup {
+            links: false,
+            classes: false,
+            palette: Palette::default(),
+        }
+    }
+}

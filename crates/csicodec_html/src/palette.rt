@@ -1,0 +1,73 @@
+//! The colours of a page by number, and the page's own.
+ghost use Rattle.std.specs.Prelude.{◌≡◌};
+ghost use Rattle.csicodec_html.specs.Palette.{color_at, or_own, xterm};
+
+use csicodec_base::{ColorSpec, SrgbaTuple};
+use csicodec_clean::palette;
+
+/// The colours that a user of a terminal may choose. Those of the places from 16 on are the same everywhere.
+///
+/// ```text
+/// Palette::default().color(1)         // SrgbaTuple(205, 0, 0, 255)
+/// ```
+#[derive(Clone, Copy, PartialEq, Eq, Debug)]
+pub struct Palette {
+    /// Those of the places 0 to 15. Their alpha isn't looked at, nor that of the others.
+    pub first: [SrgbaTuple; 16],
+    /// The colour of text that has none of its own; without it the browser's.
+    pub foreground: Option<SrgbaTuple>,
+    /// The colour of the page behind text.
+    pub background: Option<SrgbaTuple>,
+}
+
+/// xterm's colours, where nobody chose others.
+impl Default for Palette {
+    ghost is_default = { λ p. p ≡ xterm };
+
+    fn default() -> Palette {
+        Palette {
+            first: [
+                palette(0),
+                palette(1),
+                palette(2),
+                palette(3),
+                palette(4),
+                palette(5),
+                palette(6),
+                palette(7),
+                palette(8),
+                palette(9),
+                palette(10),
+                palette(11),
+                palette(12),
+                palette(13),
+                palette(14),
+                palette(15),
+            ],
+            foreground: None,
+            background: None,
+        }
+    }
+}
+
+/// The colour, or in place of the page's own one that is given for it.
+pub(crate) fn or_own(given: Option<SrgbaTuple>, color: ColorSpec) -> ColorSpec
+    ensures { result ≡ or_own given color }
+{
+    match (given, color) {
+        (Some(own), ColorSpec::Default) => ColorSpec::TrueColor(own),
+        _ => color,
+    }
+}
+
+impl Palette {
+    /// The colour of a place, from 0 to 255.
+    pub fn color(&self, index: u8) -> SrgbaTuple
+        ensures { result ≡ color_at self.now index }
+    {
+        if index < 16 {
+            return self.first[index as usize];
+        }
+        palette(index)
+    }
+}

@@ -1,0 +1,76 @@
+-- Which bytes a line of JSON stands for, and what is wrong with one that stands for none.
+use Rattle.std.specs.Prelude.{ℕ, ◌≡◌, Bool, false, List, [], codes, Option, Some, None, is_some, option_and_then, Result, Ok, Err, true, if◌then◌else◌}
+use Rattle.std.specs.Str.{bytes_eq, is_utf8}
+use Rattle.hex.specs.Hex.{decode_of, encode_lower}
+use Rattle.hex.specs.declared.error.FromHexError.{FromHexError}
+use Rattle.serde_json.specs.Data.{Data, string}
+use Rattle.serde_json.specs.Find.{as_object, as_str, get}
+use Rattle.serde_json.specs.Read.{read}
+use Rattle.csicodec_assemble.specs.declared.object.Fault.{Fault}
+use Rattle.csicodec_assemble.specs.declared.object.Fault.TheVariants as fault
+use Rattle.csicodec_assemble.specs.declared.object.Refusal.{Refusal}
+use Rattle.csicodec_assemble.specs.declared.object.Refusal.TheVariants as refusal
+
+-- what is said of each fault
+abbrev pub fault_text : Fault → List ℕ
+fault_text fault.NoObject = codes "no object of JSON"
+fault_text fault.NoText = codes "text is no string"
+fault_text fault.NoHex = codes "hex is no string of digits in pairs"
+fault_text fault.Both = codes "both text and hex"
+fault_text fault.TooLong = codes "more than 16 MiB"
+
+-- the bytes of a text are its UTF-8
+abbrev pub of_text : Option (List ℕ) → Result (List ℕ) Fault
+of_text (Some text) = Ok text
+of_text None = Err fault.NoText
+
+abbrev pub of_digits : Result (List ℕ) FromHexError → Result (List ℕ) Fault
+of_digits (Ok bytes) = Ok bytes
+of_digits (Err _) = Err fault.NoHex
+
+-- two hexadecimal digits for each byte, in either case
+abbrev pub of_hex : Option (List ℕ) → Result (List ℕ) Fault
+of_hex (Some digits) = of_digits (decode_of digits)
+of_hex None = Err fault.NoHex
+
+-- what `text` and `hex` say, where each is there
+abbrev pub of_members : Option Data → Option Data → Result (List ℕ) Fault
+of_members (Some text) None = of_text (as_str text)
+of_members None (Some digits) = of_hex (as_str digits)
+of_members None None = Ok []
+of_members (Some _) (Some _) = Err fault.Both
+
+-- the kind of an object with sums, of which one is called `text`
+abbrev pub is_totals : Option (List ℕ) → Bool
+is_totals (Some kind) = bytes_eq kind (codes "totals")
+is_totals None = false
+
+abbrev pub kind_of : Data → Option (List ℕ)
+kind_of d = option_and_then as_str (get (codes "kind") d)
+
+-- the bytes that an object stands for
+abbrev pub of_object : Data → Result (List ℕ) Fault
+of_object d =
+    if is_some (as_object d) then
+    (if is_totals (kind_of d) then Ok [] else of_members (get (codes "text") d) (get (codes "hex") d))
+    else Err fault.NoObject
+
+abbrev pub of_read : Option Data → Result (List ℕ) Fault
+of_read (Some d) = of_object d
+of_read None = Err fault.NoObject
+
+-- the bytes that a line stands for
+abbrev pub of_line : List ℕ → Result (List ℕ) Fault
+of_line line = of_read (if is_utf8 line then read line else None)
+
+-- a refusal tells the fault, unless memory ran out
+abbrev pub IsTold : Refusal → Result (List ℕ) Fault → Type 0
+IsTold (refusal.Line f) answer = answer ≡ Err f
+IsTold refusal.Memory answer = Unit {0}
+
+-- How `explain --json` shows bytes: as they are where they are UTF-8, else as digits.
+pub record Shows (d : Data) (bytes : List ℕ) : Type 0 where
+  pub object : is_some (as_object d) ≡ true
+  pub kind : is_totals (kind_of d) ≡ false
+  pub member : (get (codes "text") d ≡ (if is_utf8 bytes then Some (string bytes) else None))
+      × (get (codes "hex") d ≡ (if is_utf8 bytes then None else Some (string (encode_lower bytes))))

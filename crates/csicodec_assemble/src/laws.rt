@@ -1,0 +1,37 @@
+//! Laws of lines and of what they show. Each is the contract of a function that does nothing.
+ghost use Rattle.std.specs.Prelude.{◌≡◌, ◌++◌, [], ℕ, List, Ok, Err};
+ghost use Rattle.std.specs.List.{concat};
+ghost use Rattle.hex.specs.Hex.{IsBytes};
+ghost use Rattle.serde_json.specs.Data.{Data};
+ghost use Rattle.csicodec_assemble.specs.declared.object.Fault.{Fault};
+ghost use Rattle.csicodec_assemble.specs.Lines.{AreShown, Fails, Passes, assembled, ended, last_line, of_lines};
+ghost use Rattle.csicodec_assemble.specs.Object.{Shows, of_object};
+
+/// An object that shows bytes as `explain --json` does stands for them.
+pub fn read_back()
+    ensures { (d : Data) (bytes : List ℕ) → IsBytes bytes → Shows d bytes → of_object d ≡ Ok bytes }
+{}
+
+/// Lines that show the pieces of a stream, one each, stand for that stream.
+pub fn unedited()
+    ensures { (lines pieces : List (List ℕ)) → AreShown lines pieces
+        → assembled (ended lines) ≡ Ok (concat pieces) }
+{}
+
+/// It doesn't matter how a text is cut into chunks: what passes in turn passes as one.
+pub fn goes_on()
+    ensures { (first middle last one other text more : List ℕ) → Passes first one text middle
+        → Passes middle other more last → Passes first (one ++ other) (text ++ more) last }
+{}
+
+/// What passed of a whole text, and the line at its end, are what it stands for.
+pub fn whole()
+    ensures { (bytes text rest line : List ℕ) → Passes [] bytes text line
+        → of_lines (last_line line) ≡ Ok rest → assembled bytes ≡ Ok (text ++ rest) }
+{}
+
+/// A text of which a line is refused stands for nothing, whatever follows.
+pub fn refused()
+    ensures { (f : Fault) (bytes text more : List ℕ) → Fails f [] bytes text
+        → assembled (bytes ++ more) ≡ Err f }
+{}

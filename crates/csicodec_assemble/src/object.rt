@@ -1,0 +1,118 @@
+//! One object, and the line that it stands in.
+ghost use Rattle.std.specs.Prelude.{◌≡◌, IfErr, IfOk, Some};
+ghost use Rattle.serde_json.specs.Find.{as_str};
+ghost use Rattle.serde_json.specs.View.{view};
+ghost use Rattle.csicodec_assemble.specs.Object.{IsTold, fault_text, of_hex, of_line, of_object, of_text};
+ghost use Rattle.csicodec_assemble.specs.declared.object.Refusal.TheVariants.{Memory};
+
+use hex::FromHexError;
+use serde_json::Value;
+use std::alloc::{AllocError, Global};
+use std::fmt;
+
+/// What is wrong with a line.
+#[derive(Clone, Copy, Debug, PartialEq, Eq)]
+pub enum Fault {
+    /// It is no object of JSON (RFC 8259).
+    NoObject,
+    /// Its `text` is no string.
+    NoText,
+    /// Its `hex` is no string of hexadecimal digits, two for each byte.
+    NoHex,
+    /// It has `text` and `hex`.
+    Both,
+    /// It has more bytes than a line may have.
+    TooLong,
+}
+
+impl fmt::Display for Fault {
+    ghost output = { λ fault. Some (fault_text fault) };
+
+    fn fmt<W: fmt::Write>(&self, f: &mut fmt::Formatter<W>) -> fmt::Result {
+        match self {
+            Fault::NoObject => f.write_str("no object of JSON"),
+            Fault::NoText => f.write_str("text is no string"),
+            Fault::NoHex => f.write_str("hex is no string of digits in pairs"),
+            Fault::Both => f.write_str("both text and hex"),
+            Fault::TooLong => f.write_str("more than 16 MiB"),
+        }
+    }
+}
+
+/// Why a line gives no bytes.
+#[derive(Clone, Copy, Debug, PartialEq, Eq)]
+pub enum Refusal {
+    /// What is wrong with it.
+    Line(Fault),
+    /// Memory ran out.
+    Memory,
+}
+
+impl From<AllocError> for Refusal {
+    ghost from_gives = { λ _ refusal. refusal ≡ Memory };
+
+    fn from(_error: AllocError) -> Refusal {
+        Refusal::Memory
+    }
+}
+
+/// The bytes of a member `text`: its UTF-8.
+fn bytes_of_text(alloc: Global, text: &Value) -> Result<Vec<u8>, Refusal>
+    ensures bytes { IfOk result (λ v. of_text (as_str (view text.now)) ≡ Ok v.items) }
+    ensures told { IfErr result (λ e. IsTold e (of_text (as_str (view text.now)))) }
+{
+    match text.as_str() {
+        Some(text) => Ok(Vec::from_slice(alloc, text.as_bytes())?),
+        None => Err(Refusal::Line(Fault::NoText)),
+    }
+}
+
+/// The bytes of a member `hex`: two digits for each.
+fn bytes_of_hex(alloc: Global, hex: &Value) -> Result<Vec<u8>, Refusal>
+    ensures bytes { IfOk result (λ v. of_hex (as_str (view hex.now)) ≡ Ok v.items) }
+    ensures told { IfErr result (λ e. IsTold e (of_hex (as_str (view hex.now)))) }
+{
+    let Some(digits) = hex.as_str() else {
+        return Err(Refusal::Line(Fault::NoHex));
+    };
+    match hex::decode(alloc, digits) {
+        Ok(bytes) => Ok(bytes),
+        Err(FromHexError::OutOfMemory) => Err(Refusal::Memory),
+        Err(_) => Err(Refusal::Line(Fault::NoHex)),
+    }
+}
+
+/// The bytes that an object stands for: those of its `text` or of its `hex`; none where it has neither, and where it is of the kind
+/// `totals`, in which `text` is a sum. Other members mean nothing here.
+pub fn bytes_of(alloc: Global, object: &Value) -> Result<Vec<u8>, Refusal>
+    ensures bytes { IfOk result (λ v. of_object (view object.now) ≡ Ok v.items) }
+    ensures told { IfErr result (λ e. IsTold e (of_object (view object.now))) }
+{
+    if !object.is_object() {
+        return Err(Refusal::Line(Fault::NoObject));
+    }
+    if object.get("kind").and_then(Value::as_str) == Some("totals") {
+        return Ok(Vec::new(alloc));
+    }
+    match (object.get("text"), object.get("hex")) {
+        (Some(text), None) => bytes_of_text(alloc, text),
+        (None, Some(hex)) => bytes_of_hex(alloc, hex),
+        (None, None) => Ok(Vec::new(alloc)),
+        (Some(_), Some(_)) => Err(Refusal::Line(Fault::Both)),
+    }
+}
+
+/// The bytes that a line stands for, with or without its end: those of its object.
+pub fn bytes_of_line(alloc: Global, line: &[u8]) -> Result<Vec<u8>, Refusal>
+    ensures bytes { IfOk result (λ v. of_line line.now ≡ Ok v.items) }
+    ensures told { IfErr result (λ e. IsTold e (of_line line.now)) }
+{
+    let Ok(text) = std::str::from_utf8(line) else {
+        return Err(Refusal::Line(Fault::NoObject));
+    };
+    match Value::from_str(alloc, text) {
+        Ok(object) => bytes_of(alloc, &object),
+        Err(error) if error.is_memory() => Err(Refusal::Memory),
+        Err(_) => Err(Refusal::Line(Fault::NoObject)),
+    }
+}

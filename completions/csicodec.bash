@@ -6,7 +6,7 @@ _csicodec() {
     [ "$before" != = ] || before=${COMP_WORDS[COMP_CWORD-2]}
     [ "${COMP_WORDS[COMP_CWORD]}" != = ] || before=${COMP_WORDS[COMP_CWORD-1]}
     for it in "${COMP_WORDS[@]:1:COMP_CWORD-1}"; do
-        case $it in filter|compact|strip|clean|html|explain|help) task=$it; break ;; esac
+        case $it in filter|compact|strip|clean|html|explain|assemble|help) task=$it; break ;; esac
     done
     COMPREPLY=()
     case $before in
@@ -25,8 +25,9 @@ _csicodec() {
         clean) of="--colors --lines --links --help" ;;
         html) of="--classes --fragment --links --palette --help" ;;
         explain) of="--at --color --count --decode --diff --full --grep --input --json --only --stats --timing --unknown --utf8-mouse --help" ;;
-        help) COMPREPLY=($(compgen -W "filter compact strip clean html explain" -- "$word")); return ;;
-        *) of="filter compact strip clean html explain help --help --version" ;;
+        assemble) of="--help" ;;
+        help) COMPREPLY=($(compgen -W "filter compact strip clean html explain assemble" -- "$word")); return ;;
+        *) of="filter compact strip clean html explain assemble help --help --version" ;;
     esac
     if [ ! "$task" ] || [ "${word#-}" != "$word" ]; then COMPREPLY=($(compgen -W "$of" -- "$word")); fi
 }

@@ -1,6 +1,7 @@
 -- What a program tells of a run that failed.
 use Rattle.std.specs.Prelude.{ℕ, List, ◌++◌, codes}
 use Rattle.std.specs.Fmt.{decimal}
+use Rattle.csicodec_assemble.specs.Object.{fault_text}
 use Rattle.csicodec_streams.specs.Words.{run_error_text, run_status}
 use Rattle.csicodec_command.specs.declared.report.Failure.{Failure}
 use Rattle.csicodec_command.specs.declared.report.Failure.TheVariants as failure
@@ -27,6 +28,7 @@ line failure.NotValue = codes "csicodec: not a value"
 line failure.Open = codes "csicodec: the file can't be opened"
 line (failure.Recording n) = codes "csicodec: line " ++ decimal n ++ codes ": not an asciicast of version 2 or 3"
 line (failure.Times n) = codes "csicodec: line " ++ decimal n ++ codes ": no time of script"
+line (failure.Object n fault) = codes "csicodec: line " ++ decimal n ++ codes ": " ++ fault_text fault
 line (failure.NotPlain at n what) =
     codes "csicodec: byte " ++ decimal at ++ codes ", line " ++ decimal n ++ codes ": " ++ found_text what
 line (failure.Run error) = codes "csicodec: " ++ run_error_text error
@@ -43,5 +45,6 @@ status failure.NotValue = 64
 status failure.Open = 2
 status (failure.Recording _) = 1
 status (failure.Times _) = 1
+status (failure.Object _ _) = 1
 status (failure.NotPlain _ _ _) = 1
 status (failure.Run error) = run_status error

@@ -3,6 +3,7 @@ ghost use Rattle.std.specs.Prelude.{◌≡◌, Some};
 ghost use Rattle.csicodec_command.specs.Report.{found_text, line, status};
 ghost use Rattle.csicodec_command.specs.declared.report.Failure.TheVariants.{Run as Ran};
 
+use csicodec_assemble::Fault;
 use csicodec_streams::RunError;
 use std::fmt;
 
@@ -62,6 +63,8 @@ pub enum Failure {
     Recording(u64),
     /// The line of this number, counted from 1, isn't one of the times that `script` writes.
     Times(u64),
+    /// The line of this number, counted from 1, stands for no bytes.
+    Object(u64, Fault),
     /// At this byte of the input, counted from 0, and in this line, counted from 1, it is plain text no more.
     NotPlain(u64, u64, Found),
     /// The stream wasn't read or written to its end.
@@ -91,7 +94,10 @@ impl Failure {
             | Failure::NoValue
             | Failure::NotValue => 64,
             Failure::Open => 2,
-            Failure::Recording(_) | Failure::Times(_) | Failure::NotPlain(_, _, _) => 1,
+            Failure::Recording(_)
+            | Failure::Times(_)
+            | Failure::Object(_, _)
+            | Failure::NotPlain(_, _, _) => 1,
             Failure::Run(error) => error.status(),
         }
     }
@@ -116,6 +122,7 @@ impl fmt::Display for Failure {
                 "csicodec: line {line}: not an asciicast of version 2 or 3"
             ),
             Failure::Times(line) => write!(f, "csicodec: line {line}: no time of script"),
+            Failure::Object(line, fault) => write!(f, "csicodec: line {line}: {fault}"),
             Failure::NotPlain(at, line, found) => {
                 write!(f, "csicodec: byte {at}, line {line}: {found}")
             }

@@ -3,13 +3,14 @@
 use crate::command::Task;
 
 /// The words that say what is to be done, with what `--help` behind one says.
-pub(crate) static TASKS: [(&str, Task, &str); 6] = [
+pub(crate) static TASKS: [(&str, Task, &str); 7] = [
     ("filter", Task::Filter, FILTER),
     ("compact", Task::Compact, COMPACT),
     ("strip", Task::Strip, STRIP),
     ("clean", Task::Clean, CLEAN),
     ("html", Task::Html, HTML),
     ("explain", Task::Explain, EXPLAIN),
+    ("assemble", Task::Assemble, ASSEMBLE),
 ];
 
 /// The options: how each stands in a command line, the words that have it, none where all have, and which values it has, none
@@ -55,6 +56,7 @@ usage: csicodec                                 control sequences from standard 
        csicodec clean [OPTION ..] [FILE ..]     the same with its colours and styles
        csicodec html [OPTION ..] [FILE ..]      a page of HTML: the text with its colours and styles
        csicodec explain [OPTION ..] [FILE ..]   what stands in a stream, in words
+       csicodec assemble [FILE ..]              a stream of what explain --json wrote, edited or not
        csicodec help [WORD]                     this text, or the options of a word
        csicodec --version";
 
@@ -150,6 +152,17 @@ is told, with the time of each. Ahead of each of several FILEs stands its name.
   --unknown       only what isn't known, and what is malformed
   --utf8-mouse    --input, and the mouse's three characters are in UTF-8 (mode 1005)
   -h, --help      this text";
+
+/// How `assemble` is used.
+pub const ASSEMBLE: &str = "\
+usage: csicodec assemble [FILE ..]
+
+Reads objects of JSON, a line each, from each FILE, or from standard input where there is none or it is -, as explain --json writes
+them, and writes the bytes of each: its text or its hex, and nothing where it has neither. So the stream comes back, with what jq -c
+or sed changed. Nothing else in an object is read, but its kind: totals have no bytes. What is no such line is refused, and so is one
+of more than 16 MiB.
+
+  -h, --help     this text";
 
 /// The program's name and version.
 pub const VERSION: &str = "csicodec 1.6.0";

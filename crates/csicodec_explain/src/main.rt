@@ -1,12 +1,15 @@
-//! The program of `csicodec explain`: tells in words what stands in a stream.
+//! The program of `csicodec explain`, which tells in words what stands in a stream, and of `csicodec assemble`, which makes the stream
+//! again of what that tells in JSON.
 #![tactic(auto)]
 
+mod assemble;
 mod cast;
 mod compare;
 mod diff;
 mod names;
 mod timing;
 
+use assemble::Assembly;
 use cast::{explain_cast, is_recording};
 use compare::explain_diff;
 use csicodec_command::{
@@ -188,6 +191,7 @@ fn started(rt: &HostRuntime) -> Result<(), u8> {
     let words = words_of(rt)?;
     match asked(rt, &words)? {
         Some(run) if run.task == Task::Explain => checked(rt, &run),
+        Some(run) if run.task == Task::Assemble => work_through(rt, &mut Assembly, &run.files),
         Some(_) => Err(refused(rt, Wrong::Nothing)),
         None => Ok(()),
     }

@@ -105,7 +105,7 @@ impl Work {
                 fragment: run.fragment,
                 begun: false,
             },
-            Task::Explain => return Err(Wrong::Nothing),
+            Task::Explain | Task::Assemble => return Err(Wrong::Nothing),
         })
     }
 

@@ -1,8 +1,8 @@
 //! What a terminal sends, event by event.
 
 use crate::event::Event;
+use crate::events::Reader;
 use crate::raw::{self, Received, Told};
-use crate::stream::Reader;
 
 /// How a terminal reports the mouse, where it doesn't by a control sequence.
 #[derive(Clone, Copy, Debug, PartialEq, Eq, Hash)]

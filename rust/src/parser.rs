@@ -1,6 +1,6 @@
 //! A stream that comes in pieces.
 
-use crate::stream::Reader;
+use crate::events::Reader;
 use crate::{Dialect, Event, InputEvent};
 use std::io::{self, ErrorKind, Read};
 

@@ -21,7 +21,7 @@ _csicodec() {
     case $task in
         filter) of="--faithful --help" ;;
         compact) of="--semicolons --help" ;;
-        strip) of="--check --lines --help" ;;
+        strip) of="--check --lines --overwrite --help" ;;
         clean) of="--colors --lines --links --help" ;;
         html) of="--classes --fragment --links --palette --help" ;;
         explain) of="--at --color --count --decode --diff --full --grep --input --json --only --stats --timing --unknown --utf8-mouse --help" ;;

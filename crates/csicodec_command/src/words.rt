@@ -15,7 +15,7 @@ pub(crate) static TASKS: [(&str, Task, &str); 7] = [
 
 /// The options: how each stands in a command line, the words that have it, none where all have, and which values it has, none
 /// where it has no value.
-pub(crate) static OPTIONS: [(&str, &str, &str); 25] = [
+pub(crate) static OPTIONS: [(&str, &str, &str); 26] = [
     ("--at", "explain", "places, as 120, 120-180 or 120-"),
     ("--check", "strip", ""),
     ("--classes", "html", ""),
@@ -34,6 +34,7 @@ pub(crate) static OPTIONS: [(&str, &str, &str); 25] = [
     ("--lines", "strip clean", ""),
     ("--links", "clean html", ""),
     ("--only", "explain", "names, as SGR,CUP"),
+    ("--overwrite", "strip", ""),
     (
         "--palette",
         "html",
@@ -98,6 +99,7 @@ string, and of the controls newline and tab alone. What is no UTF-8 becomes U+FF
 
   --check        writes nothing: the status is 0 if that is how each FILE is, else 1, and the first place is told where it isn't
   --lines        for logs: each line by itself, whatever the one before it left open; CR ends a line too
+  --overwrite    each line as a terminal would show it at its end, as of progress bars; not with --check or --lines
   -h, --help     this text";
 
 /// How `clean` is used.

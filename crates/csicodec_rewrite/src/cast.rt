@@ -6,6 +6,7 @@ use csicodec_compact::Compactor;
 use csicodec_filter::{Faithful, Filter, NormalForm, Transform};
 use csicodec_html::{Markup, html_with};
 use csicodec_lines::Lines;
+use csicodec_overwrite::Overwriter;
 use csicodec_streams::{RunError, send};
 use serde_json::Value;
 use std::alloc::{AllocError, Global};
@@ -28,6 +29,8 @@ pub enum Stage {
     PlainLines(Lines<Dropped, ()>),
     /// The same with its styles.
     StyledLines(Lines<Kept, Passing>),
+    /// Plain text, each line as a terminal would show it at its end.
+    Overwritten(Overwriter),
 }
 
 /// The next data, with a carriage return ahead of each newline that stays: they were dropped, and where a recording is played a
@@ -64,6 +67,7 @@ impl Stage {
             Stage::Styled(cleaner) => push_text(cleaner, bytes, out),
             Stage::PlainLines(lines) => push_text(lines, bytes, out),
             Stage::StyledLines(lines) => push_text(lines, bytes, out),
+            Stage::Overwritten(lines) => push_text(lines, bytes, out),
         }
     }
 
@@ -71,8 +75,11 @@ impl Stage {
     fn is_safe(&self) -> bool {
         match self {
             Stage::Normal(_) | Stage::Faithful(_) | Stage::Short(_) => false,
-            Stage::Plain(_) | Stage::Styled(_) | Stage::PlainLines(_) | Stage::StyledLines(_) =>
-                true,
+            Stage::Plain(_)
+            | Stage::Styled(_)
+            | Stage::PlainLines(_)
+            | Stage::StyledLines(_)
+            | Stage::Overwritten(_) => true,
         }
     }
 
@@ -86,6 +93,7 @@ impl Stage {
             Stage::Styled(cleaner) => cleaner.finish(out),
             Stage::PlainLines(lines) => lines.end(out),
             Stage::StyledLines(lines) => lines.end(out),
+            Stage::Overwritten(lines) => lines.finish(out),
         }
     }
 }

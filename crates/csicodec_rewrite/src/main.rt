@@ -17,6 +17,7 @@ use csicodec_compact::{Compact, Compactor, compact_all};
 use csicodec_filter::{Faithful, Filter, NormalForm, filter_all};
 use csicodec_html::{BEHIND, Markup, Palette, front, html_all_with};
 use csicodec_lines::{Lines, clean_lines_all, strip_lines_all};
+use csicodec_overwrite::{Overwriter, overwrite_all};
 use csicodec_spans::LIMIT;
 use csicodec_streams::{RunError, send};
 use palette::palette_of;
@@ -36,6 +37,8 @@ enum Work {
     Strip {
         lines: bool,
     },
+    /// Plain text, each line as a terminal would show it at its end.
+    Overwrite,
     /// Nothing: it is told where an input is plain text no more.
     Check,
     Clean {
@@ -92,6 +95,7 @@ impl Work {
                 semicolons: run.semicolons,
             },
             Task::Strip if run.check => Work::Check,
+            Task::Strip if run.overwrite => Work::Overwrite,
             Task::Strip => Work::Strip { lines: run.lines },
             Task::Clean => {
                 let (depth, links) = (depth_of(run.depth), run.links);
@@ -126,6 +130,7 @@ impl Work {
             }
             Work::Strip { lines: true } => Stage::PlainLines(Lines::stripped(alloc)),
             Work::Strip { .. } => Stage::Plain(Cleaner::new(alloc, Dropped)),
+            Work::Overwrite => Stage::Overwritten(Overwriter::new(alloc)),
             Work::Clean {
                 passing,
                 lines: true,
@@ -175,6 +180,7 @@ impl Worker for Work {
             Work::Check => check_stream(alloc, input)?,
             Work::Strip { lines: true } => strip_lines_all(alloc, input, output)?,
             Work::Strip { .. } => strip_all(alloc, input, output)?,
+            Work::Overwrite => overwrite_all(alloc, input, output)?,
             Work::Clean {
                 passing,
                 lines: true,

@@ -10,6 +10,7 @@ mod commands;
 mod events;
 mod explain;
 mod forms;
+mod overwrite;
 mod pages;
 mod reads;
 mod shortest;
@@ -53,6 +54,8 @@ fn told(alloc: Global, row: &str) -> Result<String, AllocError> {
         "links" => untrusted::links(alloc, rest),
         "lines" => untrusted::lines(alloc, rest),
         "link" => untrusted::link(alloc, rest),
+        "overwrite" => overwrite::overwrite(alloc, rest),
+        "crowded" => overwrite::crowded(alloc, rest),
         "check" => untrusted::check(alloc, rest),
         "html" => untrusted::html(alloc, rest),
         "page" => untrusted::page(alloc, rest),

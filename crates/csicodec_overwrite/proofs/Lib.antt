@@ -1,0 +1,9 @@
+pub mod Moved
+pub mod Chars
+pub mod Read
+pub mod Written
+pub mod Kept
+pub mod Plain
+pub mod Once
+pub mod Stays
+pub mod Room

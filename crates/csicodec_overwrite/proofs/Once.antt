@@ -1,0 +1,139 @@
+-- A stream has one text, and what was written of its front begins that.
+use Rattle.std.proofs.Common.{◌≡◌, ℕ, false, Option, IfSome, List, [], ◌∷◌, ◌++◌, encode_utf8_all, refl, sym, ap, subst, ◌∙◌, append_assoc, append-nil}
+use Rattle.std.specs.Io.KnownBytes.{Appends, Consumes, IsAtEnd}
+use Rattle.bstr.specs.Utf8.{lossy_chars}
+use Rattle.csicodec_actions.specs.Actions.{Action}
+use Rattle.csicodec_spans.specs.declared.table.Kind.{Kind}
+use Rattle.csicodec_spans.specs.declared.table.Kind.TheVariants as kind
+use Rattle.csicodec_spans.specs.declared.table.Mode.TheVariants as mode
+use Rattle.csicodec_spans.specs.Parts.{Part, left_over}
+use Rattle.csicodec_spans.proofs.Kept.{parts_more}
+use Rattle.csicodec_spans.proofs.Once.{parts_front, whole_once}
+use Rattle.csicodec_filter.specs.Transform.{Begins as BeginsWith, Sends, Transforms}
+use Rattle.csicodec_filter.proofs.Sent.{whole_front}
+use Rattle.csicodec_clean.specs.Cleaned.{longest}
+use Rattle.csicodec_clean.specs.Shown.{IsRead}
+use Rattle.csicodec_clean.specs.Stream.{IsFrontOf}
+use Rattle.csicodec_clean.specs.Titles.{title_open, with_titles}
+use Rattle.csicodec_clean.proofs.Again.{of_once}
+use Rattle.csicodec_clean.proofs.Shows.{encoded_on}
+use Rattle.csicodec_clean.proofs.Sure.{read_none}
+use Rattle.csicodec_clean.proofs.Titles.{titles_on}
+use Rattle.csicodec_overwrite.specs.declared.step.Step.{Step}
+use Rattle.csicodec_overwrite.specs.Line.{blank, do_all}
+use Rattle.csicodec_overwrite.specs.Steps.{of_actions, of_chars, of_run}
+use Rattle.csicodec_overwrite.specs.Reading.{AreOfParts, IsOfPart, Overwrites, Steps, most, shown_by}
+use Rattle.csicodec_overwrite.specs.Stream.{Ending, Goes, Held, Now, Passes, begun}
+use Rattle.csicodec_overwrite.proofs.Chars.{run_read}
+use Rattle.csicodec_overwrite.proofs.Written.{shown_on, transformed}
+
+-- ---- one text
+
+record Same (x y : List Step) (a b : List ℕ) : Type 0 where
+  steps : x ≡ y
+  runs : a ≡ b
+
+part_once : (k : Kind) (run bytes : List ℕ) (x y : List Step) (a b : List ℕ) → IsOfPart k run bytes x a → IsOfPart k run bytes y b → Same x y a b
+part_once kind.Text run bytes x y a b h i = record { steps = h.0 ∙ sym i.0; runs = h.1 ∙ sym i.1 }
+part_once kind.Csi run bytes x y a b (own, of, e, none) (other, is, f, nil) =
+    record { steps = e ∙ ap (λ (actions : List Action). of_run run ++ of_actions actions) (of_once bytes own other of is) ∙ sym f; runs = none ∙ sym nil }
+part_once kind.Esc run bytes x y a b h i = record { steps = h.0 ∙ sym i.0; runs = h.1 ∙ sym i.1 }
+part_once kind.Str run bytes x y a b h i = record { steps = h.0 ∙ sym i.0; runs = h.1 ∙ sym i.1 }
+part_once kind.Other run bytes x y a b h i = record { steps = h.0 ∙ sym i.0; runs = h.1 ∙ sym i.1 }
+
+-- what is read of some parts, and then of others
+record Parted (x : List Step) (a : List ℕ) (qs : List Part) (y : List Step) (b : List ℕ) : Type 0 where
+  later : List Step
+  others : AreOfParts a qs later b
+  all : y ≡ x ++ later
+
+parted : (run : List ℕ) (ps qs : List Part) (x y : List Step) (a b : List ℕ) → AreOfParts run ps x a → AreOfParts run (ps ++ qs) y b → Parted x a qs y b
+parted run [] qs x y a b h k = record { later = y; others = rw h.1 k; all = rw h.0 refl }
+parted run (p ∷ ps) qs x y a b (first, next, others, is, e, rest) (one, after, more, of, f, k) =
+    let same = part_once p.kind run p.bytes first one next after is of in
+    let later = parted next ps qs others more a b rest (subst (λ (r : List ℕ). AreOfParts r (ps ++ qs) more b) (sym same.runs) k) in
+    record {
+      later = later.later;
+      others = later.others;
+      all = f ∙ ap (λ (t : List Step). t ++ more) (sym same.steps) ∙ ap (λ (t : List Step). first ++ t) later.all ∙ sym (append_assoc first others later.later) ∙ ap (λ (t : List Step). t ++ later.later) (sym e);
+    }
+
+pub one_reading : (bytes : List ℕ) (steps others : List Step) → Steps bytes steps → Steps bytes others → steps ≡ others
+one_reading bytes steps others s t =
+    let parts = whole_once longest mode.Text bytes s.parts t.parts s.whole t.whole in
+    let other = subst (λ (ps : List Part). AreOfParts [] (with_titles false ps) t.before t.run) (sym parts) t.read in
+    let r = parted [] (with_titles false s.parts) [] s.before t.before s.run t.run s.read (subst (λ (ps : List Part). AreOfParts [] ps t.before t.run) (sym (append-nil (with_titles false s.parts))) other) in
+    let before : t.before ≡ s.before = r.all ∙ ap (λ (x : List Step). s.before ++ x) r.others.0 ∙ append-nil s.before in
+    s.all ∙ ap (λ (x : List Step). x ++ of_run s.run) (sym before) ∙ ap (λ (run : List ℕ). t.before ++ of_run run) (sym r.others.1) ∙ sym t.all
+
+pub one_text : (bytes text other : List ℕ) → Overwrites bytes text → Overwrites bytes other → text ≡ other
+one_text bytes text other o p = o.all ∙ ap (λ (steps : List Step). encode_utf8_all (shown_by (do_all most steps blank))) (one_reading bytes o.steps p.steps o.read p.read) ∙ sym p.all
+
+-- ---- fronts
+
+-- the steps of a run begin with those of the characters that were read of it
+abbrev GoesOnFrom : List Step → List Step → Type 0
+GoesOnFrom whole front = (more : List Step) × (whole ≡ front ++ more)
+
+read_longer : (run chars rest bytes : List ℕ) → IsRead run chars rest → IsRead (run ++ bytes) chars (rest ++ bytes)
+read_longer run chars rest bytes h = λ more. ap lossy_chars (append_assoc run bytes more) ∙ h (bytes ++ more) ∙ ap (λ (t : List ℕ). chars ++ lossy_chars t) (sym (append_assoc rest bytes more))
+
+run_begins : (run chars rest : List ℕ) → IsRead run chars rest → GoesOnFrom (of_run run) (of_chars chars)
+run_begins run chars rest h = (of_run rest, run_read run chars rest h)
+
+further : (x y front : List Step) → GoesOnFrom x front → GoesOnFrom (x ++ y) front
+further x y front (more, e) = (more ++ y, ap (λ (t : List Step). t ++ y) e ∙ append_assoc front more y)
+
+ends_run : (run chars rest : List ℕ) (own first others more last : List Step) → IsRead run chars rest → first ≡ of_run run ++ own → others ≡ first ++ more → GoesOnFrom (others ++ last) (of_chars chars)
+ends_run run chars rest own first others more last h e f =
+    subst (λ (t : List Step). GoesOnFrom (t ++ last) (of_chars chars)) (sym (f ∙ ap (λ (t : List Step). t ++ more) e)) (further ((of_run run ++ own) ++ more) last (of_chars chars) (further (of_run run ++ own) more (of_chars chars) (further (of_run run) own (of_chars chars) (run_begins run chars rest h))))
+
+part_begins : (k : Kind) (run bytes chars rest next : List ℕ) (first others more last : List Step) → IsRead run chars rest → IsOfPart k run bytes first next → others ≡ first ++ more
+    → ((cs r : List ℕ) → IsRead next cs r → GoesOnFrom (more ++ last) (of_chars cs)) → GoesOnFrom (others ++ last) (of_chars chars)
+part_begins kind.Text run bytes chars rest next first others more last h (none, left) f later =
+    let same : others ≡ more = f ∙ ap (λ (t : List Step). t ++ more) none in
+    subst (λ (t : List Step). GoesOnFrom (t ++ last) (of_chars chars)) (sym same) (later chars (rest ++ bytes) (subst (λ (r : List ℕ). IsRead r chars (rest ++ bytes)) (sym left) (read_longer run chars rest bytes h)))
+part_begins kind.Csi run bytes chars rest next first others more last h (actions, of, e, none) f later = ends_run run chars rest (of_actions actions) first others more last h e f
+part_begins kind.Esc run bytes chars rest next first others more last h i f later = ends_run run chars rest [] first others more last h (i.0 ∙ sym (append-nil (of_run run))) f
+part_begins kind.Str run bytes chars rest next first others more last h i f later = ends_run run chars rest [] first others more last h (i.0 ∙ sym (append-nil (of_run run))) f
+part_begins kind.Other run bytes chars rest next first others more last h i f later = ends_run run chars rest [] first others more last h (i.0 ∙ sym (append-nil (of_run run))) f
+
+parts_begin : (run chars rest : List ℕ) (qs : List Part) (later : List Step) (last : List ℕ) → IsRead run chars rest → AreOfParts run qs later last → GoesOnFrom (later ++ of_run last) (of_chars chars)
+parts_begin run chars rest [] later last h (none, same) = subst (λ (t : List Step). GoesOnFrom t (of_chars chars)) (sym (ap (λ (t : List Step). t ++ of_run last) none ∙ ap of_run same)) (run_begins run chars rest h)
+parts_begin run chars rest (q ∷ qs) later last h (first, next, others, is, e, k) =
+    part_begins q.kind run q.bytes chars rest next first later others (of_run last) h is e (λ cs r i. parts_begin next cs r qs others last i k)
+
+-- the steps that came for a front of some bytes begin those of all
+goes_front : (read more : List ℕ) (steps all : List Step) (last : Held) → (g : Goes mode.Text false [] [] read steps last.bytes last.mode last.titled last.held) → Steps (read ++ more) all → GoesOnFrom all steps
+goes_front read more steps all last g s =
+    let (others, e) = parts_front longest g.parts s.whole.sure mode.Text (read ++ more) (last.bytes ++ more) s.whole.rest last.mode s.whole.after (parts_more longest g.parts mode.Text read more last.bytes last.mode g.first) s.whole.first s.whole.unsure in
+    let qs = others ++ left_over s.whole.rest in
+    let parts : s.parts ≡ g.parts ++ qs = s.whole.whole ∙ ap (λ (x : List Part). x ++ left_over s.whole.rest) e ∙ append_assoc g.parts others (left_over s.whole.rest) in
+    let titled : with_titles false s.parts ≡ with_titles false g.parts ++ with_titles (title_open false g.parts) qs = ap (with_titles false) parts ∙ titles_on false g.parts qs in
+    let r = parted [] (with_titles false g.parts) (with_titles (title_open false g.parts) qs) g.before s.before g.left s.run g.are (subst (λ (ps : List Part). AreOfParts [] ps s.before s.run) titled s.read) in
+    let (later, f) = parts_begin g.left g.read last.held (with_titles (title_open false g.parts) qs) r.later s.run g.is_read r.others in (
+      later,
+      s.all ∙ ap (λ (x : List Step). x ++ of_run s.run) r.all ∙ append_assoc g.before r.later (of_run s.run) ∙ ap (λ (x : List Step). g.before ++ x) f
+          ∙ sym (append_assoc g.before (of_chars g.read) later) ∙ ap (λ (x : List Step). x ++ later) (sym g.same),
+    )
+
+passes_front : (read more text : List ℕ) (last : Now) → Passes begun read text last → IsFrontOf Overwrites (read ++ more) text
+passes_front read more text last p whole o =
+    let (later, e) = goes_front read more p.steps o.steps last.reader (p.reads.goes [] [] (read_none [])) o.read in
+    let first = (do_all most p.steps blank).text in
+    let behind = shown_by (do_all most later (do_all most p.steps blank).line) in (
+      encode_utf8_all behind,
+      o.all ∙ ap (λ (steps : List Step). encode_utf8_all (shown_by (do_all most steps blank))) e ∙ ap encode_utf8_all (shown_on most p.steps later blank) ∙ encoded_on first behind
+          ∙ ap (λ (t : List ℕ). t ++ encode_utf8_all behind) (sym p.all),
+    )
+
+shorter : (bytes sent unsent : List ℕ) → IsFrontOf Overwrites bytes (sent ++ unsent) → IsFrontOf Overwrites bytes sent
+shorter bytes sent unsent h whole k = let (more, e) = h whole k in (unsent ++ more, e ∙ append_assoc sent unsent more)
+
+all_front : (bytes text : List ℕ) → Transforms Passes Ending begun bytes text → IsFrontOf Overwrites bytes text
+all_front bytes text h whole k = ([], one_text bytes whole text k (transformed bytes text h) ∙ sym (append-nil text))
+
+-- what went out of a run is a front of the text of the whole input
+pub overwritten_sent : (bytes more sent : List ℕ) (i k w y : Option (List ℕ)) → Consumes i k (bytes ++ more) → BeginsWith (Sends Passes begun) (Transforms Passes Ending begun) ((more ≡ []) × IsAtEnd k) bytes sent
+    → Appends w y sent → IfSome i (λ all. (out : List ℕ) × IsFrontOf Overwrites all out × Appends w y out)
+overwritten_sent = whole_front (Sends Passes begun) (Transforms Passes Ending begun) (IsFrontOf Overwrites) shorter (λ read more text (last, p). passes_front read more text last p) all_front

@@ -1,0 +1,131 @@
+-- What is written is plain: UTF-8 of characters that are shown.
+use Rattle.std.proofs.Common.{◌≡◌, ℕ, Bool, true, false, cond, List, [], ◌∷◌, ◌++◌, refl}
+use Rattle.std.specs.Prelude.{◌==◌}
+use Rattle.std.specs.List.{AllByRecursion}
+use Rattle.std.specs.Str.{all_scalars}
+use Rattle.std.proofs.lemmas.Bool.{and_from, and_parts}
+use lib.Utf8.{scalar}
+use Rattle.bstr.specs.Utf8.{lossy_chars}
+use Rattle.csicodec_names.specs.declared.enums.EraseInDisplay.{EraseInDisplay}
+use Rattle.csicodec_names.specs.declared.enums.EraseInDisplay.TheVariants as display
+use Rattle.csicodec_names.specs.declared.enums.EraseInLine.{EraseInLine}
+use Rattle.csicodec_names.specs.declared.enums.EraseInLine.TheVariants as part
+use Rattle.csicodec_actions.specs.declared.cursor.Cursor.{Cursor}
+use Rattle.csicodec_actions.specs.declared.cursor.Cursor.TheVariants as cursor
+use Rattle.csicodec_actions.specs.declared.edit.Edit.{Edit}
+use Rattle.csicodec_actions.specs.declared.edit.Edit.TheVariants as edit
+use Rattle.csicodec_actions.specs.Actions.{Action}
+use Rattle.csicodec_actions.specs.Actions as action
+use Rattle.csicodec_spans.specs.declared.table.Kind.{Kind}
+use Rattle.csicodec_spans.specs.declared.table.Kind.TheVariants as kind
+use Rattle.csicodec_spans.specs.Parts.{Part}
+use Rattle.csicodec_clean.specs.Shown.{IsPlain, IsShown, shown}
+use Rattle.csicodec_clean.specs.Titles.{with_titles}
+use Rattle.csicodec_clean.proofs.Plain.{scalars_lossy}
+use Rattle.csicodec_overwrite.specs.declared.step.Step.{Step}
+use Rattle.csicodec_overwrite.specs.declared.step.Step.TheVariants as step
+use Rattle.csicodec_overwrite.specs.Line.{blank, do_all}
+use Rattle.csicodec_overwrite.specs.Steps.{of_action, of_actions, of_char, of_chars, of_cursor, of_display, of_edit, of_part, of_run}
+use Rattle.csicodec_overwrite.specs.Reading.{AreOfParts, IsOfPart, Overwrites, Steps, most, shown_by}
+use Rattle.csicodec_overwrite.proofs.Kept.{OfStep, of_shown}
+
+-- a character that is shown
+abbrev IsGood : ℕ → Type 0
+IsGood c = IsShown c × (scalar c ≡ true)
+
+abbrev AreGood : List Step → Type 0
+AreGood steps = AllByRecursion (OfStep IsGood) steps
+
+both : (xs ys : List Step) → AreGood xs → AreGood ys → AreGood (xs ++ ys)
+both [] ys h k = k
+both (x ∷ xs) ys h k = (h.0, both xs ys h.1 k)
+
+-- ---- no other is put
+
+char_good : (c : ℕ) → scalar c ≡ true → AreGood (of_char c)
+char_good c h = by (c == 10) (c == 13) (c == 8) (c == 9) (shown c) (λ e. (e, h))
+  where
+    by : (line return back tab shows : Bool) → (shows ≡ true → IsGood c)
+        → AreGood (cond line (step.NewLine ∷ []) (cond return (step.Column 1 ∷ []) (cond back (step.Left 1 ∷ []) (cond tab (step.Tab ∷ []) (cond shows (step.Put c ∷ []) [])))))
+    by true return back tab shows good = (tt, tt)
+    by false true back tab shows good = (tt, tt)
+    by false false true tab shows good = (tt, tt)
+    by false false false true shows good = (tt, tt)
+    by false false false false true good = (good refl, tt)
+    by false false false false false good = tt
+
+chars_good : (cs : List ℕ) → all_scalars cs ≡ true → AreGood (of_chars cs)
+chars_good [] h = tt
+chars_good (c ∷ cs) h =
+    let parts : (scalar c ≡ true) × (all_scalars cs ≡ true) = and_parts (scalar c) (all_scalars cs) h in
+    both (of_char c) (of_chars cs) (char_good c parts.0) (chars_good cs parts.1)
+
+run_good : (run : List ℕ) → AreGood (of_run run)
+run_good run = chars_good (lossy_chars run) (scalars_lossy run)
+
+cursor_good : (c : Cursor) → AreGood (of_cursor c)
+cursor_good (cursor.Right n) = (tt, tt)
+cursor_good (cursor.Left n) = (tt, tt)
+cursor_good (cursor.CharacterAbsolute col) = (tt, tt)
+cursor_good (cursor.CharacterPositionAbsolute col) = (tt, tt)
+cursor_good (cursor.CharacterPositionForward n) = (tt, tt)
+cursor_good (cursor.CharacterPositionBackward n) = (tt, tt)
+cursor_good (cursor.Position row col) = (tt, tt)
+cursor_good (cursor.CharacterAndLinePosition row col) = (tt, tt)
+cursor_good _ = tt
+
+part_good : (p : EraseInLine) → AreGood (of_part p)
+part_good part.EraseToEndOfLine = (tt, tt)
+part_good part.EraseToStartOfLine = (tt, tt)
+part_good part.EraseLine = (tt, tt)
+
+display_good : (p : EraseInDisplay) → AreGood (of_display p)
+display_good display.EraseToEndOfDisplay = (tt, tt)
+display_good _ = tt
+
+edit_good : (e : Edit) → AreGood (of_edit e)
+edit_good (edit.EraseCharacter n) = (tt, tt)
+edit_good (edit.DeleteCharacter n) = (tt, tt)
+edit_good (edit.InsertCharacter n) = (tt, tt)
+edit_good (edit.EraseInLine p) = part_good p
+edit_good (edit.EraseInDisplay p) = display_good p
+edit_good _ = tt
+
+action_good : (a : Action) → AreGood (of_action a)
+action_good (action.Cursor c) = cursor_good c
+action_good (action.Edit e) = edit_good e
+action_good _ = tt
+
+actions_good : (actions : List Action) → AreGood (of_actions actions)
+actions_good [] = tt
+actions_good (a ∷ actions) = both (of_action a) (of_actions actions) (action_good a) (actions_good actions)
+
+part_steps : (k : Kind) (run bytes left : List ℕ) (steps : List Step) → IsOfPart k run bytes steps left → AreGood steps
+part_steps kind.Text run bytes left steps h = rw h.0 tt
+part_steps kind.Csi run bytes left steps (actions, of, e, none) = rw e (both (of_run run) (of_actions actions) (run_good run) (actions_good actions))
+part_steps kind.Esc run bytes left steps h = rw h.0 (run_good run)
+part_steps kind.Str run bytes left steps h = rw h.0 (run_good run)
+part_steps kind.Other run bytes left steps h = rw h.0 (run_good run)
+
+parts_good : (run : List ℕ) (ps : List Part) (steps : List Step) (left : List ℕ) → AreOfParts run ps steps left → AreGood steps
+parts_good run [] steps left h = rw h.0 tt
+parts_good run (p ∷ ps) steps left (first, next, others, is, e, rest) = rw e (both first others (part_steps p.kind run p.bytes next first is) (parts_good next ps others left rest))
+
+steps_good : (bytes : List ℕ) (steps : List Step) → Steps bytes steps → AreGood steps
+steps_good bytes steps s = rw s.all (both s.before (of_run s.run) (parts_good [] (with_titles false s.parts) s.before s.run s.read) (run_good s.run))
+
+-- ---- and so what is written
+
+scalars : (cs : List ℕ) → AllByRecursion IsGood cs → all_scalars cs ≡ true
+scalars [] h = refl
+scalars (c ∷ cs) h = and_from (scalar c) (all_scalars cs) h.0.1 (scalars cs h.1)
+
+all_shown : (cs : List ℕ) → AllByRecursion IsGood cs → AllByRecursion IsShown cs
+all_shown [] h = tt
+all_shown (c ∷ cs) h = (h.0.0, all_shown cs h.1)
+
+pub overwritten_plain : (bytes text : List ℕ) → Overwrites bytes text → IsPlain text
+overwritten_plain bytes text o =
+    let chars = shown_by (do_all most o.steps blank) in
+    let good = of_shown IsGood (refl, refl) (refl, refl) (refl, refl) most o.steps (steps_good bytes o.steps o.read) in
+    (chars, scalars chars good, all_shown chars good, o.all)

@@ -1,0 +1,151 @@
+-- A line never holds more cells than the limit.
+use Rattle.std.proofs.Common.{◌≡◌, ◌≤◌, ℕ, ◌+◌, ◌-◌, suc, Bool, true, false, cond, min, List, [], ◌∷◌, ◌++◌, length, length-append, replicate, refl, arith}
+use Rattle.std.specs.Prelude.{◌==◌, max, nat_lt, unwrap_or}
+use Rattle.std.proofs.lemmas.List.{length-replicate}
+use Rattle.unicode_width.specs.Width.{char_width}
+use Rattle.unicode_width.proofs.Rules.{width_or_zero-le}
+use Rattle.std.proofs.lemmas.Bool.Decides.{nat_tests}
+use Rattle.csicodec_overwrite.specs.declared.cells.Cell.{Cell}
+use Rattle.csicodec_overwrite.specs.declared.cells.Cell.TheVariants.{Behind, Char, Empty, Mark}
+use Rattle.csicodec_overwrite.specs.declared.line.Line.{Line}
+use Rattle.csicodec_overwrite.specs.declared.step.Step.{Step}
+use Rattle.csicodec_overwrite.specs.declared.step.Step.TheVariants as step
+use Rattle.csicodec_overwrite.specs.Cells.{begins_behind, belongs, columns, emptied, erased, gone, onto, outside, takes, to_tab_stop, width, without}
+use Rattle.csicodec_overwrite.specs.Line.{Done, back, blank, do_all, does, done, fits, forward, line, over, padded, parted, placed, put, size, text_of}
+
+-- either way of a test
+either : {T : Type 0} (P : T → Type 0) (t : Bool) (x y : T) → (t ≡ true → P x) → (t ≡ false → P y) → P (cond t x y)
+either P true x y h k = h refl
+either P false x y h k = k refl
+
+always : {T : Type 0} (P : T → Type 0) (t : Bool) (x y : T) → P x → P y → P (cond t x y)
+always P t x y h k = either P t x y (λ e. h) (λ e. k)
+
+takes_few : (x : Cell) → takes x ≤ 1
+takes_few Empty = omega arith
+takes_few (Char c) = omega arith
+takes_few Behind = omega arith
+takes_few (Mark c) = omega arith
+
+few_columns : (xs : List Cell) → columns xs ≤ length xs
+few_columns [] = omega arith
+few_columns (x ∷ xs) = omega (arith, takes_few x, few_columns xs)
+
+joined : (n : ℕ) (x : Cell) (xs : List Cell) → length (replicate n x ++ xs) ≡ n + length xs
+joined n x xs = omega (arith, length-append (replicate n x) xs, length-replicate n x)
+
+empties : (n : ℕ) → length (replicate n Empty) ≡ n
+empties n = length-replicate n Empty
+
+moved : (xs ys : List Cell) → length (onto xs ys) ≡ length xs + length ys
+moved [] ys = omega arith
+moved (x ∷ xs) ys = omega (arith, moved xs (x ∷ ys))
+
+-- ---- cells that are taken have no more columns than they are
+
+-- the rest is a part of the cells
+abbrev IsPart : List Cell → List Cell → Type 0
+IsPart xs rest = (columns xs + length rest ≤ length xs + columns rest) × (length rest ≤ length xs) × (columns rest ≤ columns xs)
+
+all_of : (xs : List Cell) → IsPart xs xs
+all_of xs = (omega arith, omega arith, omega arith)
+
+one_less : (x : Cell) (xs rest : List Cell) → IsPart xs rest → IsPart (x ∷ xs) rest
+one_less x xs rest h = (omega (arith, takes_few x, h.0), omega (arith, h.1), omega (arith, h.2))
+
+part_outside : (xs : List Cell) → IsPart xs (outside xs)
+part_outside [] = all_of []
+part_outside (x ∷ xs) = always (IsPart (x ∷ xs)) (belongs x) (outside xs) (x ∷ xs) (one_less x xs (outside xs) (part_outside xs)) (all_of (x ∷ xs))
+
+part_without : (n : ℕ) (xs : List Cell) → IsPart xs (without n xs)
+part_without n [] = all_of []
+part_without n (x ∷ xs) = always (IsPart (x ∷ xs)) (n == 0) (x ∷ xs) (without (n - takes x) xs) (all_of (x ∷ xs)) (one_less x xs (without (n - takes x) xs) (part_without (n - takes x) xs))
+
+part_on : (xs ys zs : List Cell) → IsPart xs ys → IsPart ys zs → IsPart xs zs
+part_on xs ys zs h k = (omega (arith, h.0, k.0), omega (arith, h.1, k.1), omega (arith, h.2, k.2))
+
+refilled : (xs rest : List Cell) → IsPart xs rest → length (emptied xs rest) ≤ length xs
+refilled xs rest h = omega (arith, joined (columns xs - columns rest) Empty rest, h.0, h.1, h.2)
+
+gone_less : (n : ℕ) (xs : List Cell) → length (gone n xs) ≤ length (without n xs)
+gone_less n xs = refilled (without n xs) (outside (without n xs)) (part_outside (without n xs))
+
+some_left : (n : ℕ) → n == 0 ≡ false → 1 ≤ n
+some_left n e = grind (arith, nat_tests)
+
+none_left : (n : ℕ) → n == 0 ≡ true → n ≡ 0
+none_left n e = grind (arith, nat_tests)
+
+without_less : (n : ℕ) (xs : List Cell) → length (without n xs) + min n (columns xs) ≤ length xs
+without_less n [] = omega arith
+without_less n (x ∷ xs) = either (λ (rest : List Cell). length rest + min n (takes x + columns xs) ≤ suc (length xs)) (n == 0) (x ∷ xs) (without (n - takes x) xs)
+    (λ e. omega (arith, none_left n e))
+    (λ e. omega (arith, some_left n e, takes_few x, without_less (n - takes x) xs))
+
+erased_less : (n : ℕ) (xs : List Cell) → length (erased n xs) ≤ length xs
+erased_less n xs = omega (arith, joined (min n (columns xs)) Empty (gone n xs), gone_less n xs, without_less n xs)
+
+-- ---- lines
+
+parted_less : (l : Line) → size (parted l) ≤ size l
+parted_less l =
+    let left = refilled l.left (without 1 (outside l.left)) (part_on l.left (outside l.left) (without 1 (outside l.left)) (part_outside l.left) (part_without 1 (outside l.left))) in
+    let right = refilled l.right (outside l.right) (part_outside l.right) in
+    always (λ (m : Line). size m ≤ size l) (begins_behind l.right) (line (emptied l.left (without 1 (outside l.left))) (emptied l.right (outside l.right))) l (omega (arith, left, right)) (omega arith)
+
+back_size : (n : ℕ) (left right : List Cell) → size (back n left right) ≡ length left + length right
+back_size n [] right = omega arith
+back_size n (x ∷ left) right = always (λ (m : Line). size m ≡ suc (length left) + length right) (n == 0) (line (x ∷ left) right) (back (n - takes x) left (x ∷ right)) (omega arith) (omega (arith, back_size (n - takes x) left (x ∷ right)))
+
+over_size : (n : ℕ) (left right : List Cell) → size (over n left right) ≡ length left + length right
+over_size n left [] = omega arith
+over_size n left (x ∷ right) = always (λ (m : Line). size m ≡ length left + suc (length right)) (nat_lt n (takes x)) (line left (x ∷ right)) (over (n - takes x) (x ∷ left) right) (omega arith) (omega (arith, over_size (n - takes x) (x ∷ left) right))
+
+module _ (limit : ℕ) (enough : 8 ≤ limit) where
+  padded_size : (n : ℕ) (l : Line) → size l ≤ limit → size (padded limit n l) ≤ limit
+  padded_size n l h = omega (arith, joined (min n (limit - size l)) Empty l.left)
+
+  forward_size : (n : ℕ) (l : Line) → size l ≤ limit → size (forward limit n l) ≤ limit
+  forward_size n l h =
+      let same = over_size n l.left l.right in
+      let few : size (over n l.left l.right) ≤ limit = omega (arith, same, h) in
+      padded_size (n - columns l.right) (over n l.left l.right) few
+
+  placed_size : (c n : ℕ) (l : Line) → size (placed c n l) ≤ size l + max n 1
+  placed_size c n l =
+      let p = parted l in
+      let less = parted_less l in
+      let right = gone_less n p.right in
+      let rest = without_less n p.right in
+      either (λ (m : Line). size m ≤ size l + max n 1) (n == 0) (line (Mark c ∷ l.left) l.right) (line (replicate (n - 1) Behind ++ (Char c ∷ p.left)) (gone n p.right)) (λ e. omega arith)
+      (λ e. omega (arith, some_left n e, joined (n - 1) Behind (Char c ∷ p.left), less, right, rest))
+
+  first_width : (c : ℕ) → width c 0 ≤ 8
+  first_width c = always (λ (w : ℕ). w ≤ 8) (c == 9) (to_tab_stop 0) (unwrap_or (char_width false c) 0) (omega arith) (omega (arith, width_or_zero-le false c))
+
+  fits_size : (w : ℕ) (l : Line) → fits limit w l ≡ true → size l + max w 1 ≤ limit
+  fits_size w l e = grind (arith, nat_tests)
+
+  put_size : (c : ℕ) (l : Line) → size (put limit c l).line ≤ limit
+  put_size c l =
+      let w = width c (columns l.left) in
+      either (λ (d : Done). size d.line ≤ limit) (fits limit w l) (done [] (placed c w l)) (done (text_of l ++ 10 ∷ []) (placed c (width c 0) blank)) (λ e. omega (arith, placed_size c w l, fits_size w l e))
+      (λ e. omega (arith, placed_size c (width c 0) blank, first_width c, enough))
+
+  does_size : (s : Step) (l : Line) → size l ≤ limit → size (does limit s l).line ≤ limit
+  does_size (step.Put c) l h = put_size c l
+  does_size step.Tab l h = always (λ (d : Done). size d.line ≤ limit) (length l.right == 0) (put limit 9 l) (done [] (forward limit (to_tab_stop (columns l.left)) l)) (put_size 9 l) (forward_size (to_tab_stop (columns l.left)) l h)
+  does_size step.NewLine l h = omega arith
+  does_size (step.Right n) l h = forward_size n l h
+  does_size (step.Left n) l h = omega (arith, back_size n l.left l.right)
+  does_size (step.Column n) l h = forward_size (n - 1) (line [] (onto l.left l.right)) (omega (arith, moved l.left l.right))
+  does_size step.EraseRight l h = omega (arith, parted_less l)
+  does_size step.EraseLeft l h = omega (arith, empties (columns l.left), few_columns l.left, erased_less 1 l.right)
+  does_size step.EraseAll l h = omega (arith, empties (columns l.left), few_columns l.left)
+  does_size (step.Erase n) l h = omega (arith, parted_less l, erased_less n (parted l).right)
+  does_size (step.Delete n) l h = omega (arith, parted_less l, gone_less n (parted l).right, without_less n (parted l).right)
+  does_size (step.Insert n) l h = omega (arith, parted_less l, joined (min n (limit - size (parted l))) Empty (parted l).right)
+
+  pub all_size : (steps : List Step) (l : Line) → size l ≤ limit → size (do_all limit steps l).line ≤ limit
+  all_size [] l h = h
+  all_size (s ∷ steps) l h = all_size steps (does limit s l).line (does_size s l h)

@@ -1,0 +1,214 @@
+-- Plain text of which each line has room stays as it is.
+use Rattle.std.proofs.Common.{◌≡◌, ◌≤◌, ◌⊎◌, ℕ, ◌+◌, ◌-◌, zero, suc, Bool, true, false, cond, List, [], ◌∷◌, ◌++◌, length, replicate, encode_utf8_all, refl, sym, ap, subst, ◌∙◌, inl, inr, ⊎_elim, append_assoc, append-nil, arith}
+use Rattle.std.specs.Prelude.{◌==◌, max, nat_le}
+use Rattle.std.specs.List.{AllByRecursion, flat_map}
+use Rattle.std.proofs.lemmas.Bool.{eqb-true}
+use Rattle.std.proofs.lemmas.Bool.Decides.{nat_tests}
+use Rattle.bstr.specs.Utf8.{lossy_chars}
+use Rattle.bstr.proofs.lemmas.EncodeLemmas.{lossy_chars-encode}
+use Rattle.csicodec_spans.specs.declared.table.Kind.TheVariants as kind
+use Rattle.csicodec_spans.specs.declared.table.Mode.TheVariants as mode
+use Rattle.csicodec_spans.specs.Parts.{Part}
+use Rattle.csicodec_spans.proofs.OneSpan.{none_unsure, singles}
+use Rattle.csicodec_clean.specs.Cleaned.{longest}
+use Rattle.csicodec_clean.specs.Shown.{IsPlain, IsShown, shown}
+use Rattle.csicodec_clean.proofs.PlainBytes.{plain_bytes}
+use Rattle.csicodec_clean.proofs.Titles.{single_texts}
+use Rattle.csicodec_clean.proofs.Twice.{all_text}
+use Rattle.csicodec_overwrite.specs.declared.cells.Cell.{Cell}
+use Rattle.csicodec_overwrite.specs.declared.cells.Cell.TheVariants.{Behind, Char, Mark}
+use Rattle.csicodec_overwrite.specs.declared.line.Line.{Line}
+use Rattle.csicodec_overwrite.specs.declared.step.Step.{Step}
+use Rattle.csicodec_overwrite.specs.declared.step.Step.TheVariants as step
+use Rattle.csicodec_overwrite.specs.Cells.{chars_of, columns, is_empty, onto, trimmed, width}
+use Rattle.csicodec_overwrite.specs.Line.{Done, HasRoom, before, blank, do_all, does, done, line, placed, put, text_of}
+use Rattle.csicodec_overwrite.specs.Steps.{of_char, of_chars, of_run}
+use Rattle.csicodec_overwrite.specs.Reading.{AreOfParts, Overwrites, Steps, most, shown_by}
+use Rattle.csicodec_overwrite.proofs.Once.{one_text}
+
+-- ---- cells of which none is empty
+
+abbrev IsFull : Cell → Type 0
+IsFull cell = is_empty cell ≡ false
+
+abbrev AreFull : List Cell → Type 0
+AreFull cells = AllByRecursion IsFull cells
+
+-- their characters, where the last stands nearest
+abbrev chars : List Cell → List ℕ
+chars left = flat_map chars_of (onto left [])
+
+chars_onto : (left right : List Cell) → flat_map chars_of (onto left right) ≡ chars left ++ flat_map chars_of right
+chars_onto [] right = refl
+chars_onto (x ∷ left) right =
+    let rest = flat_map chars_of right in
+    let one : chars (x ∷ left) ≡ chars left ++ chars_of x = chars_onto left (x ∷ []) ∙ ap (λ (t : List ℕ). chars left ++ t) (append-nil (chars_of x)) in
+    chars_onto left (x ∷ right) ∙ sym (append_assoc (chars left) (chars_of x) rest) ∙ ap (λ (t : List ℕ). t ++ rest) (sym one)
+
+one_more : (x : Cell) (left : List Cell) → chars (x ∷ left) ≡ chars left ++ chars_of x
+one_more x left = chars_onto left (x ∷ []) ∙ ap (λ (t : List ℕ). chars left ++ t) (append-nil (chars_of x))
+
+full_trimmed : (left : List Cell) → AreFull left → trimmed left ≡ left
+full_trimmed [] h = refl
+full_trimmed (x ∷ left) h = ap (λ (t : Bool). cond t (trimmed left) (x ∷ left)) h.0
+
+full_text : (left : List Cell) → AreFull left → text_of (line left []) ≡ chars left
+full_text left h = ap chars (full_trimmed left h)
+
+-- ---- the cells of one character
+
+abbrev cells : ℕ → ℕ → List Cell → List Cell
+cells c zero left = Mark c ∷ left
+cells c (suc w) left = replicate w Behind ++ Char c ∷ left
+
+cells_chars : (c w : ℕ) (left : List Cell) → chars (cells c w left) ≡ chars left ++ c ∷ []
+cells_chars c zero left = one_more (Mark c) left
+cells_chars c (suc w) left = behind w
+  where
+    behind : (n : ℕ) → chars (replicate n Behind ++ Char c ∷ left) ≡ chars left ++ c ∷ []
+    behind zero = one_more (Char c) left
+    behind (suc n) = one_more Behind (replicate n Behind ++ Char c ∷ left) ∙ append-nil (chars (replicate n Behind ++ Char c ∷ left)) ∙ behind n
+
+cells_full : (c w : ℕ) (left : List Cell) → AreFull left → AreFull (cells c w left)
+cells_full c zero left h = (refl, h)
+cells_full c (suc w) left h = behind w
+  where
+    behind : (n : ℕ) → AreFull (replicate n Behind ++ Char c ∷ left)
+    behind zero = (refl, h)
+    behind (suc n) = (refl, behind n)
+
+cells_columns : (c w : ℕ) (left : List Cell) → columns (cells c w left) ≡ columns left + w
+cells_columns c zero left = omega arith
+cells_columns c (suc w) left = omega (arith, behind w)
+  where
+    behind : (n : ℕ) → columns (replicate n Behind ++ Char c ∷ left) ≡ n + (1 + columns left)
+    behind zero = omega arith
+    behind (suc n) = omega (arith, behind n)
+
+cells_length : (c w : ℕ) (left : List Cell) → length (cells c w left) ≡ length left + max w 1
+cells_length c zero left = omega arith
+cells_length c (suc w) left = omega (arith, behind w)
+  where
+    behind : (n : ℕ) → length (replicate n Behind ++ Char c ∷ left) ≡ n + (1 + length left)
+    behind zero = omega arith
+    behind (suc n) = omega (arith, behind n)
+
+placed_cells : (c w : ℕ) (left : List Cell) → placed c w (line left []) ≡ line (cells c w left) []
+placed_cells c zero left = refl
+placed_cells c (suc w) left =
+    let some : (suc w == 0) ≡ false = grind (arith, nat_tests) in
+    let less : suc w - 1 ≡ w = omega arith in
+    by (suc w == 0) some ∙ ap (λ (n : ℕ). line (replicate n Behind ++ Char c ∷ left) []) less
+  where
+    by : (t : Bool) → t ≡ false → cond t (line (Mark c ∷ left) []) (line (replicate (suc w - 1) Behind ++ (Char c ∷ left)) []) ≡ line (replicate (suc w - 1) Behind ++ Char c ∷ left) []
+    by t e = rw e refl
+
+has_room : (a b limit : ℕ) → a + b ≤ limit → nat_le ((a + 0) + b) limit ≡ true
+has_room a b limit h = grind (arith, nat_tests)
+
+put_cells : (limit c : ℕ) (left : List Cell) → length left + max (width c (columns left)) 1 ≤ limit → put limit c (line left []) ≡ done [] (line (cells c (width c (columns left)) left) [])
+put_cells limit c left h =
+    let w = width c (columns left) in
+    by (nat_le ((length left + 0) + max w 1) limit) (has_room (length left) (max w 1) limit h) ∙ ap (done []) (placed_cells c w left)
+  where
+    by : (t : Bool) → t ≡ true → cond t (done [] (placed c (width c (columns left)) (line left []))) (done (text_of (line left []) ++ 10 ∷ []) (placed c (width c 0) blank)) ≡ done [] (placed c (width c (columns left)) (line left []))
+    by t e = rw e refl
+
+-- ---- the steps of plain text
+
+-- a step that writes nothing
+silent : (limit : ℕ) (s : Step) (steps : List Step) (l m : Line) → does limit s l ≡ done [] m → shown_by (do_all limit (s ∷ steps) l) ≡ shown_by (do_all limit steps m)
+silent limit s steps l m e = ap (λ (d : Done). shown_by (before d.text (do_all limit steps d.line))) e
+
+-- a character that is shown ends the line, or stands in it
+abbrev Puts : ℕ → Type 0
+Puts c = ((c == 10 ≡ true) × (of_char c ≡ step.NewLine ∷ []))
+    ⊎ ((c == 10 ≡ false) × ((s : Step) × (of_char c ≡ s ∷ []) × ((limit : ℕ) (left : List Cell) → does limit s (line left []) ≡ put limit c (line left []))))
+
+not_shown : (c d : ℕ) → c ≡ d → shown d ≡ false → IsShown c → ⊥
+not_shown c d e f h = let g : shown d ≡ true = subst (λ (x : ℕ). shown x ≡ true) e h in cc
+
+put_of : (c : ℕ) → (c == 10) ≡ false → (c == 13) ≡ false → (c == 8) ≡ false → (c == 9) ≡ false → shown c ≡ true → of_char c ≡ step.Put c ∷ []
+put_of c = by (c == 10) (c == 13) (c == 8) (c == 9) (shown c)
+  where
+    by : (line return back tab shows : Bool) → line ≡ false → return ≡ false → back ≡ false → tab ≡ false → shows ≡ true
+        → cond line (step.NewLine ∷ []) (cond return (step.Column 1 ∷ []) (cond back (step.Left 1 ∷ []) (cond tab (step.Tab ∷ []) (cond shows (step.Put c ∷ []) [])))) ≡ step.Put c ∷ []
+    by line return back tab shows e f g i k = rw (e, f, g, i, k) refl
+
+puts : (c : ℕ) → IsShown c → Puts c
+puts c h = by (c == 10) (c == 13) (c == 8) (c == 9) (shown c) refl refl refl refl refl
+  where
+    by : (line return back tab shows : Bool) → (c == 10) ≡ line → (c == 13) ≡ return → (c == 8) ≡ back → (c == 9) ≡ tab → shown c ≡ shows → Puts c
+    by true return back tab shows e f g i k = inl (e, rw e refl)
+    by false true back tab shows e f g i k = absurd (not_shown c 13 (eqb-true c 13 f) refl h)
+    by false false true tab shows e f g i k = absurd (not_shown c 8 (eqb-true c 8 g) refl h)
+    by false false false true shows e f g i k = inr (e, (step.Tab, rw (e, f, g, i) refl, λ limit left. ap (λ (d : ℕ). put limit d (line left [])) (sym (eqb-true c 9 i))))
+    by false false false false true e f g i k = inr (e, (step.Put c, put_of c e f g i k, λ limit left. refl))
+    by false false false false false e f g i k = absurd (let j : shown c ≡ true = h in cc)
+
+room_line : (limit n m c : ℕ) (cs : List ℕ) → c == 10 ≡ true → HasRoom limit n m (c ∷ cs) → HasRoom limit 0 0 cs
+room_line limit n m c cs e h = rw e at h
+
+room_char : (limit n m c : ℕ) (cs : List ℕ) → c == 10 ≡ false → HasRoom limit n m (c ∷ cs) → (m + max (width c n) 1 ≤ limit) × HasRoom limit (n + width c n) (m + max (width c n) 1) cs
+room_char limit n m c cs e h = rw e at h
+
+newline_is : (c : ℕ) → c == 10 ≡ true → c ≡ 10
+newline_is c e = eqb-true c 10 e
+
+stays : (limit : ℕ) (cs : List ℕ) (left : List Cell) → AreFull left → AllByRecursion IsShown cs → HasRoom limit (columns left) (length left) cs → shown_by (do_all limit (of_chars cs) (line left [])) ≡ chars left ++ cs
+stays limit [] left full all room = full_text left full ∙ sym (append-nil (chars left))
+stays limit (c ∷ cs) left full all room = ⊎_elim
+    (λ (k : (c == 10 ≡ true) × (of_char c ≡ step.NewLine ∷ [])).
+    let rest = do_all limit (of_chars cs) blank in
+    ap (λ (s : List Step). shown_by (do_all limit (s ++ of_chars cs) (line left []))) k.1
+    ∙ ap (λ (t : List ℕ). ((t ++ 10 ∷ []) ++ rest.text) ++ text_of rest.line) (full_text left full)
+    ∙ append_assoc (chars left ++ 10 ∷ []) rest.text (text_of rest.line)
+    ∙ ap (λ (t : List ℕ). (chars left ++ 10 ∷ []) ++ t) (stays limit cs [] tt all.1 (room_line limit (columns left) (length left) c cs k.0 room))
+    ∙ append_assoc (chars left) (10 ∷ []) cs
+    ∙ ap (λ (d : ℕ). chars left ++ d ∷ cs) (sym (newline_is c k.0)))
+    (λ (k : (c == 10 ≡ false) × ((s : Step) × (of_char c ≡ s ∷ []) × ((limit : ℕ) (left : List Cell) → does limit s (line left []) ≡ put limit c (line left [])))).
+    let (s, of, puts) = k.1 in
+    let w = width c (columns left) in
+    let more = room_char limit (columns left) (length left) c cs k.0 room in
+    let next = cells c w left in
+    let room_next : HasRoom limit (columns next) (length next) cs =
+    subst (λ (n : ℕ). HasRoom limit n (length next) cs) (sym (cells_columns c w left)) (subst (λ (m : ℕ). HasRoom limit (columns left + w) m cs) (sym (cells_length c w left)) more.1) in
+    ap (λ (x : List Step). shown_by (do_all limit (x ++ of_chars cs) (line left []))) of
+    ∙ silent limit s (of_chars cs) (line left []) (line next []) (puts limit left ∙ put_cells limit c left more.0)
+    ∙ stays limit cs next (cells_full c w left full) all.1 room_next
+    ∙ ap (λ (t : List ℕ). t ++ cs) (cells_chars c w left)
+    ∙ append_assoc (chars left) (c ∷ []) cs)
+    (puts c all.0)
+
+-- ---- the text
+
+of_singles : (bs run : List ℕ) → AreOfParts run (singles kind.Text bs) [] (run ++ bs)
+of_singles [] run = (refl, append-nil run)
+of_singles (b ∷ bs) run = ([], run ++ b ∷ [], [], (refl, refl), refl, subst (λ (r : List ℕ). AreOfParts (run ++ b ∷ []) (singles kind.Text bs) [] r) (append_assoc run (b ∷ []) bs) (of_singles bs (run ++ b ∷ [])))
+
+plain_steps : (text : List ℕ) → IsPlain text → Steps text (of_run text)
+plain_steps text p = record {
+  parts = singles kind.Text text;
+  whole = record {
+    sure = singles kind.Text text;
+    rest = [];
+    after = mode.Text;
+    first = all_text longest text (plain_bytes text p);
+    unsure = none_unsure longest mode.Text;
+    whole = sym (append-nil (singles kind.Text text));
+  };
+  before = [];
+  run = text;
+  read = subst (λ (ps : List Part). AreOfParts [] ps [] text) (sym (single_texts text)) (of_singles text []);
+  all = refl;
+}
+
+plain_overwritten : (text : List ℕ) (p : IsPlain text) → HasRoom most 0 0 p.0 → Overwrites text text
+plain_overwritten text (cs, scalars, all, e) room = record {
+  steps = of_run text;
+  read = plain_steps text (cs, scalars, all, e);
+  all = e ∙ ap encode_utf8_all (sym (ap (λ (xs : List ℕ). shown_by (do_all most (of_chars xs) blank)) (ap lossy_chars e ∙ lossy_chars-encode cs scalars) ∙ stays most cs [] tt all room));
+}
+
+pub plain_stays : (text other : List ℕ) (p : IsPlain text) → HasRoom most 0 0 p.0 → Overwrites text other → other ≡ text
+plain_stays text other p room o = one_text text other text o (plain_overwritten text p room)

@@ -1,0 +1,10 @@
+use Rattle.std.proofs.Common.{◌≡◌, length}
+use Rattle.csicodec_overwrite.specs.Cells.{without}
+use Rattle.csicodec_overwrite.proofs.cells.Side.take_columns.Given as goal
+
+-- what is left to take of the others
+abbrev pub invariant-loop-left : goal.invariant-loop-left
+invariant-loop-left l = record { left : without l.left l.self ≡ without l.fn.count l.initial.self }
+
+abbrev pub decreases-loop-left : goal.decreases-loop-left
+decreases-loop-left l = length l.self

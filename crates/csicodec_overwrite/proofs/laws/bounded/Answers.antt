@@ -1,0 +1,8 @@
+use Rattle.std.proofs.Common.{arith}
+use Rattle.csicodec_overwrite.specs.Line.{blank}
+use Rattle.csicodec_overwrite.specs.Reading.{most}
+use Rattle.csicodec_overwrite.proofs.Room.{all_size}
+use Rattle.csicodec_overwrite.proofs.laws.bounded.Goals as goal
+
+pub returns : goal.returns
+returns c = λ steps. all_size most (omega arith) steps blank (omega arith)

@@ -1,0 +1,5 @@
+use Rattle.csicodec_overwrite.proofs.Once.{one_text}
+use Rattle.csicodec_overwrite.proofs.laws.one_text.Goals as goal
+
+pub returns : goal.returns
+returns c = one_text

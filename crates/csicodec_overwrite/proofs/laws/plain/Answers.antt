@@ -1,0 +1,5 @@
+use Rattle.csicodec_overwrite.proofs.Plain.{overwritten_plain}
+use Rattle.csicodec_overwrite.proofs.laws.plain.Goals as goal
+
+pub returns : goal.returns
+returns c = overwritten_plain

@@ -1,0 +1,31 @@
+use Rattle.std.proofs.Common.{◌++◌, ◌∷◌, [], take, drop, refl, sym, ap, subst, ◌∙◌, append_assoc, append-nil, take-append-drop}
+use Rattle.csicodec_clean.specs.Shown.{IsRead}
+use Rattle.csicodec_clean.proofs.Sure.{read_none, read_on}
+use Rattle.csicodec_overwrite.proofs.Chars.{char_on}
+use Rattle.csicodec_overwrite.proofs.text.append_sure.Goals as goal
+
+pub loop-char-init : goal.loop-char-init
+loop-char-init c = record { parts = ([], refl); chars = ([], read_none c.args.bytes.now, sym (append-nil c.args.steps.now.items)) }
+
+pub loop-char-preserved : goal.loop-char-preserved
+loop-char-preserved c =
+    let (front, split) = c.loop-char.invariant.parts in
+    let (chars, read, out) = c.loop-char.invariant.chars in
+    let bytes = c.args.bytes.now in
+    let rest = c.loop-char.rest.now in
+    let size = c.in-Some.size in
+    let one = c.in-Some.char ∷ [] in
+    let old = c.args.steps.now.items in
+    let behind = c.split_at.ensures.back in
+    let here = read_on bytes rest (drop size rest) chars one read c.in-Some.ensures.some.0 in
+    record {
+      parts = (
+        front ++ take size rest,
+        split ∙ ap (λ t. front ++ t) (sym (take-append-drop size rest)) ∙ sym (append_assoc front (take size rest) (drop size rest)) ∙ ap (λ t. (front ++ take size rest) ++ t) (sym behind),
+      );
+      chars = (
+        chars ++ one,
+        subst (λ t. IsRead bytes (chars ++ one) t) (sym behind) here,
+        char_on c.in-Some.char chars old c.loop-char.steps.items c.append_char.new.steps.items out c.in_ok-append_char.ensures,
+      );
+    }

@@ -1,0 +1,87 @@
+-- What stands in a line, cell by cell, and how many columns that takes.
+use Rattle.std.specs.Prelude.{ℕ, ◌+◌, ◌-◌, ◌%◌, ◌==◌, min, Bool, true, false, List, [], ◌∷◌, ◌++◌, replicate, unwrap_or, if◌then◌else◌}
+use Rattle.unicode_width.specs.Width.{char_width}
+use Rattle.csicodec_overwrite.specs.declared.cells.Cell.{Cell}
+use Rattle.csicodec_overwrite.specs.declared.cells.Cell.TheVariants.{Behind, Char, Empty, Mark}
+
+-- the columns of a cell
+abbrev pub takes : Cell → ℕ
+takes Empty = 1
+takes (Char c) = 1
+takes Behind = 1
+takes (Mark c) = 0
+
+abbrev pub columns : List Cell → ℕ
+columns [] = 0
+columns (cell ∷ cells) = takes cell + columns cells
+
+-- it belongs to the character before it
+abbrev pub belongs : Cell → Bool
+belongs Empty = false
+belongs (Char c) = false
+belongs Behind = true
+belongs (Mark c) = true
+
+-- a further column of a character stands in front
+abbrev pub is_behind : Cell → Bool
+is_behind Empty = false
+is_behind (Char c) = false
+is_behind Behind = true
+is_behind (Mark c) = false
+
+abbrev pub begins_behind : List Cell → Bool
+begins_behind [] = false
+begins_behind (cell ∷ cells) = is_behind cell
+
+abbrev pub is_empty : Cell → Bool
+is_empty Empty = true
+is_empty (Char c) = false
+is_empty Behind = false
+is_empty (Mark c) = false
+
+-- without so many columns
+abbrev pub without : ℕ → List Cell → List Cell
+without n [] = []
+without n (cell ∷ cells) = if n == 0 then cell ∷ cells else without (n - takes cell) cells
+
+-- behind what belongs to the character before
+abbrev pub outside : List Cell → List Cell
+outside [] = []
+outside (cell ∷ cells) = if belongs cell then outside cells else cell ∷ cells
+
+-- from the first on that isn't empty
+abbrev pub trimmed : List Cell → List Cell
+trimmed [] = []
+trimmed (cell ∷ cells) = if is_empty cell then trimmed cells else cell ∷ cells
+
+-- with the columns in front of the rest empty
+abbrev pub emptied : List Cell → List Cell → List Cell
+emptied cells rest = replicate (columns cells - columns rest) Empty ++ rest
+
+-- the cells of one side behind those of the other
+abbrev pub onto : List Cell → List Cell → List Cell
+onto [] cells = cells
+onto (cell ∷ side) cells = onto side (cell ∷ cells)
+
+-- without so many columns, nor what belongs to them: of a character that goes on behind them the columns are empty
+abbrev pub gone : ℕ → List Cell → List Cell
+gone n right = emptied (without n right) (outside (without n right))
+
+-- with so many columns empty, as far as there are some
+abbrev pub erased : ℕ → List Cell → List Cell
+erased n right = replicate (min n (columns right)) Empty ++ gone n right
+
+-- from a column, the columns up to the next tab stop: there is one at every eighth
+abbrev pub to_tab_stop : ℕ → ℕ
+to_tab_stop column = 8 - column % 8
+
+-- the columns that a character takes behind so many: a tab goes up to a tab stop
+abbrev pub width : ℕ → ℕ → ℕ
+width c column = if c == 9 then to_tab_stop column else unwrap_or (char_width false c) 0
+
+-- the characters of a cell: a blank of an empty one
+abbrev pub chars_of : Cell → List ℕ
+chars_of Empty = 32 ∷ []
+chars_of (Char c) = c ∷ []
+chars_of Behind = []
+chars_of (Mark c) = c ∷ []

@@ -1,0 +1,27 @@
+-- What the private steps of a reader say of each other. No promise rests on this file.
+use Rattle.std.specs.Prelude.{ℕ, ◌≡◌, Bool, List, [], ◌++◌}
+use Rattle.csicodec_actions.specs.Actions.{Action}
+use Rattle.csicodec_spans.specs.declared.table.Kind.{Kind}
+use Rattle.csicodec_spans.specs.declared.table.Kind.TheVariants as kind
+use Rattle.csicodec_spans.specs.declared.table.Mode.{Mode}
+use Rattle.csicodec_clean.specs.Shown.{IsRead}
+use Rattle.csicodec_clean.specs.Styled.{IsOf}
+use Rattle.csicodec_overwrite.specs.declared.step.Step.{Step}
+use Rattle.csicodec_overwrite.specs.Steps.{of_actions, of_chars, of_run}
+use Rattle.csicodec_overwrite.specs.Stream.{Goes}
+
+-- a span behind a run of which some bytes are held: the steps that come, and what is held then
+abbrev pub IsGiven : Kind → List ℕ → List ℕ → List Step → List ℕ → Type 0
+IsGiven kind.Text held bytes steps left = (chars : List ℕ) × IsRead (held ++ bytes) chars left
+    × (steps ≡ of_chars chars)
+IsGiven kind.Csi held bytes steps left = (actions : List Action) × IsOf bytes actions
+    × (steps ≡ of_run held ++ of_actions actions) × (left ≡ [])
+IsGiven kind.Esc held bytes steps left = (steps ≡ of_run held) × (left ≡ [])
+IsGiven kind.Str held bytes steps left = (steps ≡ of_run held) × (left ≡ [])
+IsGiven kind.Other held bytes steps left = (steps ≡ of_run held) × (left ≡ [])
+
+-- from what is open and held to what is then: the parts in front of the rest, and the steps that came for them
+abbrev pub GoesTo : Mode → Bool → List ℕ → List ℕ → List ℕ → Mode → Bool → List ℕ → List Step
+    → List Step → Type 0
+GoesTo m t held bytes rest a later left old new = (steps : List Step) × (new ≡ old ++ steps)
+    × ((run chars : List ℕ) → IsRead run chars held → Goes m t run chars bytes steps rest a later left)

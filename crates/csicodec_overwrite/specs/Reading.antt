@@ -1,0 +1,54 @@
+-- The steps of a stream: those of the characters of its runs of text, each read by itself, and of its control sequences. Escape
+-- sequences, control strings, titles and what went wrong end a run, and do nothing.
+use Rattle.std.specs.Prelude.{ℕ, ◌≡◌, false, List, [], ◌∷◌, ◌++◌, encode_utf8_all}
+use Rattle.csicodec_actions.specs.Actions.{Action}
+use Rattle.csicodec_spans.specs.declared.table.Kind.{Kind}
+use Rattle.csicodec_spans.specs.declared.table.Kind.TheVariants as kind
+use Rattle.csicodec_spans.specs.declared.table.Mode.TheVariants as mode
+use Rattle.csicodec_spans.specs.Parts.{Part, IsWhole}
+use Rattle.csicodec_clean.specs.Cleaned.{longest}
+use Rattle.csicodec_clean.specs.Styled.{IsOf}
+use Rattle.csicodec_clean.specs.Titles.{with_titles}
+use Rattle.csicodec_overwrite.specs.declared.step.Step.{Step}
+use Rattle.csicodec_overwrite.specs.Line.{Done, blank, do_all, text_of}
+use Rattle.csicodec_overwrite.specs.Steps.{of_actions, of_run}
+
+-- one part behind a run of text: text goes on with the run, and any other part ends it
+abbrev pub IsOfPart : Kind → List ℕ → List ℕ → List Step → List ℕ → Type 0
+IsOfPart kind.Text run bytes steps left = (steps ≡ []) × (left ≡ run ++ bytes)
+IsOfPart kind.Csi run bytes steps left = (actions : List Action) × IsOf bytes actions
+    × (steps ≡ of_run run ++ of_actions actions) × (left ≡ [])
+IsOfPart kind.Esc run bytes steps left = (steps ≡ of_run run) × (left ≡ [])
+IsOfPart kind.Str run bytes steps left = (steps ≡ of_run run) × (left ≡ [])
+IsOfPart kind.Other run bytes steps left = (steps ≡ of_run run) × (left ≡ [])
+
+-- the parts in turn, behind a run of text: their steps, and the run that they end in
+abbrev pub AreOfParts : List ℕ → List Part → List Step → List ℕ → Type 0
+AreOfParts run [] steps left = (steps ≡ []) × (left ≡ run)
+AreOfParts run (p ∷ parts) steps left =
+    (first : List Step) × (next : List ℕ) × (others : List Step)
+    × IsOfPart p.kind run p.bytes first next × (steps ≡ first ++ others)
+    × AreOfParts next parts others left
+
+-- the steps of a whole stream
+pub record Steps (bytes : List ℕ) (steps : List Step) : Type 0 where
+  pub parts : List Part
+  pub whole : IsWhole longest mode.Text bytes parts
+  pub before : List Step
+  pub run : List ℕ
+  pub read : AreOfParts [] (with_titles false parts) before run
+  pub all : steps ≡ before ++ of_run run
+
+-- what was written, and then what stands in the line
+abbrev pub shown_by : Done → List ℕ
+shown_by d = d.text ++ text_of d.line
+
+-- a line holds so many cells at most
+abbrev pub most : ℕ
+most = longest
+
+-- each line of the stream as a terminal would show it at its end, as UTF-8
+pub record Overwrites (bytes text : List ℕ) : Type 0 where
+  pub steps : List Step
+  pub read : Steps bytes steps
+  pub all : text ≡ encode_utf8_all (shown_by (do_all most steps blank))

@@ -1,0 +1,78 @@
+-- A stream as it comes, chunk by chunk.
+use Rattle.std.specs.Prelude.{ℕ, ◌≡◌, Bool, false, List, [], ◌∷◌, ◌++◌, encode_utf8_all}
+use Rattle.std.specs.List.{concat}
+use Rattle.csicodec_spans.specs.declared.table.Mode.{Mode}
+use Rattle.csicodec_spans.specs.declared.table.Mode.TheVariants as mode
+use Rattle.csicodec_spans.specs.Parts.{Part, AreFirstParts, IsUnsure}
+use Rattle.csicodec_filter.specs.Transform.{GoesOn}
+use Rattle.csicodec_clean.specs.Cleaned.{longest}
+use Rattle.csicodec_clean.specs.Shown.{IsRead}
+use Rattle.csicodec_clean.specs.Titles.{title_open, with_titles}
+use Rattle.csicodec_overwrite.specs.declared.line.Line.{Line}
+use Rattle.csicodec_overwrite.specs.declared.step.Step.{Step}
+use Rattle.csicodec_overwrite.specs.Line.{blank, do_all}
+use Rattle.csicodec_overwrite.specs.Steps.{of_chars, of_run}
+use Rattle.csicodec_overwrite.specs.Reading.{AreOfParts, Overwrites, most, shown_by}
+
+-- between two pushes: what is open and whether that is a title, the bytes of which nothing is sure yet, and those of a character before them
+pub record Held : Type 0 where
+  pub mode : Mode
+  pub titled : Bool
+  pub bytes : List ℕ
+  pub held : List ℕ
+
+abbrev pub none_held : Held
+none_held = record { mode = mode.Text; titled = false; bytes = []; held = [] }
+
+-- Behind a run of text that reads as the characters and then the bytes that were held, of which the characters have given their
+-- steps: the parts in front of the bytes, and the steps that came for them.
+pub record Goes (m : Mode) (t : Bool) (run chars bytes : List ℕ) (steps : List Step)
+    (rest : List ℕ) (a : Mode) (later : Bool) (held : List ℕ) : Type 0 where
+  pub parts : List Part
+  pub before : List Step
+  pub left : List ℕ
+  pub read : List ℕ
+  pub first : AreFirstParts longest m bytes parts rest a
+  pub titles : later ≡ title_open t parts
+  pub are : AreOfParts run (with_titles t parts) before left
+  pub is_read : IsRead left read held
+  pub same : of_chars chars ++ steps ≡ before ++ of_chars read
+
+-- a push of these bytes gives the steps
+pub record Reads (old : Held) (bytes : List ℕ) (steps : List Step) (new : Held) : Type 0 where
+  pub unsure : IsUnsure longest new.mode new.bytes
+  pub goes : (run chars : List ℕ) → IsRead run chars old.held
+      → Goes old.mode old.titled run chars (old.bytes ++ bytes) steps new.bytes new.mode new.titled new.held
+
+-- what a stream is between two pushes: what is held of it, and the line that isn't over
+pub record Now : Type 0 where
+  pub reader : Held
+  pub line : Line
+
+abbrev pub begun : Now
+begun = record { reader = none_held; line = blank }
+
+-- these bytes give steps, and these write the text
+pub record Passes (old : Now) (bytes text : List ℕ) (new : Now) : Type 0 where
+  pub steps : List Step
+  pub reads : Reads old.reader bytes steps new.reader
+  pub line : new.line ≡ (do_all most steps old.line).line
+  pub all : text ≡ encode_utf8_all (do_all most steps old.line).text
+
+-- at the end, with what is held, all that stands in the line is written
+abbrev pub Ending : Now → List ℕ → Type 0
+Ending last text =
+    text ≡ encode_utf8_all (shown_by (do_all most (of_run last.reader.held) last.line))
+
+-- chunks in turn, and all that they append
+abbrev pub AreTaken : Now → List (List ℕ) → List ℕ → Now → Type 0
+AreTaken old [] text new = (text ≡ []) × (new ≡ old)
+AreTaken old (chunk ∷ chunks) text new =
+    (mid : Now) × (first : List ℕ) × (others : List ℕ) × GoesOn Passes old chunk first mid
+    × (text ≡ first ++ others) × AreTaken mid chunks others new
+
+-- it doesn't matter how a stream is cut into chunks: what they append, and the end, is the text of all of it
+abbrev pub AnyChunks : Type 0
+AnyChunks = (chunks : List (List ℕ)) (text rest : List ℕ) (last : Now)
+    → AreTaken begun chunks text last → Ending last rest
+    → Overwrites (concat chunks) (text ++ rest)

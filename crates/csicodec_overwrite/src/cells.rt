@@ -1,0 +1,194 @@
+//! What stands in a line, cell by cell.
+ghost use Rattle.std.specs.Prelude.{◌≡◌, ◌++◌, ◌∷◌, [], ℕ, List, OnOk, MatchOption, length, replicate, reverse};
+ghost use Rattle.csicodec_overwrite.specs.Cells.{begins_behind, belongs, columns, emptied, is_empty, outside, takes, trimmed, without};
+
+use std::alloc::{AllocError, Global};
+use std::marker::Model;
+
+/// What stands in a line.
+#[derive(Clone, Copy, PartialEq, Eq, Debug)]
+pub enum Cell {
+    /// A column on which nothing stands: it was never written, or it is erased.
+    Empty,
+    /// The first column of a character.
+    Char(char),
+    /// A further column of the character before it.
+    Behind,
+    /// A character that takes no column, and goes with the column before it.
+    Mark(char),
+}
+
+impl Cell {
+    /// How many columns it takes: 1, and a mark none.
+    pub(crate) fn takes(self) -> usize
+        ensures value { result ≡ takes self }
+    {
+        match self {
+            Cell::Empty | Cell::Char(_) | Cell::Behind => 1,
+            Cell::Mark(_) => 0,
+        }
+    }
+
+    /// Whether nothing stands there.
+    pub(crate) fn is_empty(self) -> bool
+        ensures { result ≡ is_empty self }
+    {
+        matches!(self, Cell::Empty)
+    }
+
+    /// Whether it belongs to the character before it.
+    pub(crate) fn belongs(self) -> bool
+        ensures { result ≡ belongs self }
+    {
+        match self {
+            Cell::Behind | Cell::Mark(_) => true,
+            Cell::Empty | Cell::Char(_) => false,
+        }
+    }
+}
+
+/// The cells on one side of the cursor. Contracts see them with the nearest first.
+#[derive(Drop)]
+pub(crate) struct Side {
+    /// The nearest is the last.
+    cells: Vec<Cell>,
+    /// How many columns they take.
+    width: usize,
+}
+
+impl Model for Side {
+    ghost use Rattle.std.specs.Prelude.{◌≡◌, List, reverse};
+    ghost use Rattle.csicodec_overwrite.specs.Cells.{columns};
+    ghost use Rattle.csicodec_overwrite.specs.declared.cells.Cell.{Cell as CellOf};
+
+    ghost Value = { List CellOf };
+
+    ghost view = { λ s. reverse s.cells.items };
+
+    ghost invariant = { λ s. s.width ≡ columns (reverse s.cells.items) };
+}
+
+impl Side {
+    /// No cells.
+    pub(crate) fn new(alloc: Global) -> Side
+        ensures { result ≡ [] }
+    {
+        Side {
+            cells: Vec::new(alloc),
+            width: 0,
+        }
+    }
+
+    /// How many cells there are.
+    pub(crate) fn len(&self) -> usize
+        ensures { result ≡ length self.now }
+    {
+        self.cells.len()
+    }
+
+    /// How many columns they take.
+    pub(crate) fn columns(&self) -> usize
+        ensures { result ≡ columns self.now }
+    {
+        self.width
+    }
+
+    /// Whether a further column of a character stands nearest.
+    pub(crate) fn begins_behind(&self) -> bool
+        ensures { result ≡ begins_behind self.now }
+    {
+        matches!(self.cells.last(), Some(Cell::Behind))
+    }
+
+    /// The nearest cell, which stays.
+    pub(crate) fn nearest(&self) -> Option<Cell>
+        ensures { MatchOption result (self.now ≡ [])
+            (λ cell. (others : _) × (self.now ≡ cell ∷ others)) }
+    {
+        self.cells.last().copied()
+    }
+
+    /// Puts a cell nearest.
+    pub(crate) fn push(&mut self, cell: Cell) -> Result<(), AllocError>
+        ensures { OnOk result (self.new ≡ cell ∷ self.old) }
+    {
+        let Some(width) = self.width.checked_add(cell.takes()) else {
+            return Err(AllocError);
+        };
+        self.cells.push(cell)?;
+        self.width = width;
+        Ok(())
+    }
+
+    /// Takes the nearest cell.
+    pub(crate) fn pop(&mut self) -> Option<Cell>
+        ensures { MatchOption result ((self.old ≡ []) × (self.new ≡ []))
+            (λ cell. self.old ≡ cell ∷ self.new) }
+    {
+        let cell = self.cells.pop()?;
+        self.width -= cell.takes();
+        Some(cell)
+    }
+
+    /// Takes all.
+    pub(crate) fn clear(&mut self)
+        ensures { self.new ≡ [] }
+    {
+        self.cells.clear();
+        self.width = 0;
+    }
+
+    /// Puts so many of the same cell nearest.
+    pub(crate) fn push_many(&mut self, cell: Cell, count: usize) -> Result<(), AllocError>
+        ensures { OnOk result (self.new ≡ replicate count cell ++ self.old) }
+    {
+        for _i in 0..count {
+            self.push(cell)?;
+        }
+        Ok(())
+    }
+    /// Takes so many columns, as far as there are some.
+    pub(crate) fn take_columns(&mut self, count: usize)
+        ensures { self.new ≡ without count self.old }
+    {
+        let mut left = count;
+        while left > 0 {
+            let Some(cell) = self.pop() else {
+                return;
+            };
+            left = left.saturating_sub(cell.takes());
+        }
+    }
+
+    /// Takes what belongs to the character before it.
+    pub(crate) fn take_belonging(&mut self)
+        ensures { self.new ≡ outside self.old }
+    {
+        while let Some(cell) = self.nearest() {
+            if !cell.belongs() {
+                return;
+            }
+            let _taken = self.pop();
+        }
+    }
+
+    /// Takes empty columns.
+    pub(crate) fn trim(&mut self)
+        ensures { self.new ≡ trimmed self.old }
+    {
+        while let Some(cell) = self.nearest() {
+            if !cell.is_empty() {
+                return;
+            }
+            let _taken = self.pop();
+        }
+    }
+
+    /// Empties the columns that are gone, of so many before.
+    pub(crate) fn refill(&mut self, before: usize) -> Result<(), AllocError>
+        ensures { OnOk result ((cells : _) → before ≡ columns cells → self.new ≡ emptied cells self.old) }
+    {
+        let gone = before.saturating_sub(self.columns());
+        self.push_many(Cell::Empty, gone)
+    }
+}

@@ -1,0 +1,34 @@
+//! Laws of the definitions. Each is the contract of a function that does nothing.
+ghost use Rattle.std.specs.Prelude.{◌≡◌, ◌≤◌, ℕ, List};
+ghost use Rattle.csicodec_clean.specs.Shown.{IsPlain};
+ghost use Rattle.csicodec_overwrite.specs.declared.step.Step.{Step};
+ghost use Rattle.csicodec_overwrite.specs.Line.{HasRoom, blank, do_all, size};
+ghost use Rattle.csicodec_overwrite.specs.Reading.{Overwrites, most};
+ghost use Rattle.csicodec_overwrite.specs.Stream.{AnyChunks};
+
+/// What is written has no control but newlines and tabs, as what `strip` writes.
+pub fn plain()
+    ensures { (bytes text : List ℕ) → Overwrites bytes text → IsPlain text }
+{}
+
+/// Plain text, as `strip` leaves it, stays as it is, where each of its lines has room in one.
+pub fn plain_stays()
+    ensures { (text other : List ℕ) (p : IsPlain text) → HasRoom most 0 0 p.0
+        → Overwrites text other → other ≡ text }
+{}
+
+/// It doesn't matter how a stream is cut into chunks.
+pub fn any_chunks()
+    ensures { AnyChunks }
+{}
+
+/// Bytes have one text.
+pub fn one_text()
+    ensures { (bytes text other : List ℕ) → Overwrites bytes text → Overwrites bytes other
+        → text ≡ other }
+{}
+
+/// The line that isn't over never holds more than 65,536 cells, whatever comes.
+pub fn bounded()
+    ensures { (steps : List Step) → size (do_all most steps blank).line ≤ most }
+{}

@@ -1,0 +1,93 @@
+//! A stream of which each line is overwritten, as it comes.
+ghost use Rattle.std.specs.Prelude.{◌≡◌, ◌++◌, ℕ, List, OnOk};
+ghost use Rattle.csicodec_overwrite.specs.Stream.{Ending, Passes, begun};
+
+use crate::line::Line;
+use crate::reader::Reader;
+use crate::step::Step;
+use csicodec_filter::Transform;
+use csicodec_spans::LIMIT;
+use std::alloc::{AllocError, Global};
+use std::marker::Model;
+
+/// A stream as it comes, of which each line is written as a terminal would show it at its end.
+///
+/// It holds the line that isn't over, of at most 65,536 cells, and a control sequence that isn't, of fewer than 65,536 bytes. After an
+/// `Err` it and what was appended are of no more use.
+#[derive(Drop)]
+pub struct Overwriter {
+    reader: Reader,
+    line: Line,
+    /// A place that is kept for the steps of a slice.
+    steps: Vec<Step>,
+}
+
+impl Model for Overwriter {
+    ghost use Rattle.csicodec_overwrite.specs.Stream.{Now};
+
+    ghost Value = { Now };
+
+    ghost view = { λ o. record { reader = o.reader; line = o.line } };
+}
+
+impl Overwriter {
+    /// Of which nothing has come.
+    pub fn new(alloc: Global) -> Overwriter
+        ensures { result ≡ begun }
+    {
+        Overwriter {
+            reader: Reader::new(alloc),
+            line: Line::new(alloc),
+            steps: Vec::new(alloc),
+        }
+    }
+
+    /// Takes the next bytes, and appends the lines that are over now.
+    pub fn push(&mut self, bytes: &[u8], out: &mut Vec<u8>) -> Result<(), AllocError>
+        ensures { OnOk result ((text : List ℕ) × Passes self.old bytes.now text self.new
+            × (out.new.items ≡ out.old.items ++ text)) }
+    {
+        self.steps.clear();
+        self.reader.push(bytes, &mut self.steps)?;
+        self.line.take_all(LIMIT, &self.steps, out)?;
+        Ok(())
+    }
+
+    /// Appends the line that isn't over, with the text that is held: nothing comes any more.
+    pub fn finish(&mut self, out: &mut Vec<u8>) -> Result<(), AllocError>
+        ensures { OnOk result ((rest : List ℕ) × Ending self.old rest
+            × (out.new.items ≡ out.old.items ++ rest)) }
+    {
+        self.steps.clear();
+        self.reader.finish(&mut self.steps)?;
+        self.line.take_all(LIMIT, &self.steps, out)?;
+        self.line.take_text(out)?;
+        Ok(())
+    }
+}
+
+impl Transform for Overwriter {
+    ghost use Rattle.std.specs.Prelude.{⊤};
+    ghost use Rattle.csicodec_overwrite.specs.Stream.{Ending, Passes};
+
+    ghost stands = { λ _. ⊤ };
+
+    ghost passes = { Passes };
+
+    ghost rests = { λ _. ⊤ };
+
+    ghost ends = { Ending };
+
+    fn take(&mut self, bytes: &[u8], out: &mut Vec<u8>) -> Result<(), AllocError> {
+        self.push(bytes, out)?;
+        Ok(())
+    }
+
+    fn pause(&mut self, _out: &mut Vec<u8>) -> Result<(), AllocError> {
+        Ok(())
+    }
+
+    fn end(&mut self, out: &mut Vec<u8>) -> Result<(), AllocError> {
+        self.finish(out)
+    }
+}

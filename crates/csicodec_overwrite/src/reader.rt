@@ -1,0 +1,186 @@
+//! The steps of a stream, as it comes.
+ghost use Rattle.std.specs.Prelude.{◌≡◌, ◌≢◌, ◌++◌, ℕ, List, [], false, length, map, MatchOption, OnOk, IfOk};
+ghost use Rattle.csicodec_tokens.specs.Sequence.{Seq};
+ghost use Rattle.csicodec_parser.specs.ActionOf.{action_of};
+ghost use Rattle.csicodec_parser.specs.Segments.{Actions};
+ghost use Rattle.csicodec_spans.specs.declared.table.Kind.TheVariants.{Csi as Sequence};
+ghost use Rattle.csicodec_spans.specs.Parts.{IsUnsure};
+ghost use Rattle.csicodec_clean.specs.Cleaned.{longest};
+ghost use Rattle.csicodec_clean.specs.Titles.{read_as, title_behind};
+ghost use Rattle.csicodec_overwrite.specs.Private.Spans.{GoesTo, IsGiven};
+ghost use Rattle.csicodec_overwrite.specs.Steps.{of_actions, of_run};
+ghost use Rattle.csicodec_overwrite.specs.Stream.{Reads, none_held};
+
+use crate::step::Step;
+use crate::text::{append_actions, append_run, append_text};
+use csicodec::CSI;
+use csicodec_base::CsiParam;
+use csicodec_spans::{Cutter, Kind, LIMIT, Mode};
+use csicodec_streams::{keep_from, parse_into};
+use std::alloc::{AllocError, Global};
+use std::marker::Model;
+
+/// What a span is, where a title may be open: the text of one is dropped.
+fn read_as(kind: Kind, titled: bool) -> Kind
+    ensures { result ≡ read_as kind titled }
+{
+    match kind {
+        Kind::Text => { if titled { Kind::Other } else { Kind::Text } }
+        Kind::Csi | Kind::Esc | Kind::Str | Kind::Other => kind,
+    }
+}
+
+/// Whether a title is open behind a span: text goes on with it, `ESC k` opens one, and anything else ends it.
+fn title_behind(titled: bool, kind: Kind, bytes: &[u8]) -> bool
+    ensures { result ≡ title_behind titled kind bytes.now }
+{
+    match kind {
+        Kind::Text => titled,
+        Kind::Esc => bytes.len() == 2 && bytes[1] == b'k',
+        Kind::Csi | Kind::Str | Kind::Other => false,
+    }
+}
+
+/// Appends the steps of a control sequence. `actions` is a place that is kept for its actions.
+fn append_sequence(
+    alloc: Global,
+    actions: &mut Vec<CSI>,
+    params: &[CsiParam],
+    control: char,
+    steps: &mut Vec<Step>,
+) -> Result<(), AllocError>
+    ensures { OnOk result ((all : _) × Actions params.now false control all
+        × (steps.new.items ≡ steps.old.items ++ of_actions all)) }
+{
+    actions.clear();
+    parse_into(alloc, params, false, control, actions)?;
+    append_actions(actions, steps)
+}
+
+/// Appends the steps of a span. A span that is no text ends the run of text before it.
+fn append_span(
+    alloc: Global,
+    actions: &mut Vec<CSI>,
+    params: &[CsiParam],
+    control: Option<char>,
+    held: &mut Vec<u8>,
+    kind: Kind,
+    bytes: &[u8],
+    steps: &mut Vec<Step>,
+) -> Result<(), AllocError>
+    requires { MatchOption control (kind ≢ Sequence)
+        (λ final. (kind ≡ Sequence) × Seq bytes.now params.now final) }
+    ensures { OnOk result ((more : _)
+        × IsGiven kind held.old.items bytes.now more held.new.items
+        × (steps.new.items ≡ steps.old.items ++ more)) }
+{
+    if kind == Kind::Text {
+        return append_text(held, bytes, steps);
+    }
+    append_run(held, steps)?;
+    held.clear();
+    match control {
+        Some(control) => append_sequence(alloc, actions, params, control, steps),
+        None => Ok(()),
+    }
+}
+
+/// The steps of a stream as it comes: in however many slices it is pushed, they are those of all of them at once.
+#[derive(Drop)]
+pub(crate) struct Reader {
+    alloc: Global,
+    mode: Mode,
+    titled: bool,
+    pending: Vec<u8>,
+    held: Vec<u8>,
+    /// Places that are kept for the tokens and the actions of a sequence.
+    params: Vec<CsiParam>,
+    actions: Vec<CSI>,
+}
+
+impl Model for Reader {
+    ghost use Rattle.csicodec_overwrite.specs.Stream.{Held};
+
+    ghost Value = { Held };
+
+    ghost view = { λ r. record { mode = r.mode; titled = r.titled; bytes = r.pending.items; held = r.held.items } };
+}
+
+/// Appends the steps of all spans of the bytes that are sure, and answers the bytes that aren't, and the mode there.
+///
+/// `held` are the bytes of the run of text before them that aren't read yet; `titled` says whether a title is open.
+fn append_steps<'a>(
+    alloc: Global,
+    actions: &mut Vec<CSI>,
+    params: &mut Vec<CsiParam>,
+    held: &mut Vec<u8>,
+    titled: &mut bool,
+    mode: Mode,
+    bytes: &'a [u8],
+    steps: &mut Vec<Step>,
+) -> Result<(&'a [u8], Mode), AllocError>
+    ensures parts { IfOk result
+        (λ (rest, after). (front : List ℕ) × (bytes.now ≡ front ++ rest.now)) }
+    ensures unsure { IfOk result (λ (rest, after). IsUnsure longest after rest.now) }
+    ensures goes { IfOk result
+        (λ (rest, after). GoesTo mode titled.old held.old.items bytes.now rest.now after titled.new held.new.items steps.old.items steps.new.items) }
+{
+    let mut cutter = Cutter { mode, rest: bytes };
+    loop {
+        let Cutter { mode: open, rest } = cutter;
+        let Some((span, control)) = cutter.next(LIMIT, params)? else {
+            return Ok((rest, open));
+        };
+        let kind = read_as(span.kind, *titled);
+        append_span(
+            alloc, actions, params, control, held, kind, span.bytes, steps,
+        )?;
+        *titled = title_behind(*titled, span.kind, span.bytes);
+    }
+}
+
+impl Reader {
+    /// Of which nothing has come.
+    pub(crate) fn new(alloc: Global) -> Reader
+        ensures { result ≡ none_held }
+    {
+        Reader {
+            alloc,
+            mode: Mode::Text,
+            titled: false,
+            pending: Vec::new(alloc),
+            held: Vec::new(alloc),
+            params: Vec::new(alloc),
+            actions: Vec::new(alloc),
+        }
+    }
+
+    /// Takes the next bytes, and appends the steps of all that is sure now.
+    pub(crate) fn push(&mut self, bytes: &[u8], steps: &mut Vec<Step>) -> Result<(), AllocError>
+        ensures { OnOk result ((more : _) × Reads self.old bytes.now more self.new
+            × (steps.new.items ≡ steps.old.items ++ more)) }
+    {
+        self.pending.extend_from_slice(bytes)?;
+        let (rest, mode) = append_steps(
+            self.alloc,
+            &mut self.actions,
+            &mut self.params,
+            &mut self.held,
+            &mut self.titled,
+            self.mode,
+            &self.pending,
+            steps,
+        )?;
+        let used = self.pending.len() - rest.len();
+        self.mode = mode;
+        keep_from(&mut self.pending, used);
+        Ok(())
+    }
+
+    /// Appends the steps of the text that is held: nothing comes any more.
+    pub(crate) fn finish(&self, steps: &mut Vec<Step>) -> Result<(), AllocError>
+        ensures { OnOk result (steps.new.items ≡ steps.old.items ++ of_run self.now.held) }
+    {
+        append_run(&self.held, steps)
+    }
+}

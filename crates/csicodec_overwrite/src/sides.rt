@@ -1,0 +1,90 @@
+//! What is erased on one side of the cursor, and the characters that stand there.
+ghost use Rattle.std.specs.Prelude.{◌≡◌, ◌++◌, [], OnOk, encode_utf8_all};
+ghost use Rattle.std.specs.List.{flat_map};
+ghost use Rattle.csicodec_overwrite.specs.Cells.{chars_of, emptied, erased, gone, onto, outside, width, without};
+
+use crate::cells::{Cell, Side};
+use bstr::ByteVec;
+use std::alloc::AllocError;
+use unicode_width::UnicodeWidthChar;
+
+/// Empties the columns of a character that goes on here.
+pub(crate) fn loosen(side: &mut Side) -> Result<(), AllocError>
+    ensures { OnOk result (side.new ≡ emptied side.old (outside side.old)) }
+{
+    let before = side.columns();
+    side.take_belonging();
+    side.refill(before)
+}
+
+/// Empties the columns of a character that ends here.
+pub(crate) fn undo(side: &mut Side) -> Result<(), AllocError>
+    ensures { OnOk result (side.new ≡ emptied side.old (without 1 (outside side.old))) }
+{
+    let before = side.columns();
+    side.take_belonging();
+    side.take_columns(1);
+    side.refill(before)
+}
+
+/// Takes out so many columns, and what belongs to them.
+pub(crate) fn delete_columns(side: &mut Side, count: usize) -> Result<(), AllocError>
+    ensures { OnOk result (side.new ≡ gone count side.old) }
+{
+    side.take_columns(count);
+    loosen(side)
+}
+
+/// Empties so many columns, as far as there are some.
+pub(crate) fn erase_columns(side: &mut Side, count: usize) -> Result<(), AllocError>
+    ensures { OnOk result (side.new ≡ erased count side.old) }
+{
+    let some = count.min(side.columns());
+    delete_columns(side, count)?;
+    side.push_many(Cell::Empty, some)
+}
+
+/// Moves all cells of one side to the other.
+pub(crate) fn move_all(from: &mut Side, to: &mut Side) -> Result<(), AllocError>
+    ensures cells { OnOk result (to.new ≡ onto from.old to.old) }
+    ensures none { OnOk result (from.new ≡ []) }
+{
+    while let Some(cell) = from.pop() {
+        to.push(cell)?;
+    }
+    Ok(())
+}
+
+/// Appends the characters of a cell.
+fn append_cell(cell: Cell, out: &mut Vec<u8>) -> Result<(), AllocError>
+    ensures { OnOk result (out.new.items ≡ out.old.items ++ encode_utf8_all (chars_of cell)) }
+{
+    match cell {
+        Cell::Empty => out.push_char(' '),
+        Cell::Char(char) => out.push_char(char),
+        Cell::Mark(char) => out.push_char(char),
+        Cell::Behind => Ok(()),
+    }
+}
+
+/// Takes the cells of a side, and appends their characters.
+pub(crate) fn append_cells(side: &mut Side, out: &mut Vec<u8>) -> Result<(), AllocError>
+    ensures text { OnOk result
+        (out.new.items ≡ out.old.items ++ encode_utf8_all (flat_map chars_of side.old)) }
+    ensures none { OnOk result (side.new ≡ []) }
+{
+    while let Some(cell) = side.pop() {
+        append_cell(cell, out)?;
+    }
+    Ok(())
+}
+
+/// The columns that a character takes behind so many.
+pub(crate) fn width(char: char, column: usize) -> usize
+    ensures { result ≡ width char column }
+{
+    if char == '\t' {
+        return 8 - column % 8;
+    }
+    char.width().unwrap_or(0)
+}

@@ -1,0 +1,165 @@
+//! The steps of text, and of actions.
+ghost use Rattle.std.specs.Prelude.{◌≡◌, ◌<◌, ◌≤◌, ◌++◌, ◌∷◌, [], ℕ, List, length, drop, map, OnOk, IfOk, IfSome, IfNone};
+ghost use Rattle.csicodec_parser.specs.ActionOf.{action_of};
+ghost use Rattle.csicodec_clean.specs.Private.Steps.{IsCut};
+ghost use Rattle.csicodec_clean.specs.Shown.{IsRead};
+ghost use Rattle.csicodec_overwrite.specs.Steps.{of_action, of_actions, of_char, of_chars, of_cursor, of_edit, of_run};
+
+use crate::step::Step;
+use bstr::decode_utf8;
+use csicodec::{CSI, Cursor, Edit, EraseInDisplay, EraseInLine};
+use csicodec_streams::keep_from;
+use std::alloc::AllocError;
+
+/// Appends what the character does.
+fn append_char(char: char, steps: &mut Vec<Step>) -> Result<(), AllocError>
+    ensures { OnOk result (steps.new.items ≡ steps.old.items ++ of_char char) }
+{
+    match char {
+        '\n' => steps.push(Step::NewLine)?,
+        '\r' => steps.push(Step::Column(1))?,
+        '\u{8}' => steps.push(Step::Left(1))?,
+        '\t' => steps.push(Step::Tab)?,
+        '\0'..='\u{1f}' | '\u{7f}'..='\u{9f}' => {}
+        _ => steps.push(Step::Put(char))?,
+    }
+    Ok(())
+}
+
+/// Appends what moving the cursor does.
+fn append_cursor(cursor: &Cursor, steps: &mut Vec<Step>) -> Result<(), AllocError>
+    ensures { OnOk result (steps.new.items ≡ steps.old.items ++ of_cursor cursor.now) }
+{
+    match cursor {
+        Cursor::Right(count) | Cursor::CharacterPositionForward(count) => {
+            steps.push(Step::Right(*count))?;
+        }
+        Cursor::Left(count) | Cursor::CharacterPositionBackward(count) => {
+            steps.push(Step::Left(*count))?;
+        }
+        Cursor::CharacterAbsolute(col)
+        | Cursor::CharacterPositionAbsolute(col)
+        | Cursor::Position { col, .. }
+        | Cursor::CharacterAndLinePosition { col, .. } => {
+            steps.push(Step::Column(col.as_one_based()))?;
+        }
+        _ => {}
+    }
+    Ok(())
+}
+
+/// Appends what an edit does.
+fn append_edit(edit: &Edit, steps: &mut Vec<Step>) -> Result<(), AllocError>
+    ensures { OnOk result (steps.new.items ≡ steps.old.items ++ of_edit edit.now) }
+{
+    match edit {
+        Edit::EraseCharacter(count) => steps.push(Step::Erase(*count))?,
+        Edit::DeleteCharacter(count) => steps.push(Step::Delete(*count))?,
+        Edit::InsertCharacter(count) => steps.push(Step::Insert(*count))?,
+        Edit::EraseInLine(EraseInLine::EraseToEndOfLine)
+        | Edit::EraseInDisplay(EraseInDisplay::EraseToEndOfDisplay) => {
+            steps.push(Step::EraseRight)?;
+        }
+        Edit::EraseInLine(EraseInLine::EraseToStartOfLine) => steps.push(Step::EraseLeft)?,
+        Edit::EraseInLine(EraseInLine::EraseLine) => steps.push(Step::EraseAll)?,
+        _ => {}
+    }
+    Ok(())
+}
+
+/// Appends what an action does.
+fn append_action(action: &CSI, steps: &mut Vec<Step>) -> Result<(), AllocError>
+    ensures { OnOk result
+        (steps.new.items ≡ steps.old.items ++ of_action (action_of action.now)) }
+{
+    match action {
+        CSI::Cursor(cursor) => append_cursor(cursor, steps),
+        CSI::Edit(edit) => append_edit(edit, steps),
+        CSI::Sgr(_)
+        | CSI::Mode(_)
+        | CSI::Device(_)
+        | CSI::Keyboard(_)
+        | CSI::SelectCharacterPath(..)
+        | CSI::Mouse(_)
+        | CSI::Window(_)
+        | CSI::Unspecified(_) => Ok(()),
+    }
+}
+
+/// The same of each of the actions in turn.
+pub(crate) fn append_actions(actions: &[CSI], steps: &mut Vec<Step>) -> Result<(), AllocError>
+    ensures { OnOk result
+        (steps.new.items ≡ steps.old.items ++ of_actions (map action_of actions.now)) }
+{
+    for action in actions {
+        append_action(action, steps)?;
+    }
+    Ok(())
+}
+
+/// The character in front, or U+FFFD for a piece that is none, and its length; none where it depends on what follows, and of
+/// no bytes.
+fn first_sure(bytes: &[u8]) -> Option<(char, usize)>
+    ensures none { IfNone result (IsCut bytes.now) }
+    ensures some { IfSome result
+        (λ (char, size). IsRead bytes.now (char ∷ []) (drop size bytes.now) × (0 < size)
+        × (size ≤ length bytes.now)) }
+{
+    if bytes.is_empty() {
+        return None;
+    }
+    let (found, size) = decode_utf8(bytes);
+    match found {
+        Some(char) => Some((char, size)),
+        None => {
+            if size == bytes.len() {
+                None
+            } else {
+                Some(('\u{FFFD}', size))
+            }
+        }
+    }
+}
+
+/// Appends the steps of the characters that are sure, whatever follows, and answers the other bytes: three at most.
+fn append_sure<'a>(bytes: &'a [u8], steps: &mut Vec<Step>) -> Result<&'a [u8], AllocError>
+    ensures parts { IfOk result (λ rest. (front : List ℕ) × (bytes.now ≡ front ++ rest.now)) }
+    ensures chars { IfOk result
+        (λ rest. (chars : List ℕ) × IsRead bytes.now chars rest.now
+        × (steps.new.items ≡ steps.old.items ++ of_chars chars)) }
+    ensures cut { IfOk result (λ rest. IsCut rest.now) }
+{
+    let mut rest = bytes;
+    while let Some((char, size)) = first_sure(rest) {
+        append_char(char, steps)?;
+        rest = rest.split_at(size).1;
+    }
+    Ok(rest)
+}
+
+/// Appends the steps of a run of text that is over.
+pub(crate) fn append_run(bytes: &[u8], steps: &mut Vec<Step>) -> Result<(), AllocError>
+    ensures { OnOk result (steps.new.items ≡ steps.old.items ++ of_run bytes.now) }
+{
+    let rest = append_sure(bytes, steps)?;
+    if !rest.is_empty() {
+        append_char('\u{FFFD}', steps)?;
+    }
+    Ok(())
+}
+
+/// Appends the steps of the text, as far as it is sure; `held` are the bytes before it that aren't, and then those at its end.
+pub(crate) fn append_text(
+    held: &mut Vec<u8>,
+    bytes: &[u8],
+    steps: &mut Vec<Step>,
+) -> Result<(), AllocError>
+    ensures { OnOk result
+        ((chars : List ℕ) × IsRead (held.old.items ++ bytes.now) chars held.new.items
+        × (steps.new.items ≡ steps.old.items ++ of_chars chars)) }
+{
+    held.extend_from_slice(bytes)?;
+    let sure = held.len() - append_sure(held, steps)?.len();
+    keep_from(held, sure);
+    Ok(())
+}

@@ -3,16 +3,16 @@
 #![tactic(auto)]
 
 mod command;
+mod failure;
+mod note;
+mod options;
 mod recording;
-mod refusal;
-mod report;
 mod run;
-mod words;
 
 pub use command::{
     ColorWhen, Colors, Command, Places, Request, Task, Wanted, Wrong, command_of, nearest,
 };
+pub use failure::{Failure, Found};
+pub use options::{USAGE, VERSION};
 pub use recording::{Recording, micros, time_of};
-pub use report::{Failure, Found};
 pub use run::{Worker, asked, failed, is_cast, refused, text_of, words_of, work_through};
-pub use words::{USAGE, VERSION};

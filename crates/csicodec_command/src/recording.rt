@@ -1,7 +1,7 @@
 //! Recordings of asciinema (asciicast, versions 2 and 3): a line of JSON with the version, and one for each event, `[time, "o",
 //! "data"]` for what a program wrote. Times are seconds: in version 2 from the begin, in version 3 from the event before.
 
-use crate::report::Failure;
+use crate::failure::Failure;
 use csicodec_streams::RunError;
 use serde_json::Value;
 use std::alloc::{AllocError, Global};

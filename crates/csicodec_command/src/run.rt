@@ -1,9 +1,9 @@
 //! A run of a program: its words, its inputs one after the other, and what it tells of what failed.
 
 use crate::command::{Command, Request, Wrong, command_of};
-use crate::refusal::{Refusal, advice_of};
-use crate::report::{Failure, GONE};
-use crate::words::{VERSION, WAITS};
+use crate::failure::{Failure, GONE};
+use crate::note::{Refusal, advice_of};
+use crate::options::{VERSION, WAITS};
 use csicodec_streams::RunError;
 use std::alloc::Global;
 use std::env;

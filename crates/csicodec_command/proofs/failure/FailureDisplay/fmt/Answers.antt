@@ -1,6 +1,6 @@
 use Rattle.std.proofs.Common.{append_assoc}
 use Rattle.std.proofs.Output.{has_written_of_eq}
-use Rattle.csicodec_command.proofs.report.FailureDisplay.fmt.Goals as goal
+use Rattle.csicodec_command.proofs.failure.FailureDisplay.fmt.Goals as goal
 
 pub returns-in-NotPlain-clause-writes : goal.returns-in-NotPlain-clause-writes
 returns-in-NotPlain-clause-writes g c =

@@ -1,4 +1,5 @@
-//! The words and options of a command line, and what `--help` says of them. Completions and the manual page's parts are of this file.
+//! The words and options of a command line, and what `--help` says of them; the version. Completions and the manual page's parts are of
+//! this file.
 
 use crate::command::Task;
 

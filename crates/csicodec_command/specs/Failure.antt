@@ -3,10 +3,10 @@ use Rattle.std.specs.Prelude.{ℕ, List, ◌++◌, codes}
 use Rattle.std.specs.Fmt.{decimal}
 use Rattle.csicodec_assemble.specs.Object.{fault_text}
 use Rattle.csicodec_streams.specs.Words.{run_error_text, run_status}
-use Rattle.csicodec_command.specs.declared.report.Failure.{Failure}
-use Rattle.csicodec_command.specs.declared.report.Failure.TheVariants as failure
-use Rattle.csicodec_command.specs.declared.report.Found.{Found}
-use Rattle.csicodec_command.specs.declared.report.Found.TheVariants as found
+use Rattle.csicodec_command.specs.declared.failure.Failure.{Failure}
+use Rattle.csicodec_command.specs.declared.failure.Failure.TheVariants as failure
+use Rattle.csicodec_command.specs.declared.failure.Found.{Found}
+use Rattle.csicodec_command.specs.declared.failure.Found.TheVariants as found
 
 -- what stands where plain text ends
 abbrev pub found_text : Found → List ℕ

@@ -1,7 +1,7 @@
-//! What a program tells of a run that failed.
+//! What a program tells of a run that failed: its message, and the status.
 ghost use Rattle.std.specs.Prelude.{◌≡◌, Some};
-ghost use Rattle.csicodec_command.specs.Report.{found_text, line, status};
-ghost use Rattle.csicodec_command.specs.declared.report.Failure.TheVariants.{Run as Ran};
+ghost use Rattle.csicodec_command.specs.Failure.{found_text, line, status};
+ghost use Rattle.csicodec_command.specs.declared.failure.Failure.TheVariants.{Run as Ran};
 
 use csicodec_assemble::Fault;
 use csicodec_streams::RunError;

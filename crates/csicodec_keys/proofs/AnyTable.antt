@@ -5,10 +5,10 @@ use Rattle.std.specs.List.{list_all}
 use Rattle.std.proofs.lemmas.Bool.{and_parts, and_from, cases_Bool, eqb-true, eq-eqb}
 use Rattle.std.proofs.lemmas.Option.{same_Some}
 use Rattle.csicodec_keys.specs.declared.code.KeyCode.{KeyCode}
-use Rattle.csicodec_keys.specs.declared.rows.Row.{Row}
-use Rattle.csicodec_keys.specs.Codes.{same_code}
+use Rattle.csicodec_keys.specs.declared.tables.Row.{Row}
+use Rattle.csicodec_keys.specs.SameKeys.{same_code}
 use Rattle.csicodec_keys.specs.Rows.{row_at, row_of}
-use Rattle.csicodec_keys.proofs.Codes.{same-code}
+use Rattle.csicodec_keys.proofs.SameKeys.{same-code}
 use Rattle.csicodec_keys.proofs.Options.{not-both}
 
 -- no two rows have one number and one final character

@@ -10,7 +10,7 @@ use Rattle.csicodec_keys.specs.declared.code.KeyCode.{KeyCode}
 use Rattle.csicodec_keys.specs.declared.code.KeyCode.TheVariants as code
 use Rattle.csicodec_keys.specs.declared.key.Encoding.TheVariants as encoding
 use Rattle.csicodec_keys.specs.declared.key.Encoding.{Encoding}
-use Rattle.csicodec_keys.specs.declared.rows.Row.{Row}
+use Rattle.csicodec_keys.specs.declared.tables.Row.{Row}
 use Rattle.csicodec_keys.specs.Tables.{csi_keys, kitty_keys, rxvt_keys}
 use Rattle.csicodec_keys.specs.declared.writing.Form.{Form}
 use Rattle.csicodec_keys.specs.declared.writing.Form.TheVariants as form
@@ -23,7 +23,7 @@ use Rattle.csicodec_keys.specs.Rows.{row_at, row_of}
 use Rattle.csicodec_keys.proofs.Lists.{list-read}
 use Rattle.csicodec_keys.proofs.Options.{guarded, map-some, none-is, one-of}
 use Rattle.csicodec_keys.proofs.AnyTable.{any-row, row-all, row-has}
-use Rattle.csicodec_keys.proofs.Tables.{csi-all, csi-apart, is_shared, is_small, kitty-all, kitty-apart}
+use Rattle.csicodec_keys.proofs.EachTable.{csi-all, csi-apart, is_shared, is_small, kitty-all, kitty-apart}
 
 -- the ranges of a key
 pub record InRange (s : Stroke) : Type 0 where

@@ -10,7 +10,7 @@ use Rattle.csicodec_keys.specs.declared.code.KeyCode.TheVariants as code
 use Rattle.csicodec_keys.specs.declared.key.Encoding.TheVariants as encoding
 use Rattle.csicodec_keys.specs.declared.key.KeyEvent.{KeyEvent}
 use Rattle.csicodec_keys.specs.declared.key.KeyEvent.TheVariants as event
-use Rattle.csicodec_keys.specs.declared.rows.Row.{Row}
+use Rattle.csicodec_keys.specs.declared.tables.Row.{Row}
 use Rattle.csicodec_keys.specs.Tables.{controls, csi_keys, ss3_keys}
 use Rattle.csicodec_keys.specs.declared.writing.Form.{Form}
 use Rattle.csicodec_keys.specs.declared.writing.Form.TheVariants as form
@@ -23,7 +23,7 @@ use Rattle.csicodec_keys.proofs.Kitty.{csi-at, key-alone, row-said, said-read}
 use Rattle.csicodec_keys.proofs.Lists.{list-read}
 use Rattle.csicodec_keys.proofs.Options.{guarded, map-some, one-of, unless}
 use Rattle.csicodec_keys.proofs.AnyTable.{any-row, row-all, row-has}
-use Rattle.csicodec_keys.proofs.Tables.{controls-all, controls-apart, controls-no-text, csi-all, csi-named-all, is_alone, is_char, is_control_row, is_named, is_no_text, is_shared, ss3-all, ss3-apart, ss3-no-text}
+use Rattle.csicodec_keys.proofs.EachTable.{controls-all, controls-apart, controls-no-text, csi-all, csi-named-all, is_alone, is_char, is_control_row, is_named, is_no_text, is_shared, ss3-all, ss3-apart, ss3-no-text}
 
 -- but for a character with no more than shift, it says the key and what is held down
 said-pressed : (c : KeyCode) (held : ℕ) (text : List ℕ) → (is_char c && nat_lt held 2) ≡ false → legacy_said c held text ≡ pressed c held

@@ -1,8 +1,8 @@
-pub mod Codes
+pub mod SameKeys
 pub mod Options
 pub mod AnyTable
 pub mod Lists
-pub mod Tables
+pub mod EachTable
 pub mod Legacy
 pub mod Kitty
 pub mod Others

@@ -10,18 +10,18 @@ use Rattle.csicodec_keys.specs.declared.code.KeyCode.{KeyCode}
 use Rattle.csicodec_keys.specs.declared.code.KeyCode.TheVariants as code
 use Rattle.csicodec_keys.specs.declared.key.Encoding.TheVariants as encoding
 use Rattle.csicodec_keys.specs.declared.key.KeyEvent.TheVariants as event
-use Rattle.csicodec_keys.specs.declared.rows.Row.{Row}
+use Rattle.csicodec_keys.specs.declared.tables.Row.{Row}
 use Rattle.csicodec_keys.specs.Tables.{csi_keys, kitty_keys, linux_keys, other_keys, rxvt_keys, rxvt_ss3, ss3_cursor, ss3_keys}
 use Rattle.csicodec_keys.specs.declared.writing.Form.{Form}
 use Rattle.csicodec_keys.specs.declared.writing.Form.TheVariants as form
 use Rattle.csicodec_keys.specs.Characters.{is_typed}
-use Rattle.csicodec_keys.specs.Codes.{same_code}
+use Rattle.csicodec_keys.specs.SameKeys.{same_code}
 use Rattle.csicodec_keys.specs.Fields.{Says, written_list}
 use Rattle.csicodec_keys.specs.Forms.{but_release, by, char_number, csi_row, form_of, key_alone, linux_form, numbered, other_form, other_key, other_number, pressed, pressed_row, read_form, read_listed, read_ss3, row_key, rxvt_form, rxvt_row, said, said_key, ss3_by, told_by, xterm_held}
 use Rattle.csicodec_keys.specs.Win32.{read_win32}
 use Rattle.csicodec_keys.specs.Keys.{Stroke}
 use Rattle.csicodec_keys.specs.Rows.{row_at, row_of}
-use Rattle.csicodec_keys.proofs.Codes.{same-code}
+use Rattle.csicodec_keys.proofs.SameKeys.{same-code}
 use Rattle.csicodec_keys.proofs.Kitty.{first-read, key-alone, row-said, said-read}
 use Rattle.csicodec_keys.proofs.Legacy.{nothing, pressed-has, released}
 use Rattle.csicodec_keys.proofs.Lists.{list-read}

@@ -15,7 +15,7 @@ use Rattle.csicodec_keys.specs.declared.code.KeyCode.TheVariants as code
 use Rattle.csicodec_keys.specs.declared.key.Encoding.{Encoding}
 use Rattle.csicodec_keys.specs.declared.key.Encoding.TheVariants as encoding
 use Rattle.csicodec_keys.specs.declared.key.KeyEvent.TheVariants as event
-use Rattle.csicodec_keys.specs.declared.rows.Row.{Row}
+use Rattle.csicodec_keys.specs.declared.tables.Row.{Row}
 use Rattle.csicodec_keys.specs.declared.writing.Form.{Form}
 use Rattle.csicodec_keys.specs.declared.writing.Form.TheVariants as form
 use Rattle.csicodec_keys.specs.Characters.{is_alt, is_typed}

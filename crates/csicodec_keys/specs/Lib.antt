@@ -1,4 +1,4 @@
-pub mod Codes
+pub mod SameKeys
 pub mod Characters
 pub mod Keys
 pub mod Rows

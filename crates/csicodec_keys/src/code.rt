@@ -1,6 +1,6 @@
 //! Which key it is.
 ghost use Rattle.std.specs.Prelude.{◌≡◌};
-ghost use Rattle.csicodec_keys.specs.Codes.{code_tag, code_value, same_code};
+ghost use Rattle.csicodec_keys.specs.SameKeys.{code_tag, code_value, same_code};
 
 /// A key: one that types a character, or one with a name. The same key of the keypad is another one.
 #[derive(Clone, Copy, Debug, PartialEq, Eq)]

@@ -11,7 +11,7 @@ use crate::code::KeyCode;
 use crate::fields::{Fields, read_list};
 use crate::key::{Encoding, Key, KeyEvent, Typed};
 use crate::modifiers::KeyModifiers;
-use crate::rows::{
+use crate::tables::{
     Row, controls, csi_keys, kitty_keys, linux_keys, other_keys, row_at, rxvt_keys, rxvt_ss3,
     ss3_cursor, ss3_keys,
 };

@@ -11,7 +11,7 @@ ghost use Rattle.csicodec_keys.specs.Win32.{record_list};
 use crate::code::KeyCode;
 use crate::key::{Encoding, Key, KeyEvent};
 use crate::reading::{csi_row, is_typed};
-use crate::rows::{
+use crate::tables::{
     Row, controls, csi_keys, kitty_keys, linux_keys, other_keys, row_at, row_of, rxvt_keys,
     rxvt_ss3, ss3_keys,
 };

@@ -4,7 +4,7 @@ use Rattle.std.specs.Prelude.{Bool, true, false, not, is_none, nat_lt, ◌==◌,
 use Rattle.std.specs.List.{list_all}
 use Rattle.csicodec_keys.specs.declared.code.KeyCode.{KeyCode}
 use Rattle.csicodec_keys.specs.declared.code.KeyCode.TheVariants as code
-use Rattle.csicodec_keys.specs.declared.rows.Row.{Row}
+use Rattle.csicodec_keys.specs.declared.tables.Row.{Row}
 use Rattle.csicodec_keys.specs.Tables.{controls, csi_keys, kitty_keys, ss3_keys}
 use Rattle.csicodec_keys.specs.Characters.{is_typed}
 use Rattle.csicodec_keys.specs.Rows.{row_at}

@@ -5,7 +5,7 @@ use Rattle.std.proofs.lemmas.Bool.{and_parts, eqb-true}
 use Rattle.std.proofs.lemmas.Option.{same_Some}
 use Rattle.csicodec_keys.specs.declared.code.KeyCode.{KeyCode}
 use Rattle.csicodec_keys.specs.declared.code.KeyCode.TheVariants as code
-use Rattle.csicodec_keys.specs.Codes.{code_tag, code_value, same_code}
+use Rattle.csicodec_keys.specs.SameKeys.{code_tag, code_value, same_code}
 
 -- all keys with a name alone, in the order of their tags
 unfoldable named : List KeyCode

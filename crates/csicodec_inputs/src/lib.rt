@@ -1,7 +1,7 @@
 //! What a terminal sends, in words: keys, the mouse and the focus.
 #![tactic(auto)]
 
-mod did;
+mod keys;
 mod mouse;
 
-pub use did::Did;
+pub use keys::Did;

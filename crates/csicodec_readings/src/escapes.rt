@@ -1,6 +1,6 @@
 //! Names of escape sequences that the codec has no code for, and that designate no character set.
 
-use crate::sets::{Escape, SetRow, designated, designated_of_several, find};
+use crate::other_sets::{Escape, SetRow, designated, designated_of_several, find};
 
 /// Escape sequences by their intermediate bytes and their last one: ECMA-48's controls of the set C1 and ECMA-35's single ones, and
 /// DEC's and other terminals' own; behind a blank ECMA-35's announcements (15.2), as DEC's terminals take them; behind `%` other coding

@@ -1,7 +1,7 @@
 //! Escape sequences with more than one intermediate byte, which the codec has no code for.
 
 use crate::escapes::named;
-use crate::sets::{Escape, designated, designated_of_several};
+use crate::other_sets::{Escape, designated, designated_of_several};
 
 /// What stands between ESC and the final byte of an escape sequence, and the final byte, where the bytes are such a
 /// sequence, whole (ECMA-35, 13.2.1).

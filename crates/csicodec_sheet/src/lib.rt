@@ -2,16 +2,16 @@
 #![tactic(auto)]
 
 mod cache;
-mod clipboard;
 mod counts;
+mod decode;
 mod fields;
 mod json;
 mod line;
 mod sheet;
 mod style;
 
-pub use clipboard::clipboard_bytes;
 pub use counts::{Names, Sum};
+pub use decode::clipboard_bytes;
 pub use line::{Sort, Told, whole_characters};
 pub use sheet::Sheet;
 pub use style::Style;

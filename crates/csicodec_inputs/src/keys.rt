@@ -1,4 +1,4 @@
-//! What a user did.
+//! What a user did: keys, the focus, and the mouse by its reports.
 
 use crate::mouse::Report;
 use csicodec_base::CsiParam;

@@ -1,4 +1,5 @@
-//! Character sets that an escape sequence makes G0, G1, G2 or G3 (ECMA-35, 14.3).
+//! Character sets that an escape sequence without a code makes G0, G1, G2 or G3 (ECMA-35, 14.3): all but `ESC ( 0`, `A` and `B`, and
+//! the same behind `)`, whose words are in esc.rt of csicodec_words.
 
 use std::fmt;
 

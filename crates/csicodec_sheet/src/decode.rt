@@ -1,4 +1,4 @@
-//! What a program puts into the clipboard (OSC 52), decoded from base64 (RFC 4648).
+//! What `--decode` shows: what a program puts into the clipboard (OSC 52), decoded from base64 (RFC 4648).
 
 use base64::DecodeAllocError;
 use base64::engine::general_purpose::STANDARD;

@@ -10,6 +10,9 @@ const encoder = new TextEncoder(), decoder = new TextDecoder();
 /** The statuses of the library, with their numbers. */
 const STATUS = ['ok', 'not a sequence', 'bad byte', 'number too large', 'truncated', 'out of memory', 'no action', 'bad state'];
 
+/** The most bytes that a control sequence may have. */
+const LIMIT = 65536n;
+
 /** Why bytes were refused, or that memory ran out. */
 export class CodecError extends Error {
     constructor(message, { status, start, at } = {}) {
@@ -169,7 +172,7 @@ export class Codec {
         const bytes = bytesOf(input);
         let used = 0;
         const out = this.#written(bytes, bytes.length * 2 + 64, 16, (calls, answer, from, length, to, room) => {
-            call(calls, answer, 0, 65536n, from, length, to, room);
+            call(calls, answer, 0, LIMIT, from, length, to, room);
             used = Number(new DataView(calls.memory.buffer, Number(answer), 64).getBigUint64(8, true));
         });
         // What is held back at the end of the stream passes as it is.

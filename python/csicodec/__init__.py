@@ -8,7 +8,7 @@
 """
 from .actions import *  # noqa: F403
 from .codec import ControlString, Esc, Event, Malformed, Parser, Text, UnknownEsc, encode, encode_compact, events
-from .library import CodecError
+from .error import CodecError
 from .program import explain
 from .text import Cleaner, Filter, clean, compact, filter, normalise, strip
 from .values import Action, Color, DefaultColor, KittyKeyboardFlags, Modifiers, PaletteColor, Token, TrueColor

@@ -8,12 +8,14 @@ from typing import Any, Dict, Iterable, Iterator, List, Tuple, Union
 
 from . import library
 from .actions import READERS, EscCode
+from .error import CodecError
 from .values import Action, Params, Row, Token
 
 _ACTION = struct.Struct("=IIqqIIIIQQBBBBHBB")
 _PARAM = struct.Struct("=Qq")
 _TOLD = struct.Struct("=IIQQIIII")
-_LIMIT = 65536
+#: How many bytes of a whole stream are passed at a time.
+_CHUNK = 65536
 #: The most actions that are kept by the bytes of their structs, and short texts by theirs: streams repeat few of them.
 _KEPT = 4096
 _SHORT = 24
@@ -115,7 +117,7 @@ class Parser:
     `Malformed`. `finish` gives what is left at the end.
     """
 
-    def __init__(self, limit: int = _LIMIT) -> None:
+    def __init__(self, limit: int = library.LIMIT) -> None:
         if limit < 1:
             raise ValueError("the limit is 1 or more")
         self._stream, self._stream_c = library.room_of(library.size_of_stream())
@@ -190,8 +192,8 @@ def events(data: Union[bytes, bytearray, memoryview, str]) -> Iterator[Event]:
     """
     parser = Parser()
     held = data.encode("utf-8", "surrogateescape") if isinstance(data, str) else bytes(data)
-    for at in range(0, len(held), 65536):
-        yield from parser.feed(held[at : at + 65536])
+    for at in range(0, len(held), _CHUNK):
+        yield from parser.feed(held[at : at + _CHUNK])
     yield from parser.finish()
 
 
@@ -201,7 +203,7 @@ def _rows(actions: Iterable[Action]) -> Tuple[bytes, int, bytes, int]:
         rows = [_ACTION.pack(*action._row(params)) for action in actions]
         tokens = [_PARAM.pack(*param) for param in params]
     except struct.error as error:
-        raise library.CodecError(f"a number is out of its range: {error}") from None
+        raise CodecError(f"a number is out of its range: {error}") from None
     return b"".join(rows), len(rows), b"".join(tokens), len(tokens)
 
 
@@ -234,5 +236,5 @@ def is_canonical(action: Action) -> bool:
     rows, _, params, count = _rows([action])
     answer = library.is_canonical(rows, params, count)
     if answer.status:
-        raise library.CodecError(library.STATUS[answer.status])
+        raise CodecError(library.STATUS[answer.status])
     return bool(answer.canonical)

@@ -6,17 +6,10 @@ import os
 from ctypes import POINTER, Structure, c_char_p, c_size_t, c_uint8, c_uint32, c_void_p
 from typing import Any, Callable, Tuple
 
+from .error import CodecError
 
-class CodecError(ValueError):
-    """Why bytes aren't control sequences one after the other. The refused sequence begins at `start`, and `at` is the place of the
-    fault, counted from there.
-    """
-
-    def __init__(self, message: str, start: int = 0, at: int = 0) -> None:
-        super().__init__(message)
-        self.start, self.at = start, at
-
-
+#: The most bytes that a control sequence may have, where the caller names no limit.
+LIMIT = 65536
 #: A few words for each status of the library.
 STATUS = ("done", "not a sequence", "bad byte", "number too large", "truncated", "no memory", "no action", "bad state")
 

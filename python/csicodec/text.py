@@ -7,7 +7,6 @@ from typing import Any, AnyStr, Callable, Dict, Optional, Union
 from . import library
 
 Bytes = Union[bytes, bytearray, memoryview]
-_LIMIT = 65536
 _DEPTHS: Dict[Optional[int], int] = {None: 0, 256: 1, 16: 2}
 
 
@@ -57,7 +56,7 @@ def normalise(sequences: AnyStr) -> AnyStr:
     >>> normalise(b"\\x1b[1mx")
     Traceback (most recent call last):
         ...
-    csicodec.library.CodecError: byte 4: not a sequence
+    csicodec.error.CodecError: byte 4: not a sequence
     """
     held = _bytes(sequences)
     return _like(sequences, library.written(lambda out, room: library.normalise(held, len(held), out, room), 2 * len(held) + 64)[0])  # type: ignore[no-any-return]
@@ -90,7 +89,7 @@ class Filter:
         if not held or _waits(held, self._looked):
             self._rest, self._looked = held, len(held)
             return b""
-        out, answer = library.written(lambda out, room: self._call(self._mode, _LIMIT, held, len(held), out, room), 2 * len(held) + 64)
+        out, answer = library.written(lambda out, room: self._call(self._mode, library.LIMIT, held, len(held), out, room), 2 * len(held) + 64)
         self._mode, self._rest = answer.mode, held[answer.used :]
         self._looked = len(self._rest)
         return out
@@ -103,7 +102,7 @@ class Filter:
 
 def _waits(held: bytes, looked: int) -> bool:
     """Whether a control sequence, of which so many bytes were looked at, isn't over in these."""
-    if looked < 2 or len(held) >= _LIMIT or held[:2] != b"\x1b[":
+    if looked < 2 or len(held) >= library.LIMIT or held[:2] != b"\x1b[":
         return False
     return all(0x20 <= byte <= 0x3F for byte in held[looked:])
 

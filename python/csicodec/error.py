@@ -1,0 +1,12 @@
+"""What can be wrong with bytes or actions."""
+from __future__ import annotations
+
+
+class CodecError(ValueError):
+    """Why bytes aren't control sequences one after the other. The refused sequence begins at `start`, and `at` is the place of the
+    fault, counted from there.
+    """
+
+    def __init__(self, message: str, start: int = 0, at: int = 0) -> None:
+        super().__init__(message)
+        self.start, self.at = start, at

@@ -393,6 +393,7 @@ enum csicodec_event_kind {
     CSICODEC_EVENT_CONTROL = 6
 };
 
+/* What csicodec_event returns. (struct csicodec_event is what csicodec_next_event fills, in csicodec_stream.h.) */
 struct csicodec_told {
     /* CSICODEC_OK, CSICODEC_TRUNCATED, CSICODEC_MEMORY or CSICODEC_BAD_STATE. */
     uint32_t status;

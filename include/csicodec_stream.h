@@ -14,7 +14,9 @@
  *     }
  *
  * The caller keeps the bytes that wait: fewer than the limit, or than 4. How a stream is cut into pieces changes only where text,
- * strings and malformed controls are cut; it never cuts a character of text. */
+ * strings and malformed controls are cut; it never cuts a character of text.
+ *
+ * A stream is UTF-8: bytes 80 to 9f are text, never 8-bit controls, so 9b isn't CSI. */
 #ifndef CSICODEC_STREAM_H
 #define CSICODEC_STREAM_H
 
@@ -56,6 +58,7 @@ struct csicodec_stream {
     size_t params_room;
 };
 
+/* An event, as csicodec_next_event fills it. The call csicodec_event returns another struct, csicodec_told of csicodec.h. */
 struct csicodec_event {
     /* enum csicodec_event_kind. */
     uint32_t kind;

@@ -5,7 +5,7 @@ use crate::{Dialect, Event, InputEvent};
 use std::io::{self, ErrorKind, Read};
 
 /// Reads a stream that comes in pieces. How it is cut changes only where text, strings and malformed controls are cut; it never cuts
-/// a character of text.
+/// a character of text. A stream is UTF-8: bytes 80 to 9f are text, never 8-bit controls, so 9b isn't CSI.
 ///
 /// ```
 /// use csicodec::{Event, Parser};

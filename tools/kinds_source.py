@@ -49,14 +49,22 @@ def code_row(number, group, variant, form, names):
     return f"{name}{left}{tail} => {right},\n"
 
 
+# What is public, and what is said of it.
+SAID = {
+    "Sgr": "/// The struct of an attribute.\n",
+    "Cursor": "/// The struct of an action of the cursor.\n",
+    "Edit": "/// The struct of an edit.\n",
+}
+
+
 def rows():
     body = ""
     for group in BY_NUMBER:
         value = f"place ({low(group)}_of {low(group)}.now)" if has_tokens(group) else f"{low(group)}.now"
         place = "place: usize, " if has_tokens(group) else ""
-        # What takes memory is laid by other calls than `struct_of`, and so is most of what a stream has.
-        public = "pub(crate) " if is_boxed(group) or group in ("Sgr", "Cursor", "Edit") else ""
-        body += f"\n{public}fn {low(group)}_struct({place}{low(group)}: &{type_of(group)}) -> Struct\n    ensures {{ result ≡ {low(group)}_struct {value} }}\n{{\n    match {low(group)} {{\n"
+        # What takes memory is laid by other calls than `struct_of`, and most of what a stream has by another crate.
+        public = "pub " if group in SAID else "pub(crate) " if is_boxed(group) else ""
+        body += f"\n{SAID.get(group, '')}{public}fn {low(group)}_struct({place}{low(group)}: &{type_of(group)}) -> Struct\n    ensures {{ result ≡ {low(group)}_struct {value} }}\n{{\n    match {low(group)} {{\n"
         for kind in of(group):
             body += code_row(*kind)
         body += "    }\n}\n"

@@ -1,12 +1,11 @@
-mod Fronts
+pub mod Fronts
 mod Kept
-mod Laid
+pub mod Laid
 mod ModeNumbers
 mod OneAction
 mod OneValue
 mod Running
 mod Same
 mod Sole
-mod SoleStruct
 mod Stand
 mod Tokens

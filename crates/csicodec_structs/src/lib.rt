@@ -12,15 +12,15 @@ mod numbers;
 mod room;
 mod rows;
 mod short;
-mod single;
 mod status;
 mod structs;
 mod token;
 
 pub use canonical::{Judged, judge};
 pub use encode::{Encoded, actions_of, put_text, put_texts, refused};
-pub use next::{Front, lay_front};
+pub use next::{Front, lay_by_tokens};
 pub use normalise::{Normalised, put_normal_form};
-pub use room::fill;
+pub use room::{fill, put};
+pub use rows::{cursor_struct, edit_struct, sgr_struct};
 pub use status::Status;
 pub use structs::{Param, Struct};

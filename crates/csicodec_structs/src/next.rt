@@ -1,12 +1,9 @@
 //! The sequence at the front of some bytes.
-ghost use Rattle.std.specs.Prelude.{◌≡◌, ◌⊎◌, List, IfNone, IfSome};
+ghost use Rattle.std.specs.Prelude.{◌≡◌, ◌⊎◌};
 ghost use Rattle.csicodec_structs.specs.Private.Fronts.{IsAnswer, done};
 ghost use Rattle.csicodec_structs.specs.Next.{IsDone, IsRefused, refusal, refused};
-ghost use Rattle.csicodec_structs.specs.declared.structs.Param.{Param};
 
 use crate::lay::{Counts, lay_list};
-use crate::room::put;
-use crate::single::sole_struct;
 use crate::status::{Status, fault_of};
 use crate::structs::{Param, Struct};
 use csicodec::{CsiParam, ReadError, read_csi_into, read_csi_within};
@@ -61,29 +58,6 @@ fn done(used: usize, count: Counts) -> Front
     }
 }
 
-/// Puts the one action of this list, where it has no other and no tokens: of a sequence of so many bytes.
-#[inline(always)]
-fn sole_answer(
-    list: &[CsiParam],
-    control: char,
-    used: usize,
-    actions: &mut [Struct],
-) -> Option<Front>
-    ensures some { IfSome result (λ front. (params : List Param)
-        → IsAnswer list.now control used actions.old actions.new params params front) }
-    ensures none { IfNone result (actions.new ≡ actions.old) }
-{
-    let given = sole_struct(list, control)?;
-    put(actions, 0, given);
-    Some(done(
-        used,
-        Counts {
-            actions: 1,
-            params: 0,
-        },
-    ))
-}
-
 /// Puts the actions of this list and their tokens, as many as there is room for: of a sequence of so many bytes.
 #[inline(never)]
 fn answer(
@@ -118,10 +92,14 @@ fn next_long(alloc: Global, bytes: &[u8], actions: &mut [Struct], params: &mut [
     answer(alloc, &list, tail.control, used, actions, params)
 }
 
-/// Reads a sequence of up to 32 tokens, which take no memory.
-#[cold]
+/// Puts the actions of the sequence at the front, and their tokens, as many as there is room for. Up to 32 tokens take no memory.
 #[inline(never)]
-fn next_wide(alloc: Global, bytes: &[u8], actions: &mut [Struct], params: &mut [Param]) -> Front
+pub fn lay_by_tokens(
+    alloc: Global,
+    bytes: &[u8],
+    actions: &mut [Struct],
+    params: &mut [Param],
+) -> Front
     ensures { IsDone bytes.now actions.old actions.new params.old params.new result
         ⊎ IsRefused bytes.now actions.old actions.new params.old params.new result }
 {
@@ -140,25 +118,4 @@ fn next_wide(alloc: Global, bytes: &[u8], actions: &mut [Struct], params: &mut [
         actions,
         params,
     )
-}
-
-/// Puts the actions of the sequence at the front, and their tokens, as many as there is room for.
-#[inline(always)]
-pub fn lay_front(alloc: Global, bytes: &[u8], actions: &mut [Struct], params: &mut [Param]) -> Front
-    ensures { IsDone bytes.now actions.old actions.new params.old params.new result
-        ⊎ IsRefused bytes.now actions.old actions.new params.old params.new result }
-{
-    // so few that clearing the room costs little: a true colour has 9 tokens
-    let mut room = [CsiParam::Integer(0); 12];
-    let read = match read_csi_within(&mut room, bytes) {
-        Ok(read) => read,
-        Err(ReadError::Memory) => return next_wide(alloc, bytes, actions, params),
-        Err(error) => return refusal(error),
-    };
-    let used = bytes.len() - read.rest.len();
-    let list = &room[..read.count];
-    if let Some(front) = sole_answer(list, read.control, used, actions) {
-        return front;
-    }
-    answer(alloc, list, read.control, used, actions, params)
 }

@@ -14,7 +14,8 @@ use csicodec::{
     CSI, Cursor, Device, DeviceAttributes, Edit, Keyboard, Mode, MouseReport, Sgr, Window,
 };
 
-pub(crate) fn sgr_struct(sgr: &Sgr) -> Struct
+/// The struct of an attribute.
+pub fn sgr_struct(sgr: &Sgr) -> Struct
     ensures { result ≡ sgr_struct sgr.now }
 {
     match sgr {
@@ -35,7 +36,8 @@ pub(crate) fn sgr_struct(sgr: &Sgr) -> Struct
     }
 }
 
-pub(crate) fn cursor_struct(cursor: &Cursor) -> Struct
+/// The struct of an action of the cursor.
+pub fn cursor_struct(cursor: &Cursor) -> Struct
     ensures { result ≡ cursor_struct cursor.now }
 {
     match cursor {
@@ -89,7 +91,8 @@ pub(crate) fn cursor_struct(cursor: &Cursor) -> Struct
     }
 }
 
-pub(crate) fn edit_struct(edit: &Edit) -> Struct
+/// The struct of an edit.
+pub fn edit_struct(edit: &Edit) -> Struct
     ensures { result ≡ edit_struct edit.now }
 {
     match edit {

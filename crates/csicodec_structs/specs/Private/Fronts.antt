@@ -73,10 +73,3 @@ abbrev pub IsAnswer : List CsiParam → ℕ → ℕ → List Struct → List Str
 IsAnswer list final used actions_old actions_new params_old params_new answer =
     IsLaid list final used actions_old actions_new params_old params_new answer
     ⊎ (answer ≡ refused status.Memory 0)
-
--- the struct of the one action of a list, which has no tokens
-pub record IsSole (list : List CsiParam) (final : ℕ) (given : Struct) : Type 0 where
-  pub action : Action
-  pub are : Actions list false final (action ∷ [])
-  pub struct : given ≡ struct_of 0 action
-  pub no_params : params_of action ≡ []

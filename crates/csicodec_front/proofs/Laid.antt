@@ -1,0 +1,86 @@
+-- What is put of a list that was read.
+use Rattle.std.specs.Prelude.{map}
+use Rattle.std.proofs.Common.{◌≡◌, ◌≤◌, ◌⊎◌, ◌+◌, ◌-◌, ℕ, false, List, [], ◌∷◌, ◌++◌, length, get_or, take, drop, Some, None, refl, ap, sym, ◌∙◌, inl, arith, append-nil}
+use Rattle.std.proofs.lemmas.List.{take_all}
+use Rattle.std.specs.Option.{option_map}
+use Rattle.csicodec_tokens.specs.declared.param.CsiParam.{CsiParam}
+use Rattle.csicodec_actions.specs.declared.cursor.Cursor.{Cursor}
+use Rattle.csicodec_actions.specs.declared.edit.Edit.{Edit}
+use Rattle.csicodec_actions.specs.Actions.{Action}
+use Rattle.csicodec_actions.specs.Actions as action
+use Rattle.csicodec_actions.specs.Table.{unboxed, whole}
+use Rattle.csicodec_actions.specs.Table.Cursor.{as_cursor}
+use Rattle.csicodec_actions.specs.Table.Edit.{as_edit}
+use Rattle.csicodec_parser.specs.Segments.{Actions}
+use Rattle.csicodec.proofs.RowGroups.{whole-group}
+use Rattle.csicodec_structs.specs.Next.{IsDone, IsRefused, Lays}
+use Rattle.csicodec_structs.specs.Private.Fronts.{PutsBehind}
+use Rattle.csicodec_structs.specs.Room.{laid}
+use Rattle.csicodec_structs.specs.Rows.{params_of, struct_of}
+use Rattle.csicodec_structs.specs.declared.next.Front.{Front}
+use Rattle.csicodec_structs.specs.declared.structs.Param.{Param}
+use Rattle.csicodec_structs.specs.declared.structs.Struct.{Struct}
+use Rattle.csicodec_structs.specs.Status.{status_number}
+use Rattle.csicodec_structs.specs.declared.status.Status.TheVariants as status
+use Rattle.csicodec_structs.proofs.Fronts.{front_answer}
+use Rattle.csicodec_structs.proofs.Laid.{lays_more, lays_none}
+use Rattle.csicodec_front.specs.Private.Short.{HasLaid}
+
+-- ---- rows
+
+row_alone : (list : List CsiParam) (final : ℕ) (a : Action) → whole list final ≡ Some a → Actions list false final (a ∷ [])
+row_alone list final a e = rw (whole-group list final a e) (inl (a, e, refl))
+
+move_whole : (list : List CsiParam) (final : ℕ) (c : Cursor) → Some (action.Cursor c) ≡ as_cursor list final → whole list final ≡ Some (action.Cursor c)
+unfolding whole unboxed
+move_whole list final c moves = rw (← moves) refl
+
+pub cursor_alone : (list : List CsiParam) (final : ℕ) (c : Cursor) → Some (action.Cursor c) ≡ as_cursor list final → Actions list false final (action.Cursor c ∷ [])
+cursor_alone list final c moves = row_alone list final (action.Cursor c) (move_whole list final c moves)
+
+edit_whole : (list : List CsiParam) (final : ℕ) (d : Edit) → None ≡ as_cursor list final → Some (action.Edit d) ≡ as_edit list final → whole list final ≡ Some (action.Edit d)
+unfolding whole unboxed
+edit_whole list final d none edits = rw (← none, ← edits) refl
+
+pub edit_alone : (list : List CsiParam) (final : ℕ) (d : Edit) → None ≡ as_cursor list final → Some (action.Edit d) ≡ as_edit list final → Actions list false final (action.Edit d ∷ [])
+edit_alone list final d none edits = row_alone list final (action.Edit d) (edit_whole list final d none edits)
+
+-- ---- what is put
+
+-- what a put says
+abbrev pub PutsAt : ℕ → Struct → List Struct → List Struct → Type 0
+PutsAt place given now next = (old items : List Struct) → now ≡ laid old items → place ≡ length items → next ≡ laid old (items ++ given ∷ [])
+
+no_params : (params : List Param) → PutsBehind params params 0 [] 0
+no_params params = record { ends = refl; puts = λ old before is at. is ∙ ap (laid old) (sym (append-nil before)) }
+
+-- one action more, which has no tokens
+pub puts_more : (oa ma na : List Struct) (params : List Param) (count : ℕ) (given : Struct) (before : List Action) (a : Action)
+    → Lays oa ma params params (record { actions = count; params = 0 }) before → given ≡ struct_of 0 a → params_of a ≡ [] → PutsAt count given ma na
+    → Lays oa na params params (record { actions = count + 1; params = 0 }) (before ++ a ∷ [])
+puts_more oa ma na params count given before a lays made none puts =
+    lays_more oa ma na params params params (record { actions = count; params = 0 }) (count + 1) 0 given before a lays made puts (rw none (no_params params)) refl
+
+pub puts_one : (ao an : List Struct) (given : Struct) (a : Action) → given ≡ struct_of 0 a → params_of a ≡ [] → PutsAt 0 given ao an
+    → (params : List Param) → Lays ao an params params (record { actions = 1; params = 0 }) (a ∷ [])
+puts_one ao an given a made none puts params = puts_more ao ao an params 0 given [] a (lays_none ao params) made none puts
+
+-- ---- the answer
+
+pub two_cut : (xs : List ℕ) → 2 ≤ length xs → get_or xs 0 0 ≡ 27 → get_or xs 1 0 ≡ 91 → xs ≡ 27 ∷ 91 ∷ take (length xs - 2) (drop 2 xs)
+two_cut [] some a b = absurd (omega (arith, some))
+two_cut (x ∷ []) some a b = absurd (omega (arith, some))
+two_cut (x ∷ y ∷ xs) some a b = rw (a, b) (ap (λ (l : List ℕ). 27 ∷ 91 ∷ l) (sym (take_all (length (x ∷ y ∷ xs) - 2) xs (omega arith))))
+
+pub short_answer : (bytes body : List ℕ) (ao an : List Struct) (params : List Param) (count done : ℕ) (after : List ℕ) → bytes ≡ 27 ∷ 91 ∷ body → HasLaid body ao an count after
+    → done ≡ status_number status.Done
+    → IsDone bytes ao an params params (record { status = done; at = 0; used = length bytes - length after; actions = count; params = 0 })
+    ⊎ IsRefused bytes ao an params params (record { status = done; at = 0; used = length bytes - length after; actions = count; params = 0 })
+short_answer bytes body ao an params count done after e g ok =
+    rw e (front_answer (27 ∷ 91 ∷ body) after g.list g.final ao an params params _ g.reads (inl (record {
+      all = g.all;
+      are = g.are;
+      ok = ok;
+      used_all = refl;
+      lays = g.lays params;
+    })))

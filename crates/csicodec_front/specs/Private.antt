@@ -1,0 +1,2 @@
+-- What the private functions say of each other. No promise rests on these files.
+pub mod Short

@@ -51,8 +51,8 @@ def code_row(number, group, variant, form, names):
 
 # What is public, and what is said of it.
 SAID = {
-    "Sgr": "/// The struct of an attribute.\n",
-    "Cursor": "/// The struct of an action of the cursor.\n",
+    "Sgr": "/// The struct of an attribute.\n#[inline(always)]\n",
+    "Cursor": "/// The struct of an action of the cursor.\n#[inline(always)]\n",
     "Edit": "/// The struct of an edit.\n",
 }
 

@@ -8,7 +8,8 @@ ghost use Rattle.csicodec_c.specs.Event.{HasPut, IsDone, IsRefused, IsWaiting, a
 
 use crate::filter::{mode_at, number_of};
 use csicodec_events::{Event, Events, append_read, begins_csi};
-use csicodec_structs::{Front, Param, Status, Struct, lay_front};
+use csicodec_front::lay_front;
+use csicodec_structs::{Front, Param, Status, Struct};
 use std::alloc::Global;
 
 /// What comes next in a stream.

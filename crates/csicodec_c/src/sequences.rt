@@ -4,8 +4,9 @@ ghost use Rattle.csicodec_structs.specs.Normalise.{IsDone as IsNormalised, IsRef
 ghost use Rattle.csicodec_structs.specs.Encode.{IsDone as IsEncoded, IsJudged, IsRefused as RefusesToEncode, IsUnjudged};
 ghost use Rattle.csicodec_structs.specs.Next.{IsDone as IsLaid, IsRefused as RefusesToLay};
 
+use csicodec_front::lay_front;
 use csicodec_structs::{
-    Encoded, Front, Judged, Normalised, Param, Struct, judge, lay_front, put_normal_form, put_texts,
+    Encoded, Front, Judged, Normalised, Param, Struct, judge, put_normal_form, put_texts,
 };
 use std::alloc::Global;
 

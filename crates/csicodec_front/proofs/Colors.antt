@@ -65,25 +65,26 @@ true_color text parts one two behind kind red green blue is r g b k rs gs bs = r
 
 -- ---- attributes
 
-pub foreground : (text mid behind : List ℕ) (z : ℤ) (known : SgrCode) (c : ColorSpec) → z ≡ pos (number_of known) → known ≡ code.ForegroundColor → IsFirstToken text (Integer z) mid → IsColor mid c behind
-    → IsAttribute text (sgr.Foreground c) behind
-foreground text mid behind z known c is same first colored = record {
+pub foreground : (text mid behind : List ℕ) (z : ℤ) (c : ColorSpec) → z ≡ pos 38 → IsFirstToken text (Integer z) mid → IsColor mid c behind → IsAttribute text (sgr.Foreground c) behind
+foreground text mid behind z c is first colored = record {
   number = pos 38;
   others = colored.tokens;
-  reads = (mid, subst (λ (n : ℤ). IsFirstToken text (Integer n) mid) (is ∙ ap (λ (k : SgrCode). pos (number_of k)) same) first, colored.reads);
+  reads = (mid, subst (λ (n : ℤ). IsFirstToken text (Integer n) mid) is first, colored.reads);
   gives = λ more. front_38 (colored.tokens ++ more) ∙ rw (colored.gives more) refl;
   even = colored.even;
 }
 
-pub background : (text mid behind : List ℕ) (z : ℤ) (known : SgrCode) (c : ColorSpec) → z ≡ pos (number_of known) → known ≡ code.BackgroundColor → IsFirstToken text (Integer z) mid → IsColor mid c behind
-    → IsAttribute text (sgr.Background c) behind
-background text mid behind z known c is same first colored = record {
+pub background : (text mid behind : List ℕ) (z : ℤ) (c : ColorSpec) → z ≡ pos 48 → IsFirstToken text (Integer z) mid → IsColor mid c behind → IsAttribute text (sgr.Background c) behind
+background text mid behind z c is first colored = record {
   number = pos 48;
   others = colored.tokens;
-  reads = (mid, subst (λ (n : ℤ). IsFirstToken text (Integer n) mid) (is ∙ ap (λ (k : SgrCode). pos (number_of k)) same) first, colored.reads);
+  reads = (mid, subst (λ (n : ℤ). IsFirstToken text (Integer n) mid) is first, colored.reads);
   gives = λ more. front_48 (colored.tokens ++ more) ∙ rw (colored.gives more) refl;
   even = colored.even;
 }
+
+pub alone : (text behind : List ℕ) (z : ℤ) (s : Sgr) → IsFirstToken text (Integer z) behind → ((more : List CsiParam) → piece (Integer z ∷ more) ≡ Some (s, 1)) → IsAttribute text s behind
+alone text behind z s first gives = record { number = z; others = []; reads = one_token text behind (Integer z) first; gives = gives; even = refl }
 
 -- a code that isn't followed by further tokens sets an attribute
 sets : (c : SgrCode) → (c ≡ code.UnderlineOn → ⊥) → (c ≡ code.UnderlineColor → ⊥) → (c ≡ code.ForegroundColor → ⊥) → (c ≡ code.BackgroundColor → ⊥) → is_some (action_of c) ≡ true
@@ -100,12 +101,7 @@ same_piece c s k (Some t) e some found more =
     let same = some_pair_parts _ _ _ _ (sym (one_token_front c [] t e) ∙ found) in
     one_token_front c more t e ∙ ap (λ (x : Sgr). Some (x, 1)) same.0
 
-pub alone : (text behind : List ℕ) (z : ℤ) (k : ℕ) (c : SgrCode) (s : Sgr) → z ≡ pos (number_of c) → (c ≡ code.UnderlineOn → ⊥) → (c ≡ code.UnderlineColor → ⊥) → (c ≡ code.ForegroundColor → ⊥) → (c ≡ code.BackgroundColor → ⊥)
-    → IsFirstToken text (Integer z) behind → Piece (Integer z ∷ []) k s → IsAttribute text s behind
-alone text behind z k c s is a b d e first found = record {
-  number = pos (number_of c);
-  others = [];
-  reads = one_token text behind _ (subst (λ (n : ℤ). IsFirstToken text (Integer n) behind) is first);
-  gives = same_piece c s k (action_of c) refl (sets c a b d e) (piece_is _ k s (subst (λ (n : ℤ). Piece (Integer n ∷ []) k s) is found));
-  even = refl;
-}
+pub one_piece : (z : ℤ) (k : ℕ) (c : SgrCode) (s : Sgr) → z ≡ pos (number_of c) → (c ≡ code.UnderlineOn → ⊥) → (c ≡ code.UnderlineColor → ⊥) → (c ≡ code.ForegroundColor → ⊥) → (c ≡ code.BackgroundColor → ⊥)
+    → Piece (Integer z ∷ []) k s → (more : List CsiParam) → piece (Integer z ∷ more) ≡ Some (s, 1)
+one_piece z k c s is a b d e found = subst (λ (n : ℤ). (more : List CsiParam) → piece (Integer n ∷ more) ≡ Some (s, 1)) (sym is)
+    (same_piece c s k (action_of c) refl (sets c a b d e) (piece_is _ k s (subst (λ (n : ℤ). Piece (Integer n ∷ []) k s) is found)))

@@ -1,6 +1,8 @@
 //! One attribute before `m`, straight from its bytes.
-ghost use Rattle.std.specs.Prelude.{◌∷◌, [], IfSome, pos};
+ghost use Rattle.std.specs.Prelude.{◌≡◌, ◌∷◌, [], List, IfSome, Some, pos};
+ghost use Rattle.csicodec_tokens.specs.declared.param.CsiParam.{CsiParam};
 ghost use Rattle.csicodec_tokens.specs.declared.param.CsiParam.TheVariants.{Integer, P};
+ghost use Rattle.csicodec_base.specs.FrontBy.{piece};
 ghost use Rattle.csicodec_front.specs.Private.Short.{IsAttribute, IsColor, ReadsOn};
 
 use crate::numbers::{behind_semicolon, number_front};
@@ -35,25 +37,38 @@ fn color_front(text: &[u8]) -> Option<(ColorSpec, &[u8])>
     }
 }
 
+/// The attribute that a number sets alone, whatever follows.
+#[inline(always)]
+pub(crate) fn attribute_alone(number: i64) -> Option<Sgr>
+    ensures { IfSome result (λ s. (more : List CsiParam) → piece (Integer number ∷ more) ≡ Some (s, 1)) }
+{
+    match SgrCode::from_i64(number)? {
+        SgrCode::UnderlineOn
+        | SgrCode::UnderlineColor
+        | SgrCode::ForegroundColor
+        | SgrCode::BackgroundColor => None,
+        _ => {
+            let (attribute, _) = sgr_front(&[CsiParam::Integer(number)])?;
+            Some(attribute)
+        }
+    }
+}
+
 /// The attribute in front, and what is behind it: one that its number sets alone, or a colour of text or ground.
 #[inline(always)]
 pub(crate) fn attribute_front(text: &[u8]) -> Option<(Sgr, &[u8])>
     ensures { IfSome result (λ x. IsAttribute text.now x.0 x.1.now) }
 {
     let (number, behind) = number_front(text)?;
-    match SgrCode::from_i64(number)? {
-        SgrCode::UnderlineOn | SgrCode::UnderlineColor => None,
-        SgrCode::ForegroundColor => {
+    match number {
+        38 => {
             let (color, behind) = color_front(behind)?;
             Some((Sgr::Foreground(color), behind))
         }
-        SgrCode::BackgroundColor => {
+        48 => {
             let (color, behind) = color_front(behind)?;
             Some((Sgr::Background(color), behind))
         }
-        _ => {
-            let (attribute, _) = sgr_front(&[CsiParam::Integer(number)])?;
-            Some((attribute, behind))
-        }
+        _ => Some((attribute_alone(number)?, behind)),
     }
 }

@@ -4,9 +4,21 @@ ghost use Rattle.csicodec_structs.specs.Next.{IsDone, IsRefused};
 ghost use Rattle.csicodec_front.specs.Private.Short.{HasLaid};
 
 use crate::row::lay_row;
-use crate::styles::lay_styles;
+use crate::styles::{lay_style, lay_styles};
 use csicodec_structs::{Front, Param, Status, Struct, lay_by_tokens};
 use std::alloc::Global;
+
+/// Puts the action of a list of at most two numbers that moves the cursor or edits, or a few attributes.
+#[inline(never)]
+fn lay_few<'a>(body: &'a [u8], actions: &mut [Struct]) -> Option<(usize, &'a [u8])>
+    ensures some { IfSome result (λ x. HasLaid body.now actions.old actions.new x.0 x.1.now) }
+    ensures none { IfNone result (actions.new ≡ actions.old) }
+{
+    if let Some(after) = lay_row(body, actions) {
+        return Some((1, after));
+    }
+    lay_styles(body, actions)
+}
 
 /// Puts the actions of a short list in front, of what is behind ESC and `[`: how many they are, and what is behind it.
 #[inline(always)]
@@ -14,10 +26,10 @@ fn lay_short<'a>(body: &'a [u8], actions: &mut [Struct]) -> Option<(usize, &'a [
     ensures some { IfSome result (λ x. HasLaid body.now actions.old actions.new x.0 x.1.now) }
     ensures none { IfNone result (actions.new ≡ actions.old) }
 {
-    if let Some(laid) = lay_styles(body, actions) {
-        return Some(laid);
+    if let Some(after) = lay_style(body, actions) {
+        return Some((1, after));
     }
-    Some((1, lay_row(body, actions)?))
+    lay_few(body, actions)
 }
 
 /// Puts the actions of the sequence at the front, and their tokens, as many as there is room for. Up to 32 tokens take no memory.

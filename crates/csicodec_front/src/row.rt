@@ -56,6 +56,9 @@ pub(crate) fn lay_row<'a>(body: &'a [u8], actions: &mut [Struct]) -> Option<&'a 
     let [control @ b'@'..=b'~', after @ ..] = rest else {
         return None;
     };
+    if *control == b'm' {
+        return None;
+    }
     if put_row(&room[..count], char::from(*control), actions) {
         Some(after)
     } else {

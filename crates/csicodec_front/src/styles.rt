@@ -5,7 +5,8 @@ ghost use Rattle.csicodec_structs.specs.Next.{Lays};
 ghost use Rattle.csicodec_structs.specs.declared.structs.Param.{Param};
 ghost use Rattle.csicodec_front.specs.Private.Short.{AreAttributes, HasLaid};
 
-use crate::attributes::attribute_front;
+use crate::attributes::{attribute_alone, attribute_front};
+use crate::numbers::number_front;
 use csicodec_base::Sgr;
 use csicodec_structs::{Struct, put, sgr_struct};
 
@@ -41,16 +42,31 @@ fn put_attributes(attributes: &[Sgr], actions: &mut [Struct])
     }
 }
 
-/// Puts what the list in front does, of no number or of a few attributes before `m`: how many they are, and what is behind it.
+/// Puts the attribute of no number, or of one, before `m`, and answers what is behind it.
+#[inline(always)]
+pub(crate) fn lay_style<'a>(body: &'a [u8], actions: &mut [Struct]) -> Option<&'a [u8]>
+    ensures some { IfSome result (λ after. HasLaid body.now actions.old actions.new 1 after.now) }
+    ensures none { IfNone result (actions.new ≡ actions.old) }
+{
+    if let [b'm', after @ ..] = body {
+        put(actions, 0, sgr_struct(&Sgr::Reset));
+        return Some(after);
+    }
+    let (number, behind) = number_front(body)?;
+    let [b'm', after @ ..] = behind else {
+        return None;
+    };
+    let attribute = attribute_alone(number)?;
+    put(actions, 0, sgr_struct(&attribute));
+    Some(after)
+}
+
+/// Puts a few attributes before `m`: how many they are, and what is behind it.
 #[inline(always)]
 pub(crate) fn lay_styles<'a>(body: &'a [u8], actions: &mut [Struct]) -> Option<(usize, &'a [u8])>
     ensures some { IfSome result (λ x. HasLaid body.now actions.old actions.new x.0 x.1.now) }
     ensures none { IfNone result (actions.new ≡ actions.old) }
 {
-    if let [b'm', after @ ..] = body {
-        put(actions, 0, sgr_struct(&Sgr::Reset));
-        return Some((1, after));
-    }
     let mut room = [Sgr::Reset; 4];
     let (count, after) = attributes_front(&mut room, body)?;
     put_attributes(&room[..count], actions);

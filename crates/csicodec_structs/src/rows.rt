@@ -15,6 +15,7 @@ use csicodec::{
 };
 
 /// The struct of an attribute.
+#[inline(always)]
 pub fn sgr_struct(sgr: &Sgr) -> Struct
     ensures { result ≡ sgr_struct sgr.now }
 {
@@ -37,6 +38,7 @@ pub fn sgr_struct(sgr: &Sgr) -> Struct
 }
 
 /// The struct of an action of the cursor.
+#[inline(always)]
 pub fn cursor_struct(cursor: &Cursor) -> Struct
     ensures { result ≡ cursor_struct cursor.now }
 {

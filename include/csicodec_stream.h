@@ -155,11 +155,21 @@ static inline int csicodec_told_event(struct csicodec_stream *stream, const uint
     return 1;
 }
 
+/* The length of the escape sequence in front, of at least two bytes, where it is all there: ESC, an intermediate byte or none, and a final
+ * byte that neither opens a string nor ends one. 0 of anything else. */
+static inline size_t csicodec_escape_length(const uint8_t *bytes, size_t len) {
+    if (bytes[1] >= 0x20 && bytes[1] < 0x30) return len > 2 && bytes[2] >= 0x30 && bytes[2] < 0x7f ? 3 : 0;
+    switch (bytes[1]) {
+    case 'P': case 'X': case '[': case '\\': case ']': case '^': case '_': return 0;
+    default: return bytes[1] >= 0x30 && bytes[1] < 0x7f ? 2 : 0;
+    }
+}
+
 /* The next event of a stream at the front of len bytes. If it returns 0 there is none, and the bytes wait; otherwise continue at
  * bytes + event->used. At the end of the stream the bytes that wait are an unfinished control or an incomplete character.
  *
- * It is a call of csicodec_event, but for what needs none: text up to an ESC, or up to ASCII, while no control is open, and a control
- * sequence that csicodec_next reads at once. */
+ * It is a call of csicodec_event, but for what needs none: text up to an ESC, or up to ASCII, while no control is open, an escape sequence,
+ * and a control sequence that csicodec_next reads at once. */
 static inline int csicodec_next_event(struct csicodec_stream *stream, const uint8_t *bytes, size_t len,
                                       struct csicodec_event *event) {
     memset(event, 0, sizeof *event);
@@ -168,13 +178,21 @@ static inline int csicodec_next_event(struct csicodec_stream *stream, const uint
         const uint8_t *esc = (const uint8_t *)memchr(bytes, 0x1b, len);
         if (esc || bytes[len - 1] < 0x80)
             return csicodec_event_of(stream, event, CSICODEC_EVENT_TEXT, bytes, esc ? (size_t)(esc - bytes) : len, CSICODEC_FILTER_TEXT);
-    } else if (len > 1 && bytes[0] == 0x1b && bytes[1] == '[' && !stream->looked && stream->mode <= CSICODEC_FILTER_BAD_ESC) {
-        struct csicodec_front front = csicodec_next(bytes, len < stream->limit ? len : stream->limit, stream->actions,
-                                                    stream->actions_room, stream->params, stream->params_room);
-        if (front.status == CSICODEC_OK) {
-            event->actions = front.actions;
-            event->params = front.params;
-            return csicodec_event_of(stream, event, CSICODEC_EVENT_ACTIONS, bytes, front.used, CSICODEC_FILTER_TEXT);
+    } else if (len > 1 && bytes[0] == 0x1b && !stream->looked && stream->limit && stream->mode <= CSICODEC_FILTER_BAD_ESC) {
+        size_t escape = csicodec_escape_length(bytes, len);
+        if (escape) {
+            csicodec_event_of(stream, event, CSICODEC_EVENT_ESC, bytes, escape, CSICODEC_FILTER_TEXT);
+            csicodec_event_says(stream, event);
+            return 1;
+        }
+        if (bytes[1] == '[') {
+            struct csicodec_front front = csicodec_next(bytes, len < stream->limit ? len : stream->limit, stream->actions,
+                                                        stream->actions_room, stream->params, stream->params_room);
+            if (front.status == CSICODEC_OK) {
+                event->actions = front.actions;
+                event->params = front.params;
+                return csicodec_event_of(stream, event, CSICODEC_EVENT_ACTIONS, bytes, front.used, CSICODEC_FILTER_TEXT);
+            }
         }
     }
     return csicodec_told_event(stream, bytes, len, event);

@@ -84,3 +84,14 @@ pub(crate) fn escape(bytes: &[u8]) -> Esc {
         [] => Esc::parse(None, 0),
     }
 }
+
+/// The length of the escape sequence in front, where it is all there: ESC, an intermediate byte or none, and a final byte that neither
+/// opens a string nor ends one.
+pub(crate) fn escape_len(bytes: &[u8]) -> Option<usize> {
+    match bytes {
+        [_, 0x20..=0x2f, 0x30..=0x7e, ..] => Some(3),
+        [_, b'P' | b'X' | b'[' | b'\\' | b']' | b'^' | b'_', ..] => None,
+        [_, 0x30..=0x7e, ..] => Some(2),
+        _ => None,
+    }
+}

@@ -1,6 +1,6 @@
 //! A terminal's stream, event by event.
 
-use crate::event::{Event, StringKind, escape, piece};
+use crate::event::{Event, StringKind, escape, escape_len, piece};
 use crate::pending::LIMIT;
 use crate::text::ahead_of_esc;
 use crate::{CSI, raw::Told, room::Room};
@@ -46,6 +46,7 @@ impl Reader {
         match **rest {
             [first, ..] if first != 0x1b && self.mode == TEXT => self.text(rest),
             [0x1b, b'[', ..] if self.looked == 0 => self.sequence(rest),
+            [0x1b, ..] if self.looked == 0 => self.escape(rest),
             _ => self.told(rest),
         }
     }
@@ -72,6 +73,17 @@ impl Reader {
         (self.given, self.count, self.used) = (0, front.actions, front.used);
         self.mode = TEXT;
         Some(Event::Csi(self.action(rest)))
+    }
+
+    /// An escape sequence that is all there.
+    #[inline]
+    fn escape<'a>(&mut self, rest: &mut &'a [u8]) -> Option<Event<'a>> {
+        let Some(len) = escape_len(rest) else {
+            return self.told(rest);
+        };
+        let (bytes, behind) = rest.split_at(len);
+        (self.mode, *rest) = (TEXT, behind);
+        Some(Event::Esc(escape(bytes)))
     }
 
     /// The next event, as the library tells it.

@@ -1,3 +1,4 @@
 pub mod Colors
 pub mod Styled
 pub mod Laid
+pub mod Changed

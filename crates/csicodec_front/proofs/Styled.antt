@@ -6,6 +6,8 @@ use Rattle.std.proofs.lemmas.List.{map-append}
 use Rattle.std.proofs.lemmas.List.Folds.{list_any-append}
 use Rattle.csicodec_tokens.specs.declared.param.CsiParam.{CsiParam}
 use Rattle.csicodec_tokens.specs.declared.param.CsiParam.TheVariants.{Integer, P}
+use Rattle.csicodec_tokens.specs.Digits.{IsDigit}
+use Rattle.csicodec_tokens.specs.Sequence.{IsBodyByte}
 use Rattle.csicodec_tokens.specs.Private.Reading.{HasRead, IsFirstToken}
 use Rattle.csicodec_tokens.proofs.Reading.{first_cut, read_all, read_more, read_none}
 use Rattle.csicodec_base.specs.declared.sgr.Sgr.{Sgr}
@@ -46,13 +48,17 @@ block_last text behind s a = record {
   whole = inr (refl, λ more e. cc);
 }
 
+-- a byte that is no digit
+pub byte_token : (b : ℕ) (text others : List ℕ) → text ≡ b ∷ others → IsBodyByte b → ¬ IsDigit b → IsFirstToken text (P b) others
+byte_token b text others e body other = record { front = b ∷ []; parts = e; spelled = refl; spellable = (body, other); whole = tt }
+
 -- ---- attribute by attribute
 
 pub styled_none : (body : List ℕ) → HasStyled body [] body
 styled_none body = record { list = []; read = read_none (27 ∷ 91 ∷ body) body refl; even = refl; cut = λ more. refl; first = λ z more. refl }
 
 semicolon : (text others : List ℕ) → text ≡ 59 ∷ others → IsFirstToken text (P 59) others
-semicolon text others e = record { front = 59 ∷ []; parts = e; spelled = refl; spellable = ((omega arith, omega arith), λ d. omega (arith, d.1)); whole = tt }
+semicolon text others e = byte_token 59 text others e (omega arith, omega arith) (λ d. omega (arith, d.1))
 
 pub styled_more : (body rest behind others : List ℕ) (styles : List Sgr) (s : Sgr) → HasStyled body styles rest → IsAttribute rest s behind → behind ≡ 59 ∷ others
     → HasStyled body (styles ++ s ∷ []) others

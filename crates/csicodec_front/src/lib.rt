@@ -1,9 +1,10 @@
 //! The control sequence at the front of some bytes as structs. A short one, as most are, is read straight from its bytes: attributes with
-//! a `;` between them, and what moves the cursor or edits by at most two numbers.
+//! a `;` between them, what moves the cursor or edits by at most two numbers, and one private mode.
 #![tactic(auto)]
 
 mod attributes;
 mod front;
+mod mode;
 mod numbers;
 mod row;
 mod styles;

@@ -111,7 +111,8 @@ pub fn edit_struct(edit: &Edit) -> Struct
     }
 }
 
-fn mode_struct(mode: &Mode) -> Struct
+/// The struct of a change of a mode, or of a question for one.
+pub fn mode_struct(mode: &Mode) -> Struct
     ensures { result ≡ mode_struct mode.now }
 {
     match mode {

@@ -9,6 +9,8 @@ use Rattle.csicodec_base.specs.FrontBy.{color_by, piece}
 use Rattle.csicodec_base.specs.Shapes.{color_shapes}
 use Rattle.csicodec_base.specs.declared.sgr.Sgr.{Sgr}
 use Rattle.csicodec_actions.specs.Actions.{Action, Sgr as Styled}
+use Rattle.csicodec_actions.specs.declared.mode.Change.{Change}
+use Rattle.csicodec_actions.specs.declared.mode.Change.TheVariants as change
 use Rattle.csicodec_parser.specs.Cut.{Cut}
 use Rattle.csicodec_parser.specs.Groups.{group, has_odd}
 use Rattle.csicodec_parser.specs.Segments.{Actions}
@@ -50,6 +52,13 @@ pub record AreAttributes (body : List ℕ) (styles : List Sgr) (after : List ℕ
   pub list : List CsiParam
   pub reads : Reads (27 ∷ 91 ∷ body) list 109 after
   pub are : Actions list false 109 (map Styled styles)
+
+-- the final byte of what is done to private modes: DECSET, DECRST, and xterm's XTSAVE and XTRESTORE
+abbrev pub change_final : Change → ℕ
+change_final change.Set = 104
+change_final change.Reset = 108
+change_final change.Save = 115
+change_final change.Restore = 114
 
 -- the one action of a list is put, which has no tokens
 pub record IsPut (list : List CsiParam) (final : ℕ) (actions_old actions_new : List Struct) : Type 0 where

@@ -1,0 +1,45 @@
+//! A private mode that is set or reset.
+ghost use Rattle.std.specs.Prelude.{◌≡◌, ◌∷◌, [], IfNone, IfSome};
+ghost use Rattle.csicodec_tokens.specs.declared.param.CsiParam.TheVariants.{Integer, P};
+ghost use Rattle.csicodec_front.specs.Private.Short.{HasLaid, ReadsOn, change_final};
+
+use crate::numbers::number_front;
+use csicodec_actions::{Change, DecPrivateMode};
+use csicodec_structs::{Struct, mode_struct, put};
+
+/// A `?` and a number in front, and what is behind them.
+#[inline(always)]
+fn private_front(text: &[u8]) -> Option<(i64, &[u8])>
+    ensures { IfSome result (λ x. ReadsOn text.now (P 63 ∷ Integer x.0 ∷ []) x.1.now) }
+{
+    let [b'?', digits @ ..] = text else {
+        return None;
+    };
+    let (number, behind) = number_front(digits)?;
+    Some((number, behind))
+}
+
+/// What a final byte in front does to private modes, `h` or `l`, and what is behind it.
+#[inline(always)]
+fn change_front(text: &[u8]) -> Option<(Change, &[u8])>
+    ensures { IfSome result (λ x. text.now ≡ change_final x.0 ∷ x.1.now) }
+{
+    match text {
+        [b'h', after @ ..] => Some((Change::Set, after)),
+        [b'l', after @ ..] => Some((Change::Reset, after)),
+        _ => None,
+    }
+}
+
+/// Puts the change of one private mode, and answers what is behind it.
+#[inline(always)]
+pub(crate) fn lay_mode<'a>(body: &'a [u8], actions: &mut [Struct]) -> Option<&'a [u8]>
+    ensures some { IfSome result (λ after. HasLaid body.now actions.old actions.new 1 after.now) }
+    ensures none { IfNone result (actions.new ≡ actions.old) }
+{
+    let (number, behind) = private_front(body)?;
+    let (change, after) = change_front(behind)?;
+    let mode = change.of(DecPrivateMode::at(number)?);
+    put(actions, 0, mode_struct(&mode));
+    Some(after)
+}

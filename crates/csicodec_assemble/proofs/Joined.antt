@@ -1,5 +1,5 @@
 -- Lines one after the other, and what they stand for.
-use Rattle.std.proofs.Common.{◌≡◌, ℕ, ◌+◌, ◌<◌, ◌≤◌, ◌==◌, Bool, true, false, not, List, [], ◌∷◌, ◌++◌, length, Result, Ok, Err, cond, refl, sym, ap, ◌∙◌, subst, append_assoc, append-nil, length-append, arith}
+use Rattle.std.proofs.Common.{◌≡◌, ℕ, ◌+◌, ◌-◌, ◌^◌, ◌<◌, ◌≤◌, ◌==◌, suc, min, Bool, true, false, not, List, [], ◌∷◌, ◌++◌, length, Result, Ok, Err, cond, refl, sym, ap, ◌∙◌, append_assoc, append-nil, length-append, arith}
 use Rattle.std.specs.Result.{result_unwrap_or}
 use Rattle.std.specs.List.{concat, list_all}
 use Rattle.std.proofs.lemmas.Bool.{and_parts, le-ltb, lt-ltb}
@@ -9,7 +9,7 @@ use Rattle.csicodec_assemble.specs.declared.object.Refusal.{Refusal}
 use Rattle.csicodec_assemble.specs.declared.object.Refusal.TheVariants as refusal
 use Rattle.csicodec_assemble.specs.Object.{of_line}
 use Rattle.csicodec_assemble.proofs.Shown.{read_back}
-use Rattle.csicodec_assemble.specs.Lines.{AreShown, Fails, IsLineOf, IsRefused, Passes, assembled, before, ended, last_line, lines_from, most, of_bounded, of_lines}
+use Rattle.csicodec_assemble.specs.Lines.{AreShown, IsLineOf, IsRefused, Passes, assembled, before, counted, ended, last_line, lines_from, most, of_bounded, of_lines, one_more}
 
 abbrev Answer : Type 0
 Answer = Result (List ℕ) Fault
@@ -55,9 +55,6 @@ too_long line long = rw (lt-ltb most (length line) long) refl
 
 -- ---- bytes that come
 
-pub passes_none : (line : List ℕ) → Passes line [] [] line
-passes_none line = record { over = []; lines = λ more. refl; all = refl }
-
 pub passes_then : (a b c x y t u : List ℕ) → Passes a x t b → Passes b y u c → Passes a (x ++ y) (t ++ u) c
 passes_then a b c x y t u p q = record {
   over = p.over ++ q.over;
@@ -76,15 +73,8 @@ passes_end line text short is = record {
 goes_on : (line more : List ℕ) (b : ℕ) → (b == 10) ≡ false → lines_from line (b ∷ more) ≡ lines_from (line ++ b ∷ []) more
 goes_on line more b other = rw other refl
 
-pub passes_byte : (line : List ℕ) (b : ℕ) → (b == 10) ≡ false → Passes line (b ∷ []) [] (line ++ b ∷ [])
-passes_byte line b other = record { over = []; lines = λ more. goes_on line more b other; all = refl }
-
-pub fails_end : (f : Fault) (line : List ℕ) → length line ≤ most → of_line line ≡ Err f → Fails f line (10 ∷ []) []
-fails_end f line short told = record {
-  over = [];
-  all = refl;
-  refused = λ more. (line, lines_from [] more, refl, bounded line short ∙ told);
-}
+pub refused_end : (f : Fault) (line : List ℕ) → length line ≤ most → of_line line ≡ Err f → IsRefused (refusal.Line f) line (10 ∷ [])
+refused_end f line short told = λ more. (line, lines_from [] more, refl, bounded line short ∙ told)
 
 -- the first of the lines that go on with a line is no shorter
 begins_at : (t : Bool) (line bytes : List ℕ) (own : List (List ℕ))
@@ -101,46 +91,51 @@ begins (b ∷ bytes) line some =
     let (next, rest, e, le) = begins bytes (line ++ b ∷ []) (omega (arith, longer)) in
     begins_at (b == 10) line bytes (lines_from (line ++ b ∷ []) bytes) (next, rest, e, omega (arith, longer, le))
 
-pub fails_long : (line : List ℕ) (b : ℕ) → (b == 10) ≡ false → most ≤ length line → Fails TooLong line (b ∷ []) []
-fails_long line b other long = record {
-  over = [];
-  all = refl;
-  refused = λ more.
-      let longer : length (line ++ b ∷ []) ≡ length line + 1 = length-append line (b ∷ []) in
-      let (next, rest, e, le) = begins more (line ++ b ∷ []) (omega (arith, longer)) in
-      (next, rest, goes_on line more b other ∙ e, too_long next (omega (arith, longer, le, long)));
-}
+pub refused_long : (line : List ℕ) (b : ℕ) → (b == 10) ≡ false → most ≤ length line → IsRefused (refusal.Line TooLong) line (b ∷ [])
+refused_long line b other long = λ more.
+    let longer : length (line ++ b ∷ []) ≡ length line + 1 = length-append line (b ∷ []) in
+    let (next, rest, e, le) = begins more (line ++ b ∷ []) (omega (arith, longer)) in
+    (next, rest, goes_on line more b other ∙ e, too_long next (omega (arith, longer, le, long)))
 
-fails_then : (f : Fault) (a b x y t u : List ℕ) → Passes a x t b → Fails f b y u → Fails f a (x ++ y) (t ++ u)
-fails_then f a b x y t u p q = record {
-  over = p.over ++ q.over;
-  all = of_lines-append p.over q.over t u p.all q.all;
-  refused = λ more.
-      let (line, rest, e, told) = q.refused more in (
-        line,
-        rest,
-        ap (λ (s : List ℕ). lines_from a s) (append_assoc x y more) ∙ p.lines (y ++ more)
-            ∙ ap (λ (s : List (List ℕ)). p.over ++ s) e ∙ sym (append_assoc p.over q.over (line ∷ rest)),
-        told,
-      );
-}
+-- a line that a byte refuses is refused whatever comes then
+pub refused_then : (e : Refusal) (line more : List ℕ) (b : ℕ) → IsRefused e line (b ∷ []) → IsRefused e line (b ∷ more)
+refused_then (refusal.Line f) line more b refuses = λ behind. refuses (more ++ behind)
+refused_then refusal.Memory line more b refuses = tt
 
-fails_more : (f : Fault) (a x z u : List ℕ) → Fails f a x u → Fails f a (x ++ z) u
-fails_more f a x z u q = record {
-  over = q.over;
-  all = q.all;
-  refused = λ more.
-      let (line, rest, e, told) = q.refused (z ++ more) in
-      (line, rest, ap (λ (s : List ℕ). lines_from a s) (append_assoc x z more) ∙ e, told);
-}
+-- ---- how many lines are over
 
--- bytes passed, and one behind them is refused, whatever comes then
-pub refused_then : (e : Refusal) (a b x z t : List ℕ) (y : ℕ) → Passes a x t b → IsRefused e b (y ∷ []) [] → IsRefused e a (x ++ y ∷ z) t
-refused_then (refusal.Line f) a b x z t y p q =
-    let whole = fails_more f a (x ++ y ∷ []) z (t ++ []) (fails_then f a b x (y ∷ []) t [] p q) in
-    let same : (x ++ y ∷ []) ++ z ≡ x ++ y ∷ z = append_assoc x (y ∷ []) z in
-    subst (λ (s : List ℕ). Fails f a s t) same (subst (λ (s : List ℕ). Fails f a ((x ++ y ∷ []) ++ z) s) (append-nil t) whole)
-refused_then refusal.Memory a b x z t y p q = tt
+pub counted_then : (over : ℕ) (one other : List ℕ) → counted over (one ++ other) ≡ counted (counted over one) other
+counted_then over [] other = refl
+counted_then over (b ∷ one) other = counted_then (cond (b == 10) (one_more over) over) one other
+
+-- how many lines end in bytes
+abbrev ends : List ℕ → ℕ
+ends [] = 0
+ends (b ∷ bytes) = cond (b == 10) (suc (ends bytes)) (ends bytes)
+
+one_line : (t : Bool) (line : List ℕ) (x y : List (List ℕ)) (n : ℕ) → length x ≡ n + 1 → length y ≡ n + 1 → length (cond t (line ∷ x) y) ≡ cond t (suc n) n + 1
+one_line true line x y n p q = omega (arith, p)
+one_line false line x y n p q = q
+
+ended_lines : (bytes line : List ℕ) → length (lines_from line (bytes ++ 10 ∷ [])) ≡ ends bytes + 1
+ended_lines [] line = refl
+ended_lines (b ∷ bytes) line =
+    one_line (b == 10) line (lines_from [] (bytes ++ 10 ∷ [])) (lines_from (line ++ b ∷ []) (bytes ++ 10 ∷ [])) (ends bytes) (ended_lines bytes []) (ended_lines bytes (line ++ b ∷ []))
+
+one_count : (t : Bool) (bytes : List ℕ) (over n : ℕ) → counted (one_more over) bytes ≡ min (one_more over + n) (2 ^ 64 - 1) → counted over bytes ≡ min (over + n) (2 ^ 64 - 1)
+    → counted (cond t (one_more over) over) bytes ≡ min (over + cond t (suc n) n) (2 ^ 64 - 1)
+one_count true bytes over n p q = omega (arith, p)
+one_count false bytes over n p q = q
+
+counted_ends : (bytes : List ℕ) (over : ℕ) → over ≤ 2 ^ 64 - 1 → counted over bytes ≡ min (over + ends bytes) (2 ^ 64 - 1)
+counted_ends [] over fits = omega (arith, fits)
+counted_ends (b ∷ bytes) over fits = one_count (b == 10) bytes over (ends bytes) (counted_ends bytes (one_more over) (omega arith)) (counted_ends bytes over fits)
+
+pub numbered : (first bytes text last : List ℕ) (p : Passes first bytes text last) → counted 0 bytes ≡ min (length p.over) (2 ^ 64 - 1)
+numbered first bytes text last p =
+    let all : length (lines_from first (bytes ++ 10 ∷ [])) ≡ length (p.over ++ last ∷ []) = ap length (p.lines (10 ∷ [])) in
+    let count : ends bytes ≡ length p.over = omega (arith, all, ended_lines bytes first, length-append p.over (last ∷ [])) in
+    counted_ends bytes 0 (omega arith) ∙ ap (λ (n : ℕ). min n (2 ^ 64 - 1)) (omega (arith, count))
 
 -- ---- whole texts
 
@@ -149,10 +144,12 @@ whole bytes text rest line p last =
     ap of_lines (ap (λ (s : List ℕ). lines_from [] s) (sym (append-nil bytes)) ∙ p.lines [])
     ∙ of_lines-append p.over (last_line line) text rest p.all last
 
-pub refused : (f : Fault) (bytes text more : List ℕ) → Fails f [] bytes text → assembled (bytes ++ more) ≡ Err f
-refused f bytes text more q =
-    let (line, rest, e, told) = q.refused more in
-    ap of_lines e ∙ of_lines-refused q.over rest line text f q.all told
+pub refused : (f : Fault) (front rest text line more : List ℕ) → Passes [] front text line → IsRefused (refusal.Line f) line rest → assembled (front ++ rest ++ more) ≡ Err f
+refused f front rest text line more p refuses =
+    let (next, others, e, told) = refuses more in
+    ap of_lines
+    (ap (λ (s : List ℕ). lines_from [] s) (append_assoc front rest more) ∙ p.lines (rest ++ more) ∙ ap (λ (s : List (List ℕ)). p.over ++ s) e)
+    ∙ of_lines-refused p.over others next text f p.all told
 
 -- ---- what `explain --json` shows
 

@@ -1,5 +1,5 @@
 -- The lines of a text, and the bytes that they stand for.
-use Rattle.std.specs.Prelude.{ℕ, ◌≡◌, ◌≤◌, ◌==◌, not, true, List, [], ◌∷◌, ◌++◌, length, nat_lt, Some, Result, Ok, Err, if◌then◌else◌}
+use Rattle.std.specs.Prelude.{ℕ, ◌≡◌, ◌≤◌, ◌+◌, ◌-◌, ◌^◌, ◌==◌, min, not, true, List, [], ◌∷◌, ◌++◌, length, nat_lt, Some, Result, Ok, Err, if◌then◌else◌}
 use Rattle.std.specs.List.{list_all}
 use Rattle.std.specs.Str.{is_utf8}
 use Rattle.hex.specs.Hex.{IsBytes}
@@ -51,18 +51,20 @@ pub record Passes (first bytes text last : List ℕ) : Type 0 where
   pub lines : (more : List ℕ) → lines_from first (bytes ++ more) ≡ over ++ lines_from last more
   pub all : of_lines over ≡ Ok text
 
--- Where a line had begun, and bytes came: the lines ahead of one that is refused, whatever comes behind the bytes, and what they
--- stand for.
-pub record Fails (f : Fault) (first bytes text : List ℕ) : Type 0 where
-  pub over : List (List ℕ)
-  pub all : of_lines over ≡ Ok text
-  pub refused : (more : List ℕ) → (line : List ℕ) × (rest : List (List ℕ))
-      × (lines_from first (bytes ++ more) ≡ over ++ line ∷ rest) × (of_bounded line ≡ Err f)
+-- Bytes go on with a line, and it is refused, whatever comes behind them; or memory ran out.
+abbrev pub IsRefused : Refusal → List ℕ → List ℕ → Type 0
+IsRefused (refusal.Line f) line bytes = (more : List ℕ) → (whole : List ℕ) × (others : List (List ℕ))
+    × (lines_from line (bytes ++ more) ≡ whole ∷ others) × (of_bounded whole ≡ Err f)
+IsRefused refusal.Memory line bytes = Unit {0}
 
--- the same of a refusal, unless memory ran out
-abbrev pub IsRefused : Refusal → List ℕ → List ℕ → List ℕ → Type 0
-IsRefused (refusal.Line f) first bytes text = Fails f first bytes text
-IsRefused refusal.Memory first bytes text = Unit {0}
+-- one more in 64 bits, which stays at the largest number
+abbrev pub one_more : ℕ → ℕ
+one_more n = min (n + 1) (2 ^ 64 - 1)
+
+-- how many lines are over behind bytes, where so many were ahead of them
+abbrev pub counted : ℕ → List ℕ → ℕ
+counted over [] = over
+counted over (b ∷ bytes) = counted (if b == 10 then one_more over else over) bytes
 
 -- A line that shows some bytes as `explain --json` does, without its end.
 pub record IsLineOf (line bytes : List ℕ) : Type 0 where

@@ -1,6 +1,6 @@
 //! Lines as they come, and the bytes that they stand for.
 ghost use Rattle.std.specs.Prelude.{◌≡◌, ◌≤◌, ◌++◌, ◌∷◌, [], ℕ, List, IfErr, OnErr, OnOk, vec_len};
-ghost use Rattle.csicodec_assemble.specs.Lines.{IsRefused, Passes, last_line, most, of_lines};
+ghost use Rattle.csicodec_assemble.specs.Lines.{IsRefused, Passes, counted, last_line, most, of_lines, one_more};
 ghost use Rattle.csicodec_assemble.specs.Object.{IsTold, of_line};
 
 use crate::object::{Fault, Refusal, bytes_of_line};
@@ -23,7 +23,8 @@ pub struct Assembler {
 impl Assembler {
     /// Of which nothing has come.
     pub fn new(alloc: Global) -> Assembler
-        ensures { result.line.items ≡ [] }
+        ensures line { result.line.items ≡ [] }
+        ensures over { result.over ≡ 0 }
     {
         Assembler {
             alloc,
@@ -33,13 +34,18 @@ impl Assembler {
     }
 
     /// The line that has begun, counted from 1; behind an `Err` it is the one that was refused.
-    pub fn number(&self) -> u64 {
+    pub fn number(&self) -> u64
+        ensures { result ≡ one_more self.now.over }
+    {
         self.over.saturating_add(1)
     }
 
     /// The line is over.
     fn end_line(&mut self, out: &mut Vec<u8>) -> Result<(), Refusal>
         ensures begins { OnOk result (self.new.line.items ≡ []) }
+        ensures over { OnOk result (self.new.over ≡ one_more self.old.over) }
+        ensures stays { OnErr result (self.new.over ≡ self.old.over) }
+        ensures same { OnErr result (self.new.line.items ≡ self.old.line.items) }
         ensures bytes { OnOk result ((text : List ℕ) × (of_line self.old.line.items ≡ Ok text)
             × (out.new.items ≡ out.old.items ++ text)) }
         ensures told { IfErr result (λ e. IsTold e (of_line self.old.line.items)) }
@@ -57,7 +63,10 @@ impl Assembler {
         ensures bytes { OnOk result ((text : List ℕ)
             × Passes self.old.line.items (byte ∷ []) text self.new.line.items
             × (out.new.items ≡ out.old.items ++ text)) }
-        ensures told { IfErr result (λ e. IsRefused e self.old.line.items (byte ∷ []) []) }
+        ensures over { OnOk result (self.new.over ≡ counted self.old.over (byte ∷ [])) }
+        ensures told { IfErr result (λ e. IsRefused e self.old.line.items (byte ∷ [])) }
+        ensures stays { OnErr result (self.new.over ≡ self.old.over) }
+        ensures same { OnErr result (self.new.line.items ≡ self.old.line.items) }
         ensures kept { OnErr result (out.new.items ≡ out.old.items) }
     {
         if byte == b'\n' {
@@ -73,13 +82,17 @@ impl Assembler {
     }
 
     /// Takes bytes, and appends what the lines stand for that end in them. On `Err` that of the lines ahead of the one that is
-    /// refused has been appended, and nothing more is to be taken.
+    /// refused has been appended, `number` is that one's, and nothing more is to be taken.
     pub fn take(&mut self, bytes: &[u8], out: &mut Vec<u8>) -> Result<(), Refusal>
         ensures bytes { OnOk result ((text : List ℕ)
             × Passes self.old.line.items bytes.now text self.new.line.items
             × (out.new.items ≡ out.old.items ++ text)) }
-        ensures told { IfErr result (λ e. (text : List ℕ)
-            × IsRefused e self.old.line.items bytes.now text
+        ensures over { OnOk result (self.new.over ≡ counted self.old.over bytes.now) }
+        ensures told { IfErr result (λ e. (front rest text : List ℕ)
+            × (bytes.now ≡ front ++ rest)
+            × Passes self.old.line.items front text self.new.line.items
+            × IsRefused e self.new.line.items rest
+            × (self.new.over ≡ counted self.old.over front)
             × (out.new.items ≡ out.old.items ++ text)) }
     {
         for byte in bytes {
@@ -91,12 +104,14 @@ impl Assembler {
         Ok(())
     }
 
-    /// Nothing comes any more: a line that has begun is over.
+    /// Nothing comes any more: a line that has begun is over. On `Err` it is the one that `number` says.
     pub fn end(&mut self, out: &mut Vec<u8>) -> Result<(), Refusal>
+        ensures begins { OnOk result (self.new.line.items ≡ []) }
         ensures bytes { OnOk result ((text : List ℕ)
             × (of_lines (last_line self.old.line.items) ≡ Ok text)
             × (out.new.items ≡ out.old.items ++ text)) }
         ensures told { IfErr result (λ e. IsTold e (of_lines (last_line self.old.line.items))) }
+        ensures stays { OnErr result (self.new.over ≡ self.old.over) }
         ensures kept { OnErr result (out.new.items ≡ out.old.items) }
     {
         if self.line.is_empty() {

@@ -1,5 +1,8 @@
-use Rattle.csicodec_assemble.proofs.Joined.{passes_then}
+use Rattle.csicodec_assemble.proofs.Joined.{counted_then, passes_then}
 use Rattle.csicodec_assemble.proofs.laws.goes_on.Goals as goal
 
-pub returns : goal.returns
-returns c = passes_then
+pub returns-clause-text : goal.returns-clause-text
+returns-clause-text c = passes_then
+
+pub returns-clause-lines : goal.returns-clause-lines
+returns-clause-lines c = counted_then

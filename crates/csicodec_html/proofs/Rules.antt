@@ -1,13 +1,38 @@
--- The rules of a colour more.
-use Rattle.std.proofs.Common.{◌≡◌, ◌+◌, ℕ, [], ◌++◌, refl, add-one}
+-- The rules of the classes, as they are written.
+use Rattle.std.proofs.Common.{◌≡◌, ◌+◌, ℕ, [], ◌++◌, codes, refl, add-one}
+use Rattle.csicodec_names.specs.declared.color.ColorSpec.TheVariants as color
+use Rattle.csicodec_html.specs.declared.classes.Class.TheVariants as kind
 use Rattle.csicodec_html.specs.declared.classes.Part.{Part}
+use Rattle.csicodec_html.specs.declared.classes.Part.TheVariants as part
 use Rattle.csicodec_html.specs.declared.palette.Palette.{Palette}
-use Rattle.csicodec_html.specs.Sheet.{color_rule, color_rules}
+use Rattle.csicodec_html.specs.declared.sheet.TheConstants.{RULES}
+use Rattle.csicodec_html.specs.Classes.{class_name, property_of}
+use Rattle.csicodec_html.specs.Look.{hex_color, line_kind, line_places, property, weight}
+use Rattle.csicodec_html.specs.Palette.{color_at, or_own}
+use Rattle.csicodec_html.specs.Sheet.{class_rule, color_rules, declaration, fixed_rules, kind_of_lines, line_rule, places}
 
 pub none : (p : Palette) (of : Part) → color_rules p of 0 ≡ []
 unfolding color_rules
 none p of = refl
 
-pub more : (p : Palette) (of : Part) (i : ℕ) → color_rules p of (i + 1) ≡ color_rules p of i ++ color_rule p of i
+pub more : (p : Palette) (of : Part) (i : ℕ) → color_rules p of (i + 1) ≡ color_rules p of i ++ class_rule p (kind.Color of i)
 unfolding color_rules
 more p of i = rw (add-one i) refl
+
+pub fixed : (p : Palette) → RULES.now ≡ fixed_rules p
+unfolding fixed_rules class_rule line_rule declaration places kind_of_lines line_places line_kind weight
+fixed p = refl
+
+pub of_color : (p : Palette) (of : Part) (i : ℕ) → codes "." ++ (class_name (kind.Color of i) ++ (codes "{" ++ (property_of of ++ (hex_color (color_at p i) ++ codes ";}\n")))) ≡ class_rule p (kind.Color of i)
+unfolding class_rule declaration
+of_color p part.Text i = refl
+of_color p part.Ground i = refl
+of_color p part.Line i = refl
+
+pub of_text : (p : Palette) → codes ".fg-background{" ++ (property p (codes "color:") (codes "Canvas") (or_own p.background color.Default) ++ codes "}\n") ≡ class_rule p kind.TextAsGround
+unfolding class_rule declaration
+of_text p = refl
+
+pub of_ground : (p : Palette) → codes ".bg-foreground{" ++ (property p (codes "background-color:") (codes "CanvasText") (or_own p.foreground color.Default) ++ codes "}\n") ≡ class_rule p kind.GroundAsText
+unfolding class_rule declaration
+of_ground p = refl

@@ -1,14 +1,20 @@
 -- The style sheet of a page of its own.
-use Rattle.std.specs.Prelude.{ℕ, zero, suc, Bool, ◌||◌, List, [], ◌∷◌, ◌++◌, codes, if◌then◌else◌, Option, Some, None, is_some}
+use Rattle.std.specs.Prelude.{ℕ, zero, suc, Bool, true, false, not, ◌||◌, List, [], ◌∷◌, ◌++◌, codes, if◌then◌else◌, Option, Some, None, is_some}
+use Rattle.std.specs.List.{flat_map}
 use Rattle.csicodec_names.specs.declared.color.ColorSpec.TheVariants as color
+use Rattle.csicodec_names.specs.declared.color.Intensity.TheVariants as intensity
 use Rattle.csicodec_names.specs.declared.color.SrgbaTuple.{SrgbaTuple}
+use Rattle.csicodec_names.specs.declared.color.Underline.{Underline}
+use Rattle.csicodec_names.specs.declared.color.Underline.TheVariants as underline
+use Rattle.csicodec_html.specs.declared.classes.Class.{Class}
 use Rattle.csicodec_html.specs.declared.classes.Class.TheVariants as kind
 use Rattle.csicodec_html.specs.declared.classes.Part.{Part}
 use Rattle.csicodec_html.specs.declared.classes.Part.TheVariants as part
+use Rattle.csicodec_html.specs.declared.look.Look.{Look}
 use Rattle.csicodec_html.specs.declared.markup.Markup.{Markup}
 use Rattle.csicodec_html.specs.declared.palette.Palette.{Palette}
 use Rattle.csicodec_html.specs.Classes.{class_name, property_of}
-use Rattle.csicodec_html.specs.Look.{hex_color, property}
+use Rattle.csicodec_html.specs.Look.{hex_color, is_none, line_kind, line_places, plain, property, slant, weight}
 use Rattle.csicodec_html.specs.Palette.{color_at, or_own}
 
 -- ---- the page's own colours
@@ -31,44 +37,84 @@ own_rules p = if has_own p then own_rule p else []
 
 -- ---- what each class means
 
--- the colour of a place
-unfoldable pub color_rule : Palette → Part → ℕ → List ℕ
-color_rule p of i = codes "."
-    ++ (class_name (kind.Color of i) ++ (codes "{"
-    ++ (property_of of ++ (hex_color (color_at p i) ++ codes ";}\n"))))
+-- a part of `text-decoration` by itself (CSS Text Decoration, level 3, 2.1 to 2.3): the words have a blank ahead
+abbrev pub longhand : List ℕ → List ℕ → List ℕ
+longhand what [] = []
+longhand what (blank ∷ words) = what ++ (words ++ 59 ∷ [])
 
--- of so many places from 0 on
+-- which lines there are
+unfoldable pub places : Look → List ℕ
+places l = longhand (codes "text-decoration-line:") (line_places l)
+
+-- of which kind
+unfoldable pub kind_of_lines : Underline → List ℕ
+kind_of_lines u = longhand (codes "text-decoration-style:") (line_kind u)
+
+-- a look that has these lines, and nothing else
+abbrev pub lined : Underline → Bool → Bool → Look
+lined below above through = record plain { underline = below; overline = above; strike = through }
+
+-- what a class declares: what the style of a look does that has nothing else
+unfoldable pub declaration : Palette → Class → List ℕ
+declaration p kind.Bold = weight intensity.Bold
+declaration p kind.Faint = weight intensity.Half
+declaration p kind.Italic = slant true
+declaration p kind.Underline = places (lined underline.Single false false)
+declaration p kind.Overline = places (lined underline.None true false)
+declaration p kind.Strike = places (lined underline.None false true)
+declaration p kind.Double = kind_of_lines underline.Double
+declaration p kind.Curly = kind_of_lines underline.Curly
+declaration p kind.Dotted = kind_of_lines underline.Dotted
+declaration p kind.Dashed = kind_of_lines underline.Dashed
+declaration p kind.TextAsGround =
+    property p (codes "color:") (codes "Canvas") (or_own p.background color.Default)
+declaration p kind.GroundAsText =
+    property p (codes "background-color:") (codes "CanvasText") (or_own p.foreground color.Default)
+declaration p (kind.Color of i) = property_of of ++ (hex_color (color_at p i) ++ 59 ∷ [])
+
+unfoldable pub class_rule : Palette → Class → List ℕ
+class_rule p c = codes "." ++ (class_name c ++ (codes "{" ++ (declaration p c ++ codes "}\n")))
+
+abbrev pub selector : Bool → Class → List ℕ
+selector is_there c = if is_there then codes "." ++ class_name c else []
+
+-- lines, by all their classes: of the rules that fit a span the one of most classes counts (Selectors, level 3, 9)
+unfoldable pub line_rule : Look → List ℕ
+line_rule l =
+    selector (not (is_none l.underline)) kind.Underline
+    ++ (selector l.overline kind.Overline ++ (selector l.strike kind.Strike
+    ++ (codes "{" ++ (places l ++ codes "}\n"))))
+
+-- the classes that have the same meaning on every page
+unfoldable pub fixed_rules : Palette → List ℕ
+fixed_rules p =
+    flat_map (class_rule p) (kind.Bold ∷ kind.Faint ∷ kind.Italic
+    ∷ kind.Underline ∷ kind.Overline ∷ kind.Strike ∷ [])
+    ++ (flat_map line_rule (lined underline.Single true false ∷ lined underline.Single false true
+    ∷ lined underline.None true true ∷ lined underline.Single true true ∷ [])
+    ++ flat_map (class_rule p) (kind.Double ∷ kind.Curly ∷ kind.Dotted ∷ kind.Dashed ∷ []))
+
+-- the colours of so many places from 0 on
 unfoldable pub color_rules : Palette → Part → ℕ → List ℕ
 color_rules p of zero = []
-color_rules p of (suc i) = color_rules p of i ++ color_rule p of i
+color_rules p of (suc i) = color_rules p of i ++ class_rule p (kind.Color of i)
 
--- the page's own colours where they change places
-unfoldable pub text_rule : Palette → List ℕ
-text_rule p = codes ".fg-background{"
-    ++ (property p (codes "color:") (codes "Canvas") (or_own p.background color.Default)
-    ++ codes "}\n")
-
-unfoldable pub ground_rule : Palette → List ℕ
-ground_rule p = codes ".bg-foreground{"
-    ++ (property p (codes "background-color:") (codes "CanvasText")
-    (or_own p.foreground color.Default) ++ codes "}\n")
-
--- all classes; those that are no colours have the same meaning on every page
-unfoldable pub class_rules : List ℕ → Palette → List ℕ
-class_rules fixed p = fixed ++ (text_rule p
-    ++ (ground_rule p ++ (color_rules p part.Text 256
+-- all classes
+unfoldable pub class_rules : Palette → List ℕ
+class_rules p = fixed_rules p ++ (class_rule p kind.TextAsGround
+    ++ (class_rule p kind.GroundAsText ++ (color_rules p part.Text 256
     ++ (color_rules p part.Ground 256 ++ color_rules p part.Line 256))))
 
-unfoldable pub rules_of_classes : List ℕ → Markup → List ℕ
-rules_of_classes fixed m = if m.classes then class_rules fixed m.palette else []
+unfoldable pub rules_of_classes : Markup → List ℕ
+rules_of_classes m = if m.classes then class_rules m.palette else []
 
-unfoldable pub some_sheet : List ℕ → Markup → List ℕ
-some_sheet fixed m =
-    codes "<style>\n" ++ (own_rules m.palette ++ (rules_of_classes fixed m ++ codes "</style>\n"))
+unfoldable pub some_sheet : Markup → List ℕ
+some_sheet m =
+    codes "<style>\n" ++ (own_rules m.palette ++ (rules_of_classes m ++ codes "</style>\n"))
 
 -- the style sheet, where there is one
 abbrev pub has_sheet : Markup → Bool
 has_sheet m = m.classes || has_own m.palette
 
-unfoldable pub sheet : List ℕ → Markup → List ℕ
-sheet fixed m = if has_sheet m then some_sheet fixed m else []
+unfoldable pub sheet : Markup → List ℕ
+sheet m = if has_sheet m then some_sheet m else []

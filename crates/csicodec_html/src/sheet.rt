@@ -1,6 +1,6 @@
 //! A page of its own: what stands ahead of its pieces, with its style sheet, and behind them.
 ghost use Rattle.std.specs.Prelude.{◌≡◌, ◌<◌, ◌++◌, [], IfOk, OnOk};
-ghost use Rattle.csicodec_html.specs.Sheet.{class_rules, color_rule, color_rules, ground_rule, has_own, has_sheet, own_color, own_rule, own_rules, rules_of_classes, sheet, some_sheet, text_rule};
+ghost use Rattle.csicodec_html.specs.Sheet.{class_rule, class_rules, color_rules, has_own, has_sheet, own_color, own_rule, own_rules, rules_of_classes, sheet, some_sheet};
 
 use crate::attributes::append_property_of;
 use crate::classes::{Class, Part, append_name};
@@ -104,7 +104,7 @@ fn append_color_rule(
     out: &mut Vec<u8>,
 ) -> Result<(), AllocError>
     ensures { OnOk result
-        (out.new.items ≡ out.old.items ++ color_rule palette.now part place) }
+        (out.new.items ≡ out.old.items ++ class_rule palette.now (Class.Color part place)) }
 {
     out.extend_from_slice(b".")?;
     append_name(Class::Color(part, place), out)?;
@@ -127,7 +127,8 @@ fn append_color_rules(palette: &Palette, part: Part, out: &mut Vec<u8>) -> Resul
 
 /// Appends what the class of text in the colour of the page's background means.
 fn append_text_rule(palette: &Palette, out: &mut Vec<u8>) -> Result<(), AllocError>
-    ensures { OnOk result (out.new.items ≡ out.old.items ++ text_rule palette.now) }
+    ensures { OnOk result
+        (out.new.items ≡ out.old.items ++ class_rule palette.now Class.TextAsGround) }
 {
     let color = or_own(palette.background, ColorSpec::Default);
     out.extend_from_slice(b".fg-background{")?;
@@ -138,7 +139,8 @@ fn append_text_rule(palette: &Palette, out: &mut Vec<u8>) -> Result<(), AllocErr
 
 /// Appends what the class of a background in the colour of the page's text means.
 fn append_ground_rule(palette: &Palette, out: &mut Vec<u8>) -> Result<(), AllocError>
-    ensures { OnOk result (out.new.items ≡ out.old.items ++ ground_rule palette.now) }
+    ensures { OnOk result
+        (out.new.items ≡ out.old.items ++ class_rule palette.now Class.GroundAsText) }
 {
     let color = or_own(palette.foreground, ColorSpec::Default);
     out.extend_from_slice(b".bg-foreground{")?;
@@ -149,7 +151,7 @@ fn append_ground_rule(palette: &Palette, out: &mut Vec<u8>) -> Result<(), AllocE
 
 /// Appends what each class means.
 fn append_class_rules(palette: &Palette, out: &mut Vec<u8>) -> Result<(), AllocError>
-    ensures { OnOk result (out.new.items ≡ out.old.items ++ class_rules RULES.now palette.now) }
+    ensures { OnOk result (out.new.items ≡ out.old.items ++ class_rules palette.now) }
 {
     append_text(RULES, out)?;
     append_text_rule(palette, out)?;
@@ -162,8 +164,7 @@ fn append_class_rules(palette: &Palette, out: &mut Vec<u8>) -> Result<(), AllocE
 /// Appends that, where there are classes.
 #[tactic(auto, unfolding(crate::specs::Sheet::rules_of_classes))]
 fn append_rules_of_classes(markup: &Markup, out: &mut Vec<u8>) -> Result<(), AllocError>
-    ensures { OnOk result
-        (out.new.items ≡ out.old.items ++ rules_of_classes RULES.now markup.now) }
+    ensures { OnOk result (out.new.items ≡ out.old.items ++ rules_of_classes markup.now) }
 {
     if !markup.classes {
         return Ok(());
@@ -180,7 +181,7 @@ fn has_sheet(markup: &Markup) -> bool
 
 /// Appends the style sheet of a page that has one.
 fn append_some_sheet(markup: &Markup, out: &mut Vec<u8>) -> Result<(), AllocError>
-    ensures { OnOk result (out.new.items ≡ out.old.items ++ some_sheet RULES.now markup.now) }
+    ensures { OnOk result (out.new.items ≡ out.old.items ++ some_sheet markup.now) }
 {
     out.extend_from_slice(b"<style>\n")?;
     append_own_rules(&markup.palette, out)?;
@@ -192,7 +193,7 @@ fn append_some_sheet(markup: &Markup, out: &mut Vec<u8>) -> Result<(), AllocErro
 /// Appends the style sheet, if there is one.
 #[tactic(auto, unfolding(crate::specs::Sheet::sheet))]
 fn append_sheet(markup: &Markup, out: &mut Vec<u8>) -> Result<(), AllocError>
-    ensures { OnOk result (out.new.items ≡ out.old.items ++ sheet RULES.now markup.now) }
+    ensures { OnOk result (out.new.items ≡ out.old.items ++ sheet markup.now) }
 {
     if !has_sheet(markup) {
         return Ok(());
@@ -203,7 +204,7 @@ fn append_sheet(markup: &Markup, out: &mut Vec<u8>) -> Result<(), AllocError>
 /// What stands ahead of the pieces of a page of their own: a head, with a style sheet where there are classes or colours of the page's
 /// own are given. That of classes has 25,000 bytes.
 pub fn front(alloc: Global, markup: Markup) -> Result<Vec<u8>, AllocError>
-    ensures { IfOk result (λ out. out.items ≡ HEAD.now ++ (sheet RULES.now markup ++ BODY.now)) }
+    ensures { IfOk result (λ out. out.items ≡ HEAD.now ++ (sheet markup ++ BODY.now)) }
 {
     let mut out = Vec::new(alloc);
     append_text(HEAD, &mut out)?;

@@ -1,11 +1,12 @@
 pub mod Addresses
 pub mod Declarations
 pub mod Joined
-pub mod Left
 pub mod Leads
+pub mod Left
 pub mod Marks
 pub mod Named
 pub mod Paired
 pub mod Rules
+pub mod Said
 pub mod Streamed
 pub mod Turned

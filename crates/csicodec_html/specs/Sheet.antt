@@ -1,6 +1,7 @@
 -- The style sheet of a page of its own.
 use Rattle.std.specs.Prelude.{ℕ, zero, suc, Bool, true, false, not, ◌||◌, List, [], ◌∷◌, ◌++◌, codes, if◌then◌else◌, Option, Some, None, is_some}
 use Rattle.std.specs.List.{flat_map}
+use Rattle.csicodec_names.specs.declared.color.ColorSpec.{ColorSpec}
 use Rattle.csicodec_names.specs.declared.color.ColorSpec.TheVariants as color
 use Rattle.csicodec_names.specs.declared.color.Intensity.TheVariants as intensity
 use Rattle.csicodec_names.specs.declared.color.SrgbaTuple.{SrgbaTuple}
@@ -13,8 +14,8 @@ use Rattle.csicodec_html.specs.declared.classes.Part.TheVariants as part
 use Rattle.csicodec_html.specs.declared.look.Look.{Look}
 use Rattle.csicodec_html.specs.declared.markup.Markup.{Markup}
 use Rattle.csicodec_html.specs.declared.palette.Palette.{Palette}
-use Rattle.csicodec_html.specs.Classes.{class_name, property_of}
-use Rattle.csicodec_html.specs.Look.{hex_color, is_none, line_kind, line_places, plain, property, slant, weight}
+use Rattle.csicodec_html.specs.Classes.{class_name, color_class, property_of, true_color}
+use Rattle.csicodec_html.specs.Look.{hex_color, is_none, line_color, line_kind, line_places, plain, property, slant, weight}
 use Rattle.csicodec_html.specs.Palette.{color_at, or_own}
 
 -- ---- the page's own colours
@@ -49,6 +50,10 @@ places l = longhand (codes "text-decoration-line:") (line_places l)
 -- of which kind
 unfoldable pub kind_of_lines : Underline → List ℕ
 kind_of_lines u = longhand (codes "text-decoration-style:") (line_kind u)
+
+-- of which colour
+unfoldable pub color_of_lines : Palette → ColorSpec → List ℕ
+color_of_lines p c = longhand (codes "text-decoration-color:") (line_color p c)
 
 -- a look that has these lines, and nothing else
 abbrev pub lined : Underline → Bool → Bool → Look
@@ -118,3 +123,13 @@ has_sheet m = m.classes || has_own m.palette
 
 unfoldable pub sheet : Markup → List ℕ
 sheet m = if has_sheet m then some_sheet m else []
+
+-- ---- what the attributes of a span say by it
+
+abbrev pub declares : Palette → Option Class → List ℕ
+declares p None = []
+declares p (Some c) = declaration p c
+
+-- of a colour: its class, or the style beside the classes
+abbrev pub said : Palette → Part → Option Class → ColorSpec → List ℕ
+said p of own c = declares p (color_class of own c) ++ true_color of c

@@ -1,12 +1,17 @@
 //! Laws of the definitions. Each is the contract of a function that does nothing.
-ghost use Rattle.std.specs.Prelude.{◌≡◌, ℕ, List, encode_utf8_all, true};
+ghost use Rattle.std.specs.Prelude.{◌≡◌, ◌++◌, ℕ, Bool, List, None, encode_utf8_all, true};
 ghost use Rattle.std.specs.List.{AllByRecursion, flat_map};
 ghost use Rattle.csicodec_clean.specs.Cleaned.{Strips, longest};
 ghost use Rattle.csicodec_clean.specs.Links.{is_visible};
-ghost use Rattle.csicodec_html.specs.Classes.{class_name, true_colors};
-ghost use Rattle.csicodec_html.specs.Look.{css};
+ghost use Rattle.csicodec_names.specs.declared.color.Intensity.{Intensity};
+ghost use Rattle.csicodec_names.specs.declared.color.Underline.{Underline};
+ghost use Rattle.csicodec_html.specs.Classes.{class_if, class_name, ground_color, lines_class, lines_color, text_color, true_colors, weight_class};
+ghost use Rattle.csicodec_html.specs.Look.{colors, css, slant, weight};
 ghost use Rattle.csicodec_html.specs.Page.{IsHarmless, IsQuoted, PageWith, chars_of, escaped};
+ghost use Rattle.csicodec_html.specs.Sheet.{color_of_lines, declares, kind_of_lines, said};
 ghost use Rattle.csicodec_html.specs.declared.classes.Class.{Class};
+ghost use Rattle.csicodec_html.specs.declared.classes.Class.TheVariants as class;
+ghost use Rattle.csicodec_html.specs.declared.classes.Part.TheVariants as part;
 ghost use Rattle.csicodec_html.specs.declared.look.Look.{Look};
 ghost use Rattle.csicodec_html.specs.declared.markup.Markup.{Markup};
 ghost use Rattle.csicodec_html.specs.declared.palette.Palette.{Palette};
@@ -30,4 +35,17 @@ pub fn attributes_end()
 pub fn one_page()
     ensures { (m : Markup) (bytes page other : List ℕ) → PageWith m bytes page
         → PageWith m bytes other → page ≡ other }
+{}
+
+/// The classes of a look, and the style beside them, declare what its style does, which has the three parts of `text-decoration` in one.
+pub fn same_styles()
+    ensures weight { (p : Palette) (i : Intensity) → declares p (weight_class i) ≡ weight i }
+    ensures slant { (p : Palette) (b : Bool) → declares p (class_if b class.Italic) ≡ slant b }
+    ensures kind { (p : Palette) (u : Underline) → declares p (lines_class u) ≡ kind_of_lines u }
+    ensures line { (p : Palette) (l : Look)
+        → said p part.Line None (lines_color l) ≡ color_of_lines p (lines_color l) }
+    ensures colors { (p : Palette) (l : Look)
+        → said p part.Text (class_if l.inverse class.TextAsGround) (text_color l)
+        ++ said p part.Ground (class_if l.inverse class.GroundAsText) (ground_color l)
+        ≡ colors p l }
 {}

@@ -6,6 +6,7 @@ pub mod Left
 pub mod Marks
 pub mod Named
 pub mod Paired
+pub mod Ruled
 pub mod Rules
 pub mod Said
 pub mod Streamed

@@ -1,5 +1,5 @@
 -- Classes of CSS that say how text looks, and the attributes of a span.
-use Rattle.std.specs.Prelude.{ℕ, Bool, true, false, not, ◌||◌, List, [], ◌∷◌, ◌++◌, codes, if◌then◌else◌, Option, Some, None}
+use Rattle.std.specs.Prelude.{ℕ, ◌<◌, ⊤, Bool, true, false, not, ◌||◌, List, [], ◌∷◌, ◌++◌, codes, if◌then◌else◌, Option, Some, None}
 use Rattle.std.specs.Fmt.{decimal}
 use Rattle.csicodec_names.specs.declared.color.ColorSpec.{ColorSpec}
 use Rattle.csicodec_names.specs.declared.color.ColorSpec.TheVariants as color
@@ -38,6 +38,11 @@ class_name kind.Strike = codes "strike"
 class_name kind.TextAsGround = codes "fg-background"
 class_name kind.GroundAsText = codes "bg-foreground"
 class_name (kind.Color p i) = part_name p ++ decimal i
+
+-- a place is below 256
+abbrev pub IsClass : Class → Type 0
+IsClass (kind.Color p i) = i < 256
+IsClass c = ⊤
 
 -- ---- the classes of a look
 

@@ -1,5 +1,5 @@
 -- The style sheet of a page of its own.
-use Rattle.std.specs.Prelude.{ℕ, zero, suc, Bool, true, false, not, ◌||◌, List, [], ◌∷◌, ◌++◌, codes, if◌then◌else◌, Option, Some, None, is_some}
+use Rattle.std.specs.Prelude.{ℕ, ◌≡◌, zero, suc, Bool, true, false, not, ◌||◌, List, [], ◌∷◌, ◌++◌, codes, if◌then◌else◌, Option, Some, None, is_some}
 use Rattle.std.specs.List.{flat_map}
 use Rattle.csicodec_names.specs.declared.color.ColorSpec.{ColorSpec}
 use Rattle.csicodec_names.specs.declared.color.ColorSpec.TheVariants as color
@@ -133,3 +133,7 @@ declares p (Some c) = declaration p c
 -- of a colour: its class, or the style beside the classes
 abbrev pub said : Palette → Part → Option Class → ColorSpec → List ℕ
 said p of own c = declares p (color_class of own c) ++ true_color of c
+
+-- what stands somewhere in it
+abbrev pub IsIn : List ℕ → List ℕ → Type 0
+IsIn own all = (front behind : List ℕ) × (all ≡ front ++ (own ++ behind))

@@ -5,10 +5,10 @@ ghost use Rattle.csicodec_clean.specs.Cleaned.{Strips, longest};
 ghost use Rattle.csicodec_clean.specs.Links.{is_visible};
 ghost use Rattle.csicodec_names.specs.declared.color.Intensity.{Intensity};
 ghost use Rattle.csicodec_names.specs.declared.color.Underline.{Underline};
-ghost use Rattle.csicodec_html.specs.Classes.{class_if, class_name, ground_color, lines_class, lines_color, text_color, true_colors, weight_class};
-ghost use Rattle.csicodec_html.specs.Look.{colors, css, slant, weight};
+ghost use Rattle.csicodec_html.specs.Classes.{IsClass, class_if, class_name, ground_color, lines_class, lines_color, text_color, true_colors, weight_class};
+ghost use Rattle.csicodec_html.specs.Look.{colors, css, has_line, slant, weight};
 ghost use Rattle.csicodec_html.specs.Page.{IsHarmless, IsQuoted, PageWith, chars_of, escaped};
-ghost use Rattle.csicodec_html.specs.Sheet.{color_of_lines, declares, kind_of_lines, said};
+ghost use Rattle.csicodec_html.specs.Sheet.{IsIn, class_rule, class_rules, color_of_lines, declares, kind_of_lines, line_rule, said};
 ghost use Rattle.csicodec_html.specs.declared.classes.Class.{Class};
 ghost use Rattle.csicodec_html.specs.declared.classes.Class.TheVariants as class;
 ghost use Rattle.csicodec_html.specs.declared.classes.Part.TheVariants as part;
@@ -48,4 +48,10 @@ pub fn same_styles()
         → said p part.Text (class_if l.inverse class.TextAsGround) (text_color l)
         ++ said p part.Ground (class_if l.inverse class.GroundAsText) (ground_color l)
         ≡ colors p l }
+{}
+
+/// Each class has its rule in the sheet, and so have lines by all their classes together, which says where they are.
+pub fn each_rule()
+    ensures classes { (p : Palette) (c : Class) → IsClass c → IsIn (class_rule p c) (class_rules p) }
+    ensures lines { (p : Palette) (l : Look) → has_line l ≡ true → IsIn (line_rule l) (class_rules p) }
 {}

@@ -1,4 +1,5 @@
 pub mod Addresses
+pub mod Apart
 pub mod Declarations
 pub mod Joined
 pub mod Leads

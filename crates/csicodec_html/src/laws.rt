@@ -55,3 +55,8 @@ pub fn each_rule()
     ensures classes { (p : Palette) (c : Class) → IsClass c → IsIn (class_rule p c) (class_rules p) }
     ensures lines { (p : Palette) (l : Look) → has_line l ≡ true → IsIn (line_rule l) (class_rules p) }
 {}
+
+/// Two classes with one name are one.
+pub fn one_class()
+    ensures { (c d : Class) → IsClass c → IsClass d → class_name c ≡ class_name d → c ≡ d }
+{}

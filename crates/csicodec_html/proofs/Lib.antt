@@ -1,5 +1,6 @@
 pub mod Addresses
 pub mod Apart
+pub mod Back
 pub mod Declarations
 pub mod Joined
 pub mod Leads

@@ -1,13 +1,16 @@
 //! Laws of the definitions. Each is the contract of a function that does nothing.
-ghost use Rattle.std.specs.Prelude.{◌≡◌, ◌++◌, ℕ, Bool, List, None, encode_utf8_all, true};
+ghost use Rattle.std.specs.Prelude.{◌≡◌, ◌<◌, ◌++◌, ℕ, Bool, List, None, Some, encode_utf8_all, true};
 ghost use Rattle.std.specs.List.{AllByRecursion, flat_map};
 ghost use Rattle.csicodec_clean.specs.Cleaned.{Strips, longest};
 ghost use Rattle.csicodec_clean.specs.Links.{is_visible};
+ghost use Rattle.csicodec_clean.specs.Palette.{palette, rgb};
 ghost use Rattle.csicodec_names.specs.declared.color.Intensity.{Intensity};
 ghost use Rattle.csicodec_names.specs.declared.color.Underline.{Underline};
 ghost use Rattle.csicodec_html.specs.Classes.{IsClass, class_if, class_name, ground_color, lines_class, lines_color, text_color, true_colors, weight_class};
-ghost use Rattle.csicodec_html.specs.Look.{colors, css, has_line, slant, weight};
+ghost use Rattle.csicodec_html.specs.Given.{given_color};
+ghost use Rattle.csicodec_html.specs.Look.{colors, css, has_line, hex_color, slant, weight};
 ghost use Rattle.csicodec_html.specs.Page.{IsHarmless, IsQuoted, PageWith, chars_of, escaped};
+ghost use Rattle.csicodec_html.specs.Palette.{color_at, xterm};
 ghost use Rattle.csicodec_html.specs.Sheet.{IsIn, class_rule, class_rules, color_of_lines, declares, kind_of_lines, line_rule, said};
 ghost use Rattle.csicodec_html.specs.declared.classes.Class.{Class};
 ghost use Rattle.csicodec_html.specs.declared.classes.Class.TheVariants as class;
@@ -59,4 +62,15 @@ pub fn each_rule()
 /// Two classes with one name are one.
 pub fn one_class()
     ensures { (c d : Class) → IsClass c → IsClass d → class_name c ≡ class_name d → c ≡ d }
+{}
+
+/// A colour that is written is read back.
+pub fn color_back()
+    ensures { (red green blue : ℕ) → red < 256 → green < 256 → blue < 256
+        → given_color (hex_color (rgb red green blue)) ≡ Some (rgb red green blue) }
+{}
+
+/// The palette that nobody chose has the colours of xterm's places.
+pub fn xterm_colors()
+    ensures { (place : ℕ) → color_at xterm place ≡ palette place }
 {}

@@ -135,7 +135,7 @@ impl Look {
 }
 
 /// Appends the begin of the name of a colour.
-pub(crate) fn append_part(part: Part, out: &mut Vec<u8>) -> Result<(), AllocError>
+fn append_part(part: Part, out: &mut Vec<u8>) -> Result<(), AllocError>
     ensures { OnOk result (out.new.items ≡ out.old.items ++ part_name part) }
 {
     match part {

@@ -15,7 +15,7 @@ fn hex_digit(value: u8) -> u8
 }
 
 /// Appends the two digits of a part of a colour.
-fn append_part(part: u8, out: &mut Vec<u8>) -> Result<(), AllocError>
+fn append_two_digits(part: u8, out: &mut Vec<u8>) -> Result<(), AllocError>
     ensures { OnOk result (out.new.items ≡ out.old.items ++ two_digits part) }
 {
     out.extend_from_slice(&[hex_digit(part / 16), hex_digit(part % 16)])
@@ -26,9 +26,9 @@ pub(crate) fn append_parts(color: SrgbaTuple, out: &mut Vec<u8>) -> Result<(), A
     ensures { OnOk result (out.new.items ≡ out.old.items ++ hex_color color) }
 {
     out.push(b'#')?;
-    append_part(color.0, out)?;
-    append_part(color.1, out)?;
-    append_part(color.2, out)
+    append_two_digits(color.0, out)?;
+    append_two_digits(color.1, out)?;
+    append_two_digits(color.2, out)
 }
 
 /// Appends a colour, for which `own` stands where it is the page's own.

@@ -12,4 +12,5 @@ pub mod Ruled
 pub mod Rules
 pub mod Said
 pub mod Streamed
+pub mod Passed
 pub mod Turned

@@ -16,6 +16,7 @@ mod rule;
 mod run;
 mod sheet;
 mod tags;
+mod through;
 
 pub use given::{given_color, given_palette};
 pub use look::Look;
@@ -24,3 +25,4 @@ pub use page::{html, html_with};
 pub use palette::Palette;
 pub use run::{html_all, html_all_with};
 pub use sheet::{BEHIND, BODY, HEAD, RULES, front};
+pub use through::html_through;

@@ -16,7 +16,7 @@ use std::marker::Model;
 
 /// A stream that becomes a page as it comes.
 #[derive(Drop)]
-struct Page {
+pub(crate) struct Page {
     cleaner: Cleaner<Spans>,
 }
 
@@ -31,7 +31,7 @@ impl Model for Page {
 
 impl Page {
     /// Of which nothing has come.
-    fn new(alloc: Global, markup: Markup) -> Page
+    pub(crate) fn new(alloc: Global, markup: Markup) -> Page
         ensures { result ≡ start_of (first_set markup) }
     {
         let cleaner = Cleaner::new(alloc, Spans::new(alloc, markup));

@@ -2,14 +2,16 @@
 use Rattle.std.proofs.Common.{ℕ, ◌-◌, zero, suc, Bool, true, false, cond, min, List, [], ◌∷◌, ◌++◌, length, replicate}
 use Rattle.std.specs.Prelude.{◌==◌, nat_lt}
 use Rattle.std.specs.List.{AllByRecursion, flat_map}
+use Rattle.csicodec_html.specs.declared.look.Look.{Look}
 use Rattle.csicodec_overwrite.specs.declared.cells.Cell.{Cell}
 use Rattle.csicodec_overwrite.specs.declared.cells.Cell.TheVariants.{Behind, Char, Empty, Mark}
+use Rattle.csicodec_overwrite.specs.declared.cells.Glyph.{Glyph}
 use Rattle.csicodec_overwrite.specs.declared.line.Line.{Line}
 use Rattle.csicodec_overwrite.specs.declared.step.Step.{Step}
 use Rattle.csicodec_overwrite.specs.declared.step.Step.TheVariants as step
-use Rattle.csicodec_overwrite.specs.Cells.{begins_behind, belongs, chars_of, columns, emptied, erased, gone, is_empty, onto, outside, takes, to_tab_stop, trimmed, width, without}
-use Rattle.csicodec_overwrite.specs.Line.{Done, back, blank, do_all, does, done, fits, forward, line, over, padded, parted, placed, put, size, text_of}
-use Rattle.csicodec_overwrite.specs.Reading.{shown_by}
+use Rattle.csicodec_overwrite.specs.Cells.{begins_behind, belongs, chars_of, columns, emptied, erased, glyph, gone, is_empty, onto, outside, takes, to_tab_stop, trimmed, width, without}
+use Rattle.csicodec_overwrite.specs.Line.{Done, back, blank, cells_of, do_all, does, done, fits, forward, line, look_behind, over, padded, parted, placed, put, size}
+use Rattle.csicodec_overwrite.proofs.Texts.{chars_by, line_chars}
 
 -- either way of a test
 either : {T : Type 0} (P : T → Type 0) (t : Bool) (x y : T) → P x → P y → P (cond t x y)
@@ -19,7 +21,7 @@ either P false x y h k = k
 module _ (P : ℕ → Type 0) where
   abbrev pub OfCell : Cell → Type 0
   OfCell Empty = Unit {0}
-  OfCell (Char c) = P c
+  OfCell (Char g) = P g.char
   OfCell Behind = Unit {0}
   OfCell (Mark c) = P c
 
@@ -88,65 +90,78 @@ module _ (P : ℕ → Type 0) where
   of_parted l h = either OfLine (begins_behind l.right) (line (emptied l.left (without 1 (outside l.left))) (emptied l.right (outside l.right))) l
       (of_emptied l.left (without 1 (outside l.left)) (of_without 1 (outside l.left) (of_outside l.left h.0)), of_emptied l.right (outside l.right) (of_outside l.right h.1)) h
 
-  of_placed : (c n : ℕ) (l : Line) → P c → OfLine l → OfLine (placed c n l)
-  of_placed c n l p h =
+  of_placed : (g : Glyph) (n : ℕ) (l : Line) → P g.char → OfLine l → OfLine (placed g n l)
+  of_placed g n l p h =
       let k = of_parted l h in
-      either OfLine (n == 0) (line (Mark c ∷ l.left) l.right) (line (replicate (n - 1) Behind ++ (Char c ∷ (parted l).left)) (gone n (parted l).right)) ((p, h.0), h.1)
-      (both (replicate (n - 1) Behind) (Char c ∷ (parted l).left) (behinds (n - 1)) (p, k.0), of_gone n (parted l).right k.1)
+      either OfLine (n == 0) (line (Mark g.char ∷ l.left) l.right) (line (replicate (n - 1) Behind ++ (Char g ∷ (parted l).left)) (gone n (parted l).right)) ((p, h.0), h.1)
+      (both (replicate (n - 1) Behind) (Char g ∷ (parted l).left) (behinds (n - 1)) (p, k.0), of_gone n (parted l).right k.1)
 
-  module _ (space : P 32) (tab : P 9) (newline : P 10) where
+  -- the cells of a line
+  of_line : (l : Line) → OfLine l → OfCells (cells_of l)
+  of_line l h =
+      let all = onto l.right l.left in
+      moved (trimmed all) [] (of_trimmed all (moved l.right l.left h.1 h.0)) tt
+
+  module _ (tab : P 9) where
     abbrev pub OfDone : Done → Type 0
-    OfDone d = AllByRecursion P d.text × OfLine d.line
+    OfDone d = AllByRecursion OfCells d.lines × OfLine d.line
 
-    chars_both : (xs ys : List ℕ) → AllByRecursion P xs → AllByRecursion P ys → AllByRecursion P (xs ++ ys)
-    chars_both [] ys h k = k
-    chars_both (x ∷ xs) ys h k = (h.0, chars_both xs ys h.1 k)
+    of_put : (limit : ℕ) (g : Glyph) (l : Line) → P g.char → OfLine l → OfDone (put limit g l)
+    of_put limit g l p h = either OfDone (fits limit (width g.char (columns l.left)) l) (done [] (placed g (width g.char (columns l.left)) l)) (done (cells_of l ∷ []) (placed g (width g.char 0) blank))
+        (tt, of_placed g (width g.char (columns l.left)) l p h) ((of_line l h, tt), of_placed g (width g.char 0) blank p (tt, tt))
 
-    of_chars : (x : Cell) → OfCell x → AllByRecursion P (chars_of x)
-    of_chars Empty h = (space, tt)
-    of_chars (Char c) h = (h, tt)
-    of_chars Behind h = tt
-    of_chars (Mark c) h = (h, tt)
-
-    of_cells : (xs : List Cell) → OfCells xs → AllByRecursion P (flat_map chars_of xs)
-    of_cells [] h = tt
-    of_cells (x ∷ xs) h = chars_both (chars_of x) (flat_map chars_of xs) (of_chars x h.0) (of_cells xs h.1)
-
-    of_text : (l : Line) → OfLine l → AllByRecursion P (text_of l)
-    of_text l h =
-        let all = onto l.right l.left in
-        of_cells (onto (trimmed all) []) (moved (trimmed all) [] (of_trimmed all (moved l.right l.left h.1 h.0)) tt)
-
-    of_put : (limit c : ℕ) (l : Line) → P c → OfLine l → OfDone (put limit c l)
-    of_put limit c l p h = either OfDone (fits limit (width c (columns l.left)) l) (done [] (placed c (width c (columns l.left)) l)) (done (text_of l ++ 10 ∷ []) (placed c (width c 0) blank))
-        (tt, of_placed c (width c (columns l.left)) l p h) (chars_both (text_of l) (10 ∷ []) (of_text l h) (newline, tt), of_placed c (width c 0) blank p (tt, tt))
-
-    of_does : (limit : ℕ) (s : Step) (l : Line) → OfStep s → OfLine l → OfDone (does limit s l)
-    of_does limit (step.Put c) l p h = of_put limit c l p h
-    of_does limit step.Tab l p h = either OfDone (length l.right == 0) (put limit 9 l) (done [] (forward limit (to_tab_stop (columns l.left)) l)) (of_put limit 9 l tab h) (tt, of_forward limit (to_tab_stop (columns l.left)) l h)
-    of_does limit step.NewLine l p h = (chars_both (text_of l) (10 ∷ []) (of_text l h) (newline, tt), (tt, tt))
-    of_does limit (step.Right n) l p h = (tt, of_forward limit n l h)
-    of_does limit (step.Left n) l p h = (tt, of_back n l.left l.right h.0 h.1)
-    of_does limit (step.Column n) l p h = (tt, of_forward limit (n - 1) (line [] (onto l.left l.right)) (tt, moved l.left l.right h.0 h.1))
-    of_does limit step.EraseRight l p h = (tt, ((of_parted l h).0, tt))
-    of_does limit step.EraseLeft l p h = (tt, (empties (columns l.left), of_erased 1 l.right h.1))
-    of_does limit step.EraseAll l p h = (tt, (empties (columns l.left), tt))
-    of_does limit (step.Erase n) l p h = let k = of_parted l h in (tt, (k.0, of_erased n (parted l).right k.1))
-    of_does limit (step.Delete n) l p h = let k = of_parted l h in (tt, (k.0, of_gone n (parted l).right k.1))
-    of_does limit (step.Insert n) l p h =
+    of_does : (limit : ℕ) (look : Look) (s : Step) (l : Line) → OfStep s → OfLine l → OfDone (does limit look s l)
+    of_does limit look (step.Put c) l p h = of_put limit (glyph c look) l p h
+    of_does limit look step.Tab l p h = either OfDone (length l.right == 0) (put limit (glyph 9 look) l) (done [] (forward limit (to_tab_stop (columns l.left)) l)) (of_put limit (glyph 9 look) l tab h)
+        (tt, of_forward limit (to_tab_stop (columns l.left)) l h)
+    of_does limit look step.NewLine l p h = ((of_line l h, tt), (tt, tt))
+    of_does limit look (step.Right n) l p h = (tt, of_forward limit n l h)
+    of_does limit look (step.Left n) l p h = (tt, of_back n l.left l.right h.0 h.1)
+    of_does limit look (step.Column n) l p h = (tt, of_forward limit (n - 1) (line [] (onto l.left l.right)) (tt, moved l.left l.right h.0 h.1))
+    of_does limit look step.EraseRight l p h = (tt, ((of_parted l h).0, tt))
+    of_does limit look step.EraseLeft l p h = (tt, (empties (columns l.left), of_erased 1 l.right h.1))
+    of_does limit look step.EraseAll l p h = (tt, (empties (columns l.left), tt))
+    of_does limit look (step.Erase n) l p h = let k = of_parted l h in (tt, (k.0, of_erased n (parted l).right k.1))
+    of_does limit look (step.Delete n) l p h = let k = of_parted l h in (tt, (k.0, of_gone n (parted l).right k.1))
+    of_does limit look (step.Insert n) l p h =
         let k = of_parted l h in
         let some = min n (limit - size (parted l)) in
         (tt, (k.0, both (replicate some Empty) (parted l).right (empties some) k.1))
+    of_does limit look (step.Attribute s) l p h = (tt, h)
 
-    of_all : (limit : ℕ) (steps : List Step) (l : Line) → AllByRecursion OfStep steps → OfLine l → OfDone (do_all limit steps l)
-    of_all limit [] l p h = (tt, h)
-    of_all limit (s ∷ steps) l p h =
-        let one = of_does limit s l p.0 h in
-        let others = of_all limit steps (does limit s l).line p.1 one.1 in
-        (chars_both (does limit s l).text (do_all limit steps (does limit s l).line).text one.0 others.0, others.1)
+    all_both : (xs ys : List (List Cell)) → AllByRecursion OfCells xs → AllByRecursion OfCells ys → AllByRecursion OfCells (xs ++ ys)
+    all_both [] ys h k = k
+    all_both (x ∷ xs) ys h k = (h.0, all_both xs ys h.1 k)
 
-    pub of_shown : (limit : ℕ) (steps : List Step) → AllByRecursion OfStep steps → AllByRecursion P (shown_by (do_all limit steps blank))
-    of_shown limit steps p =
-        let all = of_all limit steps blank p (tt, tt) in
-        let d = do_all limit steps blank in
-        chars_both d.text (text_of d.line) all.0 (of_text d.line all.1)
+    of_all : (limit : ℕ) (look : Look) (steps : List Step) (l : Line) → AllByRecursion OfStep steps → OfLine l → OfDone (do_all limit look steps l)
+    of_all limit look [] l p h = (tt, h)
+    of_all limit look (s ∷ steps) l p h =
+        let one = of_does limit look s l p.0 h in
+        let later = do_all limit (look_behind look s) steps (does limit look s l).line in
+        let others = of_all limit (look_behind look s) steps (does limit look s l).line p.1 one.1 in
+        (all_both (does limit look s l).lines later.lines one.0 others.0, others.1)
+
+    module _ (space : P 32) (newline : P 10) where
+      chars_both : (xs ys : List ℕ) → AllByRecursion P xs → AllByRecursion P ys → AllByRecursion P (xs ++ ys)
+      chars_both [] ys h k = k
+      chars_both (x ∷ xs) ys h k = (h.0, chars_both xs ys h.1 k)
+
+      of_chars : (x : Cell) → OfCell x → AllByRecursion P (chars_of x)
+      of_chars Empty h = (space, tt)
+      of_chars (Char g) h = (h, tt)
+      of_chars Behind h = tt
+      of_chars (Mark c) h = (h, tt)
+
+      of_cells : (xs : List Cell) → OfCells xs → AllByRecursion P (flat_map chars_of xs)
+      of_cells [] h = tt
+      of_cells (x ∷ xs) h = chars_both (chars_of x) (flat_map chars_of xs) (of_chars x h.0) (of_cells xs h.1)
+
+      of_lines : (lines : List (List Cell)) → AllByRecursion OfCells lines → AllByRecursion P (flat_map line_chars lines)
+      of_lines [] h = tt
+      of_lines (x ∷ xs) h = chars_both (line_chars x) (flat_map line_chars xs) (chars_both (flat_map chars_of x) (10 ∷ []) (of_cells x h.0) (newline, tt)) (of_lines xs h.1)
+
+      pub of_shown : (limit : ℕ) (look : Look) (steps : List Step) → AllByRecursion OfStep steps → AllByRecursion P (chars_by (do_all limit look steps blank))
+      of_shown limit look steps p =
+          let d = do_all limit look steps blank in
+          let all = of_all limit look steps blank p (tt, tt) in
+          chars_both (flat_map line_chars d.lines) (flat_map chars_of (cells_of d.line)) (of_lines d.lines all.0) (of_cells (cells_of d.line) (of_line d.line all.1))

@@ -1,4 +1,8 @@
+pub mod Texts
 pub mod Moved
+pub mod Painted
+pub mod Looks
+pub mod Spelled
 pub mod Chars
 pub mod Read
 pub mod Written

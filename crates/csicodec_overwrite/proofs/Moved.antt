@@ -1,10 +1,11 @@
 -- Cells that are moved or taken, one after the other.
-use Rattle.std.proofs.Common.{◌≡◌, ℕ, ◌-◌, ◌+◌, ◌<◌, ◌≤◌, Bool, true, false, cond, ◌==◌, nat_le, nat_lt, List, [], ◌∷◌, ◌++◌, encode_utf8, encode_utf8_all, refl, sym, ap, ◌∙◌, arith, append_assoc}
+use Rattle.std.proofs.Common.{◌≡◌, ℕ, ◌-◌, ◌+◌, ◌<◌, ◌≤◌, Bool, true, false, cond, ◌==◌, nat_le, nat_lt, List, [], ◌∷◌, ◌++◌, refl, sym, ap, ◌∙◌, arith, append_assoc}
 use Rattle.std.proofs.lemmas.Bool.Decides.{nat_tests}
-use Rattle.csicodec_clean.proofs.Shows.{encoded_on}
 use Rattle.csicodec_overwrite.specs.declared.cells.Cell.{Cell}
 use Rattle.csicodec_overwrite.specs.Cells.{takes, without}
 use Rattle.csicodec_overwrite.specs.Line.{back, line, over}
+use Rattle.csicodec_overwrite.specs.Paint.{texts_of}
+use Rattle.csicodec_overwrite.proofs.Texts.{texts_on}
 
 -- a test that fails
 fails : {A : Type 0} (t : Bool) (x y : A) → t ≡ false → cond t x y ≡ y
@@ -52,16 +53,12 @@ fits_within s k limit some = by (nat_le (s + k) limit) (nat_le k (limit - s)) re
 
 -- ---- what is written
 
-newline : encode_utf8_all (10 ∷ []) ≡ 10 ∷ []
-unfolding lib.Utf8.encode
-newline = refl
-
 -- a newline behind a text
-pub line_ends : (old text now new : List ℕ) → now ≡ old ++ encode_utf8_all text → new ≡ now ++ 10 ∷ [] → new ≡ old ++ encode_utf8_all (text ++ 10 ∷ [])
-line_ends old text now new e f =
-    f ∙ ap (λ (t : List ℕ). t ++ 10 ∷ []) e ∙ append_assoc old (encode_utf8_all text) (10 ∷ []) ∙ ap (λ (t : List ℕ). old ++ (encode_utf8_all text ++ t)) (sym newline) ∙ ap (λ (t : List ℕ). old ++ t) (sym (encoded_on text (10 ∷ [])))
+pub line_ends : (old text now new : List ℕ) → now ≡ old ++ text → new ≡ now ++ 10 ∷ [] → new ≡ old ++ (text ++ 10 ∷ [])
+line_ends old text now new e f = f ∙ ap (λ (t : List ℕ). t ++ 10 ∷ []) e ∙ append_assoc old text (10 ∷ [])
 
--- the text of a step, and then of those behind it
-pub step_text : (now new first later whole : List ℕ) → new ≡ now ++ encode_utf8_all first → now ++ encode_utf8_all (first ++ later) ≡ whole → new ++ encode_utf8_all later ≡ whole
-step_text now new first later whole e f =
-    ap (λ (t : List ℕ). t ++ encode_utf8_all later) e ∙ append_assoc now (encode_utf8_all first) (encode_utf8_all later) ∙ ap (λ (t : List ℕ). now ++ t) (sym (encoded_on first later)) ∙ f
+-- the lines of a step, and then of those behind it
+pub step_text : (painted : Bool) (now new : List ℕ) (first later : List (List Cell)) (whole : List ℕ) → new ≡ now ++ texts_of painted first → now ++ texts_of painted (first ++ later) ≡ whole
+    → new ++ texts_of painted later ≡ whole
+step_text painted now new first later whole e f =
+    ap (λ (t : List ℕ). t ++ texts_of painted later) e ∙ append_assoc now (texts_of painted first) (texts_of painted later) ∙ ap (λ (t : List ℕ). now ++ t) (sym (texts_on painted first later)) ∙ f

@@ -1,5 +1,5 @@
 -- A stream has one text, and what was written of its front begins that.
-use Rattle.std.proofs.Common.{◌≡◌, ℕ, false, Option, IfSome, List, [], ◌∷◌, ◌++◌, encode_utf8_all, refl, sym, ap, subst, ◌∙◌, append_assoc, append-nil}
+use Rattle.std.proofs.Common.{◌≡◌, ℕ, Bool, false, Option, IfSome, List, [], ◌∷◌, ◌++◌, refl, sym, ap, subst, ◌∙◌, append_assoc, append-nil}
 use Rattle.std.specs.Io.KnownBytes.{Appends, Consumes, IsAtEnd}
 use Rattle.bstr.specs.Utf8.{lossy_chars}
 use Rattle.csicodec_actions.specs.Actions.{Action}
@@ -16,14 +16,14 @@ use Rattle.csicodec_clean.specs.Shown.{IsRead}
 use Rattle.csicodec_clean.specs.Stream.{IsFrontOf}
 use Rattle.csicodec_clean.specs.Titles.{title_open, with_titles}
 use Rattle.csicodec_clean.proofs.Again.{of_once}
-use Rattle.csicodec_clean.proofs.Shows.{encoded_on}
 use Rattle.csicodec_clean.proofs.Sure.{read_none}
 use Rattle.csicodec_clean.proofs.Titles.{titles_on}
+use Rattle.csicodec_html.specs.Look.{plain}
 use Rattle.csicodec_overwrite.specs.declared.step.Step.{Step}
-use Rattle.csicodec_overwrite.specs.Line.{blank, do_all}
+use Rattle.csicodec_overwrite.specs.Line.{blank, do_all, look_behind_all}
 use Rattle.csicodec_overwrite.specs.Steps.{of_actions, of_chars, of_run}
-use Rattle.csicodec_overwrite.specs.Reading.{AreOfParts, IsOfPart, Overwrites, Steps, most, shown_by}
-use Rattle.csicodec_overwrite.specs.Stream.{Ending, Goes, Held, Now, Passes, begun}
+use Rattle.csicodec_overwrite.specs.Reading.{AreOfParts, IsOfPart, Shows, Steps, most, shown_by}
+use Rattle.csicodec_overwrite.specs.Stream.{Ending, Goes, Held, Now, Passes, begun_as}
 use Rattle.csicodec_overwrite.proofs.Chars.{run_read}
 use Rattle.csicodec_overwrite.proofs.Written.{shown_on, transformed}
 
@@ -66,8 +66,8 @@ one_reading bytes steps others s t =
     let before : t.before ≡ s.before = r.all ∙ ap (λ (x : List Step). s.before ++ x) r.others.0 ∙ append-nil s.before in
     s.all ∙ ap (λ (x : List Step). x ++ of_run s.run) (sym before) ∙ ap (λ (run : List ℕ). t.before ++ of_run run) (sym r.others.1) ∙ sym t.all
 
-pub one_text : (bytes text other : List ℕ) → Overwrites bytes text → Overwrites bytes other → text ≡ other
-one_text bytes text other o p = o.all ∙ ap (λ (steps : List Step). encode_utf8_all (shown_by (do_all most steps blank))) (one_reading bytes o.steps p.steps o.read p.read) ∙ sym p.all
+pub one_text : (painted : Bool) (bytes text other : List ℕ) → Shows painted bytes text → Shows painted bytes other → text ≡ other
+one_text painted bytes text other o p = o.all ∙ ap (λ (steps : List Step). shown_by painted (do_all most plain steps blank)) (one_reading bytes o.steps p.steps o.read p.read) ∙ sym p.all
 
 -- ---- fronts
 
@@ -117,23 +117,23 @@ goes_front read more steps all last g s =
           ∙ sym (append_assoc g.before (of_chars g.read) later) ∙ ap (λ (x : List Step). x ++ later) (sym g.same),
     )
 
-passes_front : (read more text : List ℕ) (last : Now) → Passes begun read text last → IsFrontOf Overwrites (read ++ more) text
-passes_front read more text last p whole o =
+passes_front : (painted : Bool) (read more text : List ℕ) (last : Now) → Passes (begun_as painted) read text last → IsFrontOf (Shows painted) (read ++ more) text
+passes_front painted read more text last p whole o =
     let (later, e) = goes_front read more p.steps o.steps last.reader (p.reads.goes [] [] (read_none [])) o.read in
-    let first = (do_all most p.steps blank).text in
-    let behind = shown_by (do_all most later (do_all most p.steps blank).line) in (
-      encode_utf8_all behind,
-      o.all ∙ ap (λ (steps : List Step). encode_utf8_all (shown_by (do_all most steps blank))) e ∙ ap encode_utf8_all (shown_on most p.steps later blank) ∙ encoded_on first behind
-          ∙ ap (λ (t : List ℕ). t ++ encode_utf8_all behind) (sym p.all),
+    let behind = shown_by painted (do_all most (look_behind_all plain p.steps) later (do_all most plain p.steps blank).line) in (
+      behind,
+      o.all ∙ ap (λ (steps : List Step). shown_by painted (do_all most plain steps blank)) e ∙ shown_on painted most p.steps later plain blank ∙ ap (λ (t : List ℕ). t ++ behind) (sym p.all),
     )
 
-shorter : (bytes sent unsent : List ℕ) → IsFrontOf Overwrites bytes (sent ++ unsent) → IsFrontOf Overwrites bytes sent
-shorter bytes sent unsent h whole k = let (more, e) = h whole k in (unsent ++ more, e ∙ append_assoc sent unsent more)
+module _ (painted : Bool) where
+  shorter : (bytes sent unsent : List ℕ) → IsFrontOf (Shows painted) bytes (sent ++ unsent) → IsFrontOf (Shows painted) bytes sent
+  shorter bytes sent unsent h whole k = let (more, e) = h whole k in (unsent ++ more, e ∙ append_assoc sent unsent more)
 
-all_front : (bytes text : List ℕ) → Transforms Passes Ending begun bytes text → IsFrontOf Overwrites bytes text
-all_front bytes text h whole k = ([], one_text bytes whole text k (transformed bytes text h) ∙ sym (append-nil text))
+  all_front : (bytes text : List ℕ) → Transforms Passes Ending (begun_as painted) bytes text → IsFrontOf (Shows painted) bytes text
+  all_front bytes text h whole k = ([], one_text painted bytes whole text k (transformed painted bytes text h) ∙ sym (append-nil text))
 
--- what went out of a run is a front of the text of the whole input
-pub overwritten_sent : (bytes more sent : List ℕ) (i k w y : Option (List ℕ)) → Consumes i k (bytes ++ more) → BeginsWith (Sends Passes begun) (Transforms Passes Ending begun) ((more ≡ []) × IsAtEnd k) bytes sent
-    → Appends w y sent → IfSome i (λ all. (out : List ℕ) × IsFrontOf Overwrites all out × Appends w y out)
-overwritten_sent = whole_front (Sends Passes begun) (Transforms Passes Ending begun) (IsFrontOf Overwrites) shorter (λ read more text (last, p). passes_front read more text last p) all_front
+  -- what went out of a run is a front of the text of the whole input
+  pub shown_sent : (bytes more sent : List ℕ) (i k w y : Option (List ℕ)) → Consumes i k (bytes ++ more)
+      → BeginsWith (Sends Passes (begun_as painted)) (Transforms Passes Ending (begun_as painted)) ((more ≡ []) × IsAtEnd k) bytes sent → Appends w y sent
+      → IfSome i (λ all. (out : List ℕ) × IsFrontOf (Shows painted) all out × Appends w y out)
+  shown_sent = whole_front (Sends Passes (begun_as painted)) (Transforms Passes Ending (begun_as painted)) (IsFrontOf (Shows painted)) shorter (λ read more text (last, p). passes_front painted read more text last p) all_front

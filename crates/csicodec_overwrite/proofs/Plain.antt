@@ -1,5 +1,5 @@
 -- What is written is plain: UTF-8 of characters that are shown.
-use Rattle.std.proofs.Common.{◌≡◌, ℕ, Bool, true, false, cond, List, [], ◌∷◌, ◌++◌, refl}
+use Rattle.std.proofs.Common.{◌≡◌, ℕ, Bool, true, false, cond, List, [], ◌∷◌, ◌++◌, refl, ◌∙◌}
 use Rattle.std.specs.Prelude.{◌==◌}
 use Rattle.std.specs.List.{AllByRecursion}
 use Rattle.std.specs.Str.{all_scalars}
@@ -22,12 +22,14 @@ use Rattle.csicodec_spans.specs.Parts.{Part}
 use Rattle.csicodec_clean.specs.Shown.{IsPlain, IsShown, shown}
 use Rattle.csicodec_clean.specs.Titles.{with_titles}
 use Rattle.csicodec_clean.proofs.Plain.{scalars_lossy}
+use Rattle.csicodec_html.specs.Look.{plain}
 use Rattle.csicodec_overwrite.specs.declared.step.Step.{Step}
 use Rattle.csicodec_overwrite.specs.declared.step.Step.TheVariants as step
 use Rattle.csicodec_overwrite.specs.Line.{blank, do_all}
 use Rattle.csicodec_overwrite.specs.Steps.{of_action, of_actions, of_char, of_chars, of_cursor, of_display, of_edit, of_part, of_run}
-use Rattle.csicodec_overwrite.specs.Reading.{AreOfParts, IsOfPart, Overwrites, Steps, most, shown_by}
+use Rattle.csicodec_overwrite.specs.Reading.{AreOfParts, IsOfPart, Overwrites, Steps, most}
 use Rattle.csicodec_overwrite.proofs.Kept.{OfStep, of_shown}
+use Rattle.csicodec_overwrite.proofs.Texts.{chars_by, shown_plain}
 
 -- a character that is shown
 abbrev IsGood : ℕ → Type 0
@@ -94,6 +96,7 @@ edit_good _ = tt
 action_good : (a : Action) → AreGood (of_action a)
 action_good (action.Cursor c) = cursor_good c
 action_good (action.Edit e) = edit_good e
+action_good (action.Sgr s) = (tt, tt)
 action_good _ = tt
 
 actions_good : (actions : List Action) → AreGood (of_actions actions)
@@ -126,6 +129,6 @@ all_shown (c ∷ cs) h = (h.0.0, all_shown cs h.1)
 
 pub overwritten_plain : (bytes text : List ℕ) → Overwrites bytes text → IsPlain text
 overwritten_plain bytes text o =
-    let chars = shown_by (do_all most o.steps blank) in
-    let good = of_shown IsGood (refl, refl) (refl, refl) (refl, refl) most o.steps (steps_good bytes o.steps o.read) in
-    (chars, scalars chars good, all_shown chars good, o.all)
+    let d = do_all most plain o.steps blank in
+    let good = of_shown IsGood (refl, refl) (refl, refl) (refl, refl) most plain o.steps (steps_good bytes o.steps o.read) in
+    (chars_by d, scalars (chars_by d) good, all_shown (chars_by d) good, o.all ∙ shown_plain d)

@@ -5,13 +5,15 @@ use Rattle.std.proofs.lemmas.List.{length-replicate}
 use Rattle.unicode_width.specs.Width.{char_width}
 use Rattle.unicode_width.proofs.Rules.{width_or_zero-le}
 use Rattle.std.proofs.lemmas.Bool.Decides.{nat_tests}
+use Rattle.csicodec_html.specs.declared.look.Look.{Look}
 use Rattle.csicodec_overwrite.specs.declared.cells.Cell.{Cell}
 use Rattle.csicodec_overwrite.specs.declared.cells.Cell.TheVariants.{Behind, Char, Empty, Mark}
+use Rattle.csicodec_overwrite.specs.declared.cells.Glyph.{Glyph}
 use Rattle.csicodec_overwrite.specs.declared.line.Line.{Line}
 use Rattle.csicodec_overwrite.specs.declared.step.Step.{Step}
 use Rattle.csicodec_overwrite.specs.declared.step.Step.TheVariants as step
-use Rattle.csicodec_overwrite.specs.Cells.{begins_behind, belongs, columns, emptied, erased, gone, onto, outside, takes, to_tab_stop, width, without}
-use Rattle.csicodec_overwrite.specs.Line.{Done, back, blank, do_all, does, done, fits, forward, line, over, padded, parted, placed, put, size, text_of}
+use Rattle.csicodec_overwrite.specs.Cells.{begins_behind, belongs, columns, emptied, erased, glyph, gone, onto, outside, takes, to_tab_stop, width, without}
+use Rattle.csicodec_overwrite.specs.Line.{Done, back, blank, cells_of, do_all, does, done, fits, forward, line, look_behind, over, padded, parted, placed, put, size}
 
 -- either way of a test
 either : {T : Type 0} (P : T → Type 0) (t : Bool) (x y : T) → (t ≡ true → P x) → (t ≡ false → P y) → P (cond t x y)
@@ -23,7 +25,7 @@ always P t x y h k = either P t x y (λ e. h) (λ e. k)
 
 takes_few : (x : Cell) → takes x ≤ 1
 takes_few Empty = omega arith
-takes_few (Char c) = omega arith
+takes_few (Char g) = omega arith
 takes_few Behind = omega arith
 takes_few (Mark c) = omega arith
 
@@ -111,14 +113,14 @@ module _ (limit : ℕ) (enough : 8 ≤ limit) where
       let few : size (over n l.left l.right) ≤ limit = omega (arith, same, h) in
       padded_size (n - columns l.right) (over n l.left l.right) few
 
-  placed_size : (c n : ℕ) (l : Line) → size (placed c n l) ≤ size l + max n 1
-  placed_size c n l =
+  placed_size : (g : Glyph) (n : ℕ) (l : Line) → size (placed g n l) ≤ size l + max n 1
+  placed_size g n l =
       let p = parted l in
       let less = parted_less l in
       let right = gone_less n p.right in
       let rest = without_less n p.right in
-      either (λ (m : Line). size m ≤ size l + max n 1) (n == 0) (line (Mark c ∷ l.left) l.right) (line (replicate (n - 1) Behind ++ (Char c ∷ p.left)) (gone n p.right)) (λ e. omega arith)
-      (λ e. omega (arith, some_left n e, joined (n - 1) Behind (Char c ∷ p.left), less, right, rest))
+      either (λ (m : Line). size m ≤ size l + max n 1) (n == 0) (line (Mark g.char ∷ l.left) l.right) (line (replicate (n - 1) Behind ++ (Char g ∷ p.left)) (gone n p.right)) (λ e. omega arith)
+      (λ e. omega (arith, some_left n e, joined (n - 1) Behind (Char g ∷ p.left), less, right, rest))
 
   first_width : (c : ℕ) → width c 0 ≤ 8
   first_width c = always (λ (w : ℕ). w ≤ 8) (c == 9) (to_tab_stop 0) (unwrap_or (char_width false c) 0) (omega arith) (omega (arith, width_or_zero-le false c))
@@ -126,26 +128,27 @@ module _ (limit : ℕ) (enough : 8 ≤ limit) where
   fits_size : (w : ℕ) (l : Line) → fits limit w l ≡ true → size l + max w 1 ≤ limit
   fits_size w l e = grind (arith, nat_tests)
 
-  put_size : (c : ℕ) (l : Line) → size (put limit c l).line ≤ limit
-  put_size c l =
-      let w = width c (columns l.left) in
-      either (λ (d : Done). size d.line ≤ limit) (fits limit w l) (done [] (placed c w l)) (done (text_of l ++ 10 ∷ []) (placed c (width c 0) blank)) (λ e. omega (arith, placed_size c w l, fits_size w l e))
-      (λ e. omega (arith, placed_size c (width c 0) blank, first_width c, enough))
+  put_size : (g : Glyph) (l : Line) → size (put limit g l).line ≤ limit
+  put_size g l =
+      let w = width g.char (columns l.left) in
+      either (λ (d : Done). size d.line ≤ limit) (fits limit w l) (done [] (placed g w l)) (done (cells_of l ∷ []) (placed g (width g.char 0) blank)) (λ e. omega (arith, placed_size g w l, fits_size w l e))
+      (λ e. omega (arith, placed_size g (width g.char 0) blank, first_width g.char, enough))
 
-  does_size : (s : Step) (l : Line) → size l ≤ limit → size (does limit s l).line ≤ limit
-  does_size (step.Put c) l h = put_size c l
-  does_size step.Tab l h = always (λ (d : Done). size d.line ≤ limit) (length l.right == 0) (put limit 9 l) (done [] (forward limit (to_tab_stop (columns l.left)) l)) (put_size 9 l) (forward_size (to_tab_stop (columns l.left)) l h)
-  does_size step.NewLine l h = omega arith
-  does_size (step.Right n) l h = forward_size n l h
-  does_size (step.Left n) l h = omega (arith, back_size n l.left l.right)
-  does_size (step.Column n) l h = forward_size (n - 1) (line [] (onto l.left l.right)) (omega (arith, moved l.left l.right))
-  does_size step.EraseRight l h = omega (arith, parted_less l)
-  does_size step.EraseLeft l h = omega (arith, empties (columns l.left), few_columns l.left, erased_less 1 l.right)
-  does_size step.EraseAll l h = omega (arith, empties (columns l.left), few_columns l.left)
-  does_size (step.Erase n) l h = omega (arith, parted_less l, erased_less n (parted l).right)
-  does_size (step.Delete n) l h = omega (arith, parted_less l, gone_less n (parted l).right, without_less n (parted l).right)
-  does_size (step.Insert n) l h = omega (arith, parted_less l, joined (min n (limit - size (parted l))) Empty (parted l).right)
+  does_size : (look : Look) (s : Step) (l : Line) → size l ≤ limit → size (does limit look s l).line ≤ limit
+  does_size look (step.Put c) l h = put_size (glyph c look) l
+  does_size look step.Tab l h = always (λ (d : Done). size d.line ≤ limit) (length l.right == 0) (put limit (glyph 9 look) l) (done [] (forward limit (to_tab_stop (columns l.left)) l)) (put_size (glyph 9 look) l) (forward_size (to_tab_stop (columns l.left)) l h)
+  does_size look step.NewLine l h = omega arith
+  does_size look (step.Right n) l h = forward_size n l h
+  does_size look (step.Left n) l h = omega (arith, back_size n l.left l.right)
+  does_size look (step.Column n) l h = forward_size (n - 1) (line [] (onto l.left l.right)) (omega (arith, moved l.left l.right))
+  does_size look step.EraseRight l h = omega (arith, parted_less l)
+  does_size look step.EraseLeft l h = omega (arith, empties (columns l.left), few_columns l.left, erased_less 1 l.right)
+  does_size look step.EraseAll l h = omega (arith, empties (columns l.left), few_columns l.left)
+  does_size look (step.Erase n) l h = omega (arith, parted_less l, erased_less n (parted l).right)
+  does_size look (step.Delete n) l h = omega (arith, parted_less l, gone_less n (parted l).right, without_less n (parted l).right)
+  does_size look (step.Insert n) l h = omega (arith, parted_less l, joined (min n (limit - size (parted l))) Empty (parted l).right)
+  does_size look (step.Attribute s) l h = h
 
-  pub all_size : (steps : List Step) (l : Line) → size l ≤ limit → size (do_all limit steps l).line ≤ limit
-  all_size [] l h = h
-  all_size (s ∷ steps) l h = all_size steps (does limit s l).line (does_size s l h)
+  pub all_size : (look : Look) (steps : List Step) (l : Line) → size l ≤ limit → size (do_all limit look steps l).line ≤ limit
+  all_size look [] l h = h
+  all_size look (s ∷ steps) l h = all_size (look_behind look s) steps (does limit look s l).line (does_size look s l h)

@@ -15,16 +15,20 @@ use Rattle.csicodec_clean.specs.Shown.{IsPlain, IsShown, shown}
 use Rattle.csicodec_clean.proofs.PlainBytes.{plain_bytes}
 use Rattle.csicodec_clean.proofs.Titles.{single_texts}
 use Rattle.csicodec_clean.proofs.Twice.{all_text}
+use Rattle.csicodec_html.specs.declared.look.Look.{Look}
+use Rattle.csicodec_html.specs.Look.{plain}
 use Rattle.csicodec_overwrite.specs.declared.cells.Cell.{Cell}
 use Rattle.csicodec_overwrite.specs.declared.cells.Cell.TheVariants.{Behind, Char, Mark}
+use Rattle.csicodec_overwrite.specs.declared.cells.Glyph.{Glyph}
 use Rattle.csicodec_overwrite.specs.declared.line.Line.{Line}
 use Rattle.csicodec_overwrite.specs.declared.step.Step.{Step}
 use Rattle.csicodec_overwrite.specs.declared.step.Step.TheVariants as step
-use Rattle.csicodec_overwrite.specs.Cells.{chars_of, columns, is_empty, onto, trimmed, width}
-use Rattle.csicodec_overwrite.specs.Line.{Done, HasRoom, before, blank, do_all, does, done, line, placed, put, text_of}
+use Rattle.csicodec_overwrite.specs.Cells.{chars_of, columns, glyph, is_empty, onto, trimmed, width}
+use Rattle.csicodec_overwrite.specs.Line.{Done, HasRoom, before, blank, cells_of, do_all, does, done, line, look_behind, placed, put}
 use Rattle.csicodec_overwrite.specs.Steps.{of_char, of_chars, of_run}
-use Rattle.csicodec_overwrite.specs.Reading.{AreOfParts, Overwrites, Steps, most, shown_by}
+use Rattle.csicodec_overwrite.specs.Reading.{AreOfParts, Overwrites, Steps, most}
 use Rattle.csicodec_overwrite.proofs.Once.{one_text}
+use Rattle.csicodec_overwrite.proofs.Texts.{chars_by, line_chars, shown_plain}
 
 -- ---- cells of which none is empty
 
@@ -52,78 +56,83 @@ full_trimmed : (left : List Cell) → AreFull left → trimmed left ≡ left
 full_trimmed [] h = refl
 full_trimmed (x ∷ left) h = ap (λ (t : Bool). cond t (trimmed left) (x ∷ left)) h.0
 
-full_text : (left : List Cell) → AreFull left → text_of (line left []) ≡ chars left
+full_text : (left : List Cell) → AreFull left → flat_map chars_of (cells_of (line left [])) ≡ chars left
 full_text left h = ap chars (full_trimmed left h)
 
 -- ---- the cells of one character
 
-abbrev cells : ℕ → ℕ → List Cell → List Cell
-cells c zero left = Mark c ∷ left
-cells c (suc w) left = replicate w Behind ++ Char c ∷ left
+abbrev cells : Glyph → ℕ → List Cell → List Cell
+cells g zero left = Mark g.char ∷ left
+cells g (suc w) left = replicate w Behind ++ Char g ∷ left
 
-cells_chars : (c w : ℕ) (left : List Cell) → chars (cells c w left) ≡ chars left ++ c ∷ []
-cells_chars c zero left = one_more (Mark c) left
-cells_chars c (suc w) left = behind w
+cells_chars : (g : Glyph) (w : ℕ) (left : List Cell) → chars (cells g w left) ≡ chars left ++ g.char ∷ []
+cells_chars g zero left = one_more (Mark g.char) left
+cells_chars g (suc w) left = behind w
   where
-    behind : (n : ℕ) → chars (replicate n Behind ++ Char c ∷ left) ≡ chars left ++ c ∷ []
-    behind zero = one_more (Char c) left
-    behind (suc n) = one_more Behind (replicate n Behind ++ Char c ∷ left) ∙ append-nil (chars (replicate n Behind ++ Char c ∷ left)) ∙ behind n
+    behind : (n : ℕ) → chars (replicate n Behind ++ Char g ∷ left) ≡ chars left ++ g.char ∷ []
+    behind zero = one_more (Char g) left
+    behind (suc n) = one_more Behind (replicate n Behind ++ Char g ∷ left) ∙ append-nil (chars (replicate n Behind ++ Char g ∷ left)) ∙ behind n
 
-cells_full : (c w : ℕ) (left : List Cell) → AreFull left → AreFull (cells c w left)
-cells_full c zero left h = (refl, h)
-cells_full c (suc w) left h = behind w
+cells_full : (g : Glyph) (w : ℕ) (left : List Cell) → AreFull left → AreFull (cells g w left)
+cells_full g zero left h = (refl, h)
+cells_full g (suc w) left h = behind w
   where
-    behind : (n : ℕ) → AreFull (replicate n Behind ++ Char c ∷ left)
+    behind : (n : ℕ) → AreFull (replicate n Behind ++ Char g ∷ left)
     behind zero = (refl, h)
     behind (suc n) = (refl, behind n)
 
-cells_columns : (c w : ℕ) (left : List Cell) → columns (cells c w left) ≡ columns left + w
-cells_columns c zero left = omega arith
-cells_columns c (suc w) left = omega (arith, behind w)
+cells_columns : (g : Glyph) (w : ℕ) (left : List Cell) → columns (cells g w left) ≡ columns left + w
+cells_columns g zero left = omega arith
+cells_columns g (suc w) left = omega (arith, behind w)
   where
-    behind : (n : ℕ) → columns (replicate n Behind ++ Char c ∷ left) ≡ n + (1 + columns left)
+    behind : (n : ℕ) → columns (replicate n Behind ++ Char g ∷ left) ≡ n + (1 + columns left)
     behind zero = omega arith
     behind (suc n) = omega (arith, behind n)
 
-cells_length : (c w : ℕ) (left : List Cell) → length (cells c w left) ≡ length left + max w 1
-cells_length c zero left = omega arith
-cells_length c (suc w) left = omega (arith, behind w)
+cells_length : (g : Glyph) (w : ℕ) (left : List Cell) → length (cells g w left) ≡ length left + max w 1
+cells_length g zero left = omega arith
+cells_length g (suc w) left = omega (arith, behind w)
   where
-    behind : (n : ℕ) → length (replicate n Behind ++ Char c ∷ left) ≡ n + (1 + length left)
+    behind : (n : ℕ) → length (replicate n Behind ++ Char g ∷ left) ≡ n + (1 + length left)
     behind zero = omega arith
     behind (suc n) = omega (arith, behind n)
 
-placed_cells : (c w : ℕ) (left : List Cell) → placed c w (line left []) ≡ line (cells c w left) []
-placed_cells c zero left = refl
-placed_cells c (suc w) left =
+placed_cells : (g : Glyph) (w : ℕ) (left : List Cell) → placed g w (line left []) ≡ line (cells g w left) []
+placed_cells g zero left = refl
+placed_cells g (suc w) left =
     let some : (suc w == 0) ≡ false = grind (arith, nat_tests) in
     let less : suc w - 1 ≡ w = omega arith in
-    by (suc w == 0) some ∙ ap (λ (n : ℕ). line (replicate n Behind ++ Char c ∷ left) []) less
+    by (suc w == 0) some ∙ ap (λ (n : ℕ). line (replicate n Behind ++ Char g ∷ left) []) less
   where
-    by : (t : Bool) → t ≡ false → cond t (line (Mark c ∷ left) []) (line (replicate (suc w - 1) Behind ++ (Char c ∷ left)) []) ≡ line (replicate (suc w - 1) Behind ++ Char c ∷ left) []
+    by : (t : Bool) → t ≡ false → cond t (line (Mark g.char ∷ left) []) (line (replicate (suc w - 1) Behind ++ (Char g ∷ left)) []) ≡ line (replicate (suc w - 1) Behind ++ Char g ∷ left) []
     by t e = rw e refl
 
 has_room : (a b limit : ℕ) → a + b ≤ limit → nat_le ((a + 0) + b) limit ≡ true
 has_room a b limit h = grind (arith, nat_tests)
 
-put_cells : (limit c : ℕ) (left : List Cell) → length left + max (width c (columns left)) 1 ≤ limit → put limit c (line left []) ≡ done [] (line (cells c (width c (columns left)) left) [])
-put_cells limit c left h =
-    let w = width c (columns left) in
-    by (nat_le ((length left + 0) + max w 1) limit) (has_room (length left) (max w 1) limit h) ∙ ap (done []) (placed_cells c w left)
+put_cells : (limit : ℕ) (g : Glyph) (left : List Cell) → length left + max (width g.char (columns left)) 1 ≤ limit
+    → put limit g (line left []) ≡ done [] (line (cells g (width g.char (columns left)) left) [])
+put_cells limit g left h =
+    let w = width g.char (columns left) in
+    by (nat_le ((length left + 0) + max w 1) limit) (has_room (length left) (max w 1) limit h) ∙ ap (done []) (placed_cells g w left)
   where
-    by : (t : Bool) → t ≡ true → cond t (done [] (placed c (width c (columns left)) (line left []))) (done (text_of (line left []) ++ 10 ∷ []) (placed c (width c 0) blank)) ≡ done [] (placed c (width c (columns left)) (line left []))
+    by : (t : Bool) → t ≡ true
+        → cond t (done [] (placed g (width g.char (columns left)) (line left []))) (done (cells_of (line left []) ∷ []) (placed g (width g.char 0) blank)) ≡ done [] (placed g (width g.char (columns left)) (line left []))
     by t e = rw e refl
 
 -- ---- the steps of plain text
 
--- a step that writes nothing
-silent : (limit : ℕ) (s : Step) (steps : List Step) (l m : Line) → does limit s l ≡ done [] m → shown_by (do_all limit (s ∷ steps) l) ≡ shown_by (do_all limit steps m)
-silent limit s steps l m e = ap (λ (d : Done). shown_by (before d.text (do_all limit steps d.line))) e
+-- a step that writes nothing, and behind which characters look as before
+silent : (limit : ℕ) (look : Look) (s : Step) (steps : List Step) (l m : Line) → does limit look s l ≡ done [] m → look_behind look s ≡ look
+    → chars_by (do_all limit look (s ∷ steps) l) ≡ chars_by (do_all limit look steps m)
+silent limit look s steps l m e same =
+    ap (λ (k : Look). chars_by (before (does limit look s l).lines (do_all limit k steps (does limit look s l).line))) same ∙ ap (λ (d : Done). chars_by (before d.lines (do_all limit look steps d.line))) e
 
 -- a character that is shown ends the line, or stands in it
-abbrev Puts : ℕ → Type 0
-Puts c = ((c == 10 ≡ true) × (of_char c ≡ step.NewLine ∷ []))
-    ⊎ ((c == 10 ≡ false) × ((s : Step) × (of_char c ≡ s ∷ []) × ((limit : ℕ) (left : List Cell) → does limit s (line left []) ≡ put limit c (line left []))))
+abbrev Puts : Look → ℕ → Type 0
+Puts look c = ((c == 10 ≡ true) × (of_char c ≡ step.NewLine ∷ []))
+    ⊎ ((c == 10 ≡ false) × ((s : Step) × (of_char c ≡ s ∷ []) × (look_behind look s ≡ look)
+    × ((limit : ℕ) (left : List Cell) → does limit look s (line left []) ≡ put limit (glyph c look) (line left []))))
 
 not_shown : (c d : ℕ) → c ≡ d → shown d ≡ false → IsShown c → ⊥
 not_shown c d e f h = let g : shown d ≡ true = subst (λ (x : ℕ). shown x ≡ true) e h in cc
@@ -135,15 +144,15 @@ put_of c = by (c == 10) (c == 13) (c == 8) (c == 9) (shown c)
         → cond line (step.NewLine ∷ []) (cond return (step.Column 1 ∷ []) (cond back (step.Left 1 ∷ []) (cond tab (step.Tab ∷ []) (cond shows (step.Put c ∷ []) [])))) ≡ step.Put c ∷ []
     by line return back tab shows e f g i k = rw (e, f, g, i, k) refl
 
-puts : (c : ℕ) → IsShown c → Puts c
-puts c h = by (c == 10) (c == 13) (c == 8) (c == 9) (shown c) refl refl refl refl refl
+puts : (look : Look) (c : ℕ) → IsShown c → Puts look c
+puts look c h = by (c == 10) (c == 13) (c == 8) (c == 9) (shown c) refl refl refl refl refl
   where
-    by : (line return back tab shows : Bool) → (c == 10) ≡ line → (c == 13) ≡ return → (c == 8) ≡ back → (c == 9) ≡ tab → shown c ≡ shows → Puts c
+    by : (line return back tab shows : Bool) → (c == 10) ≡ line → (c == 13) ≡ return → (c == 8) ≡ back → (c == 9) ≡ tab → shown c ≡ shows → Puts look c
     by true return back tab shows e f g i k = inl (e, rw e refl)
     by false true back tab shows e f g i k = absurd (not_shown c 13 (eqb-true c 13 f) refl h)
     by false false true tab shows e f g i k = absurd (not_shown c 8 (eqb-true c 8 g) refl h)
-    by false false false true shows e f g i k = inr (e, (step.Tab, rw (e, f, g, i) refl, λ limit left. ap (λ (d : ℕ). put limit d (line left [])) (sym (eqb-true c 9 i))))
-    by false false false false true e f g i k = inr (e, (step.Put c, put_of c e f g i k, λ limit left. refl))
+    by false false false true shows e f g i k = inr (e, (step.Tab, rw (e, f, g, i) refl, refl, λ limit left. ap (λ (d : ℕ). put limit (glyph d look) (line left [])) (sym (eqb-true c 9 i))))
+    by false false false false true e f g i k = inr (e, (step.Put c, put_of c e f g i k, refl, λ limit left. refl))
     by false false false false false e f g i k = absurd (let j : shown c ≡ true = h in cc)
 
 room_line : (limit n m c : ℕ) (cs : List ℕ) → c == 10 ≡ true → HasRoom limit n m (c ∷ cs) → HasRoom limit 0 0 cs
@@ -155,30 +164,34 @@ room_char limit n m c cs e h = rw e at h
 newline_is : (c : ℕ) → c == 10 ≡ true → c ≡ 10
 newline_is c e = eqb-true c 10 e
 
-stays : (limit : ℕ) (cs : List ℕ) (left : List Cell) → AreFull left → AllByRecursion IsShown cs → HasRoom limit (columns left) (length left) cs → shown_by (do_all limit (of_chars cs) (line left [])) ≡ chars left ++ cs
-stays limit [] left full all room = full_text left full ∙ sym (append-nil (chars left))
-stays limit (c ∷ cs) left full all room = ⊎_elim
+stays : (limit : ℕ) (look : Look) (cs : List ℕ) (left : List Cell) → AreFull left → AllByRecursion IsShown cs → HasRoom limit (columns left) (length left) cs
+    → chars_by (do_all limit look (of_chars cs) (line left [])) ≡ chars left ++ cs
+stays limit look [] left full all room = full_text left full ∙ sym (append-nil (chars left))
+stays limit look (c ∷ cs) left full all room = ⊎_elim
     (λ (k : (c == 10 ≡ true) × (of_char c ≡ step.NewLine ∷ [])).
-    let rest = do_all limit (of_chars cs) blank in
-    ap (λ (s : List Step). shown_by (do_all limit (s ++ of_chars cs) (line left []))) k.1
-    ∙ ap (λ (t : List ℕ). ((t ++ 10 ∷ []) ++ rest.text) ++ text_of rest.line) (full_text left full)
-    ∙ append_assoc (chars left ++ 10 ∷ []) rest.text (text_of rest.line)
-    ∙ ap (λ (t : List ℕ). (chars left ++ 10 ∷ []) ++ t) (stays limit cs [] tt all.1 (room_line limit (columns left) (length left) c cs k.0 room))
+    let rest = do_all limit look (of_chars cs) blank in
+    let over = flat_map line_chars rest.lines in
+    let last = flat_map chars_of (cells_of rest.line) in
+    ap (λ (s : List Step). chars_by (do_all limit look (s ++ of_chars cs) (line left []))) k.1
+    ∙ ap (λ (t : List ℕ). ((t ++ 10 ∷ []) ++ over) ++ last) (full_text left full)
+    ∙ append_assoc (chars left ++ 10 ∷ []) over last
+    ∙ ap (λ (t : List ℕ). (chars left ++ 10 ∷ []) ++ t) (stays limit look cs [] tt all.1 (room_line limit (columns left) (length left) c cs k.0 room))
     ∙ append_assoc (chars left) (10 ∷ []) cs
     ∙ ap (λ (d : ℕ). chars left ++ d ∷ cs) (sym (newline_is c k.0)))
-    (λ (k : (c == 10 ≡ false) × ((s : Step) × (of_char c ≡ s ∷ []) × ((limit : ℕ) (left : List Cell) → does limit s (line left []) ≡ put limit c (line left [])))).
-    let (s, of, puts) = k.1 in
+    (λ (k : (c == 10 ≡ false) × ((s : Step) × (of_char c ≡ s ∷ []) × (look_behind look s ≡ look) × ((limit : ℕ) (left : List Cell) → does limit look s (line left []) ≡ put limit (glyph c look) (line left [])))).
+    let (s, of, same, puts) = k.1 in
     let w = width c (columns left) in
+    let g = glyph c look in
     let more = room_char limit (columns left) (length left) c cs k.0 room in
-    let next = cells c w left in
+    let next = cells g w left in
     let room_next : HasRoom limit (columns next) (length next) cs =
-    subst (λ (n : ℕ). HasRoom limit n (length next) cs) (sym (cells_columns c w left)) (subst (λ (m : ℕ). HasRoom limit (columns left + w) m cs) (sym (cells_length c w left)) more.1) in
-    ap (λ (x : List Step). shown_by (do_all limit (x ++ of_chars cs) (line left []))) of
-    ∙ silent limit s (of_chars cs) (line left []) (line next []) (puts limit left ∙ put_cells limit c left more.0)
-    ∙ stays limit cs next (cells_full c w left full) all.1 room_next
-    ∙ ap (λ (t : List ℕ). t ++ cs) (cells_chars c w left)
+    subst (λ (n : ℕ). HasRoom limit n (length next) cs) (sym (cells_columns g w left)) (subst (λ (m : ℕ). HasRoom limit (columns left + w) m cs) (sym (cells_length g w left)) more.1) in
+    ap (λ (x : List Step). chars_by (do_all limit look (x ++ of_chars cs) (line left []))) of
+    ∙ silent limit look s (of_chars cs) (line left []) (line next []) (puts limit left ∙ put_cells limit g left more.0) same
+    ∙ stays limit look cs next (cells_full g w left full) all.1 room_next
+    ∙ ap (λ (t : List ℕ). t ++ cs) (cells_chars g w left)
     ∙ append_assoc (chars left) (c ∷ []) cs)
-    (puts c all.0)
+    (puts look c all.0)
 
 -- ---- the text
 
@@ -207,8 +220,9 @@ plain_overwritten : (text : List ℕ) (p : IsPlain text) → HasRoom most 0 0 p.
 plain_overwritten text (cs, scalars, all, e) room = record {
   steps = of_run text;
   read = plain_steps text (cs, scalars, all, e);
-  all = e ∙ ap encode_utf8_all (sym (ap (λ (xs : List ℕ). shown_by (do_all most (of_chars xs) blank)) (ap lossy_chars e ∙ lossy_chars-encode cs scalars) ∙ stays most cs [] tt all room));
+  all = e ∙ ap encode_utf8_all (sym (ap (λ (xs : List ℕ). chars_by (do_all most plain (of_chars xs) blank)) (ap lossy_chars e ∙ lossy_chars-encode cs scalars) ∙ stays most plain cs [] tt all room))
+      ∙ sym (shown_plain (do_all most plain (of_run text) blank));
 }
 
 pub plain_stays : (text other : List ℕ) (p : IsPlain text) → HasRoom most 0 0 p.0 → Overwrites text other → other ≡ text
-plain_stays text other p room o = one_text text other text o (plain_overwritten text p room)
+plain_stays text other p room o = one_text false text other text o (plain_overwritten text p room)

@@ -1,13 +1,19 @@
 -- What stands in a line, cell by cell, and how many columns that takes.
 use Rattle.std.specs.Prelude.{ℕ, ◌+◌, ◌-◌, ◌%◌, ◌==◌, min, Bool, true, false, List, [], ◌∷◌, ◌++◌, replicate, unwrap_or, if◌then◌else◌}
 use Rattle.unicode_width.specs.Width.{char_width}
+use Rattle.csicodec_html.specs.declared.look.Look.{Look}
 use Rattle.csicodec_overwrite.specs.declared.cells.Cell.{Cell}
 use Rattle.csicodec_overwrite.specs.declared.cells.Cell.TheVariants.{Behind, Char, Empty, Mark}
+use Rattle.csicodec_overwrite.specs.declared.cells.Glyph.{Glyph}
+
+-- a character that looks so
+abbrev pub glyph : ℕ → Look → Glyph
+glyph c look = record { char = c; look = look }
 
 -- the columns of a cell
 abbrev pub takes : Cell → ℕ
 takes Empty = 1
-takes (Char c) = 1
+takes (Char g) = 1
 takes Behind = 1
 takes (Mark c) = 0
 
@@ -18,14 +24,14 @@ columns (cell ∷ cells) = takes cell + columns cells
 -- it belongs to the character before it
 abbrev pub belongs : Cell → Bool
 belongs Empty = false
-belongs (Char c) = false
+belongs (Char g) = false
 belongs Behind = true
 belongs (Mark c) = true
 
 -- a further column of a character stands in front
 abbrev pub is_behind : Cell → Bool
 is_behind Empty = false
-is_behind (Char c) = false
+is_behind (Char g) = false
 is_behind Behind = true
 is_behind (Mark c) = false
 
@@ -35,7 +41,7 @@ begins_behind (cell ∷ cells) = is_behind cell
 
 abbrev pub is_empty : Cell → Bool
 is_empty Empty = true
-is_empty (Char c) = false
+is_empty (Char g) = false
 is_empty Behind = false
 is_empty (Mark c) = false
 
@@ -82,6 +88,6 @@ width c column = if c == 9 then to_tab_stop column else unwrap_or (char_width fa
 -- the characters of a cell: a blank of an empty one
 abbrev pub chars_of : Cell → List ℕ
 chars_of Empty = 32 ∷ []
-chars_of (Char c) = c ∷ []
+chars_of (Char g) = g.char ∷ []
 chars_of Behind = []
 chars_of (Mark c) = c ∷ []

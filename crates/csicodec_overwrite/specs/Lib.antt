@@ -1,5 +1,6 @@
 pub mod Cells
 pub mod Line
+pub mod Paint
 pub mod Steps
 pub mod Reading
 pub mod Stream

@@ -1,12 +1,14 @@
 -- A line of a terminal, its cursor, and what each step does to it.
 use Rattle.std.specs.Prelude.{ℕ, ◌+◌, ◌-◌, ◌≤◌, ◌==◌, nat_le, nat_lt, min, max, Bool, List, [], ◌∷◌, ◌++◌, length, replicate, MatchBool, if◌then◌else◌}
-use Rattle.std.specs.List.{flat_map}
+use Rattle.csicodec_html.specs.declared.look.Look.{Look}
+use Rattle.csicodec_html.specs.Look.{behind}
 use Rattle.csicodec_overwrite.specs.declared.cells.Cell.{Cell}
 use Rattle.csicodec_overwrite.specs.declared.cells.Cell.TheVariants.{Behind, Char, Empty, Mark}
+use Rattle.csicodec_overwrite.specs.declared.cells.Glyph.{Glyph}
 use Rattle.csicodec_overwrite.specs.declared.line.Line.{Line}
 use Rattle.csicodec_overwrite.specs.declared.step.Step.{Step}
 use Rattle.csicodec_overwrite.specs.declared.step.Step.TheVariants as step
-use Rattle.csicodec_overwrite.specs.Cells.{begins_behind, chars_of, columns, emptied, erased, gone, onto, outside, to_tab_stop, trimmed, takes, width, without}
+use Rattle.csicodec_overwrite.specs.Cells.{begins_behind, columns, emptied, erased, glyph, gone, onto, outside, to_tab_stop, trimmed, takes, width, without}
 
 -- the cells left of the cursor and those right of it, on either side the nearest first
 abbrev pub line : List Cell → List Cell → Line
@@ -73,30 +75,30 @@ insert limit n l = line (parted l).left
 -- ---- characters
 
 -- a character of so many columns comes in place of what stands at the cursor; one of none goes with the column before it
-abbrev pub placed : ℕ → ℕ → Line → Line
-placed c columns l = if columns == 0 then line (Mark c ∷ l.left) l.right
-    else line (replicate (columns - 1) Behind ++ (Char c ∷ (parted l).left)) (gone columns (parted l).right)
+abbrev pub placed : Glyph → ℕ → Line → Line
+placed g columns l = if columns == 0 then line (Mark g.char ∷ l.left) l.right
+    else line (replicate (columns - 1) Behind ++ (Char g ∷ (parted l).left)) (gone columns (parted l).right)
 
--- the characters of the line, up to the last cell that isn't empty
-abbrev pub text_of : Line → List ℕ
-text_of l = flat_map chars_of (onto (trimmed (onto l.right l.left)) [])
+-- what stands in the line, up to the last cell that isn't empty
+abbrev pub cells_of : Line → List Cell
+cells_of l = onto (trimmed (onto l.right l.left)) []
 
--- what a step writes, and the line behind it
+-- the lines that are over with a step, and the one behind it
 pub record Done : Type 0 where
-  pub text : List ℕ
+  pub lines : List (List Cell)
   pub line : Line
 
-abbrev pub done : List ℕ → Line → Done
-done text l = record { text = text; line = l }
+abbrev pub done : List (List Cell) → Line → Done
+done lines l = record { lines = lines; line = l }
 
 -- the line has room for a character of so many columns: of none it takes a cell too
 abbrev pub fits : ℕ → ℕ → Line → Bool
 fits limit columns l = nat_le (size l + max columns 1) limit
 
 -- a character where the line has room for it, and else at the start of a new one
-abbrev pub put : ℕ → ℕ → Line → Done
-put limit c l = if fits limit (width c (columns l.left)) l then done [] (placed c (width c (columns l.left)) l)
-    else done (text_of l ++ 10 ∷ []) (placed c (width c 0) blank)
+abbrev pub put : ℕ → Glyph → Line → Done
+put limit g l = if fits limit (width g.char (columns l.left)) l then done [] (placed g (width g.char (columns l.left)) l)
+    else done (cells_of l ∷ []) (placed g (width g.char 0) blank)
 
 -- behind so many columns and cells, each line of these characters has room in one
 abbrev pub HasRoom : ℕ → ℕ → ℕ → List ℕ → Type 0
@@ -107,26 +109,37 @@ HasRoom limit columns cells (c ∷ chars) = MatchBool (c == 10) (HasRoom limit 0
 
 -- ---- the steps
 
-abbrev pub does : ℕ → Step → Line → Done
-does limit (step.Put c) l = put limit c l
-does limit step.Tab l = if length l.right == 0 then put limit 9 l
-    else done [] (forward limit (to_tab_stop (columns l.left)) l)
-does limit step.NewLine l = done (text_of l ++ 10 ∷ []) blank
-does limit (step.Right n) l = done [] (forward limit n l)
-does limit (step.Left n) l = done [] (back n l.left l.right)
-does limit (step.Column n) l = done [] (at_column limit n l)
-does limit step.EraseRight l = done [] (erase_right l)
-does limit step.EraseLeft l = done [] (erase_left l)
-does limit step.EraseAll l = done [] (erase_all l)
-does limit (step.Erase n) l = done [] (erase n l)
-does limit (step.Delete n) l = done [] (delete n l)
-does limit (step.Insert n) l = done [] (insert limit n l)
+-- how characters look that are put behind a step
+abbrev pub look_behind : Look → Step → Look
+look_behind look (step.Attribute s) = behind look s
+look_behind look s = look
 
-abbrev pub before : List ℕ → Done → Done
-before text d = done (text ++ d.text) d.line
+-- where characters look so
+abbrev pub does : ℕ → Look → Step → Line → Done
+does limit look (step.Put c) l = put limit (glyph c look) l
+does limit look step.Tab l = if length l.right == 0 then put limit (glyph 9 look) l
+    else done [] (forward limit (to_tab_stop (columns l.left)) l)
+does limit look step.NewLine l = done (cells_of l ∷ []) blank
+does limit look (step.Right n) l = done [] (forward limit n l)
+does limit look (step.Left n) l = done [] (back n l.left l.right)
+does limit look (step.Column n) l = done [] (at_column limit n l)
+does limit look step.EraseRight l = done [] (erase_right l)
+does limit look step.EraseLeft l = done [] (erase_left l)
+does limit look step.EraseAll l = done [] (erase_all l)
+does limit look (step.Erase n) l = done [] (erase n l)
+does limit look (step.Delete n) l = done [] (delete n l)
+does limit look (step.Insert n) l = done [] (insert limit n l)
+does limit look (step.Attribute s) l = done [] l
+
+abbrev pub before : List (List Cell) → Done → Done
+before lines d = done (lines ++ d.lines) d.line
 
 -- one after the other
-abbrev pub do_all : ℕ → List Step → Line → Done
-do_all limit [] l = done [] l
-do_all limit (s ∷ steps) l =
-    before (does limit s l).text (do_all limit steps (does limit s l).line)
+abbrev pub do_all : ℕ → Look → List Step → Line → Done
+do_all limit look [] l = done [] l
+do_all limit look (s ∷ steps) l = before (does limit look s l).lines
+    (do_all limit (look_behind look s) steps (does limit look s l).line)
+
+abbrev pub look_behind_all : Look → List Step → Look
+look_behind_all look [] = look
+look_behind_all look (s ∷ steps) = look_behind_all (look_behind look s) steps

@@ -1,6 +1,6 @@
 -- The steps of a stream: those of the characters of its runs of text, each read by itself, and of its control sequences. Escape
 -- sequences, control strings, titles and what went wrong end a run, and do nothing.
-use Rattle.std.specs.Prelude.{ℕ, ◌≡◌, false, List, [], ◌∷◌, ◌++◌, encode_utf8_all}
+use Rattle.std.specs.Prelude.{ℕ, ◌≡◌, Bool, false, true, List, [], ◌∷◌, ◌++◌}
 use Rattle.csicodec_actions.specs.Actions.{Action}
 use Rattle.csicodec_spans.specs.declared.table.Kind.{Kind}
 use Rattle.csicodec_spans.specs.declared.table.Kind.TheVariants as kind
@@ -10,7 +10,9 @@ use Rattle.csicodec_clean.specs.Cleaned.{longest}
 use Rattle.csicodec_clean.specs.Styled.{IsOf}
 use Rattle.csicodec_clean.specs.Titles.{with_titles}
 use Rattle.csicodec_overwrite.specs.declared.step.Step.{Step}
-use Rattle.csicodec_overwrite.specs.Line.{Done, blank, do_all, text_of}
+use Rattle.csicodec_html.specs.Look.{plain}
+use Rattle.csicodec_overwrite.specs.Line.{Done, blank, cells_of, do_all}
+use Rattle.csicodec_overwrite.specs.Paint.{text_of, texts_of}
 use Rattle.csicodec_overwrite.specs.Steps.{of_actions, of_run}
 
 -- one part behind a run of text: text goes on with the run, and any other part ends it
@@ -39,16 +41,24 @@ pub record Steps (bytes : List ℕ) (steps : List Step) : Type 0 where
   pub read : AreOfParts [] (with_titles false parts) before run
   pub all : steps ≡ before ++ of_run run
 
--- what was written, and then what stands in the line
-abbrev pub shown_by : Done → List ℕ
-shown_by d = d.text ++ text_of d.line
+-- the lines that are over, and then what stands in the last
+abbrev pub shown_by : Bool → Done → List ℕ
+shown_by painted d = texts_of painted d.lines ++ text_of painted (cells_of d.line)
 
 -- a line holds so many cells at most
 abbrev pub most : ℕ
 most = longest
 
--- each line of the stream as a terminal would show it at its end, as UTF-8
-pub record Overwrites (bytes text : List ℕ) : Type 0 where
+-- each line of the stream as a terminal would show it at its end, as UTF-8, painted or not
+pub record Shows (painted : Bool) (bytes text : List ℕ) : Type 0 where
   pub steps : List Step
   pub read : Steps bytes steps
-  pub all : text ≡ encode_utf8_all (shown_by (do_all most steps blank))
+  pub all : text ≡ shown_by painted (do_all most plain steps blank)
+
+-- as plain text
+abbrev pub Overwrites : List ℕ → List ℕ → Type 0
+Overwrites = Shows false
+
+-- with how it looks: the same cells, and sequences that set that
+abbrev pub Paints : List ℕ → List ℕ → Type 0
+Paints = Shows true

@@ -54,9 +54,11 @@ of_edit (edit.EraseInLine p) = of_part p
 of_edit (edit.EraseInDisplay p) = of_display p
 of_edit _ = []
 
+-- and SGR (8.3.117)
 abbrev pub of_action : Action → List Step
 of_action (action.Cursor c) = of_cursor c
 of_action (action.Edit e) = of_edit e
+of_action (action.Sgr s) = step.Attribute s ∷ []
 of_action _ = []
 
 abbrev pub of_chars : List ℕ → List Step

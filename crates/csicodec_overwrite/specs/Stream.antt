@@ -1,5 +1,5 @@
 -- A stream as it comes, chunk by chunk.
-use Rattle.std.specs.Prelude.{ℕ, ◌≡◌, Bool, false, List, [], ◌∷◌, ◌++◌, encode_utf8_all}
+use Rattle.std.specs.Prelude.{ℕ, ◌≡◌, Bool, false, List, [], ◌∷◌, ◌++◌}
 use Rattle.std.specs.List.{concat}
 use Rattle.csicodec_spans.specs.declared.table.Mode.{Mode}
 use Rattle.csicodec_spans.specs.declared.table.Mode.TheVariants as mode
@@ -8,11 +8,14 @@ use Rattle.csicodec_filter.specs.Transform.{GoesOn}
 use Rattle.csicodec_clean.specs.Cleaned.{longest}
 use Rattle.csicodec_clean.specs.Shown.{IsRead}
 use Rattle.csicodec_clean.specs.Titles.{title_open, with_titles}
+use Rattle.csicodec_html.specs.declared.look.Look.{Look}
+use Rattle.csicodec_html.specs.Look.{plain}
 use Rattle.csicodec_overwrite.specs.declared.line.Line.{Line}
 use Rattle.csicodec_overwrite.specs.declared.step.Step.{Step}
-use Rattle.csicodec_overwrite.specs.Line.{blank, do_all}
+use Rattle.csicodec_overwrite.specs.Line.{blank, do_all, look_behind_all}
+use Rattle.csicodec_overwrite.specs.Paint.{texts_of}
 use Rattle.csicodec_overwrite.specs.Steps.{of_chars, of_run}
-use Rattle.csicodec_overwrite.specs.Reading.{AreOfParts, Overwrites, most, shown_by}
+use Rattle.csicodec_overwrite.specs.Reading.{AreOfParts, Shows, most, shown_by}
 
 -- between two pushes: what is open and whether that is a title, the bytes of which nothing is sure yet, and those of a character before them
 pub record Held : Type 0 where
@@ -44,25 +47,33 @@ pub record Reads (old : Held) (bytes : List ℕ) (steps : List Step) (new : Held
   pub goes : (run chars : List ℕ) → IsRead run chars old.held
       → Goes old.mode old.titled run chars (old.bytes ++ bytes) steps new.bytes new.mode new.titled new.held
 
--- what a stream is between two pushes: what is held of it, and the line that isn't over
+-- what a stream is between two pushes: what is held of it, how characters look, whether lines are painted, and the one that isn't over
 pub record Now : Type 0 where
   pub reader : Held
+  pub look : Look
+  pub painted : Bool
   pub line : Line
 
-abbrev pub begun : Now
-begun = record { reader = none_held; line = blank }
+abbrev pub begun_as : Bool → Now
+begun_as painted = record { reader = none_held; look = plain; painted = painted; line = blank }
 
--- these bytes give steps, and these write the text
+-- as plain text
+abbrev pub begun : Now
+begun = begun_as false
+
+-- these bytes give steps, and these end lines with the text
 pub record Passes (old : Now) (bytes text : List ℕ) (new : Now) : Type 0 where
   pub steps : List Step
   pub reads : Reads old.reader bytes steps new.reader
-  pub line : new.line ≡ (do_all most steps old.line).line
-  pub all : text ≡ encode_utf8_all (do_all most steps old.line).text
+  pub look : new.look ≡ look_behind_all old.look steps
+  pub painted : new.painted ≡ old.painted
+  pub line : new.line ≡ (do_all most old.look steps old.line).line
+  pub all : text ≡ texts_of old.painted (do_all most old.look steps old.line).lines
 
 -- at the end, with what is held, all that stands in the line is written
 abbrev pub Ending : Now → List ℕ → Type 0
-Ending last text =
-    text ≡ encode_utf8_all (shown_by (do_all most (of_run last.reader.held) last.line))
+Ending last text = text
+    ≡ shown_by last.painted (do_all most last.look (of_run last.reader.held) last.line)
 
 -- chunks in turn, and all that they append
 abbrev pub AreTaken : Now → List (List ℕ) → List ℕ → Now → Type 0
@@ -73,6 +84,6 @@ AreTaken old (chunk ∷ chunks) text new =
 
 -- it doesn't matter how a stream is cut into chunks: what they append, and the end, is the text of all of it
 abbrev pub AnyChunks : Type 0
-AnyChunks = (chunks : List (List ℕ)) (text rest : List ℕ) (last : Now)
-    → AreTaken begun chunks text last → Ending last rest
-    → Overwrites (concat chunks) (text ++ rest)
+AnyChunks = (painted : Bool) (chunks : List (List ℕ)) (text rest : List ℕ) (last : Now)
+    → AreTaken (begun_as painted) chunks text last → Ending last rest
+    → Shows painted (concat chunks) (text ++ rest)

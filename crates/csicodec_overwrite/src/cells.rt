@@ -2,8 +2,16 @@
 ghost use Rattle.std.specs.Prelude.{◌≡◌, ◌++◌, ◌∷◌, [], ℕ, List, OnOk, MatchOption, length, replicate, reverse};
 ghost use Rattle.csicodec_overwrite.specs.Cells.{begins_behind, belongs, columns, emptied, is_empty, outside, takes, trimmed, without};
 
+use csicodec_html::Look;
 use std::alloc::{AllocError, Global};
 use std::marker::Model;
+
+/// A character, and how it looked when it was written.
+#[derive(Clone, Copy, PartialEq, Eq, Debug)]
+pub struct Glyph {
+    pub char: char,
+    pub look: Look,
+}
 
 /// What stands in a line.
 #[derive(Clone, Copy, PartialEq, Eq, Debug)]
@@ -11,7 +19,7 @@ pub enum Cell {
     /// A column on which nothing stands: it was never written, or it is erased.
     Empty,
     /// The first column of a character.
-    Char(char),
+    Char(Glyph),
     /// A further column of the character before it.
     Behind,
     /// A character that takes no column, and goes with the column before it.

@@ -1,9 +1,14 @@
 //! Laws of the definitions. Each is the contract of a function that does nothing.
-ghost use Rattle.std.specs.Prelude.{◌≡◌, ◌≤◌, ℕ, List};
+ghost use Rattle.std.specs.Prelude.{◌≡◌, ◌≤◌, ℕ, Bool, List};
+ghost use Rattle.csicodec_actions.specs.Actions.{Action};
 ghost use Rattle.csicodec_clean.specs.Shown.{IsPlain};
+ghost use Rattle.csicodec_clean.specs.Styled.{IsOf};
+ghost use Rattle.csicodec_html.specs.declared.look.Look.{Look};
+ghost use Rattle.csicodec_html.specs.Look.{behind_all};
 ghost use Rattle.csicodec_overwrite.specs.declared.step.Step.{Step};
 ghost use Rattle.csicodec_overwrite.specs.Line.{HasRoom, blank, do_all, size};
-ghost use Rattle.csicodec_overwrite.specs.Reading.{Overwrites, most};
+ghost use Rattle.csicodec_overwrite.specs.Paint.{IsInRange, look_text};
+ghost use Rattle.csicodec_overwrite.specs.Reading.{Overwrites, Shows, most};
 ghost use Rattle.csicodec_overwrite.specs.Stream.{AnyChunks};
 
 /// What is written has no control but newlines and tabs, as what `strip` writes.
@@ -22,13 +27,19 @@ pub fn any_chunks()
     ensures { AnyChunks }
 {}
 
-/// Bytes have one text.
+/// Bytes have one text, painted or not.
 pub fn one_text()
-    ensures { (bytes text other : List ℕ) → Overwrites bytes text → Overwrites bytes other
-        → text ≡ other }
+    ensures { (painted : Bool) (bytes text other : List ℕ) → Shows painted bytes text
+        → Shows painted bytes other → text ≡ other }
+{}
+
+/// The sequence of a look is one control sequence, and what it sets, whatever was set before, is that look.
+pub fn looks_back()
+    ensures { (old look : Look) → IsInRange look
+        → (actions : List Action) × IsOf (look_text look) actions × (behind_all old actions ≡ look) }
 {}
 
 /// The line that isn't over never holds more than 65,536 cells, whatever comes.
 pub fn bounded()
-    ensures { (steps : List Step) → size (do_all most steps blank).line ≤ most }
+    ensures { (look : Look) (steps : List Step) → size (do_all most look steps blank).line ≤ most }
 {}

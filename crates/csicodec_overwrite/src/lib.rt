@@ -1,10 +1,12 @@
-//! Each line of a stream as a terminal would show it at its end: what was written over, or erased, is gone.
+//! Each line of a stream as a terminal would show it at its end: what was written over, or erased, is gone. It is plain text, or a page.
 #![tactic(auto)]
 
 mod cells;
 pub mod laws;
 mod line;
 mod overwriter;
+mod page;
+mod paint;
 mod reader;
 mod run;
 mod sides;
@@ -12,4 +14,5 @@ mod step;
 mod text;
 
 pub use overwriter::Overwriter;
+pub use page::html_overwritten_all;
 pub use run::overwrite_all;

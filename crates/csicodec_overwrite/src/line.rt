@@ -1,13 +1,26 @@
 //! A line and its cursor.
-ghost use Rattle.std.specs.Prelude.{◌≡◌, ◌-◌, ◌++◌, ◌∷◌, [], OnOk, encode_utf8_all};
+ghost use Rattle.std.specs.Prelude.{◌≡◌, ◌-◌, ◌++◌, [], OnOk};
 ghost use Rattle.csicodec_overwrite.specs.Cells.{onto};
-ghost use Rattle.csicodec_overwrite.specs.Line.{at_column, back, blank, delete, do_all, does, erase, erase_all, erase_left, erase_right, fits, forward, insert, line, over, parted, placed, put, size, text_of};
+ghost use Rattle.csicodec_overwrite.specs.Line.{at_column, back, blank, cells_of, delete, do_all, does, erase, erase_all, erase_left, erase_right, fits, forward, insert, line, look_behind, look_behind_all, over, parted, placed, put, size};
+ghost use Rattle.csicodec_overwrite.specs.Paint.{ended, text_of, texts_of};
 ghost use Rattle.csicodec_overwrite.specs.declared.step.Step.TheVariants.{Tab};
 
-use crate::cells::{Cell, Side};
-use crate::sides::{append_cells, delete_columns, erase_columns, loosen, move_all, undo, width};
+use crate::cells::{Cell, Glyph, Side};
+use crate::paint::append_cells;
+use crate::sides::{delete_columns, erase_columns, loosen, move_all, undo, width};
 use crate::step::Step;
+use csicodec_html::Look;
 use std::alloc::{AllocError, Global};
+
+/// How characters look that are put behind a step.
+fn look_behind(look: Look, step: Step) -> Look
+    ensures { result ≡ look_behind look step }
+{
+    match step {
+        Step::Attribute(attribute) => look.behind(&attribute),
+        _ => look,
+    }
+}
 
 /// A line and its cursor, between two of its cells.
 #[derive(Drop)]
@@ -165,78 +178,97 @@ impl Line {
     }
 
     /// Puts a character of so many columns at the cursor.
-    fn place(&mut self, char: char, columns: usize) -> Result<(), AllocError>
-        ensures { OnOk result (self.new ≡ placed char columns self.old) }
+    fn place(&mut self, glyph: Glyph, columns: usize) -> Result<(), AllocError>
+        ensures { OnOk result (self.new ≡ placed glyph columns self.old) }
     {
         if columns == 0 {
-            return self.left.push(Cell::Mark(char));
+            return self.left.push(Cell::Mark(glyph.char));
         }
         self.part()?;
-        self.left.push(Cell::Char(char))?;
+        self.left.push(Cell::Char(glyph))?;
         self.left.push_many(Cell::Behind, columns - 1)?;
         delete_columns(&mut self.right, columns)
     }
 
-    /// Takes all that stands there, and appends its text.
-    pub fn take_text(&mut self, out: &mut Vec<u8>) -> Result<(), AllocError>
+    /// Takes all that stands there, and appends its text, painted or not.
+    pub fn take_text(&mut self, painted: bool, out: &mut Vec<u8>) -> Result<(), AllocError>
         ensures text { OnOk result
-            (out.new.items ≡ out.old.items ++ encode_utf8_all (text_of self.old)) }
+            (out.new.items ≡ out.old.items ++ text_of painted (cells_of self.old)) }
         ensures none { OnOk result (self.new ≡ blank) }
     {
         move_all(&mut self.right, &mut self.left)?;
         self.left.trim();
         move_all(&mut self.left, &mut self.right)?;
-        append_cells(&mut self.right, out)
+        append_cells(&mut self.right, painted, out)
     }
 
     /// Ends the line.
-    fn end(&mut self, out: &mut Vec<u8>) -> Result<(), AllocError>
+    fn end(&mut self, painted: bool, out: &mut Vec<u8>) -> Result<(), AllocError>
         ensures text { OnOk result
-            (out.new.items ≡ out.old.items ++ encode_utf8_all (text_of self.old ++ 10 ∷ [])) }
+            (out.new.items ≡ out.old.items ++ ended painted (cells_of self.old)) }
         ensures none { OnOk result (self.new ≡ blank) }
     {
-        self.take_text(out)?;
+        self.take_text(painted, out)?;
         out.push(b'\n')?;
         Ok(())
     }
 
     /// Puts a character, on a line of its own where this has no room for it.
-    fn put(&mut self, limit: usize, char: char, out: &mut Vec<u8>) -> Result<(), AllocError>
-        ensures line { OnOk result (self.new ≡ (put limit char self.old).line) }
+    fn put(
+        &mut self,
+        limit: usize,
+        glyph: Glyph,
+        painted: bool,
+        out: &mut Vec<u8>,
+    ) -> Result<(), AllocError>
+        ensures line { OnOk result (self.new ≡ (put limit glyph self.old).line) }
         ensures text { OnOk result
-            (out.new.items ≡ out.old.items ++ encode_utf8_all (put limit char self.old).text) }
+            (out.new.items ≡ out.old.items ++ texts_of painted (put limit glyph self.old).lines) }
     {
-        let columns = width(char, self.left.columns());
+        let columns = width(glyph.char, self.left.columns());
         if self.fits(limit, columns) {
-            return self.place(char, columns);
+            return self.place(glyph, columns);
         }
-        self.end(out)?;
-        self.place(char, width(char, 0))
+        self.end(painted, out)?;
+        self.place(glyph, width(glyph.char, 0))
     }
 
     /// On to the next tab stop.
-    fn tab(&mut self, limit: usize, out: &mut Vec<u8>) -> Result<(), AllocError>
-        ensures line { OnOk result (self.new ≡ (does limit Tab self.old).line) }
+    fn tab(
+        &mut self,
+        limit: usize,
+        look: Look,
+        painted: bool,
+        out: &mut Vec<u8>,
+    ) -> Result<(), AllocError>
+        ensures line { OnOk result (self.new ≡ (does limit look Tab self.old).line) }
         ensures text { OnOk result
-            (out.new.items ≡ out.old.items ++ encode_utf8_all (does limit Tab self.old).text) }
+            (out.new.items ≡ out.old.items ++ texts_of painted (does limit look Tab self.old).lines) }
     {
         if self.right.len() == 0 {
-            return self.put(limit, '\t', out);
+            return self.put(limit, Glyph { char: '\t', look }, painted, out);
         }
         let count = width('\t', self.left.columns());
         self.forward(limit, count)
     }
 
-    /// Does a step, and appends what that writes.
-    fn take(&mut self, limit: usize, step: Step, out: &mut Vec<u8>) -> Result<(), AllocError>
-        ensures line { OnOk result (self.new ≡ (does limit step self.old).line) }
+    /// Does a step where characters look so, and appends the lines that are over with it.
+    fn take(
+        &mut self,
+        limit: usize,
+        look: Look,
+        step: Step,
+        painted: bool,
+        out: &mut Vec<u8>,
+    ) -> Result<(), AllocError>
+        ensures line { OnOk result (self.new ≡ (does limit look step self.old).line) }
         ensures text { OnOk result
-            (out.new.items ≡ out.old.items ++ encode_utf8_all (does limit step self.old).text) }
+            (out.new.items ≡ out.old.items ++ texts_of painted (does limit look step self.old).lines) }
     {
         match step {
-            Step::Put(char) => self.put(limit, char, out),
-            Step::Tab => self.tab(limit, out),
-            Step::NewLine => self.end(out),
+            Step::Put(char) => self.put(limit, Glyph { char, look }, painted, out),
+            Step::Tab => self.tab(limit, look, painted, out),
+            Step::NewLine => self.end(painted, out),
             Step::Right(count) => self.forward(limit, count as usize),
             Step::Left(count) => self.back(count),
             Step::Column(column) => self.to_column(limit, column),
@@ -246,23 +278,29 @@ impl Line {
             Step::Erase(count) => self.erase(count),
             Step::Delete(count) => self.delete(count),
             Step::Insert(count) => self.insert(limit, count),
+            Step::Attribute(_) => Ok(()),
         }
     }
 
-    /// Does the steps in turn, and appends what they write.
+    /// Does the steps in turn, and appends the lines that are over. Characters look so, and behind the steps as `look` says then.
     pub fn take_all(
         &mut self,
         limit: usize,
+        look: &mut Look,
         steps: &[Step],
+        painted: bool,
         out: &mut Vec<u8>,
     ) -> Result<(), AllocError>
-        ensures line { OnOk result (self.new ≡ (do_all limit steps.now self.old).line) }
+        ensures line { OnOk result
+            (self.new ≡ (do_all limit look.old steps.now self.old).line) }
+        ensures look { OnOk result (look.new ≡ look_behind_all look.old steps.now) }
         ensures text { OnOk result (out.new.items
-            ≡ out.old.items ++ encode_utf8_all (do_all limit steps.now self.old).text) }
+            ≡ out.old.items ++ texts_of painted (do_all limit look.old steps.now self.old).lines) }
     {
         let mut rest = steps;
         while let Some((step, behind)) = rest.split_first() {
-            self.take(limit, *step, out)?;
+            self.take(limit, *look, *step, painted, out)?;
+            *look = look_behind(*look, *step);
             rest = behind;
         }
         Ok(())

@@ -1,22 +1,27 @@
 //! A stream of which each line is overwritten, as it comes.
-ghost use Rattle.std.specs.Prelude.{◌≡◌, ◌++◌, ℕ, List, OnOk};
-ghost use Rattle.csicodec_overwrite.specs.Stream.{Ending, Passes, begun};
+ghost use Rattle.std.specs.Prelude.{◌≡◌, ◌≤◌, ◌++◌, ℕ, List, OnOk, length, true};
+ghost use Rattle.csicodec_overwrite.specs.Stream.{Ending, Passes, begun, begun_as};
 
 use crate::line::Line;
 use crate::reader::Reader;
 use crate::step::Step;
 use csicodec_filter::Transform;
+use csicodec_html::Look;
 use csicodec_spans::LIMIT;
 use std::alloc::{AllocError, Global};
 use std::marker::Model;
 
-/// A stream as it comes, of which each line is written as a terminal would show it at its end.
+/// A stream as it comes, of which each line is written as a terminal would show it at its end, as plain text or painted.
 ///
 /// It holds the line that isn't over, of at most 65,536 cells, and a control sequence that isn't, of fewer than 65,536 bytes. After an
 /// `Err` it and what was appended are of no more use.
 #[derive(Drop)]
 pub struct Overwriter {
     reader: Reader,
+    /// How characters look that come now.
+    look: Look,
+    /// Whether lines are written with how they look.
+    painted: bool,
     line: Line,
     /// A place that is kept for the steps of a slice.
     steps: Vec<Step>,
@@ -27,7 +32,7 @@ impl Model for Overwriter {
 
     ghost Value = { Now };
 
-    ghost view = { λ o. record { reader = o.reader; line = o.line } };
+    ghost view = { λ o. record { reader = o.reader; look = o.look; painted = o.painted; line = o.line } };
 }
 
 impl Overwriter {
@@ -35,8 +40,24 @@ impl Overwriter {
     pub fn new(alloc: Global) -> Overwriter
         ensures { result ≡ begun }
     {
+        Overwriter::writing(alloc, false)
+    }
+
+    /// The same, painted: with the sequences that set how characters look (SGR), and at the end of each line nothing is set.
+    pub fn painting(alloc: Global) -> Overwriter
+        ensures { result ≡ begun_as true }
+    {
+        Overwriter::writing(alloc, true)
+    }
+
+    /// The one or the other.
+    fn writing(alloc: Global, painted: bool) -> Overwriter
+        ensures { result ≡ begun_as painted }
+    {
         Overwriter {
             reader: Reader::new(alloc),
+            look: Look::plain(),
+            painted,
             line: Line::new(alloc),
             steps: Vec::new(alloc),
         }
@@ -44,12 +65,16 @@ impl Overwriter {
 
     /// Takes the next bytes, and appends the lines that are over now.
     pub fn push(&mut self, bytes: &[u8], out: &mut Vec<u8>) -> Result<(), AllocError>
-        ensures { OnOk result ((text : List ℕ) × Passes self.old bytes.now text self.new
+        ensures passes { OnOk result ((text : List ℕ) × Passes self.old bytes.now text self.new
             × (out.new.items ≡ out.old.items ++ text)) }
+        // What is held of a character is short.
+        ensures held { OnOk result
+            (length self.old.reader.held ≤ 3 → length self.new.reader.held ≤ 3) }
     {
         self.steps.clear();
         self.reader.push(bytes, &mut self.steps)?;
-        self.line.take_all(LIMIT, &self.steps, out)?;
+        self.line
+            .take_all(LIMIT, &mut self.look, &self.steps, self.painted, out)?;
         Ok(())
     }
 
@@ -60,8 +85,9 @@ impl Overwriter {
     {
         self.steps.clear();
         self.reader.finish(&mut self.steps)?;
-        self.line.take_all(LIMIT, &self.steps, out)?;
-        self.line.take_text(out)?;
+        self.line
+            .take_all(LIMIT, &mut self.look, &self.steps, self.painted, out)?;
+        self.line.take_text(self.painted, out)?;
         Ok(())
     }
 }

@@ -1,5 +1,5 @@
 //! The steps of a stream, as it comes.
-ghost use Rattle.std.specs.Prelude.{◌≡◌, ◌≢◌, ◌++◌, ℕ, List, [], false, length, map, MatchOption, OnOk, IfOk};
+ghost use Rattle.std.specs.Prelude.{◌≡◌, ◌≢◌, ◌≤◌, ◌++◌, ℕ, List, [], false, length, map, MatchOption, OnOk, IfOk};
 ghost use Rattle.csicodec_tokens.specs.Sequence.{Seq};
 ghost use Rattle.csicodec_parser.specs.ActionOf.{action_of};
 ghost use Rattle.csicodec_parser.specs.Segments.{Actions};
@@ -70,9 +70,10 @@ fn append_span(
 ) -> Result<(), AllocError>
     requires { MatchOption control (kind ≢ Sequence)
         (λ final. (kind ≡ Sequence) × Seq bytes.now params.now final) }
-    ensures { OnOk result ((more : _)
+    ensures given { OnOk result ((more : _)
         × IsGiven kind held.old.items bytes.now more held.new.items
         × (steps.new.items ≡ steps.old.items ++ more)) }
+    ensures short { OnOk result (length held.new.items ≤ 3) }
 {
     if kind == Kind::Text {
         return append_text(held, bytes, steps);
@@ -108,7 +109,7 @@ impl Model for Reader {
 
 /// Appends the steps of all spans of the bytes that are sure, and answers the bytes that aren't, and the mode there.
 ///
-/// `held` are the bytes of the run of text before them that aren't read yet; `titled` says whether a title is open.
+/// `held` are the bytes of the run of text before them that aren't read yet, three at most; `titled` says whether a title is open.
 fn append_steps<'a>(
     alloc: Global,
     actions: &mut Vec<CSI>,
@@ -124,6 +125,7 @@ fn append_steps<'a>(
     ensures unsure { IfOk result (λ (rest, after). IsUnsure longest after rest.now) }
     ensures goes { IfOk result
         (λ (rest, after). GoesTo mode titled.old held.old.items bytes.now rest.now after titled.new held.new.items steps.old.items steps.new.items) }
+    ensures short { OnOk result (length held.old.items ≤ 3 → length held.new.items ≤ 3) }
 {
     let mut cutter = Cutter { mode, rest: bytes };
     loop {
@@ -157,8 +159,10 @@ impl Reader {
 
     /// Takes the next bytes, and appends the steps of all that is sure now.
     pub(crate) fn push(&mut self, bytes: &[u8], steps: &mut Vec<Step>) -> Result<(), AllocError>
-        ensures { OnOk result ((more : _) × Reads self.old bytes.now more self.new
+        ensures reads { OnOk result ((more : _) × Reads self.old bytes.now more self.new
             × (steps.new.items ≡ steps.old.items ++ more)) }
+        // What is held of a character is short.
+        ensures held { OnOk result (length self.old.held ≤ 3 → length self.new.held ≤ 3) }
     {
         self.pending.extend_from_slice(bytes)?;
         let (rest, mode) = append_steps(

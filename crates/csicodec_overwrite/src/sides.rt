@@ -1,10 +1,8 @@
-//! What is erased on one side of the cursor, and the characters that stand there.
-ghost use Rattle.std.specs.Prelude.{◌≡◌, ◌++◌, [], OnOk, encode_utf8_all};
-ghost use Rattle.std.specs.List.{flat_map};
-ghost use Rattle.csicodec_overwrite.specs.Cells.{chars_of, emptied, erased, gone, onto, outside, width, without};
+//! What is erased on one side of the cursor.
+ghost use Rattle.std.specs.Prelude.{◌≡◌, [], OnOk};
+ghost use Rattle.csicodec_overwrite.specs.Cells.{emptied, erased, gone, onto, outside, width, without};
 
 use crate::cells::{Cell, Side};
-use bstr::ByteVec;
 use std::alloc::AllocError;
 use unicode_width::UnicodeWidthChar;
 
@@ -51,30 +49,6 @@ pub(crate) fn move_all(from: &mut Side, to: &mut Side) -> Result<(), AllocError>
 {
     while let Some(cell) = from.pop() {
         to.push(cell)?;
-    }
-    Ok(())
-}
-
-/// Appends the characters of a cell.
-fn append_cell(cell: Cell, out: &mut Vec<u8>) -> Result<(), AllocError>
-    ensures { OnOk result (out.new.items ≡ out.old.items ++ encode_utf8_all (chars_of cell)) }
-{
-    match cell {
-        Cell::Empty => out.push_char(' '),
-        Cell::Char(char) => out.push_char(char),
-        Cell::Mark(char) => out.push_char(char),
-        Cell::Behind => Ok(()),
-    }
-}
-
-/// Takes the cells of a side, and appends their characters.
-pub(crate) fn append_cells(side: &mut Side, out: &mut Vec<u8>) -> Result<(), AllocError>
-    ensures text { OnOk result
-        (out.new.items ≡ out.old.items ++ encode_utf8_all (flat_map chars_of side.old)) }
-    ensures none { OnOk result (side.new ≡ []) }
-{
-    while let Some(cell) = side.pop() {
-        append_cell(cell, out)?;
     }
     Ok(())
 }

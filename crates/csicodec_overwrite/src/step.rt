@@ -1,5 +1,7 @@
 //! What a character or an action does in a line.
 
+use csicodec_base::Sgr;
+
 /// What a character or an action does in a line. Counts are 1 or more where they were read.
 #[derive(Clone, Copy, PartialEq, Eq, Debug)]
 pub enum Step {
@@ -27,4 +29,6 @@ pub enum Step {
     Delete(u32),
     /// So many empty columns come at the cursor.
     Insert(u32),
+    /// Characters that are put behind it have this attribute.
+    Attribute(Sgr),
 }

@@ -75,8 +75,8 @@ fn append_action(action: &CSI, steps: &mut Vec<Step>) -> Result<(), AllocError>
     match action {
         CSI::Cursor(cursor) => append_cursor(cursor, steps),
         CSI::Edit(edit) => append_edit(edit, steps),
-        CSI::Sgr(_)
-        | CSI::Mode(_)
+        CSI::Sgr(attribute) => Ok(steps.push(Step::Attribute(*attribute))?),
+        CSI::Mode(_)
         | CSI::Device(_)
         | CSI::Keyboard(_)
         | CSI::SelectCharacterPath(..)
@@ -128,6 +128,7 @@ fn append_sure<'a>(bytes: &'a [u8], steps: &mut Vec<Step>) -> Result<&'a [u8], A
         (λ rest. (chars : List ℕ) × IsRead bytes.now chars rest.now
         × (steps.new.items ≡ steps.old.items ++ of_chars chars)) }
     ensures cut { IfOk result (λ rest. IsCut rest.now) }
+    ensures short { IfOk result (λ rest. length rest.now ≤ 3) }
 {
     let mut rest = bytes;
     while let Some((char, size)) = first_sure(rest) {
@@ -154,9 +155,10 @@ pub(crate) fn append_text(
     bytes: &[u8],
     steps: &mut Vec<Step>,
 ) -> Result<(), AllocError>
-    ensures { OnOk result
+    ensures chars { OnOk result
         ((chars : List ℕ) × IsRead (held.old.items ++ bytes.now) chars held.new.items
         × (steps.new.items ≡ steps.old.items ++ of_chars chars)) }
+    ensures short { OnOk result (length held.new.items ≤ 3) }
 {
     held.extend_from_slice(bytes)?;
     let sure = held.len() - append_sure(held, steps)?.len();

@@ -1,4 +1,4 @@
-use Rattle.std.proofs.Common.{◌≡◌, ℕ, List, ◌++◌, length}
+use Rattle.std.proofs.Common.{◌≡◌, ◌≤◌, ℕ, List, ◌++◌, length}
 use Rattle.csicodec_overwrite.specs.Private.Spans.{GoesTo}
 use Rattle.csicodec_overwrite.proofs.reader.append_steps.Given as goal
 
@@ -7,6 +7,7 @@ abbrev pub invariant-loop-span : goal.invariant-loop-span
 invariant-loop-span l = record {
   parts : (front : List ℕ) × (l.bytes ≡ front ++ l.cutter.rest.now);
   goes : GoesTo l.fn.mode l.initial.titled l.initial.held.items l.bytes l.cutter.rest.now l.cutter.mode l.titled l.held.items l.initial.steps.items l.steps.items;
+  short : length l.initial.held.items ≤ 3 → length l.held.items ≤ 3;
 }
 
 abbrev pub decreases-loop-span : goal.decreases-loop-span

@@ -1,6 +1,6 @@
 use Rattle.std.proofs.Common.{◌++◌, ◌∷◌, [], take, drop, refl, sym, ap, subst, ◌∙◌, append_assoc, append-nil, take-append-drop}
 use Rattle.csicodec_clean.specs.Shown.{IsRead}
-use Rattle.csicodec_clean.proofs.Sure.{read_none, read_on}
+use Rattle.csicodec_clean.proofs.Sure.{cut_short, read_none, read_on}
 use Rattle.csicodec_overwrite.proofs.Chars.{char_on}
 use Rattle.csicodec_overwrite.proofs.text.append_sure.Goals as goal
 
@@ -29,3 +29,6 @@ loop-char-preserved c =
         char_on c.in-Some.char chars old c.loop-char.steps.items c.append_char.new.steps.items out c.in_ok-append_char.ensures,
       );
     }
+
+pub returns-clause-short : goal.returns-clause-short
+returns-clause-short c = cut_short _ c.in_default.ensures.none

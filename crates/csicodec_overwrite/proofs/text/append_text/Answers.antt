@@ -4,8 +4,8 @@ use Rattle.csicodec_spans.proofs.Spanned.{rest_is}
 use Rattle.csicodec_clean.specs.Shown.{IsRead}
 use Rattle.csicodec_overwrite.proofs.text.append_text.Goals as goal
 
-pub returns : goal.returns
-returns c =
+pub returns-clause-chars : goal.returns-clause-chars
+returns-clause-chars c =
     let (front, split) = c.in_ok-sure.ensures.parts in
     let (chars, read, out) = c.in_ok-sure.ensures.chars in
     let all = c.deref.result.now in

@@ -4,8 +4,8 @@ use Rattle.csicodec_spans.proofs.Spanned.{rest_is}
 use Rattle.csicodec_overwrite.proofs.Read.{reads_from}
 use Rattle.csicodec_overwrite.proofs.reader.Reader.push.Goals as goal
 
-pub returns : goal.returns
-returns c =
+pub returns-clause-reads : goal.returns-clause-reads
+returns-clause-reads c =
     let rest = c.in_ok-rest.rest.now in
     let kept = rest_is c.deref.result.now c.in_ok-rest.ensures.parts.0 rest c.in_ok-rest.ensures.parts.1 in
     let same : c.keep_from.new.bytes.items ≡ rest = grind (arith, common_steps, c.keep_from.ensures, c.deref.ensures.value, c.len.ensures, kept) in

@@ -1,7 +1,7 @@
 use Rattle.std.proofs.Common.{◌≡◌, ◌++◌, encode_utf8_all, length}
 use Rattle.std.specs.List.{flat_map}
 use Rattle.csicodec_overwrite.specs.Cells.{chars_of}
-use Rattle.csicodec_overwrite.proofs.sides.append_cells.Given as goal
+use Rattle.csicodec_overwrite.proofs.paint.append_plain.Given as goal
 
 -- the characters of some are appended
 abbrev pub invariant-loop-cell : goal.invariant-loop-cell

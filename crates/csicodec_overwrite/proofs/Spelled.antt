@@ -1,0 +1,344 @@
+-- The sequence of a look is one control sequence, and is read as a reset and its attributes.
+use Rattle.std.proofs.Common.{◌≡◌, ◌≤◌, ◌<◌, ◌+◌, ◌-◌, ◌^◌, ◌⊎◌, ℕ, pos, Bool, true, false, cond, List, [], ◌∷◌, ◌++◌, length, length-append, take, drop, map, inl, inr, ⊎_elim, refl, sym, ap, subst, ◌∙◌, append_assoc, append-nil, arith, rules}
+use Rattle.std.specs.Prelude.{◌==◌, codes, nat_lt, not}
+use Rattle.std.specs.Fmt.{decimal}
+use Rattle.std.specs.List.{AllByRecursion, flat_map}
+use Rattle.std.proofs.Math.Seq.{take-append_seam}
+use Rattle.std.proofs.lemmas.Fmt.{digits_decimal, decimal_nonempty}
+use Rattle.std.proofs.lemmas.List.{map-append}
+use Rattle.std.proofs.lemmas.Str.Parse.{IsNumeralModel, numerals_by_fold}
+use Rattle.csicodec_tokens.specs.declared.param.CsiParam.{CsiParam}
+use Rattle.csicodec_tokens.specs.declared.param.CsiParam.TheVariants.{Integer, P}
+use Rattle.csicodec_tokens.specs.Digits.{AreDigits, IsDigit, value, value_after}
+use Rattle.csicodec_tokens.specs.Param.{spells}
+use Rattle.csicodec_tokens.specs.Sequence.{Apart, IsSpellable, Seq, Spellable, Spells}
+use Rattle.csicodec_tokens.proofs.Printed.{printed}
+use Rattle.csicodec_names.specs.declared.color.ColorSpec.{ColorSpec}
+use Rattle.csicodec_names.specs.declared.color.ColorSpec.TheVariants as color
+use Rattle.csicodec_names.specs.declared.color.Intensity.{Intensity}
+use Rattle.csicodec_names.specs.declared.color.Intensity.TheVariants as intensity
+use Rattle.csicodec_names.specs.declared.color.SrgbaTuple.{SrgbaTuple}
+use Rattle.csicodec_names.specs.declared.color.Underline.{Underline}
+use Rattle.csicodec_names.specs.declared.color.Underline.TheVariants as underline
+use Rattle.csicodec_base.specs.declared.sgr.Sgr.{Sgr}
+use Rattle.csicodec_base.specs.declared.sgr.Sgr.TheVariants as sgr
+use Rattle.csicodec_base.specs.SgrText.{palette_text, sgr_text, true_color_text}
+use Rattle.csicodec_actions.specs.Actions as action
+use Rattle.csicodec_actions.specs.Ranges.{ColorInRange, SgrInRange}
+use Rattle.csicodec_parser.specs.Canonical.{IsCanonicalSgr}
+use Rattle.csicodec_parser.specs.Cut.{semicolon}
+use Rattle.csicodec_parser.specs.Groups.{has_odd, is_odd}
+use Rattle.csicodec_parser.specs.Segments.{Actions}
+use Rattle.csicodec_parser.specs.declared.group.Group.TheVariants.{Styles}
+use Rattle.csicodec_parser.proofs.GroupOf.{or-parts}
+use Rattle.csicodec.specs.Compose.{EndsInSemicolon, IsStyleList}
+use Rattle.csicodec.proofs.Compose.{sgr_compose_lem}
+use Rattle.csicodec.proofs.SgrSpelling.{sgr-spelling}
+use Rattle.csicodec_clean.specs.Styled.{IsOf}
+use Rattle.csicodec_html.specs.declared.look.Look.{Look}
+use Rattle.csicodec_html.specs.Look.{is_default, is_none, is_normal}
+use Rattle.csicodec_overwrite.specs.Paint.{IsInRange, attributes, further, given, look_text}
+
+-- ---- bytes that are digits or `:`
+
+abbrev IsCode : ℕ → Type 0
+IsCode b = IsDigit b ⊎ (b ≡ 58)
+
+abbrev AreCodes : List ℕ → Type 0
+AreCodes bs = AllByRecursion IsCode bs
+
+codes_both : (xs ys : List ℕ) → AreCodes xs → AreCodes ys → AreCodes (xs ++ ys)
+codes_both [] ys h k = k
+codes_both (x ∷ xs) ys h k = (h.0, codes_both xs ys h.1 k)
+
+codes_parts : (xs ys : List ℕ) → AreCodes (xs ++ ys) → AreCodes xs × AreCodes ys
+codes_parts [] ys h = (tt, h)
+codes_parts (x ∷ xs) ys h = let more = codes_parts xs ys h.1 in ((h.0, more.0), more.1)
+
+digit_codes : (bs : List ℕ) → AreDigits bs → AreCodes bs
+digit_codes [] h = tt
+digit_codes (b ∷ bs) h = (inl h.0, digit_codes bs h.1)
+
+own : IsNumeralModel AreDigits value
+own = numerals_by_fold AreDigits (search rules) value_after (search rules)
+
+number_codes : (n : ℕ) → n < 1000 → AreCodes (decimal n)
+number_codes n h = let small : n < 2 ^ 64 = omega (arith, h) in digit_codes (decimal n) (digits_decimal own n small)
+
+some_digits : (n : ℕ) → n < 1000 → 0 < length (decimal n)
+some_digits n h = let small : n < 2 ^ 64 = omega (arith, h) in decimal_nonempty n small
+
+-- ---- the text of an attribute: such bytes, and then the final byte
+
+abbrev IsCoded : List ℕ → Type 0
+IsCoded text = (body : List ℕ) × (text ≡ body ++ 109 ∷ []) × AreCodes body × (0 < length body)
+
+coded_by : (t : Bool) (x y : List ℕ) → IsCoded x → IsCoded y → IsCoded (cond t x y)
+coded_by true x y h k = h
+coded_by false x y h k = k
+
+number_coded : (n : ℕ) → n < 1000 → IsCoded (decimal n ++ codes "m")
+number_coded n h = (decimal n, refl, number_codes n h, some_digits n h)
+
+then_coded : (n : ℕ) (mark rest : List ℕ) → n < 1000 → AreCodes mark → IsCoded rest → IsCoded (decimal n ++ (mark ++ rest))
+then_coded n mark rest h m (body, is, k, some) = (
+  decimal n ++ (mark ++ body),
+  ap (λ (t : List ℕ). decimal n ++ (mark ++ t)) is ∙ ap (λ (t : List ℕ). decimal n ++ t) (sym (append_assoc mark body (109 ∷ []))) ∙ sym (append_assoc (decimal n) (mark ++ body) (109 ∷ [])),
+  codes_both (decimal n) (mark ++ body) (number_codes n h) (codes_both mark body m k),
+  omega (arith, length-append (decimal n) (mark ++ body), some_digits n h),
+)
+
+five : AreCodes (codes ":5:")
+five = (inr refl, (inl (omega arith, omega arith), (inr refl, tt)))
+
+palette_coded : (first i : ℕ) → first < 100 → i < 256 → IsCoded (palette_text first i)
+palette_coded first i f h =
+    let named = decimal (first + 8) ++ (codes ":5:" ++ (decimal i ++ codes "m")) in
+    let bright = decimal (i + first + 52) ++ codes "m" in
+    coded_by (nat_lt i 8) (decimal (i + first) ++ codes "m") (cond (nat_lt i 16) bright named) (number_coded (i + first) (omega (arith, f, h)))
+    (coded_by (nat_lt i 16) bright named (number_coded (i + first + 52) (omega (arith, f, h))) (then_coded (first + 8) (codes ":5:") (decimal i ++ codes "m") (omega (arith, f)) five (number_coded i (omega (arith, h)))))
+
+colon : AreCodes (codes ":")
+colon = (inr refl, tt)
+
+color_coded : (code : ℕ) (c : SrgbaTuple) → code < 100 → ColorInRange (color.TrueColor c) → IsCoded (true_color_text code c)
+color_coded code c f (r, g, b, a) =
+    let blue = decimal c.2 ++ codes "m" in
+    let alpha = decimal c.2 ++ (codes ":" ++ (decimal c.3 ++ codes "m")) in
+    let opaque = then_coded c.0 (codes ":") (decimal c.1 ++ (codes ":" ++ blue)) (omega (arith, r)) colon (then_coded c.1 (codes ":") blue (omega (arith, g)) colon (number_coded c.2 (omega (arith, b)))) in
+    let clear = then_coded c.0 (codes ":") (decimal c.1 ++ (codes ":" ++ alpha)) (omega (arith, r)) colon
+    (then_coded c.1 (codes ":") alpha (omega (arith, g)) colon (then_coded c.2 (codes ":") (decimal c.3 ++ codes "m") (omega (arith, b)) colon (number_coded c.3 (omega (arith, a))))) in
+    coded_by (c.3 == 255) (decimal code ++ (codes ":2::" ++ (decimal c.0 ++ (codes ":" ++ (decimal c.1 ++ (codes ":" ++ blue))))))
+    (decimal code ++ (codes ":6::" ++ (decimal c.0 ++ (codes ":" ++ (decimal c.1 ++ (codes ":" ++ alpha))))))
+    (then_coded code (codes ":2::") (decimal c.0 ++ (codes ":" ++ (decimal c.1 ++ (codes ":" ++ blue)))) (omega (arith, f)) (inr refl, (inl (omega arith, omega arith), (inr refl, (inr refl, tt)))) opaque)
+    (then_coded code (codes ":6::") (decimal c.0 ++ (codes ":" ++ (decimal c.1 ++ (codes ":" ++ alpha)))) (omega (arith, f)) (inr refl, (inl (omega arith, omega arith), (inr refl, (inr refl, tt)))) clear)
+
+one_digit : (b : ℕ) → IsDigit b → IsCoded (b ∷ 109 ∷ [])
+one_digit b h = (b ∷ [], refl, (inl h, tt), omega arith)
+
+two_digits : (a b : ℕ) → IsDigit a → IsDigit b → IsCoded (a ∷ b ∷ 109 ∷ [])
+two_digits a b h k = (a ∷ b ∷ [], refl, (inl h, (inl k, tt)), omega arith)
+
+line_of : (b : ℕ) → IsDigit b → IsCoded (52 ∷ 58 ∷ b ∷ 109 ∷ [])
+line_of b h = (52 ∷ 58 ∷ b ∷ [], refl, (inl (omega arith, omega arith), (inr refl, (inl h, tt))), omega arith)
+
+-- an attribute that stands in a sequence
+record IsSpelled (s : Sgr) : Type 0 where
+  range : SgrInRange s
+  canonical : IsCanonicalSgr s
+  coded : IsCoded (sgr_text s)
+
+reset_spelled : IsSpelled sgr.Reset
+reset_spelled = record { range = tt; canonical = tt; coded = one_digit 48 (omega arith, omega arith) }
+
+intensity_spelled : (x : Intensity) → IsSpelled (sgr.Intensity x)
+intensity_spelled intensity.Normal = record { range = tt; canonical = tt; coded = two_digits 50 50 (omega arith, omega arith) (omega arith, omega arith) }
+intensity_spelled intensity.Bold = record { range = tt; canonical = tt; coded = one_digit 49 (omega arith, omega arith) }
+intensity_spelled intensity.Half = record { range = tt; canonical = tt; coded = one_digit 50 (omega arith, omega arith) }
+
+italic_spelled : IsSpelled (sgr.Italic true)
+italic_spelled = record { range = tt; canonical = tt; coded = one_digit 51 (omega arith, omega arith) }
+
+underline_spelled : (x : Underline) → IsSpelled (sgr.Underline x)
+underline_spelled underline.None = record { range = tt; canonical = tt; coded = two_digits 50 52 (omega arith, omega arith) (omega arith, omega arith) }
+underline_spelled underline.Single = record { range = tt; canonical = tt; coded = one_digit 52 (omega arith, omega arith) }
+underline_spelled underline.Double = record { range = tt; canonical = tt; coded = two_digits 50 49 (omega arith, omega arith) (omega arith, omega arith) }
+underline_spelled underline.Curly = record { range = tt; canonical = tt; coded = line_of 51 (omega arith, omega arith) }
+underline_spelled underline.Dotted = record { range = tt; canonical = tt; coded = line_of 52 (omega arith, omega arith) }
+underline_spelled underline.Dashed = record { range = tt; canonical = tt; coded = line_of 53 (omega arith, omega arith) }
+
+line_spelled : (x : ColorSpec) → ColorInRange x → IsSpelled (sgr.UnderlineColor x)
+line_spelled color.Default h = record { range = tt; canonical = tt; coded = two_digits 53 57 (omega arith, omega arith) (omega arith, omega arith) }
+line_spelled (color.PaletteIndex i) h = record { range = h; canonical = tt; coded = number h }
+  where
+    number : i < 256 → IsCoded (codes "58:5:" ++ (decimal i ++ codes "m"))
+    number fits = (
+      codes "58:5:" ++ decimal i,
+      sym (append_assoc (codes "58:5:") (decimal i) (109 ∷ [])),
+      codes_both (codes "58:5:") (decimal i) (inl (omega arith, omega arith), (inl (omega arith, omega arith), five)) (number_codes i (omega (arith, fits))),
+      omega (arith, length-append (codes "58:5:") (decimal i)),
+    )
+line_spelled (color.TrueColor c) h = record { range = h; canonical = tt; coded = color_coded 58 c (omega arith) h }
+
+overline_spelled : IsSpelled (sgr.Overline true)
+overline_spelled = record { range = tt; canonical = tt; coded = two_digits 53 51 (omega arith, omega arith) (omega arith, omega arith) }
+
+strike_spelled : IsSpelled (sgr.StrikeThrough true)
+strike_spelled = record { range = tt; canonical = tt; coded = one_digit 57 (omega arith, omega arith) }
+
+inverse_spelled : IsSpelled (sgr.Inverse true)
+inverse_spelled = record { range = tt; canonical = tt; coded = one_digit 55 (omega arith, omega arith) }
+
+text_spelled : (x : ColorSpec) → ColorInRange x → IsSpelled (sgr.Foreground x)
+text_spelled color.Default h = record { range = tt; canonical = tt; coded = two_digits 51 57 (omega arith, omega arith) (omega arith, omega arith) }
+text_spelled (color.PaletteIndex i) h = record { range = h; canonical = tt; coded = palette_coded 30 i (omega arith) h }
+text_spelled (color.TrueColor c) h = record { range = h; canonical = tt; coded = color_coded 38 c (omega arith) h }
+
+ground_spelled : (x : ColorSpec) → ColorInRange x → IsSpelled (sgr.Background x)
+ground_spelled color.Default h = record { range = tt; canonical = tt; coded = two_digits 52 57 (omega arith, omega arith) (omega arith, omega arith) }
+ground_spelled (color.PaletteIndex i) h = record { range = h; canonical = tt; coded = palette_coded 40 i (omega arith) h }
+ground_spelled (color.TrueColor c) h = record { range = h; canonical = tt; coded = color_coded 48 c (omega arith) h }
+
+abbrev AreSpelled : List Sgr → Type 0
+AreSpelled styles = AllByRecursion IsSpelled styles
+
+given_spelled : (t : Bool) (s : Sgr) (rest : List Sgr) → IsSpelled s → AreSpelled rest → AreSpelled (given t s ++ rest)
+given_spelled true s rest h k = (h, k)
+given_spelled false s rest h k = k
+
+last_spelled : (t : Bool) (s : Sgr) → IsSpelled s → AreSpelled (given t s)
+last_spelled true s h = (h, tt)
+last_spelled false s h = tt
+
+all_spelled : (l : Look) → IsInRange l → AreSpelled (attributes l)
+all_spelled l (line, text, ground) =
+    given_spelled (not (is_normal l.intensity)) (sgr.Intensity l.intensity) _ (intensity_spelled l.intensity)
+    (given_spelled l.italic (sgr.Italic true) _ italic_spelled
+    (given_spelled (not (is_none l.underline)) (sgr.Underline l.underline) _ (underline_spelled l.underline)
+    (given_spelled (not (is_default l.line)) (sgr.UnderlineColor l.line) _ (line_spelled l.line line)
+    (given_spelled l.overline (sgr.Overline true) _ overline_spelled
+    (given_spelled l.strike (sgr.StrikeThrough true) _ strike_spelled
+    (given_spelled l.inverse (sgr.Inverse true) _ inverse_spelled
+    (given_spelled (not (is_default l.foreground)) (sgr.Foreground l.foreground) _ (text_spelled l.foreground text)
+    (last_spelled (not (is_default l.background)) (sgr.Background l.background) (ground_spelled l.background ground)))))))))
+
+-- ---- its list: numbers and `:`
+
+abbrev IsPlainToken : CsiParam → Type 0
+IsPlainToken (Integer z) = Unit {0}
+IsPlainToken (P b) = b ≡ 58
+
+plain_tokens : (bs : List ℕ) (list : List CsiParam) → Spellable list → Spells bs list → AreCodes bs → AllByRecursion IsPlainToken list
+plain_tokens bs [] can s h = tt
+plain_tokens bs (Integer z ∷ list) can (front, rest, e, is, others) h =
+    let parts = codes_parts front rest (subst AreCodes e h) in
+    (tt, plain_tokens rest list can.2 others parts.1)
+plain_tokens bs (P b ∷ list) can (front, rest, e, is, others) h =
+    let parts = codes_parts front rest (subst AreCodes e h) in
+    let one : AreCodes (b ∷ []) = subst AreCodes is parts.0 in
+    (⊎_elim (λ (d : IsDigit b). absurd (can.0.1 d)) (λ (same : b ≡ 58). same) one.0, plain_tokens rest list can.2 others parts.1)
+
+none_odd : (list : List CsiParam) → AllByRecursion IsPlainToken list → has_odd Styles list ≡ false
+none_odd [] h = refl
+none_odd (Integer z ∷ list) h = none_odd list h.1
+none_odd (P b ∷ list) h = rw h.0 (none_odd list h.1)
+
+never_ends : (front : List CsiParam) → AllByRecursion IsPlainToken (front ++ semicolon ∷ []) → ⊥
+never_ends [] h = omega (arith, h.0)
+never_ends (t ∷ front) h = never_ends front h.1
+
+unclosed : (list : List CsiParam) → AllByRecursion IsPlainToken list → ¬ EndsInSemicolon list
+unclosed list h = λ ends. never_ends ends.0 (subst (AllByRecursion IsPlainToken) ends.1 h)
+
+some_tokens : (bs : List ℕ) (list : List CsiParam) → Spells bs list → 0 < length bs → 0 < length list
+some_tokens bs [] s some = absurd (omega (arith, ap length s, some))
+some_tokens bs (t ∷ list) s some = omega arith
+
+-- ---- lists that are joined at a `;`
+
+semicolon-spellable : IsSpellable semicolon
+semicolon-spellable = ((omega arith, omega arith), λ d. omega (arith, d))
+
+apart-semicolon : (t : CsiParam) (list : List CsiParam) → Apart t (semicolon ∷ list)
+apart-semicolon (Integer z) list = tt
+apart-semicolon (P b) list = tt
+
+apart-joined : (t : CsiParam) (a b : List CsiParam) → Apart t a → Apart t (a ++ semicolon ∷ b)
+apart-joined t [] b h = apart-semicolon t b
+apart-joined (Integer z) (Integer y ∷ a) b h = absurd h
+apart-joined (Integer z) (P c ∷ a) b h = tt
+apart-joined (P c) (u ∷ a) b h = tt
+
+spellable-joined : (a b : List CsiParam) → Spellable a → Spellable b → Spellable (a ++ semicolon ∷ b)
+spellable-joined [] b h k = (semicolon-spellable, tt, k)
+spellable-joined (t ∷ a) b h k = (h.0, apart-joined t a b h.1, spellable-joined a b h.2 k)
+
+spells-joined : (x y : List ℕ) (a b : List CsiParam) → Spells x a → Spells y b → Spells (x ++ 59 ∷ y) (a ++ semicolon ∷ b)
+spells-joined x y [] b h k = (59 ∷ [], y, ap (λ (l : List ℕ). l ++ 59 ∷ y) h, refl, k)
+spells-joined x y (t ∷ a) b h k =
+    (h.0, h.1 ++ 59 ∷ y, ap (λ (l : List ℕ). l ++ 59 ∷ y) h.2 ∙ append_assoc h.0 h.1 (59 ∷ y), h.3, spells-joined h.1 y a b h.4 k)
+
+plain-joined : (a b : List CsiParam) → has_odd Styles a ≡ false → has_odd Styles b ≡ false → has_odd Styles (a ++ semicolon ∷ b) ≡ false
+plain-joined [] b e f = f
+plain-joined (t ∷ ts) b e f = let h = or-parts (is_odd Styles t) (has_odd Styles ts) e in rw h.0 (plain-joined ts b h.1 f)
+
+-- where a list with more in front ends in `;`, the list does
+ends-part : (a us front : List CsiParam) (u : CsiParam) → a ++ u ∷ us ≡ front ++ semicolon ∷ [] → EndsInSemicolon (u ∷ us)
+ends-part [] us front u e = (front, e)
+ends-part (t ∷ a) us [] u e = absurd (omega (arith, ap length e, length-append a (u ∷ us)))
+ends-part (t ∷ a) us (f ∷ front) u e = let others : a ++ u ∷ us ≡ front ++ semicolon ∷ [] = cc in ends-part a us front u others
+
+ends-joined : (a b : List CsiParam) → 0 < length b → EndsInSemicolon (a ++ semicolon ∷ b) → EndsInSemicolon b
+ends-joined a [] some h = absurd (omega (arith, some))
+ends-joined a (u ∷ us) some h = ends-part (a ++ semicolon ∷ []) us h.0 u (append_assoc a (semicolon ∷ []) (u ∷ us) ∙ h.1)
+
+-- bytes that are a list of these attributes, and may go on
+record Open (bytes : List ℕ) (styles : List Sgr) : Type 0 where
+  list : List CsiParam
+  spellable : Spellable list
+  spelled : Spells bytes list
+  plain : IsStyleList list
+  unended : ¬ EndsInSemicolon list
+  means : Actions list false 109 (map action.Sgr styles)
+
+-- ---- one attribute
+
+same_ends : (xs ys : List ℕ) (a b : ℕ) → xs ++ a ∷ [] ≡ ys ++ b ∷ [] → (xs ≡ ys) × (a ≡ b)
+same_ends [] [] a b e = (refl, cc)
+same_ends [] (y ∷ ys) a b e = absurd (omega (arith, ap length e, length-append ys (b ∷ [])))
+same_ends (x ∷ xs) [] a b e = absurd (omega (arith, ap length e, length-append xs (a ∷ [])))
+same_ends (x ∷ xs) (y ∷ ys) a b e =
+    let others : xs ++ a ∷ [] ≡ ys ++ b ∷ [] = cc in
+    let first : x ≡ y = cc in
+    let more = same_ends xs ys a b others in
+    (cc (first, more.0), more.1)
+
+taken : (body : List ℕ) → take (length (body ++ 109 ∷ []) - 1) (body ++ 109 ∷ []) ≡ body
+taken body =
+    let long : length (body ++ 109 ∷ []) - 1 ≡ length body = omega (arith, length-append body (109 ∷ [])) in
+    ap (λ (n : ℕ). take n (body ++ 109 ∷ [])) long ∙ take-append_seam body (109 ∷ [])
+
+one_open : (s : Sgr) → IsSpelled s → Open (take (length (sgr_text s) - 1) (sgr_text s)) (s ∷ [])
+one_open s h =
+    let (body, is, codes, some) = h.coded in
+    let sp = sgr-spelling false s h.range h.canonical in
+    let ends = same_ends body (spells sp.list) 109 sp.final (sym is ∙ ap (drop 2) sp.written) in
+    let mine : take (length (sgr_text s) - 1) (sgr_text s) ≡ body = ap (λ (t : List ℕ). take (length t - 1) t) is ∙ taken body in
+    let spelled : Spells body sp.list = subst (λ (t : List ℕ). Spells t sp.list) (sym ends.0) (printed sp.list sp.spellable) in
+    let tokens = plain_tokens body sp.list sp.spellable spelled codes in
+    record {
+      list = sp.list;
+      spellable = sp.spellable;
+      spelled = subst (λ (t : List ℕ). Spells t sp.list) (sym mine) spelled;
+      plain = record { some = some_tokens body sp.list spelled some; plain = none_odd sp.list tokens };
+      unended = unclosed sp.list tokens;
+      means = subst (λ (f : ℕ). Actions sp.list false f (action.Sgr s ∷ [])) (sym ends.1) sp.read;
+    }
+
+-- ---- all
+
+more_open : (bytes : List ℕ) (done : List Sgr) (s : Sgr) → Open bytes done → IsSpelled s → Open (bytes ++ further s) (done ++ s ∷ [])
+more_open bytes done s o h =
+    let next = one_open s h in
+    record {
+      list = o.list ++ semicolon ∷ next.list;
+      spellable = spellable-joined o.list next.list o.spellable next.spellable;
+      spelled = spells-joined bytes (take (length (sgr_text s) - 1) (sgr_text s)) o.list next.list o.spelled next.spelled;
+      plain = record { some = omega (arith, length-append o.list (semicolon ∷ next.list)); plain = plain-joined o.list next.list o.plain.plain next.plain.plain };
+      unended = λ ends. next.unended (ends-joined o.list next.list next.plain.some ends);
+      means = subst (Actions (o.list ++ semicolon ∷ next.list) false 109) (sym (map-append action.Sgr done (s ∷ [])))
+          (sgr_compose_lem o.list next.list false o.plain next.plain o.unended done (action.Sgr s ∷ []) o.means next.means);
+    }
+
+all_open : (styles : List Sgr) (bytes : List ℕ) (done : List Sgr) → Open bytes done → AreSpelled styles → Open (bytes ++ flat_map further styles) (done ++ styles)
+all_open [] bytes done o h = rw (append-nil bytes, append-nil done) o
+all_open (s ∷ styles) bytes done o h =
+    let all = all_open styles (bytes ++ further s) (done ++ s ∷ []) (more_open bytes done s o h.0) h.1 in
+    let whole = bytes ++ (further s ++ flat_map further styles) in
+    subst (Open whole) (append_assoc done (s ∷ []) styles) (subst (λ (t : List ℕ). Open t ((done ++ s ∷ []) ++ styles)) (append_assoc bytes (further s) (flat_map further styles)) all)
+
+pub look_of_one : (l : Look) → IsInRange l → IsOf (look_text l) (map action.Sgr (sgr.Reset ∷ attributes l))
+unfolding look_text
+look_of_one l h =
+    let o = all_open (attributes l) (48 ∷ []) (sgr.Reset ∷ []) (one_open sgr.Reset reset_spelled) (all_spelled l h) in
+    (o.list, 109, record { spellable = o.spellable; ends = (omega arith, omega arith); body = 48 ∷ flat_map further (attributes l); spelled = o.spelled; whole = refl }, o.means)

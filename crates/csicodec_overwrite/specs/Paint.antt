@@ -1,0 +1,117 @@
+-- A line as text: its characters alone, or painted, with the sequences that set how they look (SGR; ECMA-48, 8.3.117).
+use Rattle.std.specs.Prelude.{ℕ, ◌-◌, ◌==◌, Bool, true, false, not, ◌&&◌, List, [], ◌∷◌, ◌++◌, length, take, encode_utf8_all, if◌then◌else◌}
+use Rattle.std.specs.List.{flat_map}
+use Rattle.csicodec_names.specs.declared.color.ColorSpec.{ColorSpec}
+use Rattle.csicodec_names.specs.declared.color.ColorSpec.TheVariants as color
+use Rattle.csicodec_names.specs.declared.color.Intensity.{Intensity}
+use Rattle.csicodec_names.specs.declared.color.Intensity.TheVariants as intensity
+use Rattle.csicodec_names.specs.declared.color.Underline.{Underline}
+use Rattle.csicodec_names.specs.declared.color.Underline.TheVariants as underline
+use Rattle.csicodec_base.specs.declared.sgr.Sgr.{Sgr}
+use Rattle.csicodec_base.specs.declared.sgr.Sgr.TheVariants as sgr
+use Rattle.csicodec_base.specs.SgrText.{sgr_text}
+use Rattle.csicodec_actions.specs.Ranges.{ColorInRange}
+use Rattle.csicodec_html.specs.declared.look.Look.{Look}
+use Rattle.csicodec_html.specs.Look.{is_default, is_none, is_normal, plain}
+use Rattle.csicodec_overwrite.specs.declared.cells.Cell.{Cell}
+use Rattle.csicodec_overwrite.specs.declared.cells.Cell.TheVariants.{Behind, Char, Empty, Mark}
+use Rattle.csicodec_overwrite.specs.Cells.{chars_of}
+
+-- ---- whether two looks are one
+
+abbrev pub same_flag : Bool → Bool → Bool
+same_flag a b = if a then b else not b
+
+abbrev pub same_intensity : Intensity → Intensity → Bool
+same_intensity intensity.Normal intensity.Normal = true
+same_intensity intensity.Bold intensity.Bold = true
+same_intensity intensity.Half intensity.Half = true
+same_intensity a b = false
+
+abbrev pub same_underline : Underline → Underline → Bool
+same_underline underline.None underline.None = true
+same_underline underline.Single underline.Single = true
+same_underline underline.Double underline.Double = true
+same_underline underline.Curly underline.Curly = true
+same_underline underline.Dotted underline.Dotted = true
+same_underline underline.Dashed underline.Dashed = true
+same_underline a b = false
+
+abbrev pub same_color : ColorSpec → ColorSpec → Bool
+same_color color.Default color.Default = true
+same_color (color.PaletteIndex i) (color.PaletteIndex j) = i == j
+same_color (color.TrueColor c) (color.TrueColor d) =
+    c.0 == d.0 && (c.1 == d.1 && (c.2 == d.2 && c.3 == d.3))
+same_color a b = false
+
+abbrev pub same : Look → Look → Bool
+same a b = same_intensity a.intensity b.intensity &&
+    (same_flag a.italic b.italic &&
+    (same_underline a.underline b.underline &&
+    (same_color a.line b.line &&
+    (same_flag a.overline b.overline &&
+    (same_flag a.strike b.strike &&
+    (same_flag a.inverse b.inverse &&
+    (same_color a.foreground b.foreground && same_color a.background b.background)))))))
+
+-- ---- the sequence of a look
+
+-- an attribute, where it is set
+abbrev pub given : Bool → Sgr → List Sgr
+given set s = if set then s ∷ [] else []
+
+-- those that a look sets
+abbrev pub attributes : Look → List Sgr
+attributes l =
+    given (not (is_normal l.intensity)) (sgr.Intensity l.intensity)
+    ++ (given l.italic (sgr.Italic true)
+    ++ (given (not (is_none l.underline)) (sgr.Underline l.underline)
+    ++ (given (not (is_default l.line)) (sgr.UnderlineColor l.line)
+    ++ (given l.overline (sgr.Overline true)
+    ++ (given l.strike (sgr.StrikeThrough true)
+    ++ (given l.inverse (sgr.Inverse true)
+    ++ (given (not (is_default l.foreground)) (sgr.Foreground l.foreground)
+    ++ given (not (is_default l.background)) (sgr.Background l.background))))))))
+
+-- an attribute's own text without the final `m`, behind `;`
+abbrev pub further : Sgr → List ℕ
+further s = 59 ∷ take (length (sgr_text s) - 1) (sgr_text s)
+
+-- `ESC [ 0 ; .. m`: a reset, and then what is set
+unfoldable pub look_text : Look → List ℕ
+look_text l = 27 ∷ 91 ∷ 48 ∷ (flat_map further (attributes l) ++ 109 ∷ [])
+
+-- its numbers are bytes
+abbrev pub IsInRange : Look → Type 0
+IsInRange l = ColorInRange l.line × ColorInRange l.foreground × ColorInRange l.background
+
+-- ---- painting
+
+-- the sequence between two looks, where they aren't one
+abbrev pub turn : Look → Look → List ℕ
+turn old new = if same old new then [] else look_text new
+
+-- how a cell looks behind others that look so: nothing is set in an empty one, and what belongs to a character looks as that does
+abbrev pub look_of : Look → Cell → Look
+look_of look Empty = plain
+look_of look (Char g) = g.look
+look_of look Behind = look
+look_of look (Mark c) = look
+
+-- cells in turn, and at the end nothing is set
+abbrev pub paint : Look → List Cell → List ℕ
+paint look [] = turn look plain
+paint look (cell ∷ cells) =
+    turn look (look_of look cell) ++ (encode_utf8_all (chars_of cell) ++ paint (look_of look cell) cells)
+
+-- a line as text, painted or not
+abbrev pub text_of : Bool → List Cell → List ℕ
+text_of false cells = encode_utf8_all (flat_map chars_of cells)
+text_of true cells = paint plain cells
+
+-- lines that are over, each with its newline
+abbrev pub ended : Bool → List Cell → List ℕ
+ended painted cells = text_of painted cells ++ 10 ∷ []
+
+abbrev pub texts_of : Bool → List (List Cell) → List ℕ
+texts_of painted lines = flat_map (ended painted) lines

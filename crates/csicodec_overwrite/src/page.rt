@@ -1,0 +1,45 @@
+//! A stream as a page of HTML, each line as a terminal would show it at its end.
+ghost use Rattle.std.specs.Prelude.{◌++◌, ℕ, List, OnErr, OnOk};
+ghost use Rattle.std.specs.Io.KnownBytes.{Appends, Consumes, IsAtEnd};
+ghost use Rattle.csicodec_html.specs.Page.{IsPageWith, PageWith};
+ghost use Rattle.csicodec_overwrite.specs.Reading.{Paints};
+
+use crate::overwriter::Overwriter;
+use csicodec_html::{Markup, html_through};
+use csicodec_streams::RunError;
+use std::alloc::Global;
+use std::io::{Read, Write};
+
+/// Reads to the end, and writes the page that `csicodec_html::html_all_with` makes of the stream where it is painted: each line as a
+/// terminal would show it at its end, with how each of its characters looked when it was written.
+///
+/// The errors are those of `csicodec_clean::strip_all`.
+///
+/// ```text
+/// html_overwritten_all(alloc, Markup::default(), &mut input, &mut output)?;
+/// // reads "10%\r\x1b[1mdone\x1b[m\n", and writes "<span style=\"font-weight:bold;\">done</span>\n"
+/// ```
+pub fn html_overwritten_all<R: Read, W: Write>(
+    alloc: Global,
+    markup: Markup,
+    input: &mut R,
+    output: &mut W,
+) -> Result<(), RunError>
+    // What was written is the page of all the bytes, painted.
+    ensures ok { OnOk result
+        ((bytes : List ℕ) × (painted : List ℕ) × (page : List ℕ)
+        × Consumes (R.remaining input.old) (R.remaining input.new) bytes
+        × Paints bytes painted × PageWith markup painted page × IsPageWith markup page
+        × Appends (W.contents output.old) (W.contents output.new) page) }
+    ensures end { OnOk result (IsAtEnd (R.remaining input.new)) }
+    // After any error, what went out is a front of the page of a front of what is painted of bytes that were read.
+    ensures front { OnErr result
+        ((bytes : List ℕ) × (more : List ℕ) × (painted : List ℕ) × (unpainted : List ℕ)
+        × (sent : List ℕ) × (unsent : List ℕ)
+        × Consumes (R.remaining input.old) (R.remaining input.new) (bytes ++ more)
+        × Paints bytes (painted ++ unpainted)
+        × PageWith markup painted (sent ++ unsent) × IsPageWith markup (sent ++ unsent)
+        × Appends (W.contents output.old) (W.contents output.new) sent) }
+{
+    html_through(alloc, markup, Overwriter::painting(alloc), input, output)
+}

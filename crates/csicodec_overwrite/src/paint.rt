@@ -1,0 +1,209 @@
+//! A line as text: its characters alone, or painted, with the sequences that set how they look.
+ghost use Rattle.std.specs.Prelude.{◌≡◌, ◌++◌, [], OnOk, encode_utf8_all, not};
+ghost use Rattle.std.specs.List.{flat_map};
+ghost use Rattle.csicodec_html.specs.Look.{is_default, is_none, is_normal};
+ghost use Rattle.csicodec_overwrite.specs.Cells.{chars_of};
+ghost use Rattle.csicodec_overwrite.specs.Paint.{further, given, look_of, look_text, paint, same, same_color, same_flag, same_intensity, same_underline, text_of, turn};
+
+use crate::cells::{Cell, Side};
+use bstr::ByteVec;
+use csicodec_base::{ColorSpec, Intensity, Sgr, Underline};
+use csicodec_html::Look;
+use csicodec_tokens::Text;
+use std::alloc::AllocError;
+
+/// Whether both are set, or neither is.
+fn same_flag(a: bool, b: bool) -> bool
+    ensures { result ≡ same_flag a b }
+{
+    if a { b } else { !b }
+}
+
+/// Whether strokes are as strong.
+fn same_intensity(a: Intensity, b: Intensity) -> bool
+    ensures { result ≡ same_intensity a b }
+{
+    match (a, b) {
+        (Intensity::Normal, Intensity::Normal)
+        | (Intensity::Bold, Intensity::Bold)
+        | (Intensity::Half, Intensity::Half) => true,
+        _ => false,
+    }
+}
+
+/// Whether the lines below are of one kind.
+fn same_underline(a: Underline, b: Underline) -> bool
+    ensures { result ≡ same_underline a b }
+{
+    match (a, b) {
+        (Underline::None, Underline::None)
+        | (Underline::Single, Underline::Single)
+        | (Underline::Double, Underline::Double)
+        | (Underline::Curly, Underline::Curly)
+        | (Underline::Dotted, Underline::Dotted)
+        | (Underline::Dashed, Underline::Dashed) => true,
+        _ => false,
+    }
+}
+
+/// Whether two colours are one.
+fn same_color(a: ColorSpec, b: ColorSpec) -> bool
+    ensures { result ≡ same_color a b }
+{
+    match (a, b) {
+        (ColorSpec::Default, ColorSpec::Default) => true,
+        (ColorSpec::PaletteIndex(i), ColorSpec::PaletteIndex(j)) => i == j,
+        (ColorSpec::TrueColor(c), ColorSpec::TrueColor(d)) => {
+            c.0 == d.0 && c.1 == d.1 && c.2 == d.2 && c.3 == d.3
+        }
+        _ => false,
+    }
+}
+
+/// Whether two looks are one.
+fn same(a: Look, b: Look) -> bool
+    ensures { result ≡ same a b }
+{
+    same_intensity(a.intensity, b.intensity)
+        && same_flag(a.italic, b.italic)
+        && same_underline(a.underline, b.underline)
+        && same_color(a.line, b.line)
+        && same_flag(a.overline, b.overline)
+        && same_flag(a.strike, b.strike)
+        && same_flag(a.inverse, b.inverse)
+        && same_color(a.foreground, b.foreground)
+        && same_color(a.background, b.background)
+}
+
+/// Whether strokes are other than normal.
+fn is_set(intensity: Intensity) -> bool
+    ensures { result ≡ not (is_normal intensity) }
+{
+    !matches!(intensity, Intensity::Normal)
+}
+
+/// Whether there is a line below.
+fn is_lined(underline: Underline) -> bool
+    ensures { result ≡ not (is_none underline) }
+{
+    !matches!(underline, Underline::None)
+}
+
+/// Whether it is another colour than the terminal's own.
+fn is_colored(color: ColorSpec) -> bool
+    ensures { result ≡ not (is_default color) }
+{
+    !matches!(color, ColorSpec::Default)
+}
+
+/// Appends an attribute to a sequence that has one before, if it is set.
+fn append_given(set: bool, attribute: Sgr, out: &mut Vec<u8>) -> Result<(), AllocError>
+    ensures { OnOk result (out.new.items ≡ out.old.items ++ flat_map further (given set attribute)) }
+{
+    if !set {
+        return Ok(());
+    }
+    let mut text = Text::new();
+    attribute.write_to(&mut text);
+    let bytes = text.as_bytes();
+    out.push(b';')?;
+    out.extend_from_slice(bytes.split_at(bytes.len().saturating_sub(1)).0)
+}
+
+/// Appends the sequence from which on characters look so.
+fn append_look(look: Look, out: &mut Vec<u8>) -> Result<(), AllocError>
+    ensures { OnOk result (out.new.items ≡ out.old.items ++ look_text look) }
+{
+    let (line, text, ground) = (look.line, look.foreground, look.background);
+    out.extend_from_slice(b"\x1b[0")?;
+    append_given(is_set(look.intensity), Sgr::Intensity(look.intensity), out)?;
+    append_given(look.italic, Sgr::Italic(true), out)?;
+    append_given(
+        is_lined(look.underline),
+        Sgr::Underline(look.underline),
+        out,
+    )?;
+    append_given(is_colored(line), Sgr::UnderlineColor(line), out)?;
+    append_given(look.overline, Sgr::Overline(true), out)?;
+    append_given(look.strike, Sgr::StrikeThrough(true), out)?;
+    append_given(look.inverse, Sgr::Inverse(true), out)?;
+    append_given(is_colored(text), Sgr::Foreground(text), out)?;
+    append_given(is_colored(ground), Sgr::Background(ground), out)?;
+    Ok(out.push(b'm')?)
+}
+
+/// Appends the sequence between two looks, where they aren't one.
+fn append_turn(old: Look, new: Look, out: &mut Vec<u8>) -> Result<(), AllocError>
+    ensures { OnOk result (out.new.items ≡ out.old.items ++ turn old new) }
+{
+    if same(old, new) {
+        return Ok(());
+    }
+    append_look(new, out)
+}
+
+/// How a cell looks behind others that look so.
+fn look_of(look: Look, cell: Cell) -> Look
+    ensures { result ≡ look_of look cell }
+{
+    match cell {
+        Cell::Empty => Look::plain(),
+        Cell::Char(glyph) => glyph.look,
+        Cell::Behind | Cell::Mark(_) => look,
+    }
+}
+
+/// Appends the characters of a cell.
+fn append_cell(cell: Cell, out: &mut Vec<u8>) -> Result<(), AllocError>
+    ensures { OnOk result (out.new.items ≡ out.old.items ++ encode_utf8_all (chars_of cell)) }
+{
+    match cell {
+        Cell::Empty => out.push_char(' '),
+        Cell::Char(glyph) => out.push_char(glyph.char),
+        Cell::Mark(char) => out.push_char(char),
+        Cell::Behind => Ok(()),
+    }
+}
+
+/// Takes the cells of a side, and appends their characters.
+fn append_plain(side: &mut Side, out: &mut Vec<u8>) -> Result<(), AllocError>
+    ensures text { OnOk result
+        (out.new.items ≡ out.old.items ++ encode_utf8_all (flat_map chars_of side.old)) }
+    ensures none { OnOk result (side.new ≡ []) }
+{
+    while let Some(cell) = side.pop() {
+        append_cell(cell, out)?;
+    }
+    Ok(())
+}
+
+/// The same, painted: behind text that looks so, and at the end nothing is set.
+fn append_painted(look: Look, side: &mut Side, out: &mut Vec<u8>) -> Result<(), AllocError>
+    ensures text { OnOk result (out.new.items ≡ out.old.items ++ paint look side.old) }
+    ensures none { OnOk result (side.new ≡ []) }
+{
+    let mut now = look;
+    while let Some(cell) = side.pop() {
+        let next = look_of(now, cell);
+        append_turn(now, next, out)?;
+        append_cell(cell, out)?;
+        now = next;
+    }
+    append_turn(now, Look::plain(), out)
+}
+
+/// Takes the cells of a side, and appends them as text, painted or not.
+pub(crate) fn append_cells(
+    side: &mut Side,
+    painted: bool,
+    out: &mut Vec<u8>,
+) -> Result<(), AllocError>
+    ensures text { OnOk result (out.new.items ≡ out.old.items ++ text_of painted side.old) }
+    ensures none { OnOk result (side.new ≡ []) }
+{
+    if painted {
+        append_painted(Look::plain(), side, out)
+    } else {
+        append_plain(side, out)
+    }
+}

@@ -24,6 +24,7 @@ complete -c csicodec -n '__fish_seen_subcommand_from clean' -l help -d 'this tex
 complete -c csicodec -n '__fish_seen_subcommand_from html' -l classes -d 'classes in place of styles, as bold, underline-curly, fg-1 and bg-255, and a style sheet, but for a piece'
 complete -c csicodec -n '__fish_seen_subcommand_from html' -l fragment -d 'a piece for a page of one'\''s own, where it stands in a pre'
 complete -c csicodec -n '__fish_seen_subcommand_from html' -l links -d 'links too (OSC 8) whose address is of http or https, and visible ASCII of at most 2,083 bytes'
+complete -c csicodec -n '__fish_seen_subcommand_from html' -l overwrite -d 'each line as a terminal would show it at its end, as of progress bars; not with --links'
 complete -c csicodec -n '__fish_seen_subcommand_from html' -l palette -x -d 'colours 0 to 15 as #rrggbb, with commas between, in place of xterm'\''s; two more: the page'\''s text and background'
 complete -c csicodec -n '__fish_seen_subcommand_from html' -l help -d 'this text'
 complete -c csicodec -n '__fish_seen_subcommand_from explain' -l at -x -d 'only what has a byte at one of these places: 120, 120-180 or 120-'

@@ -35,7 +35,7 @@ pub(crate) static OPTIONS: [(&str, &str, &str); 26] = [
     ("--lines", "strip clean", ""),
     ("--links", "clean html", ""),
     ("--only", "explain", "names, as SGR,CUP"),
-    ("--overwrite", "strip", ""),
+    ("--overwrite", "strip html", ""),
     (
         "--palette",
         "html",
@@ -127,6 +127,7 @@ and colours and styles as spans. Nothing of the input gets into a tag, but addre
   --classes          classes in place of styles, as bold, underline-curly, fg-1 and bg-255, and a style sheet, but for a piece
   --fragment         a piece for a page of one's own, where it stands in a pre
   --links            links too (OSC 8) whose address is of http or https, and visible ASCII of at most 2,083 bytes
+  --overwrite        each line as a terminal would show it at its end, as of progress bars; not with --links
   --palette COLOURS  colours 0 to 15 as #rrggbb, with commas between, in place of xterm's; two more: the page's text and background
   -h, --help         this text";
 

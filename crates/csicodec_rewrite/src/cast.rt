@@ -189,14 +189,27 @@ pub(crate) fn written_of<R: BufRead>(alloc: Global, input: &mut R) -> Result<Vec
     Ok(written)
 }
 
-/// Writes what the programs of a recording wrote as a piece of a page.
+/// Each line as a terminal would show it at its end, with how it looks.
+fn painted(alloc: Global, written: &[u8]) -> Result<Vec<u8>, AllocError> {
+    let mut lines = Overwriter::painting(alloc);
+    let mut out = Vec::new(alloc);
+    lines.push(written, &mut out)?;
+    lines.finish(&mut out)?;
+    Ok(out)
+}
+
+/// Writes what the programs of a recording wrote as a piece of a page, each line as a terminal would show it at its end or not.
 pub fn html_cast<R: BufRead, W: Write>(
     alloc: Global,
     markup: Markup,
+    overwrite: bool,
     input: &mut R,
     output: &mut W,
 ) -> Result<(), Failure> {
-    let written = written_of(alloc, input)?;
+    let mut written = written_of(alloc, input)?;
+    if overwrite {
+        written = painted(alloc, &written).map_err(no_memory)?;
+    }
     let page = html_with(alloc, markup, &written).map_err(no_memory)?;
     Ok(send(output, &page)?)
 }

@@ -17,7 +17,7 @@ use csicodec_compact::{Compact, Compactor, compact_all};
 use csicodec_filter::{Faithful, Filter, NormalForm, filter_all};
 use csicodec_html::{BEHIND, Markup, Palette, front, html_all_with};
 use csicodec_lines::{Lines, clean_lines_all, strip_lines_all};
-use csicodec_overwrite::{Overwriter, overwrite_all};
+use csicodec_overwrite::{Overwriter, html_overwritten_all, overwrite_all};
 use csicodec_spans::LIMIT;
 use csicodec_streams::{RunError, send};
 use palette::palette_of;
@@ -48,6 +48,7 @@ enum Work {
     /// A page, which ends behind the last input if it has begun.
     Html {
         markup: Markup,
+        overwrite: bool,
         fragment: bool,
         begun: bool,
     },
@@ -106,6 +107,7 @@ impl Work {
             }
             Task::Html => Work::Html {
                 markup: markup_of(alloc, run)?,
+                overwrite: run.overwrite,
                 fragment: run.fragment,
                 begun: false,
             },
@@ -149,6 +151,7 @@ impl Work {
             markup,
             fragment: false,
             begun,
+            ..
         } = self
         {
             if !*begun {
@@ -186,6 +189,11 @@ impl Worker for Work {
                 lines: true,
             } => clean_lines_all(alloc, *passing, input, output)?,
             Work::Clean { passing, .. } => clean_all_with(alloc, *passing, input, output)?,
+            Work::Html {
+                markup,
+                overwrite: true,
+                ..
+            } => html_overwritten_all(alloc, *markup, input, output)?,
             Work::Html { markup, .. } => html_all_with(alloc, *markup, input, output)?,
         }
         Ok(())
@@ -200,7 +208,11 @@ impl Worker for Work {
         self.begin(alloc, output)?;
         match self {
             Work::Check => return check_cast(alloc, input),
-            Work::Html { markup, .. } => return html_cast(alloc, *markup, input, output),
+            Work::Html {
+                markup,
+                overwrite,
+                ..
+            } => return html_cast(alloc, *markup, *overwrite, input, output),
             _ => {}
         }
         if let Some(mut stage) = self.stage(alloc) {

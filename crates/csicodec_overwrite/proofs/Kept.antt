@@ -1,8 +1,10 @@
--- What holds of all characters that steps put, and of blanks, tabs and newlines, holds of all that they write.
+-- What holds of all characters that steps put, and of blanks, tabs and newlines, holds of all that they write; and so it is with looks.
 use Rattle.std.proofs.Common.{ℕ, ◌-◌, zero, suc, Bool, true, false, cond, min, List, [], ◌∷◌, ◌++◌, length, replicate}
 use Rattle.std.specs.Prelude.{◌==◌, nat_lt}
 use Rattle.std.specs.List.{AllByRecursion, flat_map}
+use Rattle.csicodec_base.specs.declared.sgr.Sgr.{Sgr}
 use Rattle.csicodec_html.specs.declared.look.Look.{Look}
+use Rattle.csicodec_html.specs.Look.{behind, plain}
 use Rattle.csicodec_overwrite.specs.declared.cells.Cell.{Cell}
 use Rattle.csicodec_overwrite.specs.declared.cells.Cell.TheVariants.{Behind, Char, Empty, Mark}
 use Rattle.csicodec_overwrite.specs.declared.cells.Glyph.{Glyph}
@@ -18,10 +20,10 @@ either : {T : Type 0} (P : T → Type 0) (t : Bool) (x y : T) → P x → P y �
 either P true x y h k = h
 either P false x y h k = k
 
-module _ (P : ℕ → Type 0) where
+module _ (P : ℕ → Type 0) (Q : Look → Type 0) (R : Sgr → Type 0) where
   abbrev pub OfCell : Cell → Type 0
   OfCell Empty = Unit {0}
-  OfCell (Char g) = P g.char
+  OfCell (Char g) = P g.char × Q g.look
   OfCell Behind = Unit {0}
   OfCell (Mark c) = P c
 
@@ -33,6 +35,7 @@ module _ (P : ℕ → Type 0) where
 
   abbrev pub OfStep : Step → Type 0
   OfStep (step.Put c) = P c
+  OfStep (step.Attribute s) = R s
   OfStep s = Unit {0}
 
   both : (xs ys : List Cell) → OfCells xs → OfCells ys → OfCells (xs ++ ys)
@@ -90,56 +93,77 @@ module _ (P : ℕ → Type 0) where
   of_parted l h = either OfLine (begins_behind l.right) (line (emptied l.left (without 1 (outside l.left))) (emptied l.right (outside l.right))) l
       (of_emptied l.left (without 1 (outside l.left)) (of_without 1 (outside l.left) (of_outside l.left h.0)), of_emptied l.right (outside l.right) (of_outside l.right h.1)) h
 
-  of_placed : (g : Glyph) (n : ℕ) (l : Line) → P g.char → OfLine l → OfLine (placed g n l)
+  of_placed : (g : Glyph) (n : ℕ) (l : Line) → OfCell (Char g) → OfLine l → OfLine (placed g n l)
   of_placed g n l p h =
       let k = of_parted l h in
-      either OfLine (n == 0) (line (Mark g.char ∷ l.left) l.right) (line (replicate (n - 1) Behind ++ (Char g ∷ (parted l).left)) (gone n (parted l).right)) ((p, h.0), h.1)
+      either OfLine (n == 0) (line (Mark g.char ∷ l.left) l.right) (line (replicate (n - 1) Behind ++ (Char g ∷ (parted l).left)) (gone n (parted l).right)) ((p.0, h.0), h.1)
       (both (replicate (n - 1) Behind) (Char g ∷ (parted l).left) (behinds (n - 1)) (p, k.0), of_gone n (parted l).right k.1)
 
   -- the cells of a line
-  of_line : (l : Line) → OfLine l → OfCells (cells_of l)
+  pub of_line : (l : Line) → OfLine l → OfCells (cells_of l)
   of_line l h =
       let all = onto l.right l.left in
       moved (trimmed all) [] (of_trimmed all (moved l.right l.left h.1 h.0)) tt
 
-  module _ (tab : P 9) where
+  module _ (tab : P 9) (plain_kept : Q plain) (kept : (l : Look) (s : Sgr) → Q l → R s → Q (behind l s)) where
     abbrev pub OfDone : Done → Type 0
     OfDone d = AllByRecursion OfCells d.lines × OfLine d.line
 
-    of_put : (limit : ℕ) (g : Glyph) (l : Line) → P g.char → OfLine l → OfDone (put limit g l)
+    of_put : (limit : ℕ) (g : Glyph) (l : Line) → OfCell (Char g) → OfLine l → OfDone (put limit g l)
     of_put limit g l p h = either OfDone (fits limit (width g.char (columns l.left)) l) (done [] (placed g (width g.char (columns l.left)) l)) (done (cells_of l ∷ []) (placed g (width g.char 0) blank))
         (tt, of_placed g (width g.char (columns l.left)) l p h) ((of_line l h, tt), of_placed g (width g.char 0) blank p (tt, tt))
 
-    of_does : (limit : ℕ) (look : Look) (s : Step) (l : Line) → OfStep s → OfLine l → OfDone (does limit look s l)
-    of_does limit look (step.Put c) l p h = of_put limit (glyph c look) l p h
-    of_does limit look step.Tab l p h = either OfDone (length l.right == 0) (put limit (glyph 9 look) l) (done [] (forward limit (to_tab_stop (columns l.left)) l)) (of_put limit (glyph 9 look) l tab h)
+    of_does : (limit : ℕ) (look : Look) (s : Step) (l : Line) → Q look → OfStep s → OfLine l → OfDone (does limit look s l)
+    of_does limit look (step.Put c) l q p h = of_put limit (glyph c look) l (p, q) h
+    of_does limit look step.Tab l q p h = either OfDone (length l.right == 0) (put limit (glyph 9 look) l) (done [] (forward limit (to_tab_stop (columns l.left)) l)) (of_put limit (glyph 9 look) l (tab, q) h)
         (tt, of_forward limit (to_tab_stop (columns l.left)) l h)
-    of_does limit look step.NewLine l p h = ((of_line l h, tt), (tt, tt))
-    of_does limit look (step.Right n) l p h = (tt, of_forward limit n l h)
-    of_does limit look (step.Left n) l p h = (tt, of_back n l.left l.right h.0 h.1)
-    of_does limit look (step.Column n) l p h = (tt, of_forward limit (n - 1) (line [] (onto l.left l.right)) (tt, moved l.left l.right h.0 h.1))
-    of_does limit look step.EraseRight l p h = (tt, ((of_parted l h).0, tt))
-    of_does limit look step.EraseLeft l p h = (tt, (empties (columns l.left), of_erased 1 l.right h.1))
-    of_does limit look step.EraseAll l p h = (tt, (empties (columns l.left), tt))
-    of_does limit look (step.Erase n) l p h = let k = of_parted l h in (tt, (k.0, of_erased n (parted l).right k.1))
-    of_does limit look (step.Delete n) l p h = let k = of_parted l h in (tt, (k.0, of_gone n (parted l).right k.1))
-    of_does limit look (step.Insert n) l p h =
+    of_does limit look step.NewLine l q p h = ((of_line l h, tt), (tt, tt))
+    of_does limit look (step.Right n) l q p h = (tt, of_forward limit n l h)
+    of_does limit look (step.Left n) l q p h = (tt, of_back n l.left l.right h.0 h.1)
+    of_does limit look (step.Column n) l q p h = (tt, of_forward limit (n - 1) (line [] (onto l.left l.right)) (tt, moved l.left l.right h.0 h.1))
+    of_does limit look step.EraseRight l q p h = (tt, ((of_parted l h).0, tt))
+    of_does limit look step.EraseLeft l q p h = (tt, (empties (columns l.left), of_erased 1 l.right h.1))
+    of_does limit look step.EraseAll l q p h = (tt, (empties (columns l.left), tt))
+    of_does limit look (step.Erase n) l q p h = let k = of_parted l h in (tt, (k.0, of_erased n (parted l).right k.1))
+    of_does limit look (step.Delete n) l q p h = let k = of_parted l h in (tt, (k.0, of_gone n (parted l).right k.1))
+    of_does limit look (step.Insert n) l q p h =
         let k = of_parted l h in
         let some = min n (limit - size (parted l)) in
         (tt, (k.0, both (replicate some Empty) (parted l).right (empties some) k.1))
-    of_does limit look (step.Attribute s) l p h = (tt, h)
+    of_does limit look (step.Attribute s) l q p h = (tt, h)
+
+    look_kept : (look : Look) (s : Step) → Q look → OfStep s → Q (look_behind look s)
+    look_kept look (step.Put c) q p = q
+    look_kept look step.Tab q p = q
+    look_kept look step.NewLine q p = q
+    look_kept look (step.Right n) q p = q
+    look_kept look (step.Left n) q p = q
+    look_kept look (step.Column n) q p = q
+    look_kept look step.EraseRight q p = q
+    look_kept look step.EraseLeft q p = q
+    look_kept look step.EraseAll q p = q
+    look_kept look (step.Erase n) q p = q
+    look_kept look (step.Delete n) q p = q
+    look_kept look (step.Insert n) q p = q
+    look_kept look (step.Attribute s) q p = kept look s q p
 
     all_both : (xs ys : List (List Cell)) → AllByRecursion OfCells xs → AllByRecursion OfCells ys → AllByRecursion OfCells (xs ++ ys)
     all_both [] ys h k = k
     all_both (x ∷ xs) ys h k = (h.0, all_both xs ys h.1 k)
 
-    of_all : (limit : ℕ) (look : Look) (steps : List Step) (l : Line) → AllByRecursion OfStep steps → OfLine l → OfDone (do_all limit look steps l)
-    of_all limit look [] l p h = (tt, h)
-    of_all limit look (s ∷ steps) l p h =
-        let one = of_does limit look s l p.0 h in
+    of_all : (limit : ℕ) (look : Look) (steps : List Step) (l : Line) → Q look → AllByRecursion OfStep steps → OfLine l → OfDone (do_all limit look steps l)
+    of_all limit look [] l q p h = (tt, h)
+    of_all limit look (s ∷ steps) l q p h =
+        let one = of_does limit look s l q p.0 h in
         let later = do_all limit (look_behind look s) steps (does limit look s l).line in
-        let others = of_all limit (look_behind look s) steps (does limit look s l).line p.1 one.1 in
+        let others = of_all limit (look_behind look s) steps (does limit look s l).line (look_kept look s q p.0) p.1 one.1 in
         (all_both (does limit look s l).lines later.lines one.0 others.0, others.1)
+
+    -- the cells of all that is shown
+    pub of_done : (limit : ℕ) (steps : List Step) → AllByRecursion OfStep steps → AllByRecursion OfCells (do_all limit plain steps blank).lines × OfCells (cells_of (do_all limit plain steps blank).line)
+    of_done limit steps p =
+        let all = of_all limit plain steps blank plain_kept p (tt, tt) in
+        (all.0, of_line (do_all limit plain steps blank).line all.1)
 
     module _ (space : P 32) (newline : P 10) where
       chars_both : (xs ys : List ℕ) → AllByRecursion P xs → AllByRecursion P ys → AllByRecursion P (xs ++ ys)
@@ -148,7 +172,7 @@ module _ (P : ℕ → Type 0) where
 
       of_chars : (x : Cell) → OfCell x → AllByRecursion P (chars_of x)
       of_chars Empty h = (space, tt)
-      of_chars (Char g) h = (h, tt)
+      of_chars (Char g) h = (h.0, tt)
       of_chars Behind h = tt
       of_chars (Mark c) h = (h, tt)
 
@@ -160,8 +184,8 @@ module _ (P : ℕ → Type 0) where
       of_lines [] h = tt
       of_lines (x ∷ xs) h = chars_both (line_chars x) (flat_map line_chars xs) (chars_both (flat_map chars_of x) (10 ∷ []) (of_cells x h.0) (newline, tt)) (of_lines xs h.1)
 
-      pub of_shown : (limit : ℕ) (look : Look) (steps : List Step) → AllByRecursion OfStep steps → AllByRecursion P (chars_by (do_all limit look steps blank))
-      of_shown limit look steps p =
-          let d = do_all limit look steps blank in
-          let all = of_all limit look steps blank p (tt, tt) in
-          chars_both (flat_map line_chars d.lines) (flat_map chars_of (cells_of d.line)) (of_lines d.lines all.0) (of_cells (cells_of d.line) (of_line d.line all.1))
+      pub of_shown : (limit : ℕ) (steps : List Step) → AllByRecursion OfStep steps → AllByRecursion P (chars_by (do_all limit plain steps blank))
+      of_shown limit steps p =
+          let d = do_all limit plain steps blank in
+          let all = of_done limit steps p in
+          chars_both (flat_map line_chars d.lines) (flat_map chars_of (cells_of d.line)) (of_lines d.lines all.0) (of_cells (cells_of d.line) all.1)

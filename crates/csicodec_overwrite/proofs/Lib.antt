@@ -10,4 +10,5 @@ pub mod Kept
 pub mod Plain
 pub mod Once
 pub mod Stays
+pub mod Same
 pub mod Room

@@ -14,29 +14,37 @@ use Rattle.csicodec_actions.specs.declared.cursor.Cursor.{Cursor}
 use Rattle.csicodec_actions.specs.declared.cursor.Cursor.TheVariants as cursor
 use Rattle.csicodec_actions.specs.declared.edit.Edit.{Edit}
 use Rattle.csicodec_actions.specs.declared.edit.Edit.TheVariants as edit
+use Rattle.csicodec_base.specs.declared.sgr.Sgr.{Sgr}
+use Rattle.csicodec_base.specs.declared.sgr.Sgr.TheVariants as sgr
 use Rattle.csicodec_actions.specs.Actions.{Action}
 use Rattle.csicodec_actions.specs.Actions as action
+use Rattle.csicodec_actions.specs.Ranges.{InRange, SgrInRange}
+use Rattle.csicodec.proofs.Kept.{Kept}
+use Rattle.csicodec.proofs.Parsed.{parsed-kept}
 use Rattle.csicodec_spans.specs.declared.table.Kind.{Kind}
 use Rattle.csicodec_spans.specs.declared.table.Kind.TheVariants as kind
 use Rattle.csicodec_spans.specs.Parts.{Part}
 use Rattle.csicodec_clean.specs.Shown.{IsPlain, IsShown, shown}
+use Rattle.csicodec_clean.specs.Styled.{IsOf}
 use Rattle.csicodec_clean.specs.Titles.{with_titles}
 use Rattle.csicodec_clean.proofs.Plain.{scalars_lossy}
-use Rattle.csicodec_html.specs.Look.{plain}
+use Rattle.csicodec_html.specs.declared.look.Look.{Look}
+use Rattle.csicodec_html.specs.Look.{behind, plain}
 use Rattle.csicodec_overwrite.specs.declared.step.Step.{Step}
 use Rattle.csicodec_overwrite.specs.declared.step.Step.TheVariants as step
 use Rattle.csicodec_overwrite.specs.Line.{blank, do_all}
+use Rattle.csicodec_overwrite.specs.Paint.{IsInRange}
 use Rattle.csicodec_overwrite.specs.Steps.{of_action, of_actions, of_char, of_chars, of_cursor, of_display, of_edit, of_part, of_run}
 use Rattle.csicodec_overwrite.specs.Reading.{AreOfParts, IsOfPart, Overwrites, Steps, most}
 use Rattle.csicodec_overwrite.proofs.Kept.{OfStep, of_shown}
 use Rattle.csicodec_overwrite.proofs.Texts.{chars_by, shown_plain}
 
 -- a character that is shown
-abbrev IsGood : ℕ → Type 0
+abbrev pub IsGood : ℕ → Type 0
 IsGood c = IsShown c × (scalar c ≡ true)
 
-abbrev AreGood : List Step → Type 0
-AreGood steps = AllByRecursion (OfStep IsGood) steps
+abbrev pub AreGood : List Step → Type 0
+AreGood steps = AllByRecursion (OfStep IsGood IsInRange SgrInRange) steps
 
 both : (xs ys : List Step) → AreGood xs → AreGood ys → AreGood (xs ++ ys)
 both [] ys h k = k
@@ -93,19 +101,22 @@ edit_good (edit.EraseInLine p) = part_good p
 edit_good (edit.EraseInDisplay p) = display_good p
 edit_good _ = tt
 
-action_good : (a : Action) → AreGood (of_action a)
-action_good (action.Cursor c) = cursor_good c
-action_good (action.Edit e) = edit_good e
-action_good (action.Sgr s) = (tt, tt)
-action_good _ = tt
+action_good : (a : Action) → InRange a → AreGood (of_action a)
+action_good (action.Cursor c) h = cursor_good c
+action_good (action.Edit e) h = edit_good e
+action_good (action.Sgr s) h = (h, tt)
+action_good _ h = tt
 
-actions_good : (actions : List Action) → AreGood (of_actions actions)
-actions_good [] = tt
-actions_good (a ∷ actions) = both (of_action a) (of_actions actions) (action_good a) (actions_good actions)
+actions_good : (actions : List Action) → AllByRecursion (Kept false) actions → AreGood (of_actions actions)
+actions_good [] h = tt
+actions_good (a ∷ actions) h = both (of_action a) (of_actions actions) (action_good a h.0.range) (actions_good actions h.1)
+
+sequence_good : (bytes : List ℕ) (actions : List Action) → IsOf bytes actions → AreGood (of_actions actions)
+sequence_good bytes actions (list, final, is, read) = actions_good actions (parsed-kept list false final actions is.spellable is.ends read)
 
 part_steps : (k : Kind) (run bytes left : List ℕ) (steps : List Step) → IsOfPart k run bytes steps left → AreGood steps
 part_steps kind.Text run bytes left steps h = rw h.0 tt
-part_steps kind.Csi run bytes left steps (actions, of, e, none) = rw e (both (of_run run) (of_actions actions) (run_good run) (actions_good actions))
+part_steps kind.Csi run bytes left steps (actions, of, e, none) = rw e (both (of_run run) (of_actions actions) (run_good run) (sequence_good bytes actions of))
 part_steps kind.Esc run bytes left steps h = rw h.0 (run_good run)
 part_steps kind.Str run bytes left steps h = rw h.0 (run_good run)
 part_steps kind.Other run bytes left steps h = rw h.0 (run_good run)
@@ -114,8 +125,29 @@ parts_good : (run : List ℕ) (ps : List Part) (steps : List Step) (left : List 
 parts_good run [] steps left h = rw h.0 tt
 parts_good run (p ∷ ps) steps left (first, next, others, is, e, rest) = rw e (both first others (part_steps p.kind run p.bytes next first is) (parts_good next ps others left rest))
 
-steps_good : (bytes : List ℕ) (steps : List Step) → Steps bytes steps → AreGood steps
+pub steps_good : (bytes : List ℕ) (steps : List Step) → Steps bytes steps → AreGood steps
 steps_good bytes steps s = rw s.all (both s.before (of_run s.run) (parts_good [] (with_titles false s.parts) s.before s.run s.read) (run_good s.run))
+
+-- ---- nor another look
+
+pub plain_kept : IsInRange plain
+plain_kept = (tt, tt, tt)
+
+pub kept : (l : Look) (s : Sgr) → IsInRange l → SgrInRange s → IsInRange (behind l s)
+kept l sgr.Reset h k = plain_kept
+kept l (sgr.Intensity x) h k = h
+kept l (sgr.Underline x) h k = h
+kept l (sgr.UnderlineColor x) h k = (k, h.1, h.2)
+kept l (sgr.Blink x) h k = h
+kept l (sgr.Italic x) h k = h
+kept l (sgr.Inverse x) h k = h
+kept l (sgr.Invisible x) h k = h
+kept l (sgr.StrikeThrough x) h k = h
+kept l (sgr.Font x) h k = h
+kept l (sgr.Foreground x) h k = (h.0, k, h.2)
+kept l (sgr.Background x) h k = (h.0, h.1, k)
+kept l (sgr.Overline x) h k = h
+kept l (sgr.VerticalAlign x) h k = h
 
 -- ---- and so what is written
 
@@ -130,5 +162,5 @@ all_shown (c ∷ cs) h = (h.0.0, all_shown cs h.1)
 pub overwritten_plain : (bytes text : List ℕ) → Overwrites bytes text → IsPlain text
 overwritten_plain bytes text o =
     let d = do_all most plain o.steps blank in
-    let good = of_shown IsGood (refl, refl) (refl, refl) (refl, refl) most plain o.steps (steps_good bytes o.steps o.read) in
+    let good = of_shown IsGood IsInRange SgrInRange (refl, refl) plain_kept kept (refl, refl) (refl, refl) most o.steps (steps_good bytes o.steps o.read) in
     (chars_by d, scalars (chars_by d) good, all_shown (chars_by d) good, o.all ∙ shown_plain d)

@@ -1,5 +1,5 @@
 -- The sequence of a look is one control sequence, and is read as a reset and its attributes.
-use Rattle.std.proofs.Common.{◌≡◌, ◌≤◌, ◌<◌, ◌+◌, ◌-◌, ◌^◌, ◌⊎◌, ℕ, pos, Bool, true, false, cond, List, [], ◌∷◌, ◌++◌, length, length-append, take, drop, map, inl, inr, ⊎_elim, refl, sym, ap, subst, ◌∙◌, append_assoc, append-nil, arith, rules}
+use Rattle.std.proofs.Common.{◌≡◌, ◌≤◌, ◌<◌, ◌+◌, ◌*◌, ◌-◌, ◌^◌, ◌⊎◌, ℕ, pos, Bool, true, false, cond, List, [], ◌∷◌, ◌++◌, length, length-append, take, drop, map, inl, inr, ⊎_elim, refl, sym, ap, subst, ◌∙◌, append_assoc, append-nil, arith, rules}
 use Rattle.std.specs.Prelude.{◌==◌, codes, nat_lt, not}
 use Rattle.std.specs.Fmt.{decimal}
 use Rattle.std.specs.List.{AllByRecursion, flat_map}
@@ -12,6 +12,7 @@ use Rattle.csicodec_tokens.specs.declared.param.CsiParam.TheVariants.{Integer, P
 use Rattle.csicodec_tokens.specs.Digits.{AreDigits, IsDigit, value, value_after}
 use Rattle.csicodec_tokens.specs.Param.{spells}
 use Rattle.csicodec_tokens.specs.Sequence.{Apart, IsSpellable, Seq, Spellable, Spells}
+use Rattle.csicodec_tokens.proofs.Decimal.{length-decimal_u16}
 use Rattle.csicodec_tokens.proofs.Printed.{printed}
 use Rattle.csicodec_names.specs.declared.color.ColorSpec.{ColorSpec}
 use Rattle.csicodec_names.specs.declared.color.ColorSpec.TheVariants as color
@@ -68,65 +69,77 @@ number_codes n h = let small : n < 2 ^ 64 = omega (arith, h) in digit_codes (dec
 some_digits : (n : ℕ) → n < 1000 → 0 < length (decimal n)
 some_digits n h = let small : n < 2 ^ 64 = omega (arith, h) in decimal_nonempty n small
 
--- ---- the text of an attribute: such bytes, and then the final byte
+few_digits : (n : ℕ) → n < 1000 → length (decimal n) ≤ 5
+few_digits n h = length-decimal_u16 n (omega (arith, h))
 
-abbrev IsCoded : List ℕ → Type 0
-IsCoded text = (body : List ℕ) × (text ≡ body ++ 109 ∷ []) × AreCodes body × (0 < length body)
+-- ---- the text of an attribute: such bytes, so many at most, and then the final byte
 
-coded_by : (t : Bool) (x y : List ℕ) → IsCoded x → IsCoded y → IsCoded (cond t x y)
-coded_by true x y h k = h
-coded_by false x y h k = k
+abbrev IsCoded : ℕ → List ℕ → Type 0
+IsCoded most text = (body : List ℕ) × (text ≡ body ++ 109 ∷ []) × AreCodes body × (0 < length body) × (length body ≤ most)
 
-number_coded : (n : ℕ) → n < 1000 → IsCoded (decimal n ++ codes "m")
-number_coded n h = (decimal n, refl, number_codes n h, some_digits n h)
+wider : (k n : ℕ) (text : List ℕ) → k ≤ n → IsCoded k text → IsCoded n text
+wider k n text h (body, is, codes, some, few) = (body, is, codes, some, omega (arith, h, few))
 
-then_coded : (n : ℕ) (mark rest : List ℕ) → n < 1000 → AreCodes mark → IsCoded rest → IsCoded (decimal n ++ (mark ++ rest))
-then_coded n mark rest h m (body, is, k, some) = (
+coded_by : (k : ℕ) (t : Bool) (x y : List ℕ) → IsCoded k x → IsCoded k y → IsCoded k (cond t x y)
+coded_by k true x y h i = h
+coded_by k false x y h i = i
+
+number_coded : (n : ℕ) → n < 1000 → IsCoded 5 (decimal n ++ codes "m")
+number_coded n h = (decimal n, refl, number_codes n h, some_digits n h, few_digits n h)
+
+then_coded : (n most : ℕ) (mark rest : List ℕ) → n < 1000 → AreCodes mark → IsCoded most rest → IsCoded (5 + (length mark + most)) (decimal n ++ (mark ++ rest))
+then_coded n most mark rest h m (body, is, k, some, few) = (
   decimal n ++ (mark ++ body),
   ap (λ (t : List ℕ). decimal n ++ (mark ++ t)) is ∙ ap (λ (t : List ℕ). decimal n ++ t) (sym (append_assoc mark body (109 ∷ []))) ∙ sym (append_assoc (decimal n) (mark ++ body) (109 ∷ [])),
   codes_both (decimal n) (mark ++ body) (number_codes n h) (codes_both mark body m k),
   omega (arith, length-append (decimal n) (mark ++ body), some_digits n h),
+  omega (arith, length-append (decimal n) (mark ++ body), length-append mark body, few_digits n h, few),
 )
 
 five : AreCodes (codes ":5:")
 five = (inr refl, (inl (omega arith, omega arith), (inr refl, tt)))
 
-palette_coded : (first i : ℕ) → first < 100 → i < 256 → IsCoded (palette_text first i)
+palette_coded : (first i : ℕ) → first < 100 → i < 256 → IsCoded 60 (palette_text first i)
 palette_coded first i f h =
     let named = decimal (first + 8) ++ (codes ":5:" ++ (decimal i ++ codes "m")) in
     let bright = decimal (i + first + 52) ++ codes "m" in
-    coded_by (nat_lt i 8) (decimal (i + first) ++ codes "m") (cond (nat_lt i 16) bright named) (number_coded (i + first) (omega (arith, f, h)))
-    (coded_by (nat_lt i 16) bright named (number_coded (i + first + 52) (omega (arith, f, h))) (then_coded (first + 8) (codes ":5:") (decimal i ++ codes "m") (omega (arith, f)) five (number_coded i (omega (arith, h)))))
+    let dark = decimal (i + first) ++ codes "m" in
+    coded_by 60 (nat_lt i 8) dark (cond (nat_lt i 16) bright named) (wider 5 60 dark (omega arith) (number_coded (i + first) (omega (arith, f, h))))
+    (coded_by 60 (nat_lt i 16) bright named (wider 5 60 bright (omega arith) (number_coded (i + first + 52) (omega (arith, f, h))))
+    (wider 13 60 named (omega arith) (then_coded (first + 8) 5 (codes ":5:") (decimal i ++ codes "m") (omega (arith, f)) five (number_coded i (omega (arith, h))))))
 
 colon : AreCodes (codes ":")
 colon = (inr refl, tt)
 
-color_coded : (code : ℕ) (c : SrgbaTuple) → code < 100 → ColorInRange (color.TrueColor c) → IsCoded (true_color_text code c)
+color_coded : (code : ℕ) (c : SrgbaTuple) → code < 100 → ColorInRange (color.TrueColor c) → IsCoded 60 (true_color_text code c)
 color_coded code c f (r, g, b, a) =
     let blue = decimal c.2 ++ codes "m" in
     let alpha = decimal c.2 ++ (codes ":" ++ (decimal c.3 ++ codes "m")) in
-    let opaque = then_coded c.0 (codes ":") (decimal c.1 ++ (codes ":" ++ blue)) (omega (arith, r)) colon (then_coded c.1 (codes ":") blue (omega (arith, g)) colon (number_coded c.2 (omega (arith, b)))) in
-    let clear = then_coded c.0 (codes ":") (decimal c.1 ++ (codes ":" ++ alpha)) (omega (arith, r)) colon
-    (then_coded c.1 (codes ":") alpha (omega (arith, g)) colon (then_coded c.2 (codes ":") (decimal c.3 ++ codes "m") (omega (arith, b)) colon (number_coded c.3 (omega (arith, a))))) in
-    coded_by (c.3 == 255) (decimal code ++ (codes ":2::" ++ (decimal c.0 ++ (codes ":" ++ (decimal c.1 ++ (codes ":" ++ blue))))))
-    (decimal code ++ (codes ":6::" ++ (decimal c.0 ++ (codes ":" ++ (decimal c.1 ++ (codes ":" ++ alpha))))))
-    (then_coded code (codes ":2::") (decimal c.0 ++ (codes ":" ++ (decimal c.1 ++ (codes ":" ++ blue)))) (omega (arith, f)) (inr refl, (inl (omega arith, omega arith), (inr refl, (inr refl, tt)))) opaque)
-    (then_coded code (codes ":6::") (decimal c.0 ++ (codes ":" ++ (decimal c.1 ++ (codes ":" ++ alpha)))) (omega (arith, f)) (inr refl, (inl (omega arith, omega arith), (inr refl, (inr refl, tt)))) clear)
+    let opaque = decimal c.0 ++ (codes ":" ++ (decimal c.1 ++ (codes ":" ++ blue))) in
+    let clear = decimal c.0 ++ (codes ":" ++ (decimal c.1 ++ (codes ":" ++ alpha))) in
+    let three : IsCoded 17 opaque = then_coded c.0 11 (codes ":") (decimal c.1 ++ (codes ":" ++ blue)) (omega (arith, r)) colon (then_coded c.1 5 (codes ":") blue (omega (arith, g)) colon (number_coded c.2 (omega (arith, b)))) in
+    let four : IsCoded 23 clear = then_coded c.0 17 (codes ":") (decimal c.1 ++ (codes ":" ++ alpha)) (omega (arith, r)) colon
+    (then_coded c.1 11 (codes ":") alpha (omega (arith, g)) colon (then_coded c.2 5 (codes ":") (decimal c.3 ++ codes "m") (omega (arith, b)) colon (number_coded c.3 (omega (arith, a))))) in
+    let first = decimal code ++ (codes ":2::" ++ opaque) in
+    let other = decimal code ++ (codes ":6::" ++ clear) in
+    coded_by 60 (c.3 == 255) first other
+    (wider 26 60 first (omega arith) (then_coded code 17 (codes ":2::") opaque (omega (arith, f)) (inr refl, (inl (omega arith, omega arith), (inr refl, (inr refl, tt)))) three))
+    (wider 32 60 other (omega arith) (then_coded code 23 (codes ":6::") clear (omega (arith, f)) (inr refl, (inl (omega arith, omega arith), (inr refl, (inr refl, tt)))) four))
 
-one_digit : (b : ℕ) → IsDigit b → IsCoded (b ∷ 109 ∷ [])
-one_digit b h = (b ∷ [], refl, (inl h, tt), omega arith)
+one_digit : (b : ℕ) → IsDigit b → IsCoded 60 (b ∷ 109 ∷ [])
+one_digit b h = (b ∷ [], refl, (inl h, tt), omega arith, omega arith)
 
-two_digits : (a b : ℕ) → IsDigit a → IsDigit b → IsCoded (a ∷ b ∷ 109 ∷ [])
-two_digits a b h k = (a ∷ b ∷ [], refl, (inl h, (inl k, tt)), omega arith)
+two_digits : (a b : ℕ) → IsDigit a → IsDigit b → IsCoded 60 (a ∷ b ∷ 109 ∷ [])
+two_digits a b h k = (a ∷ b ∷ [], refl, (inl h, (inl k, tt)), omega arith, omega arith)
 
-line_of : (b : ℕ) → IsDigit b → IsCoded (52 ∷ 58 ∷ b ∷ 109 ∷ [])
-line_of b h = (52 ∷ 58 ∷ b ∷ [], refl, (inl (omega arith, omega arith), (inr refl, (inl h, tt))), omega arith)
+line_of : (b : ℕ) → IsDigit b → IsCoded 60 (52 ∷ 58 ∷ b ∷ 109 ∷ [])
+line_of b h = (52 ∷ 58 ∷ b ∷ [], refl, (inl (omega arith, omega arith), (inr refl, (inl h, tt))), omega arith, omega arith)
 
 -- an attribute that stands in a sequence
 record IsSpelled (s : Sgr) : Type 0 where
   range : SgrInRange s
   canonical : IsCanonicalSgr s
-  coded : IsCoded (sgr_text s)
+  coded : IsCoded 60 (sgr_text s)
 
 reset_spelled : IsSpelled sgr.Reset
 reset_spelled = record { range = tt; canonical = tt; coded = one_digit 48 (omega arith, omega arith) }
@@ -151,12 +164,13 @@ line_spelled : (x : ColorSpec) → ColorInRange x → IsSpelled (sgr.UnderlineCo
 line_spelled color.Default h = record { range = tt; canonical = tt; coded = two_digits 53 57 (omega arith, omega arith) (omega arith, omega arith) }
 line_spelled (color.PaletteIndex i) h = record { range = h; canonical = tt; coded = number h }
   where
-    number : i < 256 → IsCoded (codes "58:5:" ++ (decimal i ++ codes "m"))
+    number : i < 256 → IsCoded 60 (codes "58:5:" ++ (decimal i ++ codes "m"))
     number fits = (
       codes "58:5:" ++ decimal i,
       sym (append_assoc (codes "58:5:") (decimal i) (109 ∷ [])),
       codes_both (codes "58:5:") (decimal i) (inl (omega arith, omega arith), (inl (omega arith, omega arith), five)) (number_codes i (omega (arith, fits))),
       omega (arith, length-append (codes "58:5:") (decimal i)),
+      omega (arith, length-append (codes "58:5:") (decimal i), few_digits i (omega (arith, fits))),
     )
 line_spelled (color.TrueColor c) h = record { range = h; canonical = tt; coded = color_coded 58 c (omega arith) h }
 
@@ -300,7 +314,7 @@ taken body =
 
 one_open : (s : Sgr) → IsSpelled s → Open (take (length (sgr_text s) - 1) (sgr_text s)) (s ∷ [])
 one_open s h =
-    let (body, is, codes, some) = h.coded in
+    let (body, is, codes, some, few) = h.coded in
     let sp = sgr-spelling false s h.range h.canonical in
     let ends = same_ends body (spells sp.list) 109 sp.final (sym is ∙ ap (drop 2) sp.written) in
     let mine : take (length (sgr_text s) - 1) (sgr_text s) ≡ body = ap (λ (t : List ℕ). take (length t - 1) t) is ∙ taken body in
@@ -342,3 +356,37 @@ unfolding look_text
 look_of_one l h =
     let o = all_open (attributes l) (48 ∷ []) (sgr.Reset ∷ []) (one_open sgr.Reset reset_spelled) (all_spelled l h) in
     (o.list, 109, record { spellable = o.spellable; ends = (omega arith, omega arith); body = 48 ∷ flat_map further (attributes l); spelled = o.spelled; whole = refl }, o.means)
+
+-- ---- and short
+
+given_few : (t : Bool) (s : Sgr) → length (given t s) ≤ 1
+given_few true s = omega arith
+given_few false s = omega arith
+
+more_few : (t : Bool) (s : Sgr) (rest : List Sgr) (n : ℕ) → length rest ≤ n → length (given t s ++ rest) ≤ n + 1
+more_few t s rest n h = omega (arith, length-append (given t s) rest, given_few t s, h)
+
+few_attributes : (l : Look) → length (attributes l) ≤ 9
+few_attributes l =
+    more_few (not (is_normal l.intensity)) (sgr.Intensity l.intensity) _ 8
+    (more_few l.italic (sgr.Italic true) _ 7
+    (more_few (not (is_none l.underline)) (sgr.Underline l.underline) _ 6
+    (more_few (not (is_default l.line)) (sgr.UnderlineColor l.line) _ 5
+    (more_few l.overline (sgr.Overline true) _ 4
+    (more_few l.strike (sgr.StrikeThrough true) _ 3
+    (more_few l.inverse (sgr.Inverse true) _ 2
+    (more_few (not (is_default l.foreground)) (sgr.Foreground l.foreground) _ 1 (given_few (not (is_default l.background)) (sgr.Background l.background)))))))))
+
+further_short : (s : Sgr) → IsSpelled s → length (further s) ≤ 61
+further_short s h =
+    let (body, is, codes, some, few) = h.coded in
+    let mine : take (length (sgr_text s) - 1) (sgr_text s) ≡ body = ap (λ (t : List ℕ). take (length t - 1) t) is ∙ taken body in
+    omega (arith, ap length mine, few)
+
+all_short : (styles : List Sgr) → AreSpelled styles → length (flat_map further styles) ≤ 61 * length styles
+all_short [] h = omega arith
+all_short (s ∷ styles) h = omega (arith, length-append (further s) (flat_map further styles), further_short s h.0, all_short styles h.1)
+
+pub look_short : (l : Look) → IsInRange l → length (look_text l) ≤ 1000
+unfolding look_text
+look_short l h = omega (arith, length-append (flat_map further (attributes l)) (109 ∷ []), all_short (attributes l) (all_spelled l h), few_attributes l)

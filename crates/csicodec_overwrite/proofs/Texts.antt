@@ -25,7 +25,7 @@ line_chars cells = flat_map chars_of cells ++ 10 ∷ []
 abbrev pub chars_by : Done → List ℕ
 chars_by d = flat_map line_chars d.lines ++ flat_map chars_of (cells_of d.line)
 
-newline : encode_utf8_all (10 ∷ []) ≡ 10 ∷ []
+pub newline : encode_utf8_all (10 ∷ []) ≡ 10 ∷ []
 unfolding lib.Utf8.encode
 newline = refl
 

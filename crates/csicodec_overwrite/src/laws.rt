@@ -1,6 +1,7 @@
 //! Laws of the definitions. Each is the contract of a function that does nothing.
 ghost use Rattle.std.specs.Prelude.{◌≡◌, ◌≤◌, ℕ, Bool, List};
 ghost use Rattle.csicodec_actions.specs.Actions.{Action};
+ghost use Rattle.csicodec_clean.specs.Cleaned.{Strips, longest};
 ghost use Rattle.csicodec_clean.specs.Shown.{IsPlain};
 ghost use Rattle.csicodec_clean.specs.Styled.{IsOf};
 ghost use Rattle.csicodec_html.specs.declared.look.Look.{Look};
@@ -8,7 +9,7 @@ ghost use Rattle.csicodec_html.specs.Look.{behind_all};
 ghost use Rattle.csicodec_overwrite.specs.declared.step.Step.{Step};
 ghost use Rattle.csicodec_overwrite.specs.Line.{HasRoom, blank, do_all, size};
 ghost use Rattle.csicodec_overwrite.specs.Paint.{IsInRange, look_text};
-ghost use Rattle.csicodec_overwrite.specs.Reading.{Overwrites, Shows, most};
+ghost use Rattle.csicodec_overwrite.specs.Reading.{Overwrites, Paints, Shows, most};
 ghost use Rattle.csicodec_overwrite.specs.Stream.{AnyChunks};
 
 /// What is written has no control but newlines and tabs, as what `strip` writes.
@@ -31,6 +32,12 @@ pub fn any_chunks()
 pub fn one_text()
     ensures { (painted : Bool) (bytes text other : List ℕ) → Shows painted bytes text
         → Shows painted bytes other → text ≡ other }
+{}
+
+/// What is painted is the plain text, with sequences that `strip` drops.
+pub fn same_text()
+    ensures { (bytes painted text : List ℕ) → Paints bytes painted → Overwrites bytes text
+        → Strips longest painted text }
 {}
 
 /// The sequence of a look is one control sequence, and what it sets, whatever was set before, is that look.

@@ -1,0 +1,5 @@
+use Rattle.csicodec_overwrite.proofs.Same.{same_text}
+use Rattle.csicodec_overwrite.proofs.laws.same_text.Goals as goal
+
+pub returns : goal.returns
+returns c = same_text

@@ -38,6 +38,9 @@ pub(crate) fn command(alloc: Global, line: &str) -> Result<String, AllocError> {
                 let decode = wanted.decode;
                 return format!(in alloc; "{color:?} {timing} {decode}");
             }
+            if run.overwrite {
+                return format!(in alloc; "{task:?} {files:?} overwritten");
+            }
             if run.classes {
                 return format!(in alloc; "{task:?} {files:?} in classes");
             }

@@ -55,6 +55,7 @@ fn told(alloc: Global, row: &str) -> Result<String, AllocError> {
         "lines" => untrusted::lines(alloc, rest),
         "link" => untrusted::link(alloc, rest),
         "overwrite" => overwrite::overwrite(alloc, rest),
+        "painted" => overwrite::painted(alloc, rest),
         "crowded" => overwrite::crowded(alloc, rest),
         "check" => untrusted::check(alloc, rest),
         "html" => untrusted::html(alloc, rest),

@@ -2,12 +2,12 @@
 
 use crate::spelling::{bytes_of, law, spelled};
 use csicodec_clean::strip;
-use csicodec_overwrite::{Overwriter, overwrite_all};
+use csicodec_html::{Markup, html};
+use csicodec_overwrite::{Overwriter, html_overwritten_all, overwrite_all};
 use std::alloc::{AllocError, Global};
 
 /// What is written of bytes that come one by one.
-fn byte_by_byte(alloc: Global, bytes: &[u8]) -> Result<Vec<u8>, AllocError> {
-    let mut lines = Overwriter::new(alloc);
+fn byte_by_byte(alloc: Global, mut lines: Overwriter, bytes: &[u8]) -> Result<Vec<u8>, AllocError> {
     let mut out = Vec::new(alloc);
     for byte in bytes.iter() {
         lines.push(&[*byte], &mut out)?;
@@ -22,10 +22,24 @@ pub(crate) fn overwrite(alloc: Global, word: &str) -> Result<String, AllocError>
     let mut written: Vec<u8> = Vec::new(alloc);
     let all = overwrite_all(alloc, &mut bytes.as_slice(), &mut written);
     let holds = all.is_ok()
-        && byte_by_byte(alloc, &bytes)? == written
+        && byte_by_byte(alloc, Overwriter::new(alloc), &bytes)? == written
         && strip(alloc, &written)? == written;
     let (text, end) = (spelled(alloc, &written)?, law(holds));
     format!(in alloc; "{text}{end}")
+}
+
+/// `painted BYTES`: the same with how it looks, and as a page. Without its sequences it is the same text, and the page is its.
+pub(crate) fn painted(alloc: Global, word: &str) -> Result<String, AllocError> {
+    let bytes = bytes_of(alloc, word)?;
+    let (mut plain, mut page): (Vec<u8>, Vec<u8>) = (Vec::new(alloc), Vec::new(alloc));
+    let markup = Markup::default();
+    let all = overwrite_all(alloc, &mut bytes.as_slice(), &mut plain).is_ok()
+        && html_overwritten_all(alloc, markup, &mut bytes.as_slice(), &mut page).is_ok();
+    let painted = byte_by_byte(alloc, Overwriter::painting(alloc), &bytes)?;
+    let holds = all && strip(alloc, &painted)? == plain && html(alloc, &painted)? == page;
+    let (painted, page) = (spelled(alloc, &painted)?, spelled(alloc, &page)?);
+    let end = law(holds);
+    format!(in alloc; "{painted}\t{page}{end}")
 }
 
 /// `crowded COUNT TEXT`: of a text so many times, without a newline, how many bytes the first line has.

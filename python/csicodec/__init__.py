@@ -13,4 +13,4 @@ from .program import explain
 from .text import Cleaner, Filter, clean, compact, filter, normalise, strip
 from .values import Action, Color, DefaultColor, KittyKeyboardFlags, Modifiers, PaletteColor, Token, TrueColor
 
-__version__ = "1.7.0"
+__version__ = "1.8.0"

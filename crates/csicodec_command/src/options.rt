@@ -169,4 +169,4 @@ of more than 16 MiB.
   -h, --help     this text";
 
 /// The program's name and version.
-pub const VERSION: &str = "csicodec 1.7.0";
+pub const VERSION: &str = "csicodec 1.8.0";

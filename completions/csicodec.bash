@@ -23,7 +23,7 @@ _csicodec() {
         compact) of="--semicolons --help" ;;
         strip) of="--check --lines --overwrite --help" ;;
         clean) of="--colors --lines --links --help" ;;
-        html) of="--classes --fragment --links --overwrite --palette --help" ;;
+        html) of="--classes --fragment --links --no-overwrite --overwrite --palette --help" ;;
         explain) of="--at --color --count --decode --diff --full --grep --input --json --only --stats --timing --unknown --utf8-mouse --help" ;;
         assemble) of="--help" ;;
         help) COMPREPLY=($(compgen -W "filter compact strip clean html explain assemble" -- "$word")); return ;;

@@ -16,7 +16,7 @@ pub(crate) static TASKS: [(&str, Task, &str); 7] = [
 
 /// The options: how each stands in a command line, the words that have it, none where all have, and which values it has, none
 /// where it has no value.
-pub(crate) static OPTIONS: [(&str, &str, &str); 26] = [
+pub(crate) static OPTIONS: [(&str, &str, &str); 27] = [
     ("--at", "explain", "places, as 120, 120-180 or 120-"),
     ("--check", "strip", ""),
     ("--classes", "html", ""),
@@ -34,6 +34,7 @@ pub(crate) static OPTIONS: [(&str, &str, &str); 26] = [
     ("--json", "explain", ""),
     ("--lines", "strip clean", ""),
     ("--links", "clean html", ""),
+    ("--no-overwrite", "html", ""),
     ("--only", "explain", "names, as SGR,CUP"),
     ("--overwrite", "strip html", ""),
     (
@@ -120,14 +121,15 @@ in the colour of its background stays so.
 pub const HTML: &str = "\
 usage: csicodec html [OPTION ..] [FILE ..]
 
-Writes the text of each FILE, or of standard input where there is none or it is -, as a page of HTML: what strip leaves, escaped,
-and colours and styles as spans. Nothing of the input gets into a tag, but addresses with --links. Of a FILE whose name ends in
-.cast it is what its programs wrote.
+Writes each FILE, or standard input where there is none or it is -, as a page of HTML: each line as a terminal would show it at its
+end, escaped, and colours and styles as spans. Nothing of the input gets into a tag, but addresses with --links. Of a FILE whose
+name ends in .cast it is what its programs wrote.
 
   --classes          classes in place of styles, as bold, underline-curly, fg-1 and bg-255, and a style sheet, but for a piece
   --fragment         a piece for a page of one's own, where it stands in a pre
-  --links            links too (OSC 8) whose address is of http or https, and visible ASCII of at most 2,083 bytes
-  --overwrite        each line as a terminal would show it at its end, as of progress bars; not with --links
+  --links            --no-overwrite, and links (OSC 8) whose address is of http or https, and visible ASCII of at most 2,083 bytes
+  --no-overwrite     all text, live, also what a line overwrites or erases: most of what a program writes that draws a screen
+  --overwrite        each line as a terminal would show it at its end, as if left out; not with --links or --no-overwrite
   --palette COLOURS  colours 0 to 15 as #rrggbb, with commas between, in place of xterm's; two more: the page's text and background
   -h, --help         this text";
 

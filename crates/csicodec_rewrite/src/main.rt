@@ -96,7 +96,7 @@ impl Work {
                 semicolons: run.semicolons,
             },
             Task::Strip if run.check => Work::Check,
-            Task::Strip if run.overwrite => Work::Overwrite,
+            Task::Strip if run.overwrites() => Work::Overwrite,
             Task::Strip => Work::Strip { lines: run.lines },
             Task::Clean => {
                 let (depth, links) = (depth_of(run.depth), run.links);
@@ -107,7 +107,7 @@ impl Work {
             }
             Task::Html => Work::Html {
                 markup: markup_of(alloc, run)?,
-                overwrite: run.overwrite,
+                overwrite: run.overwrites(),
                 fragment: run.fragment,
                 begun: false,
             },

@@ -38,9 +38,6 @@ pub(crate) fn command(alloc: Global, line: &str) -> Result<String, AllocError> {
                 let decode = wanted.decode;
                 return format!(in alloc; "{color:?} {timing} {decode}");
             }
-            if run.overwrite {
-                return format!(in alloc; "{task:?} {files:?} overwritten");
-            }
             if run.classes {
                 return format!(in alloc; "{task:?} {files:?} in classes");
             }
@@ -50,6 +47,9 @@ pub(crate) fn command(alloc: Global, line: &str) -> Result<String, AllocError> {
             }
             if run.fragment {
                 return format!(in alloc; "{task:?} {files:?} as a piece");
+            }
+            if run.overwrites() {
+                return format!(in alloc; "{task:?} {files:?} overwritten");
             }
             if wanted.stats || wanted.diff || wanted.at.is_some() || wanted.grep.is_some() {
                 let (stats, diff, at) = (wanted.stats, wanted.diff, wanted.at);

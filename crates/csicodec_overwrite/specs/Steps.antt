@@ -1,5 +1,5 @@
 -- What each character and each action does in a line. All others do nothing there.
-use Rattle.std.specs.Prelude.{ℕ, ◌==◌, List, [], ◌∷◌, if◌then◌else◌}
+use Rattle.std.specs.Prelude.{ℕ, ◌==◌, min, List, [], ◌∷◌, if◌then◌else◌}
 use Rattle.std.specs.List.{flat_map}
 use Rattle.bstr.specs.Utf8.{lossy_chars}
 use Rattle.csicodec_names.specs.declared.enums.EraseInDisplay.{EraseInDisplay}
@@ -22,16 +22,20 @@ of_char c = if c == 10 then step.NewLine ∷ [] else if c == 13 then step.Column
     else if c == 8 then step.Left 1 ∷ [] else if c == 9 then step.Tab ∷ []
     else if shown c then step.Put c ∷ [] else []
 
+-- a count or a column goes no further than the widest terminal: so a few bytes make no long line
+abbrev pub as_far : ℕ → ℕ
+as_far n = min n 1024
+
 -- CUF (8.3.20), CUB (8.3.18), CHA (8.3.9), HPA (8.3.57), HPR (8.3.59), HPB (8.3.58), and of CUP (8.3.21) and HVP (8.3.63) the column
 abbrev pub of_cursor : Cursor → List Step
-of_cursor (cursor.Right n) = step.Right n ∷ []
-of_cursor (cursor.Left n) = step.Left n ∷ []
-of_cursor (cursor.CharacterAbsolute col) = step.Column col ∷ []
-of_cursor (cursor.CharacterPositionAbsolute col) = step.Column col ∷ []
-of_cursor (cursor.CharacterPositionForward n) = step.Right n ∷ []
-of_cursor (cursor.CharacterPositionBackward n) = step.Left n ∷ []
-of_cursor (cursor.Position row col) = step.Column col ∷ []
-of_cursor (cursor.CharacterAndLinePosition row col) = step.Column col ∷ []
+of_cursor (cursor.Right n) = step.Right (as_far n) ∷ []
+of_cursor (cursor.Left n) = step.Left (as_far n) ∷ []
+of_cursor (cursor.CharacterAbsolute col) = step.Column (as_far col) ∷ []
+of_cursor (cursor.CharacterPositionAbsolute col) = step.Column (as_far col) ∷ []
+of_cursor (cursor.CharacterPositionForward n) = step.Right (as_far n) ∷ []
+of_cursor (cursor.CharacterPositionBackward n) = step.Left (as_far n) ∷ []
+of_cursor (cursor.Position row col) = step.Column (as_far col) ∷ []
+of_cursor (cursor.CharacterAndLinePosition row col) = step.Column (as_far col) ∷ []
 of_cursor _ = []
 
 -- EL (8.3.41)
@@ -47,9 +51,9 @@ of_display _ = []
 
 -- ECH (8.3.38), DCH (8.3.26), ICH (8.3.64), EL and ED
 abbrev pub of_edit : Edit → List Step
-of_edit (edit.EraseCharacter n) = step.Erase n ∷ []
-of_edit (edit.DeleteCharacter n) = step.Delete n ∷ []
-of_edit (edit.InsertCharacter n) = step.Insert n ∷ []
+of_edit (edit.EraseCharacter n) = step.Erase (as_far n) ∷ []
+of_edit (edit.DeleteCharacter n) = step.Delete (as_far n) ∷ []
+of_edit (edit.InsertCharacter n) = step.Insert (as_far n) ∷ []
 of_edit (edit.EraseInLine p) = of_part p
 of_edit (edit.EraseInDisplay p) = of_display p
 of_edit _ = []

@@ -3,13 +3,23 @@ ghost use Rattle.std.specs.Prelude.{◌≡◌, ◌<◌, ◌≤◌, ◌++◌, ◌
 ghost use Rattle.csicodec_parser.specs.ActionOf.{action_of};
 ghost use Rattle.csicodec_clean.specs.Private.Steps.{IsCut};
 ghost use Rattle.csicodec_clean.specs.Shown.{IsRead};
-ghost use Rattle.csicodec_overwrite.specs.Steps.{of_action, of_actions, of_char, of_chars, of_cursor, of_edit, of_run};
+ghost use Rattle.csicodec_overwrite.specs.Steps.{as_far, of_action, of_actions, of_char, of_chars, of_cursor, of_edit, of_run};
 
 use crate::step::Step;
 use bstr::decode_utf8;
 use csicodec::{CSI, Cursor, Edit, EraseInDisplay, EraseInLine};
 use csicodec_streams::keep_from;
 use std::alloc::AllocError;
+
+/// The most columns that a movement or an edit goes: no terminal is wider.
+const WIDEST: u32 = 1024;
+
+/// A count or a column, as far as it goes.
+fn as_far(count: u32) -> u32
+    ensures { result ≡ as_far count }
+{
+    count.min(WIDEST)
+}
 
 /// Appends what the character does.
 fn append_char(char: char, steps: &mut Vec<Step>) -> Result<(), AllocError>
@@ -32,16 +42,16 @@ fn append_cursor(cursor: &Cursor, steps: &mut Vec<Step>) -> Result<(), AllocErro
 {
     match cursor {
         Cursor::Right(count) | Cursor::CharacterPositionForward(count) => {
-            steps.push(Step::Right(*count))?;
+            steps.push(Step::Right(as_far(*count)))?;
         }
         Cursor::Left(count) | Cursor::CharacterPositionBackward(count) => {
-            steps.push(Step::Left(*count))?;
+            steps.push(Step::Left(as_far(*count)))?;
         }
         Cursor::CharacterAbsolute(col)
         | Cursor::CharacterPositionAbsolute(col)
         | Cursor::Position { col, .. }
         | Cursor::CharacterAndLinePosition { col, .. } => {
-            steps.push(Step::Column(col.as_one_based()))?;
+            steps.push(Step::Column(as_far(col.as_one_based())))?;
         }
         _ => {}
     }
@@ -53,9 +63,9 @@ fn append_edit(edit: &Edit, steps: &mut Vec<Step>) -> Result<(), AllocError>
     ensures { OnOk result (steps.new.items ≡ steps.old.items ++ of_edit edit.now) }
 {
     match edit {
-        Edit::EraseCharacter(count) => steps.push(Step::Erase(*count))?,
-        Edit::DeleteCharacter(count) => steps.push(Step::Delete(*count))?,
-        Edit::InsertCharacter(count) => steps.push(Step::Insert(*count))?,
+        Edit::EraseCharacter(count) => steps.push(Step::Erase(as_far(*count)))?,
+        Edit::DeleteCharacter(count) => steps.push(Step::Delete(as_far(*count)))?,
+        Edit::InsertCharacter(count) => steps.push(Step::Insert(as_far(*count)))?,
         Edit::EraseInLine(EraseInLine::EraseToEndOfLine)
         | Edit::EraseInDisplay(EraseInDisplay::EraseToEndOfDisplay) => {
             steps.push(Step::EraseRight)?;
@@ -86,7 +96,7 @@ fn append_action(action: &CSI, steps: &mut Vec<Step>) -> Result<(), AllocError>
     }
 }
 
-/// The same of each of the actions in turn.
+/// Appends what actions do, one after the other.
 pub(crate) fn append_actions(actions: &[CSI], steps: &mut Vec<Step>) -> Result<(), AllocError>
     ensures { OnOk result
         (steps.new.items ≡ steps.old.items ++ of_actions (map action_of actions.now)) }

@@ -2,13 +2,19 @@
 import re
 
 from kinds_known import GONE, GONE_MEANING, known
-from kinds_library import BY_NUMBER, IN_TURN, declared, has_tokens, is_boxed, low, numbers_of, of, span, type_of
+from kinds_library import BY_NUMBER, IN_TURN, declared, has_tokens, is_boxed, low, numbers_of, of, type_of
 from kinds_source import source_name
 from kinds_specs import names_in
 from kinds_table import PATH
 
 # What has a variant more in no later version; the others grow as terminals do.
 CLOSED = {"Font", "ColorSpec", "CsiParam", "DecPrivateMode", "TerminalMode", "DeviceAttribute", "Esc"}
+
+# What has its tag in a byte of its own, where an event has its tag too.
+TAGGED = {"CSI"}
+
+# The groups whose actions are made where they are asked for.
+OFTEN = ["Sgr", "Cursor", "Edit"]
 
 
 def said(body):
@@ -26,7 +32,7 @@ def rust_types(subject, sources):
         out += f"\nuse crate::{{{', '.join(sorted(others))}}};\n"
     for name, docs, derives, body in declared(sources):
         derives = "Clone, Debug, PartialEq, Eq, Hash" if "Drop" in derives else "Clone, Copy, Debug, PartialEq, Eq, Hash"
-        growing = "" if name in CLOSED else "#[non_exhaustive]\n"
+        growing = ("" if name in CLOSED else "#[non_exhaustive]\n") + ("#[repr(u8)]\n" if name in TAGGED else "")
         out += f"\n{docs}#[derive({derives})]\n{growing}pub enum {name} {{\n{body}}}\n"
         rows_ = numbers_of(name, body)
         if not rows_:
@@ -67,32 +73,39 @@ def rust_to(number, group, variant, form, names):
 def rust_of(number, group, variant, form, names):
     name, tail = source_name(group, variant)
     a, b = names_in(names)
+    if form == "color":
+        return f"{number} => color(given, |color| of({name}(color))),\n"
     right = {
         "unit": "",
-        "count": "(given.first.try_into().ok()?)",
-        "place": "(place(given.first)?)",
-        "places": f" {{ {a}: place(given.first)?, {b}: place(given.second)? }}",
+        "count": "(count(given.first))",
+        "place": "(place(given.first))",
+        "places": f" {{ {a}: place(given.first), {b}: place(given.second) }}",
         "int": "(given.first)",
         "ints": f" {{ {a}: given.first, {b}: given.second }}",
         "sizes": f" {{ {a}: first(given), {b}: second(given) }}",
-        "enum": f"({names[0] if names else ''}::{'at' if names and names[0].endswith('Mode') else 'from_i64'}(given.first)?)" if names != ["Font"] else "(font(given.first)?)",
+        "enum": f"(sure({names[0] if names else ''}::{'at' if names and names[0].endswith('Mode') else 'from_i64'}(given.first)))" if names != ["Font"] else "(font(given.first))",
         "flag": "(given.first != 0)",
-        "color": "(color(given)?)",
-        "keys": " { resource: XtermKeyModifierResource::from_i64(given.first)?, value: second(given) }",
-        "area": " { request_id: given.first, page_number: given.second, top: OneBased::new(given.top)?, left: OneBased::new(given.left)?, bottom: OneBased::new(given.bottom)?, right: OneBased::new(given.right)? }",
-        "report": f" {{ {a}: given.first.try_into().ok()?, {b}: given.second.try_into().ok()?, button: MouseButton::from_i64(i64::from(given.button))?, modifiers: Modifiers::from_bits_retain(given.modifiers) }}",
-        "state": " { flags: flags(given.first)?, mode: KittyKeyboardMode::from_i64(given.second)? }",
-        "bits": "(flags(given.first)?)",
-        "extensions": "(extensions(params))",
-        "graphics": "(graphics(given, params)?)",
+        "keys": " { resource: sure(XtermKeyModifierResource::from_i64(given.first)), value: second(given) }",
+        "area": " { request_id: given.first, page_number: given.second, top: sure(OneBased::new(given.top)), left: sure(OneBased::new(given.left)), bottom: sure(OneBased::new(given.bottom)), right: sure(OneBased::new(given.right)) }",
+        "report": f" {{ {a}: sure(given.first.try_into().ok()), {b}: sure(given.second.try_into().ok()), button: sure(MouseButton::from_i64(i64::from(given.button))), modifiers: Modifiers::from_bits_retain(given.modifiers) }}",
+        "state": " { flags: flags(given.first), mode: sure(KittyKeyboardMode::from_i64(given.second)) }",
+        "bits": "(flags(given.first))",
+        "extensions": "(extensions(tokens(given, params)))",
+        "graphics": "(graphics(given, tokens(given, params)))",
     }[form]
-    return f"{number} => {name}{right}{tail},\n"
+    return f"{number} => of({name}{right}{tail}),\n"
+
+
+def numbers(group):
+    """The numbers that the kinds of a group have, as a pattern."""
+    there = [number for number, *_ in of(group)]
+    return f"{min(there)}..={max(there)}"
 
 
 def rust_rows():
     out = """//! The struct of each action, and the action of each struct. Written by tools/kinds.
 
-use crate::numbers::{color, color_row, extended_row, extensions, first, flags, font, font_number, graphics, graphics_row, place, report_row, row, second, sized_row, unknown_row};
+use crate::numbers::{color, color_row, count, extended_row, extensions, first, flags, font, font_number, graphics, graphics_row, place, report_row, row, second, sized_row, sure, tokens, unknown, unknown_row};
 use crate::raw::{Action, Param};
 use crate::*;
 """
@@ -102,9 +115,9 @@ use crate::*;
         out += "".join(rust_to(*kind) for kind in of(group))
         out += "    }\n}\n"
         more = ", params: &[Param]" if has_tokens(group) else ""
-        out += f"\nfn {low(group)}_of(given: &Action{more}) -> Option<{type_of(group)}> {{\n    Some(match given.kind {{\n"
+        out += f"\n#[inline(always)]\nfn {low(group)}_of<T>(given: &Action{more}, of: impl Fn({type_of(group)}) -> T) -> T {{\n    match given.kind {{\n"
         out += "".join(rust_of(*kind) for kind in of(group))
-        out += "        _ => return None,\n    })\n}\n"
+        out += "        _ => sure(None),\n    }\n}\n"
     out += """
 /// The struct of an action; its tokens go behind those that are there.
 pub(crate) fn struct_of(action: &CSI, params: &mut Vec<Param>) -> Action {
@@ -117,18 +130,30 @@ pub(crate) fn struct_of(action: &CSI, params: &mut Vec<Param>) -> Action {
     }}
 }}
 
-/// The action of a struct that the library made; `params` are its own tokens. It makes no other one.
+/// The action of a struct that the library made, with its tokens among `params`, as `of` takes it. It makes no other struct.
 #[inline(always)]
-pub(crate) fn action_of(given: &Action, params: &[Param]) -> Option<CSI> {{
-    Some(match given.kind {{
-        0 => CSI::Unspecified(Box::new(Unspecified::of(given, params)?)),
+pub(crate) fn action_of<T>(given: &Action, params: &[Param], of: impl Fn(CSI) -> T) -> T {{
+    match given.kind {{
+"""
+    for group in OFTEN:
+        out += f"        {numbers(group)} => {low(group)}_of(given, |{low(group)}| of(CSI::{group}({low(group)}))),\n"
+    out += f"""        _ => other_of(given, params, of),
+    }}
+}}
+
+/// The action of a struct of another kind.
+#[inline(never)]
+fn other_of<T>(given: &Action, params: &[Param], of: impl Fn(CSI) -> T) -> T {{
+    match given.kind {{
+        0 => of(CSI::Unspecified(Box::new(unknown(given, tokens(given, params))))),
 """
     for group in BY_NUMBER:
-        value = f"{low(group)}_of(given{', params' if has_tokens(group) else ''})?"
-        out += f"        {span(group)} => CSI::{group}({f'Box::new({value})' if is_boxed(group) else value}),\n"
-    out += f"""        {PATH} => CSI::SelectCharacterPath(CharacterPath::from_i64(given.first)?, given.second),
-        _ => return None,
-    }})
+        if group not in OFTEN:
+            value = f"Box::new({low(group)})" if is_boxed(group) else low(group)
+            out += f"        {numbers(group)} => {low(group)}_of(given{', params' if has_tokens(group) else ''}, |{low(group)}| of(CSI::{group}({value}))),\n"
+    out += f"""        {PATH} => of(CSI::SelectCharacterPath(sure(CharacterPath::from_i64(given.first)), given.second)),
+        _ => sure(None),
+    }}
 }}
 """
     return out

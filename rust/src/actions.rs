@@ -757,6 +757,7 @@ pub enum CsiParam {
 /// ```
 #[derive(Clone, Debug, PartialEq, Eq, Hash)]
 #[non_exhaustive]
+#[repr(u8)]
 pub enum CSI {
     /// SGR, select graphic rendition: an attribute of the text that follows.
     Sgr(Sgr),

@@ -2,14 +2,18 @@
 
 use crate::event::{Event, StringKind, escape, escape_len, piece};
 use crate::pending::LIMIT;
-use crate::text::ahead_of_esc;
-use crate::{CSI, raw::Told, room::Room};
+use crate::raw::{Front, Told};
+use crate::room::Room;
+use crate::text::{ahead_of_esc, first_esc};
+use std::mem::take;
 
 const TEXT: u32 = 0;
 
 /// What the bytes before a place leave open, and room that is kept.
 #[derive(Clone, Debug)]
 pub(crate) struct Reader {
+    /// Whether a control is open, or a sequence has actions that aren't given yet.
+    open: bool,
     pub(crate) mode: u32,
     pub(crate) looked: usize,
     /// Whether nothing follows the bytes.
@@ -26,6 +30,7 @@ pub(crate) struct Reader {
 impl Reader {
     pub(crate) fn new(ends: bool) -> Self {
         Reader {
+            open: false,
             mode: TEXT,
             looked: 0,
             ends,
@@ -40,39 +45,73 @@ impl Reader {
     /// The next event at the front of the bytes, which go on behind it; none where it depends on what follows.
     #[inline]
     pub(crate) fn next<'a>(&mut self, rest: &mut &'a [u8]) -> Option<Event<'a>> {
-        if self.given < self.count {
-            return Some(Event::Csi(self.action(rest)));
+        if self.open {
+            return self.further(rest);
+        }
+        if rest.starts_with(b"\x1b[") {
+            return self.sequence(rest);
         }
         match **rest {
-            [first, ..] if first != 0x1b && self.mode == TEXT => self.text(rest),
-            [0x1b, b'[', ..] if self.looked == 0 => self.sequence(rest),
-            [0x1b, ..] if self.looked == 0 => self.escape(rest),
-            _ => self.told(rest),
+            [] => None,
+            [0x1b, ..] => self.escape(rest),
+            _ => self.text(rest),
         }
     }
 
-    /// Text up to an ESC, while no control is open; a character that is cut at the end of the bytes waits.
+    /// Text up to an ESC: among the first eight bytes, as mostly, or further on.
     #[inline]
     fn text<'a>(&mut self, rest: &mut &'a [u8]) -> Option<Event<'a>> {
-        let ahead = ahead_of_esc(rest);
-        if ahead == rest.len() && rest[ahead - 1] >= 0x80 && !self.ends {
-            return self.told(rest);
-        }
+        let near = rest.first_chunk().and_then(first_esc);
+        let ahead = match near {
+            Some(ahead) => ahead,
+            None => match self.far_text(rest) {
+                0 => return self.told(rest),
+                ahead => ahead,
+            }
+        };
         let (text, behind) = rest.split_at(ahead);
         *rest = behind;
         Some(Event::Text(text))
     }
 
-    /// A control sequence that is all there is read at once.
+    /// How long text is; 0 where it may end in a part of a character, which waits.
+    #[inline(never)]
+    fn far_text(&self, bytes: &[u8]) -> usize {
+        let ahead = ahead_of_esc(bytes);
+        let is_cut = ahead == bytes.len() && bytes[ahead - 1] >= 0x80 && !self.ends;
+        if is_cut { 0 } else { ahead }
+    }
+
+    /// A control sequence that is all there, with one action, as most are.
     #[inline]
     fn sequence<'a>(&mut self, rest: &mut &'a [u8]) -> Option<Event<'a>> {
         let front = self.room.next(&rest[..rest.len().min(LIMIT)]);
-        if front.status != 0 {
+        if front.actions != 1 || front.params != 0 {
+            return self.several(&front, rest);
+        }
+        *rest = &rest[front.used..];
+        self.room.told(0)
+    }
+
+    /// One with several actions, or with tokens, or one that is refused: then it has no actions.
+    #[inline(never)]
+    fn several<'a>(&mut self, front: &Front, rest: &mut &'a [u8]) -> Option<Event<'a>> {
+        if front.actions == 0 {
             return self.told(rest);
         }
+        if !self.room.holds(front) {
+            return self.again(front, rest);
+        }
         (self.given, self.count, self.used) = (0, front.actions, front.used);
-        self.mode = TEXT;
-        Some(Event::Csi(self.action(rest)))
+        self.action(rest)
+    }
+
+    /// The same with more room.
+    #[cold]
+    #[inline(never)]
+    fn again<'a>(&mut self, front: &Front, rest: &mut &'a [u8]) -> Option<Event<'a>> {
+        self.room.grow(front.actions, front.params);
+        self.sequence(rest)
     }
 
     /// An escape sequence that is all there.
@@ -82,28 +121,44 @@ impl Reader {
             return self.told(rest);
         };
         let (bytes, behind) = rest.split_at(len);
-        (self.mode, *rest) = (TEXT, behind);
+        *rest = behind;
         Some(Event::Esc(escape(bytes)))
     }
 
-    /// The next event, as the library tells it.
+    /// The next event where something is open.
+    #[inline(never)]
+    fn further<'a>(&mut self, rest: &mut &'a [u8]) -> Option<Event<'a>> {
+        if self.given < self.count {
+            return self.action(rest);
+        }
+        self.told(rest)
+    }
+
+    /// The next event, as the library tells it. What is unfinished where nothing follows is malformed.
     #[inline(never)]
     fn told<'a>(&mut self, rest: &mut &'a [u8]) -> Option<Event<'a>> {
         let told = self.room.event(self.mode, LIMIT, self.looked, rest);
-        self.event(told, rest)
+        let event = self.event(told, rest);
+        if event.is_none() && self.ends && !rest.is_empty() {
+            return Some(Event::Other(take(rest)));
+        }
+        event
     }
 
     /// The event that was told.
     pub(crate) fn event<'a>(&mut self, told: Told, rest: &mut &'a [u8]) -> Option<Event<'a>> {
         self.looked = told.looked;
+        if told.status == 0 {
+            self.mode = told.mode;
+        }
+        self.open = self.mode != TEXT || self.looked != 0;
         if told.status != 0 {
             return None;
         }
-        self.mode = told.mode;
         let (bytes, behind) = rest.split_at(told.used);
         if told.kind == 2 {
             (self.given, self.count, self.used) = (0, told.actions, told.used);
-            return Some(Event::Csi(self.action(rest)));
+            return self.action(rest);
         }
         *rest = behind;
         Some(match told.kind {
@@ -116,14 +171,14 @@ impl Reader {
     }
 
     /// The next action of a sequence. Its bytes are used with the last one.
-    #[inline(always)]
-    pub(crate) fn action(&mut self, rest: &mut &[u8]) -> CSI {
+    pub(crate) fn action<'a>(&mut self, rest: &mut &[u8]) -> Option<Event<'a>> {
         let place = self.given;
         self.given += 1;
-        if self.given == self.count {
+        self.open = self.given < self.count;
+        if !self.open {
             *rest = &rest[self.used..];
         }
-        self.room.action(place)
+        self.room.told(place)
     }
 }
 
@@ -154,9 +209,6 @@ impl<'a> Iterator for Events<'a> {
 
     #[inline]
     fn next(&mut self) -> Option<Event<'a>> {
-        match self.reader.next(&mut self.rest) {
-            None if !self.rest.is_empty() => Some(Event::Other(std::mem::take(&mut self.rest))),
-            told => told,
-        }
+        self.reader.next(&mut self.rest)
     }
 }

@@ -94,7 +94,7 @@ pub fn actions(bytes: &[u8]) -> Actions<'_> {
 impl Actions<'_> {
     /// The actions of the sequence at the front.
     fn read(&mut self) -> Result<(), Error> {
-        let answer = self.room.next(self.rest);
+        let answer = self.room.whole(self.rest);
         if answer.status != 0 {
             self.rest = &[];
             return Err(refusal(answer.status, self.start, answer.at));
@@ -165,7 +165,7 @@ pub fn front(bytes: &[u8]) -> Result<Front, Error> {
         });
     }
     let mut room = Room::new();
-    let answer = room.next(bytes);
+    let answer = room.whole(bytes);
     if answer.status != 0 {
         return Err(refusal(answer.status, 0, answer.at));
     }
@@ -249,7 +249,7 @@ pub fn encode(actions: &[CSI]) -> Result<Vec<u8>, Error> {
 impl Esc {
     /// The code with these bytes behind ESC, or the two as they are if there is no such code.
     pub fn parse(intermediate: Option<u8>, control: u8) -> Esc {
-        let number = raw::esc(intermediate.unwrap_or(0), control);
+        let number = u16::from_be_bytes([intermediate.unwrap_or(0), control]);
         match EscCode::from_i64(i64::from(number)) {
             Some(code) => Esc::Code(code),
             None => Esc::Unspecified {

@@ -7,6 +7,29 @@ use crate::{
     XtSmGraphicsItem,
 };
 
+/// What is in a struct that the library made: it makes no other.
+#[inline(always)]
+pub(crate) fn sure<T>(told: Option<T>) -> T {
+    match told {
+        Some(it) => it,
+        None => never(),
+    }
+}
+
+#[cold]
+#[inline(never)]
+fn never() -> ! {
+    panic!("the library makes no such struct")
+}
+
+/// The tokens of a struct, among those that were put beside it.
+pub(crate) fn tokens<'a>(given: &Action, params: &'a [Param]) -> &'a [Param] {
+    match given.len {
+        0 => &[],
+        len => &params[given.place..][..len],
+    }
+}
+
 pub(crate) fn row(kind: u32, first: i64, second: i64) -> Action {
     Action {
         kind,
@@ -59,13 +82,16 @@ pub(crate) fn color_row(kind: u32, color: &ColorSpec) -> Action {
     }
 }
 
-pub(crate) fn color(given: &Action) -> Option<ColorSpec> {
-    Some(match given.first {
-        0 => ColorSpec::Default,
-        1 => ColorSpec::PaletteIndex(given.second.try_into().ok()?),
-        2 => ColorSpec::TrueColor(SrgbaTuple(given.red, given.green, given.blue, given.alpha)),
-        _ => return None,
-    })
+#[inline(always)]
+pub(crate) fn color<T>(given: &Action, of: impl Fn(ColorSpec) -> T) -> T {
+    match given.first {
+        0 => of(ColorSpec::Default),
+        1 => of(ColorSpec::PaletteIndex(sure(given.second.try_into().ok()))),
+        2 => of(ColorSpec::TrueColor(SrgbaTuple(
+            given.red, given.green, given.blue, given.alpha,
+        ))),
+        _ => sure(None),
+    }
 }
 
 /// An alternative font that isn't 1 to 9 has no text, and stands as a number that is refused.
@@ -77,21 +103,27 @@ pub(crate) fn font_number(font: &Font) -> i64 {
     }
 }
 
-pub(crate) fn font(number: i64) -> Option<Font> {
-    Some(match number {
+#[inline(always)]
+pub(crate) fn font(number: i64) -> Font {
+    match number {
         0 => Font::Default,
-        _ => Font::Alternate(number.try_into().ok()?),
-    })
+        _ => Font::Alternate(sure(number.try_into().ok())),
+    }
 }
 
-pub(crate) fn place(number: i64) -> Option<OneBased> {
-    OneBased::new(number.try_into().ok()?)
+#[inline(always)]
+pub(crate) fn count(number: i64) -> u32 {
+    sure(number.try_into().ok())
 }
 
-pub(crate) fn flags(number: i64) -> Option<KittyKeyboardFlags> {
-    Some(KittyKeyboardFlags::from_bits_retain(
-        number.try_into().ok()?,
-    ))
+#[inline(always)]
+pub(crate) fn place(number: i64) -> OneBased {
+    sure(OneBased::new(count(number)))
+}
+
+#[inline(always)]
+pub(crate) fn flags(number: i64) -> KittyKeyboardFlags {
+    KittyKeyboardFlags::from_bits_retain(sure(number.try_into().ok()))
 }
 
 fn param_of(token: &CsiParam) -> Param {
@@ -131,12 +163,10 @@ pub(crate) fn unknown_row(unknown: &Unspecified, params: &mut Vec<Param>) -> Act
     with_tokens(row, unknown.params.iter().map(param_of), params)
 }
 
-impl Unspecified {
-    pub(crate) fn of(given: &Action, params: &[Param]) -> Option<Unspecified> {
-        Some(Unspecified {
-            params: params.iter().map(token_of).collect(),
-            control: char::from_u32(given.final_char)?,
-        })
+pub(crate) fn unknown(given: &Action, params: &[Param]) -> Unspecified {
+    Unspecified {
+        params: params.iter().map(token_of).collect(),
+        control: sure(char::from_u32(given.final_char)),
     }
 }
 
@@ -180,8 +210,8 @@ pub(crate) fn graphics_row(kind: u32, graphics: &XtSmGraphics, params: &mut Vec<
     with_tokens(row(kind, item, graphics.action_or_status), values, params)
 }
 
-pub(crate) fn graphics(given: &Action, params: &[Param]) -> Option<XtSmGraphics> {
-    Some(XtSmGraphics {
+pub(crate) fn graphics(given: &Action, params: &[Param]) -> XtSmGraphics {
+    XtSmGraphics {
         item: match given.first {
             1 => XtSmGraphicsItem::NumberOfColorRegisters,
             2 => XtSmGraphicsItem::SixelGraphicsGeometry,
@@ -190,5 +220,5 @@ pub(crate) fn graphics(given: &Action, params: &[Param]) -> Option<XtSmGraphics>
         },
         action_or_status: given.second,
         value: params.iter().map(|param| param.value).collect(),
-    })
+    }
 }

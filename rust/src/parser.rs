@@ -84,10 +84,7 @@ impl Parser {
     /// The end of the stream: passes what is held as an event.
     pub fn finish<F: FnMut(Event<'_>)>(mut self, tell: &mut F) {
         self.reader.ends = true;
-        let used = run(&mut self.reader, &self.held, tell);
-        if used < self.held.len() {
-            tell(Event::Other(&self.held[used..]));
-        }
+        run(&mut self.reader, &self.held, tell);
     }
 
     /// Reads to the end, in pieces, and passes each event, at last what is held. After an `Err`, which is the reader's, what is held

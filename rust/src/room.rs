@@ -1,7 +1,7 @@
 //! Room for the actions of one sequence.
 
 use crate::pending::LIMIT;
-use crate::{CSI, raw, rows};
+use crate::{CSI, Event, raw, rows};
 
 /// Structs of actions and tokens, as many as any sequence so far had.
 #[derive(Clone, Debug)]
@@ -18,15 +18,27 @@ impl Room {
         }
     }
 
-    /// Reads the sequence at the front of the bytes. Where it isn't refused, all its actions stand here.
+    /// Reads the sequence at the front of the bytes. As many of its actions as there is room for stand here.
     #[inline]
     pub(crate) fn next(&mut self, bytes: &[u8]) -> raw::Front {
-        let mut front = raw::next(bytes, &mut self.actions, &mut self.params);
-        if front.actions > self.actions.len() || front.params > self.params.len() {
-            self.grow(front.actions, front.params);
-            front = raw::next(bytes, &mut self.actions, &mut self.params);
+        raw::next(bytes, &mut self.actions, &mut self.params)
+    }
+
+    /// Whether all that an answer counts stands here.
+    #[inline(always)]
+    pub(crate) fn holds(&self, front: &raw::Front) -> bool {
+        front.actions <= self.actions.len() && front.params <= self.params.len()
+    }
+
+    /// Reads a sequence with all its actions.
+    #[inline]
+    pub(crate) fn whole(&mut self, bytes: &[u8]) -> raw::Front {
+        let front = self.next(bytes);
+        if self.holds(&front) {
+            return front;
         }
-        front
+        self.grow(front.actions, front.params);
+        self.next(bytes)
     }
 
     /// The event at the front of the bytes. Where it is a control sequence, all its actions stand here.
@@ -74,7 +86,7 @@ impl Room {
 
     /// Makes as much room as a sequence needs.
     #[cold]
-    fn grow(&mut self, actions: usize, params: usize) {
+    pub(crate) fn grow(&mut self, actions: usize, params: usize) {
         let actions = actions.max(self.actions.len());
         self.actions.resize(actions, raw::Action::default());
         let params = params.max(self.params.len());
@@ -82,18 +94,25 @@ impl Room {
     }
 
     /// The action at a place, of those that were read last.
-    #[inline(always)]
+    #[inline]
     pub(crate) fn action(&self, place: usize) -> CSI {
         action(&self.actions[place], &self.params)
+    }
+
+    /// The same as an event.
+    #[inline]
+    pub(crate) fn told<'a>(&self, place: usize) -> Option<Event<'a>> {
+        self.event_of(&self.actions[place])
+    }
+
+    #[inline(never)]
+    fn event_of<'a>(&self, given: &raw::Action) -> Option<Event<'a>> {
+        rows::action_of(given, &self.params, |action| Some(Event::Csi(action)))
     }
 }
 
 /// The action of a struct that the library made, with the tokens that were put beside it.
-#[inline(always)]
+#[inline(never)]
 pub(crate) fn action(given: &raw::Action, params: &[raw::Param]) -> CSI {
-    let params = match given.len {
-        0 => &[],
-        len => &params[given.place..][..len],
-    };
-    rows::action_of(given, params).expect("the library makes no other struct")
+    rows::action_of(given, params, |action| action)
 }

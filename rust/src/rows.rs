@@ -1,8 +1,8 @@
 //! The struct of each action, and the action of each struct. Written by tools/kinds.
 
 use crate::numbers::{
-    color, color_row, extended_row, extensions, first, flags, font, font_number, graphics,
-    graphics_row, place, report_row, row, second, sized_row, unknown_row,
+    color, color_row, count, extended_row, extensions, first, flags, font, font_number, graphics,
+    graphics_row, place, report_row, row, second, sized_row, sure, tokens, unknown, unknown_row,
 };
 use crate::raw::{Action, Param};
 use crate::*;
@@ -26,24 +26,27 @@ fn sgr_struct(sgr: &Sgr) -> Action {
     }
 }
 
-fn sgr_of(given: &Action) -> Option<Sgr> {
-    Some(match given.kind {
-        1 => Sgr::Reset,
-        2 => Sgr::Intensity(Intensity::from_i64(given.first)?),
-        3 => Sgr::Underline(Underline::from_i64(given.first)?),
-        4 => Sgr::UnderlineColor(color(given)?),
-        5 => Sgr::Blink(Blink::from_i64(given.first)?),
-        6 => Sgr::Italic(given.first != 0),
-        7 => Sgr::Inverse(given.first != 0),
-        8 => Sgr::Invisible(given.first != 0),
-        9 => Sgr::StrikeThrough(given.first != 0),
-        10 => Sgr::Font(font(given.first)?),
-        11 => Sgr::Foreground(color(given)?),
-        12 => Sgr::Background(color(given)?),
-        13 => Sgr::Overline(given.first != 0),
-        14 => Sgr::VerticalAlign(VerticalAlign::from_i64(given.first)?),
-        _ => return None,
-    })
+#[inline(always)]
+fn sgr_of<T>(given: &Action, of: impl Fn(Sgr) -> T) -> T {
+    match given.kind {
+        1 => of(Sgr::Reset),
+        2 => of(Sgr::Intensity(sure(Intensity::from_i64(given.first)))),
+        3 => of(Sgr::Underline(sure(Underline::from_i64(given.first)))),
+        4 => color(given, |color| of(Sgr::UnderlineColor(color))),
+        5 => of(Sgr::Blink(sure(Blink::from_i64(given.first)))),
+        6 => of(Sgr::Italic(given.first != 0)),
+        7 => of(Sgr::Inverse(given.first != 0)),
+        8 => of(Sgr::Invisible(given.first != 0)),
+        9 => of(Sgr::StrikeThrough(given.first != 0)),
+        10 => of(Sgr::Font(font(given.first))),
+        11 => color(given, |color| of(Sgr::Foreground(color))),
+        12 => color(given, |color| of(Sgr::Background(color))),
+        13 => of(Sgr::Overline(given.first != 0)),
+        14 => of(Sgr::VerticalAlign(sure(VerticalAlign::from_i64(
+            given.first,
+        )))),
+        _ => sure(None),
+    }
 }
 
 fn cursor_struct(cursor: &Cursor) -> Action {
@@ -98,52 +101,59 @@ fn cursor_struct(cursor: &Cursor) -> Action {
     }
 }
 
-fn cursor_of(given: &Action) -> Option<Cursor> {
-    Some(match given.kind {
-        101 => Cursor::Up(given.first.try_into().ok()?),
-        102 => Cursor::Down(given.first.try_into().ok()?),
-        103 => Cursor::Right(given.first.try_into().ok()?),
-        104 => Cursor::Left(given.first.try_into().ok()?),
-        105 => Cursor::NextLine(given.first.try_into().ok()?),
-        106 => Cursor::PrecedingLine(given.first.try_into().ok()?),
-        107 => Cursor::CharacterAbsolute(place(given.first)?),
-        108 => Cursor::CharacterPositionAbsolute(place(given.first)?),
-        109 => Cursor::Position {
-            line: place(given.first)?,
-            col: place(given.second)?,
-        },
-        110 => Cursor::ActivePositionReport {
-            line: place(given.first)?,
-            col: place(given.second)?,
-        },
-        111 => Cursor::CharacterAndLinePosition {
-            line: place(given.first)?,
-            col: place(given.second)?,
-        },
-        112 => Cursor::ForwardTabulation(given.first.try_into().ok()?),
-        113 => Cursor::BackwardTabulation(given.first.try_into().ok()?),
-        114 => Cursor::LineTabulation(given.first.try_into().ok()?),
-        115 => Cursor::CharacterPositionForward(given.first.try_into().ok()?),
-        116 => Cursor::CharacterPositionBackward(given.first.try_into().ok()?),
-        117 => Cursor::LinePositionAbsolute(given.first.try_into().ok()?),
-        118 => Cursor::LinePositionForward(given.first.try_into().ok()?),
-        119 => Cursor::LinePositionBackward(given.first.try_into().ok()?),
-        120 => Cursor::TabulationControl(CursorTabulationControl::from_i64(given.first)?),
-        121 => Cursor::TabulationClear(TabulationClear::from_i64(given.first)?),
-        122 => Cursor::SetTopAndBottomMargins {
-            top: place(given.first)?,
-            bottom: place(given.second)?,
-        },
-        123 => Cursor::SetLeftAndRightMargins {
-            left: place(given.first)?,
-            right: place(given.second)?,
-        },
-        124 => Cursor::SaveCursor,
-        125 => Cursor::RestoreCursor,
-        126 => Cursor::RequestActivePositionReport,
-        127 => Cursor::CursorStyle(CursorStyle::from_i64(given.first)?),
-        _ => return None,
-    })
+#[inline(always)]
+fn cursor_of<T>(given: &Action, of: impl Fn(Cursor) -> T) -> T {
+    match given.kind {
+        101 => of(Cursor::Up(count(given.first))),
+        102 => of(Cursor::Down(count(given.first))),
+        103 => of(Cursor::Right(count(given.first))),
+        104 => of(Cursor::Left(count(given.first))),
+        105 => of(Cursor::NextLine(count(given.first))),
+        106 => of(Cursor::PrecedingLine(count(given.first))),
+        107 => of(Cursor::CharacterAbsolute(place(given.first))),
+        108 => of(Cursor::CharacterPositionAbsolute(place(given.first))),
+        109 => of(Cursor::Position {
+            line: place(given.first),
+            col: place(given.second),
+        }),
+        110 => of(Cursor::ActivePositionReport {
+            line: place(given.first),
+            col: place(given.second),
+        }),
+        111 => of(Cursor::CharacterAndLinePosition {
+            line: place(given.first),
+            col: place(given.second),
+        }),
+        112 => of(Cursor::ForwardTabulation(count(given.first))),
+        113 => of(Cursor::BackwardTabulation(count(given.first))),
+        114 => of(Cursor::LineTabulation(count(given.first))),
+        115 => of(Cursor::CharacterPositionForward(count(given.first))),
+        116 => of(Cursor::CharacterPositionBackward(count(given.first))),
+        117 => of(Cursor::LinePositionAbsolute(count(given.first))),
+        118 => of(Cursor::LinePositionForward(count(given.first))),
+        119 => of(Cursor::LinePositionBackward(count(given.first))),
+        120 => of(Cursor::TabulationControl(sure(
+            CursorTabulationControl::from_i64(given.first),
+        ))),
+        121 => of(Cursor::TabulationClear(sure(TabulationClear::from_i64(
+            given.first,
+        )))),
+        122 => of(Cursor::SetTopAndBottomMargins {
+            top: place(given.first),
+            bottom: place(given.second),
+        }),
+        123 => of(Cursor::SetLeftAndRightMargins {
+            left: place(given.first),
+            right: place(given.second),
+        }),
+        124 => of(Cursor::SaveCursor),
+        125 => of(Cursor::RestoreCursor),
+        126 => of(Cursor::RequestActivePositionReport),
+        127 => of(Cursor::CursorStyle(sure(CursorStyle::from_i64(
+            given.first,
+        )))),
+        _ => sure(None),
+    }
 }
 
 fn edit_struct(edit: &Edit) -> Action {
@@ -161,20 +171,23 @@ fn edit_struct(edit: &Edit) -> Action {
     }
 }
 
-fn edit_of(given: &Action) -> Option<Edit> {
-    Some(match given.kind {
-        201 => Edit::InsertCharacter(given.first.try_into().ok()?),
-        202 => Edit::InsertLine(given.first.try_into().ok()?),
-        203 => Edit::DeleteCharacter(given.first.try_into().ok()?),
-        204 => Edit::DeleteLine(given.first.try_into().ok()?),
-        205 => Edit::EraseCharacter(given.first.try_into().ok()?),
-        206 => Edit::ScrollUp(given.first.try_into().ok()?),
-        207 => Edit::ScrollDown(given.first.try_into().ok()?),
-        208 => Edit::Repeat(given.first.try_into().ok()?),
-        209 => Edit::EraseInDisplay(EraseInDisplay::from_i64(given.first)?),
-        210 => Edit::EraseInLine(EraseInLine::from_i64(given.first)?),
-        _ => return None,
-    })
+#[inline(always)]
+fn edit_of<T>(given: &Action, of: impl Fn(Edit) -> T) -> T {
+    match given.kind {
+        201 => of(Edit::InsertCharacter(count(given.first))),
+        202 => of(Edit::InsertLine(count(given.first))),
+        203 => of(Edit::DeleteCharacter(count(given.first))),
+        204 => of(Edit::DeleteLine(count(given.first))),
+        205 => of(Edit::EraseCharacter(count(given.first))),
+        206 => of(Edit::ScrollUp(count(given.first))),
+        207 => of(Edit::ScrollDown(count(given.first))),
+        208 => of(Edit::Repeat(count(given.first))),
+        209 => of(Edit::EraseInDisplay(sure(EraseInDisplay::from_i64(
+            given.first,
+        )))),
+        210 => of(Edit::EraseInLine(sure(EraseInLine::from_i64(given.first)))),
+        _ => sure(None),
+    }
 }
 
 fn mode_struct(mode: &Mode) -> Action {
@@ -191,22 +204,33 @@ fn mode_struct(mode: &Mode) -> Action {
     }
 }
 
-fn mode_of(given: &Action) -> Option<Mode> {
-    Some(match given.kind {
-        301 => Mode::SetDecPrivateMode(DecPrivateMode::at(given.first)?),
-        302 => Mode::ResetDecPrivateMode(DecPrivateMode::at(given.first)?),
-        303 => Mode::SaveDecPrivateMode(DecPrivateMode::at(given.first)?),
-        304 => Mode::RestoreDecPrivateMode(DecPrivateMode::at(given.first)?),
-        305 => Mode::QueryDecPrivateMode(DecPrivateMode::at(given.first)?),
-        306 => Mode::SetMode(TerminalMode::at(given.first)?),
-        307 => Mode::ResetMode(TerminalMode::at(given.first)?),
-        308 => Mode::QueryMode(TerminalMode::at(given.first)?),
-        309 => Mode::XtermKeyMode {
-            resource: XtermKeyModifierResource::from_i64(given.first)?,
+#[inline(always)]
+fn mode_of<T>(given: &Action, of: impl Fn(Mode) -> T) -> T {
+    match given.kind {
+        301 => of(Mode::SetDecPrivateMode(sure(DecPrivateMode::at(
+            given.first,
+        )))),
+        302 => of(Mode::ResetDecPrivateMode(sure(DecPrivateMode::at(
+            given.first,
+        )))),
+        303 => of(Mode::SaveDecPrivateMode(sure(DecPrivateMode::at(
+            given.first,
+        )))),
+        304 => of(Mode::RestoreDecPrivateMode(sure(DecPrivateMode::at(
+            given.first,
+        )))),
+        305 => of(Mode::QueryDecPrivateMode(sure(DecPrivateMode::at(
+            given.first,
+        )))),
+        306 => of(Mode::SetMode(sure(TerminalMode::at(given.first)))),
+        307 => of(Mode::ResetMode(sure(TerminalMode::at(given.first)))),
+        308 => of(Mode::QueryMode(sure(TerminalMode::at(given.first)))),
+        309 => of(Mode::XtermKeyMode {
+            resource: sure(XtermKeyModifierResource::from_i64(given.first)),
             value: second(given),
-        },
-        _ => return None,
-    })
+        }),
+        _ => sure(None),
+    }
 }
 
 fn device_struct(device: &Device, params: &mut Vec<Param>) -> Action {
@@ -234,24 +258,35 @@ fn device_struct(device: &Device, params: &mut Vec<Param>) -> Action {
     }
 }
 
-fn device_of(given: &Action, params: &[Param]) -> Option<Device> {
-    Some(match given.kind {
-        401 => Device::DeviceAttributes(DeviceAttributes::Vt100WithAdvancedVideoOption),
-        402 => Device::DeviceAttributes(DeviceAttributes::Vt101WithNoOptions),
-        403 => Device::DeviceAttributes(DeviceAttributes::Vt102),
-        404 => Device::DeviceAttributes(DeviceAttributes::Vt220(extensions(params))),
-        405 => Device::DeviceAttributes(DeviceAttributes::Vt320(extensions(params))),
-        406 => Device::DeviceAttributes(DeviceAttributes::Vt420(extensions(params))),
-        407 => Device::SoftReset,
-        408 => Device::RequestPrimaryDeviceAttributes,
-        409 => Device::RequestSecondaryDeviceAttributes,
-        410 => Device::RequestTertiaryDeviceAttributes,
-        411 => Device::RequestTerminalNameAndVersion,
-        412 => Device::RequestTerminalParameters(given.first),
-        413 => Device::StatusReport,
-        414 => Device::XtSmGraphics(graphics(given, params)?),
-        _ => return None,
-    })
+#[inline(always)]
+fn device_of<T>(given: &Action, params: &[Param], of: impl Fn(Device) -> T) -> T {
+    match given.kind {
+        401 => of(Device::DeviceAttributes(
+            DeviceAttributes::Vt100WithAdvancedVideoOption,
+        )),
+        402 => of(Device::DeviceAttributes(
+            DeviceAttributes::Vt101WithNoOptions,
+        )),
+        403 => of(Device::DeviceAttributes(DeviceAttributes::Vt102)),
+        404 => of(Device::DeviceAttributes(DeviceAttributes::Vt220(
+            extensions(tokens(given, params)),
+        ))),
+        405 => of(Device::DeviceAttributes(DeviceAttributes::Vt320(
+            extensions(tokens(given, params)),
+        ))),
+        406 => of(Device::DeviceAttributes(DeviceAttributes::Vt420(
+            extensions(tokens(given, params)),
+        ))),
+        407 => of(Device::SoftReset),
+        408 => of(Device::RequestPrimaryDeviceAttributes),
+        409 => of(Device::RequestSecondaryDeviceAttributes),
+        410 => of(Device::RequestTertiaryDeviceAttributes),
+        411 => of(Device::RequestTerminalNameAndVersion),
+        412 => of(Device::RequestTerminalParameters(given.first)),
+        413 => of(Device::StatusReport),
+        414 => of(Device::XtSmGraphics(graphics(given, tokens(given, params)))),
+        _ => sure(None),
+    }
 }
 
 fn mouse_struct(mouse: &MouseReport) -> Action {
@@ -271,22 +306,23 @@ fn mouse_struct(mouse: &MouseReport) -> Action {
     }
 }
 
-fn mouse_of(given: &Action) -> Option<MouseReport> {
-    Some(match given.kind {
-        501 => MouseReport::SGR1006 {
-            x: given.first.try_into().ok()?,
-            y: given.second.try_into().ok()?,
-            button: MouseButton::from_i64(i64::from(given.button))?,
+#[inline(always)]
+fn mouse_of<T>(given: &Action, of: impl Fn(MouseReport) -> T) -> T {
+    match given.kind {
+        501 => of(MouseReport::SGR1006 {
+            x: sure(given.first.try_into().ok()),
+            y: sure(given.second.try_into().ok()),
+            button: sure(MouseButton::from_i64(i64::from(given.button))),
             modifiers: Modifiers::from_bits_retain(given.modifiers),
-        },
-        502 => MouseReport::SGR1016 {
-            x_pixels: given.first.try_into().ok()?,
-            y_pixels: given.second.try_into().ok()?,
-            button: MouseButton::from_i64(i64::from(given.button))?,
+        }),
+        502 => of(MouseReport::SGR1016 {
+            x_pixels: sure(given.first.try_into().ok()),
+            y_pixels: sure(given.second.try_into().ok()),
+            button: sure(MouseButton::from_i64(i64::from(given.button))),
             modifiers: Modifiers::from_bits_retain(given.modifiers),
-        },
-        _ => return None,
-    })
+        }),
+        _ => sure(None),
+    }
 }
 
 fn window_struct(window: &Window) -> Action {
@@ -341,63 +377,64 @@ fn window_struct(window: &Window) -> Action {
     }
 }
 
-fn window_of(given: &Action) -> Option<Window> {
-    Some(match given.kind {
-        601 => Window::DeIconify,
-        602 => Window::Iconify,
-        603 => Window::MoveWindow {
+#[inline(always)]
+fn window_of<T>(given: &Action, of: impl Fn(Window) -> T) -> T {
+    match given.kind {
+        601 => of(Window::DeIconify),
+        602 => of(Window::Iconify),
+        603 => of(Window::MoveWindow {
             x: given.first,
             y: given.second,
-        },
-        604 => Window::ResizeWindowPixels {
+        }),
+        604 => of(Window::ResizeWindowPixels {
             width: first(given),
             height: second(given),
-        },
-        605 => Window::RaiseWindow,
-        606 => Window::LowerWindow,
-        607 => Window::ReportCellSizePixelsResponse {
+        }),
+        605 => of(Window::RaiseWindow),
+        606 => of(Window::LowerWindow),
+        607 => of(Window::ReportCellSizePixelsResponse {
             width: first(given),
             height: second(given),
-        },
-        608 => Window::RefreshWindow,
-        609 => Window::ResizeWindowCells {
+        }),
+        608 => of(Window::RefreshWindow),
+        609 => of(Window::ResizeWindowCells {
             width: first(given),
             height: second(given),
-        },
-        610 => Window::RestoreMaximizedWindow,
-        611 => Window::MaximizeWindow,
-        612 => Window::MaximizeWindowVertically,
-        613 => Window::MaximizeWindowHorizontally,
-        614 => Window::UndoFullScreenMode,
-        615 => Window::ChangeToFullScreenMode,
-        616 => Window::ToggleFullScreen,
-        617 => Window::ReportWindowState,
-        618 => Window::ReportWindowPosition,
-        619 => Window::ReportTextAreaPosition,
-        620 => Window::ReportTextAreaSizePixels,
-        621 => Window::ReportWindowSizePixels,
-        622 => Window::ReportScreenSizePixels,
-        623 => Window::ReportCellSizePixels,
-        624 => Window::ReportTextAreaSizeCells,
-        625 => Window::ReportScreenSizeCells,
-        626 => Window::ReportIconLabel,
-        627 => Window::ReportWindowTitle,
-        628 => Window::PushIconAndWindowTitle,
-        629 => Window::PushIconTitle,
-        630 => Window::PushWindowTitle,
-        631 => Window::PopIconAndWindowTitle,
-        632 => Window::PopIconTitle,
-        633 => Window::PopWindowTitle,
-        634 => Window::ChecksumRectangularArea {
+        }),
+        610 => of(Window::RestoreMaximizedWindow),
+        611 => of(Window::MaximizeWindow),
+        612 => of(Window::MaximizeWindowVertically),
+        613 => of(Window::MaximizeWindowHorizontally),
+        614 => of(Window::UndoFullScreenMode),
+        615 => of(Window::ChangeToFullScreenMode),
+        616 => of(Window::ToggleFullScreen),
+        617 => of(Window::ReportWindowState),
+        618 => of(Window::ReportWindowPosition),
+        619 => of(Window::ReportTextAreaPosition),
+        620 => of(Window::ReportTextAreaSizePixels),
+        621 => of(Window::ReportWindowSizePixels),
+        622 => of(Window::ReportScreenSizePixels),
+        623 => of(Window::ReportCellSizePixels),
+        624 => of(Window::ReportTextAreaSizeCells),
+        625 => of(Window::ReportScreenSizeCells),
+        626 => of(Window::ReportIconLabel),
+        627 => of(Window::ReportWindowTitle),
+        628 => of(Window::PushIconAndWindowTitle),
+        629 => of(Window::PushIconTitle),
+        630 => of(Window::PushWindowTitle),
+        631 => of(Window::PopIconAndWindowTitle),
+        632 => of(Window::PopIconTitle),
+        633 => of(Window::PopWindowTitle),
+        634 => of(Window::ChecksumRectangularArea {
             request_id: given.first,
             page_number: given.second,
-            top: OneBased::new(given.top)?,
-            left: OneBased::new(given.left)?,
-            bottom: OneBased::new(given.bottom)?,
-            right: OneBased::new(given.right)?,
-        },
-        _ => return None,
-    })
+            top: sure(OneBased::new(given.top)),
+            left: sure(OneBased::new(given.left)),
+            bottom: sure(OneBased::new(given.bottom)),
+            right: sure(OneBased::new(given.right)),
+        }),
+        _ => sure(None),
+    }
 }
 
 fn keyboard_struct(keyboard: &Keyboard) -> Action {
@@ -412,21 +449,22 @@ fn keyboard_struct(keyboard: &Keyboard) -> Action {
     }
 }
 
-fn keyboard_of(given: &Action) -> Option<Keyboard> {
-    Some(match given.kind {
-        701 => Keyboard::SetKittyState {
-            flags: flags(given.first)?,
-            mode: KittyKeyboardMode::from_i64(given.second)?,
-        },
-        702 => Keyboard::PushKittyState {
-            flags: flags(given.first)?,
-            mode: KittyKeyboardMode::from_i64(given.second)?,
-        },
-        703 => Keyboard::PopKittyState(given.first.try_into().ok()?),
-        704 => Keyboard::QueryKittySupport,
-        705 => Keyboard::ReportKittyState(flags(given.first)?),
-        _ => return None,
-    })
+#[inline(always)]
+fn keyboard_of<T>(given: &Action, of: impl Fn(Keyboard) -> T) -> T {
+    match given.kind {
+        701 => of(Keyboard::SetKittyState {
+            flags: flags(given.first),
+            mode: sure(KittyKeyboardMode::from_i64(given.second)),
+        }),
+        702 => of(Keyboard::PushKittyState {
+            flags: flags(given.first),
+            mode: sure(KittyKeyboardMode::from_i64(given.second)),
+        }),
+        703 => of(Keyboard::PopKittyState(count(given.first))),
+        704 => of(Keyboard::QueryKittySupport),
+        705 => of(Keyboard::ReportKittyState(flags(given.first))),
+        _ => sure(None),
+    }
 }
 
 /// The struct of an action; its tokens go behind those that are there.
@@ -445,20 +483,34 @@ pub(crate) fn struct_of(action: &CSI, params: &mut Vec<Param>) -> Action {
     }
 }
 
-/// The action of a struct that the library made; `params` are its own tokens. It makes no other one.
+/// The action of a struct that the library made, with its tokens among `params`, as `of` takes it. It makes no other struct.
 #[inline(always)]
-pub(crate) fn action_of(given: &Action, params: &[Param]) -> Option<CSI> {
-    Some(match given.kind {
-        0 => CSI::Unspecified(Box::new(Unspecified::of(given, params)?)),
-        1..=100 => CSI::Sgr(sgr_of(given)?),
-        101..=200 => CSI::Cursor(cursor_of(given)?),
-        201..=300 => CSI::Edit(edit_of(given)?),
-        301..=400 => CSI::Mode(mode_of(given)?),
-        401..=500 => CSI::Device(Box::new(device_of(given, params)?)),
-        501..=600 => CSI::Mouse(mouse_of(given)?),
-        601..=700 => CSI::Window(Box::new(window_of(given)?)),
-        701..=800 => CSI::Keyboard(keyboard_of(given)?),
-        801 => CSI::SelectCharacterPath(CharacterPath::from_i64(given.first)?, given.second),
-        _ => return None,
-    })
+pub(crate) fn action_of<T>(given: &Action, params: &[Param], of: impl Fn(CSI) -> T) -> T {
+    match given.kind {
+        1..=14 => sgr_of(given, |sgr| of(CSI::Sgr(sgr))),
+        101..=127 => cursor_of(given, |cursor| of(CSI::Cursor(cursor))),
+        201..=210 => edit_of(given, |edit| of(CSI::Edit(edit))),
+        _ => other_of(given, params, of),
+    }
+}
+
+/// The action of a struct of another kind.
+#[inline(never)]
+fn other_of<T>(given: &Action, params: &[Param], of: impl Fn(CSI) -> T) -> T {
+    match given.kind {
+        0 => of(CSI::Unspecified(Box::new(unknown(
+            given,
+            tokens(given, params),
+        )))),
+        301..=309 => mode_of(given, |mode| of(CSI::Mode(mode))),
+        401..=414 => device_of(given, params, |device| of(CSI::Device(Box::new(device)))),
+        501..=502 => mouse_of(given, |mouse| of(CSI::Mouse(mouse))),
+        601..=634 => window_of(given, |window| of(CSI::Window(Box::new(window)))),
+        701..=705 => keyboard_of(given, |keyboard| of(CSI::Keyboard(keyboard))),
+        801 => of(CSI::SelectCharacterPath(
+            sure(CharacterPath::from_i64(given.first)),
+            given.second,
+        )),
+        _ => sure(None),
+    }
 }

@@ -15,24 +15,32 @@ pub fn characters(text: &[u8]) -> impl Iterator<Item = char> + Clone {
     })
 }
 
-/// How many bytes stand ahead of the first ESC, or all, by eight at a time.
+/// How many bytes stand ahead of the first ESC, or all: by sixteen at a time, then by eight, then one by one.
+#[inline]
 pub(crate) fn ahead_of_esc(bytes: &[u8]) -> usize {
-    const ONES: u64 = u64::from_ne_bytes([1; 8]);
-    let mut ahead = 0;
     let mut rest = bytes;
-    while let Some((word, others)) = rest.split_first_chunk() {
-        // What is 0 now is an ESC; the lowest bit that is set stands in the first of them.
-        let word = u64::from_le_bytes(*word) ^ (ONES * 0x1b);
-        let found = word.wrapping_sub(ONES) & !word & (ONES << 7);
-        if found != 0 {
-            return ahead + found.trailing_zeros() as usize / 8;
+    while let Some((block, others)) = rest.split_first_chunk::<16>() {
+        if block.iter().fold(false, |any, byte| any | (*byte == 0x1b)) {
+            break;
         }
-        ahead += 8;
         rest = others;
     }
-    ahead
-        + rest
-            .iter()
-            .position(|byte| *byte == 0x1b)
-            .unwrap_or(rest.len())
+    while let Some((word, others)) = rest.split_first_chunk() {
+        if let Some(ahead) = first_esc(word) {
+            return bytes.len() - rest.len() + ahead;
+        }
+        rest = others;
+    }
+    let ahead = rest.iter().position(|byte| *byte == 0x1b);
+    bytes.len() - rest.len() + ahead.unwrap_or(rest.len())
+}
+
+/// Where the first ESC is among eight bytes.
+#[inline(always)]
+pub(crate) fn first_esc(word: &[u8; 8]) -> Option<usize> {
+    const ONES: u64 = u64::from_ne_bytes([1; 8]);
+    // What is 0 now is an ESC; the lowest bit that is set stands in the first of them.
+    let word = u64::from_le_bytes(*word) ^ (ONES * 0x1b);
+    let found = word.wrapping_sub(ONES) & !word & (ONES << 7);
+    (found != 0).then(|| found.trailing_zeros() as usize / 8)
 }

@@ -274,6 +274,7 @@ pub fn normalise(bytes: &[u8], out: &mut [u8]) -> Normalised {
     unsafe { csicodec_normalise(bytes.as_ptr(), bytes.len(), out.as_mut_ptr(), out.len()) }
 }
 
+#[inline]
 pub fn next(bytes: &[u8], actions: &mut [Action], params: &mut [Param]) -> Front {
     // SAFETY: as above.
     unsafe {

@@ -10,7 +10,8 @@ from kinds_table import PATH
 # What has a variant more in no later version; the others grow as terminals do.
 CLOSED = {"Font", "ColorSpec", "CsiParam", "DecPrivateMode", "TerminalMode", "DeviceAttribute", "Esc"}
 
-# What has its tag in a byte of its own, where an event has its tag too.
+# What has its tag in a byte of its own, where an event has its tag too; and what is in a box stands last, so that one comparison tells
+# whether there is anything to drop.
 TAGGED = {"CSI"}
 
 # The groups whose actions are made where they are asked for.
@@ -24,6 +25,12 @@ def said(body):
             yield from re.findall(r"\b[A-Z]\w*", "".join(re.split("([(:])", line, maxsplit=1)[1:]))
 
 
+def boxed_last(body):
+    """The variants of a declaration, in this order."""
+    each = re.findall(r"(?:    ///.*\n)*    [A-Z].*\n", body)
+    return "".join(sorted(each, key=lambda variant: "Box<" in variant))
+
+
 def rust_types(subject, sources):
     own = {name for name, _, _, _ in declared(sources)} | {"Box", "Option"}
     others = {other for _, _, _, body in declared(sources) for other in said(body)} - own
@@ -33,6 +40,7 @@ def rust_types(subject, sources):
     for name, docs, derives, body in declared(sources):
         derives = "Clone, Debug, PartialEq, Eq, Hash" if "Drop" in derives else "Clone, Copy, Debug, PartialEq, Eq, Hash"
         growing = ("" if name in CLOSED else "#[non_exhaustive]\n") + ("#[repr(u8)]\n" if name in TAGGED else "")
+        body = boxed_last(body) if name in TAGGED else body
         out += f"\n{docs}#[derive({derives})]\n{growing}pub enum {name} {{\n{body}}}\n"
         rows_ = numbers_of(name, body)
         if not rows_:

@@ -767,16 +767,16 @@ pub enum CSI {
     Edit(Edit),
     /// Setting, resetting, saving, restoring and asking for modes.
     Mode(Mode),
-    /// What a terminal is, asked and answered.
-    Device(Box<Device>),
     /// A report of the mouse.
     Mouse(MouseReport),
-    /// What is done to the terminal's window, and the checksum of an area of the page.
-    Window(Box<Window>),
     /// The keyboard's protocol of kitty: its flags set, asked and answered.
     Keyboard(Keyboard),
     /// SCP (ECMA-48, 8.3.111): the path of characters, and what becomes of those that are shown.
     SelectCharacterPath(CharacterPath, i64),
+    /// What a terminal is, asked and answered.
+    Device(Box<Device>),
+    /// What is done to the terminal's window, and the checksum of an area of the page.
+    Window(Box<Window>),
     /// What none of the rules reads.
     Unspecified(Box<Unspecified>),
 }

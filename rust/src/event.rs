@@ -85,13 +85,16 @@ pub(crate) fn escape(bytes: &[u8]) -> Esc {
     }
 }
 
-/// The length of the escape sequence in front, where it is all there: ESC, an intermediate byte or none, and a final byte that neither
+/// The escape sequence in front and its length, where it is all there: ESC, an intermediate byte or none, and a final byte that neither
 /// opens a string nor ends one.
-pub(crate) fn escape_len(bytes: &[u8]) -> Option<usize> {
-    match bytes {
-        [_, 0x20..=0x2f, 0x30..=0x7e, ..] => Some(3),
+#[inline]
+pub(crate) fn front_escape(bytes: &[u8]) -> Option<(Esc, usize)> {
+    match *bytes {
+        [_, intermediate @ 0x20..=0x2f, control @ 0x30..=0x7e, ..] => {
+            Some((Esc::parse(Some(intermediate), control), 3))
+        }
         [_, b'P' | b'X' | b'[' | b'\\' | b']' | b'^' | b'_', ..] => None,
-        [_, 0x30..=0x7e, ..] => Some(2),
+        [_, control @ 0x30..=0x7e, ..] => Some((Esc::parse(None, control), 2)),
         _ => None,
     }
 }

@@ -1,6 +1,6 @@
 //! A terminal's stream, event by event.
 
-use crate::event::{Event, StringKind, escape, escape_len, piece};
+use crate::event::{Event, StringKind, escape, front_escape, piece};
 use crate::pending::LIMIT;
 use crate::raw::{Front, Told};
 use crate::room::Room;
@@ -117,12 +117,11 @@ impl Reader {
     /// An escape sequence that is all there.
     #[inline]
     fn escape<'a>(&mut self, rest: &mut &'a [u8]) -> Option<Event<'a>> {
-        let Some(len) = escape_len(rest) else {
+        let Some((esc, len)) = front_escape(rest) else {
             return self.told(rest);
         };
-        let (bytes, behind) = rest.split_at(len);
-        *rest = behind;
-        Some(Event::Esc(escape(bytes)))
+        *rest = &rest[len..];
+        Some(Event::Esc(esc))
     }
 
     /// The next event where something is open.

@@ -15,10 +15,11 @@ pub fn characters(text: &[u8]) -> impl Iterator<Item = char> + Clone {
     })
 }
 
-/// How many bytes stand ahead of the first ESC, or all: by sixteen at a time, then by eight, then one by one.
+/// How many bytes stand ahead of the first ESC, or all, where none is among the first eight: by sixteen at a time, then by eight, then one
+/// by one.
 #[inline]
 pub(crate) fn ahead_of_esc(bytes: &[u8]) -> usize {
-    let mut rest = bytes;
+    let mut rest = bytes.get(8..).unwrap_or(bytes);
     while let Some((block, others)) = rest.split_first_chunk::<16>() {
         if block.iter().fold(false, |any, byte| any | (*byte == 0x1b)) {
             break;

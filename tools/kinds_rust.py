@@ -14,6 +14,9 @@ CLOSED = {"Font", "ColorSpec", "CsiParam", "DecPrivateMode", "TerminalMode", "De
 # whether there is anything to drop.
 TAGGED = {"CSI"}
 
+# The colours of a struct, by its first number.
+COLORS = ["ColorSpec::Default", "ColorSpec::PaletteIndex(index(given.second))", "ColorSpec::TrueColor(rgba(given))"]
+
 # The groups whose actions are made where they are asked for.
 OFTEN = ["Sgr", "Cursor", "Edit"]
 
@@ -81,8 +84,9 @@ def rust_to(number, group, variant, form, names):
 def rust_of(number, group, variant, form, names):
     name, tail = source_name(group, variant)
     a, b = names_in(names)
+    of = lambda value: f"of(CSI::{group}({f'Box::new({value})' if is_boxed(group) else value}))"
     if form == "color":
-        return f"{number} => color(given, |color| of({name}(color))),\n"
+        return f"{number} => match given.first {{\n" + "".join(f"{n} => {of(f'{name}({value})')},\n" for n, value in enumerate(COLORS)) + "_ => sure(None),\n},\n"
     right = {
         "unit": "",
         "count": "(count(given.first))",
@@ -101,7 +105,7 @@ def rust_of(number, group, variant, form, names):
         "extensions": "(extensions(tokens(given, params)))",
         "graphics": "(graphics(given, tokens(given, params)))",
     }[form]
-    return f"{number} => of({name}{right}{tail}),\n"
+    return f"{number} => {of(name + right + tail)},\n"
 
 
 def numbers(group):
@@ -113,7 +117,7 @@ def numbers(group):
 def rust_rows():
     out = """//! The struct of each action, and the action of each struct. Written by tools/kinds.
 
-use crate::numbers::{color, color_row, count, extended_row, extensions, first, flags, font, font_number, graphics, graphics_row, place, report_row, row, second, sized_row, sure, tokens, unknown, unknown_row};
+use crate::numbers::{color_row, count, extended_row, extensions, first, flags, font, font_number, graphics, graphics_row, index, place, report_row, rgba, row, second, sized_row, sure, tokens, unknown, unknown_row};
 use crate::raw::{Action, Param};
 use crate::*;
 """
@@ -123,7 +127,7 @@ use crate::*;
         out += "".join(rust_to(*kind) for kind in of(group))
         out += "    }\n}\n"
         more = ", params: &[Param]" if has_tokens(group) else ""
-        out += f"\n#[inline(always)]\nfn {low(group)}_of<T>(given: &Action{more}, of: impl Fn({type_of(group)}) -> T) -> T {{\n    match given.kind {{\n"
+        out += f"\n#[inline(always)]\nfn {low(group)}_of<T>(given: &Action{more}, of: impl Fn(CSI) -> T) -> T {{\n    match given.kind {{\n"
         out += "".join(rust_of(*kind) for kind in of(group))
         out += "        _ => sure(None),\n    }\n}\n"
     out += """
@@ -144,7 +148,7 @@ pub(crate) fn action_of<T>(given: &Action, params: &[Param], of: impl Fn(CSI) ->
     match given.kind {{
 """
     for group in OFTEN:
-        out += f"        {numbers(group)} => {low(group)}_of(given, |{low(group)}| of(CSI::{group}({low(group)}))),\n"
+        out += f"        {numbers(group)} => {low(group)}_of(given, of),\n"
     out += f"""        _ => other_of(given, params, of),
     }}
 }}
@@ -157,8 +161,7 @@ fn other_of<T>(given: &Action, params: &[Param], of: impl Fn(CSI) -> T) -> T {{
 """
     for group in BY_NUMBER:
         if group not in OFTEN:
-            value = f"Box::new({low(group)})" if is_boxed(group) else low(group)
-            out += f"        {numbers(group)} => {low(group)}_of(given{', params' if has_tokens(group) else ''}, |{low(group)}| of(CSI::{group}({value}))),\n"
+            out += f"        {numbers(group)} => {low(group)}_of(given{', params' if has_tokens(group) else ''}, of),\n"
     out += f"""        {PATH} => of(CSI::SelectCharacterPath(sure(CharacterPath::from_i64(given.first)), given.second)),
         _ => sure(None),
     }}

@@ -82,16 +82,15 @@ pub(crate) fn color_row(kind: u32, color: &ColorSpec) -> Action {
     }
 }
 
+/// A place in the palette.
 #[inline(always)]
-pub(crate) fn color<T>(given: &Action, of: impl Fn(ColorSpec) -> T) -> T {
-    match given.first {
-        0 => of(ColorSpec::Default),
-        1 => of(ColorSpec::PaletteIndex(sure(given.second.try_into().ok()))),
-        2 => of(ColorSpec::TrueColor(SrgbaTuple(
-            given.red, given.green, given.blue, given.alpha,
-        ))),
-        _ => sure(None),
-    }
+pub(crate) fn index(number: i64) -> u8 {
+    sure(number.try_into().ok())
+}
+
+#[inline(always)]
+pub(crate) fn rgba(given: &Action) -> SrgbaTuple {
+    SrgbaTuple(given.red, given.green, given.blue, given.alpha)
 }
 
 /// An alternative font that isn't 1 to 9 has no text, and stands as a number that is refused.

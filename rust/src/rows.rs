@@ -1,8 +1,9 @@
 //! The struct of each action, and the action of each struct. Written by tools/kinds.
 
 use crate::numbers::{
-    color, color_row, count, extended_row, extensions, first, flags, font, font_number, graphics,
-    graphics_row, place, report_row, row, second, sized_row, sure, tokens, unknown, unknown_row,
+    color_row, count, extended_row, extensions, first, flags, font, font_number, graphics,
+    graphics_row, index, place, report_row, rgba, row, second, sized_row, sure, tokens, unknown,
+    unknown_row,
 };
 use crate::raw::{Action, Param};
 use crate::*;
@@ -27,24 +28,51 @@ fn sgr_struct(sgr: &Sgr) -> Action {
 }
 
 #[inline(always)]
-fn sgr_of<T>(given: &Action, of: impl Fn(Sgr) -> T) -> T {
+fn sgr_of<T>(given: &Action, of: impl Fn(CSI) -> T) -> T {
     match given.kind {
-        1 => of(Sgr::Reset),
-        2 => of(Sgr::Intensity(sure(Intensity::from_i64(given.first)))),
-        3 => of(Sgr::Underline(sure(Underline::from_i64(given.first)))),
-        4 => color(given, |color| of(Sgr::UnderlineColor(color))),
-        5 => of(Sgr::Blink(sure(Blink::from_i64(given.first)))),
-        6 => of(Sgr::Italic(given.first != 0)),
-        7 => of(Sgr::Inverse(given.first != 0)),
-        8 => of(Sgr::Invisible(given.first != 0)),
-        9 => of(Sgr::StrikeThrough(given.first != 0)),
-        10 => of(Sgr::Font(font(given.first))),
-        11 => color(given, |color| of(Sgr::Foreground(color))),
-        12 => color(given, |color| of(Sgr::Background(color))),
-        13 => of(Sgr::Overline(given.first != 0)),
-        14 => of(Sgr::VerticalAlign(sure(VerticalAlign::from_i64(
+        1 => of(CSI::Sgr(Sgr::Reset)),
+        2 => of(CSI::Sgr(Sgr::Intensity(sure(Intensity::from_i64(
             given.first,
-        )))),
+        ))))),
+        3 => of(CSI::Sgr(Sgr::Underline(sure(Underline::from_i64(
+            given.first,
+        ))))),
+        4 => match given.first {
+            0 => of(CSI::Sgr(Sgr::UnderlineColor(ColorSpec::Default))),
+            1 => of(CSI::Sgr(Sgr::UnderlineColor(ColorSpec::PaletteIndex(
+                index(given.second),
+            )))),
+            2 => of(CSI::Sgr(Sgr::UnderlineColor(ColorSpec::TrueColor(rgba(
+                given,
+            ))))),
+            _ => sure(None),
+        },
+        5 => of(CSI::Sgr(Sgr::Blink(sure(Blink::from_i64(given.first))))),
+        6 => of(CSI::Sgr(Sgr::Italic(given.first != 0))),
+        7 => of(CSI::Sgr(Sgr::Inverse(given.first != 0))),
+        8 => of(CSI::Sgr(Sgr::Invisible(given.first != 0))),
+        9 => of(CSI::Sgr(Sgr::StrikeThrough(given.first != 0))),
+        10 => of(CSI::Sgr(Sgr::Font(font(given.first)))),
+        11 => match given.first {
+            0 => of(CSI::Sgr(Sgr::Foreground(ColorSpec::Default))),
+            1 => of(CSI::Sgr(Sgr::Foreground(ColorSpec::PaletteIndex(index(
+                given.second,
+            ))))),
+            2 => of(CSI::Sgr(Sgr::Foreground(ColorSpec::TrueColor(rgba(given))))),
+            _ => sure(None),
+        },
+        12 => match given.first {
+            0 => of(CSI::Sgr(Sgr::Background(ColorSpec::Default))),
+            1 => of(CSI::Sgr(Sgr::Background(ColorSpec::PaletteIndex(index(
+                given.second,
+            ))))),
+            2 => of(CSI::Sgr(Sgr::Background(ColorSpec::TrueColor(rgba(given))))),
+            _ => sure(None),
+        },
+        13 => of(CSI::Sgr(Sgr::Overline(given.first != 0))),
+        14 => of(CSI::Sgr(Sgr::VerticalAlign(sure(VerticalAlign::from_i64(
+            given.first,
+        ))))),
         _ => sure(None),
     }
 }
@@ -102,55 +130,65 @@ fn cursor_struct(cursor: &Cursor) -> Action {
 }
 
 #[inline(always)]
-fn cursor_of<T>(given: &Action, of: impl Fn(Cursor) -> T) -> T {
+fn cursor_of<T>(given: &Action, of: impl Fn(CSI) -> T) -> T {
     match given.kind {
-        101 => of(Cursor::Up(count(given.first))),
-        102 => of(Cursor::Down(count(given.first))),
-        103 => of(Cursor::Right(count(given.first))),
-        104 => of(Cursor::Left(count(given.first))),
-        105 => of(Cursor::NextLine(count(given.first))),
-        106 => of(Cursor::PrecedingLine(count(given.first))),
-        107 => of(Cursor::CharacterAbsolute(place(given.first))),
-        108 => of(Cursor::CharacterPositionAbsolute(place(given.first))),
-        109 => of(Cursor::Position {
-            line: place(given.first),
-            col: place(given.second),
-        }),
-        110 => of(Cursor::ActivePositionReport {
-            line: place(given.first),
-            col: place(given.second),
-        }),
-        111 => of(Cursor::CharacterAndLinePosition {
-            line: place(given.first),
-            col: place(given.second),
-        }),
-        112 => of(Cursor::ForwardTabulation(count(given.first))),
-        113 => of(Cursor::BackwardTabulation(count(given.first))),
-        114 => of(Cursor::LineTabulation(count(given.first))),
-        115 => of(Cursor::CharacterPositionForward(count(given.first))),
-        116 => of(Cursor::CharacterPositionBackward(count(given.first))),
-        117 => of(Cursor::LinePositionAbsolute(count(given.first))),
-        118 => of(Cursor::LinePositionForward(count(given.first))),
-        119 => of(Cursor::LinePositionBackward(count(given.first))),
-        120 => of(Cursor::TabulationControl(sure(
-            CursorTabulationControl::from_i64(given.first),
-        ))),
-        121 => of(Cursor::TabulationClear(sure(TabulationClear::from_i64(
+        101 => of(CSI::Cursor(Cursor::Up(count(given.first)))),
+        102 => of(CSI::Cursor(Cursor::Down(count(given.first)))),
+        103 => of(CSI::Cursor(Cursor::Right(count(given.first)))),
+        104 => of(CSI::Cursor(Cursor::Left(count(given.first)))),
+        105 => of(CSI::Cursor(Cursor::NextLine(count(given.first)))),
+        106 => of(CSI::Cursor(Cursor::PrecedingLine(count(given.first)))),
+        107 => of(CSI::Cursor(Cursor::CharacterAbsolute(place(given.first)))),
+        108 => of(CSI::Cursor(Cursor::CharacterPositionAbsolute(place(
             given.first,
         )))),
-        122 => of(Cursor::SetTopAndBottomMargins {
+        109 => of(CSI::Cursor(Cursor::Position {
+            line: place(given.first),
+            col: place(given.second),
+        })),
+        110 => of(CSI::Cursor(Cursor::ActivePositionReport {
+            line: place(given.first),
+            col: place(given.second),
+        })),
+        111 => of(CSI::Cursor(Cursor::CharacterAndLinePosition {
+            line: place(given.first),
+            col: place(given.second),
+        })),
+        112 => of(CSI::Cursor(Cursor::ForwardTabulation(count(given.first)))),
+        113 => of(CSI::Cursor(Cursor::BackwardTabulation(count(given.first)))),
+        114 => of(CSI::Cursor(Cursor::LineTabulation(count(given.first)))),
+        115 => of(CSI::Cursor(Cursor::CharacterPositionForward(count(
+            given.first,
+        )))),
+        116 => of(CSI::Cursor(Cursor::CharacterPositionBackward(count(
+            given.first,
+        )))),
+        117 => of(CSI::Cursor(Cursor::LinePositionAbsolute(count(
+            given.first,
+        )))),
+        118 => of(CSI::Cursor(Cursor::LinePositionForward(count(given.first)))),
+        119 => of(CSI::Cursor(Cursor::LinePositionBackward(count(
+            given.first,
+        )))),
+        120 => of(CSI::Cursor(Cursor::TabulationControl(sure(
+            CursorTabulationControl::from_i64(given.first),
+        )))),
+        121 => of(CSI::Cursor(Cursor::TabulationClear(sure(
+            TabulationClear::from_i64(given.first),
+        )))),
+        122 => of(CSI::Cursor(Cursor::SetTopAndBottomMargins {
             top: place(given.first),
             bottom: place(given.second),
-        }),
-        123 => of(Cursor::SetLeftAndRightMargins {
+        })),
+        123 => of(CSI::Cursor(Cursor::SetLeftAndRightMargins {
             left: place(given.first),
             right: place(given.second),
-        }),
-        124 => of(Cursor::SaveCursor),
-        125 => of(Cursor::RestoreCursor),
-        126 => of(Cursor::RequestActivePositionReport),
-        127 => of(Cursor::CursorStyle(sure(CursorStyle::from_i64(
-            given.first,
+        })),
+        124 => of(CSI::Cursor(Cursor::SaveCursor)),
+        125 => of(CSI::Cursor(Cursor::RestoreCursor)),
+        126 => of(CSI::Cursor(Cursor::RequestActivePositionReport)),
+        127 => of(CSI::Cursor(Cursor::CursorStyle(sure(
+            CursorStyle::from_i64(given.first),
         )))),
         _ => sure(None),
     }
@@ -172,20 +210,22 @@ fn edit_struct(edit: &Edit) -> Action {
 }
 
 #[inline(always)]
-fn edit_of<T>(given: &Action, of: impl Fn(Edit) -> T) -> T {
+fn edit_of<T>(given: &Action, of: impl Fn(CSI) -> T) -> T {
     match given.kind {
-        201 => of(Edit::InsertCharacter(count(given.first))),
-        202 => of(Edit::InsertLine(count(given.first))),
-        203 => of(Edit::DeleteCharacter(count(given.first))),
-        204 => of(Edit::DeleteLine(count(given.first))),
-        205 => of(Edit::EraseCharacter(count(given.first))),
-        206 => of(Edit::ScrollUp(count(given.first))),
-        207 => of(Edit::ScrollDown(count(given.first))),
-        208 => of(Edit::Repeat(count(given.first))),
-        209 => of(Edit::EraseInDisplay(sure(EraseInDisplay::from_i64(
-            given.first,
+        201 => of(CSI::Edit(Edit::InsertCharacter(count(given.first)))),
+        202 => of(CSI::Edit(Edit::InsertLine(count(given.first)))),
+        203 => of(CSI::Edit(Edit::DeleteCharacter(count(given.first)))),
+        204 => of(CSI::Edit(Edit::DeleteLine(count(given.first)))),
+        205 => of(CSI::Edit(Edit::EraseCharacter(count(given.first)))),
+        206 => of(CSI::Edit(Edit::ScrollUp(count(given.first)))),
+        207 => of(CSI::Edit(Edit::ScrollDown(count(given.first)))),
+        208 => of(CSI::Edit(Edit::Repeat(count(given.first)))),
+        209 => of(CSI::Edit(Edit::EraseInDisplay(sure(
+            EraseInDisplay::from_i64(given.first),
         )))),
-        210 => of(Edit::EraseInLine(sure(EraseInLine::from_i64(given.first)))),
+        210 => of(CSI::Edit(Edit::EraseInLine(sure(EraseInLine::from_i64(
+            given.first,
+        ))))),
         _ => sure(None),
     }
 }
@@ -205,30 +245,36 @@ fn mode_struct(mode: &Mode) -> Action {
 }
 
 #[inline(always)]
-fn mode_of<T>(given: &Action, of: impl Fn(Mode) -> T) -> T {
+fn mode_of<T>(given: &Action, of: impl Fn(CSI) -> T) -> T {
     match given.kind {
-        301 => of(Mode::SetDecPrivateMode(sure(DecPrivateMode::at(
-            given.first,
+        301 => of(CSI::Mode(Mode::SetDecPrivateMode(sure(
+            DecPrivateMode::at(given.first),
         )))),
-        302 => of(Mode::ResetDecPrivateMode(sure(DecPrivateMode::at(
-            given.first,
+        302 => of(CSI::Mode(Mode::ResetDecPrivateMode(sure(
+            DecPrivateMode::at(given.first),
         )))),
-        303 => of(Mode::SaveDecPrivateMode(sure(DecPrivateMode::at(
-            given.first,
+        303 => of(CSI::Mode(Mode::SaveDecPrivateMode(sure(
+            DecPrivateMode::at(given.first),
         )))),
-        304 => of(Mode::RestoreDecPrivateMode(sure(DecPrivateMode::at(
-            given.first,
+        304 => of(CSI::Mode(Mode::RestoreDecPrivateMode(sure(
+            DecPrivateMode::at(given.first),
         )))),
-        305 => of(Mode::QueryDecPrivateMode(sure(DecPrivateMode::at(
-            given.first,
+        305 => of(CSI::Mode(Mode::QueryDecPrivateMode(sure(
+            DecPrivateMode::at(given.first),
         )))),
-        306 => of(Mode::SetMode(sure(TerminalMode::at(given.first)))),
-        307 => of(Mode::ResetMode(sure(TerminalMode::at(given.first)))),
-        308 => of(Mode::QueryMode(sure(TerminalMode::at(given.first)))),
-        309 => of(Mode::XtermKeyMode {
+        306 => of(CSI::Mode(Mode::SetMode(sure(TerminalMode::at(
+            given.first,
+        ))))),
+        307 => of(CSI::Mode(Mode::ResetMode(sure(TerminalMode::at(
+            given.first,
+        ))))),
+        308 => of(CSI::Mode(Mode::QueryMode(sure(TerminalMode::at(
+            given.first,
+        ))))),
+        309 => of(CSI::Mode(Mode::XtermKeyMode {
             resource: sure(XtermKeyModifierResource::from_i64(given.first)),
             value: second(given),
-        }),
+        })),
         _ => sure(None),
     }
 }
@@ -259,32 +305,45 @@ fn device_struct(device: &Device, params: &mut Vec<Param>) -> Action {
 }
 
 #[inline(always)]
-fn device_of<T>(given: &Action, params: &[Param], of: impl Fn(Device) -> T) -> T {
+fn device_of<T>(given: &Action, params: &[Param], of: impl Fn(CSI) -> T) -> T {
     match given.kind {
-        401 => of(Device::DeviceAttributes(
+        401 => of(CSI::Device(Box::new(Device::DeviceAttributes(
             DeviceAttributes::Vt100WithAdvancedVideoOption,
-        )),
-        402 => of(Device::DeviceAttributes(
+        )))),
+        402 => of(CSI::Device(Box::new(Device::DeviceAttributes(
             DeviceAttributes::Vt101WithNoOptions,
-        )),
-        403 => of(Device::DeviceAttributes(DeviceAttributes::Vt102)),
-        404 => of(Device::DeviceAttributes(DeviceAttributes::Vt220(
-            extensions(tokens(given, params)),
+        )))),
+        403 => of(CSI::Device(Box::new(Device::DeviceAttributes(
+            DeviceAttributes::Vt102,
+        )))),
+        404 => of(CSI::Device(Box::new(Device::DeviceAttributes(
+            DeviceAttributes::Vt220(extensions(tokens(given, params))),
+        )))),
+        405 => of(CSI::Device(Box::new(Device::DeviceAttributes(
+            DeviceAttributes::Vt320(extensions(tokens(given, params))),
+        )))),
+        406 => of(CSI::Device(Box::new(Device::DeviceAttributes(
+            DeviceAttributes::Vt420(extensions(tokens(given, params))),
+        )))),
+        407 => of(CSI::Device(Box::new(Device::SoftReset))),
+        408 => of(CSI::Device(Box::new(
+            Device::RequestPrimaryDeviceAttributes,
         ))),
-        405 => of(Device::DeviceAttributes(DeviceAttributes::Vt320(
-            extensions(tokens(given, params)),
+        409 => of(CSI::Device(Box::new(
+            Device::RequestSecondaryDeviceAttributes,
         ))),
-        406 => of(Device::DeviceAttributes(DeviceAttributes::Vt420(
-            extensions(tokens(given, params)),
+        410 => of(CSI::Device(Box::new(
+            Device::RequestTertiaryDeviceAttributes,
         ))),
-        407 => of(Device::SoftReset),
-        408 => of(Device::RequestPrimaryDeviceAttributes),
-        409 => of(Device::RequestSecondaryDeviceAttributes),
-        410 => of(Device::RequestTertiaryDeviceAttributes),
-        411 => of(Device::RequestTerminalNameAndVersion),
-        412 => of(Device::RequestTerminalParameters(given.first)),
-        413 => of(Device::StatusReport),
-        414 => of(Device::XtSmGraphics(graphics(given, tokens(given, params)))),
+        411 => of(CSI::Device(Box::new(Device::RequestTerminalNameAndVersion))),
+        412 => of(CSI::Device(Box::new(Device::RequestTerminalParameters(
+            given.first,
+        )))),
+        413 => of(CSI::Device(Box::new(Device::StatusReport))),
+        414 => of(CSI::Device(Box::new(Device::XtSmGraphics(graphics(
+            given,
+            tokens(given, params),
+        ))))),
         _ => sure(None),
     }
 }
@@ -307,20 +366,20 @@ fn mouse_struct(mouse: &MouseReport) -> Action {
 }
 
 #[inline(always)]
-fn mouse_of<T>(given: &Action, of: impl Fn(MouseReport) -> T) -> T {
+fn mouse_of<T>(given: &Action, of: impl Fn(CSI) -> T) -> T {
     match given.kind {
-        501 => of(MouseReport::SGR1006 {
+        501 => of(CSI::Mouse(MouseReport::SGR1006 {
             x: sure(given.first.try_into().ok()),
             y: sure(given.second.try_into().ok()),
             button: sure(MouseButton::from_i64(i64::from(given.button))),
             modifiers: Modifiers::from_bits_retain(given.modifiers),
-        }),
-        502 => of(MouseReport::SGR1016 {
+        })),
+        502 => of(CSI::Mouse(MouseReport::SGR1016 {
             x_pixels: sure(given.first.try_into().ok()),
             y_pixels: sure(given.second.try_into().ok()),
             button: sure(MouseButton::from_i64(i64::from(given.button))),
             modifiers: Modifiers::from_bits_retain(given.modifiers),
-        }),
+        })),
         _ => sure(None),
     }
 }
@@ -378,61 +437,63 @@ fn window_struct(window: &Window) -> Action {
 }
 
 #[inline(always)]
-fn window_of<T>(given: &Action, of: impl Fn(Window) -> T) -> T {
+fn window_of<T>(given: &Action, of: impl Fn(CSI) -> T) -> T {
     match given.kind {
-        601 => of(Window::DeIconify),
-        602 => of(Window::Iconify),
-        603 => of(Window::MoveWindow {
+        601 => of(CSI::Window(Box::new(Window::DeIconify))),
+        602 => of(CSI::Window(Box::new(Window::Iconify))),
+        603 => of(CSI::Window(Box::new(Window::MoveWindow {
             x: given.first,
             y: given.second,
-        }),
-        604 => of(Window::ResizeWindowPixels {
+        }))),
+        604 => of(CSI::Window(Box::new(Window::ResizeWindowPixels {
             width: first(given),
             height: second(given),
-        }),
-        605 => of(Window::RaiseWindow),
-        606 => of(Window::LowerWindow),
-        607 => of(Window::ReportCellSizePixelsResponse {
+        }))),
+        605 => of(CSI::Window(Box::new(Window::RaiseWindow))),
+        606 => of(CSI::Window(Box::new(Window::LowerWindow))),
+        607 => of(CSI::Window(Box::new(
+            Window::ReportCellSizePixelsResponse {
+                width: first(given),
+                height: second(given),
+            },
+        ))),
+        608 => of(CSI::Window(Box::new(Window::RefreshWindow))),
+        609 => of(CSI::Window(Box::new(Window::ResizeWindowCells {
             width: first(given),
             height: second(given),
-        }),
-        608 => of(Window::RefreshWindow),
-        609 => of(Window::ResizeWindowCells {
-            width: first(given),
-            height: second(given),
-        }),
-        610 => of(Window::RestoreMaximizedWindow),
-        611 => of(Window::MaximizeWindow),
-        612 => of(Window::MaximizeWindowVertically),
-        613 => of(Window::MaximizeWindowHorizontally),
-        614 => of(Window::UndoFullScreenMode),
-        615 => of(Window::ChangeToFullScreenMode),
-        616 => of(Window::ToggleFullScreen),
-        617 => of(Window::ReportWindowState),
-        618 => of(Window::ReportWindowPosition),
-        619 => of(Window::ReportTextAreaPosition),
-        620 => of(Window::ReportTextAreaSizePixels),
-        621 => of(Window::ReportWindowSizePixels),
-        622 => of(Window::ReportScreenSizePixels),
-        623 => of(Window::ReportCellSizePixels),
-        624 => of(Window::ReportTextAreaSizeCells),
-        625 => of(Window::ReportScreenSizeCells),
-        626 => of(Window::ReportIconLabel),
-        627 => of(Window::ReportWindowTitle),
-        628 => of(Window::PushIconAndWindowTitle),
-        629 => of(Window::PushIconTitle),
-        630 => of(Window::PushWindowTitle),
-        631 => of(Window::PopIconAndWindowTitle),
-        632 => of(Window::PopIconTitle),
-        633 => of(Window::PopWindowTitle),
-        634 => of(Window::ChecksumRectangularArea {
+        }))),
+        610 => of(CSI::Window(Box::new(Window::RestoreMaximizedWindow))),
+        611 => of(CSI::Window(Box::new(Window::MaximizeWindow))),
+        612 => of(CSI::Window(Box::new(Window::MaximizeWindowVertically))),
+        613 => of(CSI::Window(Box::new(Window::MaximizeWindowHorizontally))),
+        614 => of(CSI::Window(Box::new(Window::UndoFullScreenMode))),
+        615 => of(CSI::Window(Box::new(Window::ChangeToFullScreenMode))),
+        616 => of(CSI::Window(Box::new(Window::ToggleFullScreen))),
+        617 => of(CSI::Window(Box::new(Window::ReportWindowState))),
+        618 => of(CSI::Window(Box::new(Window::ReportWindowPosition))),
+        619 => of(CSI::Window(Box::new(Window::ReportTextAreaPosition))),
+        620 => of(CSI::Window(Box::new(Window::ReportTextAreaSizePixels))),
+        621 => of(CSI::Window(Box::new(Window::ReportWindowSizePixels))),
+        622 => of(CSI::Window(Box::new(Window::ReportScreenSizePixels))),
+        623 => of(CSI::Window(Box::new(Window::ReportCellSizePixels))),
+        624 => of(CSI::Window(Box::new(Window::ReportTextAreaSizeCells))),
+        625 => of(CSI::Window(Box::new(Window::ReportScreenSizeCells))),
+        626 => of(CSI::Window(Box::new(Window::ReportIconLabel))),
+        627 => of(CSI::Window(Box::new(Window::ReportWindowTitle))),
+        628 => of(CSI::Window(Box::new(Window::PushIconAndWindowTitle))),
+        629 => of(CSI::Window(Box::new(Window::PushIconTitle))),
+        630 => of(CSI::Window(Box::new(Window::PushWindowTitle))),
+        631 => of(CSI::Window(Box::new(Window::PopIconAndWindowTitle))),
+        632 => of(CSI::Window(Box::new(Window::PopIconTitle))),
+        633 => of(CSI::Window(Box::new(Window::PopWindowTitle))),
+        634 => of(CSI::Window(Box::new(Window::ChecksumRectangularArea {
             request_id: given.first,
             page_number: given.second,
             top: sure(OneBased::new(given.top)),
             left: sure(OneBased::new(given.left)),
             bottom: sure(OneBased::new(given.bottom)),
             right: sure(OneBased::new(given.right)),
-        }),
+        }))),
         _ => sure(None),
     }
 }
@@ -450,19 +511,21 @@ fn keyboard_struct(keyboard: &Keyboard) -> Action {
 }
 
 #[inline(always)]
-fn keyboard_of<T>(given: &Action, of: impl Fn(Keyboard) -> T) -> T {
+fn keyboard_of<T>(given: &Action, of: impl Fn(CSI) -> T) -> T {
     match given.kind {
-        701 => of(Keyboard::SetKittyState {
+        701 => of(CSI::Keyboard(Keyboard::SetKittyState {
             flags: flags(given.first),
             mode: sure(KittyKeyboardMode::from_i64(given.second)),
-        }),
-        702 => of(Keyboard::PushKittyState {
+        })),
+        702 => of(CSI::Keyboard(Keyboard::PushKittyState {
             flags: flags(given.first),
             mode: sure(KittyKeyboardMode::from_i64(given.second)),
-        }),
-        703 => of(Keyboard::PopKittyState(count(given.first))),
-        704 => of(Keyboard::QueryKittySupport),
-        705 => of(Keyboard::ReportKittyState(flags(given.first))),
+        })),
+        703 => of(CSI::Keyboard(Keyboard::PopKittyState(count(given.first)))),
+        704 => of(CSI::Keyboard(Keyboard::QueryKittySupport)),
+        705 => of(CSI::Keyboard(Keyboard::ReportKittyState(flags(
+            given.first,
+        )))),
         _ => sure(None),
     }
 }
@@ -487,9 +550,9 @@ pub(crate) fn struct_of(action: &CSI, params: &mut Vec<Param>) -> Action {
 #[inline(always)]
 pub(crate) fn action_of<T>(given: &Action, params: &[Param], of: impl Fn(CSI) -> T) -> T {
     match given.kind {
-        1..=14 => sgr_of(given, |sgr| of(CSI::Sgr(sgr))),
-        101..=127 => cursor_of(given, |cursor| of(CSI::Cursor(cursor))),
-        201..=210 => edit_of(given, |edit| of(CSI::Edit(edit))),
+        1..=14 => sgr_of(given, of),
+        101..=127 => cursor_of(given, of),
+        201..=210 => edit_of(given, of),
         _ => other_of(given, params, of),
     }
 }
@@ -502,11 +565,11 @@ fn other_of<T>(given: &Action, params: &[Param], of: impl Fn(CSI) -> T) -> T {
             given,
             tokens(given, params),
         )))),
-        301..=309 => mode_of(given, |mode| of(CSI::Mode(mode))),
-        401..=414 => device_of(given, params, |device| of(CSI::Device(Box::new(device)))),
-        501..=502 => mouse_of(given, |mouse| of(CSI::Mouse(mouse))),
-        601..=634 => window_of(given, |window| of(CSI::Window(Box::new(window)))),
-        701..=705 => keyboard_of(given, |keyboard| of(CSI::Keyboard(keyboard))),
+        301..=309 => mode_of(given, of),
+        401..=414 => device_of(given, params, of),
+        501..=502 => mouse_of(given, of),
+        601..=634 => window_of(given, of),
+        701..=705 => keyboard_of(given, of),
         801 => of(CSI::SelectCharacterPath(
             sure(CharacterPath::from_i64(given.first)),
             given.second,

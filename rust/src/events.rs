@@ -20,10 +20,9 @@ pub(crate) struct Reader {
     pub(crate) ends: bool,
     /// Of the string that is open.
     string: StringKind,
-    /// The actions of a sequence that aren't given yet, from `given` to `count`, and how many bytes it has.
+    /// The actions of a sequence that aren't given yet, from `given` to `count`. Its bytes are used with the first one.
     pub(crate) given: usize,
     pub(crate) count: usize,
-    used: usize,
     pub(crate) room: Room,
 }
 
@@ -37,7 +36,6 @@ impl Reader {
             string: StringKind::Osc,
             given: 0,
             count: 0,
-            used: 0,
             room: Room::new(),
         }
     }
@@ -102,8 +100,9 @@ impl Reader {
         if !self.room.holds(front) {
             return self.again(front, rest);
         }
-        (self.given, self.count, self.used) = (0, front.actions, front.used);
-        self.action(rest)
+        *rest = &rest[front.used..];
+        (self.given, self.count) = (0, front.actions);
+        self.action()
     }
 
     /// The same with more room.
@@ -128,7 +127,7 @@ impl Reader {
     #[inline(never)]
     fn further<'a>(&mut self, rest: &mut &'a [u8]) -> Option<Event<'a>> {
         if self.given < self.count {
-            return self.action(rest);
+            return self.action();
         }
         self.told(rest)
     }
@@ -155,11 +154,11 @@ impl Reader {
             return None;
         }
         let (bytes, behind) = rest.split_at(told.used);
-        if told.kind == 2 {
-            (self.given, self.count, self.used) = (0, told.actions, told.used);
-            return self.action(rest);
-        }
         *rest = behind;
+        if told.kind == 2 {
+            (self.given, self.count) = (0, told.actions);
+            return self.action();
+        }
         Some(match told.kind {
             1 => Event::Text(bytes),
             3 => Event::Esc(escape(bytes)),
@@ -169,14 +168,11 @@ impl Reader {
         })
     }
 
-    /// The next action of a sequence. Its bytes are used with the last one.
-    pub(crate) fn action<'a>(&mut self, rest: &mut &[u8]) -> Option<Event<'a>> {
+    /// The next action of a sequence.
+    pub(crate) fn action<'a>(&mut self) -> Option<Event<'a>> {
         let place = self.given;
         self.given += 1;
         self.open = self.given < self.count;
-        if !self.open {
-            *rest = &rest[self.used..];
-        }
         self.room.told(place)
     }
 }

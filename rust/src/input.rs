@@ -82,7 +82,7 @@ impl Reader {
         rest: &mut &'a [u8],
     ) -> Option<InputEvent<'a>> {
         if self.given < self.count {
-            return self.action(rest).map(InputEvent::Output);
+            return self.action().map(InputEvent::Output);
         }
         let received = (self.room).input(dialect as u32, self.mode, self.looked, rest);
         if received.status == 0 && received.kind > 6 {

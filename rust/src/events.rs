@@ -1,25 +1,23 @@
 //! A terminal's stream, event by event.
 
-use crate::event::{Event, StringKind, escape, front_escape, piece};
+use crate::event::{Event, StringKind, front_escape};
 use crate::pending::LIMIT;
-use crate::raw::{Front, Told};
 use crate::room::Room;
 use crate::text::{ahead_of_esc, first_esc};
-use std::mem::take;
 
-const TEXT: u32 = 0;
+pub(crate) const TEXT: u32 = 0;
 
 /// What the bytes before a place leave open, and room that is kept.
 #[derive(Clone, Debug)]
 pub(crate) struct Reader {
     /// Whether a control is open, or a sequence has actions that aren't given yet.
-    open: bool,
+    pub(crate) open: bool,
     pub(crate) mode: u32,
     pub(crate) looked: usize,
     /// Whether nothing follows the bytes.
     pub(crate) ends: bool,
     /// Of the string that is open.
-    string: StringKind,
+    pub(crate) string: StringKind,
     /// The actions of a sequence that aren't given yet, from `given` to `count`. Its bytes are used with the first one.
     pub(crate) given: usize,
     pub(crate) count: usize,
@@ -59,13 +57,12 @@ impl Reader {
     /// Text up to an ESC: among the first eight bytes, as mostly, or further on.
     #[inline]
     fn text<'a>(&mut self, rest: &mut &'a [u8]) -> Option<Event<'a>> {
-        let near = rest.first_chunk().and_then(first_esc);
-        let ahead = match near {
+        let ahead = match rest.first_chunk().and_then(first_esc) {
             Some(ahead) => ahead,
             None => match self.far_text(rest) {
                 0 => return self.told(rest),
                 ahead => ahead,
-            }
+            },
         };
         let (text, behind) = rest.split_at(ahead);
         *rest = behind;
@@ -82,35 +79,13 @@ impl Reader {
 
     /// A control sequence that is all there, with one action, as most are.
     #[inline]
-    fn sequence<'a>(&mut self, rest: &mut &'a [u8]) -> Option<Event<'a>> {
+    pub(crate) fn sequence<'a>(&mut self, rest: &mut &'a [u8]) -> Option<Event<'a>> {
         let front = self.room.next(&rest[..rest.len().min(LIMIT)]);
         if front.actions != 1 || front.params != 0 {
             return self.several(&front, rest);
         }
         *rest = &rest[front.used..];
         self.room.told(0)
-    }
-
-    /// One with several actions, or with tokens, or one that is refused: then it has no actions.
-    #[inline(never)]
-    fn several<'a>(&mut self, front: &Front, rest: &mut &'a [u8]) -> Option<Event<'a>> {
-        if front.actions == 0 {
-            return self.told(rest);
-        }
-        if !self.room.holds(front) {
-            return self.again(front, rest);
-        }
-        *rest = &rest[front.used..];
-        (self.given, self.count) = (0, front.actions);
-        self.action()
-    }
-
-    /// The same with more room.
-    #[cold]
-    #[inline(never)]
-    fn again<'a>(&mut self, front: &Front, rest: &mut &'a [u8]) -> Option<Event<'a>> {
-        self.room.grow(front.actions, front.params);
-        self.sequence(rest)
     }
 
     /// An escape sequence that is all there.
@@ -121,59 +96,6 @@ impl Reader {
         };
         *rest = &rest[len..];
         Some(Event::Esc(esc))
-    }
-
-    /// The next event where something is open.
-    #[inline(never)]
-    fn further<'a>(&mut self, rest: &mut &'a [u8]) -> Option<Event<'a>> {
-        if self.given < self.count {
-            return self.action();
-        }
-        self.told(rest)
-    }
-
-    /// The next event, as the library tells it. What is unfinished where nothing follows is malformed.
-    #[inline(never)]
-    fn told<'a>(&mut self, rest: &mut &'a [u8]) -> Option<Event<'a>> {
-        let told = self.room.event(self.mode, LIMIT, self.looked, rest);
-        let event = self.event(told, rest);
-        if event.is_none() && self.ends && !rest.is_empty() {
-            return Some(Event::Other(take(rest)));
-        }
-        event
-    }
-
-    /// The event that was told.
-    pub(crate) fn event<'a>(&mut self, told: Told, rest: &mut &'a [u8]) -> Option<Event<'a>> {
-        self.looked = told.looked;
-        if told.status == 0 {
-            self.mode = told.mode;
-        }
-        self.open = self.mode != TEXT || self.looked != 0;
-        if told.status != 0 {
-            return None;
-        }
-        let (bytes, behind) = rest.split_at(told.used);
-        *rest = behind;
-        if told.kind == 2 {
-            (self.given, self.count) = (0, told.actions);
-            return self.action();
-        }
-        Some(match told.kind {
-            1 => Event::Text(bytes),
-            3 => Event::Esc(escape(bytes)),
-            4 => piece(&mut self.string, bytes, self.mode == TEXT),
-            6 => Event::Text(&behind[told.looked - 1..told.looked]),
-            _ => Event::Other(bytes),
-        })
-    }
-
-    /// The next action of a sequence.
-    pub(crate) fn action<'a>(&mut self) -> Option<Event<'a>> {
-        let place = self.given;
-        self.given += 1;
-        self.open = self.given < self.count;
-        self.room.told(place)
     }
 }
 

@@ -30,6 +30,7 @@ mod rows;
 mod spans;
 mod strip;
 mod text;
+mod told;
 mod types;
 mod values;
 

@@ -1,0 +1,84 @@
+//! The events of a stream that take longer: more than one action of a sequence, and what the library tells.
+
+use crate::event::{Event, escape, piece};
+use crate::events::{Reader, TEXT};
+use crate::pending::LIMIT;
+use crate::raw::{Front, Told};
+use std::mem::take;
+
+impl Reader {
+    /// A control sequence with several actions, or with tokens, or one that is refused: then it has no actions.
+    #[inline(never)]
+    pub(crate) fn several<'a>(&mut self, front: &Front, rest: &mut &'a [u8]) -> Option<Event<'a>> {
+        if front.actions == 0 {
+            return self.told(rest);
+        }
+        if !self.room.holds(front) {
+            return self.again(front, rest);
+        }
+        *rest = &rest[front.used..];
+        (self.given, self.count) = (0, front.actions);
+        self.action()
+    }
+
+    /// The same with more room.
+    #[cold]
+    #[inline(never)]
+    fn again<'a>(&mut self, front: &Front, rest: &mut &'a [u8]) -> Option<Event<'a>> {
+        self.room.grow(front.actions, front.params);
+        self.sequence(rest)
+    }
+
+    /// The next event where something is open.
+    #[inline(never)]
+    pub(crate) fn further<'a>(&mut self, rest: &mut &'a [u8]) -> Option<Event<'a>> {
+        if self.given < self.count {
+            return self.action();
+        }
+        self.told(rest)
+    }
+
+    /// The next event, as the library tells it. What is unfinished where nothing follows is malformed.
+    #[inline(never)]
+    pub(crate) fn told<'a>(&mut self, rest: &mut &'a [u8]) -> Option<Event<'a>> {
+        let told = self.room.event(self.mode, LIMIT, self.looked, rest);
+        let event = self.event(told, rest);
+        if event.is_none() && self.ends && !rest.is_empty() {
+            return Some(Event::Other(take(rest)));
+        }
+        event
+    }
+
+    /// The event that was told.
+    pub(crate) fn event<'a>(&mut self, told: Told, rest: &mut &'a [u8]) -> Option<Event<'a>> {
+        self.looked = told.looked;
+        if told.status == 0 {
+            self.mode = told.mode;
+        }
+        self.open = self.mode != TEXT || self.looked != 0;
+        if told.status != 0 {
+            return None;
+        }
+        let (bytes, behind) = rest.split_at(told.used);
+        *rest = behind;
+        if told.kind == 2 {
+            (self.given, self.count) = (0, told.actions);
+            return self.action();
+        }
+        Some(match told.kind {
+            1 => Event::Text(bytes),
+            3 => Event::Esc(escape(bytes)),
+            4 => piece(&mut self.string, bytes, self.mode == TEXT),
+            6 => Event::Text(&behind[told.looked - 1..told.looked]),
+            _ => Event::Other(bytes),
+        })
+    }
+
+    /// The next action of a sequence.
+    pub(crate) fn action<'a>(&mut self) -> Option<Event<'a>> {
+        let place = self.given;
+        self.given += 1;
+        self.open = self.given < self.count;
+        self.room.told(place)
+    }
+}

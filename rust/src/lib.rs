@@ -95,7 +95,8 @@ pub fn actions(bytes: &[u8]) -> Actions<'_> {
 impl Actions<'_> {
     /// The actions of the sequence at the front.
     fn read(&mut self) -> Result<(), Error> {
-        let answer = self.room.whole(self.rest);
+        let answer = self.room.near(self.rest);
+        let answer = self.room.whole(answer, self.rest);
         if answer.status != 0 {
             self.rest = &[];
             return Err(refusal(answer.status, self.start, answer.at));
@@ -166,7 +167,8 @@ pub fn front(bytes: &[u8]) -> Result<Front, Error> {
         });
     }
     let mut room = Room::new();
-    let answer = room.whole(bytes);
+    let answer = room.near(bytes);
+    let answer = room.whole(answer, bytes);
     if answer.status != 0 {
         return Err(refusal(answer.status, 0, answer.at));
     }

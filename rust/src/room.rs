@@ -3,9 +3,14 @@
 use crate::pending::LIMIT;
 use crate::{CSI, Event, raw, rows};
 
-/// Structs of actions and tokens, as many as any sequence so far had.
+/// How many structs, and how many tokens, there is always room for.
+const NEAR: usize = 16;
+
+/// Structs of actions and tokens: those of a sequence with few of them are near.
 #[derive(Clone, Debug)]
 pub(crate) struct Room {
+    near: Box<([raw::Action; NEAR], [raw::Param; NEAR])>,
+    /// Those of a sequence with more of either; else there are none.
     actions: Vec<raw::Action>,
     params: Vec<raw::Param>,
 }
@@ -13,57 +18,46 @@ pub(crate) struct Room {
 impl Room {
     pub(crate) fn new() -> Self {
         Room {
-            actions: vec![raw::Action::default(); 16],
-            params: vec![raw::Param::default(); 16],
+            near: Box::new(([raw::Action::default(); NEAR], [raw::Param::default(); NEAR])),
+            actions: Vec::new(),
+            params: Vec::new(),
         }
     }
 
-    /// Reads the sequence at the front of the bytes. As many of its actions as there is room for stand here.
+    /// Reads the sequence at the front of the bytes. As many of its actions as there is room for stand near.
     #[inline]
-    pub(crate) fn next(&mut self, bytes: &[u8]) -> raw::Front {
-        raw::next(bytes, &mut self.actions, &mut self.params)
+    pub(crate) fn near(&mut self, bytes: &[u8]) -> raw::Front {
+        let (actions, params) = &mut *self.near;
+        raw::next(bytes, actions, params)
     }
 
-    /// Whether all that an answer counts stands here.
+    /// The event that the first action near is, of a sequence with no tokens.
     #[inline(always)]
-    pub(crate) fn holds(&self, front: &raw::Front) -> bool {
-        front.actions <= self.actions.len() && front.params <= self.params.len()
+    pub(crate) fn first<'a>(&self) -> Option<Event<'a>> {
+        let first = &self.near.0[0];
+        rows::often_of(first, event, || other_event(first, &[]))
     }
 
-    /// Reads a sequence with all its actions.
+    /// Reads the sequence again, if not all its actions stand near.
     #[inline]
-    pub(crate) fn whole(&mut self, bytes: &[u8]) -> raw::Front {
-        let front = self.next(bytes);
-        if self.holds(&front) {
+    pub(crate) fn whole(&mut self, front: raw::Front, bytes: &[u8]) -> raw::Front {
+        if self.holds(front.actions, front.params) {
             return front;
         }
         self.grow(front.actions, front.params);
-        self.next(bytes)
+        raw::next(bytes, &mut self.actions, &mut self.params)
     }
 
     /// The event at the front of the bytes. Where it is a control sequence, all its actions stand here.
-    #[inline]
-    pub(crate) fn event(
-        &mut self,
-        mode: u32,
-        limit: usize,
-        looked: usize,
-        bytes: &[u8],
-    ) -> raw::Told {
-        let (actions, params) = (&mut self.actions, &mut self.params);
-        let told = raw::event(mode, limit, looked, bytes, actions, params);
-        if told.actions <= actions.len() && told.params <= params.len() {
+    pub(crate) fn event(&mut self, mode: u32, looked: usize, bytes: &[u8]) -> raw::Told {
+        let (actions, params) = &mut *self.near;
+        let told = raw::event(mode, LIMIT, looked, bytes, actions, params);
+        if self.holds(told.actions, told.params) {
             return told;
         }
         self.grow(told.actions, told.params);
-        raw::event(
-            mode,
-            limit,
-            looked,
-            bytes,
-            &mut self.actions,
-            &mut self.params,
-        )
+        let (actions, params) = (&mut self.actions, &mut self.params);
+        raw::event(mode, LIMIT, looked, bytes, actions, params)
     }
 
     /// The same of input in a dialect.
@@ -74,45 +68,66 @@ impl Room {
         looked: usize,
         bytes: &[u8],
     ) -> raw::Received {
-        loop {
-            let (actions, params) = (&mut self.actions, &mut self.params);
-            let told = raw::input(dialect, mode, LIMIT, looked, bytes, actions, params);
-            if told.actions <= actions.len() && told.params <= params.len() {
-                return told;
-            }
-            self.grow(told.actions, told.params);
+        let (actions, params) = &mut *self.near;
+        let told = raw::input(dialect, mode, LIMIT, looked, bytes, actions, params);
+        if self.holds(told.actions, told.params) {
+            return told;
         }
+        self.grow(told.actions, told.params);
+        let (actions, params) = (&mut self.actions, &mut self.params);
+        raw::input(dialect, mode, LIMIT, looked, bytes, actions, params)
+    }
+
+    /// Whether so many stand near; then there are no others.
+    #[inline(always)]
+    pub(crate) fn holds(&mut self, actions: usize, params: usize) -> bool {
+        self.actions.clear();
+        actions <= NEAR && params <= NEAR
     }
 
     /// Makes as much room as a sequence needs.
     #[cold]
     pub(crate) fn grow(&mut self, actions: usize, params: usize) {
-        let actions = actions.max(self.actions.len());
         self.actions.resize(actions, raw::Action::default());
-        let params = params.max(self.params.len());
         self.params.resize(params, raw::Param::default());
     }
 
     /// The action at a place, of those that were read last.
     #[inline]
     pub(crate) fn action(&self, place: usize) -> CSI {
-        action(&self.actions[place], &self.params)
+        match self.actions.get(place) {
+            Some(given) => action(given, &self.params),
+            None => action(&self.near.0[place], &self.near.1),
+        }
     }
 
     /// The same as an event.
-    #[inline]
     pub(crate) fn told<'a>(&self, place: usize) -> Option<Event<'a>> {
-        self.event_of(&self.actions[place])
-    }
-
-    #[inline(never)]
-    fn event_of<'a>(&self, given: &raw::Action) -> Option<Event<'a>> {
-        rows::action_of(given, &self.params, |action| Some(Event::Csi(action)))
+        match self.actions.get(place) {
+            Some(given) => event_of(given, &self.params),
+            None => event_of(&self.near.0[place], &self.near.1),
+        }
     }
 }
 
 /// The action of a struct that the library made, with the tokens that were put beside it.
 #[inline(never)]
 pub(crate) fn action(given: &raw::Action, params: &[raw::Param]) -> CSI {
-    rows::action_of(given, params, |action| action)
+    rows::often_of(given, |action| action, || rows::other_of(given, params))
+}
+
+/// The same as an event.
+#[inline(never)]
+fn event_of<'a>(given: &raw::Action, params: &[raw::Param]) -> Option<Event<'a>> {
+    rows::often_of(given, event, || other_event(given, params))
+}
+
+#[inline(never)]
+fn other_event<'a>(given: &raw::Action, params: &[raw::Param]) -> Option<Event<'a>> {
+    event(rows::other_of(given, params))
+}
+
+#[inline(always)]
+fn event<'a>(action: CSI) -> Option<Event<'a>> {
+    Some(Event::Csi(action))
 }

@@ -546,20 +546,21 @@ pub(crate) fn struct_of(action: &CSI, params: &mut Vec<Param>) -> Action {
     }
 }
 
-/// The action of a struct that the library made, with its tokens among `params`, as `of` takes it. It makes no other struct.
+/// The action of a struct that the library made, as `of` takes it, if its group is one that streams are full of.
 #[inline(always)]
-pub(crate) fn action_of<T>(given: &Action, params: &[Param], of: impl Fn(CSI) -> T) -> T {
+pub(crate) fn often_of<T>(given: &Action, of: impl Fn(CSI) -> T, other: impl Fn() -> T) -> T {
     match given.kind {
         1..=14 => sgr_of(given, of),
         101..=127 => cursor_of(given, of),
         201..=210 => edit_of(given, of),
-        _ => other_of(given, params, of),
+        _ => other(),
     }
 }
 
-/// The action of a struct of another kind.
+/// The action of a struct of another group, with its tokens among `params`. The library makes no other struct.
 #[inline(never)]
-fn other_of<T>(given: &Action, params: &[Param], of: impl Fn(CSI) -> T) -> T {
+pub(crate) fn other_of(given: &Action, params: &[Param]) -> CSI {
+    let of = |action| action;
     match given.kind {
         0 => of(CSI::Unspecified(Box::new(unknown(
             given,

@@ -13,20 +13,25 @@ impl Reader {
         if front.actions == 0 {
             return self.told(rest);
         }
-        if !self.room.holds(front) {
-            return self.again(front, rest);
+        if !self.room.holds(front.actions, front.params) {
+            return self.long(front, rest);
         }
         *rest = &rest[front.used..];
         (self.given, self.count) = (0, front.actions);
         self.action()
     }
 
-    /// The same with more room.
+    /// One with so many that it is read again.
     #[cold]
     #[inline(never)]
-    fn again<'a>(&mut self, front: &Front, rest: &mut &'a [u8]) -> Option<Event<'a>> {
-        self.room.grow(front.actions, front.params);
-        self.sequence(rest)
+    fn long<'a>(&mut self, front: &Front, rest: &mut &'a [u8]) -> Option<Event<'a>> {
+        let front = self.room.whole(*front, &rest[..rest.len().min(LIMIT)]);
+        if front.actions == 0 {
+            return self.told(rest);
+        }
+        *rest = &rest[front.used..];
+        (self.given, self.count) = (0, front.actions);
+        self.action()
     }
 
     /// The next event where something is open.
@@ -41,7 +46,7 @@ impl Reader {
     /// The next event, as the library tells it. What is unfinished where nothing follows is malformed.
     #[inline(never)]
     pub(crate) fn told<'a>(&mut self, rest: &mut &'a [u8]) -> Option<Event<'a>> {
-        let told = self.room.event(self.mode, LIMIT, self.looked, rest);
+        let told = self.room.event(self.mode, self.looked, rest);
         let event = self.event(told, rest);
         if event.is_none() && self.ends && !rest.is_empty() {
             return Some(Event::Other(take(rest)));

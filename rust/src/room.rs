@@ -18,7 +18,10 @@ pub(crate) struct Room {
 impl Room {
     pub(crate) fn new() -> Self {
         Room {
-            near: Box::new(([raw::Action::default(); NEAR], [raw::Param::default(); NEAR])),
+            near: Box::new((
+                [raw::Action::default(); NEAR],
+                [raw::Param::default(); NEAR],
+            )),
             actions: Vec::new(),
             params: Vec::new(),
         }

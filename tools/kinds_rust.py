@@ -31,6 +31,7 @@ def said(body):
 def boxed_last(body):
     """The variants of a declaration, in this order."""
     each = re.findall(r"(?:    ///.*\n)*    [A-Z].*\n", body)
+    assert "".join(each) == body
     return "".join(sorted(each, key=lambda variant: "Box<" in variant))
 
 
@@ -84,9 +85,9 @@ def rust_to(number, group, variant, form, names):
 def rust_of(number, group, variant, form, names):
     name, tail = source_name(group, variant)
     a, b = names_in(names)
-    of = lambda value: f"of(CSI::{group}({f'Box::new({value})' if is_boxed(group) else value}))"
+    passed = lambda value: f"of(CSI::{group}({f'Box::new({value})' if is_boxed(group) else value}))"
     if form == "color":
-        return f"{number} => match given.first {{\n" + "".join(f"{n} => {of(f'{name}({value})')},\n" for n, value in enumerate(COLORS)) + "_ => sure(None),\n},\n"
+        return f"{number} => match given.first {{\n" + "".join(f"{n} => {passed(f'{name}({value})')},\n" for n, value in enumerate(COLORS)) + "_ => sure(None),\n},\n"
     right = {
         "unit": "",
         "count": "(count(given.first))",
@@ -105,7 +106,7 @@ def rust_of(number, group, variant, form, names):
         "extensions": "(extensions(tokens(given, params)))",
         "graphics": "(graphics(given, tokens(given, params)))",
     }[form]
-    return f"{number} => {of(name + right + tail)},\n"
+    return f"{number} => {passed(name + right + tail)},\n"
 
 
 def numbers(group):

@@ -1,9 +1,9 @@
 //! Calls through the boundary.
 
 use csicodec::{
-    Blink, CSI, ColorSpec, CsiParam, Cursor, DecPrivateMode, Error, Font, Intensity, Mode,
-    OneBased, Sgr, SrgbaTuple, Underline, Unspecified, VerticalAlign, Window, actions, encode,
-    front, normalise,
+    Blink, CSI, ColorSpec, CsiParam, Cursor, DecPrivateMode, Error, Esc, EscCode, Font, Intensity,
+    Mode, OneBased, Sgr, SrgbaTuple, Underline, Unspecified, VerticalAlign, Window, actions,
+    encode, front, normalise,
 };
 
 fn all(bytes: &[u8]) -> Vec<CSI> {
@@ -164,4 +164,17 @@ fn cursors_on_a_page() {
         assert_eq!(cursor.target(from, page), wanted, "{text:?}");
     }
     assert_eq!(Cursor::Right(3).target((4, 7), (0, 0)), Some((0, 0)));
+}
+
+/// The package's own table of codes says of all bytes what the library's call says.
+#[test]
+fn escape_codes() {
+    for pair in 0..=u16::MAX {
+        let [intermediate, control] = pair.to_be_bytes();
+        let number = csicodec_sys::esc(intermediate, control);
+        let wanted = EscCode::from_i64(i64::from(number)).map(Esc::Code);
+        let parsed = Esc::parse((intermediate != 0).then_some(intermediate), control);
+        assert_eq!(matches!(parsed, Esc::Code(_)).then_some(parsed), wanted);
+        assert_eq!(wanted.is_some(), number != 0);
+    }
 }

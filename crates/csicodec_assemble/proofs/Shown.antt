@@ -7,12 +7,12 @@ use Rattle.serde_json.specs.Data.{Data, string}
 use Rattle.csicodec_assemble.specs.Object.{Shows, of_members, of_object}
 
 -- the members, whether the bytes are UTF-8 or not
-members : (u : Bool) (bytes : List ℕ) (text digits : Option Data) → IsBytes bytes
+members : (u : Bool) (bytes : List ℕ) (text digits actions : Option Data) → IsBytes bytes
     → text ≡ cond u (Some (string bytes)) None → digits ≡ cond u None (Some (string (encode_lower bytes)))
-    → of_members text digits ≡ Ok bytes
-members true bytes text digits fits e f = rw (e, f) refl
-members false bytes text digits fits e f = rw (e, f, decode_of-encode_lower bytes fits) refl
+    → of_members text digits actions ≡ Ok bytes
+members true bytes text digits actions fits e f = rw (e, f) refl
+members false bytes text digits actions fits e f = rw (e, f, decode_of-encode_lower bytes fits) refl
 
 pub read_back : (d : Data) (bytes : List ℕ) → IsBytes bytes → Shows d bytes → of_object d ≡ Ok bytes
 read_back d bytes fits shows =
-    rw (shows.object, shows.kind) (members (is_utf8 bytes) bytes _ _ fits shows.member.0 shows.member.1)
+    rw (shows.object, shows.kind) (members (is_utf8 bytes) bytes _ _ _ fits shows.member.0 shows.member.1)

@@ -17,6 +17,7 @@ fault_text fault.NoObject = codes "no object of JSON"
 fault_text fault.NoText = codes "text is no string"
 fault_text fault.NoHex = codes "hex is no string of digits in pairs"
 fault_text fault.Both = codes "both text and hex"
+fault_text fault.NoSequence = codes "neither text nor hex, and no sequences have these actions"
 fault_text fault.TooLong = codes "more than 16 MiB"
 
 -- the bytes of a text are its UTF-8
@@ -33,12 +34,13 @@ abbrev pub of_hex : Option (List ℕ) → Result (List ℕ) Fault
 of_hex (Some digits) = of_digits (decode_of digits)
 of_hex None = Err fault.NoHex
 
--- what `text` and `hex` say, where each is there
-abbrev pub of_members : Option Data → Option Data → Result (List ℕ) Fault
-of_members (Some text) None = of_text (as_str text)
-of_members None (Some digits) = of_hex (as_str digits)
-of_members None None = Ok []
-of_members (Some _) (Some _) = Err fault.Both
+-- what `text`, `hex` and `actions` say, where each is there; actions are of bytes that are to stand beside them
+abbrev pub of_members : Option Data → Option Data → Option Data → Result (List ℕ) Fault
+of_members (Some text) None _ = of_text (as_str text)
+of_members None (Some digits) _ = of_hex (as_str digits)
+of_members None None None = Ok []
+of_members None None (Some _) = Err fault.NoSequence
+of_members (Some _) (Some _) _ = Err fault.Both
 
 -- the kind of an object with sums, of which one is called `text`
 abbrev pub is_totals : Option (List ℕ) → Bool
@@ -52,7 +54,8 @@ kind_of d = option_and_then as_str (get (codes "kind") d)
 abbrev pub of_object : Data → Result (List ℕ) Fault
 of_object d =
     if is_some (as_object d) then
-    (if is_totals (kind_of d) then Ok [] else of_members (get (codes "text") d) (get (codes "hex") d))
+    (if is_totals (kind_of d) then Ok []
+    else of_members (get (codes "text") d) (get (codes "hex") d) (get (codes "actions") d))
     else Err fault.NoObject
 
 abbrev pub of_read : Option Data → Result (List ℕ) Fault

@@ -5,6 +5,7 @@
 //! {"at":0,"kind":"text","text":"hi"}          hi
 //! {"at":2,"kind":"text","hex":"ff"}           the byte FF
 //! {"at":3,"kind":"event","text":""}           nothing
+//! {"kind":"csi","actions":[]}                 a refusal
 //! ```
 #![tactic(auto)]
 

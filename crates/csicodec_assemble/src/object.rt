@@ -21,6 +21,8 @@ pub enum Fault {
     NoHex,
     /// It has `text` and `hex`.
     Both,
+    /// It has neither, but actions, which by themselves give no bytes here.
+    NoSequence,
     /// It has more bytes than a line may have.
     TooLong,
 }
@@ -34,6 +36,9 @@ impl fmt::Display for Fault {
             Fault::NoText => f.write_str("text is no string"),
             Fault::NoHex => f.write_str("hex is no string of digits in pairs"),
             Fault::Both => f.write_str("both text and hex"),
+            Fault::NoSequence => {
+                f.write_str("neither text nor hex, and no sequences have these actions")
+            }
             Fault::TooLong => f.write_str("more than 16 MiB"),
         }
     }
@@ -82,8 +87,8 @@ fn bytes_of_hex(alloc: Global, hex: &Value) -> Result<Vec<u8>, Refusal>
     }
 }
 
-/// The bytes that an object stands for: those of its `text` or of its `hex`; none where it has neither, and where it is of the kind
-/// `totals`, in which `text` is a sum. Other members mean nothing here.
+/// The bytes that an object stands for: those of its `text` or of its `hex`; none where it has neither, nor `actions`, and where it is of
+/// the kind `totals`, in which `text` is a sum. Other members mean nothing here.
 pub fn bytes_of(alloc: Global, object: &Value) -> Result<Vec<u8>, Refusal>
     ensures bytes { IfOk result (λ v. of_object (view object.now) ≡ Ok v.items) }
     ensures told { IfErr result (λ e. IsTold e (of_object (view object.now))) }
@@ -97,6 +102,7 @@ pub fn bytes_of(alloc: Global, object: &Value) -> Result<Vec<u8>, Refusal>
     match (object.get("text"), object.get("hex")) {
         (Some(text), None) => bytes_of_text(alloc, text),
         (None, Some(hex)) => bytes_of_hex(alloc, hex),
+        (None, None) if object.get("actions").is_some() => { Err(Refusal::Line(Fault::NoSequence)) }
         (None, None) => Ok(Vec::new(alloc)),
         (Some(_), Some(_)) => Err(Refusal::Line(Fault::Both)),
     }

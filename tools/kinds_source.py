@@ -53,8 +53,8 @@ def code_row(number, group, variant, form, names):
 SAID = {
     "Sgr": "/// The struct of an attribute.\n#[inline(always)]\n",
     "Cursor": "/// The struct of an action of the cursor.\n#[inline(always)]\n",
-    "Edit": "/// The struct of an edit.\n",
-    "Mode": "/// The struct of a change of a mode, or of a question for one.\n",
+    "Edit": "/// The struct of an edit.\n#[inline(always)]\n",
+    "Mode": "/// The struct of a change of a mode, or of a question for one.\n#[inline(always)]\n",
 }
 
 

@@ -1,8 +1,6 @@
 -- What is put of a list that was read.
 use Rattle.std.specs.Prelude.{map}
-use Rattle.std.proofs.Common.{◌≡◌, ◌≤◌, ◌⊎◌, ◌+◌, ◌-◌, ℕ, false, List, [], ◌∷◌, ◌++◌, length, get_or, take, drop, Some, None, refl, ap, sym, ◌∙◌, inl, arith, append-nil}
-use Rattle.std.proofs.lemmas.List.{take_all}
-use Rattle.std.specs.Option.{option_map}
+use Rattle.std.proofs.Common.{◌≡◌, ◌⊎◌, ◌+◌, ◌-◌, ℕ, false, List, [], ◌∷◌, ◌++◌, length, Some, None, refl, ap, sym, ◌∙◌, inl, append-nil}
 use Rattle.csicodec_tokens.specs.declared.param.CsiParam.{CsiParam}
 use Rattle.csicodec_actions.specs.declared.cursor.Cursor.{Cursor}
 use Rattle.csicodec_actions.specs.declared.edit.Edit.{Edit}
@@ -67,11 +65,6 @@ puts_one ao an given a made none puts params = puts_more ao ao an params 0 given
 
 -- ---- the answer
 
-pub two_cut : (xs : List ℕ) → 2 ≤ length xs → get_or xs 0 0 ≡ 27 → get_or xs 1 0 ≡ 91 → xs ≡ 27 ∷ 91 ∷ take (length xs - 2) (drop 2 xs)
-two_cut [] some a b = absurd (omega (arith, some))
-two_cut (x ∷ []) some a b = absurd (omega (arith, some))
-two_cut (x ∷ y ∷ xs) some a b = rw (a, b) (ap (λ (l : List ℕ). 27 ∷ 91 ∷ l) (sym (take_all (length (x ∷ y ∷ xs) - 2) xs (omega arith))))
-
 pub short_answer : (bytes body : List ℕ) (ao an : List Struct) (params : List Param) (count done : ℕ) (after : List ℕ) → bytes ≡ 27 ∷ 91 ∷ body → HasLaid body ao an count after
     → done ≡ status_number status.Done
     → IsDone bytes ao an params params (record { status = done; at = 0; used = length bytes - length after; actions = count; params = 0 })
@@ -81,6 +74,7 @@ short_answer bytes body ao an params count done after e g ok =
       all = g.all;
       are = g.are;
       ok = ok;
+      no_fault = refl;
       used_all = refl;
       lays = g.lays params;
     })))

@@ -9,7 +9,7 @@ use Rattle.csicodec_tokens.specs.declared.param.CsiParam.TheVariants.{Integer, P
 use Rattle.csicodec_tokens.specs.Digits.{IsDigit}
 use Rattle.csicodec_tokens.specs.Sequence.{IsBodyByte}
 use Rattle.csicodec_tokens.specs.Private.Reading.{HasRead, IsFirstToken}
-use Rattle.csicodec_tokens.proofs.Reading.{first_cut, read_all, read_more, read_none}
+use Rattle.csicodec_tokens.proofs.Reading.{read_all, read_more, read_none}
 use Rattle.csicodec_base.specs.declared.sgr.Sgr.{Sgr}
 use Rattle.csicodec_base.specs.FrontBy.{piece}
 use Rattle.csicodec_base.proofs.Table.{is_piece}
@@ -96,11 +96,7 @@ styled_all body rest behind after styles s h a e =
           (cut_more Styles (h.list ++ tokens) (map Styled styles) tokens tokens [] (Styled s) (h.cut tokens) (sym (append-nil tokens)) (block_last rest behind s a)));
     }
 
--- ---- bytes and room
-
--- bytes that begin with this one
-pub byte_cut : (xs : List ℕ) (b : ℕ) → 1 ≤ length xs → get_or xs 0 0 ≡ b → xs ≡ b ∷ take (length xs - 1) (drop 1 xs)
-byte_cut xs b some e = first_cut xs some ∙ ap (λ (x : ℕ). x ∷ take (length xs - 1) (drop 1 xs)) e
+-- ---- room
 
 pub one_put : (room : List CsiParam) (t : CsiParam) → 0 < length room → take 1 (slice_set room 0 t) ≡ t ∷ []
 one_put [] t some = absurd (omega (arith, some))

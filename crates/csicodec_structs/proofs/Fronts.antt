@@ -20,6 +20,7 @@ front_answer bytes rest list final ao an po pn answer reads (inl laid) = inl (re
   in_range = (read_kept bytes list final rest laid.all reads laid.are).0;
   named = (read_kept bytes list final rest laid.all reads laid.are).1;
   ok = laid.ok;
+  no_fault = laid.no_fault;
   used = omega (arith, laid.used_all, ap length reads.2, length-append reads.0 rest);
   count = laid.lays.actions;
   params = laid.lays.params;

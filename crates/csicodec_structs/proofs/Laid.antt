@@ -24,7 +24,7 @@ laid_length [] items = refl
 laid_length (x ∷ old) [] = refl
 laid_length (x ∷ old) (y ∷ items) = ap suc (laid_length old items)
 
-laid_none : {A : Type 0} (old : List A) → laid old [] ≡ old
+pub laid_none : {A : Type 0} (old : List A) → laid old [] ≡ old
 laid_none [] = refl
 laid_none (x ∷ old) = refl
 

@@ -66,6 +66,7 @@ pub record IsDone (bytes : List ℕ) (actions_old actions_new : List Struct)
   pub in_range : All InRange actions
   pub named : All IsNamed actions
   pub ok : answer.status ≡ status_number status.Done
+  pub no_fault : answer.at ≡ 0
   pub used : answer.used + length rest ≡ length bytes
   pub count : answer.actions ≡ length actions
   pub params : answer.params ≡ length (all_params actions)

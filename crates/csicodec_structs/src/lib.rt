@@ -23,4 +23,4 @@ pub use normalise::{Normalised, put_normal_form};
 pub use room::{fill, put};
 pub use rows::{cursor_struct, edit_struct, mode_struct, sgr_struct};
 pub use status::Status;
-pub use structs::{Param, Struct};
+pub use structs::{Param, Struct, row};

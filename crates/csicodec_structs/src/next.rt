@@ -15,7 +15,7 @@ use std::alloc::Global;
 pub struct Front {
     /// The number of a `Status`: `Done` where a sequence stands there, else as in `Normalised`.
     pub status: u32,
-    /// Of a refusal, the place of the fault.
+    /// Of a refusal, the place of the fault; else 0.
     pub at: usize,
     /// Of `Done`, how many bytes the sequence has.
     pub used: usize,
@@ -103,6 +103,10 @@ pub fn lay_by_tokens(
     ensures { IsDone bytes.now actions.old actions.new params.old params.new result
         ⊎ IsRefused bytes.now actions.old actions.new params.old params.new result }
 {
+    // What is no sequence is refused before the room is cleared.
+    if !matches!(bytes, [0x1b, b'[', ..]) {
+        return next_long(alloc, bytes, actions, params);
+    }
     let mut room = [CsiParam::Integer(0); 32];
     let read = match read_csi_within(&mut room, bytes) {
         Ok(read) => read,

@@ -94,6 +94,7 @@ pub fn cursor_struct(cursor: &Cursor) -> Struct
 }
 
 /// The struct of an edit.
+#[inline(always)]
 pub fn edit_struct(edit: &Edit) -> Struct
     ensures { result ≡ edit_struct edit.now }
 {
@@ -112,6 +113,7 @@ pub fn edit_struct(edit: &Edit) -> Struct
 }
 
 /// The struct of a change of a mode, or of a question for one.
+#[inline(always)]
 pub fn mode_struct(mode: &Mode) -> Struct
     ensures { result ≡ mode_struct mode.now }
 {

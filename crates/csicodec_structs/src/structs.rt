@@ -58,7 +58,7 @@ pub struct Param {
 
 /// A kind and two numbers.
 #[inline(always)]
-pub(crate) fn row(kind: u32, first: i64, second: i64) -> Struct
+pub fn row(kind: u32, first: i64, second: i64) -> Struct
     ensures { result ≡ row kind first second }
 {
     Struct {

@@ -64,6 +64,7 @@ pub record IsLaid (list : List CsiParam) (final used : ℕ) (actions_old actions
   pub all : List Action
   pub are : Actions list false final all
   pub ok : answer.status ≡ status_number status.Done
+  pub no_fault : answer.at ≡ 0
   pub used_all : answer.used ≡ used
   pub lays : Lays actions_old actions_new params_old params_new (record { actions = answer.actions; params = answer.params }) all
 

@@ -1,5 +1,6 @@
 use Rattle.std.proofs.Common.{arith}
-use Rattle.csicodec_front.proofs.Laid.{short_answer, two_cut}
+use Rattle.csicodec_streams.proofs.Positions.{two_cut}
+use Rattle.csicodec_front.proofs.Laid.{short_answer}
 use Rattle.csicodec_front.proofs.front.lay_front.Goals as goal
 
 pub returns : goal.returns

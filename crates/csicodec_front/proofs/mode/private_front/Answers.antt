@@ -1,7 +1,8 @@
 use Rattle.std.proofs.Common.{w64, rules, refl, arith}
 use Rattle.std.proofs.lemmas.Int.{to_z-of_z}
 use mir.Val.{SFits}
-use Rattle.csicodec_front.proofs.Styled.{byte_cut, byte_token}
+use Rattle.csicodec_streams.proofs.Positions.{byte_cut}
+use Rattle.csicodec_front.proofs.Styled.{byte_token}
 use Rattle.csicodec_front.proofs.mode.private_front.Goals as goal
 
 pub returns : goal.returns

@@ -1,6 +1,7 @@
 use Rattle.std.proofs.Common.{◌≡◌, ◌∷◌, get_or, length, take, drop, arith}
 use Rattle.std.proofs.lemmas.List.{length-set, take_more_set}
-use Rattle.csicodec_front.proofs.Styled.{byte_cut, styled_all, styled_more, styled_none}
+use Rattle.csicodec_streams.proofs.Positions.{byte_cut}
+use Rattle.csicodec_front.proofs.Styled.{styled_all, styled_more, styled_none}
 use Rattle.csicodec_front.proofs.styles.attributes_front.Goals as goal
 
 pub returns-in-109-clause-are : goal.returns-in-109-clause-are

@@ -4,9 +4,10 @@ use mir.Val.{SFits}
 use Rattle.csicodec_base.specs.declared.sgr.Sgr.TheVariants.{Reset}
 use Rattle.csicodec_actions.specs.Actions.{Sgr as Styled}
 use Rattle.csicodec_tokens.proofs.Reading.{read_all, read_none}
+use Rattle.csicodec_streams.proofs.Positions.{byte_cut}
 use Rattle.csicodec_front.proofs.Colors.{alone}
 use Rattle.csicodec_front.proofs.Laid.{puts_one}
-use Rattle.csicodec_front.proofs.Styled.{byte_cut, styled_all, styled_none}
+use Rattle.csicodec_front.proofs.Styled.{styled_all, styled_none}
 use Rattle.csicodec_front.proofs.styles.lay_style.Goals as goal
 
 pub returns-in-109-clause-some : goal.returns-in-109-clause-some

@@ -1,18 +1,17 @@
 -- The change of one private mode.
 use Rattle.std.specs.Prelude.{ℤ, pos}
-use Rattle.std.proofs.Common.{◌≡◌, ◌≤◌, ℕ, false, List, [], ◌∷◌, Some, refl, subst, sym, inr, arith}
-use Rattle.csicodec_tokens.specs.declared.param.CsiParam.{CsiParam}
+use Rattle.std.proofs.Common.{◌≡◌, ◌<◌, ℕ, false, List, [], ◌∷◌, Some, refl, ◌∙◌, inr, arith}
 use Rattle.csicodec_tokens.specs.declared.param.CsiParam.TheVariants.{Integer, P}
-use Rattle.csicodec_tokens.specs.Digits.{value}
 use Rattle.csicodec_tokens.specs.Sequence.{IsFinal}
-use Rattle.csicodec_tokens.specs.Private.Reading.{IsFirstToken}
 use Rattle.csicodec_tokens.proofs.Reading.{read_all, read_none}
 use Rattle.csicodec_actions.specs.declared.mode.Change.{Change}
 use Rattle.csicodec_actions.specs.declared.mode.Change.TheVariants as change
 use Rattle.csicodec_actions.specs.declared.mode.DecPrivateMode.{DecPrivateMode}
+use Rattle.csicodec_actions.specs.declared.mode.DecPrivateMode.TheVariants as dec
 use Rattle.csicodec_actions.specs.Actions as action
 use Rattle.csicodec_actions.specs.Kinds.{read, Dec}
-use Rattle.csicodec_actions.specs.Modes.{changed}
+use Rattle.csicodec_actions.specs.Modes.{changed, dec_number}
+use Rattle.csicodec_actions.proofs.Values.{dec-numbered}
 use Rattle.csicodec_parser.specs.Groups.{group}
 use Rattle.csicodec_parser.specs.Segments.{Actions}
 use Rattle.csicodec_parser.specs.declared.group.Group.TheVariants.{DecModes}
@@ -44,17 +43,22 @@ change_alone c n m found = rw (changes c (pos n)) (record {
   all = refl;
 })
 
-pub changed_one : (body behind after : List ℕ) (ao an : List Struct) (z : ℤ) (c : Change) (m : DecPrivateMode) (given : Struct) → ReadsOn body (P 63 ∷ Integer z ∷ []) behind → behind ≡ change_final c ∷ after
-    → read Dec z ≡ Some m → given ≡ mode_struct (changed c m) → PutsAt 0 given ao an → HasLaid body ao an 1 after
-changed_one body behind after ao an z c m given r e found made puts =
-    let first = r.2.1 in
-    let is : z ≡ pos (value first.front) = first.spelled.2 in
+-- a mode's struct has its number, by whatever name
+same_struct : (c : Change) (m : DecPrivateMode) (n : ℕ) → dec_number m ≡ n → mode_struct (changed c (dec.Unspecified n)) ≡ mode_struct (changed c m)
+same_struct change.Set m n is = rw is refl
+same_struct change.Reset m n is = rw is refl
+same_struct change.Save m n is = rw is refl
+same_struct change.Restore m n is = rw is refl
+
+pub changed_one : (body behind after : List ℕ) (ao an : List Struct) (n : ℕ) (c : Change) (given : Struct) → ReadsOn body (P 63 ∷ Integer (pos n) ∷ []) behind → behind ≡ change_final c ∷ after
+    → n < 65536 → given ≡ mode_struct (changed c (dec.Unspecified n)) → PutsAt 0 given ao an → HasLaid body ao an 1 after
+changed_one body behind after ao an n c given r e low made puts =
+    let (m, found, is) = dec-numbered n low in
     record {
-      list = P 63 ∷ Integer z ∷ [];
+      list = P 63 ∷ Integer (pos n) ∷ [];
       final = change_final c;
-      reads = read_all (27 ∷ 91 ∷ body) behind after (P 63 ∷ Integer z ∷ []) (change_final c) (has_read_on (27 ∷ 91 ∷ body) body behind [] (P 63 ∷ Integer z ∷ []) (read_none (27 ∷ 91 ∷ body) body refl) r) (is_final c) e;
+      reads = read_all (27 ∷ 91 ∷ body) behind after (P 63 ∷ Integer (pos n) ∷ []) (change_final c) (has_read_on (27 ∷ 91 ∷ body) body behind [] (P 63 ∷ Integer (pos n) ∷ []) (read_none (27 ∷ 91 ∷ body) body refl) r) (is_final c) e;
       all = action.Mode (changed c m) ∷ [];
-      are = subst (λ (x : ℤ). Actions (P 63 ∷ Integer x ∷ []) false (change_final c) (action.Mode (changed c m) ∷ [])) (sym is)
-          (change_alone c (value first.front) m (subst (λ (x : ℤ). read Dec x ≡ Some m) is found));
-      lays = puts_one ao an given (action.Mode (changed c m)) made refl puts;
+      are = change_alone c n m found;
+      lays = puts_one ao an given (action.Mode (changed c m)) (made ∙ same_struct c m n is) refl puts;
     }

@@ -1,26 +1,21 @@
 -- The tokens of one attribute.
-use Rattle.std.specs.Prelude.{ℤ, pos, nat_lt, is_some}
-use Rattle.std.proofs.Common.{◌≡◌, ◌<◌, ◌+◌, ℕ, true, false, List, [], ◌∷◌, ◌++◌, length, Option, Some, None, refl, sym, ap, subst, ◌∙◌, arith, append-nil, append_assoc}
+use Rattle.std.specs.Prelude.{pos}
+use Rattle.std.proofs.Common.{◌≡◌, ◌<◌, ℕ, List, [], ◌∷◌, ◌++◌, Some, refl, sym, subst, ◌∙◌, inl, inr, arith, append-nil, append_assoc}
 use Rattle.std.proofs.lemmas.Bool.{lt-ltb}
-use Rattle.std.proofs.lemmas.Option.{some_pair_parts}
 use Rattle.csicodec_tokens.specs.declared.param.CsiParam.{CsiParam}
 use Rattle.csicodec_tokens.specs.declared.param.CsiParam.TheVariants.{Integer, P}
+use Rattle.csicodec_tokens.specs.Digits.{IsDigit}
+use Rattle.csicodec_tokens.specs.Sequence.{IsBodyByte}
 use Rattle.csicodec_tokens.specs.Private.Reading.{HasRead, IsFirstToken}
 use Rattle.csicodec_tokens.proofs.Reading.{read_more}
-use Rattle.csicodec_names.specs.declared.codes.SgrCode.{SgrCode}
-use Rattle.csicodec_names.specs.declared.codes.SgrCode.TheVariants as code
 use Rattle.csicodec_names.specs.declared.color.ColorSpec.{ColorSpec}
 use Rattle.csicodec_names.specs.declared.color.ColorSpec.TheVariants as color
-use Rattle.csicodec_names.specs.Numbers.{number_of}
-use Rattle.csicodec_base.specs.Attributes.{action_of}
 use Rattle.csicodec_base.specs.FrontBy.{color_by, piece}
-use Rattle.csicodec_base.specs.Shapes.{color_shapes}
-use Rattle.csicodec_base.specs.Pieces.{Piece}
+use Rattle.csicodec_base.specs.Shapes.{Plane, color_shapes, painted}
 use Rattle.csicodec_base.specs.declared.sgr.Sgr.{Sgr}
-use Rattle.csicodec_base.specs.declared.sgr.Sgr.TheVariants as sgr
-use Rattle.csicodec_base.proofs.CodePieces.{front_38, front_48, one_token_front, paint}
-use Rattle.csicodec_base.proofs.Table.{piece_is}
-use Rattle.csicodec_front.specs.Private.Short.{IsAttribute, IsColor, ReadsOn}
+use Rattle.csicodec_base.proofs.CodePieces.{paint}
+use Rattle.csicodec_front.specs.Private.Short.{Ends, IsAttribute, IsColor, IsMark, IsStyled, ReadsOn, SetsAlone}
+use Rattle.csicodec_front.specs.declared.attributes.Style.{Style}
 
 -- ---- tokens in turn
 
@@ -37,71 +32,64 @@ has_read_on bytes text behind list (t ∷ tokens) h r =
 pub one_token : (text behind : List ℕ) (t : CsiParam) → IsFirstToken text t behind → ReadsOn text (t ∷ []) behind
 one_token text behind t first = (behind, first, refl)
 
+-- a byte that is no digit
+pub byte_token : (b : ℕ) (text others : List ℕ) → text ≡ b ∷ others → IsBodyByte b → ¬ IsDigit b → IsFirstToken text (P b) others
+byte_token b text others e body other = record { front = b ∷ []; parts = e; spelled = refl; spellable = (body, other); whole = tt }
+
+pub mark_token : (mark : ℕ) (text others : List ℕ) → IsMark mark → text ≡ mark ∷ others → IsFirstToken text (P mark) others
+mark_token mark text others (inl is) e = byte_token mark text others e (omega (arith, is), omega (arith, is)) (λ d. omega (arith, d.1, is))
+mark_token mark text others (inr is) e = byte_token mark text others e (omega (arith, is), omega (arith, is)) (λ d. omega (arith, d.1, is))
+
 -- ---- colours
 
-pub palette : (text parts behind : List ℕ) (kind index : ℕ) → kind ≡ 5 → index < 256 → ReadsOn text (P 59 ∷ Integer (pos kind) ∷ []) parts
-    → ReadsOn parts (P 59 ∷ Integer (pos index) ∷ []) behind → IsColor text (color.PaletteIndex index) behind
-palette text parts behind kind index five low k i = record {
-  tokens = P 59 ∷ Integer (pos 5) ∷ P 59 ∷ Integer (pos index) ∷ [];
-  reads = reads_then text parts behind (P 59 ∷ Integer (pos 5) ∷ []) (P 59 ∷ Integer (pos index) ∷ []) (rw five at k) i;
-  gives = λ more. rw (lt-ltb index 256 low) refl;
-  even = refl;
+pub palette : (mark : ℕ) (text parts behind : List ℕ) (way index : ℕ) → IsMark mark → way ≡ 5 → index < 256 → ReadsOn text (P mark ∷ Integer (pos way) ∷ []) parts
+    → ReadsOn parts (P mark ∷ Integer (pos index) ∷ []) behind → IsColor text (color.PaletteIndex index) behind
+palette mark text parts behind way index is five low k i = record {
+  tokens = P mark ∷ Integer (pos 5) ∷ P mark ∷ Integer (pos index) ∷ [];
+  reads = reads_then text parts behind (P mark ∷ Integer (pos 5) ∷ []) (P mark ∷ Integer (pos index) ∷ []) (rw five at k) i;
+  gives = λ more end. elim is [ inl colon ↦ rw (colon, lt-ltb index 256 low) refl | inr semicolon ↦ rw (semicolon, lt-ltb index 256 low) refl ];
+  even = elim is [ inl colon ↦ rw colon refl | inr semicolon ↦ rw semicolon refl ];
 }
 
-pub true_color : (text parts one two behind : List ℕ) (kind red green blue : ℕ) → kind ≡ 2 → red < 256 → green < 256 → blue < 256
-    → ReadsOn text (P 59 ∷ Integer (pos kind) ∷ []) parts → ReadsOn parts (P 59 ∷ Integer (pos red) ∷ []) one
-    → ReadsOn one (P 59 ∷ Integer (pos green) ∷ []) two → ReadsOn two (P 59 ∷ Integer (pos blue) ∷ []) behind
+-- the tokens of a true colour behind its code
+abbrev parts_of : ℕ → ℕ → ℕ → ℕ → List CsiParam
+parts_of mark red green blue = P mark ∷ Integer (pos 2) ∷ P mark ∷ Integer (pos red) ∷ P mark ∷ Integer (pos green) ∷ P mark ∷ Integer (pos blue) ∷ []
+
+true_given : (mark red green blue : ℕ) → IsMark mark → red < 256 → green < 256 → blue < 256 → (more : List CsiParam) → Ends more
+    → color_by 1 color_shapes (parts_of mark red green blue ++ more) ≡ Some (color.TrueColor (record { 0 = red; 1 = green; 2 = blue; 3 = 255 }), 9)
+true_given mark red green blue (inl colon) r g b [] end = rw (colon, lt-ltb red 256 r, lt-ltb green 256 g, lt-ltb blue 256 b) refl
+true_given mark red green blue (inl colon) r g b (t ∷ more) end = rw (colon, end, lt-ltb red 256 r, lt-ltb green 256 g, lt-ltb blue 256 b) refl
+true_given mark red green blue (inr semicolon) r g b more end = rw (semicolon, lt-ltb red 256 r, lt-ltb green 256 g, lt-ltb blue 256 b) refl
+
+pub true_color : (mark : ℕ) (text parts one two behind : List ℕ) (way red green blue : ℕ) → IsMark mark → way ≡ 2 → red < 256 → green < 256 → blue < 256
+    → ReadsOn text (P mark ∷ Integer (pos way) ∷ []) parts → ReadsOn parts (P mark ∷ Integer (pos red) ∷ []) one
+    → ReadsOn one (P mark ∷ Integer (pos green) ∷ []) two → ReadsOn two (P mark ∷ Integer (pos blue) ∷ []) behind
     → IsColor text (color.TrueColor (record { 0 = red; 1 = green; 2 = blue; 3 = 255 })) behind
-true_color text parts one two behind kind red green blue is r g b k rs gs bs = record {
-  tokens = P 59 ∷ Integer (pos 2) ∷ P 59 ∷ Integer (pos red) ∷ P 59 ∷ Integer (pos green) ∷ P 59 ∷ Integer (pos blue) ∷ [];
+true_color mark text parts one two behind way red green blue is two_parts r g b k rs gs bs = record {
+  tokens = parts_of mark red green blue;
   reads =
-      let last = P 59 ∷ Integer (pos blue) ∷ [] in
-      let more = P 59 ∷ Integer (pos green) ∷ last in
-      reads_then text parts behind (P 59 ∷ Integer (pos 2) ∷ []) (P 59 ∷ Integer (pos red) ∷ more) (rw is at k)
-      (reads_then parts one behind (P 59 ∷ Integer (pos red) ∷ []) more rs (reads_then one two behind (P 59 ∷ Integer (pos green) ∷ []) last gs bs));
-  gives = λ more. rw (lt-ltb red 256 r, lt-ltb green 256 g, lt-ltb blue 256 b) refl;
-  even = refl;
+      let last = P mark ∷ Integer (pos blue) ∷ [] in
+      let more = P mark ∷ Integer (pos green) ∷ last in
+      reads_then text parts behind (P mark ∷ Integer (pos 2) ∷ []) (P mark ∷ Integer (pos red) ∷ more) (rw two_parts at k)
+      (reads_then parts one behind (P mark ∷ Integer (pos red) ∷ []) more rs (reads_then one two behind (P mark ∷ Integer (pos green) ∷ []) last gs bs));
+  gives = true_given mark red green blue is r g b;
+  even = elim is [ inl colon ↦ rw colon refl | inr semicolon ↦ rw semicolon refl ];
 }
 
 -- ---- attributes
 
-pub foreground : (text mid behind : List ℕ) (z : ℤ) (c : ColorSpec) → z ≡ pos 38 → IsFirstToken text (Integer z) mid → IsColor mid c behind → IsAttribute text (sgr.Foreground c) behind
-foreground text mid behind z c is first colored = record {
-  number = pos 38;
+pub painted_by : (plane : Plane) (code : ℕ) → ((after : List CsiParam) → piece (Integer (pos code) ∷ after) ≡ paint plane (color_by 1 color_shapes after))
+    → (text mid behind : List ℕ) (n : ℕ) (c : ColorSpec) → n ≡ code → IsFirstToken text (Integer (pos n)) mid → IsColor mid c behind → IsAttribute text (painted plane c) behind
+painted_by plane code front text mid behind n c is first colored = record {
+  number = code;
   others = colored.tokens;
-  reads = (mid, subst (λ (n : ℤ). IsFirstToken text (Integer n) mid) is first, colored.reads);
-  gives = λ more. front_38 (colored.tokens ++ more) ∙ rw (colored.gives more) refl;
+  reads = (mid, rw is at first, colored.reads);
+  gives = λ more end. front (colored.tokens ++ more) ∙ rw (colored.gives more end) refl;
   even = colored.even;
 }
 
-pub background : (text mid behind : List ℕ) (z : ℤ) (c : ColorSpec) → z ≡ pos 48 → IsFirstToken text (Integer z) mid → IsColor mid c behind → IsAttribute text (sgr.Background c) behind
-background text mid behind z c is first colored = record {
-  number = pos 48;
-  others = colored.tokens;
-  reads = (mid, subst (λ (n : ℤ). IsFirstToken text (Integer n) mid) is first, colored.reads);
-  gives = λ more. front_48 (colored.tokens ++ more) ∙ rw (colored.gives more) refl;
-  even = colored.even;
-}
+alone : (text behind : List ℕ) (n : ℕ) (s : Sgr) → IsFirstToken text (Integer (pos n)) behind → ((more : List CsiParam) → Ends more → piece (Integer (pos n) ∷ more) ≡ Some (s, 1)) → IsAttribute text s behind
+alone text behind n s first gives = record { number = n; others = []; reads = one_token text behind (Integer (pos n)) first; gives = gives; even = refl }
 
-pub alone : (text behind : List ℕ) (z : ℤ) (s : Sgr) → IsFirstToken text (Integer z) behind → ((more : List CsiParam) → piece (Integer z ∷ more) ≡ Some (s, 1)) → IsAttribute text s behind
-alone text behind z s first gives = record { number = z; others = []; reads = one_token text behind (Integer z) first; gives = gives; even = refl }
-
--- a code that isn't followed by further tokens sets an attribute
-sets : (c : SgrCode) → (c ≡ code.UnderlineOn → ⊥) → (c ≡ code.UnderlineColor → ⊥) → (c ≡ code.ForegroundColor → ⊥) → (c ≡ code.BackgroundColor → ⊥) → is_some (action_of c) ≡ true
-sets code.UnderlineOn a b d e = absurd (a refl)
-sets code.UnderlineColor a b d e = absurd (b refl)
-sets code.ForegroundColor a b d e = absurd (d refl)
-sets code.BackgroundColor a b d e = absurd (e refl)
-sets _ a b d e = refl
-
-same_piece : (c : SgrCode) (s : Sgr) (k : ℕ) (o : Option Sgr) → action_of c ≡ o → is_some o ≡ true → piece (Integer (pos (number_of c)) ∷ []) ≡ Some (s, k)
-    → (more : List CsiParam) → piece (Integer (pos (number_of c)) ∷ more) ≡ Some (s, 1)
-same_piece c s k None e some found more = cc
-same_piece c s k (Some t) e some found more =
-    let same = some_pair_parts _ _ _ _ (sym (one_token_front c [] t e) ∙ found) in
-    one_token_front c more t e ∙ ap (λ (x : Sgr). Some (x, 1)) same.0
-
-pub one_piece : (z : ℤ) (k : ℕ) (c : SgrCode) (s : Sgr) → z ≡ pos (number_of c) → (c ≡ code.UnderlineOn → ⊥) → (c ≡ code.UnderlineColor → ⊥) → (c ≡ code.ForegroundColor → ⊥) → (c ≡ code.BackgroundColor → ⊥)
-    → Piece (Integer z ∷ []) k s → (more : List CsiParam) → piece (Integer z ∷ more) ≡ Some (s, 1)
-one_piece z k c s is a b d e found = subst (λ (n : ℤ). (more : List CsiParam) → piece (Integer n ∷ more) ≡ Some (s, 1)) (sym is)
-    (same_piece c s k (action_of c) refl (sets c a b d e) (piece_is _ k s (subst (λ (n : ℤ). Piece (Integer n ∷ []) k s) is found)))
+pub alone_styled : (text behind : List ℕ) (n : ℕ) (style : Style) → IsFirstToken text (Integer (pos n)) behind → SetsAlone n style → IsStyled text style behind
+alone_styled text behind n style first (s, gives, same) = (s, alone text behind n s first gives, same)

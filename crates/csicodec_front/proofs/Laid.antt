@@ -1,28 +1,35 @@
 -- What is put of a list that was read.
-use Rattle.std.specs.Prelude.{map}
-use Rattle.std.proofs.Common.{◌≡◌, ◌⊎◌, ◌+◌, ◌-◌, ℕ, false, List, [], ◌∷◌, ◌++◌, length, Some, None, refl, ap, sym, ◌∙◌, inl, append-nil}
+use Rattle.std.specs.Prelude.{map, pos}
+use Rattle.std.proofs.Common.{◌≡◌, ◌⊎◌, ◌+◌, ◌-◌, ℕ, false, List, [], ◌∷◌, ◌++◌, length, Some, None, refl, ap, sym, ◌∙◌, inl, inr, append-nil}
+use Rattle.std.proofs.lemmas.List.{length-map}
 use Rattle.csicodec_tokens.specs.declared.param.CsiParam.{CsiParam}
+use Rattle.csicodec_tokens.specs.declared.param.CsiParam.TheVariants.{Integer, P}
+use Rattle.csicodec_tokens.specs.Sequence.{IsFinal}
+use Rattle.csicodec_tokens.specs.Private.Reading.{HasRead, IsFirstToken}
+use Rattle.csicodec_tokens.proofs.Reading.{read_all, read_none}
+use Rattle.csicodec_base.specs.declared.sgr.Sgr.{Sgr}
 use Rattle.csicodec_actions.specs.declared.cursor.Cursor.{Cursor}
 use Rattle.csicodec_actions.specs.declared.edit.Edit.{Edit}
-use Rattle.csicodec_actions.specs.Actions.{Action}
+use Rattle.csicodec_actions.specs.Actions.{Action, Sgr as Styled}
 use Rattle.csicodec_actions.specs.Actions as action
 use Rattle.csicodec_actions.specs.Table.{unboxed, whole}
 use Rattle.csicodec_actions.specs.Table.Cursor.{as_cursor}
 use Rattle.csicodec_actions.specs.Table.Edit.{as_edit}
 use Rattle.csicodec_parser.specs.Segments.{Actions}
 use Rattle.csicodec.proofs.RowGroups.{whole-group}
-use Rattle.csicodec_structs.specs.Next.{IsDone, IsRefused, Lays}
+use Rattle.csicodec_structs.specs.Next.{IsDone, IsRefused, Lays, all_params, structs}
 use Rattle.csicodec_structs.specs.Private.Fronts.{PutsBehind}
 use Rattle.csicodec_structs.specs.Room.{laid}
-use Rattle.csicodec_structs.specs.Rows.{params_of, struct_of}
-use Rattle.csicodec_structs.specs.declared.next.Front.{Front}
+use Rattle.csicodec_structs.specs.Rows.{params_of, sgr_struct, struct_of}
 use Rattle.csicodec_structs.specs.declared.structs.Param.{Param}
 use Rattle.csicodec_structs.specs.declared.structs.Struct.{Struct}
 use Rattle.csicodec_structs.specs.Status.{status_number}
 use Rattle.csicodec_structs.specs.declared.status.Status.TheVariants as status
 use Rattle.csicodec_structs.proofs.Fronts.{front_answer}
-use Rattle.csicodec_structs.proofs.Laid.{lays_more, lays_none}
-use Rattle.csicodec_front.specs.Private.Short.{HasLaid}
+use Rattle.csicodec_structs.proofs.Laid.{laid_none, lays_more, lays_none}
+use Rattle.csicodec_front.specs.Private.Short.{AreStyles, HasLaid, HasOne, IsRow, ReadsOn, style_struct}
+use Rattle.csicodec_front.specs.declared.attributes.Style.{Style}
+use Rattle.csicodec_front.proofs.Colors.{has_read_on, one_token, reads_then}
 
 -- ---- rows
 
@@ -62,6 +69,60 @@ puts_more oa ma na params count given before a lays made none puts =
 pub puts_one : (ao an : List Struct) (given : Struct) (a : Action) → given ≡ struct_of 0 a → params_of a ≡ [] → PutsAt 0 given ao an
     → (params : List Param) → Lays ao an params params (record { actions = 1; params = 0 }) (a ∷ [])
 puts_one ao an given a made none puts params = puts_more ao ao an params 0 given [] a (lays_none ao params) made none puts
+
+-- ---- numbers in front
+
+pub none_read : (body : List ℕ) → HasOne body 0 body
+none_read body = ([], inr (refl, refl), read_none (27 ∷ 91 ∷ body) body refl)
+
+pub one_read : (body behind : List ℕ) (n : ℕ) → IsFirstToken body (Integer (pos n)) behind → HasOne body n behind
+one_read body behind n first =
+    let list = Integer (pos n) ∷ [] in
+    (list, inl refl, has_read_on (27 ∷ 91 ∷ body) body behind [] list (read_none (27 ∷ 91 ∷ body) body refl) (one_token body behind (Integer (pos n)) first))
+
+pub two_read : (body text behind : List ℕ) (a b : ℕ) → ReadsOn body (Integer (pos a) ∷ P 59 ∷ []) text → IsFirstToken text (Integer (pos b)) behind
+    → HasRead (27 ∷ 91 ∷ body) (Integer (pos a) ∷ P 59 ∷ Integer (pos b) ∷ []) behind
+two_read body text behind a b first second =
+    let list = Integer (pos a) ∷ P 59 ∷ Integer (pos b) ∷ [] in
+    has_read_on (27 ∷ 91 ∷ body) body behind [] list (read_none (27 ∷ 91 ∷ body) body refl)
+    (reads_then body text behind (Integer (pos a) ∷ P 59 ∷ []) (Integer (pos b) ∷ []) first (one_token text behind (Integer (pos b)) second))
+
+-- ---- a row, and attributes
+
+pub row_laid : (body rest after : List ℕ) (ao an : List Struct) (list : List CsiParam) (final : ℕ) (given : Struct) → HasRead (27 ∷ 91 ∷ body) list rest → IsFinal final → rest ≡ final ∷ after
+    → IsRow list final given → PutsAt 0 given ao an → HasLaid body ao an 1 after
+row_laid body rest after ao an list final given read is e (a, are, made, none) puts = record {
+  list = list;
+  final = final;
+  reads = read_all (27 ∷ 91 ∷ body) rest after list final read is e;
+  all = a ∷ [];
+  are = are;
+  lays = puts_one ao an given a made none puts;
+}
+
+sgr_structs : (place : ℕ) (all : List Sgr) → structs place (map Styled all) ≡ map sgr_struct all
+sgr_structs place [] = refl
+sgr_structs place (s ∷ all) = ap (λ (l : List Struct). sgr_struct s ∷ l) (sgr_structs (place + 0) all)
+
+sgr_params : (all : List Sgr) → all_params (map Styled all) ≡ []
+sgr_params [] = refl
+sgr_params (s ∷ all) = sgr_params all
+
+pub styles_laid : (body after : List ℕ) (ao an : List Struct) (styles : List Style) (count : ℕ) → AreStyles body styles after → count ≡ length styles → an ≡ laid ao (map style_struct styles)
+    → HasLaid body ao an count after
+styles_laid body after ao an styles count (all, are, same) long puts = record {
+  list = are.list;
+  final = 109;
+  reads = are.reads;
+  all = map Styled all;
+  are = are.are;
+  lays = λ params. record {
+    actions = long ∙ sym (length-map styles style_struct) ∙ ap length same ∙ length-map all sgr_struct ∙ sym (length-map all Styled);
+    params = rw (sgr_params all) refl;
+    lays_actions = puts ∙ rw (same, sgr_structs 0 all) refl;
+    lays_params = rw (sgr_params all) (sym (laid_none params));
+  };
+}
 
 -- ---- the answer
 

@@ -1,4 +1,6 @@
-pub mod Colors
-pub mod Styled
-pub mod Laid
-pub mod Changed
+mod Alone
+mod Changed
+mod Colors
+mod Laid
+mod Rows
+mod Styled

@@ -1,74 +1,297 @@
 //! One attribute before `m`, straight from its bytes.
-ghost use Rattle.std.specs.Prelude.{◌≡◌, ◌∷◌, [], List, IfSome, Some, pos};
-ghost use Rattle.csicodec_tokens.specs.declared.param.CsiParam.{CsiParam};
+ghost use Rattle.std.specs.Prelude.{◌≡◌, ◌∷◌, [], ◌<◌, IfSome, get_or, pos};
 ghost use Rattle.csicodec_tokens.specs.declared.param.CsiParam.TheVariants.{Integer, P};
-ghost use Rattle.csicodec_base.specs.FrontBy.{piece};
-ghost use Rattle.csicodec_front.specs.Private.Short.{IsAttribute, IsColor, ReadsOn};
+ghost use Rattle.csicodec_tokens.specs.Private.Reading.{IsFirstToken};
+ghost use Rattle.csicodec_front.specs.Private.Short.{IsMark, IsPainted, IsStyled, ReadsOn, SetsAlone, nothing, plain, style_struct};
+ghost use Rattle.csicodec_front.specs.declared.attributes.TheConstants.{STYLES};
 
-use crate::numbers::{behind_semicolon, number_front};
-use csicodec_base::{ColorSpec, CsiParam, Sgr, SgrCode, SrgbaTuple, sgr_front};
+use crate::numbers::number_front;
+use csicodec_structs::{Struct, row};
 
-/// A `;` and a part of a colour in front, and what is behind them.
+/// The kind of the struct of a colour of the text.
+const TEXT: u8 = 11;
+
+/// Of the ground behind it.
+const GROUND: u8 = 12;
+
+/// Of the line below it.
+const LINE: u8 = 4;
+
+/// An attribute as its struct has it: its kind, two numbers, and the parts of a true colour.
+#[derive(Clone, Copy)]
+pub(crate) struct Style {
+    pub kind: u8,
+    pub first: u8,
+    pub second: u8,
+    pub red: u8,
+    pub green: u8,
+    pub blue: u8,
+    pub alpha: u8,
+}
+
+/// The struct of an attribute.
 #[inline(always)]
-fn part_front(text: &[u8]) -> Option<(u8, &[u8])>
-    ensures { IfSome result (λ x. ReadsOn text.now (P 59 ∷ Integer (pos x.0) ∷ []) x.1.now) }
+pub(crate) fn style_struct(style: &Style) -> Struct
+    ensures { result ≡ style_struct style.now }
 {
-    let (number, behind) = number_front(behind_semicolon(text)?)?;
+    Struct {
+        red: style.red,
+        green: style.green,
+        blue: style.blue,
+        alpha: style.alpha,
+        ..row(
+            u32::from(style.kind),
+            i64::from(style.first),
+            i64::from(style.second),
+        )
+    }
+}
+
+/// What a number sets alone: the kind of its struct, 0 where it sets nothing, and the struct's two numbers.
+#[derive(Clone, Copy)]
+struct Alone(u8, u8, u8);
+
+const PLACES: usize = 108;
+
+/// What each number from 0 to 107 sets, where no `:` is behind it.
+static STYLES: [Alone; PLACES] = [
+    Alone(1, 0, 0),
+    Alone(2, 1, 0),
+    Alone(2, 2, 0),
+    Alone(6, 1, 0),
+    Alone(3, 1, 0),
+    Alone(5, 1, 0),
+    Alone(5, 2, 0),
+    Alone(7, 1, 0),
+    Alone(8, 1, 0),
+    Alone(9, 1, 0),
+    Alone(10, 0, 0),
+    Alone(10, 1, 0),
+    Alone(10, 2, 0),
+    Alone(10, 3, 0),
+    Alone(10, 4, 0),
+    Alone(10, 5, 0),
+    Alone(10, 6, 0),
+    Alone(10, 7, 0),
+    Alone(10, 8, 0),
+    Alone(10, 9, 0),
+    Alone(0, 0, 0),
+    Alone(3, 2, 0),
+    Alone(2, 0, 0),
+    Alone(6, 0, 0),
+    Alone(3, 0, 0),
+    Alone(5, 0, 0),
+    Alone(0, 0, 0),
+    Alone(7, 0, 0),
+    Alone(8, 0, 0),
+    Alone(9, 0, 0),
+    Alone(11, 1, 0),
+    Alone(11, 1, 1),
+    Alone(11, 1, 2),
+    Alone(11, 1, 3),
+    Alone(11, 1, 4),
+    Alone(11, 1, 5),
+    Alone(11, 1, 6),
+    Alone(11, 1, 7),
+    Alone(0, 0, 0),
+    Alone(11, 0, 0),
+    Alone(12, 1, 0),
+    Alone(12, 1, 1),
+    Alone(12, 1, 2),
+    Alone(12, 1, 3),
+    Alone(12, 1, 4),
+    Alone(12, 1, 5),
+    Alone(12, 1, 6),
+    Alone(12, 1, 7),
+    Alone(0, 0, 0),
+    Alone(12, 0, 0),
+    Alone(0, 0, 0),
+    Alone(0, 0, 0),
+    Alone(0, 0, 0),
+    Alone(13, 1, 0),
+    Alone(0, 0, 0),
+    Alone(13, 0, 0),
+    Alone(0, 0, 0),
+    Alone(0, 0, 0),
+    Alone(0, 0, 0),
+    Alone(4, 0, 0),
+    Alone(0, 0, 0),
+    Alone(0, 0, 0),
+    Alone(0, 0, 0),
+    Alone(0, 0, 0),
+    Alone(0, 0, 0),
+    Alone(0, 0, 0),
+    Alone(0, 0, 0),
+    Alone(0, 0, 0),
+    Alone(0, 0, 0),
+    Alone(0, 0, 0),
+    Alone(0, 0, 0),
+    Alone(0, 0, 0),
+    Alone(0, 0, 0),
+    Alone(14, 1, 0),
+    Alone(14, 2, 0),
+    Alone(14, 0, 0),
+    Alone(0, 0, 0),
+    Alone(0, 0, 0),
+    Alone(0, 0, 0),
+    Alone(0, 0, 0),
+    Alone(0, 0, 0),
+    Alone(0, 0, 0),
+    Alone(0, 0, 0),
+    Alone(0, 0, 0),
+    Alone(0, 0, 0),
+    Alone(0, 0, 0),
+    Alone(0, 0, 0),
+    Alone(0, 0, 0),
+    Alone(0, 0, 0),
+    Alone(0, 0, 0),
+    Alone(11, 1, 8),
+    Alone(11, 1, 9),
+    Alone(11, 1, 10),
+    Alone(11, 1, 11),
+    Alone(11, 1, 12),
+    Alone(11, 1, 13),
+    Alone(11, 1, 14),
+    Alone(11, 1, 15),
+    Alone(0, 0, 0),
+    Alone(0, 0, 0),
+    Alone(12, 1, 8),
+    Alone(12, 1, 9),
+    Alone(12, 1, 10),
+    Alone(12, 1, 11),
+    Alone(12, 1, 12),
+    Alone(12, 1, 13),
+    Alone(12, 1, 14),
+    Alone(12, 1, 15),
+];
+
+#[inline(always)]
+fn alone_at(place: usize) -> Alone
+    requires { place < 108 }
+    ensures { result ≡ get_or STYLES place nothing }
+{
+    STYLES[place]
+}
+
+/// With no true colour.
+#[inline(always)]
+pub(crate) fn plain(kind: u8, first: u8, second: u8) -> Style
+    ensures { result ≡ plain kind first second }
+{
+    Style {
+        kind,
+        first,
+        second,
+        red: 0,
+        green: 0,
+        blue: 0,
+        alpha: 0,
+    }
+}
+
+/// The attribute that a number sets, where a `;` or nothing is behind it.
+#[inline(always)]
+#[tactic(auto, using(crate::proofs::Alone::sets_alone))]
+pub(crate) fn style_alone(number: u32) -> Option<Style>
+    ensures { IfSome result (λ style. SetsAlone number style) }
+{
+    if number > 107 {
+        return None;
+    }
+    let Alone(kind, first, second) = alone_at(number as usize);
+    if kind == 0 {
+        return None;
+    }
+    Some(plain(kind, first, second))
+}
+
+/// The mark in front, which stands between the parts of a colour.
+#[inline(always)]
+fn mark_front(text: &[u8]) -> Option<u8>
+    ensures { IfSome result (λ mark. IsMark mark) }
+{
+    match text {
+        [mark @ (b';' | b':'), ..] => Some(*mark),
+        _ => None,
+    }
+}
+
+/// What is behind this mark in front.
+#[inline(always)]
+#[tactic(auto, using(crate::proofs::Colors::mark_token))]
+pub(crate) fn behind_mark(mark: u8, text: &[u8]) -> Option<&[u8]>
+    requires { IsMark mark }
+    ensures { IfSome result (λ behind. IsFirstToken text.now (P mark) behind.now) }
+{
+    let [first, behind @ ..] = text else {
+        return None;
+    };
+    if *first != mark {
+        return None;
+    }
+    Some(behind)
+}
+
+/// A mark and a part of a colour in front, and what is behind them.
+#[inline(always)]
+fn part_front(mark: u8, text: &[u8]) -> Option<(u8, &[u8])>
+    requires { IsMark mark }
+    ensures { IfSome result (λ x. ReadsOn text.now (P mark ∷ Integer (pos x.0) ∷ []) x.1.now) }
+{
+    let (number, behind) = number_front(behind_mark(mark, text)?)?;
     Some((u8::try_from(number).ok()?, behind))
 }
 
-/// The colour behind its code, with a `;` ahead of each part, and what is behind it.
-fn color_front(text: &[u8]) -> Option<(ColorSpec, &[u8])>
-    ensures { IfSome result (λ x. IsColor text.now x.0 x.1.now) }
+/// The colour behind its code, with a mark ahead of each part, as an attribute of this kind, and what is behind it.
+#[inline(always)]
+fn color_front(kind: u8, text: &[u8]) -> Option<(Style, &[u8])>
+    ensures { IfSome result (λ x. IsPainted kind text.now x.0 x.1.now) }
 {
-    let (kind, parts) = part_front(text)?;
-    let (first, behind) = part_front(parts)?;
-    match kind {
-        5 => Some((ColorSpec::PaletteIndex(first), behind)),
+    let mark = mark_front(text)?;
+    let (way, parts) = part_front(mark, text)?;
+    let (first, behind) = part_front(mark, parts)?;
+    match way {
+        5 => Some((plain(kind, 1, first), behind)),
         2 => {
-            let (green, behind) = part_front(behind)?;
-            let (blue, behind) = part_front(behind)?;
-            Some((
-                ColorSpec::TrueColor(SrgbaTuple(first, green, blue, 255)),
-                behind,
-            ))
+            let (green, behind) = part_front(mark, behind)?;
+            let (blue, behind) = part_front(mark, behind)?;
+            let style = Style {
+                red: first,
+                green,
+                blue,
+                alpha: 255,
+                ..plain(kind, 2, 0)
+            };
+            Some((style, behind))
         }
         _ => None,
     }
 }
 
-/// The attribute that a number sets alone, whatever follows.
+/// The attribute of a number in front that was read, and what is behind it: a colour of text, ground or underline, or one that its number
+/// sets alone.
 #[inline(always)]
-pub(crate) fn attribute_alone(number: i64) -> Option<Sgr>
-    ensures { IfSome result (λ s. (more : List CsiParam) → piece (Integer number ∷ more) ≡ Some (s, 1)) }
+pub(crate) fn style_front<'a>(
+    text: &[u8],
+    number: u32,
+    behind: &'a [u8],
+) -> Option<(Style, &'a [u8])>
+    requires { IsFirstToken text.now (Integer (pos number)) behind.now }
+    ensures { IfSome result (λ x. IsStyled text.now x.0 x.1.now) }
 {
-    match SgrCode::from_i64(number)? {
-        SgrCode::UnderlineOn
-        | SgrCode::UnderlineColor
-        | SgrCode::ForegroundColor
-        | SgrCode::BackgroundColor => None,
-        _ => {
-            let (attribute, _) = sgr_front(&[CsiParam::Integer(number)])?;
-            Some(attribute)
-        }
-    }
-}
-
-/// The attribute in front, and what is behind it: one that its number sets alone, or a colour of text or ground.
-#[inline(always)]
-pub(crate) fn attribute_front(text: &[u8]) -> Option<(Sgr, &[u8])>
-    ensures { IfSome result (λ x. IsAttribute text.now x.0 x.1.now) }
-{
-    let (number, behind) = number_front(text)?;
     match number {
         38 => {
-            let (color, behind) = color_front(behind)?;
-            Some((Sgr::Foreground(color), behind))
+            let (style, behind) = color_front(TEXT, behind)?;
+            Some((style, behind))
         }
         48 => {
-            let (color, behind) = color_front(behind)?;
-            Some((Sgr::Background(color), behind))
+            let (style, behind) = color_front(GROUND, behind)?;
+            Some((style, behind))
         }
-        _ => Some((attribute_alone(number)?, behind)),
+        58 => {
+            let (style, behind) = color_front(LINE, behind)?;
+            Some((style, behind))
+        }
+        _ => Some((style_alone(number)?, behind)),
     }
 }

@@ -1,27 +1,102 @@
 //! The sequence at the front of some bytes.
-ghost use Rattle.std.specs.Prelude.{◌≡◌, ◌⊎◌, ◌∷◌, IfNone, IfSome};
+ghost use Rattle.std.specs.Prelude.{◌≡◌, ◌⊎◌, IfNone, IfSome, pos};
+ghost use Rattle.csicodec_tokens.specs.declared.param.CsiParam.TheVariants.{Integer};
+ghost use Rattle.csicodec_tokens.specs.Private.Reading.{IsFirstToken};
 ghost use Rattle.csicodec_structs.specs.Next.{IsDone, IsRefused};
 ghost use Rattle.csicodec_front.specs.Private.Short.{HasLaid};
 
+use crate::attributes::behind_mark;
 use crate::mode::lay_mode;
-use crate::row::lay_row;
-use crate::styles::{lay_style, lay_styles};
-use csicodec_structs::{Front, Param, Status, Struct, lay_by_tokens};
+use crate::numbers::number_front;
+use crate::row::{lay_row, lay_two};
+use crate::styles::{lay_style, lay_styles, lay_two_styles};
+use csicodec_base::Sgr;
+use csicodec_structs::{Front, Param, Status, Struct, lay_by_tokens, put, sgr_struct};
 use std::alloc::Global;
 
-/// Puts the action of a list of at most two numbers that moves the cursor or edits, a few attributes, or the change of a private mode.
+/// Puts what a number that was read and the next one, with a `;` between them, do before a final.
 #[inline(never)]
-fn lay_few<'a>(body: &'a [u8], actions: &mut [Struct]) -> Option<(usize, &'a [u8])>
+fn lay_pair<'a>(
+    body: &'a [u8],
+    first: u32,
+    behind: &'a [u8],
+    actions: &mut [Struct],
+) -> Option<(usize, &'a [u8])>
+    requires { IsFirstToken body.now (Integer (pos first)) behind.now }
     ensures some { IfSome result (λ x. HasLaid body.now actions.old actions.new x.0 x.1.now) }
     ensures none { IfNone result (actions.new ≡ actions.old) }
 {
-    if let Some(after) = lay_row(body, actions) {
-        return Some((1, after));
+    let text = behind_mark(b';', behind)?;
+    let (second, rest) = number_front(text)?;
+    match rest {
+        [b'm', ..] => lay_two_styles(body, first, text, second, rest, actions),
+        _ => lay_two(body, first, text, second, rest, actions),
     }
-    if let Some(laid) = lay_styles(body, actions) {
+}
+
+/// Puts what a number that was read does before a final, alone or with another.
+#[inline(always)]
+#[tactic(auto, using(crate::proofs::Laid::one_read))]
+fn lay_few<'a>(
+    body: &'a [u8],
+    number: u32,
+    behind: &'a [u8],
+    actions: &mut [Struct],
+) -> Option<(usize, &'a [u8])>
+    requires { IsFirstToken body.now (Integer (pos number)) behind.now }
+    ensures some { IfSome result (λ x. HasLaid body.now actions.old actions.new x.0 x.1.now) }
+    ensures none { IfNone result (actions.new ≡ actions.old) }
+{
+    match behind {
+        [b'm', ..] => lay_style(body, number, behind, actions),
+        [b';', ..] => lay_pair(body, number, behind, actions),
+        _ => lay_row(body, number, behind, actions),
+    }
+}
+
+/// Puts the actions of a short list whose first number was read.
+#[inline(always)]
+fn lay_numbered<'a>(
+    body: &'a [u8],
+    number: u32,
+    behind: &'a [u8],
+    actions: &mut [Struct],
+) -> Option<(usize, &'a [u8])>
+    requires { IsFirstToken body.now (Integer (pos number)) behind.now }
+    ensures some { IfSome result (λ x. HasLaid body.now actions.old actions.new x.0 x.1.now) }
+    ensures none { IfNone result (actions.new ≡ actions.old) }
+{
+    if let Some(laid) = lay_few(body, number, behind, actions) {
         return Some(laid);
     }
-    Some((1, lay_mode(body, actions)?))
+    lay_styles(body, number, behind, actions)
+}
+
+/// Puts the attribute of no number before `m`.
+#[inline(always)]
+fn lay_reset<'a>(body: &'a [u8], actions: &mut [Struct]) -> Option<(usize, &'a [u8])>
+    ensures some { IfSome result (λ x. HasLaid body.now actions.old actions.new x.0 x.1.now) }
+    ensures none { IfNone result (actions.new ≡ actions.old) }
+{
+    let [b'm', after @ ..] = body else {
+        return None;
+    };
+    put(actions, 0, sgr_struct(&Sgr::Reset));
+    Some((1, after))
+}
+
+/// Puts the action of a list that doesn't begin with a number: of none, or of a private mode.
+#[inline(always)]
+#[tactic(auto, using(crate::proofs::Laid::none_read))]
+fn lay_bare<'a>(body: &'a [u8], actions: &mut [Struct]) -> Option<(usize, &'a [u8])>
+    ensures some { IfSome result (λ x. HasLaid body.now actions.old actions.new x.0 x.1.now) }
+    ensures none { IfNone result (actions.new ≡ actions.old) }
+{
+    match body {
+        [b'm', ..] => lay_reset(body, actions),
+        [b'?', ..] => lay_mode(body, actions),
+        _ => lay_row(body, 0, body, actions),
+    }
 }
 
 /// Puts the actions of a short list in front, of what is behind ESC and `[`: how many they are, and what is behind it.
@@ -30,10 +105,10 @@ fn lay_short<'a>(body: &'a [u8], actions: &mut [Struct]) -> Option<(usize, &'a [
     ensures some { IfSome result (λ x. HasLaid body.now actions.old actions.new x.0 x.1.now) }
     ensures none { IfNone result (actions.new ≡ actions.old) }
 {
-    if let Some(after) = lay_style(body, actions) {
-        return Some((1, after));
+    match number_front(body) {
+        Some((number, behind)) => lay_numbered(body, number, behind, actions),
+        None => lay_bare(body, actions),
     }
-    lay_few(body, actions)
 }
 
 /// Puts the actions of a sequence that isn't short. The answer has a place of its own, so that of a short one stays in registers.

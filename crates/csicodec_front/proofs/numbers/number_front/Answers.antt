@@ -1,5 +1,4 @@
-use Rattle.std.proofs.Common.{w64, arith}
-use Rattle.std.proofs.lemmas.Int.{to_z_pos}
+use Rattle.std.proofs.Common.{arith}
 use Rattle.csicodec_tokens.proofs.Reading.{first_cut, first_number}
 use Rattle.csicodec_front.proofs.numbers.number_front.Goals as goal
 
@@ -7,4 +6,4 @@ pub returns : goal.returns
 returns c =
     let cut = first_cut c.args.text.now c.in-48-to-57.len_at_least in
     let first = first_number _ _ c.in_ok-number.number c.in_ok-number.behind.now (omega arith, omega arith) c.in_ok-number.ensures in
-    rw (to_z_pos w64 c.in_ok-number.number (omega (arith, c.in_ok-number.ensures.0.fits))) (rw (← cut) at first)
+    rw (← cut) at first

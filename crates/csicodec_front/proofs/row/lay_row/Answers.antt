@@ -1,16 +1,11 @@
-use Rattle.std.proofs.Common.{◌∷◌, [], get_or, take, arith}
-use Rattle.csicodec_tokens.proofs.Reading.{first_cut, read_all}
+use Rattle.std.proofs.Common.{arith}
+use Rattle.csicodec_tokens.proofs.Reading.{first_cut}
+use Rattle.csicodec_front.proofs.Laid.{row_laid}
 use Rattle.csicodec_front.proofs.row.lay_row.Goals as goal
 
-pub returns-then-put_row-clause-some : goal.returns-then-put_row-clause-some
-returns-then-put_row-clause-some c =
-    let read = c.in_ok-count in
-    let put = c.put_row.ensures.some c.if-put_row.true in
-    record {
-      list = take read.count c.numbers_front.new.room;
-      final = c.from.result;
-      reads = rw c.from.ensures (read_all (27 ∷ 91 ∷ c.args.body.now) read.rest.now _ _ (get_or read.rest.now 0 0) read.ensures.read (omega arith, omega arith) (first_cut read.rest.now c.in-64-to-126.len_at_least));
-      all = put.action ∷ [];
-      are = put.are;
-      lays = put.lays;
-    }
+pub returns-clause-some : goal.returns-clause-some
+returns-clause-some c =
+    let behind = c.args.behind.now in
+    let (list, one, read) = c.requires in
+    row_laid c.args.body.now behind _ c.args.actions.now c.put.new.room list _ c.in_ok-given.given read (omega arith, omega arith)
+    (first_cut behind c.in-64-to-126.len_at_least) (c.in_ok-given.ensures list one) c.put.ensures

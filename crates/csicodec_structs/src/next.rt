@@ -92,21 +92,12 @@ fn next_long(alloc: Global, bytes: &[u8], actions: &mut [Struct], params: &mut [
     answer(alloc, &list, tail.control, used, actions, params)
 }
 
-/// Puts the actions of the sequence at the front, and their tokens, as many as there is room for. Up to 32 tokens take no memory.
+/// Puts the actions of the sequence at the front, whose tokens are read into a room of 32, or into memory.
 #[inline(never)]
-pub fn lay_by_tokens(
-    alloc: Global,
-    bytes: &[u8],
-    actions: &mut [Struct],
-    params: &mut [Param],
-) -> Front
+fn lay_within(alloc: Global, bytes: &[u8], actions: &mut [Struct], params: &mut [Param]) -> Front
     ensures { IsDone bytes.now actions.old actions.new params.old params.new result
         ⊎ IsRefused bytes.now actions.old actions.new params.old params.new result }
 {
-    // What is no sequence is refused before the room is cleared.
-    if !matches!(bytes, [0x1b, b'[', ..]) {
-        return next_long(alloc, bytes, actions, params);
-    }
     let mut room = [CsiParam::Integer(0); 32];
     let read = match read_csi_within(&mut room, bytes) {
         Ok(read) => read,
@@ -122,4 +113,22 @@ pub fn lay_by_tokens(
         actions,
         params,
     )
+}
+
+/// Puts the actions of the sequence at the front, and their tokens, as many as there is room for. Up to 32 tokens take no memory.
+#[inline(never)]
+pub fn lay_by_tokens(
+    alloc: Global,
+    bytes: &[u8],
+    actions: &mut [Struct],
+    params: &mut [Param],
+) -> Front
+    ensures { IsDone bytes.now actions.old actions.new params.old params.new result
+        ⊎ IsRefused bytes.now actions.old actions.new params.old params.new result }
+{
+    // What is no sequence is refused before the room is cleared.
+    if !matches!(bytes, [0x1b, b'[', ..]) {
+        return next_long(alloc, bytes, actions, params);
+    }
+    lay_within(alloc, bytes, actions, params)
 }

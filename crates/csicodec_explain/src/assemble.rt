@@ -2,6 +2,7 @@
 
 use csicodec_assemble::{Assembler, Refusal};
 use csicodec_command::{Failure, Worker};
+use csicodec_remake::Remaker;
 use csicodec_streams::{CHUNK, RunError, receive, send};
 use std::alloc::Global;
 use std::io::{BufRead, Read, Write};
@@ -9,6 +10,37 @@ use std::io::{BufRead, Read, Write};
 /// One input after the other, each of lines of its own.
 #[derive(Drop)]
 pub struct Assembly;
+
+/// The lines of an input, of which some have come.
+#[derive(Drop)]
+struct Lines {
+    remaker: Remaker,
+    assembler: Assembler,
+    /// Lines with the bytes of each object, or what has come of one.
+    made: Vec<u8>,
+}
+
+impl Lines {
+    fn new(alloc: Global) -> Lines {
+        Lines {
+            remaker: Remaker::new(alloc),
+            assembler: Assembler::new(alloc),
+            made: Vec::new(alloc),
+        }
+    }
+
+    /// Takes bytes, none where the input is over, and appends what the lines stand for that end there.
+    fn take(&mut self, bytes: &[u8], out: &mut Vec<u8>) -> Result<(), Refusal> {
+        self.made.clear();
+        if !bytes.is_empty() {
+            self.remaker.take(bytes, &mut self.made)?;
+            return self.assembler.take(&self.made, out);
+        }
+        self.remaker.end(&mut self.made)?;
+        self.assembler.take(&self.made, out)?;
+        self.assembler.end(out)
+    }
+}
 
 /// What fails where a line is refused.
 fn failure_of(refusal: Refusal, line: u64) -> Failure {
@@ -26,18 +58,14 @@ impl Worker for Assembly {
         input: &mut R,
         output: &mut W,
     ) -> Result<(), Failure> {
-        let (mut lines, mut out) = (Assembler::new(alloc), Vec::new(alloc));
+        let (mut lines, mut out) = (Lines::new(alloc), Vec::new(alloc));
         let mut chunk = [0u8; CHUNK];
         for _ in 0..u64::MAX {
             let len = receive(input, &mut chunk)?;
-            let taken = if len == 0 {
-                lines.end(&mut out)
-            } else {
-                lines.take(&chunk[..len], &mut out)
-            };
+            let taken = lines.take(&chunk[..len], &mut out);
             send(output, &out)?;
             out.clear();
-            taken.map_err(|refusal| failure_of(refusal, lines.number()))?;
+            taken.map_err(|refusal| failure_of(refusal, lines.assembler.number()))?;
             if len == 0 {
                 return Ok(());
             }

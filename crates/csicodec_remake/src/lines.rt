@@ -1,0 +1,153 @@
+//! Lines as they come, each as it is or with the bytes of its actions.
+ghost use Rattle.std.specs.Prelude.{◌≡◌, ◌≢◌, ◌==◌, ◌++◌, ◌∷◌, [], Err, IfOk, IfSome, IsSome, IsTrue, OnOk, not, true};
+ghost use Rattle.std.specs.List.{list_all};
+ghost use Rattle.csicodec_assemble.specs.declared.object.Fault.TheVariants.{NoSequence};
+ghost use Rattle.csicodec_assemble.specs.Object.{of_line};
+ghost use Rattle.csicodec_remake.specs.Kept.{AreKept, lines_over};
+
+use crate::made::Maker;
+use csicodec_assemble::{Fault, Refusal, bytes_of_line};
+use memchr::memchr;
+use memchr::memmem::find;
+use std::alloc::{AllocError, Global};
+
+/// The most bytes of a line that is held, 4 MiB: all actions of the longest control sequence are less. Longer ones stay as they are.
+const MOST: usize = 4_194_304;
+
+/// Lines of which some have come. It holds no more than the line that has begun.
+#[derive(Drop)]
+pub struct Remaker {
+    alloc: Global,
+    maker: Maker,
+    /// What has come of the line, if that isn't too long.
+    line: Vec<u8>,
+    /// Whether it is too long: its first bytes were passed on.
+    long: bool,
+}
+
+/// Whether a line has bytes as `explain` writes it.
+fn has_bytes(line: &[u8]) -> bool {
+    find(line, b"\"text\":").is_some() || find(line, b"\"hex\":").is_some()
+}
+
+/// Whether a line is an object with actions, and neither `text` nor `hex`.
+fn lacks_bytes(alloc: Global, line: &[u8]) -> Result<bool, AllocError>
+    ensures { IfOk result (λ lacks. IsTrue lacks → of_line line.now ≡ Err NoSequence) }
+{
+    match bytes_of_line(alloc, line) {
+        Err(Refusal::Line(Fault::NoSequence)) => Ok(true),
+        Err(Refusal::Memory) => Err(AllocError),
+        Err(Refusal::Line(_)) | Ok(_) => Ok(false),
+    }
+}
+
+/// The bytes of a line that has actions alone, if each of those has a text.
+fn bytes_made(alloc: Global, maker: &mut Maker, line: &[u8]) -> Result<Option<Vec<u8>>, AllocError>
+    ensures { IfOk result (λ bytes. IsSome bytes → of_line line.now ≡ Err NoSequence) }
+{
+    if has_bytes(line) || !lacks_bytes(alloc, line)? {
+        return Ok(None);
+    }
+    maker.bytes_of_line(line)
+}
+
+/// Appends a line without its end, or an object with its bytes.
+fn append_line(
+    alloc: Global,
+    maker: &mut Maker,
+    line: &[u8],
+    out: &mut Vec<u8>,
+) -> Result<(), AllocError>
+    ensures stays { OnOk result (of_line line.now ≢ Err NoSequence
+        → out.new.items ≡ out.old.items ++ line.now) }
+{
+    match bytes_made(alloc, maker, line)? {
+        Some(bytes) => {
+            out.extend_from_slice(b"{\"hex\":\"")?;
+            out.extend_from_slice(hex::encode(alloc, &bytes)?.as_bytes())?;
+            out.extend_from_slice(b"\"}")
+        }
+        None => out.extend_from_slice(line),
+    }
+}
+
+/// The line in front, and what is behind its end, if it has one.
+fn split_line(bytes: &[u8]) -> Option<(&[u8], &[u8])>
+    ensures whole { IfSome result (λ (line, behind). bytes.now ≡ line.now ++ 10 ∷ behind.now) }
+    ensures first { IfSome result (λ (line, _). list_all (λ b. not (b == 10)) line.now ≡ true) }
+{
+    let end = memchr(b'\n', bytes)?;
+    Some((&bytes[..end], &bytes[end + 1..]))
+}
+
+impl Remaker {
+    /// Of which nothing has come.
+    pub fn new(alloc: Global) -> Remaker
+        ensures { result.line.items ≡ [] }
+    {
+        Remaker {
+            alloc,
+            maker: Maker::new(alloc),
+            line: Vec::new(alloc),
+            long: false,
+        }
+    }
+
+    /// The line ends with these bytes.
+    fn end_line(&mut self, bytes: &[u8], out: &mut Vec<u8>) -> Result<(), AllocError>
+        ensures begins { OnOk result (self.new.line.items ≡ []) }
+        ensures stays { OnOk result (of_line (self.old.line.items ++ bytes.now) ≢ Err NoSequence
+            → out.new.items ≡ out.old.items ++ self.old.line.items ++ bytes.now ++ 10 ∷ []) }
+    {
+        self.line.extend_from_slice(bytes)?;
+        self.end(out)?;
+        Ok(out.push(b'\n')?)
+    }
+
+    /// The line goes on with these bytes.
+    fn hold(&mut self, bytes: &[u8], out: &mut Vec<u8>) -> Result<(), AllocError>
+        ensures { OnOk result (out.new.items ++ self.new.line.items
+            ≡ out.old.items ++ self.old.line.items ++ bytes.now) }
+    {
+        self.line.extend_from_slice(bytes)?;
+        if self.long || self.line.len() > MOST {
+            self.long = true;
+            out.extend_from_slice(&self.line)?;
+            self.line.clear();
+        }
+        Ok(())
+    }
+
+    /// Takes bytes, and appends the lines that end in them: each as it is, unless the assembler refuses it for its actions.
+    pub fn take(&mut self, bytes: &[u8], out: &mut Vec<u8>) -> Result<(), AllocError>
+        ensures stays { OnOk result (AreKept (lines_over self.old.line.items bytes.now)
+            → out.new.items ++ self.new.line.items
+            ≡ out.old.items ++ self.old.line.items ++ bytes.now) }
+    {
+        let mut rest = bytes;
+        for _ in 0..bytes.len() {
+            let Some((line, behind)) = split_line(rest) else {
+                break;
+            };
+            self.end_line(line, out)?;
+            rest = behind;
+        }
+        self.hold(rest, out)
+    }
+
+    /// Nothing comes any more: appends the line that has begun.
+    pub fn end(&mut self, out: &mut Vec<u8>) -> Result<(), AllocError>
+        ensures begins { OnOk result (self.new.line.items ≡ []) }
+        ensures stays { OnOk result (of_line self.old.line.items ≢ Err NoSequence
+            → out.new.items ≡ out.old.items ++ self.old.line.items) }
+    {
+        if self.long {
+            out.extend_from_slice(&self.line)?;
+        } else {
+            append_line(self.alloc, &mut self.maker, &self.line, out)?;
+        }
+        self.long = false;
+        self.line.clear();
+        Ok(())
+    }
+}

@@ -1,0 +1,171 @@
+//! The text of an action, found by trying.
+
+use crate::fill::append_filled;
+use crate::patterns::PATTERNS;
+use csicodec_page::Explainer;
+use csicodec_sheet::Style;
+use csicodec_streams::RunError;
+use memchr::memmem::find;
+use serde_json::Value;
+use std::alloc::{AllocError, Global};
+
+/// The largest number that a pattern is tried with, where a name stands for one: all buttons and modifiers of a mouse are below.
+const MOST: u8 = 255;
+
+/// Streams in JSON, and nothing more.
+const IN_JSON: Style<'static> = Style {
+    full: false,
+    json: true,
+    count: false,
+    stats: false,
+    unknown: false,
+    decode: false,
+    color: false,
+    timed: false,
+    live: false,
+    only: None,
+    at: None,
+    grep: None,
+    dialect: None,
+};
+
+/// Finds texts of actions, and what is read from each that it tries.
+#[derive(Drop)]
+pub(crate) struct Maker {
+    alloc: Global,
+    explainer: Explainer<'static>,
+    /// The text that is tried, and what is told of it.
+    text: Vec<u8>,
+    told: Vec<u8>,
+}
+
+/// Names of actions, each with a pattern behind a blank.
+fn patterns() -> &'static [&'static str] {
+    &PATTERNS
+}
+
+/// What fails where memory ran out: nothing else does in what is told to memory.
+fn no_memory(_: RunError) -> AllocError {
+    AllocError
+}
+
+/// The value that a text of JSON has, if it is one.
+fn value_of(alloc: Global, line: &[u8]) -> Result<Option<Value>, AllocError> {
+    let Ok(text) = std::str::from_utf8(line) else {
+        return Ok(None);
+    };
+    match Value::from_str(alloc, text) {
+        Ok(value) => Ok(Some(value)),
+        Err(error) if error.is_memory() => Err(AllocError),
+        Err(_) => Ok(None),
+    }
+}
+
+/// The only item of a list.
+fn only_item(list: Option<&Value>) -> Option<&Value> {
+    match list?.as_array()?.as_slice() {
+        [item] => Some(item),
+        _ => None,
+    }
+}
+
+/// Whether an action has all that is told of it, but for words.
+fn has_all(action: &Value, told: &Value) -> bool {
+    let Some(members) = told.as_object() else {
+        return false;
+    };
+    for (name, value) in members {
+        let is_told = name.as_str() == "name" || name.as_str() == "words";
+        if !is_told && action.get(name.as_str()) != Some(value) {
+            return false;
+        }
+    }
+    true
+}
+
+impl Maker {
+    /// Nothing was tried.
+    pub(crate) fn new(alloc: Global) -> Maker {
+        Maker {
+            alloc,
+            explainer: Explainer::new(alloc, IN_JSON),
+            text: Vec::new(alloc),
+            told: Vec::new(alloc),
+        }
+    }
+
+    /// What is told of the text, as a line of JSON for each of its spans.
+    fn tell(&mut self) -> Result<(), RunError> {
+        self.explainer.begin(None, false, &mut self.told)?;
+        self.told.clear();
+        self.explainer.take(0, &self.text, &mut self.told)
+    }
+
+    /// Whether the text is read as this action of that name, and as nothing else.
+    fn is_read(&mut self, name: &str, action: &Value) -> Result<bool, AllocError> {
+        self.tell().map_err(no_memory)?;
+        if find(&self.told, name.as_bytes()).is_none() {
+            return Ok(false);
+        }
+        let Some(told) = value_of(self.alloc, &self.told)? else {
+            return Ok(false);
+        };
+        let whole = told.get("text").and_then(Value::as_str).map(str::as_bytes);
+        Ok(match only_item(told.get("actions")) {
+            Some(told) => whole == Some(self.text.as_slice()) && has_all(action, told),
+            None => false,
+        })
+    }
+
+    /// Whether a text of this pattern has the action of that name; it is the one that was tried last.
+    fn finds(&mut self, pattern: &str, name: &str, action: &Value) -> Result<bool, AllocError> {
+        let most = if pattern.contains("{}") { MOST } else { 0 };
+        for number in 0..=most {
+            self.text.clear();
+            if !append_filled(&mut self.text, pattern, action, number)? {
+                return Ok(false);
+            }
+            if self.is_read(name, action)? {
+                return Ok(true);
+            }
+        }
+        Ok(false)
+    }
+
+    /// Appends a text that has the action; whether there is one.
+    fn append_action(&mut self, action: &Value, out: &mut Vec<u8>) -> Result<bool, AllocError> {
+        let Some(name) = action.get("action").and_then(Value::as_str) else {
+            return Ok(false);
+        };
+        for row in patterns() {
+            let (known, pattern) = row.split_once(' ').unwrap_or((row, ""));
+            if known == name && self.finds(pattern, name, action)? {
+                out.extend_from_slice(&self.text)?;
+                return Ok(true);
+            }
+        }
+        Ok(false)
+    }
+
+    /// The bytes that have the actions of an object, one behind the other, if each has a text.
+    fn bytes_of(&mut self, object: &Value) -> Result<Option<Vec<u8>>, AllocError> {
+        let Some(actions) = object.get("actions").and_then(Value::as_array) else {
+            return Ok(None);
+        };
+        let mut bytes = Vec::new(self.alloc);
+        for action in actions {
+            if !self.append_action(action, &mut bytes)? {
+                return Ok(None);
+            }
+        }
+        Ok(Some(bytes))
+    }
+
+    /// The bytes that have the actions of a line's object, if it is one and each has a text.
+    pub(crate) fn bytes_of_line(&mut self, line: &[u8]) -> Result<Option<Vec<u8>>, AllocError> {
+        match value_of(self.alloc, line)? {
+            Some(object) => self.bytes_of(&object),
+            None => Ok(None),
+        }
+    }
+}

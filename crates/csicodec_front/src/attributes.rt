@@ -47,7 +47,7 @@ pub(crate) fn style_struct(style: &Style) -> Struct
     }
 }
 
-/// What a number sets alone: the kind of its struct, 0 where it sets nothing, and the struct's two numbers.
+/// What a number sets alone: the kind of its struct (`enum csicodec_kind`), 0 where it sets nothing, and the two numbers of that.
 #[derive(Clone, Copy)]
 struct Alone(u8, u8, u8);
 

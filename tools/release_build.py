@@ -188,12 +188,13 @@ def link_program(kit, place, made, to, room):
     own = tempfile.mkdtemp(dir=room)
     texts = [f'-DSTREAM_WORDS="{STREAM_WORDS}"', f'-DVALUED_WORDS="{VALUED_WORDS}"']
     files = [kit.c_object(target, "program", f"{own}/program.o", "-fPIE", *texts)]
-    for name in ("heap", "wide", *(["copy"] if place == HERE else [])):
+    for name in ("begin", "heap", "wide", *(["copy"] if place == HERE else [])):
         files.append(kit.c_object(target, name, f"{own}/{name}.o", "-fPIE"))
     for name, entry in ENTRIES.items():
         kit.tool("llvm-objcopy", "--redefine-sym", f"main={entry}", made[place, name], f"{own}/{name}.o")
         files.append(f"{own}/{name}.o")
     how = ["-static", "-pie", "--no-dynamic-linker", "-z", "relro", "-z", "now", "-z", "noexecstack", "--gc-sections", "--icf=safe", "--build-id=none"]
+    how += ["--pack-dyn-relocs=relr", "-e", "csicodec_begin"]
     kit.tool("ld.lld", *how, "-s", "-u", "_start", "-o", to, *files, f"{TOP}/system/{place}/musl.a")
 
 

@@ -164,9 +164,9 @@ pub const ASSEMBLE: &str = "\
 usage: csicodec assemble [FILE ..]
 
 Reads objects of JSON, a line each, from each FILE, or from standard input where there is none or it is -, as explain --json writes
-them, and writes the bytes of each: its text or its hex, and nothing where it has neither. So the stream comes back, with what jq -c
-or sed changed. Nothing else in an object is read, but its kind: totals have no bytes. What is no such line is refused, and so is one
-of more than 16 MiB.
+them, and writes the bytes of each: its text or its hex; where it has neither, a sequence for each of its actions, by the action and
+its fields, whatever its words say; and nothing where it has none. So the stream comes back, with what jq -c or sed changed.
+The kind totals has no bytes. What is no such line is refused, as are actions that no sequence has, and a line of more than 16 MiB.
 
   -h, --help     this text";
 

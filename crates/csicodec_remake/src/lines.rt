@@ -11,8 +11,8 @@ use memchr::memchr;
 use memchr::memmem::find;
 use std::alloc::{AllocError, Global};
 
-/// The most bytes of a line that is held, 4 MiB: all actions of the longest control sequence are less. Longer ones stay as they are.
-const MOST: usize = 4_194_304;
+/// The most bytes of a line that is held, 8 MiB: all actions of the longest control sequence are less. Longer ones stay as they are.
+const MOST: usize = 8_388_608;
 
 /// Lines of which some have come. It holds no more than the line that has begun.
 #[derive(Drop)]

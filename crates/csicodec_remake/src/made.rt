@@ -4,6 +4,7 @@ use crate::fill::append_filled;
 use crate::patterns::PATTERNS;
 use csicodec_page::Explainer;
 use csicodec_sheet::Style;
+use csicodec_spans::LIMIT;
 use csicodec_streams::RunError;
 use memchr::memmem::find;
 use serde_json::Value;
@@ -69,9 +70,9 @@ fn only_item(list: Option<&Value>) -> Option<&Value> {
     }
 }
 
-/// Whether an action has all that is told of it, but for words.
-fn has_all(action: &Value, told: &Value) -> bool {
-    let Some(members) = told.as_object() else {
+/// Whether an action has all members of another, but for its name in a document and its words.
+fn has_all(action: &Value, other: &Value) -> bool {
+    let Some(members) = other.as_object() else {
         return false;
     };
     for (name, value) in members {
@@ -112,7 +113,11 @@ impl Maker {
         };
         let whole = told.get("text").and_then(Value::as_str).map(str::as_bytes);
         Ok(match only_item(told.get("actions")) {
-            Some(told) => whole == Some(self.text.as_slice()) && has_all(action, told),
+            Some(told) => {
+                whole == Some(self.text.as_slice())
+                    && has_all(action, told)
+                    && has_all(told, action)
+            }
             None => false,
         })
     }
@@ -122,7 +127,8 @@ impl Maker {
         let most = if pattern.contains("{}") { MOST } else { 0 };
         for number in 0..=most {
             self.text.clear();
-            if !append_filled(&mut self.text, pattern, action, number)? {
+            let is_filled = append_filled(&mut self.text, pattern, action, number)?;
+            if !is_filled || self.text.len() > LIMIT {
                 return Ok(false);
             }
             if self.is_read(name, action)? {

@@ -1,5 +1,6 @@
-/* Where a static program begins: ahead of musl's own start, which doesn't know packed relocations (RELR), the place at which the
- * program was loaded is added to each word that has an address in it. It is compiled with no header of C. */
+/* Where a static program begins: ahead of the start of musl, which up to 1.2.3 doesn't know packed relocations (RELR), the place at
+ * which the program was loaded is added to each word that has an address in it. Later ones do that themselves: with one of these this
+ * file must go. It is compiled with no header of C. */
 typedef __UINTPTR_TYPE__ word;
 
 /* An entry of the dynamic section: what it is, and its value. */
@@ -28,7 +29,7 @@ static void relocate_some(word *place, word bitmap, word base) {
 }
 
 /* Of the table an even number is the address of a word to relocate, an odd one a bitmap of those behind what came last. */
-void csicodec_relocate(void) {
+void relocate_all(void) {
     word base = (word)__ehdr_start, *place = 0;
     const word *it = (const word *)(base + value_of(TABLE)), *end = it + value_of(LENGTH) / sizeof(word);
     for (; it < end; it++) {
@@ -44,7 +45,9 @@ void csicodec_relocate(void) {
 
 /* The stack is as the system left it when musl's `_start` looks for words and environment there. */
 #if defined(__x86_64__)
-__asm__(".text\n.global csicodec_begin\ncsicodec_begin:\n\txor %ebp, %ebp\n\tcall csicodec_relocate\n\tjmp _start\n");
+__asm__(".text\n.global program_begin\nprogram_begin:\n\txor %ebp, %ebp\n\tcall relocate_all\n\tjmp _start\n");
 #elif defined(__aarch64__)
-__asm__(".text\n.global csicodec_begin\ncsicodec_begin:\n\tmov x29, #0\n\tmov x30, #0\n\tbl csicodec_relocate\n\tb _start\n");
+__asm__(".text\n.global program_begin\nprogram_begin:\n\tmov x29, #0\n\tbl relocate_all\n\tb _start\n");
+#else
+#error "no entry for this processor"
 #endif

@@ -194,7 +194,7 @@ def link_program(kit, place, made, to, room):
         kit.tool("llvm-objcopy", "--redefine-sym", f"main={entry}", made[place, name], f"{own}/{name}.o")
         files.append(f"{own}/{name}.o")
     how = ["-static", "-pie", "--no-dynamic-linker", "-z", "relro", "-z", "now", "-z", "noexecstack", "--gc-sections", "--icf=safe", "--build-id=none"]
-    how += ["--pack-dyn-relocs=relr", "-e", "csicodec_begin"]
+    how += ["--pack-dyn-relocs=relr", "-e", "program_begin"]
     kit.tool("ld.lld", *how, "-s", "-u", "_start", "-o", to, *files, f"{TOP}/system/{place}/musl.a")
 
 

@@ -80,7 +80,7 @@ impl Reader {
     /// A control sequence that is all there, with one action, as most are.
     #[inline]
     pub(crate) fn sequence<'a>(&mut self, rest: &mut &'a [u8]) -> Option<Event<'a>> {
-        let front = self.room.near(&rest[..rest.len().min(LIMIT)]);
+        let front = self.room.next(&rest[..rest.len().min(LIMIT)]);
         if front.actions != 1 || front.params != 0 {
             return self.several(&front, rest);
         }

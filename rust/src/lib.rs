@@ -95,7 +95,7 @@ pub fn actions(bytes: &[u8]) -> Actions<'_> {
 impl Actions<'_> {
     /// The actions of the sequence at the front.
     fn read(&mut self) -> Result<(), Error> {
-        let answer = self.room.near(self.rest);
+        let answer = self.room.next(self.rest);
         let answer = self.room.whole(answer, self.rest);
         if answer.status != 0 {
             self.rest = &[];
@@ -167,7 +167,7 @@ pub fn front(bytes: &[u8]) -> Result<Front, Error> {
         });
     }
     let mut room = Room::new();
-    let answer = room.near(bytes);
+    let answer = room.next(bytes);
     let answer = room.whole(answer, bytes);
     if answer.status != 0 {
         return Err(refusal(answer.status, 0, answer.at));

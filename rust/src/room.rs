@@ -3,14 +3,12 @@
 use crate::pending::LIMIT;
 use crate::{CSI, Event, raw, rows};
 
-/// How many structs, and how many tokens, there is always room for.
+/// For how many structs, and how many tokens, there is room at first.
 const NEAR: usize = 16;
 
-/// Structs of actions and tokens: those of a sequence with few of them are near.
+/// Structs of actions and tokens, as many as any sequence before had.
 #[derive(Clone, Debug)]
 pub(crate) struct Room {
-    near: Box<([raw::Action; NEAR], [raw::Param; NEAR])>,
-    /// Those of a sequence with more of either; else there are none.
     actions: Vec<raw::Action>,
     params: Vec<raw::Param>,
 }
@@ -18,49 +16,44 @@ pub(crate) struct Room {
 impl Room {
     pub(crate) fn new() -> Self {
         Room {
-            near: Box::new((
-                [raw::Action::default(); NEAR],
-                [raw::Param::default(); NEAR],
-            )),
-            actions: Vec::new(),
-            params: Vec::new(),
+            actions: vec![raw::Action::default(); NEAR],
+            params: vec![raw::Param::default(); NEAR],
         }
     }
 
-    /// Reads the sequence at the front of the bytes. As many of its actions as there is room for stand near.
+    /// Reads the sequence at the front of the bytes. As many of its actions as there is room for stand here.
     #[inline]
-    pub(crate) fn near(&mut self, bytes: &[u8]) -> raw::Front {
-        let (actions, params) = &mut *self.near;
-        raw::next(bytes, actions, params)
+    pub(crate) fn next(&mut self, bytes: &[u8]) -> raw::Front {
+        raw::next(bytes, &mut self.actions, &mut self.params)
     }
 
-    /// The event that the first action near is, of a sequence with no tokens.
+    /// The event that the first action is, of a sequence with no tokens.
     #[inline(always)]
     pub(crate) fn first<'a>(&self) -> Option<Event<'a>> {
-        let first = &self.near.0[0];
+        let first = &self.actions[0];
         rows::often_of(first, event, || other_event(first, &[]))
     }
 
-    /// Reads the sequence again, if not all its actions stand near.
+    /// Reads the sequence again, if not all its actions stand here.
     #[inline]
     pub(crate) fn whole(&mut self, front: raw::Front, bytes: &[u8]) -> raw::Front {
         if self.holds(front.actions, front.params) {
             return front;
         }
         self.grow(front.actions, front.params);
-        raw::next(bytes, &mut self.actions, &mut self.params)
+        self.next(bytes)
     }
 
     /// The event at the front of the bytes. Where it is a control sequence, all its actions stand here.
     pub(crate) fn event(&mut self, mode: u32, looked: usize, bytes: &[u8]) -> raw::Told {
-        let (actions, params) = &mut *self.near;
-        let told = raw::event(mode, LIMIT, looked, bytes, actions, params);
-        if self.holds(told.actions, told.params) {
-            return told;
+        loop {
+            let (actions, params) = (&mut self.actions, &mut self.params);
+            let told = raw::event(mode, LIMIT, looked, bytes, actions, params);
+            if self.holds(told.actions, told.params) {
+                return told;
+            }
+            self.grow(told.actions, told.params);
         }
-        self.grow(told.actions, told.params);
-        let (actions, params) = (&mut self.actions, &mut self.params);
-        raw::event(mode, LIMIT, looked, bytes, actions, params)
     }
 
     /// The same of input in a dialect.
@@ -71,45 +64,40 @@ impl Room {
         looked: usize,
         bytes: &[u8],
     ) -> raw::Received {
-        let (actions, params) = &mut *self.near;
-        let told = raw::input(dialect, mode, LIMIT, looked, bytes, actions, params);
-        if self.holds(told.actions, told.params) {
-            return told;
+        loop {
+            let (actions, params) = (&mut self.actions, &mut self.params);
+            let told = raw::input(dialect, mode, LIMIT, looked, bytes, actions, params);
+            if self.holds(told.actions, told.params) {
+                return told;
+            }
+            self.grow(told.actions, told.params);
         }
-        self.grow(told.actions, told.params);
-        let (actions, params) = (&mut self.actions, &mut self.params);
-        raw::input(dialect, mode, LIMIT, looked, bytes, actions, params)
     }
 
-    /// Whether so many stand near; then there are no others.
+    /// Whether there is room for so many.
     #[inline(always)]
-    pub(crate) fn holds(&mut self, actions: usize, params: usize) -> bool {
-        self.actions.clear();
-        actions <= NEAR && params <= NEAR
+    pub(crate) fn holds(&self, actions: usize, params: usize) -> bool {
+        actions <= self.actions.len() && params <= self.params.len()
     }
 
     /// Makes as much room as a sequence needs.
     #[cold]
     pub(crate) fn grow(&mut self, actions: usize, params: usize) {
+        let actions = actions.max(self.actions.len());
         self.actions.resize(actions, raw::Action::default());
+        let params = params.max(self.params.len());
         self.params.resize(params, raw::Param::default());
     }
 
     /// The action at a place, of those that were read last.
     #[inline]
     pub(crate) fn action(&self, place: usize) -> CSI {
-        match self.actions.get(place) {
-            Some(given) => action(given, &self.params),
-            None => action(&self.near.0[place], &self.near.1),
-        }
+        action(&self.actions[place], &self.params)
     }
 
     /// The same as an event.
     pub(crate) fn told<'a>(&self, place: usize) -> Option<Event<'a>> {
-        match self.actions.get(place) {
-            Some(given) => event_of(given, &self.params),
-            None => event_of(&self.near.0[place], &self.near.1),
-        }
+        event_of(&self.actions[place], &self.params)
     }
 }
 

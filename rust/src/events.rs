@@ -82,7 +82,7 @@ impl Reader {
     pub(crate) fn sequence<'a>(&mut self, rest: &mut &'a [u8]) -> Option<Event<'a>> {
         let front = self.room.next(&rest[..rest.len().min(LIMIT)]);
         if front.actions != 1 || front.params != 0 {
-            return self.several(&front, rest);
+            return self.several(front, rest);
         }
         *rest = &rest[front.used..];
         self.room.first()

@@ -76,13 +76,13 @@ impl Room {
 
     /// Whether there is room for so many.
     #[inline(always)]
-    pub(crate) fn holds(&self, actions: usize, params: usize) -> bool {
+    fn holds(&self, actions: usize, params: usize) -> bool {
         actions <= self.actions.len() && params <= self.params.len()
     }
 
     /// Makes as much room as a sequence needs.
     #[cold]
-    pub(crate) fn grow(&mut self, actions: usize, params: usize) {
+    fn grow(&mut self, actions: usize, params: usize) {
         let actions = actions.max(self.actions.len());
         self.actions.resize(actions, raw::Action::default());
         let params = params.max(self.params.len());

@@ -9,23 +9,8 @@ use std::mem::take;
 impl Reader {
     /// A control sequence with several actions, or with tokens, or one that is refused: then it has no actions.
     #[inline(never)]
-    pub(crate) fn several<'a>(&mut self, front: &Front, rest: &mut &'a [u8]) -> Option<Event<'a>> {
-        if front.actions == 0 {
-            return self.told(rest);
-        }
-        if !self.room.holds(front.actions, front.params) {
-            return self.long(front, rest);
-        }
-        *rest = &rest[front.used..];
-        (self.given, self.count) = (0, front.actions);
-        self.action()
-    }
-
-    /// One with so many that it is read again.
-    #[cold]
-    #[inline(never)]
-    fn long<'a>(&mut self, front: &Front, rest: &mut &'a [u8]) -> Option<Event<'a>> {
-        let front = self.room.whole(*front, &rest[..rest.len().min(LIMIT)]);
+    pub(crate) fn several<'a>(&mut self, front: Front, rest: &mut &'a [u8]) -> Option<Event<'a>> {
+        let front = self.room.whole(front, &rest[..rest.len().min(LIMIT)]);
         if front.actions == 0 {
             return self.told(rest);
         }

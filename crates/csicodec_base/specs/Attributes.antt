@@ -1,10 +1,11 @@
+-- Written by tools/table from table/sgr.toml: change that, and run python3 tools/table.
 -- The attributes that codes set (SGR; ECMA-48, 8.3.117).
 use Rattle.std.specs.Prelude.{Option, Some, None, true, false}
 use Rattle.csicodec_names.specs.declared.codes.SgrCode.{SgrCode}
 use Rattle.csicodec_names.specs.declared.codes.SgrCode.TheVariants as code
 use Rattle.csicodec_base.specs.declared.sgr.Sgr.{Sgr}
 use Rattle.csicodec_base.specs.declared.sgr.Sgr.TheVariants as sgr
-use Rattle.csicodec_names.specs.declared.color.Intensity.TheVariants.{Normal, Bold, Half}
+use Rattle.csicodec_names.specs.declared.color.Intensity.TheVariants as intensity
 use Rattle.csicodec_names.specs.declared.color.Underline.TheVariants as underline
 use Rattle.csicodec_names.specs.declared.color.Blink.TheVariants as blink
 use Rattle.csicodec_names.specs.declared.color.VerticalAlign.TheVariants as align
@@ -14,8 +15,8 @@ use Rattle.csicodec_names.specs.declared.color.ColorSpec.TheVariants as color
 -- the attribute that each code sets alone, a line for each variant; none for 4, 38, 48 and 58, which can have further tokens or need them
 abbrev pub action_of : SgrCode → Option Sgr
 action_of code.Reset = Some sgr.Reset
-action_of code.IntensityBold = Some (sgr.Intensity Bold)
-action_of code.IntensityDim = Some (sgr.Intensity Half)
+action_of code.IntensityBold = Some (sgr.Intensity intensity.Bold)
+action_of code.IntensityDim = Some (sgr.Intensity intensity.Half)
 action_of code.ItalicOn = Some (sgr.Italic true)
 action_of code.UnderlineOn = None
 action_of code.BlinkOn = Some (sgr.Blink blink.Slow)
@@ -34,7 +35,7 @@ action_of code.AltFont7 = Some (sgr.Font (font.Alternate 7))
 action_of code.AltFont8 = Some (sgr.Font (font.Alternate 8))
 action_of code.AltFont9 = Some (sgr.Font (font.Alternate 9))
 action_of code.UnderlineDouble = Some (sgr.Underline underline.Double)
-action_of code.NormalIntensity = Some (sgr.Intensity Normal)
+action_of code.NormalIntensity = Some (sgr.Intensity intensity.Normal)
 action_of code.ItalicOff = Some (sgr.Italic false)
 action_of code.UnderlineOff = Some (sgr.Underline underline.None)
 action_of code.BlinkOff = Some (sgr.Blink blink.None)

@@ -3,3 +3,4 @@ pub mod Shapes
 pub mod Pieces
 pub mod FrontBy
 pub mod SgrText
+pub mod Entries

@@ -1,6 +1,7 @@
 //! What one token, one control sequence and one piece of a parameter list is, and what has a name.
 #![tactic(auto)]
 
+mod entries;
 pub mod laws;
 mod pieces;
 mod ready;

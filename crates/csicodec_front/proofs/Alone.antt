@@ -16,9 +16,9 @@ use Rattle.csicodec_base.specs.declared.sgr.Sgr.{Sgr}
 use Rattle.csicodec_base.specs.declared.sgr.Sgr.TheVariants as sgr
 use Rattle.csicodec_structs.specs.Rows.{sgr_struct}
 use Rattle.csicodec_structs.specs.Structs.{row}
-use Rattle.csicodec_front.specs.declared.attributes.Alone.{Alone}
+use Rattle.csicodec_front.specs.declared.by_number.Alone.{Alone}
 use Rattle.csicodec_front.specs.declared.attributes.Style.{Style}
-use Rattle.csicodec_front.specs.declared.attributes.TheConstants.{STYLES}
+use Rattle.csicodec_front.specs.declared.by_number.TheConstants.{STYLES}
 use Rattle.csicodec_front.specs.Private.Short.{Ends, SetsAlone, nothing, plain, style_struct}
 
 -- ---- by its code

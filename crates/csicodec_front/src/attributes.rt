@@ -3,8 +3,9 @@ ghost use Rattle.std.specs.Prelude.{◌≡◌, ◌∷◌, [], ◌<◌, IfSome, g
 ghost use Rattle.csicodec_tokens.specs.declared.param.CsiParam.TheVariants.{Integer, P};
 ghost use Rattle.csicodec_tokens.specs.Private.Reading.{IsFirstToken};
 ghost use Rattle.csicodec_front.specs.Private.Short.{IsMark, IsPainted, IsStyled, ReadsOn, SetsAlone, nothing, plain, style_struct};
-ghost use Rattle.csicodec_front.specs.declared.attributes.TheConstants.{STYLES};
+ghost use Rattle.csicodec_front.specs.declared.by_number.TheConstants.{STYLES};
 
+use crate::by_number::{Alone, STYLES};
 use crate::numbers::number_front;
 use csicodec_structs::{Struct, row};
 
@@ -46,124 +47,6 @@ pub(crate) fn style_struct(style: &Style) -> Struct
         )
     }
 }
-
-/// What a number sets alone: the kind of its struct (`enum csicodec_kind`), 0 where it sets nothing, and the two numbers of that.
-#[derive(Clone, Copy)]
-struct Alone(u8, u8, u8);
-
-const PLACES: usize = 108;
-
-/// What each number from 0 to 107 sets, where no `:` is behind it.
-static STYLES: [Alone; PLACES] = [
-    Alone(1, 0, 0),
-    Alone(2, 1, 0),
-    Alone(2, 2, 0),
-    Alone(6, 1, 0),
-    Alone(3, 1, 0),
-    Alone(5, 1, 0),
-    Alone(5, 2, 0),
-    Alone(7, 1, 0),
-    Alone(8, 1, 0),
-    Alone(9, 1, 0),
-    Alone(10, 0, 0),
-    Alone(10, 1, 0),
-    Alone(10, 2, 0),
-    Alone(10, 3, 0),
-    Alone(10, 4, 0),
-    Alone(10, 5, 0),
-    Alone(10, 6, 0),
-    Alone(10, 7, 0),
-    Alone(10, 8, 0),
-    Alone(10, 9, 0),
-    Alone(0, 0, 0),
-    Alone(3, 2, 0),
-    Alone(2, 0, 0),
-    Alone(6, 0, 0),
-    Alone(3, 0, 0),
-    Alone(5, 0, 0),
-    Alone(0, 0, 0),
-    Alone(7, 0, 0),
-    Alone(8, 0, 0),
-    Alone(9, 0, 0),
-    Alone(11, 1, 0),
-    Alone(11, 1, 1),
-    Alone(11, 1, 2),
-    Alone(11, 1, 3),
-    Alone(11, 1, 4),
-    Alone(11, 1, 5),
-    Alone(11, 1, 6),
-    Alone(11, 1, 7),
-    Alone(0, 0, 0),
-    Alone(11, 0, 0),
-    Alone(12, 1, 0),
-    Alone(12, 1, 1),
-    Alone(12, 1, 2),
-    Alone(12, 1, 3),
-    Alone(12, 1, 4),
-    Alone(12, 1, 5),
-    Alone(12, 1, 6),
-    Alone(12, 1, 7),
-    Alone(0, 0, 0),
-    Alone(12, 0, 0),
-    Alone(0, 0, 0),
-    Alone(0, 0, 0),
-    Alone(0, 0, 0),
-    Alone(13, 1, 0),
-    Alone(0, 0, 0),
-    Alone(13, 0, 0),
-    Alone(0, 0, 0),
-    Alone(0, 0, 0),
-    Alone(0, 0, 0),
-    Alone(4, 0, 0),
-    Alone(0, 0, 0),
-    Alone(0, 0, 0),
-    Alone(0, 0, 0),
-    Alone(0, 0, 0),
-    Alone(0, 0, 0),
-    Alone(0, 0, 0),
-    Alone(0, 0, 0),
-    Alone(0, 0, 0),
-    Alone(0, 0, 0),
-    Alone(0, 0, 0),
-    Alone(0, 0, 0),
-    Alone(0, 0, 0),
-    Alone(0, 0, 0),
-    Alone(14, 1, 0),
-    Alone(14, 2, 0),
-    Alone(14, 0, 0),
-    Alone(0, 0, 0),
-    Alone(0, 0, 0),
-    Alone(0, 0, 0),
-    Alone(0, 0, 0),
-    Alone(0, 0, 0),
-    Alone(0, 0, 0),
-    Alone(0, 0, 0),
-    Alone(0, 0, 0),
-    Alone(0, 0, 0),
-    Alone(0, 0, 0),
-    Alone(0, 0, 0),
-    Alone(0, 0, 0),
-    Alone(0, 0, 0),
-    Alone(0, 0, 0),
-    Alone(11, 1, 8),
-    Alone(11, 1, 9),
-    Alone(11, 1, 10),
-    Alone(11, 1, 11),
-    Alone(11, 1, 12),
-    Alone(11, 1, 13),
-    Alone(11, 1, 14),
-    Alone(11, 1, 15),
-    Alone(0, 0, 0),
-    Alone(0, 0, 0),
-    Alone(12, 1, 8),
-    Alone(12, 1, 9),
-    Alone(12, 1, 10),
-    Alone(12, 1, 11),
-    Alone(12, 1, 12),
-    Alone(12, 1, 13),
-    Alone(12, 1, 14),
-    Alone(12, 1, 15),
-];
 
 #[inline(always)]
 fn alone_at(place: usize) -> Alone

@@ -3,6 +3,7 @@
 #![tactic(auto)]
 
 mod attributes;
+mod by_number;
 mod front;
 mod mode;
 mod numbers;

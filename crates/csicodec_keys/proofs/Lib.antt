@@ -1,3 +1,4 @@
+pub mod Named
 pub mod SameKeys
 pub mod Options
 pub mod AnyTable
@@ -10,5 +11,6 @@ pub mod Records
 pub mod Trip
 pub mod Spelled
 pub mod Fronts
+pub mod Typed
 pub mod Told
 pub mod Written

@@ -22,15 +22,15 @@ number-of n h = rw h refl
 char-of : (c : ℕ) → scalar c ≡ true → char_of (pos c) ≡ Some c
 char-of c h = ap (λ (b : Bool). if b then Some c else None) h
 
-not-full : (n : ℕ) → n < 8 → (n == 8) ≡ false
+not-full : (n : ℕ) → n < 32 → (n == 32) ≡ false
 not-full n h = grind arith
 
-with-char : (text : List ℕ) (c : ℕ) → scalar c ≡ true → length text < 8 → with_char text (pos c) ≡ Some (text ++ c ∷ [])
+with-char : (text : List ℕ) (c : ℕ) → scalar c ≡ true → length text < 32 → with_char text (pos c) ≡ Some (text ++ c ∷ [])
 unfolding with_char
 with-char text c s h =
     ap (λ (b : Bool). if b then None else option_map (λ x. text ++ x ∷ []) (char_of (pos c))) (not-full (length text) h) ∙ ap (option_map (λ x. text ++ x ∷ [])) (char-of c s)
 
-chars-read : (text : List ℕ) (c : ℕ) (cs : List ℕ) → scalars (c ∷ cs) ≡ true → length text + length (c ∷ cs) ≤ 8 → characters text (Integer (pos c) ∷ colon_list cs) ≡ Some (text ++ c ∷ cs)
+chars-read : (text : List ℕ) (c : ℕ) (cs : List ℕ) → scalars (c ∷ cs) ≡ true → length text + length (c ∷ cs) ≤ 32 → characters text (Integer (pos c) ∷ colon_list cs) ≡ Some (text ++ c ∷ cs)
 chars-read text c [] s h = ap (option_and_then (λ more. characters more [])) (with-char text c (and_parts (scalar c) true s).0 (omega (arith, h)))
 chars-read text c (d ∷ ds) s h =
     let p = and_parts (scalar c) (scalars (d ∷ ds)) s in
@@ -38,7 +38,7 @@ chars-read text c (d ∷ ds) s h =
     ∙ (chars-read (text ++ c ∷ []) d ds p.1 (omega (arith, h, length-append text (c ∷ [])))
     ∙ ap Some (append_assoc text (c ∷ []) (d ∷ ds)))
 
-text-read : (text : List ℕ) → scalars text ≡ true → length text ≤ 8 → text_front (text_list text) ≡ Some text
+text-read : (text : List ℕ) → scalars text ≡ true → length text ≤ 32 → text_front (text_list text) ≡ Some text
 text-read [] s h = refl
 text-read (c ∷ cs) s h = chars-read [] c cs s (omega (arith, h))
 
@@ -56,7 +56,7 @@ held-read held event.Repeat text h = rw (held-of held h) refl
 held-read held event.Release text h = rw (held-of held h) refl
 
 -- the number stands there
-with-number : (n held : ℕ) (e : KeyEvent) (text : List ℕ) → nat_lt n 4294967296 ≡ true → held < 256 → scalars text ≡ true → length text ≤ 8
+with-number : (n held : ℕ) (e : KeyEvent) (text : List ℕ) → nat_lt n 4294967296 ≡ true → held < 256 → scalars text ≡ true → length text ≤ 32
     → read_list (Integer (pos n) ∷ (held_list held e (is_empty text) ++ text_list text)) ≡ Some (record { number = n; held = held; event = e; text = text })
 with-number n held e text small h s short =
     rw (number-of n small, separated held e text, held-read held e text h, text-read text s short) refl
@@ -72,7 +72,7 @@ plain-parts held event.Press (c ∷ cs) h = absurd (no-true (held == 0) h)
 plain-parts held event.Repeat text h = absurd (no-true (held == 0) h)
 plain-parts held event.Release text h = absurd (no-true (held == 0) h)
 
-pub list-read : (n held : ℕ) (e : KeyEvent) (text : List ℕ) → nat_lt n 4294967296 ≡ true → held < 256 → scalars text ≡ true → length text ≤ 8
+pub list-read : (n held : ℕ) (e : KeyEvent) (text : List ℕ) → nat_lt n 4294967296 ≡ true → held < 256 → scalars text ≡ true → length text ≤ 32
     → read_list (written_list n held e text) ≡ Some (record { number = n; held = held; event = e; text = text })
 list-read n held e text small h s short = elim (cases_Bool ((n == 1) && is_plain held e text)) [
   | inl alone ↦

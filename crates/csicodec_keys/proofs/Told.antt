@@ -1,15 +1,15 @@
 -- What is written of a key is told as the event and the list that it is read of.
-use Rattle.std.proofs.Common.{◌≡◌, ℕ, ◌-◌, ◌%◌, ◌<◌, List, [], ◌∷◌, ◌++◌, Option, None, Some, refl, sym, inl, inr, arith, subst}
-use Rattle.std.specs.Prelude.{Bool, true, not, ◌==◌, ◌&&◌, nat_le, nat_lt, is_none, if◌then◌else◌, option_and_then}
+use Rattle.std.proofs.Common.{◌≡◌, ◌≢◌, ℕ, ◌-◌, ◌%◌, ◌<◌, ◌≤◌, List, [], ◌∷◌, ◌++◌, Option, None, Some, refl, sym, inl, inr, arith, subst}
+use Rattle.std.specs.Prelude.{Bool, true, false, not, ◌==◌, ◌&&◌, ◌||◌, nat_le, nat_lt, is_none, if◌then◌else◌, option_and_then}
 use Rattle.std.specs.Fmt.{decimal, digits}
 use Rattle.std.specs.List.{list_all}
 use Rattle.std.specs.Option.{option_map}
-use Rattle.std.proofs.lemmas.Bool.{and_from, and_parts, cases_Bool, ltb-true}
+use Rattle.std.proofs.lemmas.Bool.{and_from, and_parts, cases_Bool, leb-false, ltb-false, ltb-true, not-true, or_parts}
 use Rattle.std.proofs.lemmas.Option.{same_Some}
 use Rattle.std.proofs.lemmas.Str.{encode_ascii}
-use lib.Utf8.{scalar, scalar_fits, scalars}
+use lib.Utf8.{low_scalar, scalar, scalar_fits, scalars}
 use Rattle.csicodec_events.specs.declared.input.InputEvent.TheVariants as sent
-use Rattle.csicodec_events.specs.Input.{is_printable}
+use Rattle.csicodec_events.specs.Input.{is_opener, is_printable}
 use Rattle.csicodec_keys.specs.declared.code.KeyCode.{KeyCode}
 use Rattle.csicodec_keys.specs.declared.code.KeyCode.TheVariants as code
 use Rattle.csicodec_keys.specs.declared.key.Encoding.{Encoding}
@@ -34,11 +34,12 @@ use Rattle.csicodec_keys.proofs.Options.{guarded, map-some, one-of, unless}
 use Rattle.csicodec_keys.proofs.Others.{other-numbered}
 use Rattle.csicodec_keys.proofs.Spelled.{good-list, good-record}
 use Rattle.csicodec_keys.proofs.Records.{Small, record-both}
+use Rattle.csicodec_keys.proofs.Typed.{text-front}
 
 -- ---- the ranges of a form
 
 abbrev Sound : Form → Type 0
-Sound (form.Text c) = Unit {0}
+Sound (form.Text c) = (scalar c ≡ true) × (c ≢ 27)
 Sound (form.Alt c) = is_free c ≡ true
 Sound (form.Ss3 c) = is_printable c ≡ true
 Sound (form.Linux c) = is_printable c ≡ true
@@ -50,7 +51,7 @@ Sound (form.Typed n held e control) = (n < 4294967296) × (held < 256) × (is_en
 Sound (form.Win32 r) = Small r
 
 told : (f : Form) (text : List ℕ) → scalars text ≡ true → Sound f → IsToldAs f text (form_bytes f text)
-told (form.Text c) text s h = tt
+told (form.Text c) text s h = text-front c h.0 h.1
 told (form.Alt c) text s h = alt-front c h
 told (form.Ss3 c) text s h = ss3-front c h
 told (form.Linux c) text s h = linux-front c h
@@ -110,8 +111,26 @@ list-row r h = let p = and_parts (nat_lt r.number 4294967296) (is_end r.control)
 
 -- ---- each form
 
+free-text : (c : ℕ) → is_free c ≡ true → Sound (form.Text c)
+free-text c h =
+    let p = and_parts (not (c == 79)) (not (c == 91) && (not (is_opener c) && not (c == 27 || nat_le 128 c))) h in
+    let q = and_parts (not (c == 91)) (not (is_opener c) && not (c == 27 || nat_le 128 c)) p.1 in
+    let r = and_parts (not (is_opener c)) (not (c == 27 || nat_le 128 c)) q.1 in
+    let o = or_parts (c == 27) (nat_le 128 c) (not-true (c == 27 || nat_le 128 c) r.1) in
+    let low : c < 128 = leb-false 128 c o.1 in
+    (low_scalar c (omega (arith, low)), λ e. absurd (let none : (c == 27) ≡ false = o.0 in let is : (c == 27) ≡ true = rw e refl in cc (none, is)))
+
+typed-text : (c : ℕ) → is_typed c ≡ true → Sound (form.Text c)
+typed-text c h =
+    let p = and_parts (scalar c && not (nat_lt c 32)) (not (nat_le 127 c && nat_lt c 160)) h in
+    let q = and_parts (scalar c) (not (nat_lt c 32)) p.0 in
+    let high : 32 ≤ c = ltb-false c 32 (not-true (nat_lt c 32) q.1) in
+    (q.0, λ e. absurd (omega (arith, e, high)))
+
 control-sound : (k : KeyCode) (held : ℕ) (f : Form) → control_form k held ≡ Some f → Sound f
-control-sound k held f e = let m = map-some (λ (r : Row). form.Text r.control) (row_of controls k held) f e in subst Sound m.2 tt
+control-sound k held f e =
+    let m = map-some (λ (r : Row). form.Text r.control) (row_of controls k held) f e in
+    subst Sound m.2 (free-text m.0.control (row-all free_row controls k held m.0 controls-free m.1))
 
 alt-sound : (k : KeyCode) (held : ℕ) (f : Form) → alt_control k held ≡ Some f → Sound f
 alt-sound k held f e =
@@ -126,7 +145,7 @@ ss3-sound k held f e =
 
 text-sound : (o : Option ℕ) (f : Form) → text_form o ≡ Some f → Sound f
 text-sound None f e = cc
-text-sound (Some d) f e = subst Sound (same_Some _ _ (guarded (is_typed d) (Some (form.Text d)) f e).1) tt
+text-sound (Some d) f e = let g = guarded (is_typed d) (Some (form.Text d)) f e in subst Sound (same_Some _ _ g.1) (typed-text d g.0)
 
 alt-free : (c : ℕ) → is_alt c ≡ true → is_free c ≡ true
 alt-free c h = grind arith

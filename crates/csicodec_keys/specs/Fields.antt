@@ -91,10 +91,10 @@ held_front [] = Some (0, event.Press, [])
 held_front (Integer z ∷ ts) = None
 held_front (P b ∷ ts) = if b == 59 then held_field ts else None
 
--- a text and one more character, of which there are eight at most
+-- a text and one more character, of which there are 32 at most
 unfoldable pub with_char : List ℕ → ℤ → Option (List ℕ)
 with_char text z =
-    if length text == 8 then None else option_map (λ c. text ++ c ∷ []) (char_of z)
+    if length text == 32 then None else option_map (λ c. text ++ c ∷ []) (char_of z)
 
 -- the characters of a text, behind these
 abbrev pub characters : List ℕ → List CsiParam → Option (List ℕ)

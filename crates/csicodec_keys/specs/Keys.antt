@@ -38,4 +38,4 @@ is_code (code.F n) = nat_lt n 256
 is_code _ = true
 
 abbrev pub is_stroke : Stroke → Bool
-is_stroke s = is_code s.code && nat_lt s.held 256 && scalars s.text && nat_le (length s.text) 8
+is_stroke s = is_code s.code && nat_lt s.held 256 && scalars s.text && nat_le (length s.text) 32

@@ -1,3 +1,4 @@
+-- Written by tools/table from table/keys.toml: change that, and run python3 tools/table.
 -- Which keys are the same.
 use Rattle.std.specs.Prelude.{ℕ, ◌==◌, ◌&&◌, Bool}
 use Rattle.csicodec_keys.specs.declared.code.KeyCode.{KeyCode}
@@ -83,6 +84,9 @@ code_tag code.RightHyper = 74
 code_tag code.RightMeta = 75
 code_tag code.IsoLevel3Shift = 76
 code_tag code.IsoLevel5Shift = 77
+code_tag code.KeypadTab = 78
+code_tag code.KeypadSpace = 79
+code_tag code.Text = 80
 
 -- the character of a key that types one, the number of a function key, and 0
 abbrev pub code_value : KeyCode → ℕ

@@ -1,12 +1,13 @@
 -- The bytes of a form in a stream: csicodec_events tells them as the event and the list that the key is read of.
-use Rattle.std.specs.Prelude.{ℕ, ◌≤◌, List, [], ◌++◌, length}
+use Rattle.std.specs.Prelude.{ℕ, ◌≡◌, ◌≤◌, List, [], ◌++◌, length}
 use Rattle.csicodec_tokens.specs.declared.param.CsiParam.{CsiParam}
 use Rattle.csicodec_spans.specs.declared.table.Mode.TheVariants as mode
+use Rattle.csicodec_events.specs.declared.event.Event.TheVariants as event
 use Rattle.csicodec_events.specs.declared.event.Events.{Events}
 use Rattle.csicodec_events.specs.declared.input.Dialect.TheVariants as dialect
 use Rattle.csicodec_events.specs.declared.input.InputEvent.{InputEvent}
 use Rattle.csicodec_events.specs.declared.input.InputEvent.TheVariants as sent
-use Rattle.csicodec_events.specs.Input.{IsSent, IsSentBy, paused}
+use Rattle.csicodec_events.specs.Input.{Awaits, IsSent, IsSentBy, paused}
 use Rattle.csicodec_keys.specs.declared.writing.Form.{Form}
 use Rattle.csicodec_keys.specs.declared.writing.Form.TheVariants as form
 use Rattle.csicodec_keys.specs.Forms.{event_of, list_of}
@@ -25,8 +26,16 @@ abbrev pub IsPaused : List ℕ → InputEvent → Type 0
 IsPaused bytes e = (limit : ℕ)
     → IsSentBy (paused bytes) (fresh limit) bytes e bytes [] [] (fresh limit)
 
--- Text is read by its characters, and ESC alone is a key where no more comes.
+-- whatever follows them, what is told is text that begins with them, and it is told at once
+pub record IsTextFront (bytes : List ℕ) : Type 0 where
+  pub told : (limit : ℕ) (more text rest : List ℕ) (e : InputEvent) (list : List CsiParam)
+      (after : Events) → IsSent dialect.Input (fresh limit) (bytes ++ more) e text rest list after
+      → (e ≡ sent.Output event.Text) × ((others : List ℕ) × (text ≡ bytes ++ others))
+  pub at_once : (limit : ℕ) (more : List ℕ) (after : Events)
+      → Awaits dialect.Input (fresh limit) (bytes ++ more) after → ⊥
+
+-- A character is read of the text that begins with it, and ESC alone is a key where no more comes.
 abbrev pub IsToldAs : Form → List ℕ → List ℕ → Type 0
-IsToldAs (form.Text c) text bytes = Unit {0}
+IsToldAs (form.Text c) text bytes = IsTextFront bytes
 IsToldAs form.Escape text bytes = IsPaused bytes sent.Escape
 IsToldAs f text bytes = IsFront bytes (event_of f) (list_of f text)

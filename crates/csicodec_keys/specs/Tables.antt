@@ -1,7 +1,8 @@
--- The tables of keys by their names; their rows stand in src/tables.rt, each table with its source.
+-- Written by tools/table from table/keys.toml: change that, and run python3 tools/table.
+-- The tables of keys by their names; their rows stand in src/rows.rt, each table with its source.
 use Rattle.std.specs.Prelude.{List}
 use Rattle.csicodec_keys.specs.declared.tables.Row.{Row}
-use Rattle.csicodec_keys.specs.declared.tables.TheConstants.{CONTROLS, CSI_KEYS, KITTY_KEYS, LINUX_KEYS, OTHER_KEYS, RXVT_KEYS, RXVT_SS3, SS3_CURSOR, SS3_KEYS, WIN32_KEYS}
+use Rattle.csicodec_keys.specs.declared.rows.TheConstants.{CONTROLS, CSI_KEYS, KITTY_KEYS, LINUX_KEYS, OTHER_KEYS, RXVT_KEYS, RXVT_SS3, SS3_CURSOR, SS3_KEYS, WIN32_KEYS}
 
 unfoldable pub controls : List Row
 controls = CONTROLS

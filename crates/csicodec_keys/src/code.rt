@@ -1,3 +1,4 @@
+// Written by tools/table from table/keys.toml: change that, and run python3 tools/table.
 //! Which key it is.
 ghost use Rattle.std.specs.Prelude.{◌≡◌};
 ghost use Rattle.csicodec_keys.specs.SameKeys.{code_tag, code_value, same_code};
@@ -162,6 +163,12 @@ pub enum KeyCode {
     IsoLevel3Shift,
     /// ISO level 5 shift.
     IsoLevel5Shift,
+    /// Tab on the keypad.
+    KeypadTab,
+    /// The space bar on the keypad.
+    KeypadSpace,
+    /// No key: text that comes without one, as of an input method (kitty).
+    Text,
 }
 
 impl KeyCode {
@@ -266,6 +273,9 @@ impl KeyCode {
             KeyCode::RightMeta => 75,
             KeyCode::IsoLevel3Shift => 76,
             KeyCode::IsoLevel5Shift => 77,
+            KeyCode::KeypadTab => 78,
+            KeyCode::KeypadSpace => 79,
+            KeyCode::Text => 80,
         }
     }
 }

@@ -7,7 +7,7 @@ use crate::modifiers::KeyModifiers;
 use arrayvec::ArrayVec;
 
 /// How many characters a key types at most.
-pub const MOST: usize = 8;
+pub const MOST: usize = 32;
 
 /// What a key types.
 pub type Typed = ArrayVec<char, MOST>;

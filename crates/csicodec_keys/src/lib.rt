@@ -11,6 +11,7 @@ mod key;
 pub mod laws;
 mod modifiers;
 mod reading;
+mod rows;
 mod tables;
 mod win32;
 mod writing;

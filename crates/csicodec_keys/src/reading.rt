@@ -11,10 +11,11 @@ use crate::code::KeyCode;
 use crate::fields::{Fields, read_list};
 use crate::key::{Encoding, Key, KeyEvent, Typed};
 use crate::modifiers::KeyModifiers;
-use crate::tables::{
-    Row, controls, csi_keys, kitty_keys, linux_keys, other_keys, row_at, rxvt_keys, rxvt_ss3,
-    ss3_cursor, ss3_keys,
+use crate::rows::{
+    controls, csi_keys, kitty_keys, linux_keys, other_keys, rxvt_keys, rxvt_ss3, ss3_cursor,
+    ss3_keys,
 };
+use crate::tables::{Row, row_at};
 use crate::win32::read_win32;
 use csicodec_events::{Event, InputEvent};
 use csicodec_tokens::CsiParam;

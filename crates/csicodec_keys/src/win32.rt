@@ -9,7 +9,8 @@ use crate::fields::number_of;
 use crate::key::{Key, KeyEvent, Typed};
 use crate::modifiers::KeyModifiers;
 use crate::reading::is_typed;
-use crate::tables::{Row, row_at, row_of, win32_keys};
+use crate::rows::win32_keys;
+use crate::tables::{Row, row_at, row_of};
 use csicodec_tokens::CsiParam;
 
 /// A KEY_EVENT_RECORD, by the names that its fields have in the mode's document.

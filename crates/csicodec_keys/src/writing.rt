@@ -11,10 +11,10 @@ ghost use Rattle.csicodec_keys.specs.Win32.{record_list};
 use crate::code::KeyCode;
 use crate::key::{Encoding, Key, KeyEvent};
 use crate::reading::{csi_row, is_typed};
-use crate::tables::{
-    Row, controls, csi_keys, kitty_keys, linux_keys, other_keys, row_at, row_of, rxvt_keys,
-    rxvt_ss3, ss3_keys,
+use crate::rows::{
+    controls, csi_keys, kitty_keys, linux_keys, other_keys, rxvt_keys, rxvt_ss3, ss3_keys,
 };
+use crate::tables::{Row, row_at, row_of};
 use crate::win32::{Record, record_of};
 use csicodec_tokens::CsiParam::{Integer, P};
 use csicodec_tokens::{CsiParam, Text};

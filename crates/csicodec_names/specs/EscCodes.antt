@@ -1,9 +1,10 @@
--- The codes of escape sequences: the characters that each is written by, and its number.
-use Rattle.std.specs.Prelude.{ℕ, ◌+◌, ◌*◌, List, codes, fold}
-use Rattle.csicodec_names.specs.declared.esc.EscCode.{EscCode}
-use Rattle.csicodec_names.specs.declared.esc.EscCode.TheVariants as code
+-- Written by tools/table from table/escapes.toml: change that, and run python3 tools/table.
+-- The codes of escape sequences: the one or two characters that stand after ESC.
+use Rattle.std.specs.Prelude.{ℕ, List, codes}
+use Rattle.csicodec_names.specs.declared.esc_codes.EscCode.{EscCode}
+use Rattle.csicodec_names.specs.declared.esc_codes.EscCode.TheVariants as code
 
--- the one or two characters that stand after ESC, a line for each variant
+-- a line for each variant
 abbrev pub characters_of : EscCode → List ℕ
 characters_of code.FullReset = codes "c"
 characters_of code.Index = codes "D"
@@ -47,7 +48,3 @@ characters_of code.F1Press = codes "OP"
 characters_of code.F2Press = codes "OQ"
 characters_of code.F3Press = codes "OR"
 characters_of code.F4Press = codes "OS"
-
--- the characters are the digits of the number in base 256, the high one first
-abbrev pub esc_number : EscCode → ℕ
-esc_number code = fold (λ number character. 256 * number + character) 0 (characters_of code)

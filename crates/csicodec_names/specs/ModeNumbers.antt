@@ -1,3 +1,4 @@
+-- Written by tools/table from table/modes.toml: change that, and run python3 tools/table.
 -- The numbers of modes that have a name.
 use Rattle.std.specs.Prelude.{ℕ, List, [], ◌∷◌}
 use Rattle.csicodec_names.specs.declared.modes.DecPrivateModeCode.{DecPrivateModeCode}

@@ -1,3 +1,4 @@
+-- Written by tools/table from table/sgr.toml: change that, and run python3 tools/table.
 -- The codes of attributes (SGR; ECMA-48, 8.3.117): the number of each.
 use Rattle.std.specs.Prelude.{ℕ, List, [], ◌∷◌}
 use Rattle.csicodec_names.specs.declared.codes.SgrCode.{SgrCode}

@@ -1,9 +1,8 @@
+// Written by tools/table from table/sgr.toml: change that, and run python3 tools/table.
 //! The numbers by which attributes of text are set (SGR).
-ghost use Rattle.std.specs.Prelude.{◌≡◌, ◌↔◌, pos, Some};
-ghost use Rattle.csicodec_names.specs.Numbers.{number_of};
 
-/// A number that `CSI .. m` (SGR, "select graphic rendition") has a meaning for: one of 71 from 0 to 107. Those below
-/// 60 are from ECMA-48, 8.3.117, but 38, 48, 58 and 59; where they and the others are from is said at each.
+/// A number that `CSI .. m` (SGR, "select graphic rendition") has a meaning for: one of 71 from 0 to 107. Those whose
+/// comment names no other document are from ECMA-48, 8.3.117.
 #[derive(Clone, Copy, PartialEq, Eq, Debug)]
 pub enum SgrCode {
     /// All attributes back to the default rendition.
@@ -94,7 +93,8 @@ pub enum SgrCode {
     VerticalAlignSubScript = 74,
     /// Neither superscript nor subscript (mintty).
     VerticalAlignBaseLine = 75,
-    /// The colour of the character, here and up to `ForegroundBrightWhite` one of the 8 bright ones of the palette (aixterm, xterm).
+    /// The colour of the character, here and up to `ForegroundBrightWhite` one of the 8 bright ones of the palette
+    /// (aixterm, xterm).
     ForegroundBrightBlack = 90,
     ForegroundBrightRed = 91,
     ForegroundBrightGreen = 92,
@@ -103,7 +103,8 @@ pub enum SgrCode {
     ForegroundBrightMagenta = 95,
     ForegroundBrightCyan = 96,
     ForegroundBrightWhite = 97,
-    /// The colour of the ground, here and up to `BackgroundBrightWhite` one of the 8 bright ones of the palette (aixterm, xterm).
+    /// The colour of the ground, here and up to `BackgroundBrightWhite` one of the 8 bright ones of the palette
+    /// (aixterm, xterm).
     BackgroundBrightBlack = 100,
     BackgroundBrightRed = 101,
     BackgroundBrightGreen = 102,
@@ -114,10 +115,8 @@ pub enum SgrCode {
     BackgroundBrightWhite = 107,
 }
 
-const PLACES: usize = 108;
-
 /// The code of each number from 0 to 107, a place for each, so that finding it is one look.
-static CODES: [Option<SgrCode>; PLACES] = [
+pub(crate) static CODES: [Option<SgrCode>; 108] = [
     Some(SgrCode::Reset),
     Some(SgrCode::IntensityBold),
     Some(SgrCode::IntensityDim),
@@ -227,37 +226,3 @@ static CODES: [Option<SgrCode>; PLACES] = [
     Some(SgrCode::BackgroundBrightCyan),
     Some(SgrCode::BackgroundBrightWhite),
 ];
-
-impl SgrCode {
-    /// The number of this code.
-    pub fn to_i64(&self) -> i64
-        ensures { result ≡ pos (number_of self.now) }
-    {
-        *self as i64
-    }
-
-    /// The code that has this number, and none where no code has it, as below 0, above 107, and for 20, 26 and 50.
-    ///
-    /// ```text
-    /// SgrCode::from_i64(31)        // Some(ForegroundRed)
-    /// SgrCode::from_i64(108)       // None
-    /// ```
-    pub fn from_i64(number: i64) -> Option<Self>
-        ensures { (code : SgrCode) → (result ≡ Some code) ↔ (number ≡ pos (number_of code)) }
-    {
-        if number < 0 {
-            return None;
-        }
-        code_at(number as u64)
-    }
-}
-
-/// The code of a number, by its place.
-fn code_at(place: u64) -> Option<SgrCode>
-    ensures { (code : SgrCode) → (result ≡ Some code) ↔ (place ≡ number_of code) }
-{
-    if place > 107 {
-        return None;
-    }
-    CODES[place as usize]
-}

@@ -6,9 +6,11 @@ mod color;
 mod device;
 mod enums;
 mod esc;
+mod esc_codes;
 mod flags;
 pub mod laws;
 mod modes;
+mod sgr_code;
 
 pub use codes::SgrCode;
 pub use color::{AnsiColor, Blink, ColorSpec, Intensity, SrgbaTuple, Underline, VerticalAlign};
@@ -16,6 +18,7 @@ pub use device::DeviceAttributeCodes;
 pub use enums::{
     CursorStyle, CursorTabulationControl, EraseInDisplay, EraseInLine, TabulationClear,
 };
-pub use esc::{Esc, EscCode};
+pub use esc::Esc;
+pub use esc_codes::EscCode;
 pub use flags::{KittyKeyboardFlags, Modifiers, MouseButtons};
 pub use modes::{DecPrivateModeCode, TerminalModeCode};

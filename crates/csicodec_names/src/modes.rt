@@ -1,9 +1,10 @@
+// Written by tools/table from table/modes.toml: change that, and run python3 tools/table.
 //! The numbers of modes that have a name.
 ghost use Rattle.std.specs.Prelude.{◌≡◌, ◌↔◌, Some, pos};
 ghost use Rattle.csicodec_names.specs.ModeNumbers.{dec_mode_number, terminal_mode_number};
 
-/// A private mode: one that `CSI ? .. h` sets and `CSI ? .. l` resets. Those up to 8, 25, 69 and 80 are DEC's (VT510, VT382); where
-/// the others are from is said at each.
+/// A private mode: one that `CSI ? .. h` sets and `CSI ? .. l` resets. Those of DEC (VT510, VT382) begin with the name that DEC gave
+/// them; where the others are from is said at each.
 #[derive(Clone, Copy, PartialEq, Eq, Debug)]
 pub enum DecPrivateModeCode {
     /// DECCKM: the arrow keys send application sequences.

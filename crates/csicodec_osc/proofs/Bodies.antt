@@ -1,13 +1,12 @@
 -- What stands behind a number is read by its form as what it is written of.
 use Rattle.std.proofs.Common.{◌≡◌, ℕ, List, [], ◌∷◌, ◌++◌, Option, None, Some, refl, sym, ap, ◌∙◌, inl, inr, subst}
-use Rattle.std.specs.Prelude.{◌==◌, ◌&&◌, Bool, true, false, not, nat_le, option_map}
-use Rattle.std.proofs.lemmas.Bool.{and_from, and_parts, cases_Bool, eqb-true, leb-true, not-true, not_from_false}
+use Rattle.std.specs.Prelude.{◌==◌, ◌&&◌, Bool, true, false, not, option_map}
+use Rattle.std.proofs.lemmas.Bool.{and_from, and_parts, cases_Bool, eqb-true, not-true, not_from_false}
 use Rattle.std.proofs.lemmas.Option.{same_Some}
 use Rattle.std.proofs.lemmas.Slice.Eq.{bytes_eq-Decides}
-use Rattle.csicodec_osc.specs.Commands.{Form, Bare, OneText, Message, Several, TwoTexts, TextAsked, Percentage}
-use Rattle.csicodec_osc.specs.Osc.{Ask, Body, Both, Share, Tail, asked, asked_text, fits, is_asked, is_field, is_message, is_question, tail_of}
-use Rattle.csicodec_osc.specs.Private.Reading.{halves, percent_of, read_body}
-use Rattle.csicodec_osc.proofs.Percent.{IsPercent, percent-is, percent-of}
+use Rattle.csicodec_osc.specs.Forms.{Form, OneText, Message, Several, TwoTexts, TextAsked}
+use Rattle.csicodec_osc.specs.Osc.{Ask, Body, Both, Tail, asked, asked_text, fits, is_asked, is_field, is_message, is_question, tail_of}
+use Rattle.csicodec_osc.specs.Private.Reading.{halves, read_body}
 
 -- ---- the first `;`
 
@@ -54,7 +53,6 @@ asked-is text = elim (cases_Bool (is_question text)) [
 -- ---- bodies
 
 pub body-of : (f : Form) (body : Body) → fits f body ≡ true → read_body f (tail_of body) ≡ Some body
-body-of Bare (Tail None) h = refl
 body-of OneText (Tail (Some text)) h = refl
 body-of Message (Tail (Some text)) h = rw h refl
 body-of Several (Tail o) h = refl
@@ -62,8 +60,6 @@ body-of TwoTexts (Both a b) h = ap (option_map (λ (cut : List ℕ × List ℕ).
 body-of TextAsked (Ask a o) h =
     let p = and_parts (is_field a) (is_asked o) h in
     ap (option_map (λ (cut : List ℕ × List ℕ). Ask cut.0 (asked cut.1))) (halves-of a (asked_text o) p.0) ∙ ap (λ x. Some (Ask a x)) (asked-of o p.1)
-body-of Percentage (Share None) h = refl
-body-of Percentage (Share (Some n)) h = ap (option_map (λ m. Share (Some m))) (percent-of n (leb-true n 100 h))
 body-of _ _ h = cc
 
 pub record IsBody (f : Form) (o : Option (List ℕ)) (body : Body) : Type 0 where
@@ -71,8 +67,6 @@ pub record IsBody (f : Form) (o : Option (List ℕ)) (body : Body) : Type 0 wher
   pub has_form : fits f body ≡ true
 
 pub body-is : (f : Form) (o : Option (List ℕ)) (body : Body) → read_body f o ≡ Some body → IsBody f o body
-body-is Bare None body e = subst (λ b. IsBody Bare None b) (same_Some (Tail None) body e) (record { tail_is = refl; has_form = refl })
-body-is Bare (Some text) body e = cc
 body-is OneText None body e = cc
 body-is OneText (Some text) body e = subst (λ b. IsBody OneText (Some text) b) (same_Some (Tail (Some text)) body e) (record { tail_is = refl; has_form = refl })
 body-is Message None body e = cc
@@ -98,10 +92,3 @@ body-is TextAsked (Some text) body e = go (halves text) (λ c is. halves-is text
         let a = asked-is c.1 in
         subst (λ b. IsBody TextAsked (Some text) b) (same_Some (Ask c.0 (asked c.1)) body f)
         (record { tail_is = ap (λ x. Some (c.0 ++ 59 ∷ x)) a.text_is ∙ ap Some d.whole; has_form = and_from (is_field c.0) (is_asked (asked c.1)) d.field a.plain })
-body-is Percentage None body e = subst (λ b. IsBody Percentage None b) (same_Some (Share None) body e) (record { tail_is = refl; has_form = refl })
-body-is Percentage (Some text) body e = go (percent_of text) (λ n is. percent-is text n is) e
-  where
-    go : (o : Option ℕ) → ((n : ℕ) → o ≡ Some n → IsPercent n text) → option_map (λ n. Share (Some n)) o ≡ Some body → IsBody Percentage (Some text) body
-    go None reads f = cc
-    go (Some n) reads f =
-        let d = reads n refl in subst (λ b. IsBody Percentage (Some text) b) (same_Some (Share (Some n)) body f) (record { tail_is = ap Some d.text_is; has_form = d.small })

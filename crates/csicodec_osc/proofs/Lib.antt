@@ -1,5 +1,5 @@
 pub mod Cuts
-pub mod Percent
 pub mod Bodies
 pub mod Reading
+pub mod Places
 pub mod Table

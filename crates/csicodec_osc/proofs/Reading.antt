@@ -6,8 +6,9 @@ use Rattle.std.proofs.lemmas.Bool.{cases_Bool, eq-eqb, eqb-true, not-true}
 use Rattle.std.proofs.lemmas.List.{append_cancel_left}
 use Rattle.std.proofs.lemmas.Option.{option_and_then_some, same_Some}
 use Rattle.csicodec_osc.specs.declared.command.Command.{Command}
-use Rattle.csicodec_osc.specs.Commands.{Form, Bare, OneText, Message, Several, TwoTexts, TextAsked, Percentage, form, number}
-use Rattle.csicodec_osc.specs.Osc.{Ask, Body, Both, Share, Tail, begins_tail, first_is, fits, is_message, tail_of, tail_text}
+use Rattle.csicodec_osc.specs.Commands.{form, number}
+use Rattle.csicodec_osc.specs.Forms.{Form, OneText, Message, Several, TwoTexts, TextAsked}
+use Rattle.csicodec_osc.specs.Osc.{Ask, Body, Both, Tail, begins_tail, first_is, fits, is_message, tail_of, tail_text}
 use Rattle.csicodec_osc.specs.Private.Reading.{behind, read_body, read_by}
 use Rattle.csicodec_osc.proofs.Bodies.{body-is, body-of}
 

@@ -1,43 +1,19 @@
 -- The table: each content says one thing.
 use Rattle.std.proofs.Common.{◌≡◌, ℕ, zero, suc, ◌+◌, ◌<◌, ◌≤◌, length, get_or, drop, List, [], ◌∷◌, ◌++◌, Option, None, Some, refl, sym, ap, ◌∙◌, subst}
-use Rattle.std.specs.Prelude.{◌&&◌, Bool, true, slice_get, option_map, if◌then◌else◌}
+use Rattle.std.specs.Prelude.{◌&&◌, Bool, true, slice_get, option_map}
 use Rattle.std.specs.Option.{option_or}
-use Rattle.std.specs.Str.{bytes_eq}
 use Rattle.std.proofs.lemmas.Bool.{and_parts}
 use Rattle.std.proofs.lemmas.List.{drop_all, drop_more}
 use Rattle.std.proofs.lemmas.Option.{same_Some}
 use Rattle.csicodec_osc.specs.declared.command.Command.{Command}
-use Rattle.csicodec_osc.specs.declared.command.Command.TheVariants as command
-use Rattle.csicodec_osc.specs.declared.command.Title.TheVariants as title
-use Rattle.csicodec_osc.specs.declared.command.Palette.TheVariants as palette
-use Rattle.csicodec_osc.specs.declared.command.Dynamic.TheVariants as dynamic
-use Rattle.csicodec_osc.specs.declared.command.Folder.TheVariants as folder
-use Rattle.csicodec_osc.specs.declared.command.Mark.TheVariants as mark
-use Rattle.csicodec_osc.specs.declared.command.EditorMark.TheVariants as editor
-use Rattle.csicodec_osc.specs.declared.command.Progress.TheVariants as progress
 use Rattle.csicodec_osc.specs.declared.command.TheConstants.{COMMANDS}
 use Rattle.csicodec_osc.specs.Commands.{form, number}
 use Rattle.csicodec_osc.specs.Osc.{Body, IsWritable, Known, Said, Says, Unknown, fits, tail_of, tail_text, written}
 use Rattle.csicodec_osc.specs.Private.Reading.{first_read, read_by}
+use Rattle.csicodec_osc.proofs.Places.{lies-at, place_in}
 use Rattle.csicodec_osc.proofs.Reading.{passed, passes, read-is, read-of}
 
--- ---- each command is in the table, and reads nothing of those behind it
-
-abbrev place_in : List Command → List ℕ → ℕ
-place_in [] n = 0
-place_in (k ∷ commands) n = if bytes_eq (number k) n then 0 else suc (place_in commands n)
-
-lies-at : (k : Command) → slice_get COMMANDS (place_in COMMANDS (number k)) ≡ Some k
-lies-at (command.Title title.Both) = refl
-lies-at (command.Colors palette.Indexed) = refl
-lies-at (command.Color dynamic.Foreground) = refl
-lies-at (command.ResetColors palette.Indexed) = refl
-lies-at (command.ResetColor dynamic.Foreground) = refl
-lies-at (command.Folder folder.Address) = refl
-lies-at (command.Prompt mark.Prompt) = refl
-lies-at (command.Editor editor.Prompt) = refl
-lies-at (command.Progress progress.Off) = refl
-lies-at _ = refl
+-- ---- each command reads nothing of those behind it
 
 abbrev passes_all : Command → List Command → Bool
 passes_all k [] = true

@@ -1,3 +1,4 @@
+pub mod Forms
 pub mod Commands
 pub mod Osc
 pub mod Private

@@ -1,6 +1,5 @@
 -- What the content of an OSC says, the bytes between `ESC ]` and what ends it; and how it is written.
-use Rattle.std.specs.Prelude.{ℕ, ◌≡◌, ◌==◌, ◌&&◌, Bool, true, false, not, nat_le, List, [], ◌∷◌, ◌++◌, Option, None, Some, option_map, if◌then◌else◌}
-use Rattle.std.specs.Fmt.{decimal}
+use Rattle.std.specs.Prelude.{ℕ, ◌≡◌, ◌-◌, ◌+◌, ◌*◌, ◌==◌, ◌&&◌, Bool, true, false, not, nat_le, List, [], ◌∷◌, ◌++◌, Option, None, Some, option_map, if◌then◌else◌}
 use Rattle.std.specs.Str.{bytes_eq}
 use Rattle.csicodec_osc.specs.declared.asked.Asked.{Asked}
 use Rattle.csicodec_osc.specs.declared.asked.Asked.TheVariants as ask
@@ -9,16 +8,16 @@ use Rattle.csicodec_osc.specs.declared.command.Command.TheVariants as command
 use Rattle.csicodec_osc.specs.declared.fields.Fields.{Fields as FieldsType}
 use Rattle.csicodec_osc.specs.declared.osc.Osc.{Osc}
 use Rattle.csicodec_osc.specs.declared.osc.Osc.TheVariants as osc
-use Rattle.csicodec_osc.specs.Commands.{Form, Bare, OneText, Message, Several, TwoTexts, TextAsked, Percentage, form, number}
+use Rattle.csicodec_osc.specs.Commands.{form, number}
+use Rattle.csicodec_osc.specs.Forms.{Form, OneText, Message, Several, TwoTexts, TextAsked}
 
 -- ---- what stands behind a number
 
--- a text behind a `;`, or nothing; two texts; a text and a question (none) or a value; a percentage, or none
+-- a text behind a `;`, or nothing; two texts; a text and a question (none) or a value
 pub data Body : Type 0 where
   Tail : Option (List ℕ) → Body
   Both : List ℕ → List ℕ → Body
   Ask : List ℕ → Option (List ℕ) → Body
-  Share : Option ℕ → Body
 
 -- `;` and a text, where there is one
 abbrev pub tail_text : Option (List ℕ) → List ℕ
@@ -35,7 +34,6 @@ abbrev pub tail_of : Body → Option (List ℕ)
 tail_of (Tail o) = o
 tail_of (Both a b) = Some (a ++ 59 ∷ b)
 tail_of (Ask a o) = Some (a ++ 59 ∷ asked_text o)
-tail_of (Share n) = option_map decimal n
 
 -- ---- which form it has
 
@@ -72,14 +70,11 @@ is_asked (Some value) = not (is_question value)
 
 -- what stands behind a number has the form
 abbrev pub fits : Form → Body → Bool
-fits Bare (Tail None) = true
 fits OneText (Tail (Some text)) = true
 fits Message (Tail (Some text)) = is_message text
 fits Several (Tail o) = true
 fits TwoTexts (Both a b) = is_field a
 fits TextAsked (Ask a o) = is_field a && is_asked o
-fits Percentage (Share None) = true
-fits Percentage (Share (Some n)) = nat_le n 100
 fits _ _ = false
 
 -- ---- what a content says
@@ -120,13 +115,13 @@ said (osc.Title t text) = Known (command.Title t) (Tail (Some text.now))
 said (osc.Colors p list) = Known (command.Colors p) (Tail (list_text list))
 said (osc.Color d list) = Known (command.Color d) (Tail (list_text list))
 said (osc.ResetColors p list) = Known (command.ResetColors p) (Tail (list_text list))
-said (osc.ResetColor d) = Known (command.ResetColor d) (Tail None)
+said (osc.ResetColor d list) = Known (command.ResetColor d) (Tail (list_text list))
 said (osc.Link params address) = Known command.Link (Both params.now address.now)
 said (osc.Clipboard selection content) = Known command.Clipboard (Ask selection.now (value_of content))
 said (osc.Folder f text) = Known (command.Folder f) (Tail (Some text.now))
 said (osc.Prompt m list) = Known (command.Prompt m) (Tail (list_text list))
 said (osc.Editor m list) = Known (command.Editor m) (Tail (list_text list))
-said (osc.Progress p percent) = Known (command.Progress p) (Share percent)
+said (osc.Progress p list) = Known (command.Progress p) (Tail (list_text list))
 said (osc.Pointer text) = Known command.Pointer (Tail (Some text.now))
 said (osc.KittyNotice metadata payload) = Known command.KittyNotice (Both metadata.now payload.now)
 said (osc.TitledNotice title text) = Known command.TitledNotice (Both title.now text.now)
@@ -134,6 +129,16 @@ said (osc.Notice text) = Known command.Notice (Tail (Some text.now))
 said (osc.Unknown bytes) = Unknown bytes.now
 
 -- ---- fields
+
+abbrev pub is_digit : ℕ → Bool
+is_digit b = nat_le 48 b && nat_le b 57
+
+-- A number from 0 to 100 without leading zeros
+abbrev pub percent_of : List ℕ → Option ℕ
+percent_of (a ∷ []) = if is_digit a then Some (a - 48) else None
+percent_of (a ∷ b ∷ []) = if nat_le 49 a && (nat_le a 57 && is_digit b) then Some (10 * (a - 48) + (b - 48)) else None
+percent_of (a ∷ b ∷ c ∷ []) = if a == 49 && (b == 48 && c == 48) then Some 100 else None
+percent_of _ = None
 
 -- The field in front, and what is left behind it: none where none is left.
 abbrev pub IsNext : Option (List ℕ) → Option (List ℕ) → Option (List ℕ) → Type 0

@@ -1,6 +1,7 @@
-//! Commands: the number that each begins with.
+// Written by tools/table from table/osc.toml: change that, and run python3 tools/table.
+//! Commands: what each begins with.
 ghost use Rattle.std.specs.Prelude.{◌≡◌};
-ghost use Rattle.csicodec_osc.specs.Commands.{dynamic_number, dynamic_reset_number, editor_number, folder_number, mark_number, number, palette_number, palette_reset_number, progress_number, title_number};
+ghost use Rattle.csicodec_osc.specs.Commands.{dynamic_number, dynamic_reset_number, editor_mark_number, folder_number, mark_number, number, palette_number, palette_reset_number, progress_number, title_number};
 
 /// Which title.
 #[derive(Clone, Copy, Debug, PartialEq, Eq)]
@@ -46,7 +47,7 @@ impl Palette {
         }
     }
 
-    /// What a command begins with that sets them back.
+    /// What a command begins with that sets it back.
     pub(crate) fn reset_number(self) -> &'static [u8]
         ensures { result.now ≡ palette_reset_number self }
     {
@@ -208,7 +209,7 @@ pub enum EditorMark {
 impl EditorMark {
     /// What a command begins with.
     pub(crate) fn number(self) -> &'static [u8]
-        ensures { result.now ≡ editor_number self }
+        ensures { result.now ≡ editor_mark_number self }
     {
         match self {
             EditorMark::Prompt => b"633;A",
@@ -260,15 +261,15 @@ impl Progress {
 pub(crate) enum Command {
     Title(Title),
     Colors(Palette),
-    Color(Dynamic),
     ResetColors(Palette),
+    Color(Dynamic),
     ResetColor(Dynamic),
-    Link,
-    Clipboard,
     Folder(Folder),
     Prompt(Mark),
     Editor(EditorMark),
     Progress(Progress),
+    Link,
+    Clipboard,
     Pointer,
     KittyNotice,
     TitledNotice,
@@ -283,15 +284,15 @@ impl Command {
         match self {
             Command::Title(title) => title.number(),
             Command::Colors(palette) => palette.number(),
-            Command::Color(color) => color.number(),
             Command::ResetColors(palette) => palette.reset_number(),
-            Command::ResetColor(color) => color.reset_number(),
-            Command::Link => b"8",
-            Command::Clipboard => b"52",
+            Command::Color(dynamic) => dynamic.number(),
+            Command::ResetColor(dynamic) => dynamic.reset_number(),
             Command::Folder(folder) => folder.number(),
             Command::Prompt(mark) => mark.number(),
-            Command::Editor(mark) => mark.number(),
+            Command::Editor(editor_mark) => editor_mark.number(),
             Command::Progress(progress) => progress.number(),
+            Command::Link => b"8",
+            Command::Clipboard => b"52",
             Command::Pointer => b"22",
             Command::KittyNotice => b"99",
             Command::TitledNotice => b"777;notify",
@@ -310,6 +311,8 @@ pub(crate) static COMMANDS: [Command; COUNT] = [
     Command::Title(Title::Window),
     Command::Colors(Palette::Indexed),
     Command::Colors(Palette::Special),
+    Command::ResetColors(Palette::Indexed),
+    Command::ResetColors(Palette::Special),
     Command::Color(Dynamic::Foreground),
     Command::Color(Dynamic::Background),
     Command::Color(Dynamic::Cursor),
@@ -320,8 +323,6 @@ pub(crate) static COMMANDS: [Command; COUNT] = [
     Command::Color(Dynamic::HighlightBackground),
     Command::Color(Dynamic::TektronixCursor),
     Command::Color(Dynamic::HighlightForeground),
-    Command::ResetColors(Palette::Indexed),
-    Command::ResetColors(Palette::Special),
     Command::ResetColor(Dynamic::Foreground),
     Command::ResetColor(Dynamic::Background),
     Command::ResetColor(Dynamic::Cursor),
@@ -332,8 +333,6 @@ pub(crate) static COMMANDS: [Command; COUNT] = [
     Command::ResetColor(Dynamic::HighlightBackground),
     Command::ResetColor(Dynamic::TektronixCursor),
     Command::ResetColor(Dynamic::HighlightForeground),
-    Command::Link,
-    Command::Clipboard,
     Command::Folder(Folder::Address),
     Command::Folder(Folder::Path),
     Command::Prompt(Mark::Prompt),
@@ -359,6 +358,8 @@ pub(crate) static COMMANDS: [Command; COUNT] = [
     Command::Progress(Progress::Failed),
     Command::Progress(Progress::Busy),
     Command::Progress(Progress::Paused),
+    Command::Link,
+    Command::Clipboard,
     Command::Pointer,
     Command::KittyNotice,
     Command::TitledNotice,

@@ -1,6 +1,6 @@
 //! Fields: what stands between semicolons.
-ghost use Rattle.std.specs.Prelude.{◌≡◌, ◌==◌, ◌++◌, ◌∷◌, true, IfNone, IfSome, option_map, position};
-ghost use Rattle.csicodec_osc.specs.Osc.{IsNext, is_field, list_text};
+ghost use Rattle.std.specs.Prelude.{◌≡◌, ◌==◌, ◌++◌, ◌∷◌, true, IfNone, IfSome, option_map, option_and_then, position};
+ghost use Rattle.csicodec_osc.specs.Osc.{IsNext, is_field, list_text, percent_of};
 ghost use Rattle.csicodec_osc.specs.Private.Reading.{halves};
 
 /// Fields, each behind a `;`.
@@ -32,6 +32,25 @@ impl<'a> Fields<'a> {
                 Some(text)
             }
         }
+    }
+
+    /// The number from 0 to 100, without zeros ahead, that stands there alone: how much is done of a progress.
+    pub fn percent(self) -> Option<u8>
+        ensures { result ≡ option_and_then percent_of (list_text self.entry) }
+    {
+        percent(self.text?)
+    }
+}
+
+/// A number from 0 to 100 without leading zeros.
+fn percent(text: &[u8]) -> Option<u8>
+    ensures { result ≡ percent_of text.now }
+{
+    match text {
+        [ones @ b'0'..=b'9'] => Some(*ones - b'0'),
+        [tens @ b'1'..=b'9', ones @ b'0'..=b'9'] => Some(10 * (*tens - b'0') + (*ones - b'0')),
+        [b'1', b'0', b'0'] => Some(100),
+        _ => None,
     }
 }
 

@@ -5,7 +5,7 @@
 //! Osc::read(b"2;vim")                    // Title(Window, "vim")
 //! Osc::read(b"8;id=1;https://a.b/")      // Link { params: "id=1", address: "https://a.b/" }
 //! Osc::read(b"52;c;?")                   // Clipboard { selection: "c", content: Query }
-//! Osc::read(b"9;4;1;50")                 // Progress(Shown, Some(50))
+//! Osc::read(b"9;4;1;50")                 // Progress(Shown, 50)
 //! Osc::read(b"1337;SetMark")             // Unknown("1337;SetMark")
 //! ```
 #![tactic(auto)]

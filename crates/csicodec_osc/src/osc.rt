@@ -1,16 +1,14 @@
 //! What an OSC says.
 ghost use Rattle.std.specs.Prelude.{◌≡◌, ◌++◌, [], ◌∷◌, OnOk, Some, option_map};
-ghost use Rattle.std.specs.Fmt.{decimal};
 ghost use Rattle.csicodec_osc.specs.Commands.{form};
 ghost use Rattle.csicodec_osc.specs.Osc.{Known, Says, is_message, said, tail_text, written};
-ghost use Rattle.csicodec_osc.specs.Private.Reading.{behind, percent_of, read_body, read_by};
+ghost use Rattle.csicodec_osc.specs.Private.Reading.{behind, read_body, read_by};
 
 use crate::asked::Asked;
 use crate::command::{
     COMMANDS, Command, Dynamic, EditorMark, Folder, Mark, Palette, Progress, Title,
 };
 use crate::fields::{Fields, halves};
-use csicodec_tokens::Text;
 use std::alloc::AllocError;
 
 /// What the content of an OSC says. It borrows the texts, as they stand there: nothing is decoded, and no byte is checked but the
@@ -25,8 +23,8 @@ pub enum Osc<'a> {
     Color(Dynamic, Fields<'a>),
     /// The colours of these indices as they were at first, or all.
     ResetColors(Palette, Fields<'a>),
-    /// A colour as it was at first.
-    ResetColor(Dynamic),
+    /// A colour as it was at first; it has no field that means something.
+    ResetColor(Dynamic, Fields<'a>),
     /// What is printed from now on leads to the address; with none the link ends.
     Link {
         /// Without `;`: `name=value`, with `:` between two. Parts of one link have the same `id`.
@@ -47,8 +45,8 @@ pub enum Osc<'a> {
     Prompt(Mark, Fields<'a>),
     /// A mark of a shell for VS Code.
     Editor(EditorMark, Fields<'a>),
-    /// Progress, and how much is done, from 0 to 100.
-    Progress(Progress, Option<u8>),
+    /// Progress; its first field is how much is done ([`Fields::percent`]), and may be empty.
+    Progress(Progress, Fields<'a>),
     /// The shape of the pointer.
     Pointer(&'a [u8]),
     /// A notification of kitty's.
@@ -72,7 +70,7 @@ pub enum Osc<'a> {
 }
 
 impl<'a> Osc<'a> {
-    /// What a content says, the bytes between `ESC ]` and what ends it. Each says one thing (law `one`).
+    /// What a content says, the bytes between `ESC ]` and what ends it. Each says one thing (law `exact`).
     pub fn read(content: &'a [u8]) -> Osc<'a>
         ensures { Says content.now (said result) }
     {
@@ -93,7 +91,7 @@ impl<'a> Osc<'a> {
             Osc::Colors(palette, list) => append(out, palette.number(), list.text),
             Osc::Color(color, list) => append(out, color.number(), list.text),
             Osc::ResetColors(palette, list) => append(out, palette.reset_number(), list.text),
-            Osc::ResetColor(color) => append(out, color.reset_number(), None),
+            Osc::ResetColor(color, list) => append(out, color.reset_number(), list.text),
             Osc::Link { params, address } => append_pair(out, b"8", params, address),
             Osc::Clipboard { selection, content } => {
                 append_pair(out, b"52", selection, content.as_bytes())
@@ -101,7 +99,7 @@ impl<'a> Osc<'a> {
             Osc::Folder(folder, text) => append(out, folder.number(), Some(text)),
             Osc::Prompt(mark, list) => append(out, mark.number(), list.text),
             Osc::Editor(mark, list) => append(out, mark.number(), list.text),
-            Osc::Progress(progress, percent) => append_percent(out, progress.number(), percent),
+            Osc::Progress(progress, list) => append(out, progress.number(), list.text),
             Osc::Pointer(text) => append(out, b"22", Some(text)),
             Osc::KittyNotice { metadata, payload } => append_pair(out, b"99", metadata, payload),
             Osc::TitledNotice { title, text } => append_pair(out, b"777;notify", title, text),
@@ -130,7 +128,7 @@ impl Command {
             Command::Colors(palette) => Some(Osc::Colors(palette, Fields { text: tail })),
             Command::Color(color) => Some(Osc::Color(color, Fields { text: tail })),
             Command::ResetColors(palette) => Some(Osc::ResetColors(palette, Fields { text: tail })),
-            Command::ResetColor(color) => tail.is_none().then_some(Osc::ResetColor(color)),
+            Command::ResetColor(color) => Some(Osc::ResetColor(color, Fields { text: tail })),
             Command::Link => {
                 let (params, address) = halves(tail?)?;
                 Some(Osc::Link { params, address })
@@ -143,10 +141,7 @@ impl Command {
             Command::Folder(folder) => Some(Osc::Folder(folder, tail?)),
             Command::Prompt(mark) => Some(Osc::Prompt(mark, Fields { text: tail })),
             Command::Editor(mark) => Some(Osc::Editor(mark, Fields { text: tail })),
-            Command::Progress(progress) => match tail {
-                None => Some(Osc::Progress(progress, None)),
-                Some(text) => Some(Osc::Progress(progress, Some(percent(text)?))),
-            },
+            Command::Progress(progress) => Some(Osc::Progress(progress, Fields { text: tail })),
             Command::Pointer => Some(Osc::Pointer(tail?)),
             Command::KittyNotice => {
                 let (metadata, payload) = halves(tail?)?;
@@ -191,18 +186,6 @@ fn is_message(text: &[u8]) -> bool
     !matches!(text, [b'4' | b'9'] | [b'4' | b'9', b';', ..])
 }
 
-/// A number from 0 to 100 without leading zeros.
-fn percent(text: &[u8]) -> Option<u8>
-    ensures { result ≡ percent_of text.now }
-{
-    match text {
-        [ones @ b'0'..=b'9'] => Some(*ones - b'0'),
-        [tens @ b'1'..=b'9', ones @ b'0'..=b'9'] => Some(10 * (*tens - b'0') + (*ones - b'0')),
-        [b'1', b'0', b'0'] => Some(100),
-        _ => None,
-    }
-}
-
 /// Appends a number, and a text behind a `;` where there is one.
 fn append(out: &mut Vec<u8>, number: &[u8], text: Option<&[u8]>) -> Result<(), AllocError>
     ensures { OnOk result (out.new.items
@@ -229,17 +212,4 @@ fn append_pair(
     append(out, number, Some(first))?;
     out.push(b';')?;
     out.extend_from_slice(second)
-}
-
-/// Appends a number, and a percentage behind a `;` where there is one.
-fn append_percent(out: &mut Vec<u8>, number: &[u8], percent: Option<u8>) -> Result<(), AllocError>
-    ensures { OnOk result (out.new.items
-        ≡ out.old.items ++ (number.now ++ tail_text (option_map decimal percent))) }
-{
-    let Some(percent) = percent else {
-        return append(out, number, None);
-    };
-    let mut text = Text::new();
-    text.push_u8(percent);
-    append(out, number, Some(text.as_bytes()))
 }

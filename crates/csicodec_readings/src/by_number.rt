@@ -2,6 +2,7 @@
 
 use crate::list::{count_fields, marker, number, positive};
 use crate::otherwise::{held, tell_held};
+use crate::sgr_rows::UNREAD;
 use crate::table::Parts;
 use crate::template::{fill, write_parts};
 use csicodec_base::CsiParam;
@@ -77,28 +78,6 @@ fn bare(control: char, first: i64, params: &[CsiParam]) -> Option<Told> {
 static NEVER: [(i64, &str); 2] = [
     (9, "Linux  screen never blanks"),
     (14, "Linux  screen never powers down"),
-];
-
-/// Attributes of ECMA-48 (8.3.117) that the codec has no code for, each alone.
-static UNREAD: [(i64, &str); 12] = [
-    (20, "SGR  Fraktur on"),
-    (26, "SGR  proportional spacing on"),
-    (50, "SGR  proportional spacing off"),
-    (51, "SGR  framed on"),
-    (52, "SGR  encircled on"),
-    (54, "SGR  framed and encircled off"),
-    (60, "SGR  ideogram underline or right side line on"),
-    (
-        61,
-        "SGR  ideogram double underline or double right side line on",
-    ),
-    (62, "SGR  ideogram overline or left side line on"),
-    (
-        63,
-        "SGR  ideogram double overline or double left side line on",
-    ),
-    (64, "SGR  ideogram stress marking on"),
-    (65, "SGR  ideogram lines off"),
 ];
 
 /// Tells such a sequence, whose list this is.

@@ -5,12 +5,15 @@
 mod by_number;
 mod dec;
 mod ecma;
+mod escape_rows;
 mod escapes;
 mod intermediates;
+mod key_words;
 mod keys;
 mod list;
 mod other_sets;
 mod otherwise;
+mod sgr_rows;
 mod table;
 mod template;
 mod terminals;
@@ -27,7 +30,7 @@ pub use by_number::mouse_event;
 use csicodec_base::{CsiParam, Esc};
 use csicodec_parser::{CSI, Unspecified};
 use csicodec_words::Describe;
-pub use keys::{Key, key_of};
+pub use keys::{KeyWords, key_of};
 pub use otherwise::held;
 use std::fmt;
 

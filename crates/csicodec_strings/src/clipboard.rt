@@ -1,6 +1,7 @@
 //! The clipboard (xterm's ctlseqs, Operating System Command 52): letters for what is meant, and text in base64.
 
 use crate::fields::{Body, write_comma};
+use csicodec_osc::Asked;
 use std::fmt;
 
 /// What a letter means.
@@ -49,19 +50,24 @@ fn decoded(text: Body<'_>) -> u64 {
     whole.saturating_add((letters % 4).saturating_sub(1))
 }
 
-/// OSC 52: which, and what is done with it. What is no base64 clears it.
-pub fn clipboard<W: fmt::Write>(f: &mut fmt::Formatter<W>, rest: Body<'_>) -> fmt::Result {
-    let (letters, text) = rest.cut(b';');
-    if text.bytes == b"?".as_slice() {
+/// OSC 52: which, and what is done with it; so many bytes of the content aren't there. What is no base64 clears it.
+pub fn clipboard<W: fmt::Write>(
+    f: &mut fmt::Formatter<W>,
+    letters: &[u8],
+    content: Asked<'_>,
+    more: u64,
+) -> fmt::Result {
+    let Asked::Value(bytes) = content else {
         f.write_str("ask for the ")?;
         return write_selections(f, letters);
-    }
-    if text.len() == 0 || !text.bytes.iter().all(|byte| is_base64(*byte)) {
+    };
+    let text = Body { bytes, more };
+    if text.len() == 0 || !bytes.iter().all(|byte| is_base64(*byte)) {
         f.write_str("clear the ")?;
         return write_selections(f, letters);
     }
     write_selections(f, letters)?;
-    let about = if text.more > 0 { "about " } else { "" };
+    let about = if more > 0 { "about " } else { "" };
     let bytes = decoded(text);
     let unit = if bytes == 1 { "byte" } else { "bytes" };
     write!(f, ": {about}{bytes} {unit}")

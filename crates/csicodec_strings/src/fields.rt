@@ -49,32 +49,24 @@ impl<'a> Body<'a> {
         }
     }
 
-    /// What is behind these bytes, where it begins with them.
-    pub fn behind(self, front: &[u8]) -> Option<Body<'a>> {
-        let bytes = self.bytes.strip_prefix(front)?;
-        Some(Body {
+    /// The same with other bytes, whose end is the body's.
+    pub fn with(self, bytes: &'a [u8]) -> Body<'a> {
+        Body {
             bytes,
             more: self.more,
-        })
+        }
+    }
+
+    /// What is behind these bytes, where it begins with them.
+    pub fn behind(self, front: &[u8]) -> Option<Body<'a>> {
+        Some(self.with(self.bytes.strip_prefix(front)?))
     }
 
     /// What is ahead of the first such byte, and what is behind it; nothing is, where there is none.
     pub fn cut(self, at: u8) -> (&'a [u8], Body<'a>) {
         match split_at(self.bytes, at) {
-            Some((front, bytes)) => (
-                front,
-                Body {
-                    bytes,
-                    more: self.more,
-                },
-            ),
-            None => (
-                self.bytes,
-                Body {
-                    bytes: &[],
-                    more: self.more,
-                },
-            ),
+            Some((front, bytes)) => (front, self.with(bytes)),
+            None => (self.bytes, self.with(&[])),
         }
     }
 }

@@ -8,10 +8,9 @@ mod colors;
 mod device;
 mod escape;
 mod fields;
-mod iterm;
 mod kitty_graphics;
-mod marks;
 mod osc;
+mod osc_words;
 mod shown;
 
 use crate::device::device_control;

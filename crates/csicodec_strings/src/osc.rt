@@ -1,89 +1,15 @@
-//! Operating system commands (OSC), by the number that they begin with.
+//! Operating system commands (OSC) in words: what csicodec_osc reads of them, and words alone for what it doesn't have.
 
 use crate::clipboard::clipboard;
-use crate::colors::{dynamic, dynamic_reset, pairs, palette_reset, special_reset};
-use crate::fields::{Body, halves, number};
-use crate::iterm::iterm;
-use crate::marks::{editor_mark, notification, prompt_mark, rxvt};
+use crate::colors::{dynamic, dynamic_reset, pairs, resets};
+use crate::fields::{Body, halves, number, split_at};
+use crate::osc_words::{
+    ALONE, Behind, KITTY_NOTICE, POINTER, editor_mark_words, folder_words, mark_words,
+    progress_words, title_words,
+};
 use crate::shown::Quoted;
+use csicodec_osc::{EditorMark, Fields, Osc, Progress};
 use std::fmt;
-
-/// Commands that have one text: their numbers and what they do.
-///
-/// xterm's ctlseqs, Operating System Commands: 0 to 3, 6, 22, 46, 50, 51, 60 and 61, 106; 7, and 6 with the address of a file, are
-/// Apple's Terminal's, 7 most terminals'; 21 is DEC's (VT520, DECSWT) and kitty's; 66, 99, 5113, 5522, 30001 and 30101 are kitty's; 20, 39, 49 and those
-/// from 702 to 776 are rxvt's (urxvt(7)), 701 is its and mintty's, 440 mintty's; 176 and 555 are foot's; 3008 is systemd's.
-static TEXTS: [(u32, &str); 41] = [
-    (0, "window title and icon name"),
-    (1, "icon name"),
-    (2, "window title"),
-    (3, "property of the window"),
-    (6, "whether a special colour is used"),
-    (7, "current folder"),
-    (20, "image of the background (rxvt)"),
-    (21, "window title (DEC), or colours (kitty)"),
-    (22, "shape of the mouse pointer"),
-    (39, "foreground colour (rxvt)"),
-    (46, "log file"),
-    (49, "background colour (rxvt)"),
-    (50, "font"),
-    (51, "for Emacs' shell"),
-    (60, "ask which features are allowed"),
-    (61, "ask which features are not allowed"),
-    (66, "text of another size (kitty)"),
-    (99, "notification (kitty)"),
-    (106, "whether a special colour is used"),
-    (176, "application ID (foot)"),
-    (440, "play a sound (mintty)"),
-    (555, "flash the terminal (foot)"),
-    (701, "locale (rxvt, mintty)"),
-    (702, "ask for the version (rxvt)"),
-    (704, "colour of italic text (rxvt)"),
-    (705, "tint of the background (rxvt)"),
-    (706, "colour of bold text (rxvt)"),
-    (707, "colour of underlined text (rxvt)"),
-    (708, "colour of the border (rxvt)"),
-    (710, "font (rxvt)"),
-    (711, "font of bold text (rxvt)"),
-    (712, "font of italic text (rxvt)"),
-    (713, "font of bold italic text (rxvt)"),
-    (720, "scroll back by lines (rxvt)"),
-    (721, "scroll forward by lines (rxvt)"),
-    (776, "ask for a cell's size (rxvt)"),
-    (3008, "context (systemd)"),
-    (5113, "file transfer (kitty)"),
-    (5522, "clipboard (kitty)"),
-    (30001, "push the colours (kitty)"),
-    (30101, "pop the colours (kitty)"),
-];
-
-/// What such a command does.
-fn text_of(code: u32) -> Option<&'static str> {
-    for (number, words) in &TEXTS {
-        if *number == code {
-            return Some(*words);
-        }
-    }
-    None
-}
-
-/// Commands whose text says something else where it begins so: iTerm2's Proprietary Escape Codes, and Konsole.
-static FRONTS: [(u32, &[u8], &str); 2] = [
-    (6, b"1;bg;", "colour of the tab (iTerm2)"),
-    (50, b"CursorShape=", "shape of the cursor (Konsole)"),
-];
-
-/// What such a command does, and the rest of its text.
-fn with_front(code: u32, rest: Body<'_>) -> Option<(&'static str, Body<'_>)> {
-    for (number, front, words) in &FRONTS {
-        if *number == code
-            && let Some(behind) = rest.behind(*front)
-        {
-            return Some((*words, behind));
-        }
-    }
-    None
-}
 
 /// The words of an OSC.
 pub fn command<W: fmt::Write>(f: &mut fmt::Formatter<W>, body: Body<'_>) -> fmt::Result {
@@ -91,93 +17,198 @@ pub fn command<W: fmt::Write>(f: &mut fmt::Formatter<W>, body: Body<'_>) -> fmt:
     match number(digits) {
         Some(code) => {
             write!(f, "OSC {code}  ")?;
-            numbered(f, code, rest)
+            numbered(f, code, body.with(without_zeros(body.bytes)), rest)
         }
         None => lettered(f, body),
     }
 }
 
-fn numbered<W: fmt::Write>(f: &mut fmt::Formatter<W>, code: u32, rest: Body<'_>) -> fmt::Result {
-    match code {
-        4 => pairs(f, rest, false),
-        5 => pairs(f, rest, true),
-        8 => link(f, rest),
-        9 => notification(f, rest),
-        10..=19 => dynamic(f, code, rest),
-        52 => clipboard(f, rest),
-        104 => palette_reset(f, rest),
-        105 => special_reset(f, rest),
-        110..=119 => dynamic_reset(f, code),
-        133 => prompt_mark(f, rest),
-        633 => editor_mark(f, rest),
-        6 if rest.behind(b"file:").is_some() => {
-            plain(f, "current document (Terminal.app)", rest)
-        }
-        777 => rxvt(f, rest),
-        1337 => iterm(f, rest),
-        _ => match with_front(code, rest) {
-            Some((words, behind)) => plain(f, words, behind),
-            None => plain(f, text_of(code).unwrap_or("unknown"), rest),
+/// A number is the same with zeros ahead of it.
+fn without_zeros(bytes: &[u8]) -> &[u8] {
+    let zeros = bytes.iter().take_while(|byte| **byte == b'0').count();
+    match bytes.get(zeros..) {
+        Some(digits @ [b'0'..=b'9', ..]) => digits,
+        _ => bytes.get(zeros.saturating_sub(1)..).unwrap_or(bytes),
+    }
+}
+
+/// What a command says, and what is behind its number.
+fn numbered<W: fmt::Write>(
+    f: &mut fmt::Formatter<W>,
+    code: u32,
+    body: Body<'_>,
+    rest: Body<'_>,
+) -> fmt::Result {
+    match Osc::read(body.bytes) {
+        Osc::Title(title, text) => told(f, title_words(title), body.with(text)),
+        Osc::Colors(palette, list) => pairs(f, palette, list),
+        Osc::Color(_, list) => dynamic(f, code, list),
+        Osc::ResetColors(palette, list) => resets(f, palette, list),
+        Osc::ResetColor(_, _) => dynamic_reset(f, code),
+        Osc::Link { params, address } => link(f, params, body.with(address)),
+        Osc::Clipboard { selection, content } => clipboard(f, selection, content, body.more),
+        Osc::Folder(folder, text) => plain(f, folder_words(folder), body.with(text)),
+        Osc::Prompt(mark, list) => marked(f, mark_words(mark), list, body.more),
+        Osc::Editor(mark, list) => edited(f, mark, list, body),
+        Osc::Progress(progress, list) => done(f, progress, list, rest),
+        Osc::Pointer(text) => plain(f, POINTER, body.with(text)),
+        Osc::KittyNotice { .. } => told(f, KITTY_NOTICE, rest),
+        Osc::TitledNotice { title, text } => noticed(f, title, body.with(text)),
+        Osc::Notice(_) => match alone(body, rest) {
+            Some((words, text)) => plain(f, words, text),
+            None => told(f, "notification", rest),
+        },
+        Osc::Unknown(_) => match (body.behind(b"1337;File="), alone(body, rest)) {
+            (Some(file), _) => picture(f, file),
+            (None, Some((words, text))) => plain(f, words, text),
+            (None, None) => plain(f, "unknown", rest),
         },
     }
 }
 
-/// What a command does, and its text where it has one.
-fn plain<W: fmt::Write>(f: &mut fmt::Formatter<W>, words: &str, rest: Body<'_>) -> fmt::Result {
-    f.write_str(words)?;
-    if rest.len() == 0 && !words.ends_with("title") && !words.ends_with("name") {
-        return Ok(());
-    }
-    let quoted = rest.quoted();
-    write!(f, ": {quoted}")
+/// Words, and a text.
+fn told<W: fmt::Write>(f: &mut fmt::Formatter<W>, words: &str, text: Body<'_>) -> fmt::Result {
+    let quoted = text.quoted();
+    write!(f, "{words}: {quoted}")
 }
 
-/// OSC 8: `params;URI`, of which no URI ends the link (Hyperlinks in terminal emulators).
-fn link<W: fmt::Write>(f: &mut fmt::Formatter<W>, rest: Body<'_>) -> fmt::Result {
-    let (params, target) = rest.cut(b';');
-    if target.len() == 0 {
+/// Words, and a text where there is one.
+fn plain<W: fmt::Write>(f: &mut fmt::Formatter<W>, words: &str, text: Body<'_>) -> fmt::Result {
+    if text.len() == 0 {
+        f.write_str(words)
+    } else {
+        told(f, words, text)
+    }
+}
+
+/// The text of what has words alone and begins so.
+fn behind<'a>(body: Body<'a>, rest: Body<'a>, front: &[u8], form: Behind) -> Option<Body<'a>> {
+    let text = body.behind(front)?;
+    match (form, text.bytes) {
+        (Behind::Whole, _) => Some(rest),
+        (Behind::Rest, _) | (Behind::Bare | Behind::Several | Behind::Value, []) => Some(text),
+        (Behind::OneText | Behind::Several, [b';', bytes @ ..])
+        | (Behind::Value, [b'=', bytes @ ..]) => Some(text.with(bytes)),
+        _ => None,
+    }
+}
+
+/// The words and the text of what has words alone.
+fn alone<'a>(body: Body<'a>, rest: Body<'a>) -> Option<(&'static str, Body<'a>)> {
+    for (front, form, words) in &ALONE {
+        if let Some(text) = behind(body, rest, *front, *form) {
+            return Some((*words, text));
+        }
+    }
+    None
+}
+
+/// A mark of a shell: behind the command's end stands its status.
+fn marked<W: fmt::Write>(
+    f: &mut fmt::Formatter<W>,
+    words: &str,
+    list: Fields<'_>,
+    more: u64,
+) -> fmt::Result {
+    f.write_str(words)?;
+    let bytes = list.text.unwrap_or(&[]);
+    let options = Body { bytes, more };
+    if options.len() == 0 {
+        return Ok(());
+    }
+    match number(bytes) {
+        Some(status) => write!(f, ", status {status}"),
+        None => {
+            let quoted = options.quoted();
+            write!(f, ", {quoted}")
+        }
+    }
+}
+
+/// A mark of a shell for VS Code, of which two have a text.
+fn edited<W: fmt::Write>(
+    f: &mut fmt::Formatter<W>,
+    mark: EditorMark,
+    list: Fields<'_>,
+    body: Body<'_>,
+) -> fmt::Result {
+    let words = editor_mark_words(mark);
+    match mark {
+        EditorMark::CommandText | EditorMark::Property => {
+            told(f, words, body.with(list.text.unwrap_or(&[])))
+        }
+        _ => marked(f, words, list, body.more),
+    }
+}
+
+/// Progress, and how much is done.
+fn done<W: fmt::Write>(
+    f: &mut fmt::Formatter<W>,
+    progress: Progress,
+    list: Fields<'_>,
+    rest: Body<'_>,
+) -> fmt::Result {
+    let percent = match (list.percent(), list.text) {
+        (Some(percent), _) => percent,
+        (None, None | Some([])) => 0,
+        (None, Some(_)) => return plain(f, "unknown", rest),
+    };
+    f.write_str(progress_words(progress))?;
+    match progress {
+        Progress::Shown => write!(f, ": {percent} %"),
+        _ => Ok(()),
+    }
+}
+
+/// A notification with a title.
+fn noticed<W: fmt::Write>(f: &mut fmt::Formatter<W>, title: &[u8], text: Body<'_>) -> fmt::Result {
+    let title = Quoted {
+        bytes: title,
+        more: false,
+    };
+    let text = text.quoted();
+    write!(f, "notification: {title}, {text}")
+}
+
+/// A link, with its id; with no address it ends.
+fn link<W: fmt::Write>(f: &mut fmt::Formatter<W>, params: &[u8], address: Body<'_>) -> fmt::Result {
+    if address.len() == 0 {
         return f.write_str("end of the link");
     }
-    let quoted = target.quoted();
+    let quoted = address.quoted();
     write!(f, "link to {quoted}")?;
-    for param in params.split(is_colon) {
-        write_id(f, param)?;
+    for param in params.split(|byte| *byte == b':') {
+        if let Some(bytes) = param.strip_prefix(b"id=".as_slice()) {
+            let id = Quoted { bytes, more: false };
+            write!(f, ", id {id}")?;
+        }
     }
     Ok(())
 }
 
-/// Whether a byte is the colon that stands between the parameters of a link.
-fn is_colon(byte: &u8) -> bool {
-    *byte == b':'
+/// A picture or another file of iTerm2's: what is said of it, and how long it is.
+fn picture<W: fmt::Write>(f: &mut fmt::Formatter<W>, file: Body<'_>) -> fmt::Result {
+    let Some((said, bytes)) = split_at(file.bytes, b':') else {
+        let quoted = file.quoted();
+        return write!(f, "file {quoted}");
+    };
+    let len = file.with(bytes).len();
+    let said = Quoted {
+        bytes: said,
+        more: false,
+    };
+    write!(f, "file {said}, {len} bytes in base64")
 }
 
-/// The id of a link, where the parameter is one.
-fn write_id<W: fmt::Write>(f: &mut fmt::Formatter<W>, param: &[u8]) -> fmt::Result {
-    let (name, bytes) = halves(param, b'=');
-    if name != b"id".as_slice() {
-        return Ok(());
-    }
-    let id = Quoted { bytes, more: false };
-    write!(f, ", id {id}")
-}
-
-/// Commands with a letter: the Linux console's palette (console_codes(4)), dtterm's and Sun's titles.
+/// Commands with a letter in the place of a number.
 fn lettered<W: fmt::Write>(f: &mut fmt::Formatter<W>, body: Body<'_>) -> fmt::Result {
-    let words = match body.bytes.first().copied() {
-        Some(b'P') => "OSC P  colour of the palette (Linux): ",
-        Some(b'R') => return f.write_str("OSC R  reset the palette (Linux)"),
-        Some(b'l') => "OSC l  window title: ",
-        Some(b'L') => "OSC L  icon name: ",
-        Some(b'I') => "OSC I  file of the icon: ",
-        _ => {
-            let quoted = body.quoted();
-            return write!(f, "OSC  unknown: {quoted}");
+    match (body.bytes, alone(body, body)) {
+        ([letter, ..], Some((words, text))) => {
+            f.write_str("OSC ")?;
+            f.write_char(char::from(*letter))?;
+            f.write_str("  ")?;
+            plain(f, words, text)
         }
-    };
-    let rest = Body {
-        bytes: body.bytes.get(1..).unwrap_or(&[]),
-        more: body.more,
-    };
-    let quoted = rest.quoted();
-    write!(f, "{words}{quoted}")
+        _ => told(f, "OSC  unknown", body),
+    }
 }

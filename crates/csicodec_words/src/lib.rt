@@ -8,12 +8,14 @@ mod describe;
 mod device;
 mod edit;
 mod esc;
+mod esc_words;
 mod keyboard;
 mod mode;
+mod mode_words;
 mod mouse;
 mod numbered;
-mod other_modes;
 mod sgr;
+mod sgr_words;
 mod window;
 
 use crate::keyboard::path;

@@ -20,7 +20,7 @@ use Rattle.csicodec_structs.specs.Rows.{params_of, sgr_struct, struct_of}
 use Rattle.csicodec_structs.specs.Structs.{color_row, row}
 use Rattle.csicodec_structs.specs.declared.structs.Param.{Param}
 use Rattle.csicodec_structs.specs.declared.structs.Struct.{Struct}
-use Rattle.csicodec_front.specs.declared.attributes.Alone.{Alone}
+use Rattle.csicodec_front.specs.declared.by_number.Alone.{Alone}
 use Rattle.csicodec_front.specs.declared.attributes.Style.{Style}
 
 -- ---- tokens in turn

@@ -1,9 +1,10 @@
 -- How a content is read: the first command whose number begins it, and whose form what stands behind the number has.
-use Rattle.std.specs.Prelude.{ℕ, ◌-◌, ◌+◌, ◌*◌, ◌==◌, ◌&&◌, Bool, nat_le, List, [], ◌∷◌, Option, None, Some, option_map, option_and_then, if◌then◌else◌}
+use Rattle.std.specs.Prelude.{ℕ, ◌==◌, List, [], ◌∷◌, Option, None, Some, option_map, option_and_then, if◌then◌else◌}
 use Rattle.std.specs.Option.{option_or}
 use Rattle.csicodec_osc.specs.declared.command.Command.{Command}
-use Rattle.csicodec_osc.specs.Commands.{Form, Bare, OneText, Message, Several, TwoTexts, TextAsked, Percentage, form, number}
-use Rattle.csicodec_osc.specs.Osc.{Ask, Body, Both, Known, Said, Share, Tail, Unknown, asked, is_message}
+use Rattle.csicodec_osc.specs.Commands.{form, number}
+use Rattle.csicodec_osc.specs.Forms.{Form, OneText, Message, Several, TwoTexts, TextAsked}
+use Rattle.csicodec_osc.specs.Osc.{Ask, Body, Both, Known, Said, Tail, Unknown, asked, is_message}
 
 -- what stands behind a number, where the content begins with it
 abbrev pub behind : List ℕ → List ℕ → Option (Option (List ℕ))
@@ -18,20 +19,8 @@ halves [] = None
 halves (b ∷ bytes) = if b == 59 then Some ([], bytes)
     else option_map (λ cut. (b ∷ cut.0, cut.1)) (halves bytes)
 
-abbrev pub is_digit : ℕ → Bool
-is_digit b = nat_le 48 b && nat_le b 57
-
--- a number from 0 to 100 without leading zeros
-abbrev pub percent_of : List ℕ → Option ℕ
-percent_of (a ∷ []) = if is_digit a then Some (a - 48) else None
-percent_of (a ∷ b ∷ []) = if nat_le 49 a && (nat_le a 57 && is_digit b) then Some (10 * (a - 48) + (b - 48)) else None
-percent_of (a ∷ b ∷ c ∷ []) = if a == 49 && (b == 48 && c == 48) then Some 100 else None
-percent_of _ = None
-
 -- what stands behind a number, read by a form
 abbrev pub read_body : Form → Option (List ℕ) → Option Body
-read_body Bare None = Some (Tail None)
-read_body Bare (Some text) = None
 read_body OneText None = None
 read_body OneText (Some text) = Some (Tail (Some text))
 read_body Message None = None
@@ -41,8 +30,6 @@ read_body TwoTexts None = None
 read_body TwoTexts (Some text) = option_map (λ cut. Both cut.0 cut.1) (halves text)
 read_body TextAsked None = None
 read_body TextAsked (Some text) = option_map (λ cut. Ask cut.0 (asked cut.1)) (halves text)
-read_body Percentage None = Some (Share None)
-read_body Percentage (Some text) = option_map (λ n. Share (Some n)) (percent_of text)
 
 -- what the command reads of a content
 abbrev pub read_by : Command → List ℕ → Option Body

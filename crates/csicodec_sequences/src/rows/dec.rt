@@ -1,3 +1,4 @@
+// Written by tools/table from table/sequences.toml: change that, and run python3 tools/table.
 //! Functions of DEC's terminals.
 
 use crate::row::{Form, MOST, Slot};

@@ -1,3 +1,4 @@
+// Written by tools/table from table/sequences.toml: change that, and run python3 tools/table.
 //! What terminals are asked for, what they answer, and what keyboards, mice and pastes send.
 
 use crate::row::{Form, MOST, Slot};

@@ -1,0 +1,168 @@
+"""table/escapes.toml: escape sequences and character sets. Those with a name become the enumeration EscCode with its numbers, the others arrays of
+words."""
+from faults import check_columns, check_once, refuse
+from layout import array, byte, code, page_line, page_table, pair, string, variants
+from read import first_line
+
+TABLE = "escapes.toml"
+
+CODES = """\
+//! The codes of escape sequences.
+ghost use Rattle.std.specs.Prelude.{◌≡◌, ◌↔◌, ◌<◌, ◌≤◌, Some};
+ghost use Rattle.csicodec_names.specs.Esc.{esc_number};
+
+/// The codes of escape sequences. A code's number is that of its last character, and 256 times that of the one before it, if any.
+#[derive(Clone, Copy, PartialEq, Eq, Debug)]
+pub enum EscCode {
+VARIANTS
+}
+"""
+
+FIND = """
+/// The code of that number, where it is written by COUNT.
+pub(crate) fn NAME(number: u16) -> Option<EscCode>
+    requires { RANGE }
+    ensures { (code : EscCode) → (result ≡ Some code) ↔ (number ≡ esc_number code) }
+{
+    match number {
+ARMS
+        _ => None,
+    }
+}
+"""
+
+ANTT = """\
+-- The codes of escape sequences: the one or two characters that stand after ESC.
+use Rattle.std.specs.Prelude.{ℕ, List, codes}
+use Rattle.csicodec_names.specs.declared.esc_codes.EscCode.{EscCode}
+use Rattle.csicodec_names.specs.declared.esc_codes.EscCode.TheVariants as code
+
+-- a line for each variant
+abbrev pub characters_of : EscCode → List ℕ
+ROWS
+"""
+
+PLACES = {"(": "G0", ")": "G1"}
+STRINGS = "X^_k"
+
+
+def number(key):
+    """The number of a code."""
+    return f"{int.from_bytes(key.encode('latin-1')):#x}"
+
+
+def named(rows):
+    return {key: row for key, row in rows["code"].items() if "name" in row}
+
+
+def find(count, name, within, codes):
+    arms = [f"        {number(key)} => Some(EscCode::{row['name']})," for key, row in codes.items()]
+    return FIND.replace("COUNT", count).replace("NAME", name).replace("RANGE", within).replace("ARMS", "\n".join(arms))
+
+
+def codes(rows):
+    all_of = named(rows)
+    enumeration = CODES.replace("VARIANTS", "\n".join(variants((number(key), row["name"], row["doc"]) for key, row in all_of.items())))
+    one = find("one character", "of_one_character", "number < 256", {key: row for key, row in all_of.items() if len(key) == 1})
+    return enumeration + one + find("two characters", "of_two_characters", "256 ≤ number", {key: row for key, row in all_of.items() if len(key) == 2})
+
+
+def characters(rows):
+    return ANTT.replace("ROWS", "\n".join(f"characters_of code.{row['name']} = codes {string(key)}" for key, row in named(rows).items()))
+
+
+def said(rows, key):
+    """The words of a row, which are those of its set where it designates one."""
+    if key[0] in PLACES:
+        return f"SCS  {PLACES[key[0]]}: {rows['sets_94'][key[1:]]['words']}"
+    return rows["code"][key]["words"]
+
+
+def words(rows):
+    pairs = [pair(number(key), string(said(rows, key))) for key in named(rows)]
+    about = "Those that the codec has a code for, by their numbers: that of the last character, and 256 times that of the one before it."
+    return "//! Escape sequences in words.\n\n" + array(about, "CODES", "(i64, &str)", pairs)
+
+
+def parts(key, row):
+    """A row by its intermediate bytes and its last one."""
+    return pair(f"b{string(key[:-1])}", byte(key[-1]), string(row["words"]))
+
+
+def sequences(rows):
+    """Those without a code, and the sets."""
+    kind = "(&[u8], u8, &str)"
+    others = [parts(key, row) for key, row in rows["code"].items() if "name" not in row]
+    between = [pair(f"b{string(key)}", string(row["words"])) for key, row in rows["other"].items()]
+    sets = [(name, about, [parts(key, row) for key, row in rows[table].items()]) for name, about, table in (
+        ("SETS", "Sets of 94 characters, by what stands behind the byte that says what they become.", "sets_94"),
+        ("SETS_OF_96", "Sets of 96 characters.", "sets_96"),
+        ("SETS_OF_SEVERAL", "Sets of which each character has several bytes.", "sets_several"),
+    )]
+    return "\n".join([
+        "//! Escape sequences that the codec has no code for, and character sets, in words.\n",
+        array("Escape sequences by their intermediate bytes and their last one.", "NAMES", kind, others),
+        array("What any other sequence is that has these intermediate bytes.", "OTHERS", "(&[u8], &str)", between),
+        *(array(about, name, kind, pairs) for name, about, pairs in sets),
+    ])
+
+
+PAGE = """\
+# Escape sequences and character sets
+
+What explain says of each, and the variant of `EscCode` where it has one. A sequence without one is `Unspecified`. A blank stands as SP.
+
+SEQUENCES
+## Other sequences by their intermediate bytes
+
+BETWEEN
+## Character sets
+
+A set becomes G0 behind `(`, G1 behind `)`, G2 behind `*` and G3 behind `+`; one of 96 characters becomes G1 behind `-`, G2 behind `.` and G3 behind
+`/`; one of several bytes has `$` ahead (ECMA-35, 14.3.2).
+
+SETS"""
+
+
+def shown(key):
+    """The bytes of a key, apart."""
+    return code(" ".join("SP" if character == " " else character for character in key))
+
+
+def page(rows):
+    codes = [["ESC " + shown(key), row.get("name", ""), said(rows, key), row["source"]] for key, row in rows["code"].items()]
+    between = [["ESC " + shown(key), row["words"], row["source"]] for key, row in rows["other"].items()]
+    kinds = (("94", "sets_94"), ("96", "sets_96"), ("several bytes", "sets_several"))
+    sets = [[shown(key), characters, row["words"], row["source"]] for characters, name in kinds for key, row in rows[name].items()]
+    text = PAGE.replace("SEQUENCES\n", page_table(["sequence", "name", "words", "source"], codes) + "\n")
+    text = text.replace("BETWEEN\n", page_table(["begins", "words", "source"], between) + "\n")
+    return text.replace("SETS", page_table(["bytes", "characters", "set", "source"], sets))
+
+
+def begins_more(key):
+    """Whether explain tells it with what follows: a string, or a key behind SS3."""
+    return key in STRINGS or key[:-1] == "O"
+
+
+def check(rows):
+    for key, row in rows["code"].items():
+        words = [] if key[0] in PLACES else ["words"]
+        name = ["name", "doc"] if "name" in row else []
+        example = [] if begins_more(key) else ["says"]
+        check_columns(TABLE, {key: row}, ["source", *words, *name, *example], ())
+        if name and not row["doc"].startswith(f"`ESC {' '.join(key)}`"):
+            refuse(TABLE, key, "its doc begins with another sequence")
+    for name in ("other", "sets_94", "sets_96", "sets_several"):
+        check_columns(TABLE, rows[name], ("words", "source", "says"), ())
+    check_once(TABLE, rows["code"], "name")
+
+
+def files(rows):
+    check(rows)
+    return {
+        "crates/csicodec_names/src/esc_codes.rt": first_line(TABLE) + codes(rows),
+        "crates/csicodec_names/specs/EscCodes.antt": first_line(TABLE, "--") + characters(rows),
+        "crates/csicodec_words/src/esc_words.rt": first_line(TABLE) + words(rows),
+        "crates/csicodec_readings/src/escape_rows.rt": first_line(TABLE) + sequences(rows),
+        "docs/ESCAPES.md": page_line(TABLE) + page(rows),
+    }

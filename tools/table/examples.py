@@ -1,0 +1,16 @@
+"""Literal examples that rows of the tables have in `says`: a sequence as explain shows bytes, and what explain says of it. They are typed by hand."""
+import pathlib
+
+from read import TOP, rows_of
+
+
+def of(row):
+    """Those of a row, or of the rows of a part."""
+    if isinstance(row.get("says"), dict):
+        return [[sequence, *said.split("  ", 1), row["source"]] for sequence, said in row["says"].items()]
+    return [example for part in row.values() if isinstance(part, dict) for example in of(part)]
+
+
+def examples():
+    """The sequence, its name, its words and the document of its row, of each example of each table."""
+    return [example for table in sorted(pathlib.Path(TOP, "table").glob("*.toml")) for example in of(rows_of(table.name))]

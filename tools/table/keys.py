@@ -1,0 +1,157 @@
+"""The keys: csicodec_keys' type and tables, and what `explain` calls a key."""
+import re
+import sys
+
+from read import first_line
+
+TABLE = "keys.toml"
+# The columns: the table of csicodec_keys, the final that each of its rows has, and what it is.
+COLUMNS = {
+    "control": ("controls", None, "C0 controls and DEL (xterm, as a keyboard of ASCII sends them; ctrl takes 64 off)."),
+    "ss3": ("ss3_keys", None, "Behind SS3: F1 to F4, and the keypad in its application mode (xterm ctlseqs, PC-Style and VT220-Style Function Keys)."),
+    "ss3_cursor": ("ss3_cursor", None, "Behind SS3: the cursor keys in their application mode (xterm ctlseqs, Cursor Keys), which are written as control sequences."),
+    "csi": ("csi_keys", "", "Control sequences that xterm and kitty share (xterm ctlseqs, PC-Style Function Keys; kitty, Legacy functional keys)."),
+    "kitty": ("kitty_keys", "u", "Numbers before `u` (kitty, Functional key definitions)."),
+    "other": ("other_keys", "~", "Numbers behind `27 ;` and the modifiers, before `~` (xterm ctlseqs, Alt and Meta Keys)."),
+    "rxvt": ("rxvt_keys", "", "rxvt's own, before `~`, `$` with shift, `^` with ctrl and `@` with both, and its arrows with shift (rxvt, Key codes)."),
+    "rxvt_ss3": ("rxvt_ss3", None, "rxvt's arrows with ctrl, behind SS3 (rxvt, Key codes)."),
+    "linux": ("linux_keys", None, "Behind `CSI [`: F1 to F5 of Linux' console (console_codes(4))."),
+    "win32": ("win32_keys", "_", "Virtual keys before `_` in Win32-input-mode (Microsoft, Virtual-Key Codes), 256 more for an enhanced key (KEY_EVENT_RECORD)."),
+}
+HELD = {"shift": 1, "alt": 2, "ctrl": 4}
+ESCAPES = {"\0": "\\0", "\t": "\\t", "\n": "\\n", "\r": "\\r", "\\": "\\\\", "'": "\\'"}
+
+
+def literal(character):
+    """A character of Rust."""
+    number = ord(character)
+    plain = character if 32 <= number < 127 else f"\\x{number:02x}" if number < 128 else f"\\u{{{number:x}}}"
+    return f"'{ESCAPES.get(character, plain)}'"
+
+
+class Form:
+    """A way of sending a key: its number, its final or its character alone, and what that says is held down."""
+
+    def __init__(self, column, said):
+        final = COLUMNS[column][1]
+        if final:
+            self.number, self.control, held = said, final, []
+        elif final is None:
+            self.number, self.control, held = 0, said[0], said[1:].split()
+        else:
+            number, self.control, *held = said.split()
+            self.number = int(number)
+        self.held = sum(HELD[key] for key in held)
+
+
+class Key:
+    """A key by its constructor, and its forms by their columns."""
+
+    def __init__(self, code, row):
+        self.code, self.words, self.doc = code, row.get("words"), row.get("doc")
+        self.forms = {column: [Form(column, said) for said in (cell if isinstance(cell, list) else [cell])] for column, cell in row.items() if column in COLUMNS}
+
+
+def keys_of(tables):
+    yield from (Key(f"KeyCode::{name}", row) for name, row in tables["named"].items())
+    yield from (Key(f"KeyCode::F({number})", row) for number, row in tables["F"].items())
+    yield from (Key(f"KeyCode::Char({literal(character)})", row) for character, row in tables["Char"].items())
+
+
+def faults(tables, keys):
+    """What a row lacks, or has too much; and two keys of one form."""
+    for name, rows in tables.items():
+        wanted = {"words", "doc"} if name == "named" else set()
+        for row, of in rows.items():
+            lacks, more = wanted - of.keys(), of.keys() - wanted - COLUMNS.keys()
+            if lacks or more:
+                yield f"[{name}] {row}: {'no ' + ', '.join(sorted(lacks)) if lacks else 'nothing reads ' + ', '.join(sorted(more))}"
+    yield from (f"{key.code}: nothing sends it" for key in keys if not key.forms)
+    for column in COLUMNS:
+        seen = {}
+        for key in keys:
+            for form in key.forms.get(column, []):
+                other = seen.setdefault((form.number, form.control), key.code)
+                if other != key.code:
+                    yield f"{column}: {key.code} has the form of {other}"
+
+
+def code_rt(named):
+    """src/code.rt of csicodec_keys."""
+    lines = ["//! Which key it is.", "ghost use Rattle.std.specs.Prelude.{◌≡◌};", "ghost use Rattle.csicodec_keys.specs.SameKeys.{code_tag, code_value, same_code};", "",
+             "/// A key: one that types a character, or one with a name. The same key of the keypad is another one.", "#[derive(Clone, Copy, Debug, PartialEq, Eq)]", "pub enum KeyCode {",
+             "    /// The key of this character, as it types it without modifiers: `'a'`, also where shift makes it `'A'`. Where the encoding says",
+             "    /// only what is typed, it is that: `'A'`.", "    Char(char),", "    /// A function key, from 1 on.", "    F(u8),"]
+    for name, row in named.items():
+        lines += [f"    /// {row['doc']}", f"    {name},"]
+    lines += ["}", "", "impl KeyCode {", "    /// Whether both are one key.", "    pub(crate) fn same(self, other: KeyCode) -> bool", "        ensures { result ≡ same_code self other }", "    {",
+              "        self.tag() == other.tag() && self.value() == other.value()", "    }", "", "    /// The character or the number of a key that has one.", "    fn value(self) -> u32",
+              "        ensures { result ≡ code_value self }", "    {", "        match self {", "            KeyCode::Char(character) => character as u32,",
+              "            KeyCode::F(number) => u32::from(number),", "            _ => 0,", "        }", "    }", "", "    /// A number for each kind of key.", "    fn tag(self) -> u8",
+              "        ensures { result ≡ code_tag self }", "    {", "        match self {", "            KeyCode::Char(_) => 0,", "            KeyCode::F(_) => 1,"]
+    return "\n".join([*lines, *(f"            KeyCode::{name} => {tag}," for tag, name in enumerate(named, 2)), "        }", "    }", "}"]) + "\n"
+
+
+def rows_rt(keys):
+    """src/rows.rt of csicodec_keys."""
+    names = sorted(name for name, _, _ in COLUMNS.values())
+    lines = ["//! The tables: which number and which final character stand for a key, a row each.", "ghost use Rattle.std.specs.Prelude.{◌≡◌};",
+             f"ghost use Rattle.csicodec_keys.specs.Tables.{{{', '.join(names)}}};", "", "use crate::code::KeyCode;", "use crate::tables::Row;", "",
+             "macro_rules! row {", "    ($code:expr, $held:expr, $number:expr, $control:expr) => {",
+             "        Row { code: $code, held: $held, number: $number, control: $control }", "    };", "}", ""]
+    for column, (name, _, doc) in COLUMNS.items():
+        rows = [f"    row!({key.code}, {form.held}, {form.number}, {literal(form.control)})," for key in keys for form in key.forms.get(column, [])]
+        lines += [f"/// {doc}", f"static {name.upper()}: [Row; {len(rows)}] = [", *rows, "];", "", f"#[tactic(auto, unfolding(crate::specs::Tables::{name}))]",
+                  f"pub(crate) fn {name}<'a>() -> &'a [Row]", f"    ensures {{ result.now ≡ {name} }}", "{", f"    &{name.upper()}", "}", ""]
+    return "\n".join(lines)
+
+
+def tables_antt():
+    """specs/Tables.antt of csicodec_keys."""
+    names = [name for name, _, _ in COLUMNS.values()]
+    lines = ["-- The tables of keys by their names; their rows stand in src/rows.rt, each table with its source.", "use Rattle.std.specs.Prelude.{List}",
+             "use Rattle.csicodec_keys.specs.declared.tables.Row.{Row}", f"use Rattle.csicodec_keys.specs.declared.rows.TheConstants.{{{', '.join(sorted(name.upper() for name in names))}}}"]
+    for name in names:
+        lines += ["", f"unfoldable pub {name} : List Row", f"{name} = {name.upper()}"]
+    return "\n".join(lines) + "\n"
+
+
+def same_keys_antt(named):
+    """specs/SameKeys.antt of csicodec_keys."""
+    lines = ["-- Which keys are the same.", "use Rattle.std.specs.Prelude.{ℕ, ◌==◌, ◌&&◌, Bool}", "use Rattle.csicodec_keys.specs.declared.code.KeyCode.{KeyCode}",
+             "use Rattle.csicodec_keys.specs.declared.code.KeyCode.TheVariants as code", "", "-- a number for each kind of key", "abbrev pub code_tag : KeyCode → ℕ",
+             "code_tag (code.Char c) = 0", "code_tag (code.F n) = 1", *(f"code_tag code.{name} = {tag}" for tag, name in enumerate(named, 2)), "",
+             "-- the character of a key that types one, the number of a function key, and 0", "abbrev pub code_value : KeyCode → ℕ", "code_value (code.Char c) = c", "code_value (code.F n) = n",
+             "code_value _ = 0", "", "-- the kind and the value are the same; then it is one key (`same-code` of the proofs)", "abbrev pub same_code : KeyCode → KeyCode → Bool",
+             "same_code a b = (code_tag a == code_tag b) && (code_value a == code_value b)"]
+    return "\n".join(lines) + "\n"
+
+
+def named_antt(named):
+    """proofs/Named.antt of csicodec_keys."""
+    lines = ["-- All keys with a name alone, in the order of their tags.", "use Rattle.std.proofs.Common.{List, [], ◌∷◌}", "use Rattle.csicodec_keys.specs.declared.code.KeyCode.{KeyCode}",
+             "use Rattle.csicodec_keys.specs.declared.code.KeyCode.TheVariants as code", "", "unfoldable pub named : List KeyCode", "named ="]
+    return "\n".join([*lines, "    " + " ∷ ".join([*(f"code.{name}" for name in named), "[]"])]) + "\n"
+
+
+def words_rt(named):
+    """src/key_words.rt of csicodec_readings."""
+    lines = ["//! What keys with a name are called.", "", "use csicodec_keys::KeyCode;", "", "/// The words of a key; none of a function key and of one of a character.",
+             "pub fn key_words(code: KeyCode) -> Option<&'static str> {", "    Some(match code {", "        KeyCode::Char(_) | KeyCode::F(_) => return None,"]
+    return "\n".join([*lines, *(f'        KeyCode::{name} => "{row["words"]}",' for name, row in named.items()), "    })", "}"]) + "\n"
+
+
+def files(tables):
+    keys, named = list(keys_of(tables)), tables["named"]
+    wrong = [*faults(tables, keys), *(f"[named] {name} is no name" for name in named if not re.fullmatch(r"[A-Z]\w+", name))]
+    if wrong:
+        sys.exit("\n".join(f"table/{TABLE}: {fault}" for fault in wrong))
+    rust, antt = first_line(TABLE), first_line(TABLE, "--")
+    return {
+        "crates/csicodec_keys/src/code.rt": rust + code_rt(named),
+        "crates/csicodec_keys/src/rows.rt": rust + rows_rt(keys).rstrip("\n") + "\n",
+        "crates/csicodec_keys/specs/Tables.antt": antt + tables_antt(),
+        "crates/csicodec_keys/specs/SameKeys.antt": antt + same_keys_antt(named),
+        "crates/csicodec_keys/proofs/Named.antt": antt + named_antt(named),
+        "crates/csicodec_readings/src/key_words.rt": rust + words_rt(named),
+    }

@@ -1,0 +1,66 @@
+"""Lines of written files, laid out as `rt fmt` leaves them."""
+import textwrap
+
+from read import first_line
+
+WIDTH = 120
+
+
+def comment(text, indent="", mark="///"):
+    """A comment, in lines of at most 120 characters."""
+    ahead = f"{indent}{mark} "
+    return [ahead + line for line in textwrap.wrap(text, WIDTH - len(ahead), break_long_words=False, break_on_hyphens=False)]
+
+
+def string(text):
+    """A literal of this text."""
+    escaped = text.replace("\\", "\\\\").replace('"', '\\"')
+    return f'"{escaped}"'
+
+
+def byte(character):
+    """A literal of this byte."""
+    return {"'": r"b'\''", "\\": r"b'\\'"}.get(character, f"b'{character}'")
+
+
+def pair(*parts):
+    """A row of an array: parts between parentheses, on a line each where they are longer than a line may be."""
+    inside = ", ".join(parts)
+    if len(inside) <= 60:
+        return [f"    ({inside}),"]
+    return ["    (", *(f"        {part}," for part in parts), "    ),"]
+
+
+def array(said, name, kind, rows):
+    """An array of these rows, with its comment."""
+    lines = [line for row in rows for line in row]
+    return "\n".join([*comment(said), f"pub(crate) static {name}: [{kind}; {len(rows)}] = [", *lines, "];"]) + "\n"
+
+
+def variants(rows):
+    """The variants of an enumeration: by each number as it is written, its name and its comment, empty where it has none."""
+    return [line for number, name, said in rows for line in (*comment(said, "    "), f"    {name} = {number},")]
+
+
+def arm(pattern, function, *arguments):
+    """An arm that answers what a function makes of these arguments."""
+    line = f"        {pattern} => {function}({', '.join(arguments)}),"
+    if len(line) <= 100:
+        return [line]
+    return [f"        {pattern} => {function}(", *(f"            {argument}," for argument in arguments), "        ),"]
+
+
+def page_line(table):
+    """The line by which a written page begins."""
+    return first_line(table, "<!--").replace(".\n", ". -->\n")
+
+
+def code(text):
+    """A text of a page that stands as it is typed."""
+    return f"`` {text} ``"
+
+
+def page_table(columns, rows):
+    """A table of a page."""
+    lines = ["| " + " | ".join(cell.replace("|", "\\|") for cell in line) + " |\n" for line in (columns, *rows)]
+    return "".join([lines[0], "|---" * len(columns) + "|\n", *lines[1:]])

@@ -1,0 +1,159 @@
+"""table/modes.toml: what modes are called. Their names become two enumerations with their numbers, their words two arrays."""
+from faults import check_columns, check_once
+from layout import array, page_line, page_table, pair, string, variants
+from read import first_line
+
+TABLE = "modes.toml"
+
+RUST = """\
+//! The numbers of modes that have a name.
+ghost use Rattle.std.specs.Prelude.{◌≡◌, ◌↔◌, Some, pos};
+ghost use Rattle.csicodec_names.specs.ModeNumbers.{dec_mode_number, terminal_mode_number};
+
+/// A private mode: one that `CSI ? .. h` sets and `CSI ? .. l` resets. Those of DEC (VT510, VT382) begin with the name that DEC gave
+/// them; where the others are from is said at each.
+"""
+
+TERMINAL = """
+/// A mode that `CSI .. h` sets and `CSI .. l` resets (SM and RM; ECMA-48, 8.3.125 and 8.3.106).
+"""
+
+KIND = """\
+#[derive(Clone, Copy, PartialEq, Eq, Debug)]
+pub enum KIND {
+VARIANTS
+}
+
+impl KIND {
+    /// The number of this mode.
+    pub fn to_i64(&self) -> i64
+        ensures { result ≡ pos (NUMBER self.now) }
+    {
+        *self as i64
+    }
+
+    /// The mode that has this number, and none where no mode has it.
+    pub fn from_i64(number: i64) -> Option<Self>
+        ensures { (mode : KIND) → (result ≡ Some mode)
+            ↔ (number ≡ pos (NUMBER mode)) }
+    {
+        match number {
+ARMS
+            _ => None,
+        }
+    }
+}
+"""
+
+ANTT = """\
+-- The numbers of modes that have a name.
+use Rattle.std.specs.Prelude.{ℕ, List, [], ◌∷◌}
+use Rattle.csicodec_names.specs.declared.modes.DecPrivateModeCode.{DecPrivateModeCode}
+use Rattle.csicodec_names.specs.declared.modes.DecPrivateModeCode.TheVariants as dec
+use Rattle.csicodec_names.specs.declared.modes.TerminalModeCode.{TerminalModeCode}
+use Rattle.csicodec_names.specs.declared.modes.TerminalModeCode.TheVariants as terminal
+
+-- private modes, of DEC and of other terminals, a line for each variant
+abbrev pub dec_mode_number : DecPrivateModeCode → ℕ
+DEC_NUMBERS
+
+-- all private modes with a name: the list must be complete, a line for each variant
+abbrev pub dec_codes : List DecPrivateModeCode
+dec_codes =
+DEC_CODES
+
+-- modes of the standard (ECMA-48, 7.2), and two of terminals, a line for each variant
+abbrev pub terminal_mode_number : TerminalModeCode → ℕ
+TERMINAL_NUMBERS
+
+-- all modes with a name that are not private: the list must be complete, a line for each variant
+abbrev pub terminal_codes : List TerminalModeCode
+terminal_codes =
+TERMINAL_CODES
+"""
+
+
+def named(rows):
+    """The number and the name of each mode with a name."""
+    return [(number, row["name"]) for number, row in rows.items() if "name" in row]
+
+
+def kind(name, number, rows):
+    """An enumeration, and both ways between it and its numbers."""
+    said = variants((mode, row["name"], row["doc"]) for mode, row in rows.items() if "name" in row)
+    arms = [f"            {mode} => Some({name}::{variant})," for mode, variant in named(rows)]
+    return KIND.replace("KIND", name).replace("NUMBER", number).replace("VARIANTS", "\n".join(said)).replace("ARMS", "\n".join(arms))
+
+
+def numbers(function, module, rows):
+    return "\n".join(f"{function} {module}.{name} = {number}" for number, name in named(rows))
+
+
+def in_turn(module, rows):
+    """A list of all variants."""
+    first, *others = [f"{module}.{name}" for _, name in named(rows)]
+    return "\n".join([f"    {first}", *(f"    ∷ {name}" for name in others), "    ∷ []"])
+
+
+def specs(private, terminal):
+    parts = {
+        "DEC_NUMBERS": numbers("dec_mode_number", "dec", private), "DEC_CODES": in_turn("dec", private),
+        "TERMINAL_NUMBERS": numbers("terminal_mode_number", "terminal", terminal), "TERMINAL_CODES": in_turn("terminal", terminal),
+    }
+    text = ANTT
+    for name, part in parts.items():
+        text = text.replace(f"\n{name}\n", f"\n{part}\n")
+    return text
+
+
+def words(said, name, rows, column):
+    return "\n" + array(said, name, "(i64, &str)", [pair(number, string(row[column])) for number, row in rows.items() if column in row])
+
+
+PAGE = """\
+# Modes
+
+What explain calls each mode, and the variant of `DecPrivateModeCode` or `TerminalModeCode` where it has one. A mode without one is `Unspecified`.
+
+## Private modes
+
+`CSI ? number h` sets one, and `CSI ? number l` resets it.
+
+PRIVATE
+## Modes of the standard
+
+`CSI number h` sets one, and `CSI number l` resets it.
+
+TERMINAL"""
+
+
+def page_rows(rows):
+    return page_table(["number", "name", "words", "source"], [[number, row.get("name", ""), row["words"], row["source"]] for number, row in rows.items()])
+
+
+def page(private, terminal):
+    return PAGE.replace("PRIVATE\n", page_rows(private) + "\n").replace("TERMINAL", page_rows(terminal))
+
+
+def check(rows):
+    for kind in rows.values():
+        check_once(TABLE, kind, "name")
+        check_columns(TABLE, {number: row for number, row in kind.items() if "name" in row}, ("name", "words", "source", "says", "doc"), ("set", "reset"))
+        check_columns(TABLE, {number: row for number, row in kind.items() if "name" not in row}, ("words", "source", "says"), ("set", "reset"))
+
+
+def files(rows):
+    check(rows)
+    private, terminal = rows["private"], rows["terminal"]
+    names = first_line(TABLE) + RUST + kind("DecPrivateModeCode", "dec_mode_number", private) + TERMINAL + kind("TerminalModeCode", "terminal_mode_number", terminal)
+    said = first_line(TABLE) + "//! What modes are called, by their numbers.\n"
+    said += words("Private modes, of DEC and of other terminals.", "PRIVATE", private, "words")
+    said += words("What is set of private modes whose states are more than on and off.", "SET", private, "set")
+    said += words("What is reset of them.", "RESET", private, "reset")
+    said += words("Modes of ECMA-48, and those that others have among them.", "TERMINAL", terminal, "words")
+    return {
+        "crates/csicodec_names/src/modes.rt": names,
+        "crates/csicodec_names/specs/ModeNumbers.antt": first_line(TABLE, "--") + specs(private, terminal),
+        "crates/csicodec_words/src/mode_words.rt": said,
+        "docs/MODES.md": page_line(TABLE) + page(private, terminal),
+    }

@@ -1,0 +1,196 @@
+"""The commands of OSC: their numbers and forms in csicodec_osc, their words in csicodec_strings."""
+import re
+import sys
+
+from read import first_line
+
+TABLE = "osc.toml"
+# What stands in a table beside its rows.
+OF_WORDS = ("ahead", "form", "source")
+OF_TABLE = ("doc", "command", "resets", "further", "source", "form")
+FORMS = ("OneText", "Message", "Several", "TwoTexts", "TextAsked")
+# So wide may be what stands in brackets on a line, as `rt fmt` has it.
+WIDTH = 60
+ALONE = ("Bare", "OneText", "Several", "Value", "Rest", "Whole")
+
+
+def snake(name):
+    return re.sub(r"(?<!^)(?=[A-Z])", "_", name).lower()
+
+
+def literal(text):
+    return '"' + text.replace("\\", "\\\\").replace('"', '\\"') + '"'
+
+
+class Group:
+    """An enumeration: its variants, each with what it begins with."""
+
+    def __init__(self, name, table):
+        self.name, self.snake = name, snake(name)
+        self.doc, self.command, self.form = table["doc"], table["command"], table["form"]
+        source = {"source": table["source"]} if "source" in table else {}
+        self.resets, self.further = table.get("resets"), table.get("further", False)
+        self.rows = {row: {**source, **of} for row, of in table.items() if row not in OF_TABLE}
+
+    def commands(self):
+        """The constructors over its variants, each with the column of what they begin with and the function that says it."""
+        yield self.command, "begins", "number"
+        if self.resets:
+            yield self.resets, "resets", "reset_number"
+
+    def spec(self, function):
+        return f"{self.snake}_{function}"
+
+
+def alone_of(tables):
+    """The rows of words alone, by what a content begins with: its form, words and source."""
+    rows = {}
+    for table in tables["words"].values():
+        common = {column: table[column] for column in OF_WORDS if column in table}
+        ahead = common.pop("ahead", "")
+        for begins, of in table.items():
+            if begins not in OF_WORDS:
+                rows[ahead + begins] = {**common, **(of if isinstance(of, dict) else {"words": of})}
+    return rows
+
+
+def row_faults(name, of, wanted, may, forms):
+    """What a row lacks, or has too much."""
+    if lacks := wanted - of.keys():
+        yield f"{name}: no {', '.join(sorted(lacks))}"
+    if more := of.keys() - wanted - may:
+        yield f"{name}: nothing reads {', '.join(sorted(more))}"
+    if of.get("form", forms[0]) not in forms:
+        yield f"{name}: there is no form {of['form']}"
+
+
+def faults(groups, single, alone):
+    for group in groups:
+        if group.form not in FORMS:
+            yield f"[{group.name}]: there is no form {group.form}"
+        for row, of in group.rows.items():
+            yield from row_faults(f"[{group.name}] {row}", of, {"begins", "doc", "source", *(["resets"] if group.resets else [])}, {"words"}, FORMS)
+    for row, of in single.items():
+        yield from row_faults(f"[Command] {row}", of, {"begins", "form", "source"}, {"words"}, FORMS)
+    for row, of in alone.items():
+        yield from row_faults(f"[words] {row}", of, {"form", "words", "source"}, set(), ALONE)
+    begins = [of[column] for rows in [*(group.rows for group in groups), single] for of in rows.values() for column in ("begins", "resets") if column in of]
+    yield from (f"two commands begin with {text}" for text in sorted({text for text in begins if begins.count(text) > 1}))
+    order = list(alone)
+    yield from (f"[words] {late} is behind {early}, which fits first" for at, late in enumerate(order) for early in order[:at] if late.startswith(early + ";"))
+
+
+def enumeration(group):
+    """Its type, and what its variants begin with."""
+    lines = [f"/// {group.doc}", "#[derive(Clone, Copy, Debug, PartialEq, Eq)]", f"pub enum {group.name} {{"]
+    for variant, row in group.rows.items():
+        lines += [f"    /// {row['doc']}", f"    {variant},"]
+    lines += ["}", "", f"impl {group.name} {{"]
+    for _, column, function in group.commands():
+        again = " that sets it back" if column == "resets" else ""
+        lines += [f"    /// What a command begins with{again}.", f"    pub(crate) fn {function}(self) -> &'static [u8]",
+                  f"        ensures {{ result.now ≡ {group.spec(function)} self }}", "    {", "        match self {"]
+        lines += [f'            {group.name}::{variant} => b"{row[column]}",' for variant, row in group.rows.items()]
+        lines += ["        }", "    }", ""]
+    return lines[:-1] + ["}", ""]
+
+
+def command_rt(groups, single):
+    """src/command.rt of csicodec_osc."""
+    specs = sorted(group.spec(function) for group in groups for _, _, function in group.commands())
+    lines = ["//! Commands: what each begins with.", "ghost use Rattle.std.specs.Prelude.{◌≡◌};",
+             f"ghost use Rattle.csicodec_osc.specs.Commands.{{{', '.join(sorted([*specs, 'number']))}}};", ""]
+    for group in groups:
+        lines += enumeration(group)
+    lines += ["/// A command, without what stands behind its number.", "#[derive(Clone, Copy)]", "pub(crate) enum Command {"]
+    lines += [f"    {command}({group.name})," for group in groups for command, _, _ in group.commands()]
+    lines += [f"    {name}," for name in single]
+    lines += ["}", "", "impl Command {", "    /// What it begins with.", "    pub(crate) fn number(self) -> &'static [u8]",
+              "        ensures { result.now ≡ number self }", "    {", "        match self {"]
+    lines += [f"            Command::{command}({group.snake}) => {group.snake}.{function}()," for group in groups for command, _, function in group.commands()]
+    lines += [f'            Command::{name} => b"{row["begins"]}",' for name, row in single.items()]
+    all_of = [f"Command::{command}({group.name}::{variant})" for group in groups for command, _, _ in group.commands() for variant in group.rows]
+    all_of += [f"Command::{name}" for name in single]
+    lines += ["        }", "    }", "}", "", "/// How many commands there are.", f"pub(crate) const COUNT: usize = {len(all_of)};", "",
+              "/// All of them. The last one has the number that others go on with, and so is tried when none of them is meant.",
+              "pub(crate) static COMMANDS: [Command; COUNT] = [", *(f"    {command}," for command in all_of), "];"]
+    return "\n".join(lines) + "\n"
+
+
+def commands_antt(groups, single):
+    """specs/Commands.antt of csicodec_osc."""
+    declared = "use Rattle.csicodec_osc.specs.declared.command"
+    lines = ["-- The commands: the number of each, and the form of what stands behind it, each with its document.",
+             "use Rattle.std.specs.Prelude.{ℕ, List, codes}", "use Rattle.csicodec_osc.specs.Forms.{Form, OneText, Message, Several, TwoTexts, TextAsked}"]
+    for name, word in [("Command", "command"), *((group.name, group.snake) for group in groups)]:
+        lines += [f"{declared}.{name}.{{{name}}}", f"{declared}.{name}.TheVariants as {word}"]
+    for group in groups:
+        for _, column, function in group.commands():
+            spec = group.spec(function)
+            lines += ["", f"abbrev pub {spec} : {group.name} → List ℕ"]
+            lines += [f'{spec} {group.snake}.{variant} = codes "{row[column]}"  -- {row["source"]}' for variant, row in group.rows.items()]
+    lines += ["", "-- What a command begins with: its number, and a letter, a word or a further number where it has one.", "abbrev pub number : Command → List ℕ"]
+    lines += [f"number (command.{command} v) = {group.spec(function)} v" for group in groups for command, _, function in group.commands()]
+    lines += [f'number command.{name} = codes "{row["begins"]}"  -- {row["source"]}' for name, row in single.items()]
+    lines += ["", "-- The form of what stands behind it.", "abbrev pub form : Command → Form"]
+    lines += [f"form (command.{command} v) = {group.form}" for group in groups for command, _, _ in group.commands()]
+    lines += [f"form command.{name} = {row['form']}" for name, row in single.items()]
+    return "\n".join(lines) + "\n"
+
+
+def places_antt(groups):
+    """proofs/Places.antt of csicodec_osc: where a command lies in the list of all, by computing it of each."""
+    declared = "use Rattle.csicodec_osc.specs.declared.command"
+    lines = ["-- Each command is in the table.", "use Rattle.std.proofs.Common.{◌≡◌, ℕ, suc, List, [], ◌∷◌, Some, refl}",
+             "use Rattle.std.specs.Prelude.{slice_get, if◌then◌else◌}", "use Rattle.std.specs.Str.{bytes_eq}",
+             f"{declared}.Command.{{Command}}", f"{declared}.Command.TheVariants as command"]
+    lines += [f"{declared}.{group.name}.TheVariants as {group.snake}" for group in groups]
+    lines += [f"{declared}.TheConstants.{{COMMANDS}}", "use Rattle.csicodec_osc.specs.Commands.{number}", "",
+              "abbrev pub place_in : List Command → List ℕ → ℕ", "place_in [] n = 0",
+              "place_in (k ∷ commands) n = if bytes_eq (number k) n then 0 else suc (place_in commands n)", "",
+              "pub lies-at : (k : Command) → slice_get COMMANDS (place_in COMMANDS (number k)) ≡ Some k"]
+    lines += [f"lies-at (command.{command} {group.snake}.{next(iter(group.rows))}) = refl" for group in groups for command, _, _ in group.commands()]
+    return "\n".join([*lines, "lies-at _ = refl"]) + "\n"
+
+
+def words_rt(groups, single, alone):
+    """src/osc_words.rt of csicodec_strings."""
+    worded = [group for group in groups if all("words" in row for row in group.rows.values())]
+    lines = ["//! Words of the commands of OSC.", "", f"use csicodec_osc::{{{', '.join(sorted(group.name for group in worded if not group.further))}}};", ""]
+    for group in worded:
+        if group.further:
+            lines += ["/// By their place among the others.", f"pub static {group.snake.upper()}: [&str; {len(group.rows)}] = ["]
+            lines += [*(f"    {literal(row['words'])}," for row in group.rows.values()), "];", ""]
+            continue
+        lines += [f"pub fn {group.snake}_words({group.snake}: {group.name}) -> &'static str {{", f"    match {group.snake} {{"]
+        lines += [f"        {group.name}::{variant} => {literal(row['words'])}," for variant, row in group.rows.items()]
+        lines += ["    }", "}", ""]
+    for name, row in single.items():
+        if "words" in row:
+            lines += [f"pub const {snake(name).upper()}: &str = {literal(row['words'])};", ""]
+    lines += ["/// What stands behind the front of a content that has words alone.", "#[derive(Clone, Copy, PartialEq, Eq)]", "pub enum Behind {",
+              "    /// Nothing.", "    Bare,", "    /// `;` and a text.", "    OneText,", "    /// Nothing, or `;` and a text.", "    Several,",
+              "    /// Nothing, or `=` and a text.", "    Value,", "    /// A text at once.", "    Rest,",
+              "    /// A text at once, which is all that is behind the number.", "    Whole,", "}", "",
+              "/// What a content begins with that has words alone, what stands behind that, and the words. The first that fits is told.",
+              f"pub static ALONE: [(&[u8], Behind, &str); {len(alone)}] = ["]
+    for begins, row in alone.items():
+        cells = [f"b{literal(begins)}", f"Behind::{row['form']}", literal(row["words"])]
+        one = ", ".join(cells)
+        lines += [f"    ({one}),"] if len(one) <= WIDTH else ["    (", *(f"        {cell}," for cell in cells), "    ),"]
+    return "\n".join([*lines, "];"]) + "\n"
+
+
+def files(tables):
+    groups = [Group(name, table) for name, table in tables.items() if name not in ("Command", "words")]
+    single, alone = tables["Command"], alone_of(tables)
+    wrong = list(faults(groups, single, alone))
+    if wrong:
+        sys.exit("\n".join(f"table/{TABLE}: {fault}" for fault in wrong))
+    rust, antt = first_line(TABLE), first_line(TABLE, "--")
+    return {
+        "crates/csicodec_osc/src/command.rt": rust + command_rt(groups, single),
+        "crates/csicodec_osc/specs/Commands.antt": antt + commands_antt(groups, single),
+        "crates/csicodec_osc/proofs/Places.antt": antt + places_antt(groups),
+        "crates/csicodec_strings/src/osc_words.rt": rust + words_rt(groups, single, alone),
+    }

@@ -1,0 +1,149 @@
+"""What follows from table/sequences.toml: the rows of csicodec_sequences, and docs/SEQUENCES.md."""
+import json
+import sys
+from dataclasses import dataclass
+
+from forms import Form, form_of
+from read import first_line
+from templates import by_number
+
+TABLE = "sequences.toml"
+COLUMNS = {"name", "form", "means", "source"}
+
+
+@dataclass(frozen=True)
+class Row:
+    """A row: its number, its name and form, what it means, its words by number, and its source."""
+    kind: int
+    name: str
+    form: Form
+    means: str
+    words: tuple
+    source: str
+
+
+def row_of(kind, row, lists):
+    """A row, unless a column of it lacks or isn't what it should be."""
+    try:
+        if not kind.isdigit() or COLUMNS - row.keys():
+            raise ValueError(f"it lacks {', '.join(sorted(COLUMNS - row.keys())) or 'a number'}")
+        own = {name: words for name, words in row.items() if name not in COLUMNS | {"words", "shown"}}
+        unread = [name for name in own if f"@{name}}}" not in str(row.get("words"))]
+        if unread:
+            raise ValueError(f"what nothing reads: {', '.join(unread)}")
+        form = form_of(row["form"])
+        words = by_number(row, form, {**lists, **own})
+        return Row(int(kind), row["name"], form, row["means"], words, row["source"])
+    except ValueError as error:
+        sys.exit(f"table: table/{TABLE}, [{kind}]: {error}")
+
+
+def all_rows(table):
+    """The rows, in order."""
+    lists = table.get("words", {})
+    return [row_of(kind, row, lists) for kind, row in table.items() if kind not in ("words", "gone")]
+
+
+# The files of rows: the first row of each, what its constants begin with, and what it says of itself.
+PARTS = {
+    "dec": (10001, "DEC", "Functions of DEC's terminals."),
+    "others": (10071, "OTHER", "Functions of ECMA-48, of xterm and kitty, and of the Linux console."),
+    "reports": (10172, "REPORT", "What terminals are asked for, what they answer, and what keyboards, mice and pastes send."),
+}
+SECTIONS = {
+    10071: "The functions of ECMA-48 that have no action.",
+    10136: "Functions of xterm, of kitty, of mintty and of the Linux console.",
+    10172: "What a terminal is asked for.",
+    10196: "What a terminal answers.",
+    10228: "What keyboards, mice and what is pasted send.",
+}
+ARRAYS = (
+    ("FORMS", "Form", "form", "The form of each row."),
+    ("SLOTS", "[Slot; MOST]", "numbers", "The slots of each row, at the same place."),
+    ("NAMES", "&str", "name", "The name of each row, at the same place."),
+    ("MEANINGS", "&str", "meaning", "What each row means, at the same place."),
+    ("SOURCES", "&str", "source", "The source of each row, at the same place."),
+    ("NUMBERS", "&str", "names", "The names of the numbers of each row, at the same place, a `;` behind each."),
+)
+
+
+def char(text):
+    return "'" + text.replace("\\", "\\\\").replace("'", "\\'") + "'"
+
+
+def byte(text):
+    return f"b{char(text)}" if text else "0"
+
+
+def quoted(text):
+    return json.dumps(text, ensure_ascii=False)
+
+
+def slot_text(slot):
+    kind = "further" if slot.further else "needed" if slot.missing is None else "number"
+    return f"{kind}!({quoted(slot.name)}, {slot.first}, {slot.last}{'' if slot.missing is None else f', {slot.missing}'})"
+
+
+def slot_pieces(slots):
+    """The numbers of a row as they stand there: the last one behind a `;` where it may stand there again."""
+    pieces = [slot_text(slot) for slot in slots] or [""]
+    if slots and slots[-1].further:
+        pieces[-2:] = ["; ".join(pieces[-2:])] if len(pieces) > 1 else ["; " + pieces[0]]
+    return [f"{'[' if place == 0 else ''}{piece}{']' if place == len(pieces) - 1 else ''}," for place, piece in enumerate(pieces)]
+
+
+def row_text(row):
+    """A row in lines of up to 100 columns, but for a first one of up to 107."""
+    form = row.form
+    pieces = [f"{row.kind},", f"{quoted(row.name)},", f"{byte(form.marker)},", *slot_pieces(form.slots), f"{byte(form.between)},", f"{char(form.final)},", f"{quoted(row.means)},", f"{quoted(row.source)} }},"]
+    lines = ["            $row! {"]
+    for piece in pieces:
+        if len(lines[-1]) + 1 + len(piece) > (107 if len(lines) == 1 else 100):
+            lines.append(" " * 15)
+        lines[-1] += " " + piece
+    section = f"\n            // {SECTIONS[row.kind]}\n" if row.kind in SECTIONS else ""
+    return section + "\n".join(lines) + "\n"
+
+
+def rows_text(rows, start, about):
+    head = f"""{first_line(TABLE)}//! {about}
+
+use crate::row::{{Form, MOST, Slot}};
+use crate::rows::END;
+
+/// The rows, of each of which a macro makes its part.
+macro_rules! rows {{
+    ($row:ident) => {{
+        [
+"""
+    arrays = "".join(f"\n/// {said}\npub static {start}_{name}: [{kind}; {len(rows)}] = rows!({part});\n" for name, kind, part, said in ARRAYS)
+    return head + "".join(map(row_text, rows)).removeprefix("\n") + "        ]\n    };\n}\n" + arrays
+
+
+def parts(rows):
+    """The rows of each file."""
+    starts = [*(first for first, _, _ in PARTS.values()), None]
+    places = [next((place for place, row in enumerate(rows) if row.kind == first), None) for first in starts]
+    return {name: rows[places[at]:places[at + 1]] for at, name in enumerate(PARTS)}
+
+
+PAGE = """# Control sequences without an action
+
+What `Known` of csicodec_sequences reads, written by `tools/table` from `table/sequences.toml`: the name, what stands behind `CSI`, the meaning and the source. `..` is a number that may follow again, up to 12 in all.
+
+Not among them: kitty's keys with parts behind colons, or with text; modes from 65536 on, whose lists are cut into pieces. SLS is read only as a whole list: a parser cuts it, as it begins like SM.
+
+| name | form | meaning | source |
+|---|---|---|---|
+"""
+
+
+def page(rows):
+    lines = (" | ".join(part.replace("|", "\\|") for part in (row.name, f"`` {row.form.shown()} ``", row.means, row.source)) for row in rows)
+    return PAGE + "".join(f"| {line} |\n" for line in lines)
+
+
+def files(table):
+    rows = all_rows(table)
+    texts = {f"crates/csicodec_sequences/src/rows/{name}.rt": rows_text(some, *PARTS[name][1:]) for name, some in parts(rows).items()}
+    return {**texts, "docs/SEQUENCES.md": page(rows)}

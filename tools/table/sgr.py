@@ -1,0 +1,297 @@
+"""table/sgr.toml: what numbers before `m` set. The rows become the enumeration SgrCode with its numbers, the arrays by which attributes are read
+and written, and their words."""
+import os
+import re
+import sys
+
+from faults import check_columns, check_once, refuse
+from layout import arm, array, comment, page_line, page_table, pair, string, variants
+from read import TOP, first_line
+
+sys.path.insert(0, os.path.join(TOP, "tools"))
+from kinds_table import GROUPS, NUMBERED  # noqa: E402
+
+TABLE = "sgr.toml"
+
+CODES = """\
+//! The numbers by which attributes of text are set (SGR).
+
+SAID
+#[derive(Clone, Copy, PartialEq, Eq, Debug)]
+pub enum SgrCode {
+VARIANTS
+}
+
+"""
+
+NUMBERS = """\
+-- The codes of attributes (SGR; ECMA-48, 8.3.117): the number of each.
+use Rattle.std.specs.Prelude.{ℕ, List, [], ◌∷◌}
+use Rattle.csicodec_names.specs.declared.codes.SgrCode.{SgrCode}
+use Rattle.csicodec_names.specs.declared.codes.SgrCode.TheVariants as code
+
+-- the number of each code, a line for each variant
+abbrev pub number_of : SgrCode → ℕ
+ROWS
+
+-- all codes: the list must be complete, a line for each variant
+abbrev pub all_codes : List SgrCode
+all_codes =
+LIST
+    []
+"""
+
+ENTRIES = """\
+//! What each number before `m` sets alone, and the text that sets it.
+
+use crate::sgr::{Font, Sgr};
+use csicodec_names::{TYPES};
+
+/// What a number sets alone: the attribute, none where it sets none or can have further tokens; its text, ESC and `[` ahead of it; and how
+/// long that is, 0 where there is none.
+#[derive(Clone, Copy)]
+pub(crate) struct Entry {
+    pub attribute: Option<Sgr>,
+    pub text: [u8; 8],
+    pub len: u8,
+}
+
+macro_rules! entry {
+    ($attribute:expr, $text:expr, $len:literal) => {
+        Entry { attribute: $attribute, text: $text, len: $len }
+    };
+}
+
+"""
+
+ATTRIBUTES = """\
+-- The attributes that codes set (SGR; ECMA-48, 8.3.117).
+use Rattle.std.specs.Prelude.{Option, Some, None, true, false}
+use Rattle.csicodec_names.specs.declared.codes.SgrCode.{SgrCode}
+use Rattle.csicodec_names.specs.declared.codes.SgrCode.TheVariants as code
+use Rattle.csicodec_base.specs.declared.sgr.Sgr.{Sgr}
+use Rattle.csicodec_base.specs.declared.sgr.Sgr.TheVariants as sgr
+use Rattle.csicodec_names.specs.declared.color.Intensity.TheVariants as intensity
+use Rattle.csicodec_names.specs.declared.color.Underline.TheVariants as underline
+use Rattle.csicodec_names.specs.declared.color.Blink.TheVariants as blink
+use Rattle.csicodec_names.specs.declared.color.VerticalAlign.TheVariants as align
+use Rattle.csicodec_base.specs.declared.sgr.Font.TheVariants as font
+use Rattle.csicodec_names.specs.declared.color.ColorSpec.TheVariants as color
+
+-- the attribute that each code sets alone, a line for each variant; none for FURTHER, which can have further tokens or need them
+abbrev pub action_of : SgrCode → Option Sgr
+ROWS
+"""
+
+ALONE = """\
+//! What numbers before `m` set alone, as structs have it.
+
+/// What a number sets alone: the kind of its struct (`enum csicodec_kind`), 0 where it sets nothing, and the two numbers of that.
+#[derive(Clone, Copy)]
+pub(crate) struct Alone(pub u8, pub u8, pub u8);
+
+"""
+
+WORDS = """\
+//! What attributes of text are called.
+
+use crate::sgr::Words;
+use csicodec_base::{TYPES};
+
+/// What an attribute is called.
+pub(crate) fn words_of_attribute(attribute: &Sgr) -> Words<'_> {
+    match attribute {
+ARMS
+    }
+}
+
+"""
+
+ALIASES = {"Intensity": "intensity", "Underline": "underline", "Blink": "blink", "VerticalAlign": "align", "Font": "font", "ColorSpec": "color"}
+
+
+class Attribute:
+    """What a row sets, as each of the written files says it: `Variant`, `Variant(value)` or `Variant(value(number))`."""
+
+    def __init__(self, table, key, sets):
+        parts = re.fullmatch(r"(\w+)(?:\((\w+)(?:\((\d+)\))?\))?", sets)
+        if not parts or parts[1] not in table["attribute"]:
+            refuse(TABLE, key, f"there is no attribute {sets}")
+        self.sets = sets
+        self.variant, self.value, number = parts.groups()
+        self.number = number and int(number)
+        self.holds = table["attribute"][self.variant].get("holds")
+        self.ahead = table["attribute"][self.variant].get("words") if self.holds == "ColorSpec" or number else None
+        values = {None: {None}, "bool": {"true", "false"}, "ColorSpec": {"Default", "PaletteIndex"}, "Font": {"Default", "Alternate"}}
+        bounds = {"PaletteIndex": range(len(table["colors"])), "Alternate": range(1, 10)}
+        if self.value not in (values.get(self.holds) or NUMBERED.get(self.holds, ())) or self.number not in bounds.get(self.value, [None]):
+            refuse(TABLE, key, f"there is no attribute {sets}")
+
+    def rust(self):
+        return "Sgr::" + (self.sets if self.holds in (None, "bool") else self.sets.replace("(", f"({self.holds}::", 1))
+
+    def antt(self):
+        if not self.value:
+            return f"sgr.{self.variant}"
+        value = f"{ALIASES[self.holds]}.{self.value}" if self.holds in ALIASES else self.value
+        return f"(sgr.{self.variant} {value})" if self.number is None else f"(sgr.{self.variant} ({value} {self.number}))"
+
+    def struct(self):
+        """The kind of its struct and the two numbers of that."""
+        kind = {name: kind for name, kind, *_ in dict(GROUPS)["Sgr"]}[self.variant]
+        values = NUMBERED.get(self.holds, {None: 0, "true": 1, "false": 0, "Default": 0, "PaletteIndex": 1, "Alternate": self.number})
+        return kind, values[self.value], self.number if self.value == "PaletteIndex" else 0
+
+
+class Table:
+    """The rows, and what is found in them."""
+
+    def __init__(self, rows):
+        self.code = {int(number): row for number, row in sorted(rows["code"].items(), key=lambda item: int(item[0]))}
+        self.named = {number: row for number, row in self.code.items() if "name" in row}
+        self.sets = {number: Attribute(rows, number, row["sets"]) for number, row in self.named.items() if "sets" in row}
+        self.alone = {number: it for number, it in self.sets.items() if "further" not in self.code[number]}
+        self.further = {key: Attribute(rows, key, row["sets"]) for key, row in rows["further"].items()}
+        self.places = range(max(self.named) + 1)
+        self.rows = rows
+
+    def written(self, number):
+        """The number that the attribute of this one is written by."""
+        same = [other for other, it in self.sets.items() if it.sets == self.sets[number].sets and not self.code[other].get("also")]
+        if len(same) != 1:
+            refuse(TABLE, number, f"{len(same)} rows are the one that {self.code[number]['sets']} is written by, all others have `also = true`")
+        return same[0]
+
+    def check(self):
+        for number, row in self.code.items():
+            needed = ["source"] if "name" in row and "sets" not in row else ["source", "says"]
+            check_columns(TABLE, {number: row}, needed, ("name", "sets", "further", "also", "words", "says", "doc"))
+            elsewhere = row.get("also") or number in self.sets and self.sets[number].ahead
+            if "says" in needed and bool(row.get("words")) == bool(elsewhere):
+                refuse(TABLE, number, "its words stand elsewhere" if elsewhere else "it has no words")
+            if "name" in row and "sets" not in row and "further" not in row:
+                refuse(TABLE, number, "it has a name and sets nothing")
+            if number in self.sets:
+                self.written(number)
+        check_once(TABLE, self.code, "name")
+        check_columns(TABLE, self.rows["further"], ("sets", "words", "source", "says"), ())
+        check_columns(TABLE, self.rows["attribute"], (), ("holds", "words"))
+
+
+def codes(table):
+    said = f'A number that `CSI .. m` (SGR, "select graphic rendition") has a meaning for: one of {len(table.named)} from 0 to {table.places[-1]}. '
+    said += "Those whose comment names no other document are from ECMA-48, 8.3.117."
+    enumeration = CODES.replace("SAID", "\n".join(comment(said)))
+    enumeration = enumeration.replace("VARIANTS", "\n".join(variants((number, row["name"], row.get("doc", "")) for number, row in table.named.items())))
+    places = [[f"    Some(SgrCode::{table.named[place]['name']})," if place in table.named else "    None,"] for place in table.places]
+    return enumeration + array(f"The code of each number from 0 to {table.places[-1]}, a place for each, so that finding it is one look.", "CODES", "Option<SgrCode>", places)
+
+
+def numbers(table):
+    rows = "\n".join(f"number_of code.{row['name']} = {number}" for number, row in table.named.items())
+    return NUMBERS.replace("ROWS", rows).replace("LIST", "\n".join(f"    code.{row['name']} ∷" for row in table.named.values()))
+
+
+def text(table, number):
+    """What is written, ESC and `[` ahead."""
+    return ["0x1b", "b'['", *(f"b'{digit}'" for digit in str(table.written(number))), "b'm'"] if number in table.alone else []
+
+
+def entry(table, place):
+    """In braces `rt fmt` leaves a row on its line."""
+    attribute = f"Some({table.alone[place].rust()})" if place in table.alone else "None"
+    written = text(table, place)
+    return [f"    entry! {{ {attribute}, [{', '.join(written + ['0'] * (8 - len(written)))}], {len(written)} }},"]
+
+
+def types(attributes):
+    """The types of what attributes hold, but for fonts."""
+    return {it.holds for it in attributes} - {None, "bool", "Font"}
+
+
+def entries(table):
+    rows = [entry(table, place) for place in table.places]
+    head = ENTRIES.replace("TYPES", ", ".join(sorted(types(table.alone.values()))))
+    return head + array(f"Each number from 0 to {table.places[-1]}, a place for each.", "ENTRIES", "Entry", rows)
+
+
+def attributes(table):
+    rows = [f"action_of code.{row['name']} = " + (f"Some {table.alone[number].antt()}" if number in table.alone else "None") for number, row in table.named.items()]
+    *first, last = [str(number) for number in table.named if number not in table.alone]
+    return ATTRIBUTES.replace("ROWS", "\n".join(rows)).replace("FURTHER", f"{', '.join(first)} and {last}")
+
+
+def alone(table):
+    rows = [["    Alone(%d, %d, %d)," % (table.sets[place].struct() if place in table.sets else (0, 0, 0))] for place in table.places]
+    return ALONE + array(f"What each number from 0 to {table.places[-1]} sets, where no `:` is behind it.", "STYLES", "Alone", rows)
+
+
+def arms(table):
+    """An arm for each attribute, and for each value of one that has words of its own."""
+    said = {}
+    for key, attribute in (*table.sets.items(), *table.further.items()):
+        row = table.code.get(key) or table.rows["further"][key]
+        if attribute.ahead and attribute.holds == "ColorSpec":
+            said[f"Sgr::{attribute.variant}(color)"] = "Words::Color", string(attribute.ahead), "color"
+        elif attribute.ahead:
+            said[f"Sgr::{attribute.variant}(Font::{attribute.value}(number))"] = "Words::Number", string(attribute.ahead), "*number"
+        elif not row.get("also"):
+            said[attribute.rust()] = "Words::Alone", string(row["words"])
+    return [line for pattern, words in said.items() for line in arm(pattern, *words)]
+
+
+def words(table):
+    used = sorted(types((*table.sets.values(), *table.further.values())) - {"ColorSpec"} | {"Font", "Sgr"})
+    names = [[f"    {string(color)},"] for color in table.rows["colors"]]
+    said = "The first 16 of the palette: the names of ECMA-48 for the first 8, and `bright` ahead for the next."
+    return WORDS.replace("TYPES", ", ".join(used)).replace("ARMS", "\n".join(arms(table))) + array(said, "COLORS", "&str", names)
+
+
+PAGE = """\
+# Attributes of text
+
+What each number before `m` sets (SGR), and the variant of `SgrCode` where it has one. A number without one is read by no action.
+
+NUMBERS"""
+
+
+def sets(table, number):
+    """What a number sets, as a page says it."""
+    row = table.code[number]
+    further = {None: "", "underline": ", or by the number behind a colon"}
+    return row.get("sets", "") + further.get(row.get("further"), f"{row.get('further')} of the colour behind it")
+
+
+def said(table, number):
+    """What explain says of it."""
+    row = table.code[table.written(number) if number in table.sets else number]
+    if row.get("words"):
+        return row["words"]
+    if number not in table.sets:
+        return f"{table.rows['attribute'][row['further']]['words']} .."
+    attribute = table.sets[number]
+    value = {"Default": "default", "PaletteIndex": table.rows["colors"][attribute.number or 0]}.get(attribute.value, attribute.number)
+    return f"{attribute.ahead} {value}"
+
+
+def page(table):
+    rows = [[str(number), row.get("name", ""), sets(table, number), said(table, number), row["source"]] for number, row in table.code.items()]
+    return PAGE.replace("NUMBERS", page_table(["number", "name", "sets", "words", "source"], rows))
+
+
+def unread(table):
+    rows = [pair(str(number), string(f"SGR  {row['words']}")) for number, row in table.code.items() if "name" not in row]
+    said = array("Attributes that the codec has no code for, each alone.", "UNREAD", "(i64, &str)", rows)
+    return "//! Attributes of text that no action sets, in words.\n\n" + said
+
+
+def files(rows):
+    table = Table(rows)
+    table.check()
+    written = {
+        "csicodec_names/src/codes.rt": codes, "csicodec_names/specs/Numbers.antt": numbers,
+        "csicodec_base/src/entries.rt": entries, "csicodec_base/specs/Attributes.antt": attributes,
+        "csicodec_front/src/by_number.rt": alone, "csicodec_words/src/sgr_words.rt": words, "csicodec_readings/src/sgr_rows.rt": unread,
+    }
+    texts = {f"crates/{path}": first_line(TABLE, "--" if path.endswith(".antt") else "//") + of(table) for path, of in written.items()}
+    return texts | {"docs/SGR.md": page_line(TABLE) + page(table)}

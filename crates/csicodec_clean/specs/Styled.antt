@@ -5,6 +5,7 @@ use Rattle.std.specs.Char.{IsScalar}
 use Rattle.bstr.specs.Utf8.{lossy_chars}
 use Rattle.csicodec_tokens.specs.declared.param.CsiParam.{CsiParam}
 use Rattle.csicodec_tokens.specs.Sequence.{Seq}
+use Rattle.csicodec_base.specs.declared.sgr.Font.TheVariants as font
 use Rattle.csicodec_base.specs.declared.sgr.Sgr.{Sgr}
 use Rattle.csicodec_base.specs.declared.sgr.Sgr.TheVariants as sgr
 use Rattle.csicodec_actions.specs.Actions.{Action}
@@ -25,9 +26,11 @@ use Rattle.csicodec_clean.specs.declared.styles.Passing.{Passing}
 use Rattle.csicodec_clean.specs.Links.{Address, Begun, IsLink, all_behind, is_linked, link_text, link_texts, links_at, links_in, next, no_address, start}
 use Rattle.csicodec_clean.specs.Cleaned.{RuleOf, EndOf, longest}
 
--- the style hides what follows
+-- the style hides what follows, or shows it in another font: on Linux' console two of the fonts change how each later byte is shown, and
+-- a reset leaves that (console_codes(4))
 abbrev pub hides : Sgr → Bool
 hides (sgr.Invisible on) = on
+hides (sgr.Font (font.Alternate n)) = true
 hides s = false
 
 abbrev pub is_reset : Sgr → Bool

@@ -13,16 +13,16 @@ use crate::notes::{Room, StyleNote, append_noted};
 use crate::rule::{Anew, Rule};
 use crate::whole::clean_whole;
 use csicodec::{CSI, encode};
-use csicodec_base::{CsiParam, Sgr};
+use csicodec_base::{CsiParam, Font, Sgr};
 use csicodec_filter::Known;
 use std::alloc::{AllocError, Global};
 use std::marker::Model;
 
-/// Whether the style hides what follows.
+/// Whether the style hides what follows, or shows it in another font.
 fn is_hiding(style: &Sgr) -> bool
     ensures { result ≡ hides style.now }
 {
-    matches!(style, Sgr::Invisible(true))
+    matches!(style, Sgr::Invisible(true) | Sgr::Font(Font::Alternate(_)))
 }
 
 /// Whether the style sets all back.

@@ -1,5 +1,5 @@
 -- The style sheet of a page of its own.
-use Rattle.std.specs.Prelude.{ℕ, ◌≡◌, zero, suc, Bool, true, false, not, ◌||◌, List, [], ◌∷◌, ◌++◌, codes, if◌then◌else◌, Option, Some, None, is_some}
+use Rattle.std.specs.Prelude.{ℕ, ◌≡◌, ◌==◌, zero, suc, Bool, true, false, not, ◌||◌, List, [], ◌∷◌, ◌++◌, codes, if◌then◌else◌, Option, Some, None, is_some}
 use Rattle.std.specs.List.{flat_map}
 use Rattle.csicodec_names.specs.declared.color.ColorSpec.{ColorSpec}
 use Rattle.csicodec_names.specs.declared.color.ColorSpec.TheVariants as color
@@ -137,3 +137,10 @@ said p of own c = declares p (color_class of own c) ++ true_color of c
 -- what stands somewhere in it
 abbrev pub IsIn : List ℕ → List ℕ → Type 0
 IsIn own all = (front behind : List ℕ) × (all ≡ front ++ (own ++ behind))
+
+-- ---- what HTML reads
+
+-- of the text of a `pre`: a newline directly behind its tag is dropped (HTML, 13.2.6.4.7)
+abbrev pub in_pre : List ℕ → List ℕ
+in_pre [] = []
+in_pre (b ∷ bytes) = if b == 10 then bytes else b ∷ bytes

@@ -1,5 +1,5 @@
 //! Laws of the definitions. Each is the contract of a function that does nothing.
-ghost use Rattle.std.specs.Prelude.{◌≡◌, ◌<◌, ◌++◌, ℕ, Bool, List, None, Some, encode_utf8_all, true};
+ghost use Rattle.std.specs.Prelude.{◌≡◌, ◌<◌, ◌++◌, ℕ, Bool, List, None, Some, codes, encode_utf8_all, true};
 ghost use Rattle.std.specs.List.{AllByRecursion, flat_map};
 ghost use Rattle.csicodec_clean.specs.Cleaned.{Strips, longest};
 ghost use Rattle.csicodec_clean.specs.Links.{is_visible};
@@ -11,13 +11,14 @@ ghost use Rattle.csicodec_html.specs.Given.{given_color};
 ghost use Rattle.csicodec_html.specs.Look.{colors, css, has_line, hex_color, slant, weight};
 ghost use Rattle.csicodec_html.specs.Page.{IsHarmless, IsQuoted, PageWith, chars_of, escaped};
 ghost use Rattle.csicodec_html.specs.Palette.{color_at, xterm};
-ghost use Rattle.csicodec_html.specs.Sheet.{IsIn, class_rule, class_rules, color_of_lines, declares, kind_of_lines, line_rule, said};
+ghost use Rattle.csicodec_html.specs.Sheet.{IsIn, class_rule, class_rules, color_of_lines, declares, in_pre, kind_of_lines, line_rule, said};
 ghost use Rattle.csicodec_html.specs.declared.classes.Class.{Class};
 ghost use Rattle.csicodec_html.specs.declared.classes.Class.TheVariants as class;
 ghost use Rattle.csicodec_html.specs.declared.classes.Part.TheVariants as part;
 ghost use Rattle.csicodec_html.specs.declared.look.Look.{Look};
 ghost use Rattle.csicodec_html.specs.declared.markup.Markup.{Markup};
 ghost use Rattle.csicodec_html.specs.declared.palette.Palette.{Palette};
+ghost use Rattle.csicodec_html.specs.declared.sheet.TheConstants.{BODY};
 
 /// The characters of a page are those that the bytes are stripped to: none is lost, and none is added.
 pub fn text_stays()
@@ -73,4 +74,10 @@ pub fn color_back()
 /// The palette that nobody chose has the colours of xterm's places.
 pub fn xterm_colors()
     ensures { (place : ℕ) → color_at xterm place ≡ palette place }
+{}
+
+/// What HTML reads in the `pre` of a page of its own is all of its pieces, with a newline that they begin with.
+pub fn newline_stays()
+    ensures { (page : List ℕ) → (front : List ℕ) × (inside : List ℕ)
+        × (BODY.now ++ page ≡ front ++ (codes "<pre>" ++ inside)) × (in_pre inside ≡ page) }
 {}

@@ -18,6 +18,8 @@ use std::marker::Model;
 #[derive(Drop)]
 pub(crate) struct Page {
     cleaner: Cleaner<Spans>,
+    /// A place that is kept for what a chunk leaves.
+    marked: Vec<u8>,
 }
 
 impl Model for Page {
@@ -34,8 +36,10 @@ impl Page {
     pub(crate) fn new(alloc: Global, markup: Markup) -> Page
         ensures { result ≡ start_of (first_set markup) }
     {
-        let cleaner = Cleaner::new(alloc, Spans::new(alloc, markup));
-        Page { cleaner }
+        Page {
+            cleaner: Cleaner::new(alloc, Spans::new(alloc, markup)),
+            marked: Vec::new(alloc),
+        }
     }
 }
 
@@ -52,9 +56,9 @@ impl Transform for Page {
     ghost ends = { Finishes };
 
     fn take(&mut self, bytes: &[u8], out: &mut Vec<u8>) -> Result<(), AllocError> {
-        let mut marked = Vec::new(*out.allocator());
-        self.cleaner.push(bytes, &mut marked)?;
-        append_page(&marked, out)
+        self.marked.clear();
+        self.cleaner.push(bytes, &mut self.marked)?;
+        append_page(&self.marked, out)
     }
 
     fn pause(&mut self, _out: &mut Vec<u8>) -> Result<(), AllocError> {
@@ -62,9 +66,9 @@ impl Transform for Page {
     }
 
     fn end(&mut self, out: &mut Vec<u8>) -> Result<(), AllocError> {
-        let mut marked = Vec::new(*out.allocator());
-        self.cleaner.finish(&mut marked)?;
-        append_page(&marked, out)
+        self.marked.clear();
+        self.cleaner.finish(&mut self.marked)?;
+        append_page(&self.marked, out)
     }
 }
 

@@ -20,10 +20,12 @@ pub const HEAD: &str = "<!DOCTYPE html>
 <title>csicodec</title>
 ";
 
-/// What stands between that and its pieces.
+/// What stands between that and its pieces. HTML drops a newline directly behind `<pre>` (HTML, 13.2.6.4.7), so one of its own stands
+/// there, and those of the pieces are read.
 pub const BODY: &str = "</head>
 <body>
-<pre>";
+<pre>
+";
 
 /// What stands behind them.
 pub const BEHIND: &str = "</pre>

@@ -12,7 +12,7 @@ use Rattle.csicodec_overwrite.specs.declared.line.Line.{Line}
 use Rattle.csicodec_overwrite.specs.declared.step.Step.{Step}
 use Rattle.csicodec_overwrite.specs.declared.step.Step.TheVariants as step
 use Rattle.csicodec_overwrite.specs.Cells.{begins_behind, belongs, chars_of, columns, emptied, erased, glyph, gone, is_empty, onto, outside, takes, to_tab_stop, trimmed, width, without}
-use Rattle.csicodec_overwrite.specs.Line.{Done, back, blank, cells_of, do_all, does, done, fits, forward, line, look_behind, over, padded, parted, placed, put, size}
+use Rattle.csicodec_overwrite.specs.Line.{Done, back, blank, cells_of, do_all, does, done, fits, forward, line, look_behind, over, padded, parted, placed, put, size, standing, target}
 use Rattle.csicodec_overwrite.proofs.Texts.{chars_by, line_chars}
 
 -- either way of a test
@@ -131,6 +131,7 @@ module _ (P : ℕ → Type 0) (Q : Look → Type 0) (R : Sgr → Type 0) where
         let some = min n (limit - size (parted l)) in
         (tt, (k.0, both (replicate some Empty) (parted l).right (empties some) k.1))
     of_does limit look (step.Attribute s) l q p h = (tt, h)
+    of_does limit look (step.Leave to) l q p h = (either (AllByRecursion OfCells) (length (standing l) == 0) [] (cells_of l ∷ []) tt (of_line l h, tt), of_forward limit (target to l) blank (tt, tt))
 
     look_kept : (look : Look) (s : Step) → Q look → OfStep s → Q (look_behind look s)
     look_kept look (step.Put c) q p = q
@@ -146,6 +147,7 @@ module _ (P : ℕ → Type 0) (Q : Look → Type 0) (R : Sgr → Type 0) where
     look_kept look (step.Delete n) q p = q
     look_kept look (step.Insert n) q p = q
     look_kept look (step.Attribute s) q p = kept look s q p
+    look_kept look (step.Leave to) q p = q
 
     all_both : (xs ys : List (List Cell)) → AllByRecursion OfCells xs → AllByRecursion OfCells ys → AllByRecursion OfCells (xs ++ ys)
     all_both [] ys h k = k

@@ -1,6 +1,6 @@
 -- What is written is plain: UTF-8 of characters that are shown.
 use Rattle.std.proofs.Common.{◌≡◌, ℕ, Bool, true, false, cond, List, [], ◌∷◌, ◌++◌, refl, ◌∙◌}
-use Rattle.std.specs.Prelude.{◌==◌}
+use Rattle.std.specs.Prelude.{◌==◌, ◌||◌, Some, None}
 use Rattle.std.specs.List.{AllByRecursion}
 use Rattle.std.specs.Str.{all_scalars}
 use Rattle.std.proofs.lemmas.Bool.{and_from, and_parts}
@@ -10,6 +10,12 @@ use Rattle.csicodec_names.specs.declared.enums.EraseInDisplay.{EraseInDisplay}
 use Rattle.csicodec_names.specs.declared.enums.EraseInDisplay.TheVariants as display
 use Rattle.csicodec_names.specs.declared.enums.EraseInLine.{EraseInLine}
 use Rattle.csicodec_names.specs.declared.enums.EraseInLine.TheVariants as part
+use Rattle.csicodec_names.specs.declared.modes.DecPrivateModeCode.{DecPrivateModeCode}
+use Rattle.csicodec_names.specs.declared.modes.DecPrivateModeCode.TheVariants as code
+use Rattle.csicodec_actions.specs.declared.mode.DecPrivateMode.{DecPrivateMode}
+use Rattle.csicodec_actions.specs.declared.mode.DecPrivateMode.TheVariants as private
+use Rattle.csicodec_actions.specs.declared.mode.Mode.{Mode}
+use Rattle.csicodec_actions.specs.declared.mode.Mode.TheVariants as mode
 use Rattle.csicodec_actions.specs.declared.cursor.Cursor.{Cursor}
 use Rattle.csicodec_actions.specs.declared.cursor.Cursor.TheVariants as cursor
 use Rattle.csicodec_actions.specs.declared.edit.Edit.{Edit}
@@ -34,7 +40,7 @@ use Rattle.csicodec_overwrite.specs.declared.step.Step.{Step}
 use Rattle.csicodec_overwrite.specs.declared.step.Step.TheVariants as step
 use Rattle.csicodec_overwrite.specs.Line.{blank, do_all}
 use Rattle.csicodec_overwrite.specs.Paint.{IsInRange}
-use Rattle.csicodec_overwrite.specs.Steps.{of_action, of_actions, of_char, of_chars, of_cursor, of_display, of_edit, of_part, of_run}
+use Rattle.csicodec_overwrite.specs.Steps.{of_action, of_actions, of_char, of_chars, of_code, of_control, of_cursor, of_display, of_edit, of_mode, of_part, of_private_mode, of_run}
 use Rattle.csicodec_overwrite.specs.Reading.{AreOfParts, IsOfPart, Overwrites, Steps, most}
 use Rattle.csicodec_overwrite.proofs.Kept.{OfStep, of_shown}
 use Rattle.csicodec_overwrite.proofs.Texts.{chars_by, shown_plain}
@@ -52,17 +58,24 @@ both (x ∷ xs) ys h k = (h.0, both xs ys h.1 k)
 
 -- ---- no other is put
 
+pick : (t : Bool) (x y : List Step) → AreGood x → AreGood y → AreGood (cond t x y)
+pick true x y h k = h
+pick false x y h k = k
+
+control_good : (c : ℕ) → AreGood (of_control c)
+control_good c = pick (c == 11 || (c == 12 || (c == 132 || (c == 141 || c == 155)))) (step.Leave None ∷ []) (cond (c == 133) (step.Leave (Some 1) ∷ []) []) (tt, tt) (pick (c == 133) (step.Leave (Some 1) ∷ []) [] (tt, tt) tt)
+
 char_good : (c : ℕ) → scalar c ≡ true → AreGood (of_char c)
 char_good c h = by (c == 10) (c == 13) (c == 8) (c == 9) (shown c) (λ e. (e, h))
   where
     by : (line return back tab shows : Bool) → (shows ≡ true → IsGood c)
-        → AreGood (cond line (step.NewLine ∷ []) (cond return (step.Column 1 ∷ []) (cond back (step.Left 1 ∷ []) (cond tab (step.Tab ∷ []) (cond shows (step.Put c ∷ []) [])))))
+        → AreGood (cond line (step.NewLine ∷ []) (cond return (step.Column 1 ∷ []) (cond back (step.Left 1 ∷ []) (cond tab (step.Tab ∷ []) (cond shows (step.Put c ∷ []) (of_control c))))))
     by true return back tab shows good = (tt, tt)
     by false true back tab shows good = (tt, tt)
     by false false true tab shows good = (tt, tt)
     by false false false true shows good = (tt, tt)
     by false false false false true good = (good refl, tt)
-    by false false false false false good = tt
+    by false false false false false good = control_good c
 
 chars_good : (cs : List ℕ) → all_scalars cs ≡ true → AreGood (of_chars cs)
 chars_good [] h = tt
@@ -82,6 +95,16 @@ cursor_good (cursor.CharacterPositionForward n) = (tt, tt)
 cursor_good (cursor.CharacterPositionBackward n) = (tt, tt)
 cursor_good (cursor.Position row col) = (tt, tt)
 cursor_good (cursor.CharacterAndLinePosition row col) = (tt, tt)
+cursor_good (cursor.Up n) = (tt, tt)
+cursor_good (cursor.Down n) = (tt, tt)
+cursor_good (cursor.LinePositionAbsolute row) = (tt, tt)
+cursor_good (cursor.LinePositionForward n) = (tt, tt)
+cursor_good (cursor.LinePositionBackward n) = (tt, tt)
+cursor_good (cursor.LineTabulation n) = (tt, tt)
+cursor_good (cursor.NextLine n) = (tt, tt)
+cursor_good (cursor.PrecedingLine n) = (tt, tt)
+cursor_good (cursor.SetTopAndBottomMargins top bottom) = (tt, tt)
+cursor_good cursor.RestoreCursor = (tt, tt)
 cursor_good _ = tt
 
 part_good : (p : EraseInLine) → AreGood (of_part p)
@@ -91,20 +114,47 @@ part_good part.EraseLine = (tt, tt)
 
 display_good : (p : EraseInDisplay) → AreGood (of_display p)
 display_good display.EraseToEndOfDisplay = (tt, tt)
-display_good _ = tt
+display_good display.EraseToStartOfDisplay = (tt, tt)
+display_good display.EraseDisplay = (tt, tt)
+display_good display.EraseScrollback = tt
 
 edit_good : (e : Edit) → AreGood (of_edit e)
 edit_good (edit.EraseCharacter n) = (tt, tt)
 edit_good (edit.DeleteCharacter n) = (tt, tt)
 edit_good (edit.InsertCharacter n) = (tt, tt)
+edit_good (edit.ScrollUp n) = (tt, tt)
+edit_good (edit.ScrollDown n) = (tt, tt)
+edit_good (edit.InsertLine n) = (tt, tt)
+edit_good (edit.DeleteLine n) = (tt, tt)
 edit_good (edit.EraseInLine p) = part_good p
 edit_good (edit.EraseInDisplay p) = display_good p
 edit_good _ = tt
+
+code_good : (c : DecPrivateModeCode) → AreGood (of_code c)
+code_good code.Select132Columns = (tt, tt)
+code_good code.OriginMode = (tt, tt)
+code_good code.EnableAlternateScreen = (tt, tt)
+code_good code.OptEnableAlternateScreen = (tt, tt)
+code_good code.SaveCursor = (tt, tt)
+code_good code.ClearAndEnableAlternateScreen = (tt, tt)
+code_good _ = tt
+
+private_good : (m : DecPrivateMode) → AreGood (of_private_mode m)
+private_good (private.Code c) = code_good c
+private_good (private.Unspecified n) = tt
+
+mode_good : (m : Mode) → AreGood (of_mode m)
+mode_good (mode.SetDecPrivateMode m) = private_good m
+mode_good (mode.ResetDecPrivateMode m) = private_good m
+mode_good (mode.RestoreDecPrivateMode m) = private_good m
+mode_good _ = tt
 
 action_good : (a : Action) → InRange a → AreGood (of_action a)
 action_good (action.Cursor c) h = cursor_good c
 action_good (action.Edit e) h = edit_good e
 action_good (action.Sgr s) h = (h, tt)
+action_good (action.Mode m) h = mode_good m
+action_good (action.Unspecified params flag final) h = pick (final == 109) [] (step.Leave None ∷ []) tt (tt, tt)
 action_good _ h = tt
 
 actions_good : (actions : List Action) → AllByRecursion (Kept false) actions → AreGood (of_actions actions)

@@ -13,7 +13,7 @@ use Rattle.csicodec_overwrite.specs.declared.line.Line.{Line}
 use Rattle.csicodec_overwrite.specs.declared.step.Step.{Step}
 use Rattle.csicodec_overwrite.specs.declared.step.Step.TheVariants as step
 use Rattle.csicodec_overwrite.specs.Cells.{begins_behind, belongs, columns, emptied, erased, glyph, gone, onto, outside, takes, to_tab_stop, width, without}
-use Rattle.csicodec_overwrite.specs.Line.{Done, back, blank, cells_of, do_all, does, done, fits, forward, line, look_behind, over, padded, parted, placed, put, size}
+use Rattle.csicodec_overwrite.specs.Line.{Done, back, blank, cells_of, do_all, does, done, fits, forward, line, look_behind, over, padded, parted, placed, put, size, target}
 
 -- either way of a test
 either : {T : Type 0} (P : T → Type 0) (t : Bool) (x y : T) → (t ≡ true → P x) → (t ≡ false → P y) → P (cond t x y)
@@ -148,6 +148,7 @@ module _ (limit : ℕ) (enough : 8 ≤ limit) where
   does_size look (step.Delete n) l h = omega (arith, parted_less l, gone_less n (parted l).right, without_less n (parted l).right)
   does_size look (step.Insert n) l h = omega (arith, parted_less l, joined (min n (limit - size (parted l))) Empty (parted l).right)
   does_size look (step.Attribute s) l h = h
+  does_size look (step.Leave to) l h = forward_size (target to l) blank (omega arith)
 
   pub all_size : (look : Look) (steps : List Step) (l : Line) → size l ≤ limit → size (do_all limit look steps l).line ≤ limit
   all_size look [] l h = h

@@ -25,7 +25,7 @@ use Rattle.csicodec_overwrite.specs.declared.step.Step.{Step}
 use Rattle.csicodec_overwrite.specs.declared.step.Step.TheVariants as step
 use Rattle.csicodec_overwrite.specs.Cells.{chars_of, columns, glyph, is_empty, onto, trimmed, width}
 use Rattle.csicodec_overwrite.specs.Line.{Done, HasRoom, before, blank, cells_of, do_all, does, done, line, look_behind, placed, put}
-use Rattle.csicodec_overwrite.specs.Steps.{of_char, of_chars, of_run}
+use Rattle.csicodec_overwrite.specs.Steps.{of_char, of_chars, of_control, of_run}
 use Rattle.csicodec_overwrite.specs.Reading.{AreOfParts, Overwrites, Steps, most}
 use Rattle.csicodec_overwrite.proofs.Once.{one_text}
 use Rattle.csicodec_overwrite.proofs.Texts.{chars_by, line_chars, shown_plain}
@@ -141,7 +141,7 @@ put_of : (c : ℕ) → (c == 10) ≡ false → (c == 13) ≡ false → (c == 8) 
 put_of c = by (c == 10) (c == 13) (c == 8) (c == 9) (shown c)
   where
     by : (line return back tab shows : Bool) → line ≡ false → return ≡ false → back ≡ false → tab ≡ false → shows ≡ true
-        → cond line (step.NewLine ∷ []) (cond return (step.Column 1 ∷ []) (cond back (step.Left 1 ∷ []) (cond tab (step.Tab ∷ []) (cond shows (step.Put c ∷ []) [])))) ≡ step.Put c ∷ []
+        → cond line (step.NewLine ∷ []) (cond return (step.Column 1 ∷ []) (cond back (step.Left 1 ∷ []) (cond tab (step.Tab ∷ []) (cond shows (step.Put c ∷ []) (of_control c))))) ≡ step.Put c ∷ []
     by line return back tab shows e f g i k = rw (e, f, g, i, k) refl
 
 puts : (look : Look) (c : ℕ) → IsShown c → Puts look c

@@ -1,5 +1,5 @@
 -- A line of a terminal, its cursor, and what each step does to it.
-use Rattle.std.specs.Prelude.{ℕ, ◌+◌, ◌-◌, ◌≤◌, ◌==◌, nat_le, nat_lt, min, max, Bool, List, [], ◌∷◌, ◌++◌, length, replicate, MatchBool, if◌then◌else◌}
+use Rattle.std.specs.Prelude.{ℕ, ◌+◌, ◌-◌, ◌≤◌, ◌==◌, nat_le, nat_lt, min, max, Bool, List, [], ◌∷◌, ◌++◌, length, replicate, MatchBool, Option, Some, None, if◌then◌else◌}
 use Rattle.csicodec_html.specs.declared.look.Look.{Look}
 use Rattle.csicodec_html.specs.Look.{behind}
 use Rattle.csicodec_overwrite.specs.declared.cells.Cell.{Cell}
@@ -79,9 +79,12 @@ abbrev pub placed : Glyph → ℕ → Line → Line
 placed g columns l = if columns == 0 then line (Mark g.char ∷ l.left) l.right
     else line (replicate (columns - 1) Behind ++ (Char g ∷ (parted l).left)) (gone columns (parted l).right)
 
--- what stands in the line, up to the last cell that isn't empty
+-- what stands in the line, up to the last cell that isn't empty, from the last on
+abbrev pub standing : Line → List Cell
+standing l = trimmed (onto l.right l.left)
+
 abbrev pub cells_of : Line → List Cell
-cells_of l = onto (trimmed (onto l.right l.left)) []
+cells_of l = onto (standing l) []
 
 -- the lines that are over with a step, and the one behind it
 pub record Done : Type 0 where
@@ -99,6 +102,21 @@ fits limit columns l = nat_le (size l + max columns 1) limit
 abbrev pub put : ℕ → Glyph → Line → Done
 put limit g l = if fits limit (width g.char (columns l.left)) l then done [] (placed g (width g.char (columns l.left)) l)
     else done (cells_of l ∷ []) (placed g (width g.char 0) blank)
+
+-- ---- another row
+
+-- the columns left of a column, of which the first is 1, or of the cursor: no terminal is wider than 1,024
+abbrev pub target : Option ℕ → Line → ℕ
+target None l = min (columns l.left) 1023
+target (Some column) l = min (column - 1) 1023
+
+-- the line, if anything stands in it
+abbrev pub lines_of : Line → List (List Cell)
+lines_of l = if length (standing l) == 0 then [] else cells_of l ∷ []
+
+-- to another row, or maybe so: the line is over, and a new one begins in that column
+abbrev pub leave : ℕ → Option ℕ → Line → Done
+leave limit to l = done (lines_of l) (forward limit (target to l) blank)
 
 -- behind so many columns and cells, each line of these characters has room in one
 abbrev pub HasRoom : ℕ → ℕ → ℕ → List ℕ → Type 0
@@ -130,6 +148,7 @@ does limit look (step.Erase n) l = done [] (erase n l)
 does limit look (step.Delete n) l = done [] (delete n l)
 does limit look (step.Insert n) l = done [] (insert limit n l)
 does limit look (step.Attribute s) l = done [] l
+does limit look (step.Leave to) l = leave limit to l
 
 abbrev pub before : List (List Cell) → Done → Done
 before lines d = done (lines ++ d.lines) d.line

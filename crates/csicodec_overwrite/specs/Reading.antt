@@ -49,7 +49,7 @@ shown_by painted d = texts_of painted d.lines ++ text_of painted (cells_of d.lin
 abbrev pub most : ℕ
 most = longest
 
--- each line of the stream as a terminal would show it at its end, as UTF-8, painted or not
+-- the lines of the stream, each as it stands when it ends, as UTF-8, painted or not
 pub record Shows (painted : Bool) (bytes text : List ℕ) : Type 0 where
   pub steps : List Step
   pub read : Steps bytes steps

@@ -1,32 +1,47 @@
 -- What each character and each action does in a line. All others do nothing there.
-use Rattle.std.specs.Prelude.{ℕ, ◌==◌, min, List, [], ◌∷◌, if◌then◌else◌}
+use Rattle.std.specs.Prelude.{ℕ, ◌==◌, ◌||◌, min, List, [], ◌∷◌, Option, Some, None, if◌then◌else◌}
 use Rattle.std.specs.List.{flat_map}
 use Rattle.bstr.specs.Utf8.{lossy_chars}
 use Rattle.csicodec_names.specs.declared.enums.EraseInDisplay.{EraseInDisplay}
 use Rattle.csicodec_names.specs.declared.enums.EraseInDisplay.TheVariants as display
 use Rattle.csicodec_names.specs.declared.enums.EraseInLine.{EraseInLine}
 use Rattle.csicodec_names.specs.declared.enums.EraseInLine.TheVariants as part
+use Rattle.csicodec_names.specs.declared.modes.DecPrivateModeCode.{DecPrivateModeCode}
+use Rattle.csicodec_names.specs.declared.modes.DecPrivateModeCode.TheVariants as code
 use Rattle.csicodec_actions.specs.declared.cursor.Cursor.{Cursor}
 use Rattle.csicodec_actions.specs.declared.cursor.Cursor.TheVariants as cursor
 use Rattle.csicodec_actions.specs.declared.edit.Edit.{Edit}
 use Rattle.csicodec_actions.specs.declared.edit.Edit.TheVariants as edit
+use Rattle.csicodec_actions.specs.declared.mode.DecPrivateMode.{DecPrivateMode}
+use Rattle.csicodec_actions.specs.declared.mode.DecPrivateMode.TheVariants as private
+use Rattle.csicodec_actions.specs.declared.mode.Mode.{Mode}
+use Rattle.csicodec_actions.specs.declared.mode.Mode.TheVariants as mode
 use Rattle.csicodec_actions.specs.Actions.{Action}
 use Rattle.csicodec_actions.specs.Actions as action
 use Rattle.csicodec_clean.specs.Shown.{shown}
 use Rattle.csicodec_overwrite.specs.declared.step.Step.{Step}
 use Rattle.csicodec_overwrite.specs.declared.step.Step.TheVariants as step
 
--- LF (ECMA-48, 8.3.74) as a line of a log ends with it, CR (8.3.15), BS (8.3.5), HT (8.3.60), and what strip shows
+-- VT (ECMA-48, 8.3.161) and FF (8.3.51) go to another row, and of C1 (as UTF-8, which some terminals carry out) IND (ECMA-48:1986), NEL
+-- (8.3.86) and RI (8.3.104), and maybe CSI (8.3.16)
+abbrev pub of_control : ℕ → List Step
+of_control c =
+    if c == 11 || (c == 12 || (c == 132 || (c == 141 || c == 155))) then step.Leave None ∷ []
+    else if c == 133 then step.Leave (Some 1) ∷ [] else []
+
+-- LF (8.3.74) as a line of a log ends with it, CR (8.3.15), BS (8.3.5), HT (8.3.60), and what strip shows
 abbrev pub of_char : ℕ → List Step
 of_char c = if c == 10 then step.NewLine ∷ [] else if c == 13 then step.Column 1 ∷ []
     else if c == 8 then step.Left 1 ∷ [] else if c == 9 then step.Tab ∷ []
-    else if shown c then step.Put c ∷ [] else []
+    else if shown c then step.Put c ∷ [] else of_control c
 
 -- a count or a column goes no further than the widest terminal: so a few bytes make no long line
 abbrev pub as_far : ℕ → ℕ
 as_far n = min n 1024
 
--- CUF (8.3.20), CUB (8.3.18), CHA (8.3.9), HPA (8.3.57), HPR (8.3.59), HPB (8.3.58), and of CUP (8.3.21) and HVP (8.3.63) the column
+-- In the line are CUF (8.3.20), CUB (8.3.18), CHA (8.3.9), HPA (8.3.57), HPR (8.3.59) and HPB (8.3.58). To another row, or maybe so, go CUP
+-- (8.3.21) and HVP (8.3.63), to a column; CUU (8.3.22), CUD (8.3.19), VPA (8.3.158), VPR (8.3.160), VPB (8.3.159) and CVT (8.3.17), in the same column; and
+-- CNL (8.3.12), CPL (8.3.13), DECSTBM, and SCORC, whose column isn't kept, to the first.
 abbrev pub of_cursor : Cursor → List Step
 of_cursor (cursor.Right n) = step.Right (as_far n) ∷ []
 of_cursor (cursor.Left n) = step.Left (as_far n) ∷ []
@@ -34,8 +49,18 @@ of_cursor (cursor.CharacterAbsolute col) = step.Column (as_far col) ∷ []
 of_cursor (cursor.CharacterPositionAbsolute col) = step.Column (as_far col) ∷ []
 of_cursor (cursor.CharacterPositionForward n) = step.Right (as_far n) ∷ []
 of_cursor (cursor.CharacterPositionBackward n) = step.Left (as_far n) ∷ []
-of_cursor (cursor.Position row col) = step.Column (as_far col) ∷ []
-of_cursor (cursor.CharacterAndLinePosition row col) = step.Column (as_far col) ∷ []
+of_cursor (cursor.Position row col) = step.Leave (Some (as_far col)) ∷ []
+of_cursor (cursor.CharacterAndLinePosition row col) = step.Leave (Some (as_far col)) ∷ []
+of_cursor (cursor.Up n) = step.Leave None ∷ []
+of_cursor (cursor.Down n) = step.Leave None ∷ []
+of_cursor (cursor.LinePositionAbsolute row) = step.Leave None ∷ []
+of_cursor (cursor.LinePositionForward n) = step.Leave None ∷ []
+of_cursor (cursor.LinePositionBackward n) = step.Leave None ∷ []
+of_cursor (cursor.LineTabulation n) = step.Leave None ∷ []
+of_cursor (cursor.NextLine n) = step.Leave (Some 1) ∷ []
+of_cursor (cursor.PrecedingLine n) = step.Leave (Some 1) ∷ []
+of_cursor (cursor.SetTopAndBottomMargins top bottom) = step.Leave (Some 1) ∷ []
+of_cursor cursor.RestoreCursor = step.Leave (Some 1) ∷ []
 of_cursor _ = []
 
 -- EL (8.3.41)
@@ -44,25 +69,58 @@ of_part part.EraseToEndOfLine = step.EraseRight ∷ []
 of_part part.EraseToStartOfLine = step.EraseLeft ∷ []
 of_part part.EraseLine = step.EraseAll ∷ []
 
--- ED (8.3.39): up to the end of the page, and so to that of the line
+-- ED (8.3.39): up to the end of the page, and so to that of the line; otherwise it may erase other rows
 abbrev pub of_display : EraseInDisplay → List Step
 of_display display.EraseToEndOfDisplay = step.EraseRight ∷ []
-of_display _ = []
+of_display display.EraseToStartOfDisplay = step.Leave None ∷ []
+of_display display.EraseDisplay = step.Leave None ∷ []
+of_display display.EraseScrollback = []
 
--- ECH (8.3.38), DCH (8.3.26), ICH (8.3.64), EL and ED
+-- ECH (8.3.38), DCH (8.3.26), ICH (8.3.64), EL and ED; SU (8.3.147), SD (8.3.113), IL (8.3.67) and DL (8.3.32) move rows
 abbrev pub of_edit : Edit → List Step
 of_edit (edit.EraseCharacter n) = step.Erase (as_far n) ∷ []
 of_edit (edit.DeleteCharacter n) = step.Delete (as_far n) ∷ []
 of_edit (edit.InsertCharacter n) = step.Insert (as_far n) ∷ []
+of_edit (edit.ScrollUp n) = step.Leave None ∷ []
+of_edit (edit.ScrollDown n) = step.Leave None ∷ []
+of_edit (edit.InsertLine n) = step.Leave (Some 1) ∷ []
+of_edit (edit.DeleteLine n) = step.Leave (Some 1) ∷ []
 of_edit (edit.EraseInLine p) = of_part p
 of_edit (edit.EraseInDisplay p) = of_display p
 of_edit _ = []
+
+-- the modes that go to another row: DECCOLM, DECOM, and the alternate screen with the cursor that is saved
+abbrev pub of_code : DecPrivateModeCode → List Step
+of_code code.Select132Columns = step.Leave (Some 1) ∷ []
+of_code code.OriginMode = step.Leave (Some 1) ∷ []
+of_code code.EnableAlternateScreen = step.Leave None ∷ []
+of_code code.OptEnableAlternateScreen = step.Leave None ∷ []
+of_code code.SaveCursor = step.Leave None ∷ []
+of_code code.ClearAndEnableAlternateScreen = step.Leave None ∷ []
+of_code _ = []
+
+abbrev pub of_private_mode : DecPrivateMode → List Step
+of_private_mode (private.Code c) = of_code c
+of_private_mode (private.Unspecified n) = []
+
+-- DECSET, DECRST and XTRESTORE
+abbrev pub of_mode : Mode → List Step
+of_mode (mode.SetDecPrivateMode m) = of_private_mode m
+of_mode (mode.ResetDecPrivateMode m) = of_private_mode m
+of_mode (mode.RestoreDecPrivateMode m) = of_private_mode m
+of_mode _ = []
+
+-- a list that isn't read, where it isn't of SGR, may move too: terminals read CUP with a row that is left out
+abbrev pub of_unread : ℕ → List Step
+of_unread final = if final == 109 then [] else step.Leave None ∷ []
 
 -- and SGR (8.3.117)
 abbrev pub of_action : Action → List Step
 of_action (action.Cursor c) = of_cursor c
 of_action (action.Edit e) = of_edit e
 of_action (action.Sgr s) = step.Attribute s ∷ []
+of_action (action.Mode m) = of_mode m
+of_action (action.Unspecified params flag final) = of_unread final
 of_action _ = []
 
 abbrev pub of_chars : List ℕ → List Step

@@ -1,4 +1,4 @@
-//! Each line of a stream as a terminal would show it at its end: what was written over, or erased, is gone. It is plain text, or a page.
+//! Each line of a stream as it stands when it ends: what was written over, or erased, is gone. It is plain text, or a page.
 #![tactic(auto)]
 
 mod cells;

@@ -1,7 +1,7 @@
 //! A line and its cursor.
 ghost use Rattle.std.specs.Prelude.{◌≡◌, ◌-◌, ◌++◌, [], OnOk};
 ghost use Rattle.csicodec_overwrite.specs.Cells.{onto};
-ghost use Rattle.csicodec_overwrite.specs.Line.{at_column, back, blank, cells_of, delete, do_all, does, erase, erase_all, erase_left, erase_right, fits, forward, insert, line, look_behind, look_behind_all, over, parted, placed, put, size};
+ghost use Rattle.csicodec_overwrite.specs.Line.{at_column, back, blank, cells_of, delete, do_all, does, erase, erase_all, erase_left, erase_right, fits, forward, insert, leave, line, lines_of, look_behind, look_behind_all, over, parted, placed, put, size, target};
 ghost use Rattle.csicodec_overwrite.specs.Paint.{ended, text_of, texts_of};
 ghost use Rattle.csicodec_overwrite.specs.declared.step.Step.TheVariants.{Tab};
 
@@ -213,6 +213,62 @@ impl Line {
         Ok(())
     }
 
+    /// The columns left of a column, of which the first is 1, or of the cursor: at most 1,023.
+    fn target(&self, to: Option<u32>) -> usize
+        ensures { result ≡ target to self.now }
+    {
+        let column = match to {
+            Some(column) => column.saturating_sub(1) as usize,
+            None => self.left.columns(),
+        };
+        column.min(1023)
+    }
+
+    /// Appends what stands on the left, the farthest first, and a newline.
+    fn end_left(&mut self, painted: bool, out: &mut Vec<u8>) -> Result<(), AllocError>
+        requires { self.old.right ≡ [] }
+        ensures text { OnOk result
+            (out.new.items ≡ out.old.items ++ ended painted (onto self.old.left [])) }
+        ensures none { OnOk result (self.new ≡ blank) }
+    {
+        move_all(&mut self.left, &mut self.right)?;
+        append_cells(&mut self.right, painted, out)?;
+        out.push(b'\n')?;
+        Ok(())
+    }
+
+    /// Ends the line, if anything stands in it.
+    fn end_some(&mut self, painted: bool, out: &mut Vec<u8>) -> Result<(), AllocError>
+        ensures text { OnOk result
+            (out.new.items ≡ out.old.items ++ texts_of painted (lines_of self.old)) }
+        ensures none { OnOk result (self.new ≡ blank) }
+    {
+        move_all(&mut self.right, &mut self.left)?;
+        self.left.trim();
+        if self.left.len() == 0 {
+            self.left.clear();
+            return Ok(());
+        }
+        self.end_left(painted, out)
+    }
+
+    /// To another row, or maybe so: to this column, or to the same.
+    fn leave(
+        &mut self,
+        limit: usize,
+        to: Option<u32>,
+        painted: bool,
+        out: &mut Vec<u8>,
+    ) -> Result<(), AllocError>
+        ensures line { OnOk result (self.new ≡ (leave limit to self.old).line) }
+        ensures text { OnOk result
+            (out.new.items ≡ out.old.items ++ texts_of painted (leave limit to self.old).lines) }
+    {
+        let column = self.target(to);
+        self.end_some(painted, out)?;
+        self.forward(limit, column)
+    }
+
     /// Puts a character, on a line of its own where this has no room for it.
     fn put(
         &mut self,
@@ -279,6 +335,7 @@ impl Line {
             Step::Delete(count) => self.delete(count),
             Step::Insert(count) => self.insert(limit, count),
             Step::Attribute(_) => Ok(()),
+            Step::Leave(to) => self.leave(limit, to, painted, out),
         }
     }
 

@@ -11,7 +11,7 @@ use csicodec_spans::LIMIT;
 use std::alloc::{AllocError, Global};
 use std::marker::Model;
 
-/// A stream as it comes, of which each line is written as a terminal would show it at its end, as plain text or painted.
+/// A stream as it comes, of which each line is written as it stands when it ends, as plain text or painted.
 ///
 /// It holds the line that isn't over, of at most 65,536 cells, and a control sequence that isn't, of fewer than 65,536 bytes. After an
 /// `Err` it and what was appended are of no more use.

@@ -1,4 +1,4 @@
-//! A stream as a page of HTML, each line as a terminal would show it at its end.
+//! A stream as a page of HTML, each line as it stands when it ends.
 ghost use Rattle.std.specs.Prelude.{◌++◌, ℕ, List, OnErr, OnOk};
 ghost use Rattle.std.specs.Io.KnownBytes.{Appends, Consumes, IsAtEnd};
 ghost use Rattle.csicodec_html.specs.Page.{IsPageWith, PageWith};
@@ -10,8 +10,8 @@ use csicodec_streams::RunError;
 use std::alloc::Global;
 use std::io::{Read, Write};
 
-/// Reads to the end, and writes the page that `csicodec_html::html_all_with` makes of the stream where it is painted: each line as a
-/// terminal would show it at its end, with how each of its characters looked when it was written.
+/// Reads to the end, and writes the page that `csicodec_html::html_all_with` makes of the stream where it is painted: each line as it
+/// stands when it ends, with how each of its characters looked when it was written.
 ///
 /// The errors are those of `csicodec_clean::strip_all`.
 ///

@@ -31,4 +31,6 @@ pub enum Step {
     Insert(u32),
     /// Characters that are put behind it have this attribute.
     Attribute(Sgr),
+    /// To another row, or maybe so: to this column, or to the same.
+    Leave(Option<u32>),
 }

@@ -3,11 +3,13 @@ ghost use Rattle.std.specs.Prelude.{◌≡◌, ◌<◌, ◌≤◌, ◌++◌, ◌
 ghost use Rattle.csicodec_parser.specs.ActionOf.{action_of};
 ghost use Rattle.csicodec_clean.specs.Private.Steps.{IsCut};
 ghost use Rattle.csicodec_clean.specs.Shown.{IsRead};
-ghost use Rattle.csicodec_overwrite.specs.Steps.{as_far, of_action, of_actions, of_char, of_chars, of_cursor, of_edit, of_run};
+ghost use Rattle.csicodec_overwrite.specs.Steps.{as_far, of_action, of_actions, of_char, of_chars, of_control, of_cursor, of_edit, of_mode, of_private_mode, of_run, of_unread};
 
 use crate::step::Step;
 use bstr::decode_utf8;
-use csicodec::{CSI, Cursor, Edit, EraseInDisplay, EraseInLine};
+use csicodec::{
+    CSI, Cursor, DecPrivateMode, DecPrivateModeCode, Edit, EraseInDisplay, EraseInLine, Mode,
+};
 use csicodec_streams::keep_from;
 use std::alloc::AllocError;
 
@@ -21,6 +23,18 @@ fn as_far(count: u32) -> u32
     count.min(WIDEST)
 }
 
+/// Appends what a control does that isn't shown.
+fn append_control(char: char, steps: &mut Vec<Step>) -> Result<(), AllocError>
+    ensures { OnOk result (steps.new.items ≡ steps.old.items ++ of_control char) }
+{
+    match char {
+        '\u{b}' | '\u{c}' | '\u{84}' | '\u{8d}' | '\u{9b}' => steps.push(Step::Leave(None))?,
+        '\u{85}' => steps.push(Step::Leave(Some(1)))?,
+        _ => {}
+    }
+    Ok(())
+}
+
 /// Appends what the character does.
 fn append_char(char: char, steps: &mut Vec<Step>) -> Result<(), AllocError>
     ensures { OnOk result (steps.new.items ≡ steps.old.items ++ of_char char) }
@@ -30,7 +44,7 @@ fn append_char(char: char, steps: &mut Vec<Step>) -> Result<(), AllocError>
         '\r' => steps.push(Step::Column(1))?,
         '\u{8}' => steps.push(Step::Left(1))?,
         '\t' => steps.push(Step::Tab)?,
-        '\0'..='\u{1f}' | '\u{7f}'..='\u{9f}' => {}
+        '\0'..='\u{1f}' | '\u{7f}'..='\u{9f}' => append_control(char, steps)?,
         _ => steps.push(Step::Put(char))?,
     }
     Ok(())
@@ -47,12 +61,22 @@ fn append_cursor(cursor: &Cursor, steps: &mut Vec<Step>) -> Result<(), AllocErro
         Cursor::Left(count) | Cursor::CharacterPositionBackward(count) => {
             steps.push(Step::Left(as_far(*count)))?;
         }
-        Cursor::CharacterAbsolute(col)
-        | Cursor::CharacterPositionAbsolute(col)
-        | Cursor::Position { col, .. }
-        | Cursor::CharacterAndLinePosition { col, .. } => {
+        Cursor::CharacterAbsolute(col) | Cursor::CharacterPositionAbsolute(col) => {
             steps.push(Step::Column(as_far(col.as_one_based())))?;
         }
+        Cursor::Position { col, .. } | Cursor::CharacterAndLinePosition { col, .. } => {
+            steps.push(Step::Leave(Some(as_far(col.as_one_based()))))?;
+        }
+        Cursor::Up(_)
+        | Cursor::Down(_)
+        | Cursor::LinePositionAbsolute(_)
+        | Cursor::LinePositionForward(_)
+        | Cursor::LinePositionBackward(_)
+        | Cursor::LineTabulation(_) => steps.push(Step::Leave(None))?,
+        Cursor::NextLine(_)
+        | Cursor::PrecedingLine(_)
+        | Cursor::SetTopAndBottomMargins { .. }
+        | Cursor::RestoreCursor => steps.push(Step::Leave(Some(1)))?,
         _ => {}
     }
     Ok(())
@@ -72,7 +96,53 @@ fn append_edit(edit: &Edit, steps: &mut Vec<Step>) -> Result<(), AllocError>
         }
         Edit::EraseInLine(EraseInLine::EraseToStartOfLine) => steps.push(Step::EraseLeft)?,
         Edit::EraseInLine(EraseInLine::EraseLine) => steps.push(Step::EraseAll)?,
+        Edit::ScrollUp(_)
+        | Edit::ScrollDown(_)
+        | Edit::EraseInDisplay(EraseInDisplay::EraseToStartOfDisplay)
+        | Edit::EraseInDisplay(EraseInDisplay::EraseDisplay) => steps.push(Step::Leave(None))?,
+        Edit::InsertLine(_) | Edit::DeleteLine(_) => steps.push(Step::Leave(Some(1)))?,
         _ => {}
+    }
+    Ok(())
+}
+
+/// Appends what a private mode does that is set, reset or restored.
+fn append_private_mode(mode: DecPrivateMode, steps: &mut Vec<Step>) -> Result<(), AllocError>
+    ensures { OnOk result (steps.new.items ≡ steps.old.items ++ of_private_mode mode) }
+{
+    match mode {
+        DecPrivateMode::Code(
+            DecPrivateModeCode::Select132Columns | DecPrivateModeCode::OriginMode,
+        ) => steps.push(Step::Leave(Some(1)))?,
+        DecPrivateMode::Code(
+            DecPrivateModeCode::EnableAlternateScreen
+            | DecPrivateModeCode::OptEnableAlternateScreen
+            | DecPrivateModeCode::SaveCursor
+            | DecPrivateModeCode::ClearAndEnableAlternateScreen,
+        ) => steps.push(Step::Leave(None))?,
+        _ => {}
+    }
+    Ok(())
+}
+
+/// Appends what a mode does.
+fn append_mode(mode: &Mode, steps: &mut Vec<Step>) -> Result<(), AllocError>
+    ensures { OnOk result (steps.new.items ≡ steps.old.items ++ of_mode mode.now) }
+{
+    match mode {
+        Mode::SetDecPrivateMode(mode)
+        | Mode::ResetDecPrivateMode(mode)
+        | Mode::RestoreDecPrivateMode(mode) => append_private_mode(*mode, steps),
+        _ => Ok(()),
+    }
+}
+
+/// Appends what a list does that isn't read: it may move the cursor.
+fn append_unread(control: char, steps: &mut Vec<Step>) -> Result<(), AllocError>
+    ensures { OnOk result (steps.new.items ≡ steps.old.items ++ of_unread control) }
+{
+    if control != 'm' {
+        steps.push(Step::Leave(None))?;
     }
     Ok(())
 }
@@ -86,13 +156,13 @@ fn append_action(action: &CSI, steps: &mut Vec<Step>) -> Result<(), AllocError>
         CSI::Cursor(cursor) => append_cursor(cursor, steps),
         CSI::Edit(edit) => append_edit(edit, steps),
         CSI::Sgr(attribute) => Ok(steps.push(Step::Attribute(*attribute))?),
-        CSI::Mode(_)
-        | CSI::Device(_)
+        CSI::Mode(mode) => append_mode(mode, steps),
+        CSI::Unspecified(unread) => append_unread(unread.control, steps),
+        CSI::Device(_)
         | CSI::Keyboard(_)
         | CSI::SelectCharacterPath(..)
         | CSI::Mouse(_)
-        | CSI::Window(_)
-        | CSI::Unspecified(_) => Ok(()),
+        | CSI::Window(_) => Ok(()),
     }
 }
 

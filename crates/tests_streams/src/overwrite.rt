@@ -16,7 +16,7 @@ fn byte_by_byte(alloc: Global, mut lines: Overwriter, bytes: &[u8]) -> Result<Ve
     Ok(out)
 }
 
-/// `overwrite BYTES`: each of their lines as a terminal would show it at its end. Byte by byte it is the same, and `strip` leaves it.
+/// `overwrite BYTES`: each of their lines as it stands when it ends. Byte by byte it is the same, and `strip` leaves it.
 pub(crate) fn overwrite(alloc: Global, word: &str) -> Result<String, AllocError> {
     let bytes = bytes_of(alloc, word)?;
     let mut written: Vec<u8> = Vec::new(alloc);

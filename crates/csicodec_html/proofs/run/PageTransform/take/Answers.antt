@@ -1,4 +1,4 @@
-use Rattle.std.proofs.Common.{◌++◌, ◌∙◌, List, ℕ, ap, sym, subst}
+use Rattle.std.proofs.Common.{◌≡◌, ◌++◌, ◌∙◌, List, ℕ, ap, sym, subst}
 use Rattle.std.proofs.lemmas.Grind.{flat_map-append}
 use Rattle.std.proofs.lemmas.Result.{on_ok_weaker}
 use Rattle.csicodec_clean.specs.Stream.{Between, Takes}
@@ -13,6 +13,7 @@ returns-clause-passes c =
     let bytes = c.args.bytes.now in
     let old = c.args.out.now.items in
     let takes = subst (λ (b : Between Setting). Takes turns b bytes text c.push.new.self) c.self.view_is taken in
+    let whole : c.deref.result.now ≡ text = c.deref.ensures.value ∙ pushed ∙ ap (λ (t : List ℕ). t ++ text) c.clear.ensures.items in
     on_ok_weaker c.append_page.result
     (λ e. (
       page_bytes text,
@@ -21,6 +22,6 @@ returns-clause-passes c =
         takes_on turns first c.args.self.now c.push.new.self read bytes before text passed takes,
         ap (λ (t : List ℕ). t ++ page_bytes text) made ∙ sym (flat_map-append page_byte before text),
       )),
-      e ∙ ap (λ (t : List ℕ). old ++ page_bytes t) (c.deref.ensures.value ∙ pushed ∙ ap (λ (t : List ℕ). t ++ text) c.new-marked.ensures.items),
+      e ∙ ap (λ (t : List ℕ). old ++ page_bytes t) whole,
     ))
     c.append_page.ensures

@@ -1,0 +1,6 @@
+use Rattle.std.proofs.Common.{◌∷◌, refl}
+use Rattle.std.specs.Prelude.{codes}
+use Rattle.csicodec_html.proofs.laws.newline_stays.Goals as goal
+
+pub returns : goal.returns
+returns c = λ page. (codes "</head>\n<body>\n", 10 ∷ page, refl, refl)

@@ -19,12 +19,12 @@ _csicodec() {
         --timing) COMPREPLY=($(compgen -f -- "$word")); return ;;
     esac
     case $task in
-        filter) of="--faithful --help" ;;
-        compact) of="--semicolons --help" ;;
-        strip) of="--check --lines --overwrite --help" ;;
-        clean) of="--colors --lines --links --help" ;;
+        filter) of="--faithful --text --help" ;;
+        compact) of="--semicolons --text --help" ;;
+        strip) of="--check --lines --log --overwrite --text --help" ;;
+        clean) of="--colors --lines --links --log --text --help" ;;
         html) of="--classes --fragment --links --no-overwrite --overwrite --palette --help" ;;
-        explain) of="--at --color --count --decode --diff --full --grep --input --json --only --stats --timing --unknown --utf8-mouse --help" ;;
+        explain) of="--at --color --count --decode --diff --full --grep --input --json --only --quiet --stats --timing --unknown --utf8-mouse --help" ;;
         assemble) of="--help" ;;
         help) COMPREPLY=($(compgen -W "filter compact strip clean html explain assemble" -- "$word")); return ;;
         *) of="filter compact strip clean html explain assemble help --help --version" ;;

@@ -14,5 +14,5 @@ pub use command::{
 };
 pub use failure::{Failure, Found};
 pub use options::{USAGE, VERSION};
-pub use recording::{Recording, micros, time_of};
+pub use recording::{Recording, line_front, micros, time_of};
 pub use run::{Worker, asked, failed, is_cast, refused, text_of, words_of, work_through};

@@ -16,7 +16,7 @@ pub(crate) static TASKS: [(&str, Task, &str); 7] = [
 
 /// The options: how each stands in a command line, the words that have it, none where all have, and which values it has, none
 /// where it has no value.
-pub(crate) static OPTIONS: [(&str, &str, &str); 27] = [
+pub(crate) static OPTIONS: [(&str, &str, &str); 30] = [
     ("--at", "explain", "places, as 120, 120-180 or 120-"),
     ("--check", "strip", ""),
     ("--classes", "html", ""),
@@ -34,6 +34,7 @@ pub(crate) static OPTIONS: [(&str, &str, &str); 27] = [
     ("--json", "explain", ""),
     ("--lines", "strip clean", ""),
     ("--links", "clean html", ""),
+    ("--log", "strip clean", ""),
     ("--no-overwrite", "html", ""),
     ("--only", "explain", "names, as SGR,CUP"),
     ("--overwrite", "strip html", ""),
@@ -42,8 +43,10 @@ pub(crate) static OPTIONS: [(&str, &str, &str); 27] = [
         "html",
         "xterm, or 16 or 18 colours as #rrggbb, with commas between",
     ),
+    ("--quiet", "explain", ""),
     ("--semicolons", "compact", ""),
     ("--stats", "explain", ""),
+    ("--text", "filter compact strip clean", ""),
     ("--timing", "explain", "the file of times that script wrote"),
     ("--unknown", "explain", ""),
     ("--utf8-mouse", "explain", ""),
@@ -52,16 +55,16 @@ pub(crate) static OPTIONS: [(&str, &str, &str); 27] = [
 
 /// How the program is used.
 pub const USAGE: &str = "\
-usage: csicodec                                 control sequences from standard input, in their normal form
-       csicodec filter [OPTION ..] [FILE ..]    any terminal stream, with each control sequence in its normal form
-       csicodec compact [OPTION ..] [FILE ..]   the same stream for terminals, no longer than it came
-       csicodec strip [OPTION ..] [FILE ..]     plain text of any stream: nothing that steers a terminal
-       csicodec clean [OPTION ..] [FILE ..]     the same with its colours and styles
-       csicodec html [OPTION ..] [FILE ..]      a page of HTML: the text with its colours and styles
+usage: csicodec                                 control sequences, each in its normal form
+       csicodec filter [OPTION ..] [FILE ..]    a stream with its control sequences in their normal form
+       csicodec compact [OPTION ..] [FILE ..]   the same stream in fewer bytes
+       csicodec strip [OPTION ..] [FILE ..]     the plain text of a stream
+       csicodec clean [OPTION ..] [FILE ..]     the text of a stream with its colours and styles
+       csicodec html [OPTION ..] [FILE ..]      a page of HTML with the text, its colours and styles
        csicodec explain [OPTION ..] [FILE ..]   what stands in a stream, in words
-       csicodec assemble [FILE ..]              a stream of what explain --json wrote, edited or not
+       csicodec assemble [FILE ..]              the stream of lines that explain --json wrote, edited or not
        csicodec help [WORD]                     this text, or the options of a word
-       csicodec --version";
+       csicodec --version                       the version of the program";
 
 /// Where the options of a word are told.
 pub const HINT: &str = "csicodec WORD --help tells the options of WORD";
@@ -72,103 +75,171 @@ pub const WAITS: &str =
 
 /// How `filter` is used.
 pub const FILTER: &str = "\
-usage: csicodec filter [--faithful] [FILE ..]
+usage: csicodec filter [OPTION ..] [FILE ..]
 
-Writes each FILE, or standard input where there is none or it is -, with each control sequence in its normal form, and every
-other byte as it was. The normal form is for comparing: it is termwiz's, and terminals read a few sequences otherwise. A FILE
-whose name ends in .cast is a recording of asciinema, and a recording with the same times comes out; so it does with compact,
-strip and clean.
+Write each FILE with its control sequences in their normal form. Every other
+byte passes as it came. So two recordings can be compared. The normal form is
+termwiz's, and terminals read a few of its sequences in another way.
 
-  --faithful     for a terminal: what it reads otherwise, and colours, as they came
-  -h, --help     this text";
+If there is no FILE, or if it is -, standard input is read. A recording of
+asciinema becomes a recording with the same times. It is a FILE whose name ends
+in .cast, or standard input that begins as one.
+
+  --faithful     Leave colours as they came, and each sequence that a terminal
+                 would read in another way.
+  --text         Of a recording, write what its programs wrote.
+  -h, --help     Show this text.";
 
 /// How `compact` is used.
 pub const COMPACT: &str = "\
-usage: csicodec compact [--semicolons] [FILE ..]
+usage: csicodec compact [OPTION ..] [FILE ..]
 
-Writes each FILE, or standard input where there is none or it is -, with each control sequence in a shorter spelling of the same
-actions, where one is found, attributes side by side in one sequence, and every other byte as it was.
+Write each FILE in fewer bytes with the same actions. A control sequence gets a
+shorter spelling if one is found, and attributes that stand side by side become
+one sequence. Every other byte passes as it came.
 
-  --semicolons   colours with semicolons, as 38;5;9, also where colons are as short
-  -h, --help     this text";
+If there is no FILE, or if it is -, standard input is read. A recording of
+asciinema becomes a recording with the same times. It is a FILE whose name ends
+in .cast, or standard input that begins as one.
+
+  --semicolons   Write colours with semicolons, such as 38;5;9, even if colons
+                 are as short.
+  --text         Of a recording, write what its programs wrote.
+  -h, --help     Show this text.";
 
 /// How `strip` is used.
 pub const STRIP: &str = "\
 usage: csicodec strip [OPTION ..] [FILE ..]
 
-Writes the plain text of each FILE, or of standard input where there is none or it is -: no control sequence, escape sequence or
-string, and of the controls newline and tab alone. What is no UTF-8 becomes U+FFFD.
+Write the plain text of each FILE. It has no control sequence, no escape
+sequence, no control string, and no control character except newline and tab.
+Bytes that aren't UTF-8 become U+FFFD.
 
-  --check        writes nothing: the status is 0 if that is how each FILE is, else 1, and the first place is told where it isn't
-  --lines        for logs: each line by itself, whatever the one before it left open; CR ends a line too
-  --overwrite    each line as a terminal would show it at its end, as of progress bars; not with --check or --lines
-  -h, --help     this text";
+If there is no FILE, or if it is -, standard input is read. A recording of
+asciinema becomes a recording with the same times. It is a FILE whose name ends
+in .cast, or standard input that begins as one.
+
+  --check        Write nothing. Exit 0 if every FILE is already plain text; else
+                 print the first place that isn't, and exit 1.
+  --lines        Take each line by itself, as logs need it. What a line leaves
+                 open ends with it. A carriage return ends a line too.
+  --log          Take each line by itself, and write it as it stands when it
+                 ends, as a build log needs it. It doesn't go with --check,
+                 --lines or --overwrite.
+  --overwrite    Write each line as it stands when it ends, such as a progress
+                 bar. It doesn't go with --check or --lines.
+  --text         Of a recording, write the text of what its programs wrote.
+  -h, --help     Show this text.";
 
 /// How `clean` is used.
 pub const CLEAN: &str = "\
 usage: csicodec clean [OPTION ..] [FILE ..]
 
-Writes the same as strip, with colours and styles, but for the style that hides text (SGR 8), and none left open at the end. Text
-in the colour of its background stays so.
+Write the text of each FILE as strip does, with its colours and styles. The
+style that hides text (SGR 8) is dropped, and so are other fonts (SGR 11 to 19).
+A style that is open at the end is closed. Text in the colour of its background
+stays so.
 
-  --colors=256   colours by their parts become the nearest of the palette
-  --colors=16    all colours become the nearest of the first 16
-  --lines        for logs: each line by itself, whatever the one before it left open; CR ends a line too, and no style goes on
-  --links        links too (OSC 8) whose address is visible ASCII of at most 2,083 bytes, and none left open at the end
-  -h, --help     this text";
+If there is no FILE, or if it is -, standard input is read. A recording of
+asciinema becomes a recording with the same times. It is a FILE whose name ends
+in .cast, or standard input that begins as one.
+
+  --colors=256   Replace colours by red, green and blue by the nearest of the
+                 palette.
+  --colors=16    Replace all colours by the nearest of the first 16.
+  --lines        Take each line by itself, as logs need it. What a line leaves
+                 open ends with it, a style too. A carriage return ends a line.
+  --links        Keep links (OSC 8) whose address is visible ASCII of at most
+                 2,083 bytes. A link that is open at the end is closed.
+  --log          Take each line by itself, and write it as it stands when it
+                 ends, as a build log needs it. It doesn't go with --lines or
+                 --links.
+  --text         Of a recording, write the text of what its programs wrote.
+  -h, --help     Show this text.";
 
 /// How `html` is used.
 pub const HTML: &str = "\
 usage: csicodec html [OPTION ..] [FILE ..]
 
-Writes each FILE, or standard input where there is none or it is -, as a page of HTML: each line as a terminal would show it at its
-end, escaped, and colours and styles as spans. Nothing of the input gets into a tag, but addresses with --links. Of a FILE whose
-name ends in .cast it is what its programs wrote.
+Write each FILE as a page of HTML. It shows each line as it stands when it ends,
+with its colours and styles. Nothing of the input gets into a tag, except
+addresses with --links.
 
-  --classes          classes in place of styles, as bold, underline-curly, fg-1 and bg-255, and a style sheet, but for a piece
-  --fragment         a piece for a page of one's own, where it stands in a pre
-  --links            --no-overwrite, and links (OSC 8) whose address is of http or https, and visible ASCII of at most 2,083 bytes
-  --no-overwrite     all text, live, also what a line overwrites or erases: most of what a program writes that draws a screen
-  --overwrite        each line as a terminal would show it at its end, as if left out; not with --links or --no-overwrite
-  --palette COLOURS  colours 0 to 15 as #rrggbb, with commas between, in place of xterm's; two more: the page's text and background
-  -h, --help         this text";
+If there is no FILE, or if it is -, standard input is read. Of a recording of
+asciinema the page shows what the programs wrote. It is a FILE whose name ends
+in .cast, or standard input that begins as one.
+
+  --classes          Use CSS classes in place of inline styles. A page carries
+                     the style sheet; a fragment doesn't.
+  --fragment         Write a piece for a <pre> in a page of your own.
+  --links            Keep links (OSC 8) whose address is of http or https, and
+                     visible ASCII of at most 2,083 bytes. Text is kept as with
+                     --no-overwrite.
+  --no-overwrite     Keep text that a carriage return or an erase would hide. It
+                     is for what a full-screen program wrote.
+  --overwrite        Write each line as it stands when it ends, as is the
+                     default. It doesn't go with --links.
+  --palette COLOURS  Use these 16 colours, as #rrggbb with commas between, in
+                     place of xterm's. Two more are the page's text and
+                     background.
+  -h, --help         Show this text.";
 
 /// How `explain` is used.
 pub const EXPLAIN: &str = "\
 usage: csicodec explain [OPTION ..] [FILE ..]
 
-Tells what stands in each FILE, or in standard input where there is none or it is -: its place, its bytes, and what it does, for
-each text, control character, sequence and string, as soon as it is over.
+List what stands in each FILE. Each text, control character, sequence and string
+has a line with its offset, its bytes and what it does, as soon as it is over.
 
-A FILE whose name ends in .cast is a recording of asciinema, and so is standard input that begins as one: what its programs wrote
-is told, with the time of each. Ahead of each of several FILEs stands its name.
+If there is no FILE, or if it is -, standard input is read. Of a recording of
+asciinema it lists what the programs wrote, with the time of each. It is a FILE
+whose name ends in .cast, or standard input that begins as one. If there are
+several FILEs, their names are shown.
 
-  --at PLACES     only what has a byte at one of these places: 120, 120-180 or 120-
-  --color WHEN    colours: always, never, or auto (in a terminal, unless NO_COLOR is set), as if left out
-  --count         the totals alone, at the end: of each kind, and of each name
-  --decode        what is put into the clipboard (OSC 52) too, decoded from base64
-  --diff          of two FILEs the lines that differ, places aside; not with --count, --json, --stats or --timing
-  --full          all bytes of each, however many
-  --grep TEXT     only what has this text in its bytes or its words
-  --input         what a terminal sends: keys, the mouse and answers; of recordings what was typed
-  --json          an object of JSON a line: at, kind, text or hex, and actions with name, words, action and its fields
-  --only NAMES    only those with one of these names, with commas between: SGR,DECSET 2004
-  --stats         a table alone, at the end: how often each name came, its bytes, and their share of all
-  --timing TIMES  when each came, by the file of times that script wrote
-  --unknown       only what isn't known, and what is malformed
-  --utf8-mouse    --input, and the mouse's three characters are in UTF-8 (mode 1005)
-  -h, --help      this text";
+  --at PLACES     Show only what has a byte at these offsets: 120, 120-180 or
+                  120-.
+  --color WHEN    Use colours always, never or auto, which is the default: in a
+                  terminal, unless NO_COLOR is set.
+  --count         Show only totals, at the end: of each kind and each name.
+  --decode        Show what is put into the clipboard (OSC 52), decoded from
+                  base64.
+  --diff          Show the lines that differ between two FILEs, whatever their
+                  offsets. It doesn't go with --count, --json, --quiet, --stats
+                  or --timing.
+  --full          Show all bytes, however many they are.
+  --grep TEXT     Show only what has this text in its bytes or its words. Exit 1
+                  if there is nothing.
+  --input         Read what a terminal sends: keys, the mouse and answers. Of a
+                  recording it lists what was typed.
+  --json          Write an object of JSON a line: at, kind, text or hex, and
+                  actions with name, words, action and its fields.
+  --only NAMES    Show only these names, with commas between, such as
+                  SGR,DECSET 2004.
+  -q, --quiet     Show nothing. Exit 0 if anything would be shown, else 1.
+  --stats         Show only a table, at the end: how often each name came, its
+                  bytes, and their share of all.
+  --timing TIMES  Show when each came, by the times that script wrote.
+  --unknown       Show only what isn't known and what is malformed. Exit 1 if
+                  there is nothing.
+  --utf8-mouse    Do as --input does, and read the three characters of the mouse
+                  as UTF-8 (mode 1005).
+  -h, --help      Show this text.";
 
 /// How `assemble` is used.
 pub const ASSEMBLE: &str = "\
 usage: csicodec assemble [FILE ..]
 
-Reads objects of JSON, a line each, from each FILE, or from standard input where there is none or it is -, as explain --json writes
-them, and writes the bytes of each: its text or its hex; where it has neither, a sequence for each of its actions, by the action and
-its fields, whatever its words say; and nothing where it has none. So the stream comes back, with what jq -c or sed changed.
-The kind totals has no bytes. What is no such line is refused, as are actions that no sequence has, and a line of more than 16 MiB.
+Write the stream of lines that explain --json wrote. Each line of a FILE is an
+object of JSON. If it has text or hex, these bytes are written. If it has
+neither, a sequence is written for each of its actions, by the action and its
+fields, whatever the words say. If it has no actions, nothing is written. So
+jq -c or sed can edit a stream. The kind totals has no bytes.
 
-  -h, --help     this text";
+If there is no FILE, or if it is -, standard input is read. A line that isn't
+such an object is refused, and so are actions that no sequence has, and a line
+of more than 16 MiB.
+
+  -h, --help     Show this text.";
 
 /// The program's name and version.
-pub const VERSION: &str = "csicodec 1.8.0";
+pub const VERSION: &str = "csicodec 1.9.0";

@@ -1,12 +1,13 @@
 //! A run of a program: its words, its inputs one after the other, and what it tells of what failed.
 
-use crate::command::{Command, Request, Wrong, command_of};
+use crate::command::{Command, Request, UNREADABLE, Wrong, command_of};
 use crate::failure::{Failure, GONE};
 use crate::note::{Refusal, advice_of};
 use crate::options::{VERSION, WAITS};
-use csicodec_streams::RunError;
-use std::alloc::Global;
-use std::env;
+use crate::recording::is_recording;
+use csicodec_streams::{CHUNK, RunError, receive};
+use std::alloc::{AllocError, Global};
+use std::env::{Env, FillError};
 use std::fs::File;
 use std::io::{self, BufRead, BufReader, ErrorKind, IsTerminal, Read, Stdout, Write};
 
@@ -15,6 +16,11 @@ const INPUT: &str = "-";
 
 /// What is made of one input after the other.
 pub trait Worker {
+    /// Whether standard input is a recording of asciinema where it begins as one.
+    fn takes_recordings(&self) -> bool {
+        true
+    }
+
     /// The input of this name comes next, `-` for standard input; it could be opened.
     fn begin<W: Write>(&mut self, _name: &str, _output: &mut W) -> Result<(), RunError> {
         Ok(())
@@ -147,6 +153,9 @@ fn stopped(
 
 /// Opens a file; the status, if that failed.
 fn opened(rt: &HostRuntime, name: &str) -> Result<File, u8> {
+    if let Some(name) = name.strip_prefix(UNREADABLE) {
+        return Err(failed(rt, Failure::Open, name, None));
+    }
     match File::open(rt, name) {
         Ok(file) => Ok(file),
         Err(error) => Err(failed(rt, Failure::Open, name, Some(error))),
@@ -179,6 +188,46 @@ fn work_on_cast<T: Worker, R: Read>(
     work.read_cast(alloc, &mut input, output)
 }
 
+/// Reads the first bytes of an input: at least its first line, if that may be an object of JSON and there is room for it.
+fn receive_front<R: Read>(input: &mut R, chunk: &mut [u8]) -> Result<usize, RunError> {
+    let mut len = 0usize;
+    for _ in 0..chunk.len() {
+        let Some(room) = chunk.get_mut(len..) else {
+            break;
+        };
+        if room.is_empty() {
+            break;
+        }
+        let count = receive(input, room)?;
+        let piece = room.get(..count).unwrap_or(&[]);
+        len = len.saturating_add(count);
+        let is_whole = piece.is_empty() || piece.contains(&b'\n');
+        if is_whole || chunk.first().copied() != Some(b'{') {
+            break;
+        }
+    }
+    Ok(len)
+}
+
+/// Works on standard input, whose first bytes say whether it is a recording.
+fn work_on_either<T: Worker, R: Read>(
+    alloc: Global,
+    work: &mut T,
+    input: &mut R,
+    output: &mut Output,
+) -> Result<(), Failure> {
+    let mut chunk = [0u8; CHUNK];
+    let len = receive_front(input, &mut chunk)?;
+    let front = chunk.get(..len).unwrap_or(&[]);
+    let is_recording = is_recording(alloc, front)?;
+    let mut whole = front.chain(input);
+    if is_recording {
+        work_on_cast(alloc, work, &mut whole, output)
+    } else {
+        work.read(alloc, &mut whole, output)
+    }
+}
+
 /// Works on the input of this name, which is read from there.
 fn read_through<T: Worker, R: Read>(
     alloc: Global,
@@ -190,6 +239,8 @@ fn read_through<T: Worker, R: Read>(
     work.begin(name, output)?;
     if is_cast(name) {
         work_on_cast(alloc, work, input, output)
+    } else if name == INPUT && work.takes_recordings() {
+        work_on_either(alloc, work, input, output)
     } else {
         work.read(alloc, input, output)
     }
@@ -308,27 +359,50 @@ fn say(rt: &HostRuntime, text: &str) -> Result<(), u8> {
     }
 }
 
-/// The words of the command line behind the program's name; the status, if they can't be had.
-pub fn words_of(rt: &HostRuntime) -> Result<Vec<String>, u8> {
-    let args = match env::args(rt) {
-        Ok(args) => args,
-        Err(error) => {
-            let is_memory = error.kind() == ErrorKind::OutOfMemory;
-            let wrong = if is_memory {
-                Wrong::Memory
-            } else {
-                Wrong::NotText
-            };
-            return Err(refused(rt, wrong));
-        }
-    };
-    let mut words = Vec::new(rt.alloc());
-    for word in args.skip(1) {
-        if words.push(word).is_err() {
-            return Err(refused(rt, Wrong::Memory));
+/// The bytes of the word at this place, or none behind the last one.
+fn word_at(rt: &HostRuntime, place: usize) -> Result<Option<Vec<u8>>, AllocError> {
+    let (alloc, mut size) = (rt.alloc(), 256usize);
+    for _ in 0..u64::BITS {
+        let mut word = vec![in alloc; 0u8; size]?;
+        match rt.arg(place, word.as_mut_slice()) {
+            Ok(len) => {
+                word.truncate(len);
+                return Ok(Some(word));
+            }
+            Err(FillError::NotPresent) => return Ok(None),
+            Err(FillError::TooLong) => size = size.saturating_mul(2),
         }
     }
+    Err(AllocError)
+}
+
+/// A word as text. One that isn't UTF-8 stands behind a mark, as the name of a file that can't be opened: paths are text here.
+fn text_of_word(alloc: Global, word: &[u8]) -> Result<String, AllocError> {
+    if let Ok(word) = std::str::from_utf8(word) {
+        return String::from_str(alloc, word);
+    }
+    let shown = String::from_utf8_lossy(alloc, word)?;
+    format!(in alloc; "{UNREADABLE}{shown} (a name that is not UTF-8)")
+}
+
+/// The words of the command line behind the program's name.
+fn all_words(rt: &HostRuntime) -> Result<Vec<String>, AllocError> {
+    let mut words = Vec::new(rt.alloc());
+    for place in 1..usize::MAX {
+        let Some(word) = word_at(rt, place)? else {
+            break;
+        };
+        words.push(text_of_word(rt.alloc(), &word)?)?;
+    }
     Ok(words)
+}
+
+/// The words of the command line behind the program's name; the status, if memory ran out.
+pub fn words_of(rt: &HostRuntime) -> Result<Vec<String>, u8> {
+    match all_words(rt) {
+        Ok(words) => Ok(words),
+        Err(_) => Err(refused(rt, Wrong::Memory)),
+    }
 }
 
 /// The work that these words ask for, or none where what they ask was told; the status, if that failed.

@@ -51,6 +51,11 @@ fn failure_of(refusal: Refusal, line: u64) -> Failure {
 }
 
 impl Worker for Assembly {
+    /// A line of JSON is one, whatever it has.
+    fn takes_recordings(&self) -> bool {
+        false
+    }
+
     /// Each read's lines are written before the next, those ahead of one that is refused too.
     fn read<R: Read, W: Write>(
         &mut self,

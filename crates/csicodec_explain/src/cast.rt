@@ -4,7 +4,6 @@ use csicodec_command::{Failure, Recording};
 use csicodec_page::Explainer;
 use csicodec_streams::RunError;
 use csicodec_strings::Quoted;
-use serde_json::Value;
 use std::alloc::Global;
 use std::fmt;
 use std::io::{BufRead, Write};
@@ -54,48 +53,6 @@ impl<'a> fmt::Display for Event<'a> {
             "m" => write!(f, "marker  {}", shown(self.data)),
             _ => write_exit(f, self.data),
         }
-    }
-}
-
-/// The first line with its end, and what is behind it.
-pub fn line_front(bytes: &[u8]) -> (&[u8], &[u8]) {
-    let mut len = 0usize;
-    for byte in bytes {
-        len = len.saturating_add(1);
-        if *byte == b'\n' {
-            break;
-        }
-    }
-    bytes.split_at_checked(len).unwrap_or((bytes, &[]))
-}
-
-/// The first line of an input, where that is whole and may be an object of JSON.
-fn object_front(bytes: &[u8]) -> Option<&str> {
-    if bytes.first().copied() != Some(b'{') {
-        return None;
-    }
-    let (line, _behind) = line_front(bytes);
-    let line = line.strip_suffix(b"\n".as_slice())?;
-    std::str::from_utf8(line).ok()
-}
-
-/// Whether an object is the first line of a recording.
-fn is_header(object: &Value) -> bool {
-    match object.get("version") {
-        Some(version) => matches!(version.as_u64(), Some(2 | 3)),
-        None => false,
-    }
-}
-
-/// Whether the first bytes of an input are the first line of a recording: an object of JSON with the version.
-pub fn is_recording(alloc: Global, bytes: &[u8]) -> Result<bool, Failure> {
-    let Some(line) = object_front(bytes) else {
-        return Ok(false);
-    };
-    match Value::from_str(alloc, line) {
-        Ok(object) => Ok(is_header(&object)),
-        Err(error) if error.is_memory() => Err(Failure::Run(RunError::Memory)),
-        Err(_) => Ok(false),
     }
 }
 

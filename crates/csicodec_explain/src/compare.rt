@@ -1,8 +1,8 @@
 //! What differs between two streams in words.
 
-use crate::cast::{explain_cast, line_front};
+use crate::cast::explain_cast;
 use crate::diff::{Line, Side, lines_of};
-use csicodec_command::{Failure, Worker, work_through};
+use csicodec_command::{Failure, Worker, line_front, work_through};
 use csicodec_page::Explainer;
 use csicodec_sheet::Style;
 use csicodec_streams::{RunError, send};

@@ -10,7 +10,7 @@ mod names;
 mod timing;
 
 use assemble::Assembly;
-use cast::{explain_cast, is_recording};
+use cast::explain_cast;
 use compare::explain_diff;
 use csicodec_command::{
     ColorWhen, Failure, Places, Request, Task, Wanted, Worker, Wrong, asked, failed, is_cast,
@@ -19,13 +19,36 @@ use csicodec_command::{
 use csicodec_events::Dialect;
 use csicodec_page::Explainer;
 use csicodec_sheet::Style;
-use csicodec_streams::{CHUNK, RunError, receive};
+use csicodec_streams::RunError;
 use names::are_known;
 use std::alloc::Global;
 use std::env;
-use std::io::{BufRead, BufReader, IsTerminal, Read, Write};
+use std::io::{self, BufRead, IsTerminal, Read, Write};
 use std::process::ExitCode;
 use timing::Timing;
+
+/// An output, and whether anything was to be written; where nothing may be, that is dropped.
+#[derive(Drop)]
+struct Shown<'a, W> {
+    output: &'a mut W,
+    quiet: bool,
+    any: &'a mut bool,
+}
+
+impl<'a, W: Write> Write for Shown<'a, W> {
+    fn write(&mut self, bytes: &[u8]) -> io::Result<usize> {
+        *self.any = *self.any || !bytes.is_empty();
+        if self.quiet {
+            Ok(bytes.len())
+        } else {
+            self.output.write(bytes)
+        }
+    }
+
+    fn flush(&mut self) -> io::Result<()> {
+        self.output.flush()
+    }
+}
 
 /// Streams in words, and the times of their pieces, where they are given.
 #[derive(Drop)]
@@ -34,57 +57,51 @@ struct Explained<'a> {
     timing: Option<Timing>,
     /// Whether there are several inputs, each with its name ahead of what is told of it.
     named: bool,
-    /// Whether the next input is a recording if it begins as one.
-    guesses: bool,
-}
-
-impl<'a> Explained<'a> {
-    /// An input whose first bytes say whether it is a recording.
-    fn read_either<R: Read, W: Write>(
-        &mut self,
-        alloc: Global,
-        input: &mut R,
-        output: &mut W,
-    ) -> Result<(), Failure> {
-        let mut chunk = [0u8; CHUNK];
-        let len = receive(input, &mut chunk)?;
-        let front = &chunk[..len];
-        if front.is_empty() {
-            return Ok(());
-        }
-        if !is_recording(alloc, front)? {
-            self.explainer.take_read(front, output)?;
-            return Ok(self.explainer.read(input, output)?);
-        }
-        self.explainer.begin(None, true, output)?;
-        let Ok(mut lines) = BufReader::new(alloc, front.chain(input)) else {
-            return Err(Failure::Run(RunError::Memory));
-        };
-        explain_cast(alloc, &mut self.explainer, &mut lines, output)
-    }
+    /// Whether times are told of the next input, as its name says.
+    timed: bool,
+    /// Whether nothing is written, and whether anything was to be.
+    quiet: bool,
+    any: bool,
 }
 
 impl<'a> Worker for Explained<'a> {
+    /// With the times of `script` it is no recording of asciinema.
+    fn takes_recordings(&self) -> bool {
+        self.timing.is_none()
+    }
+
     fn begin<W: Write>(&mut self, name: &str, output: &mut W) -> Result<(), RunError> {
-        let timed = self.timing.is_some() || is_cast(name);
-        self.guesses = !timed && name == "-";
-        let name = if self.named { Some(name) } else { None };
-        self.explainer.begin(name, timed, output)
+        self.timed = self.timing.is_some() || is_cast(name);
+        let mut shown = Shown {
+            output,
+            quiet: self.quiet,
+            any: &mut self.any,
+        };
+        // What is left of the input before is told ahead of the name.
+        self.explainer.begin(None, self.timed, &mut shown)?;
+        if self.named && !self.quiet {
+            self.explainer.begin(Some(name), self.timed, output)
+        } else {
+            Ok(())
+        }
     }
 
     fn read<R: Read, W: Write>(
         &mut self,
-        alloc: Global,
+        _alloc: Global,
         input: &mut R,
         output: &mut W,
     ) -> Result<(), Failure> {
-        if self.guesses {
-            return self.read_either(alloc, input, output);
-        }
+        let mut shown = Shown {
+            output,
+            quiet: self.quiet,
+            any: &mut self.any,
+        };
         match &mut self.timing {
-            Some(timing) => timing.explain_all(&mut self.explainer, input, output),
-            None => Ok(self.explainer.read(input, output)?),
+            Some(timing) => timing.explain_all(&mut self.explainer, input, &mut shown)?,
+            None => self.explainer.read(input, &mut shown)?,
         }
+        Ok(())
     }
 
     fn read_cast<R: BufRead, W: Write>(
@@ -93,11 +110,24 @@ impl<'a> Worker for Explained<'a> {
         input: &mut R,
         output: &mut W,
     ) -> Result<(), Failure> {
-        explain_cast(alloc, &mut self.explainer, input, output)
+        if !self.timed {
+            self.explainer.begin(None, true, output)?;
+        }
+        let mut shown = Shown {
+            output,
+            quiet: self.quiet,
+            any: &mut self.any,
+        };
+        explain_cast(alloc, &mut self.explainer, input, &mut shown)
     }
 
     fn end<W: Write>(&mut self, output: &mut W) -> Result<(), RunError> {
-        self.explainer.end(output)
+        let mut shown = Shown {
+            output,
+            quiet: self.quiet,
+            any: &mut self.any,
+        };
+        self.explainer.end(&mut shown)
     }
 }
 
@@ -112,12 +142,6 @@ fn dialect_of(wanted: Wanted<'_>) -> Option<Dialect> {
     }
 }
 
-/// The first and the last place.
-fn ends_of(places: Option<Places>) -> Option<(u64, u64)> {
-    let places = places?;
-    Some((places.first, places.last))
-}
-
 /// Whether lines are told in colours: if that is asked for, or where a terminal shows them to someone who didn't say by NO_COLOR that
 /// they aren't wanted.
 fn is_colored(rt: &HostRuntime, color: ColorWhen, live: bool) -> bool {
@@ -126,6 +150,12 @@ fn is_colored(rt: &HostRuntime, color: ColorWhen, live: bool) -> bool {
         ColorWhen::Never => false,
         ColorWhen::Auto => live && env::var(rt, "NO_COLOR").is_err(),
     }
+}
+
+/// The first and the last place.
+fn ends_of(places: Option<Places>) -> Option<(u64, u64)> {
+    let places = places?;
+    Some((places.first, places.last))
 }
 
 /// How the streams of a run are explained.
@@ -158,6 +188,7 @@ fn times_of(rt: &HostRuntime, name: &str, typed: bool) -> Result<Timing, u8> {
     }
 }
 
+/// Tells what is wanted; the status, which is 1 where something is looked for and isn't there.
 fn explain(rt: &HostRuntime, run: &Request<'_>) -> Result<(), u8> {
     let style = style_of(rt, run);
     if run.wanted.diff {
@@ -171,9 +202,13 @@ fn explain(rt: &HostRuntime, run: &Request<'_>) -> Result<(), u8> {
         explainer: Explainer::new(rt.alloc(), style),
         timing,
         named: run.files.len() > 1,
-        guesses: false,
+        timed: false,
+        quiet: run.wanted.quiet,
+        any: false,
     };
-    work_through(rt, &mut work, &run.files)
+    work_through(rt, &mut work, &run.files)?;
+    let asks = run.wanted.quiet || run.wanted.unknown || run.wanted.grep.is_some();
+    if asks && !work.any { Err(1) } else { Ok(()) }
 }
 
 /// Explains what the words of the command line ask for, if they do so in names that there are; the status, if that failed.

@@ -1,8 +1,7 @@
 //! The times that `script` wrote beside a recording: a line for each piece, with the seconds since the piece before and how many
 //! bytes it has; in the newer form a letter stands ahead of both, `O` for what was written, `I` for what was typed.
 
-use crate::cast::line_front;
-use csicodec_command::{Failure, micros};
+use csicodec_command::{Failure, line_front, micros};
 use csicodec_page::Explainer;
 use csicodec_streams::{CHUNK, RunError, receive};
 use std::alloc::Global;

@@ -52,7 +52,7 @@ fn resumed(mode: Mode, looked: usize, bytes: &[u8]) -> Events
     }
 }
 
-/// Tells what output has too: text is over where ESC follows, and a control within a sequence has no bytes of its own.
+/// Tells what output has too: text is over where ESC follows.
 fn tell_output(
     page: &mut Page<'_>,
     modes: Modes,
@@ -65,36 +65,33 @@ fn tell_output(
         Event::Esc => Kind::Esc,
         Event::Str => Kind::Str,
         Event::Other => Kind::Other,
-        Event::Control(byte) => {
-            let did = Did::of_control(byte);
-            return page.add_did(Kind::Text, Sort::Control, &[], &did);
-        }
-        Event::Csi(control) => {
-            return match Did::of_sequence(params, control) {
-                Some(did) => page.add_did(Kind::Csi, Sort::Sequence, sent.bytes, &did),
-                None => page.add_read(sent.bytes, params, control),
-            };
-        }
+        Event::Control(_) => return Ok(()),
+        Event::Csi(control) => return page.add_read(sent.bytes, params, control),
     };
     let over = sent.rest.first().copied() == Some(0x1b);
     page.add(modes.before, kind, sent.bytes, modes.after, over)
 }
 
-/// Tells an event; of a control sequence these are the tokens.
+/// Tells an event; of a control sequence these are the tokens. A control within a sequence has no bytes of its own.
 fn tell(
     page: &mut Page<'_>,
     modes: Modes,
     sent: Sent<'_>,
     params: &[CsiParam],
 ) -> Result<(), AllocError> {
-    let (kind, sort, did) = match sent.event {
-        InputEvent::Output(event) => return tell_output(page, modes, event, sent, params),
-        InputEvent::Linux(character) => { (Kind::Csi, Sort::Sequence, Did::of_console(character)) }
-        InputEvent::Rxvt(number) => (Kind::Csi, Sort::Sequence, Did::of_rxvt(number)),
-        InputEvent::Mouse => (Kind::Csi, Sort::Sequence, Did::of_mouse(sent.bytes)),
-        InputEvent::Ss3(character) => (Kind::Esc, Sort::Escape, Did::of_ss3(character)),
-        InputEvent::Alt(character) => (Kind::Esc, Sort::Escape, Did::of_alt(character)),
-        InputEvent::Escape => (Kind::Esc, Sort::Escape, Did::of_escape()),
+    let Some(did) = Did::of(sent.event, sent.bytes, params) else {
+        let event = match sent.event {
+            InputEvent::Output(event) => event,
+            _ => Event::Other,
+        };
+        return tell_output(page, modes, event, sent, params);
+    };
+    let (kind, sort) = match sent.event {
+        InputEvent::Output(Event::Control(_)) => {
+            return page.add_did(Kind::Text, Sort::Control, &[], &did);
+        }
+        InputEvent::Ss3(_) | InputEvent::Alt(_) | InputEvent::Escape => (Kind::Esc, Sort::Escape),
+        _ => (Kind::Csi, Sort::Sequence),
     };
     page.add_did(kind, sort, sent.bytes, &did)
 }

@@ -358,7 +358,7 @@ impl<'a> Page<'a> {
         kind: Kind,
         sort: Sort,
         bytes: &[u8],
-        did: &Did<'_>,
+        did: &Did,
     ) -> Result<(), AllocError> {
         self.close()?;
         let span = self.span_here(sort, bytes);
@@ -458,9 +458,13 @@ impl<'a> Page<'a> {
         };
         self.sheet.begin(span)?;
         let is_input = self.sheet.style().dialect.is_some();
-        match bytes.first() {
-            Some(byte) if is_input => self.sheet.add(span, &Did::of_control(*byte))?,
-            _ => self.sheet.add(span, &words_of(bytes))?,
+        let did = match bytes.first() {
+            Some(byte) if is_input => Did::of_control(*byte),
+            _ => None,
+        };
+        match did {
+            Some(did) => self.sheet.add(span, &did)?,
+            None => self.sheet.add(span, &words_of(bytes))?,
         }
         self.sheet.end()?;
         self.sheet.keep(bytes, 0)

@@ -1,5 +1,6 @@
 //! Recordings of asciinema with other data.
 
+use crate::log::Log;
 use csicodec_clean::{Cleaner, Dropped, Kept, Passing, strip};
 use csicodec_command::{Failure, Recording, time_of};
 use csicodec_compact::Compactor;
@@ -29,21 +30,15 @@ pub enum Stage {
     PlainLines(Lines<Dropped, ()>),
     /// The same with its styles.
     StyledLines(Lines<Kept, Passing>),
-    /// Plain text, each line as a terminal would show it at its end.
+    /// Plain text, each line as it stands when it ends.
     Overwritten(Overwriter),
+    /// The same, each line by itself.
+    Logged(Log),
 }
 
-/// The next data, with a carriage return ahead of each newline that stays: they were dropped, and where a recording is played a
-/// newline alone leads down, and not to the begin of the line.
-fn push_text<T: Transform>(
-    cleaner: &mut T,
-    bytes: &[u8],
-    out: &mut Vec<u8>,
-) -> Result<(), AllocError>
-    requires { T.stands cleaner.old }
-{
-    let mut text = Vec::new(*out.allocator());
-    cleaner.take(bytes, &mut text)?;
+/// A text, with a carriage return ahead of each newline that stays: they were dropped, and where a recording is played a newline
+/// alone leads down, and not to the begin of the line.
+fn append_returning(text: &[u8], out: &mut Vec<u8>) -> Result<(), AllocError> {
     for line in text.split_inclusive(|byte| *byte == b'\n') {
         match line.strip_suffix(b"\n".as_slice()) {
             Some(line) => {
@@ -63,12 +58,23 @@ impl Stage {
             Stage::Normal(filter) => filter.push(bytes, out),
             Stage::Faithful(filter) => filter.push(bytes, out),
             Stage::Short(filter) => filter.push(bytes, out),
-            Stage::Plain(cleaner) => push_text(cleaner, bytes, out),
-            Stage::Styled(cleaner) => push_text(cleaner, bytes, out),
-            Stage::PlainLines(lines) => push_text(lines, bytes, out),
-            Stage::StyledLines(lines) => push_text(lines, bytes, out),
-            Stage::Overwritten(lines) => push_text(lines, bytes, out),
+            Stage::Plain(cleaner) => cleaner.take(bytes, out),
+            Stage::Styled(cleaner) => cleaner.take(bytes, out),
+            Stage::PlainLines(lines) => lines.take(bytes, out),
+            Stage::StyledLines(lines) => lines.take(bytes, out),
+            Stage::Overwritten(lines) => lines.take(bytes, out),
+            Stage::Logged(log) => log.push(bytes, out),
         }
+    }
+
+    /// The next data, as a recording has them.
+    fn push_recorded(&mut self, bytes: &[u8], out: &mut Vec<u8>) -> Result<(), AllocError> {
+        if !self.is_safe() {
+            return self.push(bytes, out);
+        }
+        let mut text = Vec::new(*out.allocator());
+        self.push(bytes, &mut text)?;
+        append_returning(&text, out)
     }
 
     /// Whether the data are made safe, so that nothing else of the recording may be a control either.
@@ -79,7 +85,8 @@ impl Stage {
             | Stage::Styled(_)
             | Stage::PlainLines(_)
             | Stage::StyledLines(_)
-            | Stage::Overwritten(_) => true,
+            | Stage::Overwritten(_)
+            | Stage::Logged(_) => true,
         }
     }
 
@@ -94,6 +101,7 @@ impl Stage {
             Stage::PlainLines(lines) => lines.end(out),
             Stage::StyledLines(lines) => lines.end(out),
             Stage::Overwritten(lines) => lines.finish(out),
+            Stage::Logged(log) => log.finish(out),
         }
     }
 }
@@ -155,7 +163,9 @@ pub fn rewrite_cast<R: BufRead, W: Write>(
         };
         let time = time_of(text.trim());
         out.clear();
-        stage.push(data.as_bytes(), &mut out).map_err(no_memory)?;
+        stage
+            .push_recorded(data.as_bytes(), &mut out)
+            .map_err(no_memory)?;
         send_event(alloc, stage, time, &out, output)?;
         if reading.counts_from_begin() {
             last.clear();
@@ -167,6 +177,31 @@ pub fn rewrite_cast<R: BufRead, W: Write>(
     if !out.is_empty() {
         send_event(alloc, stage, &last, &out, output)?;
     }
+    reading.end()
+}
+
+/// Writes what becomes of what the programs of a recording wrote, and no recording.
+pub fn unwrap_cast<R: BufRead, W: Write>(
+    alloc: Global,
+    stage: &mut Stage,
+    input: &mut R,
+    output: &mut W,
+) -> Result<(), Failure> {
+    let mut reading = Recording::new(alloc);
+    let (mut line, mut out) = (Vec::new(alloc), Vec::new(alloc));
+    for _ in 0..u64::MAX {
+        let Some(text) = reading.next_line(input, &mut line)? else {
+            break;
+        };
+        if let Some(data) = reading.take(text)? {
+            out.clear();
+            stage.push(data.as_bytes(), &mut out).map_err(no_memory)?;
+            send(output, &out)?;
+        }
+    }
+    out.clear();
+    stage.finish(&mut out).map_err(no_memory)?;
+    send(output, &out)?;
     reading.end()
 }
 
@@ -189,7 +224,7 @@ pub(crate) fn written_of<R: BufRead>(alloc: Global, input: &mut R) -> Result<Vec
     Ok(written)
 }
 
-/// Each line as a terminal would show it at its end, with how it looks.
+/// Each line as it stands when it ends, with how it looks.
 fn painted(alloc: Global, written: &[u8]) -> Result<Vec<u8>, AllocError> {
     let mut lines = Overwriter::painting(alloc);
     let mut out = Vec::new(alloc);
@@ -198,7 +233,7 @@ fn painted(alloc: Global, written: &[u8]) -> Result<Vec<u8>, AllocError> {
     Ok(out)
 }
 
-/// Writes what the programs of a recording wrote as a piece of a page, each line as a terminal would show it at its end or not.
+/// Writes what the programs of a recording wrote as a piece of a page, each line as it stands when it ends or not.
 pub fn html_cast<R: BufRead, W: Write>(
     alloc: Global,
     markup: Markup,

@@ -5,9 +5,10 @@
 
 mod cast;
 mod check;
+mod log;
 mod palette;
 
-use cast::{Stage, html_cast, no_memory, rewrite_cast};
+use cast::{Stage, html_cast, no_memory, rewrite_cast, unwrap_cast};
 use check::{check_cast, check_stream};
 use csicodec_clean::{Cleaner, Depth, Dropped, Kept, Passing, clean_all_with, strip_all};
 use csicodec_command::{
@@ -20,6 +21,7 @@ use csicodec_lines::{Lines, clean_lines_all, strip_lines_all};
 use csicodec_overwrite::{Overwriter, html_overwritten_all, overwrite_all};
 use csicodec_spans::LIMIT;
 use csicodec_streams::{RunError, send};
+use log::{Log, log_all};
 use palette::palette_of;
 use std::alloc::Global;
 use std::io::{BufRead, Read, Write};
@@ -37,8 +39,12 @@ enum Work {
     Strip {
         lines: bool,
     },
-    /// Plain text, each line as a terminal would show it at its end.
+    /// Plain text, each line as it stands when it ends.
     Overwrite,
+    /// Each line by itself, as it stands when it ends, with these of its styles.
+    Log {
+        styles: Option<Passing>,
+    },
     /// Nothing: it is told where an input is plain text no more.
     Check,
     Clean {
@@ -97,11 +103,18 @@ impl Work {
             },
             Task::Strip if run.check => Work::Check,
             Task::Strip if run.overwrites() => Work::Overwrite,
+            Task::Strip if run.log => Work::Log { styles: None },
             Task::Strip => Work::Strip { lines: run.lines },
             Task::Clean => {
                 let (depth, links) = (depth_of(run.depth), run.links);
+                let passing = Passing { depth, links };
+                if run.log {
+                    return Ok(Work::Log {
+                        styles: Some(passing),
+                    });
+                }
                 Work::Clean {
-                    passing: Passing { depth, links },
+                    passing,
                     lines: run.lines,
                 }
             }
@@ -133,6 +146,7 @@ impl Work {
             Work::Strip { lines: true } => Stage::PlainLines(Lines::stripped(alloc)),
             Work::Strip { .. } => Stage::Plain(Cleaner::new(alloc, Dropped)),
             Work::Overwrite => Stage::Overwritten(Overwriter::new(alloc)),
+            Work::Log { styles } => Stage::Logged(Log::new(alloc, *styles)),
             Work::Clean {
                 passing,
                 lines: true,
@@ -184,6 +198,7 @@ impl Worker for Work {
             Work::Strip { lines: true } => strip_lines_all(alloc, input, output)?,
             Work::Strip { .. } => strip_all(alloc, input, output)?,
             Work::Overwrite => overwrite_all(alloc, input, output)?,
+            Work::Log { styles } => log_all(alloc, *styles, input, output)?,
             Work::Clean {
                 passing,
                 lines: true,
@@ -229,6 +244,42 @@ impl Worker for Work {
     }
 }
 
+/// What is made of inputs, and whether of a recording comes what its programs wrote, and no recording.
+#[derive(Drop)]
+struct Job {
+    work: Work,
+    text: bool,
+}
+
+impl Worker for Job {
+    fn read<R: Read, W: Write>(
+        &mut self,
+        alloc: Global,
+        input: &mut R,
+        output: &mut W,
+    ) -> Result<(), Failure> {
+        self.work.read(alloc, input, output)
+    }
+
+    fn read_cast<R: BufRead, W: Write>(
+        &mut self,
+        alloc: Global,
+        input: &mut R,
+        output: &mut W,
+    ) -> Result<(), Failure> {
+        if self.text {
+            if let Some(mut stage) = self.work.stage(alloc) {
+                return unwrap_cast(alloc, &mut stage, input, output);
+            }
+        }
+        self.work.read_cast(alloc, input, output)
+    }
+
+    fn end<W: Write>(&mut self, output: &mut W) -> Result<(), RunError> {
+        self.work.end(output)
+    }
+}
+
 /// Does what the words of the command line say; the status, if that failed.
 fn started(rt: &HostRuntime) -> Result<(), u8> {
     let words = words_of(rt)?;
@@ -236,7 +287,10 @@ fn started(rt: &HostRuntime) -> Result<(), u8> {
         return Ok(());
     };
     match Work::new(rt.alloc(), &run) {
-        Ok(mut work) => work_through(rt, &mut work, &run.files),
+        Ok(work) => {
+            let text = run.text;
+            work_through(rt, &mut Job { work, text }, &run.files)
+        }
         Err(wrong) => Err(refused(rt, wrong)),
     }
 }

@@ -13,6 +13,11 @@ use std::process::ExitCode;
 struct Normal;
 
 impl Worker for Normal {
+    /// A recording is no control sequence.
+    fn takes_recordings(&self) -> bool {
+        false
+    }
+
     fn read<R: Read, W: Write>(
         &mut self,
         alloc: Global,

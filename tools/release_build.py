@@ -17,7 +17,7 @@ TARGETS = {HERE: ("x86_64-unknown-linux-gnu", ["--cpu", "x86-64"]), "aarch64-lin
 # Which version of C's calls the shared library asks for: the oldest that the processor has.
 GLIBC = {HERE: "2.2.5", "aarch64-linux": "2.17"}
 LOADER = {HERE: "x86_64", "aarch64-linux": "aarch64"}
-MANY_EVENTS = ["csicodec_size_of_stream", "csicodec_begin", "csicodec_tell"]
+MANY_EVENTS = ["csicodec_strip_text", "csicodec_clean_text", "csicodec_begin", "csicodec_tell"]
 C_CALLS = ("malloc", "realloc", "free", "memcpy", "memmove", "memset", "memcmp", "memchr", "bcmp")
 C_FLAGS = ["-O2", "-ffreestanding", "-ffunction-sections", "-fno-asynchronous-unwind-tables", "-Wall", "-Wextra", "-Werror"]
 
@@ -199,18 +199,18 @@ def link_program(kit, place, made, to, room):
 
 
 def link_library(kit, place, made, folder, room):
-    """The archive, with the calls of the heap in it; and the shared library, which exports the calls of the header and of
-    system/events.c, and nothing else."""
+    """The archive, one object with the calls of the heap in it, whose names are its own; and the shared library, which exports the calls of
+    the header and of system/events.c, and nothing else."""
     target, major = TARGETS[place][0], version().split(".")[0]
     own = tempfile.mkdtemp(dir=room)
     kit.tool("llvm-ar", "x", made[place, LIBRARY], cwd=own)
     parts = sorted(os.listdir(own))
     if len(parts) != 1:
         raise Stop(f"release: {made[place, LIBRARY]} has {len(parts)} members, not 1")
-    os.rename(f"{own}/{parts[0]}", f"{own}/csicodec.o")
     kit.c_object(target, "heap", f"{own}/heap.o", "-fPIC", "-fvisibility=hidden")
-    archive = f"{folder}/libcsicodec.a"
-    kit.tool("llvm-ar", "rcsD", archive, "csicodec.o", "heap.o", cwd=own)
+    kit.tool("ld.lld", "-r", "-o", f"{own}/whole.o", f"{own}/{parts[0]}", f"{own}/heap.o")
+    kit.tool("llvm-objcopy", "--wildcard", "--localize-symbol=rattle_*", f"{own}/whole.o")
+    kit.tool("llvm-ar", "rcsD", f"{folder}/libcsicodec.a", "whole.o", cwd=own)
     with open(f"{own}/calls.c", "w", encoding="utf-8") as file:
         file.writelines(f"void {name}(void) {{}}\n" for name in C_CALLS)
     newer = "GLIBC_2.14 { global: memcpy; } GLIBC_2.2.5;\n" if place == HERE else ""
@@ -224,7 +224,7 @@ def link_library(kit, place, made, folder, room):
         file.write(f"CSICODEC_{major} {{ global: {'; '.join([*calls(), *MANY_EVENTS])}; local: *; }};\n")
     how = ["-shared", "-soname", f"libcsicodec.so.{major}", "--version-script", f"{own}/names", "-z", "relro", "-z", "now", "-z", "defs", "-z", "noexecstack"]
     how += ["--gc-sections", "--icf=safe", "--build-id=none", "--hash-style=gnu", "-s"]
-    kit.tool("ld.lld", *how, "-o", f"{folder}/libcsicodec.so", f"{own}/csicodec.o", f"{own}/heap.o", f"{own}/events.o", f"{own}/libc.so.6")
+    kit.tool("ld.lld", *how, "-o", f"{folder}/libcsicodec.so", f"{own}/{parts[0]}", f"{own}/heap.o", f"{own}/events.o", f"{own}/libc.so.6")
 
 
 def calls():
@@ -247,10 +247,12 @@ def build_files(kit, places, to, kept, room):
 
 
 def manifest(kit, to, tools):
-    """Writes MANIFEST of what lies in the folder, and of which other tools made a part of it."""
+    """Writes MANIFEST of what lies in the folder, of which statements are proved of it, and of which other tools made a part of it."""
+    with open(f"{TOP}/docs/STATEMENTS", encoding="utf-8") as file:
+        statements = file.readline().split()[1]
     found = sorted(os.path.relpath(f"{at}/{name}", to) for at, _, names in os.walk(to) for name in names if name != "MANIFEST")
     with open(f"{to}/MANIFEST", "w", encoding="utf-8") as file:
-        file.write(f"version {version()}\nkit {kit.line}\n" + "".join(f"tool {tool}\n" for tool in tools))
+        file.write(f"version {version()}\nkit {kit.line}\nstatements {statements}\n" + "".join(f"tool {tool}\n" for tool in tools))
         file.writelines(f"sources {contents(name)} {name}\n" for name in [*MADE, "web"])
         file.writelines(f"file {sum_of(f'{to}/{name}')} {os.path.getsize(f'{to}/{name}')} {name}\n" for name in found)
 

@@ -1,0 +1,136 @@
+#!/usr/bin/env python3
+"""tools/release_page.py TO [PAGE]: writes the page of these sources, with the program that a page has inside (dist/web/index.html's), to be tried
+while one works on it. What tools/release writes has the program that was built.
+
+The page is one file. Its modules of JavaScript become one script, since a page that was opened from a folder may load no other file, and its
+policy (Content-Security-Policy) names the sums of this script and of its style sheet, so that nothing else runs.
+"""
+import base64
+import hashlib
+import json
+import os
+import re
+import struct
+import sys
+import zlib
+
+sys.dont_write_bytecode = True
+from release_build import TOP, Stop, version  # noqa: E402
+
+sys.path.insert(0, f"{TOP}/tools/table")
+from examples import examples as told  # noqa: E402
+
+MOST = 700_000
+
+
+def read(path):
+    with open(f"{TOP}/{path}", encoding="utf-8", newline="") as file:
+        return file.read()
+
+
+def packed(held):
+    """A file of gzip (RFC 1952), with no time. The head is written here, since the one of Python's gzip differs between its versions."""
+    deflate = zlib.compressobj(9, zlib.DEFLATED, -15)
+    body = deflate.compress(held) + deflate.flush()
+    return b"\x1f\x8b\x08\0\0\0\0\0\x02\x03" + body + struct.pack("<II", zlib.crc32(held), len(held) % 2**32)
+
+
+def inside(held):
+    """Bytes as the page has them inside."""
+    return base64.b64encode(packed(held)).decode()
+
+
+def plain(text):
+    """A module without its comments and the blanks at the front of its lines; no text of it has either."""
+    return re.sub(r"^\s*//.*\n|^\s+", "", re.sub(r"/\*\* .*?\*/ ?|/\*\*\n.*?\*/", "", text, flags=re.S), flags=re.M)
+
+
+def bundle(entry):
+    """One script of a module and those that it stands on, lowest first: each of them a function that gives what it exports."""
+    made = {}
+
+    def name_of(path):
+        return "$" + os.path.basename(path).split(".")[0]
+
+    def add(path):
+        if path in made:
+            return
+        text, folder = read(path), os.path.dirname(path)
+        for used in re.findall(r"^import .* from '(.*)';$", text, re.M):
+            add(os.path.normpath(f"{folder}/{used}"))
+        text = re.sub(r"^import (\{.*\}) from '(.*)';$", lambda it: f"const {it[1].replace(' as ', ': ')} = {name_of(it[2])};", text, flags=re.M)
+        exported = re.findall(r"^export (?:async )?(?:function|class|const) ([\w$]+)", text, re.M)
+        text = re.sub(r"^export (?=async |function |class |const )", "", plain(text), flags=re.M)
+        made[path] = text if path == entry else f"const {name_of(path)} = (() => {{\n{text}return {{ {', '.join(exported)} }};\n}})();\n"
+
+    add(entry)
+    text = "".join(made.values())
+    if re.search(r"</script|<!--|^(?:import|export) ", text, re.I | re.M):
+        raise Stop(f"release: {entry}: what can't stand in a page's script")
+    return f"\n{text}"
+
+
+def rows_of(document, heading):
+    """The cells of the rows of a table in a document, behind a heading."""
+    lines = read(document).split(f"{heading}\n", 1)[1].split("\n## ", 1)[0].split("\n")
+    rows = [re.split(r"(?<!\\)\|", line.strip().strip("|")) for line in lines if line.startswith("| ")]
+    return [[re.sub(r"^``|``$", "", cell.strip()).strip().replace("\\|", "|") for cell in row] for row in rows[1:]]
+
+
+def tables():
+    """What the reference card has: sequences with their words and documents, forms of many, and where terminals read otherwise."""
+    examples = [line.split("\t") for line in read(".ci/sequences").split("\n") if line and not line.startswith("#")] + told()
+    forms = rows_of("docs/SEQUENCES.md", "# Control sequences without an action")
+    differences = rows_of("docs/DIFFERENCES.md", "## Kept, where a terminal or a program reads otherwise")
+    if not all(len(row) == 4 for row in [*examples, *forms]) or not all(len(row) == 3 for row in differences):
+        raise Stop("release: a row of the reference card has other columns")
+    return json.dumps({"examples": examples, "forms": forms, "differences": differences}, ensure_ascii=False, separators=(",", ":"))
+
+
+def source(text):
+    """How a policy names a script or a style sheet: by its sum."""
+    return f"'sha256-{base64.b64encode(hashlib.sha256(text.encode()).digest()).decode()}'"
+
+
+def page(program):
+    """The page, with the program as a module of WebAssembly."""
+    style, script = read("web/page/page.css"), bundle("web/page.mjs")
+    parts = {
+        "script": source(script),
+        "style": source(style),
+        "page.css": style,
+        "page.mjs": script,
+        "worker.mjs": inside(bundle("web/worker.mjs").encode()),
+        "version": version(),
+        "LICENSE": read("LICENSE").replace("&", "&amp;").replace("<", "&lt;"),
+        "program.wasm": inside(program),
+        "tables": inside(tables().encode()),
+        "vim.stream": inside(read_bytes("examples/vim.stream")),
+    }
+    text = re.sub(r"<!-- ([\w.]+) -->", lambda it: parts[it[1]], read("web/index.html"))
+    if len(text.encode()) > MOST:
+        raise Stop(f"release: the page has {len(text.encode())} bytes, over {MOST}")
+    return text
+
+
+def read_bytes(path):
+    with open(f"{TOP}/{path}", "rb") as file:
+        return file.read()
+
+
+def program_of(page_file):
+    """The module of the program that a page has inside."""
+    with open(page_file, encoding="utf-8") as file:
+        found = re.search(r'id="program">([^<]+)<', file.read())
+    if not found:
+        raise Stop(f"release: {page_file} has no program inside")
+    return zlib.decompress(base64.b64decode(found[1]), 31)
+
+
+if __name__ == "__main__":
+    try:
+        made = page(program_of(sys.argv[2] if len(sys.argv) > 2 else f"{TOP}/dist/web/index.html"))
+        with open(sys.argv[1], "w", encoding="utf-8", newline="") as file:
+            file.write(made)
+    except Stop as why:
+        sys.exit(str(why))

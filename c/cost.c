@@ -32,10 +32,26 @@ static size_t all_events(const uint8_t *bytes, size_t len) {
     return done;
 }
 
+static void count_event(void *done, const struct csicodec_parser *parser, const struct csicodec_event *event) {
+    *(size_t *)done += event->kind + parser->ended_by;
+}
+
+/* The same, pushed in pieces of this length. */
+static size_t all_fed(const uint8_t *bytes, size_t len, size_t piece) {
+    static uint8_t held[4096];
+    struct csicodec_parser parser = csicodec_parser_of(held, sizeof held, actions, 1 << 10, params, 1 << 10);
+    size_t done = 0, at;
+    for (at = 0; at < len; at += piece) csicodec_feed(&parser, bytes + at, len - at < piece ? len - at : piece, count_event, &done);
+    csicodec_finish(&parser, count_event, &done);
+    return done;
+}
+
 static size_t run(const char *call, const uint8_t *bytes, size_t len) {
     if (!strcmp(call, "next")) return all_next(bytes, len, 0);
     if (!strcmp(call, "encode")) return all_next(bytes, len, 1);
     if (!strcmp(call, "events")) return all_events(bytes, len);
+    if (!strcmp(call, "feed")) return all_fed(bytes, len, 65536);
+    if (!strcmp(call, "feed7")) return all_fed(bytes, len, 7);
     if (!strcmp(call, "normalise")) return csicodec_normalise(bytes, len, out, sizeof out).needed;
     return csicodec_next((const uint8_t *)"x", 1, actions, 1, params, 1).at;
 }

@@ -1,4 +1,5 @@
-/* Each kind of action with its text, each kind of sequence without an action, and what the calls refuse. */
+/* Each kind of action with its text, each kind of sequence without an action, and what the calls refuse. With the word `known` it says what is known
+ * of the sequences that it reads. */
 #include "csicodec.h"
 
 #include <stdio.h>
@@ -111,7 +112,21 @@ static int filters(void) {
     return csicodec_filter(0, 0, stream, 12, out, sizeof out).status == CSICODEC_BAD_STATE;
 }
 
-int main(void) {
+/* Says of each line, behind CSI, which row reads it, and the values. */
+static int says(void) {
+    char line[256] = "\x1b[";
+    while (fgets(line + 2, sizeof line - 2, stdin)) {
+        line[strcspn(line, "\n")] = 0;
+        struct csicodec_known is = known_of(line);
+        printf("%u", (unsigned)is.kind);
+        for (uint32_t i = 0; i < is.count; i++) printf(" %u", (unsigned)is.values[i]);
+        putchar('\n');
+    }
+    return 0;
+}
+
+int main(int argc, char **argv) {
+    if (argc > 1 && strcmp(argv[1], "known") == 0) return says();
     for (size_t i = 0; i < COUNT; i++) {
         if (is_kind(i)) continue;
         fprintf(stderr, "kinds: ESC %s isn't as promised\n", kinds[i].text + 1);

@@ -1,11 +1,14 @@
 /* A hostile control sequence that comes byte by byte is looked at a fixed number of times, however long it is: how many bytes all
- * calls are passed. Link with -Wl,--wrap=csicodec_next,--wrap=csicodec_event,--wrap=csicodec_span,--wrap=csicodec_filter. */
+ * calls are passed, and how often a page that was passed before is read, since these are locked. Link with -Wl,--wrap=csicodec_next,--wrap=csicodec_event,--wrap=csicodec_span,--wrap=csicodec_filter. */
+#define _DEFAULT_SOURCE
 #include "csicodec.h"
 
+#include <signal.h>
 #include <stdio.h>
 #include <string.h>
+#include <sys/mman.h>
 
-enum { LONGEST = 60000, LIMIT = 65536 };
+enum { LONGEST = 60000, LIMIT = 65536, PAGE = 4096 };
 
 struct csicodec_front __real_csicodec_next(const uint8_t *bytes, size_t len, struct csicodec_action *actions, size_t actions_room,
                                            struct csicodec_param *params, size_t params_room);
@@ -42,13 +45,31 @@ struct csicodec_filtered __wrap_csicodec_filter(uint32_t mode, size_t limit, con
     return __real_csicodec_filter(mode, limit, bytes, len, out, room);
 }
 
-static uint8_t bytes[LONGEST + 16], out[4 * LONGEST];
+static _Alignas(PAGE) uint8_t bytes[LONGEST + PAGE];
+static uint8_t out[4 * LONGEST];
+static volatile size_t reads;
+
+/* A locked page that is read is open again, up to the next call. */
+static void read_again(int number, siginfo_t *info, void *context) {
+    uint8_t *page = bytes + ((uint8_t *)info->si_addr - bytes) / PAGE * PAGE;
+    (void)number, (void)context;
+    reads++;
+    if (page < bytes || page >= bytes + sizeof bytes || mprotect(page, PAGE, PROT_READ | PROT_WRITE)) signal(SIGSEGV, SIG_DFL);
+}
+
+/* Locks the pages between that of the first byte, which each call looks at, and that of the byte that came last. */
+static void lock(size_t first, size_t last) {
+    size_t from = (first + 1) / PAGE * PAGE + PAGE, to = last / PAGE * PAGE;
+    if (from < to) mprotect(bytes + from, to - from, PROT_NONE);
+}
+
 static struct csicodec_action actions[64];
 static struct csicodec_param params[64];
 
 /* ESC and '[', this part over and over, and the end. */
 static size_t fill(const char *part, const char *end) {
     size_t len = 2, size = strlen(part);
+    mprotect(bytes, sizeof bytes, PROT_READ | PROT_WRITE);
     memcpy(bytes, "\x1b[", 2);
     for (; len + size <= LONGEST; len += size) memcpy(bytes + len, part, size);
     memcpy(bytes + len, end, strlen(end));
@@ -62,6 +83,7 @@ static int streamed(size_t len, size_t piece) {
     size_t at = 0, end = 0;
     while (end < len) {
         end = len - end > piece ? end + piece : len;
+        if (piece == 1) lock(at, end - 1);
         for (; csicodec_next_event(&stream, bytes + at, end - at, &event); at += event.used) continue;
     }
     return at == len;
@@ -71,6 +93,7 @@ static int filtered(size_t len) {
     struct csicodec_filtered step = {0, 0, 0, 0};
     size_t at = 0, end = 1, looked = 0;
     for (; end <= len; end++) {
+        lock(at, end - 1);
         if (csicodec_waits(LIMIT, bytes + at, end - at, looked)) {
             looked = end - at;
             continue;
@@ -87,6 +110,7 @@ static int stripped(size_t len) {
     struct csicodec_cleaned step = {0, {0, 0, 0, 0}, 0, 0};
     size_t at = 0, end = 1, looked = 0, held = 0;
     for (; end <= len; end++) {
+        lock(at, end - 1);
         if (csicodec_waits(LIMIT, bytes + at + held, end - at - held, looked)) {
             looked = end - at - held;
             continue;
@@ -103,15 +127,21 @@ static int stripped(size_t len) {
 int main(void) {
     static const char *const cases[][2] = {{";", "m"}, {"1;", "m"}, {"\x08", "A"}, {"1\x08;", "A"}, {"\x7f", "\x18"}, {"\x07", "\x1b[m"},
                                            {"1", "m"}, {"?", "\xc3\xa9"}, {" ", "z"}};
+    struct sigaction catch;
+    memset(&catch, 0, sizeof catch);
+    catch.sa_sigaction = read_again;
+    catch.sa_flags = SA_SIGINFO | SA_NODEFER;
+    sigaction(SIGSEGV, &catch, 0);
     for (size_t i = 0; i < sizeof cases / sizeof cases[0]; i++) {
         size_t len = fill(cases[i][0], cases[i][1]);
         int good = 1;
         for (int way = 0; way < 4; way++) {
-            passed = 0;
+            passed = reads = 0;
             good &= way == 3 ? stripped(len) : way == 2 ? filtered(len) : streamed(len, way == 0 ? 1 : len);
-            good &= passed <= 4 * len;
+            good &= passed <= 4 * len && reads * PAGE <= 4 * len;
+            mprotect(bytes, sizeof bytes, PROT_READ | PROT_WRITE);
             if (good) continue;
-            fprintf(stderr, "linear: case %zu, way %d: %zu bytes for %zu\n", i, way, passed, len);
+            fprintf(stderr, "linear: case %zu, way %d: %zu bytes for %zu, and %zu pages read again\n", i, way, passed, len, reads);
             return 1;
         }
     }

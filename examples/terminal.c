@@ -5,8 +5,8 @@
 
 enum { LINES = 24, COLUMNS = 80, ATTRIBUTES = 13 };
 
-/* The attributes that are set, each by its last action. */
-struct pen { size_t count; struct csicodec_action set[ATTRIBUTES]; };
+/* The attributes, each by its last action at the place of its kind, and zeros where that is the default. */
+struct pen { struct csicodec_action set[ATTRIBUTES]; };
 /* A cell that is safe stays in selective erasing. */
 struct cell { char character[5]; int safe; struct pen pen; };
 static struct cell page[LINES][COLUMNS];
@@ -71,10 +71,8 @@ static void text(uint8_t byte) {
 }
 
 static void set_attribute(const struct csicodec_action *action) {
-    size_t i = 0;
-    while (i < pen.count && pen.set[i].kind != action->kind) i++;
-    if (i == pen.count) pen.count++;
-    pen.set[i] = *action;
+    static const struct csicodec_action none;
+    pen.set[action->kind - CSICODEC_SGR_INTENSITY] = action->first ? *action : none;
 }
 
 /* Moves the rest of a line to the right by so many cells, or to the left. */
@@ -151,7 +149,7 @@ static void act(const struct csicodec_action *action, const struct csicodec_para
     int here = within(column, COLUMNS - 1);
     switch (action->kind) {
     case CSICODEC_UNSPECIFIED: carry_out(csicodec_known(action, params, params_count)); break;
-    case CSICODEC_SGR_RESET: pen.count = 0; break;
+    case CSICODEC_SGR_RESET: memset(&pen, 0, sizeof pen); break;
     case CSICODEC_CURSOR_UP: line = within(line - first, LINES - 1); break;
     case CSICODEC_CURSOR_DOWN: line = within(line + first, LINES - 1); break;
     case CSICODEC_CURSOR_LEFT: column = within(here - first, COLUMNS - 1); break;
@@ -184,40 +182,50 @@ static void escape(uint32_t code) {
     if (code == CSICODEC_ESC_DEC_RESTORE_CURSOR_POSITION) line = saved_line, column = saved_column;
 }
 
+/* Writes the sequences that set these attributes and no others. */
+static void show_pen(const struct pen *shown) {
+    struct csicodec_action set[ATTRIBUTES];
+    uint8_t out[512];
+    size_t count = 0, i;
+    for (i = 0; i < ATTRIBUTES; i++)
+        if (shown->set[i].kind) set[count++] = shown->set[i];
+    printf("\x1b[0m%.*s", (int)csicodec_encode(set, count, NULL, 0, out, sizeof out).needed, (const char *)out);
+}
+
 static void show_page(void) {
     static const struct pen none;
     const struct pen *now = &none;
-    uint8_t out[512];
     for (int i = 0; i < LINES; i++, putchar('\n'))
         for (int j = 0; j < COLUMNS; fputs(page[i][j++].character, stdout)) {
             const struct pen *next = &page[i][j].pen;
-            if (next->count == now->count && !memcmp(next->set, now->set, now->count * sizeof now->set[0])) continue;
-            struct csicodec_encoded done = csicodec_encode(next->set, next->count, NULL, 0, out, sizeof out);
-            printf("\x1b[0m%.*s", (int)done.needed, (const char *)out);
+            if (memcmp(next, now, sizeof *now)) show_pen(next);
             now = next;
         }
     printf("\x1b[0mline %d, column %d\n", line + 1, column + 1);
 }
 
+/* What an event does to the page. */
+static void take(void *user, const struct csicodec_parser *parser, const struct csicodec_event *event) {
+    const struct csicodec_stream *stream = &parser->stream;
+    size_t i;
+    (void)user;
+    for (i = 0; event->kind == CSICODEC_EVENT_TEXT && i < event->len; i++) text(event->bytes[i]);
+    for (i = 0; event->kind == CSICODEC_EVENT_ACTIONS && i < event->actions && i < stream->actions_room; i++)
+        act(&stream->actions[i], stream->params, stream->params_room);
+    if (event->kind == CSICODEC_EVENT_ESC) escape(event->code);
+}
+
 int main(int count, char **words) {
     struct csicodec_action actions[64];
     struct csicodec_param params[64];
-    struct csicodec_stream stream = csicodec_stream_of(4096, actions, 64, params, 64);
-    struct csicodec_event event;
-    uint8_t bytes[8192];
-    size_t held = 0, got, at, i;
+    uint8_t held[4096], bytes[8192];
+    struct csicodec_parser parser = csicodec_parser_of(held, sizeof held, actions, 64, params, 64);
+    size_t got;
     FILE *file = count > 1 ? fopen(words[1], "rb") : stdin;
     if (!file) return 1;
     for (int i = 0; i < LINES; i++) erase(i, 0, COLUMNS);
-    while ((got = fread(bytes + held, 1, sizeof bytes - held, file)) > 0) {
-        held += got;
-        for (at = 0; csicodec_next_event(&stream, bytes + at, held - at, &event); at += event.used) {
-            for (i = 0; event.kind == CSICODEC_EVENT_TEXT && i < event.len; i++) text(event.bytes[i]);
-            for (i = 0; event.kind == CSICODEC_EVENT_ACTIONS && i < event.actions && i < 64; i++) act(&actions[i], params, 64);
-            if (event.kind == CSICODEC_EVENT_ESC) escape(event.code);
-        }
-        memmove(bytes, bytes + at, held -= at);
-    }
+    while ((got = fread(bytes, 1, sizeof bytes, file)) > 0) csicodec_feed(&parser, bytes, got, take, NULL);
+    csicodec_finish(&parser, take, NULL);
     show_page();
     return 0;
 }

@@ -389,8 +389,8 @@ enum csicodec_erase_in_display {
     CSICODEC_ERASE_IN_DISPLAY_ERASE_SCROLLBACK = 3
 };
 
-/* A private mode: one that CSI ? .. h sets and CSI ? .. l resets. Those up to 8, 25, 69 and 80 are DEC's (VT510, VT382); where
- * the others are from is said at each. */
+/* A private mode: one that CSI ? .. h sets and CSI ? .. l resets. Those of DEC (VT510, VT382) begin with the name that DEC gave
+ * them; where the others are from is said at each. */
 enum csicodec_dec_private_mode_code {
     /* DECCKM: the arrow keys send application sequences. */
     CSICODEC_DEC_PRIVATE_MODE_APPLICATION_CURSOR_KEYS = 1,

@@ -1,22 +1,20 @@
 /* A terminal's stream, event by event, over the calls of csicodec.h, which includes this.
  *
+ *     static void carry_out(void *screen, const struct csicodec_parser *parser, const struct csicodec_event *event) { .. }
+ *
  *     struct csicodec_action actions[32];
  *     struct csicodec_param params[32];
- *     struct csicodec_stream stream = csicodec_stream_of(4096, actions, 32, params, 32);
- *     struct csicodec_event event;
- *     uint8_t bytes[8192];
- *     size_t held = 0, at;
- *     ssize_t got;
- *     while ((got = read(0, bytes + held, sizeof bytes - held)) > 0) {
- *         held += (size_t)got;
- *         for (at = 0; csicodec_next_event(&stream, bytes + at, held - at, &event); at += event.used) carry_out(&event);
- *         memmove(bytes, bytes + at, held -= at);
- *     }
+ *     uint8_t held[4096], bytes[8192];
+ *     struct csicodec_parser parser = csicodec_parser_of(held, sizeof held, actions, 32, params, 32);
+ *     while ((got = read(0, bytes, sizeof bytes)) > 0) csicodec_feed(&parser, bytes, (size_t)got, carry_out, &screen);
+ *     csicodec_finish(&parser, carry_out, &screen);
  *
- * The caller keeps the bytes that wait: fewer than the limit, or than 4. How a stream is cut into pieces changes only where text,
- * strings and malformed controls are cut; it never cuts a character of text.
+ * The parser keeps the bytes that wait, which are fewer than the room for them. How a stream is cut into pieces changes only where text,
+ * strings and malformed controls are cut; it never cuts a character of text. csicodec_next_event gives one event after the other of
+ * bytes that the caller keeps.
  *
- * A stream is UTF-8: bytes 80 to 9f are text, never 8-bit controls, so 9b isn't CSI. */
+ * A stream is UTF-8: bytes 80 to 9f are text, never 8-bit controls, so 9b isn't CSI. What of text is promised holds of UTF-8: a decoder
+ * that takes more than that may see a character cut. */
 #ifndef CSICODEC_STREAM_H
 #define CSICODEC_STREAM_H
 
@@ -196,6 +194,251 @@ static inline int csicodec_next_event(struct csicodec_stream *stream, const uint
         }
     }
     return csicodec_told_event(stream, bytes, len, event);
+}
+
+/* A stream that is pushed: bytes go in as they come, and events come out. The room is the caller's, and no call takes memory but for a
+ * sequence of more than 31 tokens. */
+struct csicodec_parser {
+    /* Its actions and params are those of the event that is told, as many as there is room for. */
+    struct csicodec_stream stream;
+    /* The bytes that wait, and room for them: the most bytes that a control sequence may have, at least 4. */
+    uint8_t *held;
+    size_t held_room;
+    size_t waiting;
+    /* Whether they are the beginning of a control sequence, of which nothing was looked at. */
+    int begun;
+    /* Room for a whole string, as csicodec_collect gives it; NULL while strings come in pieces. */
+    uint8_t *string;
+    size_t string_room;
+    /* Of the string that is collected, or was told last, its length, also where there was no room for all of it. */
+    size_t string_len;
+    /* What opened the string that is being collected, or 0. */
+    uint32_t collecting;
+    /* Of the last string that was told, BEL (0x07) or the ESC of ST (0x1b), as a reply mirrors it; 0 of one that was cancelled. */
+    uint8_t ended_by;
+    /* CSICODEC_OK, or why csicodec_feed stopped: CSICODEC_MEMORY or CSICODEC_BAD_STATE. */
+    uint32_t status;
+};
+
+/* Carries out an event. It is told with the parser, whose stream has the actions. */
+typedef void csicodec_teller(void *user, const struct csicodec_parser *parser, const struct csicodec_event *event);
+
+/* A new parser. */
+static inline struct csicodec_parser csicodec_parser_of(uint8_t *held, size_t held_room, struct csicodec_action *actions,
+                                                        size_t actions_room, struct csicodec_param *params, size_t params_room) {
+    struct csicodec_parser parser;
+    memset(&parser, 0, sizeof parser);
+    parser.stream = csicodec_stream_of(held_room, actions, actions_room, params, params_room);
+    parser.held = held, parser.held_room = held_room;
+    return parser;
+}
+
+/* From now on a string is told whole, when it is over: its first bytes, as many as there is room for, and `string_len` says how many it has. */
+static inline void csicodec_collect(struct csicodec_parser *parser, uint8_t *room, size_t len) {
+    parser->string = room, parser->string_room = len;
+}
+
+/* Tells the string that was collected, if one was; ended_by is 0 where it was cancelled, and its event has no `last` then. */
+static inline void csicodec_tell_string(struct csicodec_parser *parser, uint8_t ended_by, csicodec_teller *tell, void *user) {
+    struct csicodec_event event;
+    if (!parser->collecting) return;
+    memset(&event, 0, sizeof event);
+    event.kind = CSICODEC_EVENT_STRING;
+    event.string = parser->collecting;
+    event.bytes = parser->string;
+    event.len = parser->string_len < parser->string_room ? parser->string_len : parser->string_room;
+    event.first = 1, event.last = ended_by != 0;
+    parser->collecting = 0, parser->ended_by = ended_by;
+    tell(user, parser, &event);
+}
+
+/* Tells an event, or collects it if it is a piece of a string. */
+static inline void csicodec_tell_event(struct csicodec_parser *parser, const struct csicodec_event *event, csicodec_teller *tell,
+                                       void *user) {
+    int is_string = event->kind == CSICODEC_EVENT_STRING;
+    uint8_t ended_by = is_string && event->last ? event->bytes[event->len] : 0;
+    if (!is_string || event->first) csicodec_tell_string(parser, 0, tell, user);
+    if (!is_string || !parser->string) {
+        if (is_string) parser->ended_by = ended_by;
+        tell(user, parser, event);
+        return;
+    }
+    if (!parser->collecting) parser->collecting = event->string, parser->string_len = 0;
+    if (parser->string_len < parser->string_room) {
+        size_t room = parser->string_room - parser->string_len;
+        memcpy(parser->string + parser->string_len, event->bytes, event->len < room ? event->len : room);
+    }
+    parser->string_len += event->len;
+    if (event->last) csicodec_tell_string(parser, ended_by, tell, user);
+}
+
+/* Whether the bytes are the beginning of a control sequence of which the end hasn't come: nothing of it has to be looked at yet. */
+static inline int csicodec_is_begun(const struct csicodec_stream *stream, const uint8_t *bytes, size_t len) {
+    size_t i;
+    if (bytes[0] != 0x1b || (len > 1 && bytes[1] != '[')) return 0;
+    if (stream->mode != CSICODEC_FILTER_TEXT || stream->looked || len >= stream->limit) return 0;
+    for (i = 2; i < len; i++)
+        if (bytes[i] < 0x20 || bytes[i] > 0x3f) return 0;
+    return 1;
+}
+
+/* The most bytes that are taken at once to those that wait. */
+enum { CSICODEC_TAKEN = 64 };
+
+/* Tells the events at the front of some bytes; how many bytes these have. */
+static inline size_t csicodec_tell_events(struct csicodec_parser *parser, const uint8_t *bytes, size_t len, csicodec_teller *tell,
+                                          void *user) {
+    struct csicodec_event event;
+    size_t at = 0;
+    parser->status = CSICODEC_OK;
+    while (at < len) {
+        parser->begun = len - at <= CSICODEC_TAKEN && csicodec_is_begun(&parser->stream, bytes + at, len - at);
+        if (parser->begun) break;
+        if (!csicodec_next_event(&parser->stream, bytes + at, len - at, &event)) {
+            parser->status = event.status;
+            break;
+        }
+        csicodec_tell_event(parser, &event, tell, user);
+        at += event.used;
+    }
+    return at;
+}
+
+/* How many of the bytes are taken to those that wait: of a control sequence that has begun up to its end, else a few. */
+static inline size_t csicodec_taken(struct csicodec_parser *parser, const uint8_t *bytes, size_t len) {
+    size_t room = parser->held_room - parser->waiting, end = parser->waiting == 1;
+    size_t most = room < CSICODEC_TAKEN ? room : CSICODEC_TAKEN;
+    if (most > len) most = len;
+    if (!parser->begun || !most) return most;
+    if (!end || bytes[0] == '[')
+        while (end < most && bytes[end] >= 0x20 && bytes[end] < 0x40) end++;
+    else most = 1, end = 0;
+    parser->begun = end == most && most < room;
+    return end < most ? end + 1 : most;
+}
+
+/* Takes bytes to those that wait, until the events of these are told; how many it took. */
+static inline size_t csicodec_feed_waiting(struct csicodec_parser *parser, const uint8_t *bytes, size_t len, csicodec_teller *tell,
+                                           void *user) {
+    size_t at = 0, more, used;
+    do {
+        more = csicodec_taken(parser, bytes + at, len - at);
+        memcpy(parser->held + parser->waiting, bytes + at, more);
+        at += more, parser->waiting += more;
+        if (parser->begun) continue;
+        used = csicodec_tell_events(parser, parser->held, parser->waiting, tell, user);
+        parser->waiting -= used;
+        if (parser->waiting <= more) {
+            at -= parser->waiting, parser->waiting = 0;
+            return at;
+        }
+        memmove(parser->held, parser->held + used, parser->waiting);
+    } while (at < len && parser->status == CSICODEC_OK);
+    return at;
+}
+
+/* Tells the events that are sure now, and keeps the bytes that wait. It returns how many bytes it took: all of them, unless
+ * parser->status says why it stopped. After CSICODEC_MEMORY the others may be fed again. */
+static inline size_t csicodec_feed(struct csicodec_parser *parser, const uint8_t *bytes, size_t len, csicodec_teller *tell, void *user) {
+    size_t at = 0;
+    parser->status = CSICODEC_OK;
+    if (parser->waiting) at = csicodec_feed_waiting(parser, bytes, len, tell, user);
+    if (parser->waiting || at == len || parser->status != CSICODEC_OK) return at;
+    at += csicodec_tell_events(parser, bytes + at, len - at, tell, user);
+    if (parser->status != CSICODEC_OK) return at;
+    memcpy(parser->held, bytes + at, parser->waiting = len - at);
+    return len;
+}
+
+/* The end of the stream. What waits is told: an incomplete character as text, and an unfinished control as CSICODEC_EVENT_OTHER. A string
+ * that is being collected is told as one that was cancelled. Then the parser is as new. */
+static inline void csicodec_finish(struct csicodec_parser *parser, csicodec_teller *tell, void *user) {
+    struct csicodec_event event;
+    memset(&event, 0, sizeof event);
+    if (parser->waiting) {
+        int is_text = parser->stream.mode == CSICODEC_FILTER_TEXT && parser->held[0] != 0x1b;
+        csicodec_event_of(&parser->stream, &event, is_text ? CSICODEC_EVENT_TEXT : CSICODEC_EVENT_OTHER, parser->held, parser->waiting,
+                          CSICODEC_FILTER_TEXT);
+        if (!is_text) event.status = CSICODEC_TRUNCATED;
+        csicodec_tell_event(parser, &event, tell, user);
+    }
+    csicodec_tell_string(parser, 0, tell, user);
+    parser->waiting = 0, parser->stream.looked = 0, parser->stream.mode = CSICODEC_FILTER_TEXT;
+}
+
+/* How many parameters struct csicodec_raw has room for. */
+enum { CSICODEC_RAW_PARAMS = 32 };
+
+/* A parameter as it came: its number, at most 2147483647, as terminals take larger ones, or -1 where it is left out; and whether a colon
+ * stands in front of it, so that it is a part of the parameter before. */
+struct csicodec_raw_param {
+    int32_t value;
+    uint32_t is_part;
+};
+
+/* A control sequence as it came, known or not. */
+struct csicodec_raw {
+    /* '<', '=', '>' or '?' in front of the parameters, or 0. */
+    uint8_t leader;
+    /* The final byte; 0 where there is none, and the bytes are no such sequence. */
+    uint8_t final_byte;
+    /* The first intermediate bytes, behind the parameters, and 0s. */
+    uint8_t intermediates[2];
+    /* How many parameters there are; the first ones are in `params`. */
+    size_t count;
+    struct csicodec_raw_param params[CSICODEC_RAW_PARAMS];
+    /* The number of bytes up to the final one, and it. */
+    size_t used;
+};
+
+/* Takes a digit into the last parameter. */
+static inline void csicodec_raw_digit(struct csicodec_raw *raw, uint8_t digit) {
+    struct csicodec_raw_param *param = &raw->params[raw->count - 1];
+    int64_t value = param->value < 0 ? digit : (int64_t)param->value * 10 + digit;
+    param->value = value > INT32_MAX ? INT32_MAX : (int32_t)value;
+}
+
+/* Begins a parameter. */
+static inline void csicodec_raw_param_begins(struct csicodec_raw *raw, uint32_t is_part) {
+    if (raw->count < CSICODEC_RAW_PARAMS) raw->params[raw->count].value = -1, raw->params[raw->count].is_part = is_part;
+    raw->count++;
+}
+
+/* The parameters, the intermediate bytes and the final byte of the control sequence that the bytes of an event are, or of the data of a
+ * DCS, which begins in the same way. Controls within a control sequence, which are events of their own, are passed over. */
+static inline struct csicodec_raw csicodec_raw_of(const uint8_t *bytes, size_t len) {
+    struct csicodec_raw raw;
+    size_t at = len > 1 && bytes[0] == 0x1b && bytes[1] == '[' ? 2 : 0, between = 0;
+    memset(&raw, 0, sizeof raw);
+    for (; at < len; at++) {
+        uint8_t byte = bytes[at];
+        if (byte < 0x20 || byte == 0x7f) continue;
+        if (byte >= 0x40) {
+            if (byte < 0x7f) raw.final_byte = byte, raw.used = at + 1;
+            break;
+        }
+        if (byte < 0x30) {
+            if (between < sizeof raw.intermediates) raw.intermediates[between] = byte;
+            between++;
+        } else if (between || (byte >= 0x3c && (raw.leader || raw.count))) break;
+        else if (byte >= 0x3c) raw.leader = byte;
+        else {
+            if (!raw.count) csicodec_raw_param_begins(&raw, 0);
+            if (byte >= 0x3a) csicodec_raw_param_begins(&raw, byte == ':');
+            else if (raw.count <= CSICODEC_RAW_PARAMS) csicodec_raw_digit(&raw, (uint8_t)(byte - '0'));
+        }
+    }
+    return raw;
+}
+
+/* The actions of the sequence of an event once more, in other room, as where there were more than the parser's. `to` has room for as many
+ * bytes as the event has: they are put there without the controls among them, which were told. */
+static inline struct csicodec_front csicodec_again(const struct csicodec_event *event, uint8_t *to, struct csicodec_action *actions,
+                                                   size_t actions_room, struct csicodec_param *params, size_t params_room) {
+    size_t len = 0, at;
+    for (at = 0; at < event->len; at++)
+        if (!at || (event->bytes[at] >= 0x20 && event->bytes[at] != 0x7f)) to[len++] = event->bytes[at];
+    return csicodec_next(to, len, actions, actions_room, params, params_room);
 }
 
 #endif

@@ -1,53 +1,83 @@
-/* For languages where a call of C is dear, as Python: many events of a stream by one call, over csicodec_next_event of the headers. The
- * shared library has these calls beside those of the headers, which promise nothing of them. */
+/* For languages where a call of C is dear, as Python: calls that have one argument, a struct of what they are given and what they answer.
+ * The shared library has these calls beside those of the headers, which promise nothing of them. */
 #include "csicodec.h"
 
-/* An event, in 40 bytes without gaps: enum csicodec_event_kind; a status, or of an escape sequence its code; where its bytes are; its
- * actions, or of an escape sequence its two bytes, and of a string its opener; whether it is a string's first and last piece. */
+/* A text, room for what is left of it, and the answer of csicodec_strip or csicodec_clean_with, which needs SIZE_MAX where its status isn't
+ * CSICODEC_OK. */
+struct csicodec_text {
+    const uint8_t *bytes;
+    size_t len;
+    uint8_t *out;
+    size_t room;
+    uint32_t depth, links;
+    struct csicodec_stripped answer;
+};
+
+static void answer(struct csicodec_text *it, struct csicodec_stripped answer) {
+    if (answer.status != CSICODEC_OK) answer.needed = SIZE_MAX;
+    it->answer = answer;
+}
+void csicodec_strip_text(struct csicodec_text *it) { answer(it, csicodec_strip(it->bytes, it->len, it->out, it->room)); }
+void csicodec_clean_text(struct csicodec_text *it) {
+    answer(it, csicodec_clean_with(it->depth, it->links, it->bytes, it->len, it->out, it->room));
+}
+
+/* An event, in 48 bytes without gaps: enum csicodec_event_kind; a status, or of an escape sequence its code; where its bytes are; its
+ * actions, or of an escape sequence its two bytes, and of a string its opener; whether it is a string's first and last piece; and from where
+ * to where the bytes stand that alone say which event it is, none of a string and of what is malformed. */
 struct csicodec_listed {
     uint32_t kind, status;
     uint64_t at, len;
     uint32_t first, count;
     uint32_t begins, ends;
+    uint32_t from, to;
 };
 
-size_t csicodec_size_of_stream(void) { return sizeof(struct csicodec_stream); }
+/* A stream, the bytes that go on with it, and room for events, with their actions and tokens. The answer: how many events are told, how
+ * many bytes they have, and how many actions and tokens the next event has where there is no room for these. */
+struct csicodec_telling {
+    struct csicodec_stream stream;
+    const uint8_t *bytes;
+    size_t len;
+    struct csicodec_listed *told;
+    size_t told_room;
+    struct csicodec_action *actions;
+    size_t actions_room;
+    struct csicodec_param *params;
+    size_t params_room;
+    size_t count, used, actions_needed, params_needed;
+};
+_Static_assert(sizeof(struct csicodec_stream) == 88 && sizeof(struct csicodec_telling) == 184, "as python/csicodec/library.py has them");
+
 void csicodec_begin(struct csicodec_stream *stream, size_t limit) { *stream = csicodec_stream_of(limit, NULL, 0, NULL, 0); }
 
-/* Tells as many events at the front of len bytes as there is room for; answers how many, and in `used` how many bytes they have. An event
- * whose actions or tokens have no room is not told; `needed` says how many of both it has. */
-size_t csicodec_tell(struct csicodec_stream *stream, const uint8_t *bytes, size_t len, struct csicodec_listed *told, size_t told_room,
-                     struct csicodec_action *actions, size_t actions_room, struct csicodec_param *params, size_t params_room,
-                     size_t *used, size_t needed[2]) {
-    size_t count = 0, at = 0, action = 0, param = 0, i;
-    needed[0] = needed[1] = 0;
-    while (count < told_room) {
-        struct csicodec_stream before = *stream;
+/* What is listed of an event. */
+static struct csicodec_listed listed(const struct csicodec_event *event, const uint8_t *bytes, size_t action) {
+    struct csicodec_listed it = {event->kind, event->status, (uint64_t)(event->bytes - bytes), event->len, (uint32_t)action, (uint32_t)event->actions, event->first, event->last, 0, 0};
+    if (event->kind == CSICODEC_EVENT_ESC) it.status = event->code, it.first = event->intermediate, it.count = event->final_byte;
+    if (event->kind == CSICODEC_EVENT_STRING) it.first = event->string;
+    if (event->kind < CSICODEC_EVENT_STRING) it.from = (uint32_t)it.at, it.to = (uint32_t)(it.at + it.len);
+    return it;
+}
+
+/* Tells as many events at the front of the bytes as there is room for. */
+void csicodec_tell(struct csicodec_telling *it) {
+    size_t action = 0, param = 0, i;
+    it->count = it->used = it->actions_needed = it->params_needed = 0;
+    while (it->count < it->told_room) {
+        struct csicodec_stream before = it->stream;
         struct csicodec_event event;
-        stream->actions = actions + action, stream->actions_room = actions_room - action;
-        stream->params = params + param, stream->params_room = params_room - param;
-        if (!csicodec_next_event(stream, bytes + at, len - at, &event)) break;
-        if (event.kind == CSICODEC_EVENT_ACTIONS && (event.actions > actions_room - action || event.params > params_room - param)) {
-            *stream = before;
-            needed[0] = event.actions, needed[1] = event.params;
-            break;
+        it->stream.actions = it->actions + action, it->stream.actions_room = it->actions_room - action;
+        it->stream.params = it->params + param, it->stream.params_room = it->params_room - param;
+        if (!csicodec_next_event(&it->stream, it->bytes + it->used, it->len - it->used, &event)) return;
+        if (event.actions > it->actions_room - action || event.params > it->params_room - param) {
+            it->stream = before;
+            it->actions_needed = event.actions, it->params_needed = event.params;
+            return;
         }
-        told[count].kind = event.kind;
-        told[count].status = event.kind == CSICODEC_EVENT_ESC ? event.code : event.status;
-        told[count].at = (uint64_t)(event.bytes ? event.bytes - bytes : 0);
-        told[count].len = event.len;
-        told[count].first = (uint32_t)action;
-        told[count].count = (uint32_t)event.actions;
-        told[count].begins = event.first, told[count].ends = event.last;
-        if (event.kind == CSICODEC_EVENT_ESC) told[count].first = event.intermediate, told[count].count = event.final_byte;
-        if (event.kind == CSICODEC_EVENT_STRING) told[count].first = event.string;
-        if (event.kind == CSICODEC_EVENT_ACTIONS) {
-            for (i = 0; i < event.actions; i++) if (actions[action + i].len) actions[action + i].place += param;
-            action += event.actions, param += event.params;
-        }
-        count++;
-        at += event.used;
+        it->told[it->count++] = listed(&event, it->bytes, action);
+        for (i = 0; i < event.actions; i++) if (it->actions[action + i].len) it->actions[action + i].place += param;
+        action += event.actions, param += event.params;
+        it->used += event.used;
     }
-    *used = at;
-    return count;
 }

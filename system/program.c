@@ -29,17 +29,7 @@ ptrdiff_t rattle_env(const char *name, unsigned char *to, size_t room) { return 
 int rattle_errno(void) { return *__errno_location(); }
 void rattle_set_errno(int number) { *__errno_location() = number; }
 
-/* Whether a word is one of a list, which has a space between two. */
-static int is_among(const char *word, const char *list) {
-    while (*list) {
-        const char *left = word;
-        while (*left && *left == *list) left++, list++;
-        if (!*left && (*list == ' ' || !*list)) return 1;
-        while (*list && *list != ' ') list++;
-        if (*list) list++;
-    }
-    return 0;
-}
+#include "among.h"
 
 int run_normal(void), run_explain(void), run_stream(void);
 

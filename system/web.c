@@ -1,5 +1,5 @@
-/* What compiled Rattle asks for, for WebAssembly with no C library: the heap, copies, sums of 128 bits; and for a program its files,
- * words and environment, which the host has (web/csicodec.mjs). The memory has 64 bits here; binaryen makes 32 of them afterwards. */
+/* What compiled Rattle asks for, for WebAssembly with no C library: the heap, copies, sums of 128 bits; and for the program its files,
+ * words and environment, which the host has (web/page/program.mjs, web/csicodec.mjs). The memory has 64 bits here; binaryen makes 32 of them afterwards. */
 typedef __SIZE_TYPE__ size_t;
 typedef __PTRDIFF_TYPE__ ptrdiff_t;
 typedef unsigned char byte;
@@ -109,8 +109,18 @@ int __xpg_strerror_r(int number, char *to, size_t room) {
     return 0;
 }
 long __sysv_signal(int signal, long handler) { (void)signal; (void)handler; return 0; }
-int rattle_main(void);
-EXPORT(run) int run(void) { error = 0; return rattle_main(); }
+#include "among.h"
+
+/* Two of the three programs; the host's first word says which runs, and it passes no option ahead of that. STREAM_WORDS are those of
+ * tools/programs. */
+int run_explain(void), run_stream(void);
+EXPORT(run) int run(void) {
+    char word[16];
+    ptrdiff_t length = host_word(1, word, sizeof word - 1);
+    word[length > 0 ? length : 0] = 0;
+    error = 0;
+    return is_among(word, STREAM_WORDS) ? run_stream() : run_explain();
+}
 #endif
 
 /* What clang calls for 128 bits. */

@@ -101,7 +101,7 @@ def used(names, text):
 # The files that the types of the package's types.rs are in.
 NAMED = ["crates/csicodec_base/src/sgr.rt"] + [f"crates/csicodec_names/src/{name}.rt" for name in ("color", "enums", "modes", "device")]
 # The file that escape sequences are in.
-ESCAPES = ["crates/csicodec_names/src/esc.rt"]
+ESCAPES = ["crates/csicodec_names/src/esc.rt", "crates/csicodec_names/src/esc_codes.rt"]
 PARTS = {"Press": "it goes down", "Release": "it goes up", "Drag": "the mouse moves while it is down"}
 
 

@@ -1,104 +1,68 @@
-"""What the package for Python has for each kind: the library's enumerations, a frozen dataclass for each action, and their structs.
-See kinds."""
+"""What the package for Python has for each kind: the library's enumerations, and a class for each action, over the forms that the package
+has of its own. See kinds."""
+import functools
 import re
 import textwrap
 
+from kinds_known import known
 from kinds_library import BY_NUMBER, ESCAPES, NAMED, acting, declared, numbers_of, of, type_of, variants
-from kinds_specs import names_in
 from kinds_table import PATH
 
-WIDTH = 116
-NUMBER, SIZE = "int", "Optional[int]"
+WIDTH = 136
+# The form in the package's forms.py of each form of kinds_table.py; of those with names, by these.
+FORMS = {
+    "count": "OfCount",
+    "place": "OfPlace",
+    "places line col": "OfLineAndCol",
+    "places top bottom": "OfTopAndBottom",
+    "places left right": "OfLeftAndRight",
+    "int": "OfNumber",
+    "ints x y": "OfXAndY",
+    "sizes width height": "OfSize",
+    "enum Font": "OfFont",
+    "enum DecPrivateMode": "OfDecPrivateMode",
+    "enum TerminalMode": "OfTerminalMode",
+    "flag": "OfFlag",
+    "color": "OfColor",
+    "keys": "OfResource",
+    "area": "OfArea",
+    "report x y": "OfCellReport",
+    "report x_pixels y_pixels": "OfPixelReport",
+    "state": "OfKittyState",
+    "bits": "OfKittyFlags",
+    "extensions": "OfAttributes",
+    "graphics": "OfGraphics",
+}
+# An example of each group, which the tests run: a stream, and what is read of it.
+EXAMPLES = {
+    "Sgr": (r"\x1b[1;31m", "[Sgr.Intensity(value=<Intensity.Bold: 1>), Sgr.Foreground(color=PaletteColor(index=1))]"),
+    "Cursor": (r"\x1b[2A\x1b[5;7H", "[Cursor.Up(count=2), Cursor.Position(line=5, col=7)]"),
+    "Edit": (r"\x1b[K", "[Edit.EraseInLine(value=<EraseInLine.EraseToEndOfLine: 0>)]"),
+    "Mode": (r"\x1b[?25l", "[Mode.ResetDecPrivateMode(mode=<DecPrivateModeCode.ShowCursor: 25>)]"),
+    "Device": (r"\x1b[c\x1b[?62;4c", "[Device.RequestPrimaryDeviceAttributes(), Device.Vt220(attributes=(<DeviceAttributeCodes.SixelGraphics: 4>,))]"),
+    "MouseReport": (r"\x1b[<0;5;6M", "[MouseReport.SGR1006(x=5, y=6, button=<MouseButton.Button1Press: 1>, modifiers=<Modifiers.NONE: 0>)]"),
+    "Window": (r"\x1b[8;24;80t", "[Window.ResizeWindowCells(width=80, height=24)]"),
+    "Keyboard": (r"\x1b[<2u", "[Keyboard.PopKittyState(count=2)]"),
+}
+HEAD = '"""{}. Written by tools/kinds."""\nfrom __future__ import annotations\n\n'
 
 
-def prose(docs):
-    """Documentation of Rust as Python's: without its marks and links, and with examples as they are."""
-    lines = [line.strip() for line in docs.strip().split("\n")]
+def said(docs):
+    """Documentation of Rust as plain words: without its marks, links and examples."""
+    lines = [line.strip() for line in re.sub(r"(///\n\s*)?/// ```.*?/// ```\n", "", docs, flags=re.S).strip().split("\n")]
     lines = [line[3:].removeprefix(" ") if line.startswith("///") else line for line in lines]
-    return re.sub(r"\[(`[^`]*`)\](\([^)]*\))?", r"\1", "\n".join(line for line in lines if not line.startswith("```"))).replace("\\", "\\\\").strip()
+    return re.sub(r"\[(`[^`]*`)\](\([^)]*\))?", r"\1", "\n".join(lines)).replace("\\", "\\\\").strip()
 
 
-def docstring(text, indent):
-    """It as a docstring, laid out again but for its examples."""
-    parts = text.split("\n\n")
-    laid = [part if re.search(r"^ *\"", part, re.M) else textwrap.fill(" ".join(part.split()), WIDTH - indent, break_on_hyphens=False, break_long_words=False) for part in parts]
-    body = textwrap.indent("\n\n".join(laid), " " * indent)
-    return f'{" " * indent}"""{body.strip()}"""\n' if "\n" not in body else f'{" " * indent}"""{body.strip()}\n{" " * indent}"""\n'
+def filled(text, indent, before):
+    return textwrap.fill(" ".join(text.split()), WIDTH, initial_indent=indent + before, subsequent_indent=indent + before.replace('"', "")[:2], break_on_hyphens=False, break_long_words=False)
 
 
-def fields(form, names):
-    a, b = names_in(names)
-    is_mode = bool(names) and names[0] in ("DecPrivateMode", "TerminalMode")
-    return {
-        "unit": [],
-        "count": [("count", NUMBER)],
-        "place": [("place", NUMBER)],
-        "places": [(a, NUMBER), (b, NUMBER)],
-        "int": [("number", NUMBER)],
-        "ints": [(a, NUMBER), (b, NUMBER)],
-        "sizes": [(a, SIZE), (b, SIZE)],
-        "enum": [("mode", f"Union[{names[0]}Code, int]")] if is_mode else [("number", NUMBER)] if names == ["Font"] else [("value", names[0] if names else "")],
-        "flag": [("value", "bool")],
-        "color": [("color", "Color")],
-        "keys": [("resource", "XtermKeyModifierResource"), ("value", SIZE)],
-        "area": [(name, NUMBER) for name in ("request_id", "page_number", "top", "left", "bottom", "right")],
-        "report": [(a, NUMBER), (b, NUMBER), ("button", "MouseButton"), ("modifiers", "Modifiers")],
-        "state": [("flags", "KittyKeyboardFlags"), ("mode", "KittyKeyboardMode")],
-        "bits": [("flags", "KittyKeyboardFlags")],
-        "extensions": [("attributes", "Tuple[Union[DeviceAttributeCodes, Token], ...]")],
-        "graphics": [("item", "Union[XtSmGraphicsItem, int]"), ("action_or_status", NUMBER), ("value", "Tuple[int, ...]")],
-    }[form]
-
-
-def to_row(number, form, names):
-    """The struct of an action, by `row` of values.py."""
-    a, b = names_in(names)
-    value = next((field for field, _ in fields(form, names)), "")
-    return {
-        "unit": f"row({number})",
-        "count": f"row({number}, self.count)",
-        "place": f"row({number}, self.place)",
-        "places": f"row({number}, self.{a}, self.{b})",
-        "int": f"row({number}, self.number)",
-        "ints": f"row({number}, self.{a}, self.{b})",
-        "sizes": f"sized_row({number}, self.{a}, self.{b})",
-        "enum": f"row({number}, int(self.{value}))",
-        "flag": f"row({number}, int(self.value))",
-        "color": f"color_row({number}, self.color)",
-        "keys": f"sized_row({number}, int(self.resource), self.value)",
-        "area": f"row({number}, self.request_id, self.page_number, area=(self.top, self.left, self.bottom, self.right))",
-        "report": f"row({number}, self.{a}, self.{b}, button=int(self.button), modifiers=int(self.modifiers))",
-        "state": f"row({number}, int(self.flags), int(self.mode))",
-        "bits": f"row({number}, int(self.flags))",
-        "extensions": f"tokens_row(row({number}), self.attributes, params)",
-        "graphics": f"tokens_row(row({number}, int(self.item), self.action_or_status), self.value, params)",
-    }[form]
-
-
-def of_row(name, form, names):
-    """The action of a struct, of which `r` has the fields and `tokens` those that belong to it."""
-    kind = names[0] if names else ""
-    value = {"DecPrivateMode": "named(DecPrivateModeCode, r.first)", "TerminalMode": "named(TerminalModeCode, r.first)", "Font": "r.first"}.get(kind, f"{kind}(r.first)")
-    inner = {
-        "unit": "",
-        "count": "r.first",
-        "place": "r.first",
-        "places": "r.first, r.second",
-        "int": "r.first",
-        "ints": "r.first, r.second",
-        "sizes": "first(r), second(r)",
-        "enum": value,
-        "flag": "r.first != 0",
-        "color": "color(r)",
-        "keys": "XtermKeyModifierResource(r.first), second(r)",
-        "area": "r.first, r.second, r.top, r.left, r.bottom, r.right",
-        "report": "r.first, r.second, MouseButton(r.button), Modifiers(r.modifiers)",
-        "state": "KittyKeyboardFlags(r.first), KittyKeyboardMode(r.second)",
-        "bits": "KittyKeyboardFlags(r.first)",
-        "extensions": "tuple(extension(token) for token in tokens)",
-        "graphics": "named(XtSmGraphicsItem, r.first), r.second, tuple(int(token) for token in tokens)",
-    }[form]
-    return f"{name}({inner})"
+def docstring(text, indent, example=""):
+    """It as a docstring, laid out anew, with an example behind it."""
+    parts = ["\n".join(textwrap.wrap(" ".join(part.split()), WIDTH - len(indent) - 6, break_on_hyphens=False, break_long_words=False)) for part in text.split("\n\n")]
+    body = textwrap.indent("\n\n".join([*parts, *([example] if example else [])]), indent).strip()
+    return f'{indent}"""{body}"""\n' if "\n" not in body else f'{indent}"""{body}\n{indent}"""\n'
 
 
 def enumerations():
@@ -106,109 +70,78 @@ def enumerations():
     for name, docs, _, body in declared([*NAMED, *acting(), *ESCAPES]):
         rows = numbers_of(name, body)
         if rows and all(number is not None for _, number, _ in rows) and "(" not in re.sub(r"///.*", "", body):
-            yield name, docs, rows
+            yield name, said(docs), [(variant, number, said(doc)) for variant, number, doc in rows]
+    yield "XtSmGraphicsItem", "What XTSMGRAPHICS asks about; another number stands for itself.", [
+        ("NumberOfColorRegisters", 1, "How many colours a picture can have."),
+        ("SixelGraphicsGeometry", 2, "The largest picture in sixels, in pixels."),
+        ("RegisGraphicsGeometry", 3, "The largest picture in ReGIS, in pixels."),
+    ]
+
+
+def enumeration(name, docs, rows):
+    out = f"\n\nclass {name}(IntEnum):\n{docstring(docs, '    ')}\n"
+    for variant, number, doc in rows:
+        variant = f"{variant}_" if variant in ("None", "True", "False") else variant
+        out += (filled(doc, "    ", "#: ") + "\n" if doc else "") + f"    {variant} = {number}\n"
+    return out
+
+
+def listed(names):
+    return "__all__ = [\n" + "".join(f'    "{name}",\n' for name in sorted(names)) + "]\n"
+
+
+def python_enums():
+    rows = list(enumerations())
+    return HEAD.format("The enumerations, under the names of the library and with its documentation") + "from enum import IntEnum\n\n" + listed(name for name, _, _ in rows) + "".join(enumeration(*row) for row in rows)
+
+
+def bases(kind, form, names):
+    """What the class of an action stands on, and what it tells of itself."""
+    if form == "unit":
+        return f"{kind}Action", ""
+    found = FORMS.get(" ".join([form, *names]))
+    if form == "enum" and not found:
+        return f"OfMember[enums.{names[0]}], {kind}Action", f", members=enums.{names[0]}"
+    return f"{found or FORMS[form]}, {kind}Action", ""
+
+
+@functools.cache
+def docs_of():
+    """The documentation of each type, and of each of its variants."""
+    return {name: (docs, {v: doc for v, _, doc in variants(body)}) for name, docs, _, body in declared([*NAMED, *acting()])}
+
+
+def group_docs(group, variant):
+    """What a variant of a group says of itself."""
+    return said(docs_of()[variant[0] if len(variant) > 1 else type_of(group)][1].get(variant[-1], ""))
+
+
+def group_of_actions(group):
+    kind = type_of(group)
+    docs = docs_of()[kind][0]
+    text, read = EXAMPLES[kind]
+    example = f'>>> list(events("{text}"))\n{read}'.replace("\\", "\\\\")
+    out = f'\n\nclass {kind}Action(Action):\n    """Any action of {kind}."""\n'
+    out += f"\n\nclass {kind}({kind}Action, metaclass=Group):\n{docstring(said(docs), '    ', example)}"
+    for number, _, variant, form, names in of(group):
+        on, more = bases(kind, form, names)
+        out += f"\n    class {variant[-1]}({on}, kind={number}{more}):\n{docstring(group_docs(group, variant), ' ' * 8)}"
+    return out
 
 
 def python_actions():
-    out = '"""The actions and the enumerations, under the names of the library and with its documentation. Written by tools/kinds."""\n'
-    out += """from __future__ import annotations
-
-from dataclasses import dataclass
-from enum import IntEnum
-from typing import Callable, Dict, Optional, Sequence, Tuple, Union
-
-from .values import (
-    Action,
-    Color,
-    KittyKeyboardFlags,
-    Modifiers,
-    Params,
-    Row,
-    Token,
-    color,
-    color_row,
-    first,
-    named,
-    row,
-    second,
-    sized_row,
-    tokens_row,
-)
-"""
-    for name, docs, rows in enumerations():
-        out += f"\n\nclass {name}(IntEnum):\n{docstring(prose(docs), 4)}"
-        for variant, number, doc in rows:
-            comment = textwrap.fill(re.sub(r"\[(`[^`]*`)\](\([^)]*\))?", r"\1", doc), WIDTH, initial_indent="    #: ", subsequent_indent="    #: ", break_on_hyphens=False)
-            variant = f"{variant}_" if variant in ("None", "True", "False") else variant
-            out += f"\n{comment}\n    {variant} = {number}\n" if doc else f"\n    {variant} = {number}\n"
-    out += """
-
-class XtSmGraphicsItem(IntEnum):
-    \"\"\"What XTSMGRAPHICS asks about; another number stands for itself.\"\"\"
-
-    #: How many colours a picture can have.
-    NumberOfColorRegisters = 1
-    #: The largest picture in sixels, in pixels.
-    SixelGraphicsGeometry = 2
-    #: The largest picture in ReGIS, in pixels.
-    RegisGraphicsGeometry = 3
+    kinds = [type_of(group) for group in BY_NUMBER]
+    body = "".join(group_of_actions(group) for group in BY_NUMBER)
+    body += f"\n\nclass SelectCharacterPath(OfPath, kind={PATH}):\n{docstring(said(docs_of()['CSI'][1]['SelectCharacterPath']), '    ')}"
+    forms = sorted({*re.findall(r"\bOf\w+", body)})
+    out = HEAD.format("The actions, under the names of the library and with its documentation")
+    out += "from . import enums\nfrom .forms import (\n    Action,\n" + "".join(f"    {form},\n" for form in forms) + "    Unspecified,\n)\nfrom .values import Group\n\n"
+    return out + listed(["SelectCharacterPath", "Unspecified", *kinds, *(f"{kind}Action" for kind in kinds)]) + body
 
 
-def extension(token: Token) -> Union[DeviceAttributeCodes, Token]:
-    \"\"\"An extension by its name, if its number has one.\"\"\"
-    return token if isinstance(token, str) else named(DeviceAttributeCodes, token)
-"""
-    docs_of = {name: (docs, {v: doc for v, _, doc in variants(body)}) for name, docs, _, body in declared([*NAMED, *acting()])}
-    readers = ""
-    for group in BY_NUMBER:
-        kind = type_of(group)
-        docs, each = docs_of[kind]
-        out += f"\n\nclass {kind}Action(Action):\n    \"\"\"Any action of {kind}, for `isinstance` and `match`.\"\"\"\n"
-        out += f"\n\nclass {kind}:\n{docstring(prose(docs), 4)}"
-        for number, _, variant, form, names in of(group):
-            doc = each.get(variant[0], "")
-            if len(variant) > 1:
-                doc = docs_of[variant[0]][1][variant[1]]
-            name = variant[-1]
-            out += f"\n    @dataclass(frozen=True)\n    class {name}({kind}Action):\n{docstring(prose(doc), 8)}\n"
-            out += "".join(f"        {field}: {type_}\n" for field, type_ in fields(form, names)) + ("\n" if fields(form, names) else "")
-            out += f"        def _row(self, params: Params) -> Row:\n            return {to_row(number, form, names)}\n"
-            readers += f"    {number}: lambda r, tokens: {of_row(f'{kind}.{name}', form, names)},\n"
-    path_docs = docs_of["CSI"][1]
-    names = [*(name for name, _, _ in enumerations()), "XtSmGraphicsItem", "SelectCharacterPath", "Unspecified"]
-    names += [name for group in BY_NUMBER for name in (type_of(group), f"{type_of(group)}Action")]
-    all_names = "".join(f'    "{name}",\n' for name in sorted(names))
-    out += f"""
-
-@dataclass(frozen=True)
-class SelectCharacterPath(Action):
-{docstring(prose(path_docs['SelectCharacterPath']), 4)}
-    path: CharacterPath
-    effect: int
-
-    def _row(self, params: Params) -> Row:
-        return row({PATH}, int(self.path), self.effect)
-
-
-@dataclass(frozen=True)
-class Unspecified(Action):
-    \"\"\"A control sequence that no other action stands for, with nothing lost: its parameters, each a number or a character such as ';',
-    and its final character.
-    \"\"\"
-
-    params: Tuple[Token, ...]
-    control: str
-
-    def _row(self, params: Params) -> Row:
-        return tokens_row(row(0, final=ord(self.control)), self.params, params)
-
-
-__all__ = [
-{all_names}]
-
-READERS: Dict[int, Callable[[Row, Sequence[Token]], Action]] = {{
-    0: lambda r, tokens: Unspecified(tuple(tokens), chr(r.final)),
-{readers}    {PATH}: lambda r, tokens: SelectCharacterPath(CharacterPath(r.first), r.second),
-}}
-"""
+def python_known():
+    out = HEAD.format("The kinds of control sequences without an action") + "from enum import IntEnum\n\n\n"
+    out += 'class KnownKind(IntEnum):\n    """A row of docs/SEQUENCES.md, under its name in C: its form, what it says, and the document that it comes from."""\n\n'
+    for name, (kind, _, form, _, words, source) in known():
+        out += filled(f"`` {form} ``: {words} ({source}).", "    ", "#: ") + f"\n    {name} = {kind}\n"
     return out

@@ -4,9 +4,8 @@ use Rattle.csicodec_spans.specs.declared.table.Kind.{Kind}
 use Rattle.csicodec_spans.specs.declared.table.Kind.TheVariants as kinds
 use Rattle.csicodec_spans.specs.declared.table.Mode.{Mode}
 use Rattle.csicodec_spans.specs.Parts.{Cuts, IsMaximal, IsUnsure}
-use Rattle.csicodec_names.specs.declared.esc.EscCode.{EscCode}
-use Rattle.csicodec_names.specs.Esc.{packed}
-use Rattle.csicodec_names.specs.EscCodes.{esc_number}
+use Rattle.csicodec_names.specs.declared.esc_codes.EscCode.{EscCode}
+use Rattle.csicodec_names.specs.Esc.{esc_number, packed}
 use Rattle.csicodec_structs.specs.Status.{status_number}
 use Rattle.csicodec_structs.specs.declared.status.Status.{Status}
 use Rattle.csicodec_structs.specs.declared.status.Status.TheVariants as status

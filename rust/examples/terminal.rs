@@ -17,7 +17,7 @@ const BLANK: Cell = Cell {
 };
 
 /// A cell that is safe stays in selective erasing.
-#[derive(Clone)]
+#[derive(Clone, Copy)]
 struct Cell {
     character: char,
     safe: bool,
@@ -94,7 +94,7 @@ impl Terminal {
         Cell {
             character,
             safe: self.safe,
-            pen: self.pen.clone(),
+            pen: self.pen,
         }
     }
 

@@ -11,8 +11,8 @@ use std::io::{self, ErrorKind, Read, Write};
 /// assert_eq!(csicodec::strip(b"a\x1b[31mb\x1b]0;title\x07\r\n")?, "ab\n");
 /// # Ok::<(), csicodec::Error>(())
 /// ```
-pub fn strip(bytes: &[u8]) -> Result<String, Error> {
-    left(raw::strip, bytes)
+pub fn strip(bytes: impl AsRef<[u8]>) -> Result<String, Error> {
+    left(raw::strip, bytes.as_ref())
 }
 
 /// The text of untrusted bytes as [`strip`], with the attributes (SGR) that hide nothing, in their normal form. If the last of them
@@ -22,8 +22,8 @@ pub fn strip(bytes: &[u8]) -> Result<String, Error> {
 /// assert_eq!(csicodec::clean(b"\x1b[01;31mred\x1b[2Jtext")?, "\x1b[1m\x1b[31mredtext\x1b[0m");
 /// # Ok::<(), csicodec::Error>(())
 /// ```
-pub fn clean(bytes: &[u8]) -> Result<String, Error> {
-    left(raw::clean, bytes)
+pub fn clean(bytes: impl AsRef<[u8]>) -> Result<String, Error> {
+    left(raw::clean, bytes.as_ref())
 }
 
 /// Which colours stay.
@@ -69,11 +69,11 @@ pub struct Passing {
 /// assert_eq!(clean_with(linked, b"\x1b]8;;http://a.example\x07text")?, "\x1b]8;;http://a.example\x1b\\text\x1b]8;;\x1b\\");
 /// # Ok::<(), csicodec::Error>(())
 /// ```
-pub fn clean_with(passing: Passing, bytes: &[u8]) -> Result<String, Error> {
+pub fn clean_with(passing: Passing, bytes: impl AsRef<[u8]>) -> Result<String, Error> {
     let (depth, links) = (passing.depth.number(), passing.links.into());
     left(
         |bytes, out| raw::clean_with(depth, links, bytes, out),
-        bytes,
+        bytes.as_ref(),
     )
 }
 
@@ -169,6 +169,16 @@ impl Cleaner {
         Ok(())
     }
 
+    /// A writer that passes on what is left of the bytes that are written to it.
+    pub fn writer<W: Write>(self, to: W) -> CleanWriter<W> {
+        CleanWriter {
+            cleaner: self,
+            to,
+            out: Vec::new(),
+            sent: 0,
+        }
+    }
+
     /// Reads to the end; writes and flushes the text as it comes, and the end. An `Err` is the reader's or the writer's, or
     /// [`ErrorKind::OutOfMemory`]: the output is then a prefix of the text, and a style may be open.
     pub fn copy(mut self, mut from: impl Read, mut to: impl Write) -> io::Result<()> {
@@ -189,5 +199,74 @@ impl Cleaner {
         self.finish(&mut out).map_err(no_memory)?;
         to.write_all(&out)?;
         to.flush()
+    }
+}
+
+/// Writes what a [`Cleaner`] leaves of the bytes that are written to it, at once. [`CleanWriter::finish`] writes the end, so that no style
+/// stays open. An error of the writer behind it is returned by the next call, and what wasn't written then comes again.
+///
+/// ```
+/// use csicodec::Cleaner;
+/// use std::io::Write;
+///
+/// let mut log = Cleaner::strip().writer(Vec::new());
+/// write!(log, "\x1b[31m{}\x1b[0m", "failed")?;
+/// assert_eq!(log.finish()?, b"failed");
+/// # Ok::<(), std::io::Error>(())
+/// ```
+#[derive(Debug)]
+pub struct CleanWriter<W: Write> {
+    cleaner: Cleaner,
+    to: W,
+    out: Vec<u8>,
+    /// How many of the bytes of `out` were written.
+    sent: usize,
+}
+
+impl<W: Write> CleanWriter<W> {
+    /// The writer behind it.
+    pub fn get_ref(&self) -> &W {
+        &self.to
+    }
+
+    /// Writes what waits.
+    fn send(&mut self) -> io::Result<()> {
+        while self.sent < self.out.len() {
+            match self.to.write(&self.out[self.sent..]) {
+                Ok(0) => return Err(ErrorKind::WriteZero.into()),
+                Ok(count) => self.sent += count,
+                Err(error) if error.kind() == ErrorKind::Interrupted => {}
+                Err(error) => return Err(error),
+            }
+        }
+        self.out.clear();
+        self.sent = 0;
+        Ok(())
+    }
+
+    /// Writes the end, and gives the writer behind it back, which isn't flushed.
+    pub fn finish(mut self) -> io::Result<W> {
+        let no_memory = |_| io::Error::from(ErrorKind::OutOfMemory);
+        let cleaner = std::mem::replace(&mut self.cleaner, Cleaner::strip());
+        cleaner.finish(&mut self.out).map_err(no_memory)?;
+        self.send()?;
+        Ok(self.to)
+    }
+}
+
+impl<W: Write> Write for CleanWriter<W> {
+    fn write(&mut self, bytes: &[u8]) -> io::Result<usize> {
+        self.send()?;
+        let no_memory = |_| io::Error::from(ErrorKind::OutOfMemory);
+        self.cleaner.push(bytes, &mut self.out).map_err(no_memory)?;
+        match self.send() {
+            // The bytes are taken: the next call tries again, and returns the error if that fails.
+            Ok(()) | Err(_) => Ok(bytes.len()),
+        }
+    }
+
+    fn flush(&mut self) -> io::Result<()> {
+        self.send()?;
+        self.to.flush()
     }
 }

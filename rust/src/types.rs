@@ -429,8 +429,8 @@ impl EraseInDisplay {
     }
 }
 
-/// A private mode: one that `CSI ? .. h` sets and `CSI ? .. l` resets. Those up to 8, 25, 69 and 80 are DEC's (VT510, VT382); where
-/// the others are from is said at each.
+/// A private mode: one that `CSI ? .. h` sets and `CSI ? .. l` resets. Those of DEC (VT510, VT382) begin with the name that DEC gave
+/// them; where the others are from is said at each.
 #[derive(Clone, Copy, Debug, PartialEq, Eq, Hash)]
 #[non_exhaustive]
 pub enum DecPrivateModeCode {

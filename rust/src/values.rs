@@ -1,17 +1,22 @@
 //! The values that actions hold.
 
+use crate::termwiz::behind_csi;
 use crate::{
-    CSI, CsiParam, Cursor, DecPrivateMode, DecPrivateModeCode, Device, DeviceAttribute, Edit,
-    Keyboard, Mode, MouseReport, Sgr, TerminalMode, TerminalModeCode, Window, XtSmGraphicsAction,
-    XtSmGraphicsItem, XtSmGraphicsStatus,
+    CSI, CsiParam, Cursor, CursorStyle, DecPrivateMode, DecPrivateModeCode, Device,
+    DeviceAttribute, Edit, Keyboard, Mode, MouseReport, Sgr, TerminalMode, TerminalModeCode,
+    Window, XtSmGraphicsAction, XtSmGraphicsItem, XtSmGraphicsStatus, XtermKeyModifierResource,
 };
+use std::fmt;
 use std::num::NonZeroU32;
 
 /// A number from 1 to 4294967295: a line, a column or a margin of the page, in cells, of which the first is 1.
-#[derive(Clone, Copy, Debug, PartialEq, Eq, Hash)]
+#[derive(Clone, Copy, Debug, PartialEq, Eq, PartialOrd, Ord, Hash)]
 pub struct OneBased(NonZeroU32);
 
 impl OneBased {
+    /// 1: the first line, column or margin.
+    pub const FIRST: OneBased = OneBased(NonZeroU32::MIN);
+
     /// This number; `None` for 0.
     pub fn new(value: u32) -> Option<Self> {
         NonZeroU32::new(value).map(OneBased)
@@ -41,6 +46,13 @@ pub struct SrgbaTuple(
     pub u8,
 );
 
+/// Red, green and blue, opaque.
+impl From<(u8, u8, u8)> for SrgbaTuple {
+    fn from((red, green, blue): (u8, u8, u8)) -> Self {
+        SrgbaTuple(red, green, blue, 255)
+    }
+}
+
 macro_rules! flags {
     ($(#[$doc:meta])* $name:ident: $($(#[$each:meta])* $flag:ident = $bits:literal),*) => {
         $(#[$doc])*
@@ -65,6 +77,16 @@ macro_rules! flags {
             /// Whether all of these are in the set.
             pub fn contains(&self, other: Self) -> bool {
                 self.bits & other.bits == other.bits
+            }
+
+            /// Whether no bit is set.
+            pub fn is_empty(&self) -> bool {
+                self.bits == 0
+            }
+
+            /// Takes these out of the set.
+            pub fn remove(&mut self, other: Self) {
+                self.bits &= !other.bits;
             }
         }
 
@@ -93,6 +115,20 @@ macro_rules! flags {
 
             fn bitor(self, other: Self) -> Self {
                 $name { bits: self.bits | other.bits }
+            }
+        }
+
+        impl std::ops::BitOrAssign for $name {
+            fn bitor_assign(&mut self, other: Self) {
+                self.bits |= other.bits;
+            }
+        }
+
+        impl std::ops::BitAnd for $name {
+            type Output = Self;
+
+            fn bitand(self, other: Self) -> Self {
+                $name { bits: self.bits & other.bits }
             }
         }
     };
@@ -133,6 +169,13 @@ flags! {
 pub struct DeviceAttributeFlags {
     /// Each of them; one can be there twice.
     pub attributes: Vec<DeviceAttribute>,
+}
+
+impl DeviceAttributeFlags {
+    /// These extensions.
+    pub fn new(attributes: Vec<DeviceAttribute>) -> Self {
+        DeviceAttributeFlags { attributes }
+    }
 }
 
 /// XTSMGRAPHICS (xterm's ctlseqs): a request for what the terminal can draw, or its answer.
@@ -223,6 +266,66 @@ impl From<u16> for TerminalMode {
         }
     }
 }
+
+impl Default for CursorStyle {
+    /// The terminal's own style.
+    fn default() -> Self {
+        CursorStyle::Default
+    }
+}
+
+impl XtermKeyModifierResource {
+    /// The resource of this number.
+    pub fn parse(value: i64) -> Option<Self> {
+        XtermKeyModifierResource::from_i64(value)
+    }
+}
+
+/// Writes the number of the item.
+impl fmt::Display for XtSmGraphicsItem {
+    fn fmt(&self, f: &mut fmt::Formatter<'_>) -> fmt::Result {
+        match self {
+            XtSmGraphicsItem::NumberOfColorRegisters => 1.fmt(f),
+            XtSmGraphicsItem::SixelGraphicsGeometry => 2.fmt(f),
+            XtSmGraphicsItem::RegisGraphicsGeometry => 3.fmt(f),
+            XtSmGraphicsItem::Unspecified(number) => number.fmt(f),
+        }
+    }
+}
+
+/// Writes the number, or the character of a byte.
+impl fmt::Display for CsiParam {
+    fn fmt(&self, f: &mut fmt::Formatter<'_>) -> fmt::Result {
+        match self {
+            CsiParam::Integer(number) => number.fmt(f),
+            CsiParam::P(byte) => char::from(*byte).fmt(f),
+        }
+    }
+}
+
+/// Each part is written as what stands behind `ESC [`.
+macro_rules! shown {
+    ($($part:ident),*) => {
+        $(impl fmt::Display for $part {
+            /// Writes what stands behind `ESC [`.
+            fn fmt(&self, f: &mut fmt::Formatter<'_>) -> fmt::Result {
+                behind_csi(self.clone(), f)
+            }
+        })*
+    };
+}
+
+shown!(
+    Sgr,
+    Cursor,
+    Edit,
+    Mode,
+    Device,
+    Window,
+    Keyboard,
+    MouseReport,
+    Unspecified
+);
 
 /// Each part is an action.
 macro_rules! from_parts {

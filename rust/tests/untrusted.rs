@@ -101,6 +101,51 @@ fn from_a_reader_to_a_writer() {
     assert_eq!(full.0, &wanted.as_bytes()[..9]);
 }
 
+/// A writer that takes three bytes at a time, and fails each second time.
+#[derive(Debug, Default)]
+struct Flaky(Vec<u8>, bool);
+
+impl Write for Flaky {
+    fn write(&mut self, bytes: &[u8]) -> io::Result<usize> {
+        self.1 = !self.1;
+        if self.1 {
+            return Err(io::ErrorKind::WouldBlock.into());
+        }
+        let count = bytes.len().min(3);
+        self.0.extend_from_slice(&bytes[..count]);
+        Ok(count)
+    }
+
+    fn flush(&mut self) -> io::Result<()> {
+        Ok(())
+    }
+}
+
+#[test]
+fn into_a_writer_that_fails() {
+    let wanted = clean(STREAM).unwrap();
+    let mut writer = Cleaner::clean(Depth::Full).writer(Flaky::default());
+    let (mut taken, mut failed) = (0, 0);
+    while taken < STREAM.len() {
+        match writer.write(&STREAM[taken..STREAM.len().min(taken + 5)]) {
+            Ok(count) => taken += count,
+            Err(error) => {
+                assert_eq!(error.kind(), io::ErrorKind::WouldBlock);
+                failed += 1;
+            }
+        }
+    }
+    assert!(failed > 0);
+    while writer.flush().is_err() {}
+    let mut sure = Vec::new();
+    let mut cleaner = Cleaner::clean(Depth::Full);
+    cleaner.push(STREAM, &mut sure).unwrap();
+    assert_eq!(writer.get_ref().0, sure);
+    let mut left = Cleaner::clean(Depth::Full).writer(Vec::new());
+    left.write_all(STREAM).unwrap();
+    assert_eq!(left.finish().unwrap(), wanted.as_bytes());
+}
+
 #[test]
 fn colons_and_semicolons() -> Result<(), Error> {
     let limit = NonZeroUsize::new(65536).unwrap();

@@ -14,6 +14,19 @@ PLACES = {
     "x86_64-linux": "manylinux2014_x86_64.manylinux_2_17_x86_64.musllinux_1_1_x86_64",
     "aarch64-linux": "manylinux2014_aarch64.manylinux_2_17_aarch64.musllinux_1_1_aarch64",
 }
+CLASSIFIERS = [
+    "Development Status :: 5 - Production/Stable",
+    "Intended Audience :: Developers",
+    "License :: OSI Approved :: MIT License",
+    "Operating System :: POSIX :: Linux",
+    "Programming Language :: Python :: 3 :: Only",
+    *(f"Programming Language :: Python :: 3.{minor}" for minor in range(9, 14)),
+    "Topic :: Software Development :: Libraries",
+    "Topic :: System :: Logging",
+    "Topic :: Terminals",
+    "Topic :: Text Processing :: Filters",
+    "Typing :: Typed",
+]
 
 
 def version():
@@ -21,21 +34,30 @@ def version():
         return re.search(r'^__version__ = "(.*)"$', file.read(), re.M)[1]
 
 
+def about():
+    """What is told of the project, of tools/about.txt or of its copy beside this file: what is empty isn't."""
+    path = next(path for path in (f"{HERE}/about.txt", f"{HERE}/../tools/about.txt") if os.path.exists(path))
+    with open(path, encoding="utf-8") as file:
+        pairs = [line.strip().partition(":") for line in file if not line.startswith("#")]
+    return {name: value.strip() for name, _, value in pairs if value.strip()}
+
+
 def metadata():
     """What the packages tell of themselves, with the README as their description."""
     with open(f"{HERE}/README.md", encoding="utf-8") as file:
         readme = file.read()
+    told = about()
     fields = [
         "Metadata-Version: 2.1",
         "Name: csicodec",
         f"Version: {version()}",
-        "Summary: Control sequences of terminals as typed actions, and untrusted text made safe: a proved library",
+        "Summary: Strip, clean, parse and explain ANSI escape codes of terminals, as typed actions, over a proved library",
+        *(f"{field}: {told[name]}" for name, field in [("author", "Author"), ("email", "Author-email")] if name in told),
+        *(f"Project-URL: {name.capitalize()}, {told[name]}" for name in ("homepage", "repository", "issues") if name in told),
         "License: MIT",
+        f"Keywords: {told['keywords'].replace(', ', ',')}",
         "Requires-Python: >=3.9",
-        "Classifier: License :: OSI Approved :: MIT License",
-        "Classifier: Operating System :: POSIX :: Linux",
-        "Classifier: Topic :: Terminals",
-        "Classifier: Typing :: Typed",
+        *(f"Classifier: {classifier}" for classifier in CLASSIFIERS),
         "Description-Content-Type: text/markdown",
     ]
     return "\n".join(fields) + "\n\n" + readme
@@ -48,7 +70,7 @@ def write_wheel(dist, place, folder, licences, epoch):
         if name.endswith((".py", ".typed")):
             files[f"csicodec/{name}"] = (f"{HERE}/csicodec/{name}", 0o644)
     files["csicodec/libcsicodec.so"] = (f"{dist}/{place}/libcsicodec.so", 0o755)
-    files["csicodec/program"] = (f"{dist}/{place}/csicodec", 0o755)
+    files[f"csicodec-{version()}.data/scripts/csicodec"] = (f"{dist}/{place}/csicodec", 0o755)
     for path in licences:
         files[f"{info}/licenses/{os.path.basename(path)}"] = (path, 0o644)
     held = {}
@@ -59,7 +81,6 @@ def write_wheel(dist, place, folder, licences, epoch):
     told = ["Wheel-Version: 1.0", "Generator: csicodec", "Root-Is-Purelib: false", *(f"Tag: py3-none-{tag}" for tag in tags)]
     held[f"{info}/METADATA"] = (metadata().encode(), 0o644)
     held[f"{info}/WHEEL"] = ("\n".join(told).encode() + b"\n", 0o644)
-    held[f"{info}/entry_points.txt"] = (b"[console_scripts]\ncsicodec = csicodec.program:main\n", 0o644)
     lines = [f"{name},sha256={base64.urlsafe_b64encode(hashlib.sha256(it).digest()).rstrip(b'=').decode()},{len(it)}" for name, (it, _) in held.items()]
     held[f"{info}/RECORD"] = ("\n".join([*lines, f"{info}/RECORD,,"]).encode() + b"\n", 0o644)
     made = f"csicodec-{version()}-py3-none-{PLACES[place]}.whl"

@@ -1,4 +1,4 @@
-"""What can be wrong with bytes or actions."""
+"""What can be wrong with bytes, with actions and with their fields."""
 from __future__ import annotations
 
 
@@ -10,3 +10,7 @@ class CodecError(ValueError):
     def __init__(self, message: str, start: int = 0, at: int = 0) -> None:
         super().__init__(message)
         self.start, self.at = start, at
+
+
+class FieldError(TypeError, ValueError):
+    """A field can't have this value: it is of another type, or out of its range. The message names the type and the field."""

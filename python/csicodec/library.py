@@ -1,17 +1,23 @@
-"""The calls of the shared library, which lies beside this file."""
+"""The calls of the shared library, which lies beside this file, and the room that they write into."""
 from __future__ import annotations
 
 import ctypes
 import os
-from ctypes import POINTER, Structure, c_char_p, c_size_t, c_uint8, c_uint32, c_void_p
-from typing import Any, Callable, Tuple
+from ctypes import POINTER, Structure, c_char_p, c_size_t, c_uint8, c_uint32, c_uint64, c_void_p
+from typing import Any, Callable, List, Tuple, Union
 
 from .error import CodecError
 
+#: What a stream, or a text, is taken from.
+Data = Union[str, bytes, bytearray, memoryview]
 #: The most bytes that a control sequence may have, where the caller names no limit.
 LIMIT = 65536
+#: The status when memory was refused.
+MEMORY = 5
 #: A few words for each status of the library.
 STATUS = ("done", "not a sequence", "bad byte", "number too large", "truncated", "no memory", "no action", "bad state")
+#: How much room is kept for the next call.
+_KEPT = 16384
 
 
 class Normalised(Structure):
@@ -24,6 +30,51 @@ class Encoded(Structure):
 
 class Judged(Structure):
     _fields_ = [("status", c_uint32), ("canonical", c_uint32)]
+
+
+class Known(Structure):
+    _fields_ = [("kind", c_uint32), ("count", c_uint32), ("values", c_uint32 * 12)]
+
+
+class Asked(Structure):
+    """A text, room for what is left of it, and the answer (csicodec_text of system/events.c). `needed` is as large as can be where the status
+    isn't 0.
+    """
+
+    _fields_ = [
+        ("bytes", c_char_p),
+        ("len", c_size_t),
+        ("out", c_void_p),
+        ("room", c_size_t),
+        ("depth", c_uint32),
+        ("links", c_uint32),
+        ("status", c_uint32),
+        ("needed", c_size_t),
+    ]
+
+
+class Stream(Structure):
+    _fields_ = [("words", c_uint64 * 11)]
+
+
+class Telling(Structure):
+    """A stream, bytes, and room for their events (csicodec_telling of system/events.c)."""
+
+    _fields_ = [
+        ("stream", Stream),
+        ("bytes", c_char_p),
+        ("len", c_size_t),
+        ("told", c_void_p),
+        ("told_room", c_size_t),
+        ("actions", c_void_p),
+        ("actions_room", c_size_t),
+        ("params", c_void_p),
+        ("params_room", c_size_t),
+        ("count", c_size_t),
+        ("used", c_size_t),
+        ("actions_needed", c_size_t),
+        ("params_needed", c_size_t),
+    ]
 
 
 class Filtered(Structure):
@@ -42,8 +93,25 @@ class Cleaned(Structure):
     _fields_ = [("status", c_uint32), ("state", Cleaning), ("used", c_size_t), ("needed", c_size_t)]
 
 
+class Spanned(Structure):
+    _fields_ = [("status", c_uint32), ("kind", c_uint32), ("mode", c_uint32), ("used", c_size_t)]
+
+
+class Received(Structure):
+    _fields_ = [
+        ("status", c_uint32),
+        ("kind", c_uint32),
+        ("mode", c_uint32),
+        ("value", c_uint32),
+        ("looked", c_size_t),
+        ("used", c_size_t),
+        ("actions", c_size_t),
+        ("params", c_size_t),
+    ]
+
+
 def _call(name: str, result: Any, *arguments: Any) -> Callable[..., Any]:
-    call = getattr(_library, name)
+    call = getattr(_library, f"csicodec_{name}")
     call.restype, call.argtypes = result, arguments
     return call  # type: ignore[no-any-return]
 
@@ -57,45 +125,135 @@ def _beside() -> ctypes.CDLL:
 
 
 _library = _beside()
-_bytes, _out = c_char_p, c_void_p
-version = _call("csicodec_version", c_uint32)
-normalise = _call("csicodec_normalise", Normalised, _bytes, c_size_t, _out, c_size_t)
-encode = _call("csicodec_encode", Encoded, c_void_p, c_size_t, c_void_p, c_size_t, _out, c_size_t)
-encode_compact = _call("csicodec_encode_compact", Encoded, c_void_p, c_size_t, c_void_p, c_size_t, _out, c_size_t)
-is_canonical = _call("csicodec_is_canonical", Judged, c_void_p, c_void_p, c_size_t)
-filter_step = _call("csicodec_filter", Filtered, c_uint32, c_size_t, _bytes, c_size_t, _out, c_size_t)
-compact_step = _call("csicodec_compact", Filtered, c_uint32, c_size_t, _bytes, c_size_t, _out, c_size_t)
-compact_semicolons_step = _call("csicodec_compact_semicolons", Filtered, c_uint32, c_size_t, _bytes, c_size_t, _out, c_size_t)
-strip = _call("csicodec_strip", Stripped, _bytes, c_size_t, _out, c_size_t)
-clean_with = _call("csicodec_clean_with", Stripped, c_uint32, c_uint32, _bytes, c_size_t, _out, c_size_t)
-strip_step = _call("csicodec_strip_step", Cleaned, POINTER(Cleaning), _bytes, c_size_t, _out, c_size_t)
-clean_step = _call("csicodec_clean_step", Cleaned, c_uint32, POINTER(Cleaning), _bytes, c_size_t, _out, c_size_t)
-clean_end = _call("csicodec_clean_end", Stripped, POINTER(Cleaning), _bytes, c_size_t, _out, c_size_t)
-size_of_stream = _call("csicodec_size_of_stream", c_size_t)
-begin = _call("csicodec_begin", None, c_void_p, c_size_t)
-tell = _call(
-    "csicodec_tell", c_size_t, c_void_p, _bytes, c_size_t, c_void_p, c_size_t, c_void_p, c_size_t, c_void_p, c_size_t, POINTER(c_size_t), POINTER(c_size_t)
-)
+# Bytes, a list of structs, and room are each an address and a length; a state is a struct.
+_BYTES, _LIST, _ROOM = (c_char_p, c_size_t), (c_char_p, c_size_t), (c_void_p, c_size_t)
+_STATE = POINTER(Cleaning)
+version = _call("version", c_uint32)
+normalise = _call("normalise", Normalised, *_BYTES, *_ROOM)
+encode = _call("encode", Encoded, *_LIST, *_LIST, *_ROOM)
+encode_compact = _call("encode_compact", Encoded, *_LIST, *_LIST, *_ROOM)
+is_canonical = _call("is_canonical", Judged, c_char_p, *_LIST)
+known = _call("known", Known, c_char_p, *_LIST)
+filter_step = _call("filter", Filtered, c_uint32, c_size_t, *_BYTES, *_ROOM)
+compact_step = _call("compact", Filtered, c_uint32, c_size_t, *_BYTES, *_ROOM)
+compact_semicolons_step = _call("compact_semicolons", Filtered, c_uint32, c_size_t, *_BYTES, *_ROOM)
+strip_step = _call("strip_step", Cleaned, _STATE, *_BYTES, *_ROOM)
+clean_step = _call("clean_step", Cleaned, c_uint32, _STATE, *_BYTES, *_ROOM)
+clean_end = _call("clean_end", Stripped, _STATE, *_BYTES, *_ROOM)
+span = _call("span", Spanned, c_uint32, c_size_t, *_ROOM)
+esc = _call("esc", c_uint32, c_uint8, c_uint8)
+receive = _call("input", Received, c_uint32, c_uint32, c_size_t, c_size_t, *_ROOM, *_ROOM, *_ROOM)
+pause = _call("pause", Received, *_BYTES)
+begin = _call("begin", None, POINTER(Stream), c_size_t)
+# These take one pointer, of a kind that ctypes passes at once.
+strip_text, clean_text, tell = (getattr(_library, f"csicodec_{name}") for name in ("strip_text", "clean_text", "tell"))
+strip_text.restype = clean_text.restype = tell.restype = None
 
 
-def room_of(size: int) -> Tuple[bytearray, Any]:
-    """Room of so many bytes, and what C is passed of it."""
-    room = bytearray(size or 1)
-    return room, (c_uint8 * len(room)).from_buffer(room)
+def bytes_of(data: Data, errors: str = "surrogateescape") -> bytes:
+    """The bytes of a stream or a text."""
+    if isinstance(data, str):
+        return data.encode("utf-8", errors)
+    if isinstance(data, bytes):
+        return data
+    try:
+        return bytes(memoryview(data))
+    except TypeError:
+        raise TypeError(f"a str or bytes-like object is required, not {type(data).__name__}") from None
 
 
-def written(call: Callable[[Any, int], Any], room: int) -> Tuple[bytes, Any]:
-    """What a call writes into so much room, or into more where it says that it needs more, and its answer."""
-    while True:
-        held, out = room_of(room)
-        answer = call(out, room)
-        if answer.status == 5:
-            raise MemoryError("csicodec: the C library gave no memory")
-        if answer.status:
-            start, at = getattr(answer, "start", 0), getattr(answer, "at", 0)
-            place = f"byte {start + at}: " if isinstance(answer, Normalised) else f"action {at}: " if isinstance(answer, Encoded) else ""
-            raise CodecError(f"{place}{STATUS[answer.status]}", start, at)
-        if answer.needed <= room:
-            del out
-            return bytes(memoryview(held)[: answer.needed]), answer
-        room = answer.needed
+def address_of(held: bytes) -> int:
+    """Where C finds bytes, as long as the caller keeps them."""
+    return ctypes.cast(c_char_p(held), c_void_p).value or 0
+
+
+class Room:
+    """Room for so many bytes, which `held` has, and what C is passed of it."""
+
+    __slots__ = ("size", "held", "at", "length")
+
+    def __init__(self, size: int) -> None:
+        self.size, self.held = size, ctypes.create_string_buffer(size)
+        self.at, self.length = c_void_p(ctypes.addressof(self.held)), c_size_t(size)
+
+    def front(self, length: int) -> bytes:
+        """A copy of so many bytes."""
+        return self.held[:length]  # type: ignore[return-value]
+
+
+class Desk:
+    """Room for a call over a text, with what it is passed: one pointer, for which no type is looked up."""
+
+    __slots__ = ("size", "room", "asked", "pointer")
+
+    def __init__(self, size: int, depth: int, links: bool) -> None:
+        self.size, self.room = size, ctypes.create_string_buffer(size)
+        self.asked = Asked(out=ctypes.addressof(self.room), room=size, depth=depth, links=links)
+        self.pointer = ctypes.byref(self.asked)
+
+
+class TextCall:
+    """A call over texts, strip_text or clean_text, with the desks that no thread uses just now: taking one from the list and putting it
+    back are each one step.
+    """
+
+    def __init__(self, call: Callable[..., Any], depth: int = 0, links: bool = False) -> None:
+        self._call, self._options = call, (depth, links)
+        self._desks: List[Desk] = []
+
+    def written(self, held: bytes) -> bytes:
+        """What the call writes of some bytes."""
+        length = len(held)
+        desk = self._desks.pop() if length <= _KEPT and self._desks else Desk(max(length, _KEPT), *self._options)
+        asked = desk.asked
+        asked.bytes, asked.len = held, length
+        self._call(desk.pointer)
+        needed = asked.needed
+        if needed > desk.size:
+            if asked.status:
+                raise refusal(asked)
+            return self._larger(held, needed)
+        out = desk.room[:needed]
+        if desk.size == _KEPT:
+            self._desks.append(desk)
+        return out  # type: ignore[return-value]
+
+    def _larger(self, held: bytes, needed: int) -> bytes:
+        """The same with so much room."""
+        desk = Desk(needed, *self._options)
+        desk.asked.bytes, desk.asked.len = held, len(held)
+        self._call(desk.pointer)
+        if desk.asked.status:
+            raise refusal(desk.asked)
+        return desk.room.raw
+
+
+#: Room that no call uses just now.
+_rooms: List[Room] = []
+
+
+def refusal(answer: Any) -> Exception:
+    """The exception for an answer that isn't OK."""
+    if answer.status == MEMORY:
+        return MemoryError("csicodec: the C library gave no memory")
+    start, at = getattr(answer, "start", 0), getattr(answer, "at", 0)
+    place = f"byte {start + at}: " if isinstance(answer, Normalised) else f"action {at}: " if isinstance(answer, Encoded) else ""
+    return CodecError(f"{place}{STATUS[answer.status]}", start, at)
+
+
+def written(call: Callable[..., Any], size: int, *given: Any) -> Tuple[bytes, Any]:
+    """What a call writes into room of so many bytes, or of more where it says that it needs more, and its answer."""
+    if size > _KEPT:
+        room = Room(size)
+    else:
+        room = _rooms.pop() if _rooms else Room(_KEPT)
+    answer = call(*given, room.at, room.length)
+    if not answer.status and answer.needed > room.size:
+        room = Room(answer.needed)
+        answer = call(*given, room.at, room.length)
+    if answer.status:
+        raise refusal(answer)
+    out = room.front(answer.needed)
+    if room.size == _KEPT:
+        _rooms.append(room)
+    return out, answer

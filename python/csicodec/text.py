@@ -2,16 +2,33 @@
 from __future__ import annotations
 
 from ctypes import byref
-from typing import Any, AnyStr, Callable, Dict, Optional, Union
+from typing import Any, AnyStr, Dict, Optional, Tuple
 
 from . import library
+from .library import Data, bytes_of, written
 
-Bytes = Union[bytes, bytearray, memoryview]
 _DEPTHS: Dict[Optional[int], int] = {None: 0, 256: 1, 16: 2}
+_STRIP = library.TextCall(library.strip_text)
+_CLEAN = {(depth, links): library.TextCall(library.clean_text, depth, links) for depth in _DEPTHS.values() for links in (False, True)}
+#: What strip and clean leave as it is.
+_PLAIN = b"\t\n" + bytes(range(0x20, 0x7F))
+
+#: The bytes of a control sequence between ESC [ and its final byte.
+_PARAMETERS = bytes(range(0x20, 0x40))
+_SPELLINGS = {"filter": library.filter_step, "compact": library.compact_step, "semicolons": library.compact_semicolons_step}
 
 
-def _bytes(text: Union[str, Bytes]) -> bytes:
-    return text.encode("utf-8", "surrogatepass") if isinstance(text, str) else bytes(text)
+def _is_plain(text: str) -> bool:
+    """Whether each character is printable, but for a newline at the end: then there is nothing to do."""
+    return (text[:-1] if text.endswith("\n") else text).isprintable()
+
+
+def _is_plain_ascii(held: bytes) -> bool:
+    return not held.translate(None, _PLAIN)
+
+
+def _bytes(text: Data) -> bytes:
+    return bytes_of(text, "surrogatepass")
 
 
 def _like(text: Any, out: bytes) -> Any:
@@ -20,7 +37,7 @@ def _like(text: Any, out: bytes) -> Any:
 
 def _depth(colors: Optional[int]) -> int:
     if colors not in _DEPTHS:
-        raise ValueError("colors is None, 256 or 16")
+        raise ValueError(f"colors must be None, 256 or 16, not {colors!r}")
     return _DEPTHS[colors]
 
 
@@ -30,8 +47,10 @@ def strip(text: AnyStr) -> AnyStr:
     >>> strip("\\x1b[1mbold\\x1b]0;a title\\a and plain")
     'bold and plain'
     """
-    held = _bytes(text)
-    return _like(text, library.written(lambda out, room: library.strip(held, len(held), out, room), len(held))[0])  # type: ignore[no-any-return]
+    if isinstance(text, str):
+        return text if _is_plain(text) else _STRIP.written(text.encode("utf-8", "surrogatepass")).decode()
+    held = bytes_of(text)
+    return held if _is_plain_ascii(held) else _STRIP.written(held)
 
 
 def clean(text: AnyStr, *, colors: Optional[int] = None, links: bool = False) -> AnyStr:
@@ -43,9 +62,11 @@ def clean(text: AnyStr, *, colors: Optional[int] = None, links: bool = False) ->
     >>> clean("\\x1b[1;8mbold\\x1b[5;7H")
     '\\x1b[1mbold\\x1b[0m'
     """
-    held, depth = _bytes(text), _depth(colors)
-    made = library.written(lambda out, room: library.clean_with(depth, int(links), held, len(held), out, room), len(held) + 64)
-    return _like(text, made[0])  # type: ignore[no-any-return]
+    call = _CLEAN[_depth(colors), bool(links)]
+    if isinstance(text, str):
+        return text if _is_plain(text) else call.written(text.encode("utf-8", "surrogatepass")).decode()
+    held = bytes_of(text)
+    return held if _is_plain_ascii(held) else call.written(held)
 
 
 def normalise(sequences: AnyStr) -> AnyStr:
@@ -59,52 +80,86 @@ def normalise(sequences: AnyStr) -> AnyStr:
     csicodec.error.CodecError: byte 4: not a sequence
     """
     held = _bytes(sequences)
-    return _like(sequences, library.written(lambda out, room: library.normalise(held, len(held), out, room), 2 * len(held) + 64)[0])  # type: ignore[no-any-return]
+    return _like(sequences, written(library.normalise, 2 * len(held) + 64, held, len(held))[0])  # type: ignore[no-any-return]
 
 
-class Filter:
+class _Steps:
+    """What comes in pieces, of which some bytes wait for those that follow."""
+
+    _rest: bytes
+    _looked: int
+    #: How many bytes at the front are the beginning of a character.
+    _held = 0
+
+    def _begin(self) -> None:
+        self._rest, self._looked = b"", 0
+
+    def _step(self, held: bytes) -> Tuple[bytes, Any]:
+        """What is written of these bytes, and the library's answer."""
+        raise NotImplementedError
+
+    def _waits(self, held: bytes) -> bool:
+        """Whether a control sequence, of which some bytes were looked at, isn't over in these."""
+        looked = self._looked - self._held
+        if looked < 2 or len(held) - self._held >= library.LIMIT or not held.startswith(b"\x1b[", self._held):
+            return False
+        return not held[self._looked :].translate(None, _PARAMETERS)
+
+    def feed(self, data: Data) -> bytes:
+        """What becomes of the next bytes, or characters, as far as it doesn't depend on what follows."""
+        held = self._rest + bytes_of(data)
+        if not held or self._waits(held):
+            self._rest, self._looked = held, len(held)
+            return b""
+        out, answer = self._step(held)
+        self._rest = held[answer.used :]
+        self._looked = len(self._rest)
+        return out
+
+    def __exit__(self, *_: object) -> None:
+        self._begin()
+
+
+class Filter(_Steps):
     """Writes a stream as it comes with each control sequence in its normal form, and every other byte as it was.
 
     >>> it = Filter()
     >>> it.feed(b"a\\x1b[0") + it.feed(b"1;3mb") + it.finish()
     b'a\\x1b[1m\\x1b[3mb'
 
-    `Filter.compact()` writes the shortest spelling that is found instead, never a longer one.
+    `Filter.compact()` writes the shortest spelling that is found instead, never a longer one. Behind `finish`, and behind a `with`, a
+    filter can begin anew.
     """
 
+    _spelling = "filter"
+
     def __init__(self) -> None:
-        self._call: Callable[..., Any] = library.filter_step
-        self._mode, self._rest, self._looked = 0, b"", 0
+        self._begin()
 
     @classmethod
     def compact(cls, *, semicolons: bool = False) -> Filter:
         """A filter that writes the shortest spelling, with `semicolons` also in colours where colons are as short."""
         it = cls()
-        it._call = library.compact_semicolons_step if semicolons else library.compact_step
+        it._spelling = "semicolons" if semicolons else "compact"
         return it
 
-    def feed(self, data: Bytes) -> bytes:
-        """What becomes of the next bytes, as far as it doesn't depend on what follows."""
-        held = self._rest + bytes(data)
-        if not held or _waits(held, self._looked):
-            self._rest, self._looked = held, len(held)
-            return b""
-        out, answer = library.written(lambda out, room: self._call(self._mode, library.LIMIT, held, len(held), out, room), 2 * len(held) + 64)
-        self._mode, self._rest = answer.mode, held[answer.used :]
-        self._looked = len(self._rest)
-        return out
+    def _begin(self) -> None:
+        super()._begin()
+        self._mode = 0
+
+    def _step(self, held: bytes) -> Tuple[bytes, Any]:
+        out, answer = written(_SPELLINGS[self._spelling], 2 * len(held) + 64, self._mode, library.LIMIT, held, len(held))
+        self._mode = answer.mode
+        return out, answer
 
     def finish(self) -> bytes:
-        """What is left at the end, as it came. The filter can then begin anew."""
-        left, self._rest, self._mode, self._looked = self._rest, b"", 0, 0
+        """What is left at the end, as it came."""
+        left = self._rest
+        self._begin()
         return left
 
-
-def _waits(held: bytes, looked: int) -> bool:
-    """Whether a control sequence, of which so many bytes were looked at, isn't over in these."""
-    if looked < 2 or len(held) >= library.LIMIT or held[:2] != b"\x1b[":
-        return False
-    return all(0x20 <= byte <= 0x3F for byte in held[looked:])
+    def __enter__(self) -> Filter:
+        return self
 
 
 def filter(stream: AnyStr) -> AnyStr:
@@ -113,8 +168,7 @@ def filter(stream: AnyStr) -> AnyStr:
     >>> filter("a\\x1b[01mb")
     'a\\x1b[1mb'
     """
-    it = Filter()
-    return _like(stream, it.feed(_bytes(stream)) + it.finish())  # type: ignore[no-any-return]
+    return _filtered(stream, Filter())
 
 
 def compact(stream: AnyStr, *, semicolons: bool = False) -> AnyStr:
@@ -124,42 +178,46 @@ def compact(stream: AnyStr, *, semicolons: bool = False) -> AnyStr:
     >>> compact("\\x1b[0;01mred\\x1b[10;1H")
     '\\x1b[;1mred\\x1b[10H'
     """
-    it = Filter.compact(semicolons=semicolons)
-    return _like(stream, it.feed(_bytes(stream)) + it.finish())  # type: ignore[no-any-return]
+    return _filtered(stream, Filter.compact(semicolons=semicolons))
 
 
-class Cleaner:
+def _filtered(stream: AnyStr, it: Filter) -> AnyStr:
+    held = _bytes(stream)
+    return _like(stream, it.feed(held) + it.finish() if b"\x1b" in held else held)  # type: ignore[no-any-return]
+
+
+class Cleaner(_Steps):
     """`strip`, or with `styles` `clean`, for a stream as it comes; together the pieces are what one call for the whole writes.
 
     >>> it = Cleaner()
     >>> it.feed(b"a\\x1b[3") + it.feed(b"1mb\\xc3") + it.feed(b"\\xa9") + it.finish()
     b'ab\\xc3\\xa9'
+
+    Behind `finish`, and behind a `with`, it can begin anew.
     """
 
     def __init__(self, *, styles: bool = False, colors: Optional[int] = None) -> None:
         self._depth = _depth(colors) if styles else None
-        self._state, self._rest, self._looked = library.Cleaning(), b"", 0
+        self._begin()
 
-    def feed(self, data: Bytes) -> bytes:
-        """What is left of the next bytes, as far as it doesn't depend on what follows."""
-        held = self._rest + bytes(data)
-        if not held or _waits(held[self._state.held :], self._looked - self._state.held):
-            self._rest, self._looked = held, len(held)
-            return b""
+    def _begin(self) -> None:
+        super()._begin()
+        self._state, self._held = library.Cleaning(), 0
 
-        def step(out: Any, room: int) -> Any:
-            if self._depth is None:
-                return library.strip_step(byref(self._state), held, len(held), out, room)
-            return library.clean_step(self._depth, byref(self._state), held, len(held), out, room)
-
-        out, answer = library.written(step, len(held) + 64)
-        self._state, self._rest = answer.state, held[answer.used :]
-        self._looked = len(self._rest)
-        return out
+    def _step(self, held: bytes) -> Tuple[bytes, Any]:
+        given = (byref(self._state), held, len(held))
+        if self._depth is None:
+            out, answer = written(library.strip_step, len(held) + 64, *given)
+        else:
+            out, answer = written(library.clean_step, len(held) + 64, self._depth, *given)
+        self._state, self._held = answer.state, answer.state.held
+        return out, answer
 
     def finish(self) -> bytes:
         """What ends the stream: U+FFFD for the beginning of a character, and a reset if a style is open."""
-        left = self._rest
-        out, _ = library.written(lambda out, room: library.clean_end(byref(self._state), left, len(left), out, room), 64)
-        self._state, self._rest, self._looked = library.Cleaning(), b"", 0
+        out, _ = written(library.clean_end, 64, byref(self._state), self._rest, len(self._rest))
+        self._begin()
         return out
+
+    def __enter__(self) -> Cleaner:
+        return self

@@ -1,80 +1,131 @@
-"""What actions hold, and what stands as numbers and tokens in a struct of the library."""
+"""What actions and events are: values with named fields that stay as they are; and the colours and flags in them."""
 from __future__ import annotations
 
-from dataclasses import dataclass
-from enum import IntEnum, IntFlag
-from typing import Iterable, List, NamedTuple, Optional, Tuple, Type, TypeVar, Union
+from enum import IntFlag
+from typing import Any, Tuple, Type, TypeVar, Union
+
+from .error import FieldError
 
 #: A parameter of an unknown control sequence: a number, or a character such as ';'.
 Token = Union[int, str]
-#: Tokens as the library has them: 0 and a number, or 1 and a byte.
-Params = List[Tuple[int, int]]
-Named = TypeVar("Named", bound=IntEnum)
 
 
-class Row(NamedTuple):
-    """The fields of a struct csicodec_action, in their order."""
-
-    kind: int
-    final: int = 0
-    first: int = 0
-    second: int = 0
-    top: int = 0
-    left: int = 0
-    bottom: int = 0
-    right: int = 0
-    place: int = 0
-    len: int = 0
-    red: int = 0
-    green: int = 0
-    blue: int = 0
-    alpha: int = 0
-    modifiers: int = 0
-    button: int = 0
-    absent: int = 0
+_V = TypeVar("_V", bound="Value")
 
 
-class Action:
-    """What one control sequence, or a part of it, does. `bytes(action)` is its text."""
+class Slotted(type):
+    """The type of values: one that names no slots has no further fields."""
 
-    def _row(self, params: Params) -> Row:
-        raise NotImplementedError
-
-    def __bytes__(self) -> bytes:
-        from .codec import encode
-
-        return encode([self])
-
-    @property
-    def is_canonical(self) -> bool:
-        """Whether its text is read as this action and nothing else. This holds for all actions that are read, except left and right
-        margins from 1 to 4294967295 (DECSLRM) and requests for the terminal's parameters (DECREQTPARM).
-        """
-        from .codec import is_canonical
-
-        return is_canonical(self)
+    def __new__(mcs, name: str, bases: Tuple[type, ...], body: Any, **how: Any) -> Slotted:
+        body.setdefault("__slots__", ())
+        return super().__new__(mcs, name, bases, body, **how)
 
 
-@dataclass(frozen=True)
-class DefaultColor:
+class Value(metaclass=Slotted):
+    """Fields that are set once, by a constructor that checks them. Values of one type with equal fields are equal."""
+
+    __match_args__: Tuple[str, ...] = ()
+
+    @classmethod
+    def _sure(cls: Type[_V], *values: object) -> _V:
+        """One with these fields, which the library made, and which need no check."""
+        it = object.__new__(cls)
+        for field, value in zip(cls.__match_args__, values):
+            object.__setattr__(it, field, value)
+        return it
+
+    def _set(self, field: str, value: object) -> None:
+        object.__setattr__(self, field, value)
+
+    def _set_of(self, field: str, value: object, *types: type) -> None:
+        """Sets a field to a value of one of the types."""
+        if not isinstance(value, types):
+            wanted = " or ".join(it.__name__ for it in types)
+            raise FieldError(f"{type(self).__qualname__}: {field} must be {wanted}, not {type(value).__name__}")
+        self._set(field, value)
+
+    def _set_whole(self, field: str, value: int, low: int, high: int) -> None:
+        """Sets a field to a whole number of a range."""
+        if not isinstance(value, int):
+            raise FieldError(f"{type(self).__qualname__}: {field} must be int, not {type(value).__name__}")
+        if not low <= value <= high:
+            raise FieldError(f"{type(self).__qualname__}: {field} must be {low} to {high}, not {value}")
+        self._set(field, value)
+
+    def _set_member(self, field: str, value: int, kind: Type[int]) -> None:
+        """Sets a field to the member of an enumeration with this number, which it mostly is itself."""
+        try:
+            self._set(field, kind(value))
+        except (TypeError, ValueError):
+            raise FieldError(f"{type(self).__qualname__}: {field} must be {kind.__name__}, not {value!r}") from None
+
+    def _values(self) -> Tuple[Any, ...]:
+        return tuple([getattr(self, field) for field in self.__match_args__])
+
+    def __setattr__(self, field: str, value: object) -> None:
+        raise AttributeError(f"{type(self).__qualname__}: {field} can't be changed")
+
+    def __delattr__(self, field: str) -> None:
+        raise AttributeError(f"{type(self).__qualname__}: {field} can't be deleted")
+
+    def __eq__(self, other: object) -> bool:
+        if not isinstance(other, Value) or type(other) is not type(self):
+            return NotImplemented
+        return self._values() == other._values()
+
+    def __hash__(self) -> int:
+        return hash((type(self), self._values()))
+
+    def __repr__(self) -> str:
+        fields = ", ".join(f"{field}={getattr(self, field)!r}" for field in self.__match_args__)
+        return f"{type(self).__qualname__}({fields})"
+
+    def __reduce__(self) -> Tuple[Type[Value], Tuple[Any, ...]]:
+        return type(self), self._values()
+
+    def __replace__(self, **changes: Any) -> Any:
+        """A copy with other values in these fields (`copy.replace` of Python 3.13 calls this)."""
+        return type(self)(**{**dict(zip(self.__match_args__, self._values())), **changes})
+
+
+class Group(Slotted):
+    """The type of `Cursor`, `Sgr` and the like. What is declared in one of these is an instance of it, as of the class that it stands on."""
+
+    def __instancecheck__(cls, instance: object) -> bool:
+        return isinstance(instance, cls.__base__)
+
+    def __call__(cls, *_: object, **__: object) -> Any:
+        raise TypeError(f"{cls.__name__} has no instances of its own: it is what all that is in it is an instance of")
+
+
+class DefaultColor(Value):
     """The terminal's own colour."""
 
 
-@dataclass(frozen=True)
-class PaletteColor:
+class PaletteColor(Value):
     """A place in the palette, 0 to 255; the first 16 are the named colours."""
 
+    __slots__ = __match_args__ = ("index",)
     index: int
 
+    def __init__(self, index: int) -> None:
+        self._set_whole("index", index, 0, 255)
 
-@dataclass(frozen=True)
-class TrueColor:
+
+class TrueColor(Value):
     """A colour by its parts, each 0 to 255; an alpha of 255 is opaque."""
 
+    __slots__ = __match_args__ = ("red", "green", "blue", "alpha")
     red: int
     green: int
     blue: int
-    alpha: int = 255
+    alpha: int
+
+    def __init__(self, red: int, green: int, blue: int, alpha: int = 255) -> None:
+        self._set_whole("red", red, 0, 255)
+        self._set_whole("green", green, 0, 255)
+        self._set_whole("blue", blue, 0, 255)
+        self._set_whole("alpha", alpha, 0, 255)
 
 
 Color = Union[DefaultColor, PaletteColor, TrueColor]
@@ -103,60 +154,3 @@ class KittyKeyboardFlags(IntFlag):
     REPORT_ALL_KEYS_AS_ESCAPE_CODES = 8
     #: The control sequence of a key has the text that it writes.
     REPORT_ASSOCIATED_TEXT = 16
-
-
-def named(kind: Type[Named], number: int) -> Union[Named, int]:
-    """The member with this number, or the number, if none has it."""
-    try:
-        return kind(number)
-    except ValueError:
-        return number
-
-
-def row(
-    kind: int,
-    first: int = 0,
-    second: int = 0,
-    *,
-    final: int = 0,
-    area: Tuple[int, int, int, int] = (0, 0, 0, 0),
-    button: int = 0,
-    modifiers: int = 0,
-) -> Row:
-    return Row(kind, final, first, second, *area, modifiers=modifiers, button=button)
-
-
-def sized_row(kind: int, first: Optional[int], second: Optional[int]) -> Row:
-    absent = (first is None) + 2 * (second is None)
-    return Row(kind, 0, first or 0, second or 0, absent=absent)
-
-
-def first(row: Row) -> Optional[int]:
-    return None if row.absent & 1 else row.first
-
-
-def second(row: Row) -> Optional[int]:
-    return None if row.absent & 2 else row.second
-
-
-def color_row(kind: int, color: Color) -> Row:
-    if isinstance(color, DefaultColor):
-        return Row(kind)
-    if isinstance(color, PaletteColor):
-        return Row(kind, 0, 1, color.index)
-    return Row(kind, 0, 2, red=color.red, green=color.green, blue=color.blue, alpha=color.alpha)
-
-
-def color(row: Row) -> Color:
-    if row.first == 0:
-        return DefaultColor()
-    if row.first == 1:
-        return PaletteColor(row.second)
-    return TrueColor(row.red, row.green, row.blue, row.alpha)
-
-
-def tokens_row(row: Row, tokens: Iterable[Token], params: Params) -> Row:
-    """A row whose tokens go behind those that are there."""
-    place = len(params)
-    params.extend((1, ord(token)) if isinstance(token, str) else (0, int(token)) for token in tokens)
-    return row._replace(place=place, len=len(params) - place)

@@ -1,16 +1,20 @@
 """Tests of the package for Python: `python3 test_codec.py [REPOSITORY]`, with the package in the path. It takes the examples of each kind and
 the streams from the repository."""
+import copy
 import doctest
 import glob
 import importlib
 import os
 import pathlib
+import pickle
 import re
+import subprocess
 import sys
 import unittest
 
 import csicodec
-from csicodec import Cleaner, ControlString, Cursor, CursorAction, Filter, Malformed, Parser, Sgr, Text, UnknownEsc, Unspecified, library
+from csicodec import Cleaner, ControlString, Cursor, CursorAction, FieldError, Filter, Input, InputParser, Malformed, PaletteColor, Parser, Sgr
+from csicodec import Text, UnknownEsc, Unspecified, library
 
 REPOSITORY = pathlib.Path(sys.argv.pop(1) if len(sys.argv) > 1 else os.path.join(os.path.dirname(os.path.abspath(__file__)), "../.."))
 STREAMS = [pathlib.Path(name).read_bytes() for name in sorted(glob.glob(str(REPOSITORY / "examples/*.stream")))]
@@ -45,7 +49,7 @@ class Codec(unittest.TestCase):
                 [action] = csicodec.events(given)
                 self.assertEqual(bytes(action), given)
                 self.assertTrue(action.is_canonical)
-                self.assertEqual(eval(re.sub(r"<(\w+)[^:<>]*: (\d+)>", r"\1(\2)", repr(action)), {**vars(csicodec)}), action)
+                self.assertEqual(eval(re.sub(r"<(\w+)[^:<>]*: (\d+)>", r"\1(\2)", repr(action)), {name: getattr(csicodec, name) for name in csicodec.__all__}), action)
                 kinds.add(type(action).__qualname__)
         self.assertGreater(len(kinds), 100)
 
@@ -56,14 +60,107 @@ class Codec(unittest.TestCase):
         self.assertEqual(csicodec.encode_compact([Sgr.Reset(), Sgr.Italic(True), Cursor.Up(1)]), b"\x1b[;3m\x1b[A")
 
     def test_refusals(self):
-        for action, said in [(Sgr.Font(12), "no action"), (Cursor.Up(1 << 70), "out of its range"), (Cursor.Position(0, 1), "no action")]:
-            with self.assertRaisesRegex(csicodec.CodecError, said):
-                csicodec.encode([action])
         with self.assertRaises(csicodec.CodecError) as caught:
             csicodec.normalise(b"\x1b[1m\x1b[9223372036854775808m")
         self.assertEqual((caught.exception.start, caught.exception.at), (4, 20))
-        with self.assertRaises(ValueError):
+        with self.assertRaises(csicodec.CodecError):
+            csicodec.encode([Unspecified([], "\ud800")])
+        with self.assertRaisesRegex(ValueError, "colors must be None, 256 or 16, not 8"):
             csicodec.clean("a", colors=8)
+
+    def test_a_wrong_field_is_named(self):
+        for make, said in [
+            (lambda: Sgr.Font(12), "Sgr.Font: number must be 0 to 9, not 12"),
+            (lambda: Cursor.Up(1 << 70), "Cursor.Up: count must be 0 to 4294967295, not 1180591620717411303424"),
+            (lambda: Cursor.Up("x"), "Cursor.Up: count must be int, not str"),
+            (lambda: Cursor.Position(0, 1), "Cursor.Position: line must be 1 to 4294967295, not 0"),
+            (lambda: PaletteColor(300), "PaletteColor: index must be 0 to 255, not 300"),
+            (lambda: Sgr.Foreground(1), "Sgr.Foreground: color must be DefaultColor or PaletteColor or TrueColor, not int"),
+            (lambda: Sgr.Underline("x"), "Sgr.Underline: value must be Underline, not 'x'"),
+            (lambda: Text(1), "Text: text must be str, not int"),
+            (lambda: Unspecified([None], "z"), "Unspecified: params must be int, not NoneType"),
+        ]:
+            with self.assertRaises(FieldError) as caught:
+                make()
+            self.assertEqual(str(caught.exception), said)
+            self.assertIsInstance(caught.exception, TypeError)
+
+    def test_other_types_are_refused(self):
+        for make in [csicodec.strip, csicodec.clean, csicodec.filter, csicodec.compact, csicodec.normalise, csicodec.events, csicodec.inputs]:
+            for wrong in [1, None, [1], {}]:
+                with self.assertRaisesRegex(TypeError, f"not {type(wrong).__name__}"):
+                    make(wrong)
+        for it in [Parser(), Cleaner(), Filter(), InputParser()]:
+            with self.assertRaisesRegex(TypeError, "a str or bytes-like object is required, not int"):
+                it.feed(3)
+        with self.assertRaisesRegex(TypeError, "an action of csicodec is required, not int"):
+            csicodec.encode([1])
+        with self.assertRaisesRegex(TypeError, "an Unspecified is required, not Up"):
+            csicodec.known(Cursor.Up(1))
+
+    def test_an_action_is_of_its_group(self):
+        self.assertIsInstance(Cursor.Up(1), Cursor)
+        self.assertNotIsInstance(Cursor.Up(1), Sgr)
+        self.assertIsInstance(Input.Escape(), Input)
+        with self.assertRaisesRegex(TypeError, "Cursor has no instances of its own"):
+            Cursor()
+
+    def test_values_stay_as_they_are(self):
+        with self.assertRaises(AttributeError):
+            Cursor.Up(1).count = 2
+        with self.assertRaises(AttributeError):
+            Cursor.Up(1).other = 2
+        self.assertEqual({Cursor.Up(1), Cursor.Up(1), Cursor.Down(1)}, {Cursor.Up(1), Cursor.Down(1)})
+        self.assertEqual(Cursor.Position(1, 2).__replace__(col=3), Cursor.Position(1, 3))
+
+    def test_copies(self):
+        for value in [*csicodec.events(ODD), *csicodec.inputs(b"\x1bOP\x1b[M !!"), *csicodec.spans(ODD)]:
+            self.assertEqual(pickle.loads(pickle.dumps(value)), value)
+            self.assertEqual(copy.deepcopy(value), value)
+        for it in [Parser(), InputParser(), Cleaner(styles=True), Filter(), Filter.compact()]:
+            it.feed(b"a\x1b[1m\x1b]0;t\x1b[3")
+            others = [pickle.loads(pickle.dumps(it)), copy.deepcopy(it)]
+            wanted = (it.feed("1mé"), it.finish())
+            for other in others:
+                self.assertEqual((other.feed("1mé"), other.finish()), wanted)
+
+    def test_with(self):
+        for it in [Parser(), InputParser(), Cleaner(), Filter()]:
+            with it:
+                it.feed("\x1b[1")
+            self.assertFalse(it.finish())
+
+    def test_inputs(self):
+        given = b"a\x1bOP\x1b[A\x1b[97;5u\x1b[[A\x1b[M !\"\x1bx\x1b]11;rgb:0/0/0\x07\x1b[3~\x1b[200~p\x1b[201~\x1b[7$\x1b"
+        wanted = list(csicodec.inputs(given))
+        for cut in range(len(given)):
+            parser = InputParser()
+            read = parser.feed(given[:cut]) + parser.feed(given[cut:]) + parser.finish()
+            self.assertEqual(joined(read), joined(wanted), cut)
+        self.assertEqual([it for it in wanted if isinstance(it, Input)], [Input.Ss3("P"), Input.Linux("A"), Input.Mouse(0, 1, 2), Input.Alt("x"), Input.Rxvt(7), Input.Escape()])
+        self.assertIn(ControlString("OSC", b"11;rgb:0/0/0"), wanted)
+        names = [csicodec.known(it).kind.name for it in wanted if isinstance(it, Unspecified)]
+        self.assertEqual(names, ["KEY_CHARACTER", "KEY_DELETE", "PASTE_START", "PASTE_END"])
+        [mouse] = csicodec.inputs("\x1b[M \u0121!", csicodec.Dialect.Utf8Input)
+        self.assertEqual(mouse, Input.Mouse(0, 257, 1))
+
+    def test_spans(self):
+        for stream in [ODD, *STREAMS]:
+            self.assertEqual(b"".join(span.data for span in csicodec.spans(stream)), stream)
+
+    def test_plain_text_is_left_alone(self):
+        for text in ["", "a", "a\n", "é€\n", "\xa0", "a\tb", "\n\n", "\x9b1m", "\x7f", "\u200b", "\ud800", "a\r\n"]:
+            held = text.encode("utf-8", "surrogatepass")
+            self.assertEqual(csicodec.strip(text).encode(), library.TextCall(library.strip_text).written(held), text)
+            self.assertEqual(csicodec.clean(text).encode(), library.TextCall(library.clean_text).written(held), text)
+
+    def test_each_name_is_where_it_is_looked_for(self):
+        for name in csicodec.__all__:
+            self.assertIsNotNone(getattr(csicodec, name))
+        for module in ["actions", "enums"]:
+            self.assertLessEqual({*importlib.import_module(f"csicodec.{module}").__all__}, {*csicodec.__all__})
+        ran = subprocess.run([sys.executable, "-c", "import csicodec, sys; csicodec.strip('a'); print('csicodec.actions' in sys.modules)"], capture_output=True)
+        self.assertEqual(ran.stdout.strip(), b"False")
 
     def test_events_don_t_depend_on_cuts(self):
         for stream in [ODD, *(stream[:600] for stream in STREAMS)]:
@@ -101,6 +198,11 @@ class Codec(unittest.TestCase):
         self.assertEqual(csicodec.strip(""), "")
         self.assertEqual(csicodec.clean("\x1b]8;;http://a.b\x1b\\x\x1b]8;;\x1b\\", links=True), "\x1b]8;;http://a.b\x1b\\x\x1b]8;;\x1b\\")
 
+    def test_text_that_grows(self):
+        for size in [1, 5000, 6000, 200000]:
+            self.assertEqual(csicodec.strip(b"\xff" * size), b"\xef\xbf\xbd" * size)
+            self.assertEqual(csicodec.clean(b"\x1b[1m\xff" * size).count(b"\xef\xbf\xbd"), size)
+
     def test_program(self):
         spans = csicodec.explain("\x1b[1mbold", only=["SGR"])
         self.assertEqual([span["at"] for span in spans], [0])
@@ -111,8 +213,8 @@ class Codec(unittest.TestCase):
 
 
 def load_tests(loader, tests, pattern):
-    for name in ("csicodec", "csicodec.codec", "csicodec.text", "csicodec.program"):
-        tests.addTests(doctest.DocTestSuite(importlib.import_module(name)))
+    for name in ("csicodec", "csicodec.actions", "csicodec.encoding", "csicodec.input", "csicodec.parser", "csicodec.program", "csicodec.sequences", "csicodec.span", "csicodec.text"):
+        tests.addTests(doctest.DocTestSuite(importlib.import_module(name), extraglobs={"events": csicodec.events}))
     return tests
 
 

@@ -1,14 +1,39 @@
-// node .ci/node.mjs FOLDER PROGRAM FILE ..: the package for node in FOLDER writes of each file what the native program writes.
+// node .ci/node.mjs FOLDER PROGRAM KINDS FILE ..: the package for node in FOLDER writes of each file what the native program writes, whole and
+// as a stream; reads and writes each example of KINDS (rust/tests/kinds/table.rs); and refuses what is of another type.
 import { execFileSync } from 'node:child_process';
 import { readFileSync } from 'node:fs';
 import { createRequire } from 'node:module';
 import { pathToFileURL } from 'node:url';
 
-const [folder, program, ...files] = process.argv.slice(2);
-const { Codec, CodecError, recorded } = await import(pathToFileURL(createRequire(`${folder}/it.js`).resolve('csicodec')));
+const [folder, program, kinds, ...files] = process.argv.slice(2);
+const { Codec, CodecError, InputParser, Parser, recorded } = await import(pathToFileURL(createRequire(`${folder}/it.js`).resolve('csicodec')));
 const codec = await Codec.load();
 const native = (words, input) => execFileSync(program, words, { input, maxBuffer: 1 << 30 });
+const same = (one, other) => Buffer.compare(Buffer.from(one), Buffer.from(other)) === 0;
 const wrong = what => { console.error(`node: ${what}`); process.exit(1); };
+
+/** What a TransformStream makes of some bytes, which come in pieces. */
+async function through(stream, data, size) {
+    const writer = stream.writable.getWriter(), parts = [];
+    const sent = (async () => {
+        for (let at = 0; at < data.length; at += size) await writer.write(data.subarray(at, at + size));
+        await writer.close();
+    })();
+    for await (const part of stream.readable) parts.push(part);
+    await sent;
+    return Buffer.concat(parts);
+}
+
+/** The events with texts, strings and malformed bytes that were cut put together. */
+function joined(events) {
+    const out = [];
+    for (const { bytes, text, ...event } of events) {
+        const before = out.at(-1);
+        if (bytes && before?.hex !== undefined && before.type === event.type && !event.first) Object.assign(before, { hex: before.hex + Buffer.from(bytes).toString('hex'), last: event.last });
+        else out.push(bytes ? { ...event, hex: Buffer.from(bytes).toString('hex') } : event);
+    }
+    return out;
+}
 
 for (const file of files) {
     const bytes = readFileSync(file), isCast = file.endsWith('.cast');
@@ -26,13 +51,29 @@ for (const file of files) {
         ['clean with links in 16 colours', ['clean', '--links', '--colors=16'], codec.clean(data, { colors: 16, links: true })],
         ['filter', ['filter'], codec.filter(data)],
     ]) {
-        if (Buffer.compare(Buffer.from(made), native(words, data)) !== 0) wrong(`${name} of ${file} is another`);
+        if (!same(made, native(words, data))) wrong(`${name} of ${file} is another`);
     }
+    for (const [name, whole, stream] of [
+        ['strip', codec.strip(data), codec.stripStream()],
+        ['clean in 256 colours', codec.clean(data, { colors: 256 }), codec.cleanStream({ colors: 256 })],
+        ['filter', codec.filter(data), codec.filterStream()],
+        ['compact', codec.compact(data), codec.compactStream()],
+    ]) {
+        if (!same(await through(stream, data, 7), whole)) wrong(`${name} of ${file} as it comes is another`);
+    }
+    const spans = codec.spans(data);
+    if (!same(Buffer.concat(spans.map(span => span.bytes)), data)) wrong(`the spans of ${file} aren't its bytes`);
+    for (const { bytes } of spans.filter(span => span.kind === 'csi')) {
+        if (!same(codec.encode(codec.events(bytes)), codec.normalise(bytes))) wrong(`the actions of ${bytes} are others`);
+    }
+    const whole = joined(codec.events(data)), parser = new Parser(codec), pieces = [];
+    for (let at = 0; at < data.length; at += 5) pieces.push(...parser.feed(data.subarray(at, at + 5)));
+    if (JSON.stringify(joined([...pieces, ...parser.finish()])) !== JSON.stringify(whole)) wrong(`the events of ${file} as it comes are others`);
     // The program also puts attributes of several sequences side by side; the library's step does not.
     for (const options of [{}, { semicolons: true }]) {
         const short = codec.compact(data, options);
         if (short.length > data.length) wrong(`compact of ${file} is longer`);
-        if (Buffer.compare(Buffer.from(codec.filter(short)), Buffer.from(codec.filter(data))) !== 0) wrong(`compact of ${file} does something else`);
+        if (!same(codec.filter(short), codec.filter(data))) wrong(`compact of ${file} does something else`);
     }
 }
 if (codec.strip('\x1b[1mé') !== 'é' || codec.normalise('\x1b[01;3m') !== '\x1b[1m\x1b[3m') wrong('strings');
@@ -42,3 +83,41 @@ try {
 } catch (error) {
     if (!(error instanceof CodecError) || error.start !== 4) wrong(String(error));
 }
+
+const types = new Set();
+for (const [, text, isRead] of readFileSync(kinds, 'utf8').matchAll(/"([^"\n]*)",\s*(true|false),?\s*\)/g)) {
+    if (isRead !== 'true') continue;
+    const [action, ...more] = codec.events(`\x1b[${text}`);
+    if (more.length || Buffer.from(codec.encode([action])).toString() !== `\x1b[${text}`) wrong(`${text} is read or written otherwise`);
+    types.add(action.type);
+}
+if (types.size < 100) wrong(`${types.size} types of actions were tried`);
+if (Buffer.from(codec.encodeCompact([{ type: 'Sgr.Reset' }, { type: 'Sgr.Italic', value: true }])).toString() !== '\x1b[;3m') wrong('encodeCompact');
+
+const keys = new InputParser(codec), read = [...keys.feed('a\x1bOP\x1b[3~\x1b[M !"\x1b'), ...keys.pause()];
+const named = read.map(event => event.type === 'Unspecified' ? codec.known(event).kind : event.type).join();
+if (named !== 'Text,Input.Ss3,KEY_DELETE,Input.Mouse,Input.Escape') wrong(`keys are read as ${named}`);
+if (keys.pause().length || keys.finish().length) wrong('something is left behind a pause');
+
+for (const [said, call] of [
+    ['not number', () => codec.strip(5)],
+    ['not null', () => codec.explain(null)],
+    ['not Array', () => codec.events([1]).next()],
+    ['no option color,', () => codec.clean('x', { color: 256 })],
+    ["'all', 256 or 16, not 8", () => codec.clean('x', { colors: 8 })],
+    ['await Codec.load()', () => new Codec()],
+    ['made of a Codec', () => new Parser()],
+    ['Cursor.Up: count must be a whole number, not x', () => codec.encode([{ type: 'Cursor.Up', count: 'x' }])],
+    ['Sgr.Underline: value must be a name of Underline', () => codec.encode([{ type: 'Sgr.Underline', value: 'Odd' }])],
+    ["an action of type 'Unspecified' is required", () => codec.known({ type: 'Sgr.Reset' })],
+]) {
+    try { call(); } catch (error) { if (error instanceof TypeError && error.message.includes(said)) continue; wrong(`${call} throws ${error}`); }
+    wrong(`${call} is taken`);
+}
+
+// Memory stays bounded: 64 MB through strip, and explain a thousand times.
+const before = process.memoryUsage().arrayBuffers;
+const large = new Uint8Array(1 << 24).fill(97);
+for (let i = 0; i < 4; i++) codec.strip(large);
+for (let i = 0; i < 1000; i++) codec.explain('\x1b[5;7H');
+if (codec.strip('\x1b[1mx') !== 'x' || process.memoryUsage().arrayBuffers - before > 1 << 28) wrong('memory grows');

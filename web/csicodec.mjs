@@ -1,17 +1,21 @@
-// csicodec in JavaScript, over two modules of WebAssembly: the library's calls, and the program explain. It runs in browsers and in node.
+// csicodec in JavaScript, over two modules of WebAssembly: the library's calls over text, and the program explain. It runs in browsers and in
+// node. The package's index.mjs adds events, input, spans and actions; the page has this file alone.
 //
 //     import { Codec } from './csicodec.mjs';
 //     const codec = await Codec.load();
 //     codec.strip('\x1b[1mbold\x1b[0m');                         // 'bold'
 //     for (const span of codec.explain('\x1b[5;7H')) console.log(span.actions[0].words);
 
-const encoder = new TextEncoder(), decoder = new TextDecoder();
+const encoder = new TextEncoder(), decoder = new TextDecoder('utf-8', { ignoreBOM: true });
 
 /** The statuses of the library, with their numbers. */
 const STATUS = ['ok', 'not a sequence', 'bad byte', 'number too large', 'truncated', 'out of memory', 'no action', 'bad state'];
 
-/** The most bytes that a control sequence may have. */
-const LIMIT = 65536n;
+/** The most bytes that a control sequence may have, and how many of a stream are passed at a time. */
+const LIMIT = 65536n, PIECE = 65536;
+
+/** What strip and clean don't leave as it is: controls, and surrogates, whose pairs they do. */
+const CONTROL = /[\x00-\x08\x0b-\x1f\x7f-\x9f\ud800-\udfff]/;
 
 /** Why bytes were refused, or that memory ran out. */
 export class CodecError extends Error {
@@ -22,17 +26,54 @@ export class CodecError extends Error {
     }
 }
 
-const bytesOf = input => typeof input === 'string' ? encoder.encode(input)
-    : input instanceof Uint8Array ? input
-    : ArrayBuffer.isView(input) ? new Uint8Array(input.buffer, input.byteOffset, input.byteLength)
-    : new Uint8Array(input);
+/** The name of a value's type. */
+const typeName = value => value === null ? 'null' : typeof value === 'object' ? value.constructor?.name ?? 'object' : typeof value;
+
+/** The bytes of an input; a string is taken as UTF-8. */
+export function bytesOf(input) {
+    if (typeof input === 'string') return encoder.encode(input);
+    if (input instanceof Uint8Array) return input;
+    if (ArrayBuffer.isView(input)) return new Uint8Array(input.buffer, input.byteOffset, input.byteLength);
+    if (input instanceof ArrayBuffer || /^\[object (Shared)?ArrayBuffer\]$/.test(Object.prototype.toString.call(input))) return new Uint8Array(input);
+    throw new TypeError(`the input must be a string, an ArrayBuffer or a view of one, not ${typeName(input)}`);
+}
+
+/** The options of a call, where each is one of these, of the type that it has there. */
+export function optionsOf(given, defaults) {
+    if (given === undefined) return defaults;
+    if (given === null || typeof given !== 'object') throw new TypeError(`the options must be an object, not ${typeName(given)}`);
+    for (const [name, value] of Object.entries(given)) {
+        if (!(name in defaults)) throw new TypeError(`there is no option ${name}, but ${Object.keys(defaults).join(', ')}`);
+        if (typeof defaults[name] === 'boolean' && value !== undefined && typeof value !== 'boolean') throw new TypeError(`the option ${name} must be boolean, not ${typeName(value)}`);
+    }
+    return { ...defaults, ...Object.fromEntries(Object.entries(given).filter(([, value]) => value !== undefined)) };
+}
+
+/** The number of a depth of colours. */
+function depthOf(colors) {
+    const depth = { all: 0, 256: 1, 16: 2 }[colors];
+    if (depth === undefined) throw new TypeError(`the option colors must be 'all', 256 or 16, not ${String(colors)}`);
+    return depth;
+}
 
 const joined = parts => {
+    if (parts.length === 1) return parts[0];
     const all = new Uint8Array(parts.reduce((sum, part) => sum + part.length, 0));
     let at = 0;
     for (const part of parts) { all.set(part, at); at += part.length; }
     return all;
 };
+
+/** The text of bytes from here to there; a few of ASCII are taken without a decoder. */
+export function textOf(bytes, from = 0, to = bytes.length) {
+    if (to - from > 64) return decoder.decode(bytes.subarray(from, to));
+    let text = '';
+    for (let i = from; i < to; i++) {
+        if (bytes[i] > 127) return decoder.decode(bytes.subarray(from, to));
+        text += String.fromCharCode(bytes[i]);
+    }
+    return text;
+}
 
 /** A module of bytes, of a URL, or as it is. */
 async function compiled(source) {
@@ -46,166 +87,362 @@ async function compiled(source) {
     return WebAssembly.compile(source);
 }
 
-/** Runs the program once: its words, its files by name ('-' is standard input), and what is called with each piece of output. */
-function runProgram(module, words, files, write) {
-    const list = ['csicodec', ...words].map(word => encoder.encode(word)), open = new Map(), said = [];
-    let memory;
-    const view = (place, length) => new Uint8Array(memory.buffer, Number(place), Number(length));
-    const put = (bytes, to, room) => {
-        if (!bytes) return -1n;
-        if (bytes.length > Number(room)) return -2n;
-        view(to, bytes.length).set(bytes);
-        return BigInt(bytes.length);
-    };
-    const start = name => {
-        if (!(name in files)) return -2n;
-        const number = name === '-' ? 0 : open.size + 3;
-        open.set(number, { bytes: files[name], at: 0 });
-        return BigInt(number);
-    };
-    start('-');
-    const env = {
-        read(file, to, room) {
-            const it = open.get(file);
-            if (!it) return -9n;
-            const part = it.bytes.subarray(it.at, it.at + Number(room));
-            it.at += part.length;
-            view(to, part.length).set(part);
-            return BigInt(part.length);
-        },
-        write(file, from, length) {
-            const part = view(from, length).slice();
-            if (file === 1) write(part); else said.push(part);
-            return BigInt(length);
-        },
-        open: (name, length) => start(decoder.decode(view(name, length).slice())),
-        word: (i, to, room) => put(list[Number(i)], to, room),
-        variable: () => -1n,
-    };
-    // An instance that trapped is of no more use: each run has its own.
-    const instance = new WebAssembly.Instance(module, { env });
-    memory = instance.exports.memory;
-    const status = instance.exports.run();
-    return { status, message: decoder.decode(joined(said)).trim() };
+const refusal = status => new CodecError(STATUS[status] ?? `status ${status}`, { status });
+
+/** An instance of the library, with room that its calls share, since each is over before the next one begins. */
+class Library {
+    constructor(module) {
+        this.calls = new WebAssembly.Instance(module, {}).exports;
+        this.answer = this.room(64);
+        this.answerAt = Number(this.answer);
+        this.state = this.room(16);
+        this.input = { at: 0n, size: 0 };
+        this.output = { at: 0n, size: 0 };
+    }
+
+    room(size) {
+        const place = this.calls.csicodec_room(BigInt(size));
+        if (!place) throw new CodecError('out of memory');
+        return place;
+    }
+
+    /** Room of at least so many bytes. */
+    grown(room, size) {
+        if (room.size >= size) return room;
+        if (room.at) this.calls.csicodec_free(room.at);
+        return { at: this.room(size), size, length: BigInt(size) };
+    }
+
+    /** Looks at the memory, which has another buffer behind a call that let it grow. */
+    look() {
+        const { buffer } = this.calls.memory;
+        if (this.all?.buffer === buffer) return;
+        this.all = new Uint8Array(buffer);
+        this.view = new DataView(buffer);
+    }
+
+    get memory() { this.look(); return this.all; }
+
+    bytes(place, length) { return this.memory.subarray(Number(place), Number(place) + length); }
+
+    /** A number of the struct that a call answered, behind a look; those of 64 bits are counts, which the memory bounds. */
+    told(place) { return this.view.getUint32(this.answerAt + place, true); }
+
+    /** Puts bytes where calls find them. */
+    take(bytes) {
+        this.input = this.grown(this.input, bytes.length + 1);
+        this.memory.set(bytes, Number(this.input.at));
+        this.length = BigInt(bytes.length);
+    }
+
+    /** Puts a text where calls find it. */
+    takeText(text) {
+        this.input = this.grown(this.input, text.length * 3 + 1);
+        const all = this.memory, at = Number(this.input.at);
+        let i = text.length > 256 ? -1 : 0;
+        for (; i >= 0 && i < text.length; i++) {
+            const code = text.charCodeAt(i);
+            if (code > 127) break;
+            all[at + i] = code;
+        }
+        this.length = BigInt(i === text.length ? i : encoder.encodeInto(text, all.subarray(at, at + this.input.size)).written);
+    }
+
+    /** Calls with what was taken, and with room, which is tried again where it was too small; answers how many bytes are in `output`. `needed`
+     * is the place of that number in the answer, and `refused` makes the error. */
+    called(room, needed, call, refused = refusal) {
+        this.output = this.grown(this.output, room);
+        for (;;) {
+            call(this.calls, this.answer, this.input.at, this.length, this.output.at, this.output.length);
+            this.look();
+            const status = this.told(0);
+            if (status) throw refused(status, this);
+            const length = this.told(needed);
+            if (length <= this.output.size) return length;
+            this.output = this.grown(this.output, length);
+        }
+    }
+
+    /** A copy of what a call writes. */
+    written(...how) {
+        const length = this.called(...how);
+        return this.bytes(this.output.at, length).slice();
+    }
+
+    /** The same as a text. */
+    writtenText(room, needed, call, refused) {
+        const length = this.called(room, needed, call, refused), at = Number(this.output.at);
+        return textOf(this.memory, at, at + length);
+    }
 }
 
+/** A stream that is written anew as it comes. What depends on what follows waits: of a control sequence less than 65,536 bytes. */
+class Steps {
+    constructor(codec) { this.codec = codec; this.begin(); }
+
+    begin() { this.rest = new Uint8Array(); this.looked = this.held = 0; }
+
+    /** Whether a control sequence, of which some bytes were looked at, isn't over in these. */
+    waits(bytes) {
+        const from = this.held;
+        if (this.looked - from < 2 || bytes.length - from >= PIECE || bytes[from] !== 0x1b || bytes[from + 1] !== 0x5b) return false;
+        for (let i = this.looked; i < bytes.length; i++) if (bytes[i] < 0x20 || bytes[i] > 0x3f) return false;
+        return true;
+    }
+
+    /** What becomes of the next bytes, as far as it doesn't depend on what follows, in pieces. */
+    feed(given) {
+        const parts = [];
+        for (let at = 0; at < given.length; at += PIECE) {
+            const piece = given.subarray(at, at + PIECE), bytes = this.rest.length ? joined([this.rest, piece]) : piece;
+            let used = 0;
+            if (!this.waits(bytes)) {
+                const step = this.codec.guarded(library => this.step(library, bytes));
+                used = step.used;
+                if (step.out.length) parts.push(step.out);
+            }
+            this.rest = bytes.slice(used);
+            this.looked = this.rest.length;
+        }
+        return parts;
+    }
+
+    /** The whole of it. */
+    whole(bytes) { return joined([...this.feed(bytes), this.finish()]); }
+}
+
+/** Plain text, or text with the styles of a depth. */
+class Cleaner extends Steps {
+    constructor(codec, depth) { super(codec); this.depth = depth; }
+
+    begin() { super.begin(); this.state = new Uint8Array(16); }
+
+    step(library, bytes) {
+        library.take(bytes);
+        library.bytes(library.state, 16).set(this.state);
+        const out = library.written(bytes.length * 3 + 64, 32, (calls, answer, ...words) => this.depth === undefined
+            ? calls.csicodec_strip_step(answer, library.state, ...words)
+            : calls.csicodec_clean_step(answer, this.depth, library.state, ...words));
+        this.state = library.bytes(library.answerAt + 4, 16).slice();
+        this.held = library.told(16);
+        return { out, used: library.told(24) };
+    }
+
+    /** What ends the stream: U+FFFD for the beginning of a character, and a reset if a style is open. */
+    finish() {
+        const out = this.codec.guarded(library => {
+            library.take(this.rest);
+            library.bytes(library.state, 16).set(this.state);
+            return library.written(64, 8, (calls, answer, ...words) => calls.csicodec_clean_end(answer, library.state, ...words));
+        });
+        this.begin();
+        return out;
+    }
+}
+
+/** Each control sequence in another spelling. */
+class Filter extends Steps {
+    constructor(codec, call) { super(codec); this.call = call; }
+
+    begin() { super.begin(); this.mode = 0; }
+
+    step(library, bytes) {
+        library.take(bytes);
+        const out = library.written(bytes.length * 2 + 64, 16, (calls, answer, ...words) => calls[this.call](answer, this.mode, LIMIT, ...words));
+        this.mode = library.told(4);
+        return { out, used: library.told(8) };
+    }
+
+    /** What is left at the end passes as it is. */
+    finish() {
+        const left = this.rest;
+        this.begin();
+        return left;
+    }
+}
+
+/** A stream of bytes, or of strings, through this. */
+const streamOf = steps => new TransformStream({
+    transform(chunk, controller) { for (const part of steps.feed(bytesOf(chunk))) controller.enqueue(part); },
+    flush(controller) { const end = steps.finish(); if (end.length) controller.enqueue(end); },
+});
+
+/** The program explain: one instance, which is kept as long as it doesn't trap. */
+class Program {
+    constructor(module) {
+        this.instance = new WebAssembly.Instance(module, { env: this.host() });
+        this.memory = this.instance.exports.memory;
+    }
+
+    view(place, length) { return new Uint8Array(this.memory.buffer, Number(place), Number(length)); }
+
+    /** What the program asks of the machine. An answer below 0 is the number of an error of Linux. */
+    host() {
+        const put = (bytes, to, room) => {
+            if (!bytes) return -1n;
+            if (bytes.length > Number(room)) return -2n;
+            this.view(to, bytes.length).set(bytes);
+            return BigInt(bytes.length);
+        };
+        return {
+            read: (file, to, room) => {
+                const it = this.open.get(file);
+                if (!it) return -9n;
+                const part = it.bytes.subarray(it.at, it.at + Number(room));
+                it.at += part.length;
+                this.view(to, part.length).set(part);
+                return BigInt(part.length);
+            },
+            write: (file, from, length) => {
+                const part = this.view(from, length).slice();
+                if (file === 1) this.write(part); else this.said.push(part);
+                return BigInt(length);
+            },
+            open: (name, length) => this.start(decoder.decode(this.view(name, length).slice())),
+            word: (i, to, room) => put(this.words[Number(i)], to, room),
+            variable: () => -1n,
+        };
+    }
+
+    start(name) {
+        if (!(name in this.files)) return -2n;
+        const number = name === '-' ? 0 : this.open.size + 3;
+        this.open.set(number, { bytes: this.files[name], at: 0 });
+        return BigInt(number);
+    }
+
+    /** Runs it: its words, its files by name ('-' is standard input), and what is called with each piece of output. */
+    run(words, files, write) {
+        Object.assign(this, { words: ['csicodec', ...words].map(word => encoder.encode(word)), files, write, open: new Map(), said: [] });
+        this.start('-');
+        return { status: this.instance.exports.run(), message: decoder.decode(joined([new Uint8Array(), ...this.said])).trim() };
+    }
+}
+
+const stripCall = (calls, answer, from, length, to, room) => calls.csicodec_strip(answer, from, length, to, room);
+
 export class Codec {
+    #library;
+    #explain;
+    #instance;
+    #program;
+
+    constructor({ library, explain } = {}) {
+        if (!(library instanceof WebAssembly.Module)) throw new TypeError('a Codec is made by await Codec.load()');
+        this.#library = library;
+        this.#explain = explain;
+    }
+
     /** Loads the modules: from beside this file, or from what is passed (a module, its bytes, or a URL). */
-    static async load({ library = new URL('csicodec.wasm', import.meta.url), explain = new URL('explain.wasm', import.meta.url) } = {}) {
-        const codec = new Codec();
-        [codec.library, codec.program] = await Promise.all([compiled(library), compiled(explain)]);
-        return codec;
+    static async load(sources) {
+        const { library, explain } = optionsOf(sources, { library: undefined, explain: undefined }), beside = name => new URL(name, import.meta.url);
+        const modules = await Promise.all([compiled(library ?? beside('csicodec.wasm')), compiled(explain ?? beside('explain.wasm'))]);
+        return new this({ library: modules[0], explain: modules[1] });
     }
 
     /** The modules, to be passed to a worker's `Codec.load`. */
-    get modules() { return { library: this.library, explain: this.program }; }
+    get modules() { return { library: this.#library, explain: this.#explain }; }
 
-    /** A fresh instance where there is none, or where a call trapped. */
-    #calls() {
-        this.instance ??= new WebAssembly.Instance(this.library, {}).exports;
-        return this.instance;
+    /** Uses the library. An instance that trapped is of no more use, and the next call has another. */
+    guarded(use) {
+        try {
+            return use(this.#instance ??= new Library(this.#library));
+        } catch (error) {
+            if (error instanceof WebAssembly.RuntimeError) this.#instance = undefined;
+            throw error;
+        }
     }
 
-    /** Calls the library with bytes and room for its output, which is tried again where it was too small. `answered` reads the answer:
-     * the count of bytes that are needed, at the given place. */
-    #written(input, first, needed, call) {
-        const bytes = bytesOf(input), calls = this.#calls();
-        const from = calls.csicodec_room(BigInt(bytes.length + 1)), answer = calls.csicodec_room(64n);
-        let room = first, to = 0n;
-        try {
-            if (!from || !answer) throw new CodecError('out of memory');
-            new Uint8Array(calls.memory.buffer, Number(from), bytes.length).set(bytes);
-            for (;;) {
-                to = calls.csicodec_room(BigInt(room + 1));
-                if (!to) throw new CodecError('out of memory');
-                call(calls, answer, from, BigInt(bytes.length), to, BigInt(room));
-                const said = new DataView(calls.memory.buffer, Number(answer), 64), status = said.getUint32(0, true);
-                if (status) {
-                    const at = needed === 24 ? { start: Number(said.getBigUint64(8, true)), at: Number(said.getBigUint64(16, true)) } : {};
-                    throw new CodecError(STATUS[status] ?? `status ${status}`, { status, ...at });
-                }
-                const length = Number(said.getBigUint64(needed, true));
-                if (length <= room) return new Uint8Array(calls.memory.buffer, Number(to), length).slice();
-                calls.csicodec_free(to);
-                to = 0n;
-                room = length;
+    /** A text, or bytes, written by one call. */
+    #written(input, needed, call, refused) {
+        return this.guarded(library => {
+            if (typeof input === 'string') {
+                library.takeText(input);
+                return library.writtenText(input.length * 9 + 64, needed, call, refused);
             }
-        } catch (error) {
-            if (error instanceof WebAssembly.RuntimeError) this.instance = undefined;
-            throw error;
-        } finally {
-            if (this.instance) for (const place of [from, to, answer]) if (place) calls.csicodec_free(place);
-        }
+            const bytes = bytesOf(input);
+            library.take(bytes);
+            return library.written(bytes.length * 3 + 64, needed, call, refused);
+        });
+    }
+
+    #whole(input, steps) {
+        const out = steps.whole(bytesOf(input));
+        return typeof input === 'string' ? decoder.decode(out) : out;
     }
 
     /** The visible text: no control but newline and tab. Of a string a string, else bytes. */
     strip(input) {
-        const out = this.#written(input, bytesOf(input).length * 3, 8, (calls, ...words) => calls.csicodec_strip(...words));
-        return typeof input === 'string' ? decoder.decode(out) : out;
+        if (typeof input === 'string' && !CONTROL.test(input)) return input;
+        if (typeof input !== 'string' || input.length > PIECE) return this.#whole(input, new Cleaner(this));
+        return this.#written(input, 8, stripCall);
     }
 
     /** The visible text with its styles. `colors` is 'all', 256 or 16; `links` keeps links whose address is visible ASCII. */
-    clean(input, { colors = 'all', links = false } = {}) {
-        const depth = { all: 0, 256: 1, 16: 2 }[colors];
-        if (depth === undefined) throw new CodecError(`colors is 'all', 256 or 16, and not ${colors}`);
-        const out = this.#written(input, bytesOf(input).length * 3 + 64, 8, (calls, answer, from, length, to, room) =>
-            calls.csicodec_clean_with(answer, depth, links ? 1 : 0, from, length, to, room));
-        return typeof input === 'string' ? decoder.decode(out) : out;
+    clean(input, options) {
+        const { colors, links } = optionsOf(options, { colors: 'all', links: false }), depth = depthOf(colors);
+        if (typeof input === 'string' && !CONTROL.test(input)) return input;
+        if (!links && (typeof input !== 'string' || input.length > PIECE)) return this.#whole(input, new Cleaner(this, depth));
+        return this.#written(input, 8, (calls, answer, ...words) => calls.csicodec_clean_with(answer, depth, links ? 1 : 0, ...words));
     }
 
     /** The normal form of control sequences alone, one after the other; other bytes are refused with their place. */
     normalise(input) {
-        const out = this.#written(input, bytesOf(input).length * 2 + 64, 24, (calls, ...words) => calls.csicodec_normalise(...words));
-        return typeof input === 'string' ? decoder.decode(out) : out;
+        return this.#written(input, 24, (calls, ...words) => calls.csicodec_normalise(...words), (status, library) =>
+            new CodecError(STATUS[status] ?? `status ${status}`, { status, start: library.told(8), at: library.told(16) }));
     }
 
     /** Any whole stream with each control sequence in its normal form. */
-    filter(input) { return this.#stream(input, (calls, ...words) => calls.csicodec_filter(...words)); }
+    filter(input) { return this.#whole(input, new Filter(this, 'csicodec_filter')); }
 
     /** The same stream for a terminal, each control sequence in the shortest spelling that is found, never longer. (The program also puts
      * attributes of several sequences side by side.) */
-    compact(input, { semicolons = false } = {}) {
-        return this.#stream(input, (calls, ...words) => semicolons ? calls.csicodec_compact_semicolons(...words) : calls.csicodec_compact(...words));
+    compact(input, options) {
+        const { semicolons } = optionsOf(options, { semicolons: false });
+        return this.#whole(input, new Filter(this, semicolons ? 'csicodec_compact_semicolons' : 'csicodec_compact'));
     }
 
-    #stream(input, call) {
-        const bytes = bytesOf(input);
-        let used = 0;
-        const out = this.#written(bytes, bytes.length * 2 + 64, 16, (calls, answer, from, length, to, room) => {
-            call(calls, answer, 0, LIMIT, from, length, to, room);
-            used = Number(new DataView(calls.memory.buffer, Number(answer), 64).getBigUint64(8, true));
-        });
-        // What is held back at the end of the stream passes as it is.
-        const all = joined([out, bytes.subarray(used)]);
-        return typeof input === 'string' ? decoder.decode(all) : all;
-    }
+    /** The same for a stream as it comes, of bytes or of strings: TransformStreams that write bytes, with bounded memory. */
+    stripStream() { return streamOf(new Cleaner(this)); }
+    cleanStream(options) { return streamOf(new Cleaner(this, depthOf(optionsOf(options, { colors: 'all' }).colors))); }
+    filterStream() { return streamOf(new Filter(this, 'csicodec_filter')); }
+    compactStream(options) { return streamOf(new Filter(this, optionsOf(options, { semicolons: false }).semicolons ? 'csicodec_compact_semicolons' : 'csicodec_compact')); }
 
     /** The spans of a stream in words, as objects: at, kind, text or hex, and actions with name, words and action. `name` is a file's:
      * one that ends in .cast is a recording of asciinema, and its spans have their time. */
-    explain(input, { name, only, unknown = false, decode = false } = {}) {
+    explain(input, options) {
         const spans = [];
-        this.explainEach(input, { name, only, unknown, decode }, lines => { for (const line of lines) spans.push(JSON.parse(line)); });
+        this.explainEach(input, options, lines => { for (const line of lines) spans.push(JSON.parse(line)); });
         return spans;
     }
 
     /** The same as lines of JSON, which `each` is called with as they come. */
-    explainEach(input, { name, only, unknown = false, decode = false } = {}, each) {
-        const words = ['explain', '--json'], files = {};
+    explainEach(input, options, each) {
+        const { name, only, unknown, decode } = optionsOf(options, { name: '', only: '', unknown: false, decode: false });
+        const words = ['explain', '--json'], files = { '-': new Uint8Array() };
         if (unknown) words.push('--unknown');
         if (decode) words.push('--decode');
         if (only) words.push(`--only=${only}`);
-        const place = name && name.endsWith('.cast') ? 'input.cast' : '-';
-        files['-'] = new Uint8Array();
+        const place = name.endsWith('.cast') ? 'input.cast' : '-';
         files[place] = bytesOf(input);
         if (place !== '-') words.push(place);
         let rest = '';
-        const text = new TextDecoder();
-        const { status, message } = runProgram(this.program, words, files, part => {
+        const text = new TextDecoder('utf-8', { ignoreBOM: true });
+        const { status, message } = this.#run(words, files, part => {
             const lines = (rest + text.decode(part, { stream: true })).split('\n');
             rest = lines.pop();
             if (lines.length) each(lines);
         });
         if (status) throw new CodecError(message.replace(/^csicodec: /, '').replace(/: input\.cast$/, '') || `status ${status}`, { status });
+    }
+
+    /** Runs the program. An instance that trapped, or that was left by an error of `write`, isn't run again. */
+    #run(words, files, write) {
+        const program = this.#program ?? new Program(this.#explain);
+        this.#program = undefined;
+        const answer = program.run(words, files, write);
+        this.#program = program;
+        return answer;
     }
 }
 

@@ -1,30 +1,98 @@
-// Runs what the page asks for, one request after the other, so that the page stays quick. Lines of explain are passed on as they come.
-import { Codec, recorded } from './csicodec.mjs';
+// @ts-check
+// Does what takes long, away from the page: one task for each message, and what is found on the way is told as it comes.
+import { run } from './page/program.mjs';
+import { explained, found, indexed } from './page/spans.mjs';
+import { opened } from './page/recording.mjs';
+import { joined, pieces } from './page/pieces.mjs';
+import { lineWith, markedCharacters, markedLines, originAt, originsOfLines } from './page/marks.mjs';
 
-let codec;
+const decoder = new TextDecoder();
+/** @type {WebAssembly.Module} */
+let program;
 
+/** @param {Blob | Uint8Array} given */
+const bytesOf = async given => given instanceof Blob ? new Uint8Array(await given.arrayBuffer()) : given;
+
+/**
+ * What the program writes of some bytes.
+ * @param {string[]} words
+ * @param {Uint8Array} bytes
+ */
+function written(words, bytes) {
+    /** @type {Uint8Array[]} */
+    const all = [];
+    run(program, words, bytes, part => all.push(part));
+    return joined(all);
+}
+
+/**
+ * @param {string[]} words
+ * @param {Uint8Array} bytes
+ */
+const linesOf = (words, bytes) => decoder.decode(written(words, bytes)).split('\n');
+
+/** @typedef {(message: object, moved?: Transferable[]) => void} Tell */
+/** @type {Record<string, (task: any, tell: Tell) => Promise<object>>} */
 const tasks = {
-    explain({ bytes, options, most, id }) {
-        let count = 0, waiting = [];
-        const pass = () => { postMessage({ id, lines: waiting, count }); waiting = []; };
-        codec.explainEach(bytes, options, lines => {
-            for (const line of lines) if (++count <= most) waiting.push(line);
-            if (waiting.length >= 500) pass();
-        });
-        pass();
-        return { count };
+    async open({ files }) {
+        const read = async (/** @type {File} */ file) => ({ name: file.name, bytes: await bytesOf(file) });
+        const given = await Promise.all(files.map(read));
+        const { name, bytes, times } = opened(given);
+        return { name, blob: new Blob([bytes]), times };
     },
-    strip: ({ bytes, options }) => ({ text: codec.strip(options.name?.endsWith('.cast') ? recorded(bytes) : bytes) }),
-    compact: ({ bytes, options }) => ({ text: codec.compact(options.name?.endsWith('.cast') ? recorded(bytes) : bytes) }),
+    async index({ blob }, tell) {
+        const bytes = await bytesOf(blob);
+        indexed((words, write) => run(program, words, bytes, write), rows => tell(rows, [rows.at.buffer, rows.set.buffer]));
+        return {};
+    },
+    async find({ blob, wanted }, tell) {
+        const bytes = await bytesOf(blob);
+        found((words, write) => run(program, words, bytes, write), wanted, at => tell({ at }));
+        return {};
+    },
+    async explain({ blob, ranges }) {
+        const spans = [];
+        for (const [from, to] of ranges) {
+            const bytes = await bytesOf(blob.slice(from, to));
+            const found = explained((words, write) => run(program, words, bytes, write));
+            spans.push(...found.map(span => ({ ...span, at: from + span.at })));
+        }
+        return { spans };
+    },
+    async write({ blob, words, lines }) {
+        const bytes = written(words, await bytesOf(blob));
+        return { bytes, begins: lines ? pieces(bytes, lines === 'markup') : undefined };
+    },
+    async save({ blob, words }) {
+        /** @type {Uint8Array[]} */
+        const all = [];
+        run(program, words, await bytesOf(blob), part => all.push(part));
+        return { blob: new Blob(all) };
+    },
+    async origins({ blob, words, rows }) {
+        const html = written(words, markedLines(await bytesOf(blob), rows));
+        return { origins: originsOfLines(html, pieces(html, true, Infinity)) };
+    },
+    async origin({ blob, words, rows, wanted }) {
+        const { marked, places } = markedCharacters(await bytesOf(blob), rows);
+        return { at: places[originAt(linesOf(words, marked), wanted)] ?? -1 };
+    },
+    async line({ blob, words, rows, at }) {
+        const { marked, places } = markedCharacters(await bytesOf(blob), rows);
+        return { line: lineWith(linesOf(words, marked), places.findIndex(place => place >= at)) };
+    },
 };
 
-onmessage = async ({ data }) => {
-    const began = performance.now();
+addEventListener('message', async ({ data }) => {
+    const { id, task, module } = data;
+    /** @type {Tell} */
+    const tell = (message, moved = []) => postMessage({ id, ...message }, { transfer: moved });
     try {
-        codec ??= await Codec.load(data.modules);
-        const answer = tasks[data.task](data);
-        postMessage({ id: data.id, done: true, took: performance.now() - began, ...answer });
+        program ??= module;
+        const answer = await tasks[task](data, tell);
+        const moved = Object.values(answer).filter(it => ArrayBuffer.isView(it)).map(it => it.buffer);
+        tell({ ...answer, done: true }, moved);
     } catch (error) {
-        postMessage({ id: data.id, done: true, fault: String(error.message ?? error) });
+        tell({ done: true, fault: String(/** @type {Error} */ (error).message ?? error) });
     }
-};
+});

@@ -1,0 +1,49 @@
+/* What the library has for C, each row tried: a row's name is said behind it. */
+#include <csicodec.h>
+#include <stdio.h>
+#include <stdlib.h>
+#include <string.h>
+
+#define B(text) (const uint8_t *)(text), sizeof(text) - 1
+static struct csicodec_action actions[8];
+static struct csicodec_param params[8];
+static uint8_t out[64];
+
+static void says(const char *row, int is_so) {
+    if (!is_so) fprintf(stderr, "not so: %s\n", row), exit(1);
+    puts(row);
+}
+/* Counts the actions, and what the end of the stream tells. */
+static void count(void *counts, const struct csicodec_parser *parser, const struct csicodec_event *event) {
+    (void)parser;
+    ((size_t *)counts)[event->kind == CSICODEC_EVENT_OTHER] += event->kind == CSICODEC_EVENT_OTHER ? event->len : event->actions;
+}
+static int wrote(size_t needed, const char *text) { return needed == strlen(text) && !memcmp(out, text, needed); }
+
+int main(void) {
+    struct csicodec_stream stream = csicodec_stream_of(4096, actions, 8, params, 8);
+    struct csicodec_event event;
+    struct csicodec_cleaning state = {0, 0, 0, 0};
+    struct csicodec_cleaned step;
+    uint8_t held[16];
+    struct csicodec_parser parser = csicodec_parser_of(held, sizeof held, actions, 8, params, 8);
+    size_t counts[2] = {0, 0};
+    int is_event = csicodec_next_event(&stream, B("\033[5;7H"), &event);
+    says("events", is_event && event.kind == CSICODEC_EVENT_ACTIONS && actions[0].kind == CSICODEC_CURSOR_POSITION && actions[0].second == 7);
+    csicodec_feed(&parser, B("\033[5"), count, counts);
+    csicodec_feed(&parser, B(";7H\033["), count, counts);
+    csicodec_finish(&parser, count, counts);
+    says("parser", counts[0] == 1 && counts[1] == 2);
+    says("input", csicodec_input(CSICODEC_DIALECT_INPUT, 0, 4096, 0, B("\033OP"), actions, 8, params, 8).kind == CSICODEC_INPUT_SS3
+        && csicodec_pause(B("\033")).kind == CSICODEC_INPUT_ESCAPE);
+    csicodec_next(B("\033[?2K"), actions, 8, params, 8);
+    says("known", csicodec_known(actions, params, 8).kind == CSICODEC_KNOWN_DECSEL);
+    says("spans", csicodec_span(0, 4096, B("a\033[m")).used == 1);
+    says("whole", wrote(csicodec_strip(B("\033[01ma"), out, 64).needed, "a") && wrote(csicodec_clean(B("\033[01ma"), out, 64).needed, "\033[1ma\033[0m")
+        && wrote(csicodec_filter(0, 4096, B("\033[01ma"), out, 64).needed, "\033[1ma") && wrote(csicodec_compact(0, 4096, B("\033[01ma"), out, 64).needed, "\033[1ma"));
+    step = csicodec_strip_step(&state, B("a\033[01"), out, 64);
+    says("stream", wrote(step.needed, "a") && step.used == 1);
+    csicodec_next(B("\033[3m"), actions, 8, params, 8);
+    says("encode", wrote(csicodec_encode(actions, 1, params, 0, out, 64).needed, "\033[3m"));
+    return 0;
+}

@@ -1,0 +1,18 @@
+// What the package for JavaScript has, each row tried: a row's name is said behind it.
+import assert from 'node:assert';
+import { Codec, InputParser, Parser } from 'csicodec';
+
+const codec = await Codec.load(), parser = new Parser(codec), keys = new InputParser(codec), decoder = new TextDecoder();
+const says = (row, isSo) => { assert(isSo, row); console.log(row); };
+const types = all => [...all].map(it => it.type).join();
+const through = async (stream, text) => decoder.decode(await new Response(new Response(text).body.pipeThrough(stream)).arrayBuffer());
+
+says('events', types(codec.events('a\x1b[5;7H')) === 'Text,Cursor.Position');
+says('parser', types([...parser.feed('\x1b[5'), ...parser.feed(';7H\x1b['), ...parser.finish()]) === 'Cursor.Position,Malformed');
+says('input', types(codec.inputs('\x1bOP')) === 'Input.Ss3' && !keys.feed('\x1b').length && types(keys.pause()) === 'Input.Escape');
+says('known', [...codec.events('\x1b[?2K')].map(it => codec.known(it).kind).join() === 'DECSEL');
+says('spans', codec.spans('a\x1b[m').map(it => it.kind).join() === 'text,csi');
+says('whole', ['strip', 'clean', 'filter', 'compact'].map(it => codec[it]('\x1b[01ma')).join() === 'a,\x1b[1ma\x1b[0m,\x1b[1ma,\x1b[1ma');
+says('stream', await through(codec.stripStream(), '\x1b[01ma') === 'a' && await through(codec.filterStream(), '\x1b[01ma') === '\x1b[1ma');
+says('encode', decoder.decode(codec.encode([{ type: 'Sgr.Italic', value: true }, { type: 'Cursor.Up', count: 2 }])) === '\x1b[3m\x1b[2A');
+says('explain', codec.explain('\x1b[5;7H')[0].actions[0].words === 'cursor to line 5, column 7');

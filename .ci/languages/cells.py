@@ -1,0 +1,20 @@
+"""What the package for Python has, each row tried: a row's name is said behind it."""
+from csicodec import Cleaner, Cursor, Filter, Input, InputParser, KnownKind, Parser, Sgr, Text
+from csicodec import clean, compact, encode, events, explain, filter, inputs, known, spans, strip
+
+
+def says(row: str, is_so: bool) -> None:
+    assert is_so, row
+    print(row)
+
+
+parser, keys, cleaner, filtered = Parser(), InputParser(), Cleaner(), Filter()
+says("events", list(events("a\x1b[5;7H")) == [Text("a"), Cursor.Position(5, 7)])
+says("parser", [*parser.feed("\x1b[5"), *parser.feed(";7H\x1b["), *parser.finish()][0] == Cursor.Position(5, 7))
+says("input", list(inputs("\x1bOP")) == [Input.Ss3("P")] and keys.feed("\x1b") == [] and keys.pause() == [Input.Escape()])
+says("known", [known(it).kind for it in events("\x1b[?2K")] == [KnownKind.DECSEL])
+says("spans", [it.data for it in spans("a\x1b[m")] == [b"a", b"\x1b[m"])
+says("whole", [it("\x1b[01ma") for it in (strip, clean, filter, compact)] == ["a", "\x1b[1ma\x1b[0m", "\x1b[1ma", "\x1b[1ma"])
+says("stream", cleaner.feed("\x1b[01") + cleaner.feed("ma") + cleaner.finish() == b"a" and filtered.feed("\x1b[01m") == b"\x1b[1m")
+says("encode", encode([Sgr.Italic(True), Cursor.Up(2)]) == b"\x1b[3m\x1b[2A")
+says("explain", explain("\x1b[5;7H")[0]["actions"][0]["words"] == "cursor to line 5, column 7")

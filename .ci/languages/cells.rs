@@ -1,0 +1,32 @@
+//! What the crate has, each row tried: a row's name is said behind it.
+use csicodec::{CSI, Cleaner, Cursor, Dialect, Event, Filter, InputEvent, Known, KnownKind, Parser, Sgr, SpanKind};
+use std::num::NonZeroUsize;
+
+fn says(row: &str, is_so: bool) {
+    assert!(is_so, "{row}");
+    println!("{row}");
+}
+
+fn main() -> Result<(), csicodec::Error> {
+    let events: Vec<_> = csicodec::events(b"a\x1b[2A").collect();
+    says("events", events == [Event::Text(b"a"), Event::Csi(CSI::Cursor(Cursor::Up(2)))]);
+    let (mut parser, mut count) = (Parser::new(), 0);
+    for piece in [b"\x1b[5".as_slice(), b";7H", b"\x1b["] {
+        parser.advance(piece, &mut |_| count += 1);
+    }
+    parser.finish(&mut |_| count += 1);
+    says("parser", count == 2);
+    says("input", csicodec::inputs(Dialect::Input, b"\x1bOP\x1b").eq([InputEvent::Ss3('P'), InputEvent::Escape]));
+    let Some(Event::Csi(CSI::Unspecified(unknown))) = csicodec::events(b"\x1b[?2K").next() else { panic!() };
+    says("known", Known::of(&unknown).is_some_and(|it| it.kind() == KnownKind::DECSEL));
+    says("spans", csicodec::spans(b"a\x1b[m").map(|it| it.kind).eq([SpanKind::Text, SpanKind::Csi]));
+    let (mut cleaned, mut filtered) = (Vec::new(), Vec::new());
+    let mut cleaner = Cleaner::strip();
+    cleaner.push(b"a\x1b[01", &mut cleaned)?;
+    cleaner.push(b"mb", &mut cleaned)?;
+    Filter::new(NonZeroUsize::MAX).push(b"\x1b[01m", &mut filtered)?;
+    says("whole", csicodec::strip(b"\x1b[01ma")? == "a" && csicodec::clean(b"\x1b[01ma")? == "\x1b[1ma\x1b[0m");
+    says("stream", cleaned == b"ab" && filtered == b"\x1b[1m");
+    says("encode", csicodec::encode(&[CSI::Sgr(Sgr::Italic(true))])? == b"\x1b[3m");
+    Ok(())
+}

@@ -1,0 +1,245 @@
+// The package csicodec for JavaScript: csicodec.mjs, and events, input, spans and actions over the same library.
+import { NAMES } from './actions.mjs';
+import { Codec as TextCodec, CodecError, bytesOf, optionsOf, recorded, textOf } from './csicodec.mjs';
+import { ACTION_SIZE, PARAM_SIZE, actionOf, rowsOf } from './forms.mjs';
+
+export { CodecError, recorded };
+
+/** The keys that are held while the mouse reports, and how a program wants keys reported: `modifiers` and `flags` are sums of these. */
+export const Modifiers = Object.freeze({ SHIFT: 2, ALT: 4, CTRL: 8 });
+export const KittyKeyboardFlags = Object.freeze({
+    DISAMBIGUATE_ESCAPE_CODES: 1, REPORT_EVENT_TYPES: 2, REPORT_ALTERNATE_KEYS: 4, REPORT_ALL_KEYS_AS_ESCAPE_CODES: 8, REPORT_ASSOCIATED_TEXT: 16,
+});
+
+const decoder = new TextDecoder('utf-8', { ignoreBOM: true });
+const LIMIT = 65536, PIECE = 65536, TRUNCATED = 4;
+// enum csicodec_event_kind and enum csicodec_input_kind; enum csicodec_dialect; enum csicodec_span_kind.
+const TEXT = 1, ACTIONS = 2, ESC = 3, STRING = 4, OTHER = 5, CONTROL = 6, SS3 = 7, LINUX = 8, RXVT = 9, MOUSE = 10, ALT = 11;
+const DIALECTS = { output: 0, input: 1, utf8: 2 };
+const SPANS = ['text', 'csi', 'esc', 'string', 'other'];
+const STRINGS = { 0x5d: 'OSC', 0x50: 'DCS', 0x58: 'SOS', 0x5e: 'PM', 0x5f: 'APC' };
+
+const textEvent = bytes => ({ type: 'Text', text: textOf(bytes), bytes });
+
+/** The actions of short sequences are kept by their bytes, at most so many: streams repeat few of them. They are frozen, as all are. */
+const KEPT = 4096, SHORT = 32, kept = new Map();
+
+function keep(key, actions) {
+    if (kept.size >= KEPT) kept.clear();
+    kept.set(key, actions);
+    return actions;
+}
+
+/** An action with nothing in it that can be changed. */
+function frozen(action) {
+    for (const value of Object.values(action)) if (typeof value === 'object') Object.freeze(value);
+    return Object.freeze(action);
+}
+
+/** The key or the report that some bytes are. */
+function keyOf(kind, value, bytes, dialect) {
+    switch (kind) {
+        case SS3: return { type: 'Input.Ss3', character: String.fromCharCode(value) };
+        case LINUX: return { type: 'Input.Linux', character: String.fromCharCode(value) };
+        case ALT: return { type: 'Input.Alt', character: String.fromCharCode(value) };
+        case RXVT: return { type: 'Input.Rxvt', number: value };
+        case MOUSE: {
+            const numbers = dialect === DIALECTS.utf8 ? [...decoder.decode(bytes.subarray(3))].map(it => it.codePointAt(0)) : [...bytes.subarray(3)];
+            const [button, column, line] = numbers.map(number => Math.max(0, number - 32));
+            return { type: 'Input.Mouse', button, column, line };
+        }
+        default: return { type: 'Input.Escape' };
+    }
+}
+
+/** Reads a stream as it comes. What waits for more bytes is kept: fewer than `limit` of a control sequence, or 3 of a character. */
+class Reader {
+    constructor(codec, dialect, limit) {
+        if (!(codec instanceof Codec)) throw new TypeError('a parser is made of a Codec: new Parser(await Codec.load())');
+        if (!Number.isInteger(limit) || limit < 1) throw new TypeError(`the option limit must be 1 or more, not ${String(limit)}`);
+        Object.assign(this, { codec, dialect, limit });
+        this.begin();
+    }
+
+    begin() { this.mode = this.looked = 0; this.opener = ''; this.rest = new Uint8Array(); }
+
+    /** The events of the next bytes, or characters, as far as they don't depend on what follows. */
+    feed(input) {
+        const given = bytesOf(input), events = [];
+        for (let at = 0; at < given.length; at += PIECE) {
+            const piece = given.subarray(at, at + PIECE), held = new Uint8Array(this.rest.length + piece.length);
+            held.set(this.rest);
+            held.set(piece, this.rest.length);
+            this.rest = held.subarray(this.codec.guarded(library => this.#read(library, held, events)));
+        }
+        return events;
+    }
+
+    /** Appends the events of some bytes, and answers how many these have. */
+    #read(library, held, events) {
+        library.take(held);
+        const begin = library.input.at, limit = BigInt(this.limit);
+        let at = 0, { actions, params } = this.#room(library, 64, 64);
+        while (at < held.length) {
+            library.calls.csicodec_input(library.answer, this.dialect, this.mode, limit, BigInt(this.looked), begin + BigInt(at), BigInt(held.length - at),
+                actions.at, BigInt(actions.size / ACTION_SIZE), params.at, BigInt(params.size / PARAM_SIZE));
+            library.look();
+            const status = library.told(0), count = library.told(32), tokens = library.told(40);
+            if (status && status !== TRUNCATED) throw new CodecError(status === 5 ? 'out of memory' : `status ${status}`, { status });
+            if (!status && (count * ACTION_SIZE > actions.size || tokens * PARAM_SIZE > params.size)) {
+                ({ actions, params } = this.#room(library, count, tokens));
+                continue;
+            }
+            const kind = library.told(4), value = library.told(12), used = library.told(24);
+            this.mode = library.told(8);
+            this.looked = library.told(16);
+            if (status) break;
+            if (kind === ACTIONS) {
+                const key = used > SHORT ? undefined : textOf(held, at, at + used);
+                for (const action of kept.get(key) ?? this.#actions(library, count, key)) events.push(action);
+            } else if (kind === CONTROL) {
+                events.push(textEvent(held.subarray(at + this.looked - 1, at + this.looked)));
+            } else {
+                events.push(this.#event(library, kind, value, held.subarray(at, at + used)));
+            }
+            at += used;
+        }
+        return at;
+    }
+
+    /** Room for at least so many actions and tokens. */
+    #room(library, actions, params) {
+        library.actions = library.grown(library.actions ?? { at: 0n, size: 0 }, actions * ACTION_SIZE);
+        library.params = library.grown(library.params ?? { at: 0n, size: 0 }, params * PARAM_SIZE);
+        return library;
+    }
+
+    /** The actions that a call has written. */
+    #actions(library, count, key) {
+        const { view } = library, at = Number(library.actions.at), params = Number(library.params.at);
+        const actions = Array.from({ length: count }, (_, i) => frozen(actionOf(view, at + i * ACTION_SIZE, params)));
+        return key === undefined ? actions : keep(key, actions);
+    }
+
+    /** The event of some bytes that aren't a control sequence. */
+    #event(library, kind, value, bytes) {
+        if (kind === TEXT) return textEvent(bytes);
+        if (kind === STRING) return this.#piece(bytes);
+        if (kind === OTHER) return { type: 'Malformed', bytes };
+        if (kind !== ESC) return keyOf(kind, value, bytes, this.dialect);
+        const intermediate = bytes.length > 2 ? bytes[1] : 0, final = bytes[bytes.length - 1], code = NAMES.EscCode[library.calls.csicodec_esc(intermediate, final)];
+        return code ? { type: 'Esc', code } : { type: 'UnknownEsc', intermediate: intermediate ? String.fromCharCode(intermediate) : '', final: String.fromCharCode(final) };
+    }
+
+    /** A piece of a control string, without what opens and closes it. */
+    #piece(bytes) {
+        const first = bytes.length > 1 && bytes[0] === 0x1b && bytes[1] in STRINGS, last = this.mode === 0;
+        if (first) this.opener = STRINGS[bytes[1]];
+        const end = last ? bytes.length - (bytes[bytes.length - 1] === 7 ? 1 : 2) : bytes.length;
+        return { type: 'ControlString', kind: this.opener, bytes: bytes.subarray(first ? 2 : 0, end), first, last };
+    }
+
+    /** What is left at the end of the stream: the beginning of a control, or of a character. The parser can then begin anew. */
+    finish() {
+        const left = this.rest;
+        this.begin();
+        if (!left.length) return [];
+        return [left[0] === 0x1b ? { type: 'Malformed', bytes: left } : textEvent(left)];
+    }
+}
+
+/** Reads what a program writes for a terminal, as it comes. */
+export class Parser extends Reader {
+    constructor(codec, options) { super(codec, DIALECTS.output, optionsOf(options, { limit: LIMIT }).limit); }
+}
+
+/** Reads what a terminal sends, as it comes. */
+export class InputParser extends Reader {
+    constructor(codec, options) {
+        const { dialect, limit } = optionsOf(options, { dialect: 'input', limit: LIMIT });
+        if (dialect !== 'input' && dialect !== 'utf8') throw new TypeError(`the option dialect must be 'input' or 'utf8', not ${String(dialect)}`);
+        super(codec, DIALECTS[dialect], limit);
+    }
+
+    /** What waits, where nothing more came in time: ESC alone is a key, and so is ESC with one character. Else it goes on waiting. */
+    pause() {
+        const { rest } = this;
+        const answer = this.codec.guarded(library => {
+            library.take(rest);
+            library.calls.csicodec_pause(library.answer, library.input.at, library.length);
+            library.look();
+            return { status: library.told(0), kind: library.told(4), value: library.told(12) };
+        });
+        if (answer.status) return [];
+        this.begin();
+        return [keyOf(answer.kind, answer.value, rest, this.dialect)];
+    }
+
+    finish() { return [...this.pause(), ...super.finish()]; }
+}
+
+export class Codec extends TextCodec {
+    /** The events of a whole stream. */
+    *events(input) { yield* allOf(new Parser(this), bytesOf(input)); }
+
+    /** The events of all that a terminal sent. An ESC at the end is a key. */
+    *inputs(input, options) { yield* allOf(new InputParser(this, options), bytesOf(input)); }
+
+    /** The spans of a whole stream: joined they are its bytes. */
+    spans(input) {
+        const held = bytesOf(input).slice(), spans = [];
+        this.guarded(library => {
+            library.take(held);
+            for (let at = 0, mode = 0; at < held.length;) {
+                library.calls.csicodec_span(library.answer, mode, BigInt(LIMIT), library.input.at + BigInt(at), BigInt(held.length - at));
+                library.look();
+                const isCut = library.told(0) !== 0, used = isCut ? held.length - at : library.told(16);
+                spans.push({ kind: isCut ? 'other' : SPANS[library.told(4)], bytes: held.subarray(at, at + used) });
+                mode = library.told(8);
+                at += used;
+            }
+        });
+        return spans;
+    }
+
+    /** The row of docs/SEQUENCES.md that reads an action of type 'Unspecified', and its values; undefined, if none does. */
+    known(action) {
+        if (action?.type !== 'Unspecified') throw new TypeError(`an action of type 'Unspecified' is required, not ${action?.type ?? typeof action}`);
+        return this.#withRows([action], (library, rows, _, params, count) => {
+            library.calls.csicodec_known(library.answer, rows, params, count);
+            library.look();
+            const kind = library.told(0);
+            return kind ? { kind: NAMES.KnownKind[kind], values: Array.from({ length: library.told(4) }, (_, i) => library.told(8 + 4 * i)) } : undefined;
+        });
+    }
+
+    /** The texts of actions, joined, as bytes. */
+    encode(actions) { return this.#encoded('csicodec_encode', actions); }
+
+    /** The same actions in a text that is no longer, if each is read back from its own text. */
+    encodeCompact(actions) { return this.#encoded('csicodec_encode_compact', actions); }
+
+    #encoded(call, actions) {
+        return this.#withRows(actions, (library, rows, count, params, paramsCount) => library.written(Number(count) * 16 + 64, 16,
+            (calls, answer, _input, _length, ...room) => calls[call](answer, rows, count, params, paramsCount, ...room),
+            status => new CodecError(`action ${library.told(8)}: ${status === 6 ? 'no action' : `status ${status}`}`, { status, at: library.told(8) })));
+    }
+
+    /** Puts the structs of actions and of their tokens where calls find them. */
+    #withRows(actions, use) {
+        const { rows, tokens } = rowsOf(actions), all = new Uint8Array(rows.length + tokens.length);
+        all.set(rows);
+        all.set(tokens, rows.length);
+        return this.guarded(library => {
+            library.take(all);
+            const { at } = library.input;
+            return use(library, at, BigInt(rows.length / ACTION_SIZE), at + BigInt(rows.length), BigInt(tokens.length / PARAM_SIZE));
+        });
+    }
+}
+
+/** All events of some bytes, piece by piece. */
+function* allOf(parser, held) {
+    for (let at = 0; at < held.length; at += PIECE) yield* parser.feed(held.subarray(at, at + PIECE));
+    yield* parser.finish();
+}

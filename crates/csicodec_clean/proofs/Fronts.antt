@@ -1,5 +1,5 @@
 -- What went out is a front of the text of the whole stream, whatever comes behind.
-use Rattle.std.proofs.Common.{◌≡◌, ℕ, Bool, true, false, cond, Option, IfSome, List, [], ◌∷◌, ◌++◌, map, refl, sym, ap, subst, ◌∙◌, append_assoc, append-nil}
+use Rattle.std.proofs.Common.{◌≡◌, ℕ, Bool, true, false, cond, Option, List, [], ◌∷◌, ◌++◌, map, refl, sym, ap, subst, ◌∙◌, append_assoc, append-nil}
 use Rattle.std.specs.Prelude.{filter}
 use Rattle.std.specs.Io.KnownBytes.{Appends, Consumes, IsAtEnd}
 use Rattle.bstr.specs.Utf8.{lossy_chars}
@@ -22,6 +22,7 @@ use Rattle.csicodec_clean.specs.Styled.{kept, Item, Style, item_texts, shown_ite
 use Rattle.csicodec_clean.proofs.Again.{of_once, one_styled}
 use Rattle.csicodec_clean.proofs.Plain.{steps_stripped, strips}
 use Rattle.csicodec_clean.proofs.Shows.{shown_read}
+use Rattle.csicodec_clean.proofs.Streams.{SentFront}
 use Rattle.csicodec_clean.proofs.Styled.{given_string, part_texts, styles, texts_both, texts_chars, texts_links, texts_styles}
 use Rattle.csicodec_clean.proofs.Sure.{read_more, read_none}
 use Rattle.csicodec_clean.proofs.Titles.{titles_on}
@@ -171,10 +172,6 @@ module _ {S : Type 0} (of : S → Keeping) where
 
 shorter : (Out : List ℕ → List ℕ → Type 0) (bytes sent unsent : List ℕ) → IsFrontOf Out bytes (sent ++ unsent) → IsFrontOf Out bytes sent
 shorter Out bytes sent unsent h whole k = let (more, e) = h whole k in (unsent ++ more, e ∙ append_assoc sent unsent more)
-
--- what went out of a run is a front of the text of the whole input
-abbrev pub SentFront : (List ℕ → List ℕ → Type 0) → Option (List ℕ) → Option (List ℕ) → Option (List ℕ) → Type 0
-SentFront Out i w y = IfSome i (λ bytes. (sent : List ℕ) × IsFrontOf Out bytes sent × Appends w y sent)
 
 same_front : (Out : List ℕ → List ℕ → Type 0) (bytes text : List ℕ) → ((other : List ℕ) → Out bytes other → other ≡ text) → IsFrontOf Out bytes text
 same_front Out bytes text one whole k = ([], one whole k ∙ sym (append-nil text))

@@ -4,8 +4,7 @@ use Rattle.std.proofs.lemmas.Bool.{cases_lt}
 use Rattle.std.proofs.lemmas.List.{get_or_append_left, drop-append-le, drop_all}
 use Rattle.bstr.specs.Utf8.{Decoded, good, decoded, decoded_by, continues, second, code_of_2, code_of_3, code_of_4, or_replacement, replacement, lossy_chars}
 use Rattle.bstr.proofs.lemmas.PieceLemmas.{by-shape, piece-bounds, lossy_chars-step, lossy_chars-nil, value-1, value-2, value-3, value-5, value-6, value-8, value-9, value-11, value-12}
-use Rattle.csicodec_clean.specs.Shown.{IsRead}
-use Rattle.csicodec_clean.specs.Private.Steps.{IsCut}
+use Rattle.csicodec_clean.specs.Shown.{IsCut, IsRead}
 
 longer_by : (n m b c d e c' d' e' : ℕ) → n ≤ m → ((decoded_by n b c d e).char ≡ None → (decoded_by n b c d e).size < n) → 0 < n
     → (1 < n → c' ≡ c) → (2 < n → d' ≡ d) → (3 < n → e' ≡ e) → decoded_by m b c' d' e' ≡ decoded_by n b c d e

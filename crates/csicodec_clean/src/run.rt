@@ -1,9 +1,10 @@
 //! Runs from a reader to a writer.
-ghost use Rattle.std.specs.Prelude.{◌≡◌, ◌++◌, [], ℕ, List, OnErr, OnOk, IfErr, IfSome};
+ghost use Rattle.std.specs.Prelude.{◌≡◌, ◌++◌, [], ℕ, List, OnErr, OnOk, IfErr};
 ghost use Rattle.std.specs.Io.KnownBytes.{Appends, Consumes, IsAtEnd};
 ghost use Rattle.csicodec_clean.specs.Shown.{IsPlain};
 ghost use Rattle.csicodec_clean.specs.Cleaned.{Ends, Strips, longest};
-ghost use Rattle.csicodec_clean.specs.Stream.{Begins, Between, IsFrontOf, Takes, start_of};
+ghost use Rattle.csicodec_clean.specs.Stream.{Begins, Between, Takes, start_of};
+ghost use Rattle.csicodec_clean.specs.Streams.{StreamsOne};
 ghost use Rattle.csicodec_clean.specs.Styled.{IsStyled, IsStyledIn, Styles, StylesIn, without_links};
 
 use crate::cleaner::Cleaner;
@@ -57,9 +58,9 @@ pub fn clean_run<T: Rule + Drop, R: Read, W: Write>(
     ensures ok { OnOk result
         ((bytes : List ℕ) × (text : List ℕ)
         × Consumes (R.remaining input.old) (R.remaining input.new) bytes
+        × IsAtEnd (R.remaining input.new)
         × Ends T.gives T.closes longest rule bytes text
         × Appends (W.contents output.old) (W.contents output.new) text) }
-    ensures end { OnOk result (IsAtEnd (R.remaining input.new)) }
     // When a read fails, all that was sure of the bytes before it has been written.
     ensures failed { IfErr result
         (λ e. e ≡ RunError.Read → (bytes : List ℕ) × (text : List ℕ) × (last : Between T)
@@ -89,23 +90,9 @@ pub fn strip_all<R: Read, W: Write>(
     input: &mut R,
     output: &mut W,
 ) -> Result<(), RunError>
-    // What was written is the stripped text of all the bytes.
-    ensures ok { OnOk result
-        ((bytes : List ℕ) × (text : List ℕ)
-        × Consumes (R.remaining input.old) (R.remaining input.new) bytes
-        × Strips longest bytes text × IsPlain text
-        × Appends (W.contents output.old) (W.contents output.new) text) }
-    ensures end { OnOk result (IsAtEnd (R.remaining input.new)) }
-    // After any error, what went out is a front of the stripped text of bytes that were read, and so of plain text.
-    ensures front { OnErr result
-        ((bytes : List ℕ) × (more : List ℕ) × (sent : List ℕ) × (unsent : List ℕ)
-        × Consumes (R.remaining input.old) (R.remaining input.new) (bytes ++ more)
-        × Strips longest bytes (sent ++ unsent) × IsPlain (sent ++ unsent)
-        × Appends (W.contents output.old) (W.contents output.new) sent) }
-    // And it is a front of the stripped text of the whole input.
-    ensures whole { OnErr result (IfSome (R.remaining input.old) (λ bytes.
-        (sent : List ℕ) × IsFrontOf (Strips longest) bytes sent
-        × Appends (W.contents output.old) (W.contents output.new) sent)) }
+    ensures { StreamsOne (Strips longest) IsPlain result
+        (R.remaining input.old) (R.remaining input.new)
+        (W.contents output.old) (W.contents output.new) }
 {
     clean_run(alloc, Dropped, input, output)
 }
@@ -120,23 +107,9 @@ pub fn clean_all<R: Read, W: Write>(
     input: &mut R,
     output: &mut W,
 ) -> Result<(), RunError>
-    // What was written is the text of all the bytes with their styles.
-    ensures ok { OnOk result
-        ((bytes : List ℕ) × (text : List ℕ)
-        × Consumes (R.remaining input.old) (R.remaining input.new) bytes
-        × Styles bytes text × IsStyled text
-        × Appends (W.contents output.old) (W.contents output.new) text) }
-    ensures end { OnOk result (IsAtEnd (R.remaining input.new)) }
-    // After any error, what went out is a front of such a text of bytes that were read.
-    ensures front { OnErr result
-        ((bytes : List ℕ) × (more : List ℕ) × (sent : List ℕ) × (unsent : List ℕ)
-        × Consumes (R.remaining input.old) (R.remaining input.new) (bytes ++ more)
-        × Styles bytes (sent ++ unsent) × IsStyled (sent ++ unsent)
-        × Appends (W.contents output.old) (W.contents output.new) sent) }
-    // And it is a front of the text of the whole input.
-    ensures whole { OnErr result (IfSome (R.remaining input.old) (λ bytes.
-        (sent : List ℕ) × IsFrontOf Styles bytes sent
-        × Appends (W.contents output.old) (W.contents output.new) sent)) }
+    ensures { StreamsOne Styles IsStyled result
+        (R.remaining input.old) (R.remaining input.new)
+        (W.contents output.old) (W.contents output.new) }
 {
     clean_all_in(alloc, Depth::Full, input, output)
 }
@@ -148,24 +121,9 @@ pub fn clean_all_in<R: Read, W: Write>(
     input: &mut R,
     output: &mut W,
 ) -> Result<(), RunError>
-    // What was written is the text of all the bytes with their styles.
-    ensures ok { OnOk result
-        ((bytes : List ℕ) × (text : List ℕ)
-        × Consumes (R.remaining input.old) (R.remaining input.new) bytes
-        × StylesIn (without_links depth) bytes text × IsStyledIn (without_links depth) text
-        × Appends (W.contents output.old) (W.contents output.new) text) }
-    ensures end { OnOk result (IsAtEnd (R.remaining input.new)) }
-    // After any error, what went out is a front of such a text of bytes that were read.
-    ensures front { OnErr result
-        ((bytes : List ℕ) × (more : List ℕ) × (sent : List ℕ) × (unsent : List ℕ)
-        × Consumes (R.remaining input.old) (R.remaining input.new) (bytes ++ more)
-        × StylesIn (without_links depth) bytes (sent ++ unsent)
-        × IsStyledIn (without_links depth) (sent ++ unsent)
-        × Appends (W.contents output.old) (W.contents output.new) sent) }
-    // And it is a front of the text of the whole input.
-    ensures whole { OnErr result (IfSome (R.remaining input.old) (λ bytes.
-        (sent : List ℕ) × IsFrontOf (StylesIn (without_links depth)) bytes sent
-        × Appends (W.contents output.old) (W.contents output.new) sent)) }
+    ensures { StreamsOne (StylesIn (without_links depth)) (IsStyledIn (without_links depth)) result
+        (R.remaining input.old) (R.remaining input.new)
+        (W.contents output.old) (W.contents output.new) }
 {
     let links = false;
     clean_all_with(alloc, Passing { depth, links }, input, output)
@@ -178,23 +136,9 @@ pub fn clean_all_with<R: Read, W: Write>(
     input: &mut R,
     output: &mut W,
 ) -> Result<(), RunError>
-    // What was written is the text of all the bytes with what passes.
-    ensures ok { OnOk result
-        ((bytes : List ℕ) × (text : List ℕ)
-        × Consumes (R.remaining input.old) (R.remaining input.new) bytes
-        × StylesIn passing bytes text × IsStyledIn passing text
-        × Appends (W.contents output.old) (W.contents output.new) text) }
-    ensures end { OnOk result (IsAtEnd (R.remaining input.new)) }
-    // After any error, what went out is a front of such a text of bytes that were read.
-    ensures front { OnErr result
-        ((bytes : List ℕ) × (more : List ℕ) × (sent : List ℕ) × (unsent : List ℕ)
-        × Consumes (R.remaining input.old) (R.remaining input.new) (bytes ++ more)
-        × StylesIn passing bytes (sent ++ unsent) × IsStyledIn passing (sent ++ unsent)
-        × Appends (W.contents output.old) (W.contents output.new) sent) }
-    // And it is a front of the text of the whole input.
-    ensures whole { OnErr result (IfSome (R.remaining input.old) (λ bytes.
-        (sent : List ℕ) × IsFrontOf (StylesIn passing) bytes sent
-        × Appends (W.contents output.old) (W.contents output.new) sent)) }
+    ensures { StreamsOne (StylesIn passing) (IsStyledIn passing) result
+        (R.remaining input.old) (R.remaining input.new)
+        (W.contents output.old) (W.contents output.new) }
 {
     clean_run(alloc, Kept::letting(alloc, passing), input, output)
 }

@@ -1,8 +1,8 @@
 //! The characters of a run of text that are shown.
 ghost use Rattle.std.specs.Prelude.{◌≡◌, ◌<◌, ◌≤◌, ◌-◌, ◌++◌, ◌∷◌, [], ℕ, List, length, take, drop, OnOk, IfOk, IfSome, IfNone};
 ghost use Rattle.csicodec_clean.specs.Shown.{shown, shown_chars, shown_text};
-ghost use Rattle.csicodec_clean.specs.Private.Steps.{IsCut, Tells};
-ghost use Rattle.csicodec_clean.specs.Shown.{IsRead};
+ghost use Rattle.csicodec_clean.specs.Private.Steps.{Tells};
+ghost use Rattle.csicodec_clean.specs.Shown.{IsCut, IsRead};
 
 use crate::ascii::{LANES, is_dropped};
 use crate::wide::behind_shown;
@@ -28,7 +28,7 @@ fn append_char(char: char, out: &mut Vec<u8>) -> Result<(), AllocError>
 
 /// The character in front, or U+FFFD for a piece that is none, and its length; none where it depends on what follows, and of
 /// no bytes.
-fn first_sure(bytes: &[u8]) -> Option<(char, usize)>
+pub fn first_sure(bytes: &[u8]) -> Option<(char, usize)>
     ensures none { IfNone result (IsCut bytes.now) }
     ensures some { IfSome result
         (λ (char, size). IsRead bytes.now (char ∷ []) (drop size bytes.now) × (0 < size)

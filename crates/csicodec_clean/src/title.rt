@@ -5,7 +5,7 @@ ghost use Rattle.csicodec_clean.specs.Titles.{read_as, title_behind};
 use csicodec_spans::Kind;
 
 /// What a span is, where a title may be open: the text of one is dropped.
-pub(crate) fn read_as(kind: Kind, titled: bool) -> Kind
+pub fn read_as(kind: Kind, titled: bool) -> Kind
     ensures { result ≡ read_as kind titled }
 {
     match kind {
@@ -15,7 +15,7 @@ pub(crate) fn read_as(kind: Kind, titled: bool) -> Kind
 }
 
 /// Whether a title is open behind a span: text goes on with it, `ESC k` opens one, and anything else ends it.
-pub(crate) fn title_behind(titled: bool, kind: Kind, bytes: &[u8]) -> bool
+pub fn title_behind(titled: bool, kind: Kind, bytes: &[u8]) -> bool
     ensures { result ≡ title_behind titled kind bytes.now }
 {
     match kind {

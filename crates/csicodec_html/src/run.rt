@@ -1,8 +1,8 @@
 //! A stream as a page, as it comes.
-ghost use Rattle.std.specs.Prelude.{◌≡◌, ◌++◌, [], ℕ, List, OnErr, OnOk};
-ghost use Rattle.std.specs.Io.KnownBytes.{Appends, Consumes, IsAtEnd};
+ghost use Rattle.std.specs.Prelude.{◌≡◌};
 ghost use Rattle.csicodec_html.specs.Page.{IsPage, IsPageWith, PageOf, PageWith, first_set};
 ghost use Rattle.csicodec_clean.specs.Stream.{start_of};
+ghost use Rattle.csicodec_clean.specs.Streams.{Streams};
 
 use crate::markup::Markup;
 use crate::page::append_page;
@@ -86,19 +86,9 @@ pub fn html_all<R: Read, W: Write>(
     input: &mut R,
     output: &mut W,
 ) -> Result<(), RunError>
-    // What was written is the page of all the bytes.
-    ensures ok { OnOk result
-        ((bytes : List ℕ) × (page : List ℕ)
-        × Consumes (R.remaining input.old) (R.remaining input.new) bytes
-        × PageOf bytes page × IsPage page
-        × Appends (W.contents output.old) (W.contents output.new) page) }
-    ensures end { OnOk result (IsAtEnd (R.remaining input.new)) }
-    // After any error, what went out is a front of such a page of bytes that were read.
-    ensures front { OnErr result
-        ((bytes : List ℕ) × (more : List ℕ) × (sent : List ℕ) × (unsent : List ℕ)
-        × Consumes (R.remaining input.old) (R.remaining input.new) (bytes ++ more)
-        × PageOf bytes (sent ++ unsent) × IsPage (sent ++ unsent)
-        × Appends (W.contents output.old) (W.contents output.new) sent) }
+    ensures { Streams PageOf IsPage result
+        (R.remaining input.old) (R.remaining input.new)
+        (W.contents output.old) (W.contents output.new) }
 {
     html_all_with(alloc, Markup::default(), input, output)
 }
@@ -110,17 +100,9 @@ pub fn html_all_with<R: Read, W: Write>(
     input: &mut R,
     output: &mut W,
 ) -> Result<(), RunError>
-    ensures ok { OnOk result
-        ((bytes : List ℕ) × (page : List ℕ)
-        × Consumes (R.remaining input.old) (R.remaining input.new) bytes
-        × PageWith markup bytes page × IsPageWith markup page
-        × Appends (W.contents output.old) (W.contents output.new) page) }
-    ensures end { OnOk result (IsAtEnd (R.remaining input.new)) }
-    ensures front { OnErr result
-        ((bytes : List ℕ) × (more : List ℕ) × (sent : List ℕ) × (unsent : List ℕ)
-        × Consumes (R.remaining input.old) (R.remaining input.new) (bytes ++ more)
-        × PageWith markup bytes (sent ++ unsent) × IsPageWith markup (sent ++ unsent)
-        × Appends (W.contents output.old) (W.contents output.new) sent) }
+    ensures { Streams (PageWith markup) (IsPageWith markup) result
+        (R.remaining input.old) (R.remaining input.new)
+        (W.contents output.old) (W.contents output.new) }
 {
     transform_all(alloc, Page::new(alloc, markup), input, output)
 }

@@ -1,9 +1,7 @@
 //! Logs from a reader to a writer.
-ghost use Rattle.std.specs.Prelude.{◌++◌, ℕ, List, OnErr, OnOk, IfSome};
-ghost use Rattle.std.specs.Io.KnownBytes.{Appends, Consumes, IsAtEnd};
 ghost use Rattle.csicodec_clean.specs.Shown.{IsPlain};
 ghost use Rattle.csicodec_clean.specs.Cleaned.{Strips, longest};
-ghost use Rattle.csicodec_clean.specs.Stream.{IsFrontOf};
+ghost use Rattle.csicodec_clean.specs.Streams.{StreamsOne};
 ghost use Rattle.csicodec_clean.specs.Styled.{IsStyledIn, StylesIn};
 ghost use Rattle.csicodec_lines.specs.Lines.{ByLines};
 
@@ -26,23 +24,9 @@ pub fn strip_lines_all<R: Read, W: Write>(
     input: &mut R,
     output: &mut W,
 ) -> Result<(), RunError>
-    // What was written is the stripped text of each line of all the bytes.
-    ensures ok { OnOk result
-        ((bytes : List ℕ) × (text : List ℕ)
-        × Consumes (R.remaining input.old) (R.remaining input.new) bytes
-        × ByLines (Strips longest) bytes text × IsPlain text
-        × Appends (W.contents output.old) (W.contents output.new) text) }
-    ensures end { OnOk result (IsAtEnd (R.remaining input.new)) }
-    // After any error, what went out is a front of such a text of bytes that were read, and so of plain text.
-    ensures front { OnErr result
-        ((bytes : List ℕ) × (more : List ℕ) × (sent : List ℕ) × (unsent : List ℕ)
-        × Consumes (R.remaining input.old) (R.remaining input.new) (bytes ++ more)
-        × ByLines (Strips longest) bytes (sent ++ unsent) × IsPlain (sent ++ unsent)
-        × Appends (W.contents output.old) (W.contents output.new) sent) }
-    // And it is a front of the text of the whole input.
-    ensures whole { OnErr result (IfSome (R.remaining input.old) (λ bytes.
-        (sent : List ℕ) × IsFrontOf (ByLines (Strips longest)) bytes sent
-        × Appends (W.contents output.old) (W.contents output.new) sent)) }
+    ensures { StreamsOne (ByLines (Strips longest)) IsPlain result
+        (R.remaining input.old) (R.remaining input.new)
+        (W.contents output.old) (W.contents output.new) }
 {
     transform_all(alloc, Lines::stripped(alloc), input, output)
 }
@@ -58,23 +42,9 @@ pub fn clean_lines_all<R: Read, W: Write>(
     input: &mut R,
     output: &mut W,
 ) -> Result<(), RunError>
-    // What was written is the text of each line of all the bytes with what passes.
-    ensures ok { OnOk result
-        ((bytes : List ℕ) × (text : List ℕ)
-        × Consumes (R.remaining input.old) (R.remaining input.new) bytes
-        × ByLines (StylesIn passing) bytes text × IsStyledIn passing text
-        × Appends (W.contents output.old) (W.contents output.new) text) }
-    ensures end { OnOk result (IsAtEnd (R.remaining input.new)) }
-    // After any error, what went out is a front of such a text of bytes that were read.
-    ensures front { OnErr result
-        ((bytes : List ℕ) × (more : List ℕ) × (sent : List ℕ) × (unsent : List ℕ)
-        × Consumes (R.remaining input.old) (R.remaining input.new) (bytes ++ more)
-        × ByLines (StylesIn passing) bytes (sent ++ unsent) × IsStyledIn passing (sent ++ unsent)
-        × Appends (W.contents output.old) (W.contents output.new) sent) }
-    // And it is a front of the text of the whole input.
-    ensures whole { OnErr result (IfSome (R.remaining input.old) (λ bytes.
-        (sent : List ℕ) × IsFrontOf (ByLines (StylesIn passing)) bytes sent
-        × Appends (W.contents output.old) (W.contents output.new) sent)) }
+    ensures { StreamsOne (ByLines (StylesIn passing)) (IsStyledIn passing) result
+        (R.remaining input.old) (R.remaining input.new)
+        (W.contents output.old) (W.contents output.new) }
 {
     transform_all(alloc, Lines::cleaned(alloc, passing), input, output)
 }

@@ -15,31 +15,11 @@ use crate::step::Step;
 use crate::text::{append_actions, append_run, append_text};
 use csicodec::CSI;
 use csicodec_base::CsiParam;
+use csicodec_clean::{read_as, title_behind};
 use csicodec_spans::{Cutter, Kind, LIMIT, Mode};
 use csicodec_streams::{keep_from, parse_into};
 use std::alloc::{AllocError, Global};
 use std::marker::Model;
-
-/// What a span is, where a title may be open: the text of one is dropped.
-fn read_as(kind: Kind, titled: bool) -> Kind
-    ensures { result ≡ read_as kind titled }
-{
-    match kind {
-        Kind::Text => { if titled { Kind::Other } else { Kind::Text } }
-        Kind::Csi | Kind::Esc | Kind::Str | Kind::Other => kind,
-    }
-}
-
-/// Whether a title is open behind a span: text goes on with it, `ESC k` opens one, and anything else ends it.
-fn title_behind(titled: bool, kind: Kind, bytes: &[u8]) -> bool
-    ensures { result ≡ title_behind titled kind bytes.now }
-{
-    match kind {
-        Kind::Text => titled,
-        Kind::Esc => bytes.len() == 2 && bytes[1] == b'k',
-        Kind::Csi | Kind::Str | Kind::Other => false,
-    }
-}
 
 /// Appends the steps of a control sequence. `actions` is a place that is kept for its actions.
 fn append_sequence(

@@ -1,8 +1,6 @@
 //! A stream from a reader to a writer.
-ghost use Rattle.std.specs.Prelude.{◌++◌, ℕ, List, OnErr, OnOk, IfSome};
-ghost use Rattle.std.specs.Io.KnownBytes.{Appends, Consumes, IsAtEnd};
 ghost use Rattle.csicodec_clean.specs.Shown.{IsPlain};
-ghost use Rattle.csicodec_clean.specs.Stream.{IsFrontOf};
+ghost use Rattle.csicodec_clean.specs.Streams.{StreamsOne};
 ghost use Rattle.csicodec_overwrite.specs.Reading.{Overwrites};
 
 use crate::overwriter::Overwriter;
@@ -23,23 +21,9 @@ pub fn overwrite_all<R: Read, W: Write>(
     input: &mut R,
     output: &mut W,
 ) -> Result<(), RunError>
-    // What was written is the text of all the bytes.
-    ensures ok { OnOk result
-        ((bytes : List ℕ) × (text : List ℕ)
-        × Consumes (R.remaining input.old) (R.remaining input.new) bytes
-        × Overwrites bytes text × IsPlain text
-        × Appends (W.contents output.old) (W.contents output.new) text) }
-    ensures end { OnOk result (IsAtEnd (R.remaining input.new)) }
-    // After any error, what went out is a front of such a text of bytes that were read, and so of plain text.
-    ensures front { OnErr result
-        ((bytes : List ℕ) × (more : List ℕ) × (sent : List ℕ) × (unsent : List ℕ)
-        × Consumes (R.remaining input.old) (R.remaining input.new) (bytes ++ more)
-        × Overwrites bytes (sent ++ unsent) × IsPlain (sent ++ unsent)
-        × Appends (W.contents output.old) (W.contents output.new) sent) }
-    // And it is a front of the text of the whole input.
-    ensures whole { OnErr result (IfSome (R.remaining input.old) (λ bytes.
-        (sent : List ℕ) × IsFrontOf Overwrites bytes sent
-        × Appends (W.contents output.old) (W.contents output.new) sent)) }
+    ensures { StreamsOne Overwrites IsPlain result
+        (R.remaining input.old) (R.remaining input.new)
+        (W.contents output.old) (W.contents output.new) }
 {
     transform_all(alloc, Overwriter::new(alloc), input, output)
 }

@@ -1,15 +1,14 @@
 //! The steps of text, and of actions.
-ghost use Rattle.std.specs.Prelude.{◌≡◌, ◌<◌, ◌≤◌, ◌++◌, ◌∷◌, [], ℕ, List, length, drop, map, OnOk, IfOk, IfSome, IfNone};
+ghost use Rattle.std.specs.Prelude.{◌≡◌, ◌≤◌, ◌++◌, ℕ, List, length, map, OnOk, IfOk};
 ghost use Rattle.csicodec_parser.specs.ActionOf.{action_of};
-ghost use Rattle.csicodec_clean.specs.Private.Steps.{IsCut};
-ghost use Rattle.csicodec_clean.specs.Shown.{IsRead};
+ghost use Rattle.csicodec_clean.specs.Shown.{IsCut, IsRead};
 ghost use Rattle.csicodec_overwrite.specs.Steps.{as_far, of_action, of_actions, of_char, of_chars, of_control, of_cursor, of_edit, of_mode, of_private_mode, of_run, of_unread};
 
 use crate::step::Step;
-use bstr::decode_utf8;
 use csicodec::{
     CSI, Cursor, DecPrivateMode, DecPrivateModeCode, Edit, EraseInDisplay, EraseInLine, Mode,
 };
+use csicodec_clean::first_sure;
 use csicodec_streams::keep_from;
 use std::alloc::AllocError;
 
@@ -175,30 +174,6 @@ pub(crate) fn append_actions(actions: &[CSI], steps: &mut Vec<Step>) -> Result<(
         append_action(action, steps)?;
     }
     Ok(())
-}
-
-/// The character in front, or U+FFFD for a piece that is none, and its length; none where it depends on what follows, and of
-/// no bytes.
-fn first_sure(bytes: &[u8]) -> Option<(char, usize)>
-    ensures none { IfNone result (IsCut bytes.now) }
-    ensures some { IfSome result
-        (λ (char, size). IsRead bytes.now (char ∷ []) (drop size bytes.now) × (0 < size)
-        × (size ≤ length bytes.now)) }
-{
-    if bytes.is_empty() {
-        return None;
-    }
-    let (found, size) = decode_utf8(bytes);
-    match found {
-        Some(char) => Some((char, size)),
-        None => {
-            if size == bytes.len() {
-                None
-            } else {
-                Some(('\u{FFFD}', size))
-            }
-        }
-    }
 }
 
 /// Appends the steps of the characters that are sure, whatever follows, and answers the other bytes: three at most.

@@ -1,8 +1,8 @@
 -- What private steps say of each other. No promise rests on this file.
-use Rattle.std.specs.Prelude.{ℕ, ◌≡◌, ◌≢◌, ◌==◌, ◌<◌, ◌≤◌, Bool, true, not, ◌&&◌, ◌||◌, if◌then◌else◌, nat_le, nat_lt, List, [], ◌++◌, length, slice_index, None}
+use Rattle.std.specs.Prelude.{ℕ, ◌≡◌, ◌≢◌, ◌==◌, ◌≤◌, Bool, true, not, ◌&&◌, ◌||◌, if◌then◌else◌, nat_le, nat_lt, List, [], ◌++◌, length, slice_index}
 use Rattle.std.specs.Int.{w64, trailing_zeros}
 use Rattle.std.specs.List.{AllByRecursion}
-use Rattle.bstr.specs.Utf8.{decoded, decoded_by, good}
+use Rattle.bstr.specs.Utf8.{decoded_by, good}
 use Rattle.csicodec_spans.specs.declared.table.Kind.{Kind}
 use Rattle.csicodec_spans.specs.declared.table.Kind.TheVariants as kind
 use Rattle.csicodec_clean.specs.Shown.{IsPlain, IsRead, shown_chars, shown_text}
@@ -53,11 +53,6 @@ abbrev pub Tells : List ℕ → List ℕ → List ℕ → List ℕ → Type 0
 Tells bytes rest old new =
     (text : List ℕ) × (chars : List ℕ) × (bytes ≡ text ++ rest) × IsTold text chars
     × (new ≡ old ++ shown_chars chars)
-
--- no character, but the bytes go no further: the beginning of one, or a byte that is none
-abbrev pub IsCut : List ℕ → Type 0
-IsCut bytes = 0 < length bytes
-    → ((decoded bytes).char ≡ None) × ((decoded bytes).size ≡ length bytes)
 
 -- ---- spans
 

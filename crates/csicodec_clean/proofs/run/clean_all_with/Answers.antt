@@ -1,27 +1,25 @@
 use Rattle.std.proofs.Common.{refl}
-use Rattle.std.proofs.lemmas.Result.{on_err_weaker, on_ok_weaker}
-use Rattle.csicodec_clean.specs.Styled.{Keeping, resets, keeps}
+use Rattle.csicodec_filter.specs.Transform.{Sends}
+use Rattle.csicodec_clean.specs.Cleaned.{Ends, longest}
+use Rattle.csicodec_clean.specs.Stream.{Takes, start_of}
+use Rattle.csicodec_clean.specs.Styled.{IsStyledIn, Keeping, StylesIn, keeps, resets}
 use Rattle.csicodec_clean.proofs.Styled.{styled, styles}
 use Rattle.csicodec_clean.proofs.Fronts.{clean_sent}
 use Rattle.csicodec_clean.proofs.Chunks.{begins_whole}
+use Rattle.csicodec_clean.proofs.Streams.{Texts, streams_one}
 use Rattle.csicodec_clean.proofs.run.clean_all_with.Goals as goal
 
-pub returns-clause-ok : goal.returns-clause-ok
-returns-clause-ok g c = on_ok_weaker c.clean_run.result
-    (λ (bytes, text, consumed, ends, appended).
-    let s = styles (λ (k : Keeping). k) c.args.passing _ bytes text c.letting.ensures ends in
-    (bytes, text, consumed, s, styled c.args.passing bytes text s, appended))
-    c.clean_run.ensures.ok
+own : Keeping → Keeping
+own k = k
 
-pub returns-clause-front : goal.returns-clause-front
-returns-clause-front g c = on_err_weaker c.clean_run.result
-    (λ (bytes, more, sent, consumed, begins, appended).
-    let (unsent, ends) = begins_whole (keeps (λ (k : Keeping). k)) (resets (λ (k : Keeping). k)) _ _ bytes sent (λ after. (_, refl)) begins in
-    let s = styles (λ (k : Keeping). k) c.args.passing _ bytes _ c.letting.ensures ends in
-    (bytes, more, sent, unsent, consumed, s, styled c.args.passing bytes _ s, appended))
-    c.clean_run.ensures.front
-
-pub returns-clause-whole : goal.returns-clause-whole
-returns-clause-whole g c = on_err_weaker c.clean_run.result
-    (λ (bytes, more, sent, consumed, begins, appended). clean_sent (λ (k : Keeping). k) c.args.passing _ c.letting.ensures bytes more sent _ _ _ _ consumed begins appended)
-    c.clean_run.ensures.front
+pub returns : goal.returns
+returns g c =
+    let d = c.args.passing in
+    let texts : Texts (Sends (Takes (keeps own)) (start_of _)) (Ends (keeps own) (resets own) longest _) (StylesIn d) (IsStyledIn d) = record {
+      whole = λ bytes text ends. styles own d _ bytes text c.letting.ensures ends;
+      begins = λ all bytes sent h.
+          let (unsent, ends) = begins_whole (keeps own) (resets own) _ all bytes sent (λ after. (_, refl)) h in
+          (unsent, styles own d _ bytes _ c.letting.ensures ends);
+      safe = styled d;
+    } in
+    streams_one _ _ (StylesIn d) (IsStyledIn d) c.clean_run.result _ _ _ _ texts (clean_sent own d _ c.letting.ensures) c.clean_run.ensures.ok c.clean_run.ensures.front

@@ -8,11 +8,8 @@ transform_all-requires-clause-begun g c = rw c.new-cleaner.ensures (takes_none g
 
 pub returns-clause-ok : goal.returns-clause-ok
 returns-clause-ok g c = on_ok_weaker c.transform_all.result
-    (λ (bytes, text, consumed, end, whole, appended). (bytes, text, consumed, closed g.T.Rule.gives g.T.Rule.closes c.args.rule bytes text whole, appended))
+    (λ (bytes, text, consumed, end, whole, appended). (bytes, text, consumed, end, closed g.T.Rule.gives g.T.Rule.closes c.args.rule bytes text whole, appended))
     (rw c.new-cleaner.ensures at c.transform_all.ensures.ok)
-
-pub returns-clause-end : goal.returns-clause-end
-returns-clause-end g c = on_ok_weaker c.transform_all.result (λ (bytes, text, consumed, end, whole, appended). end) c.transform_all.ensures.ok
 
 pub returns-clause-failed : goal.returns-clause-failed
 returns-clause-failed g c = MatchResult-weaker c.transform_all.result (rw c.new-cleaner.ensures at c.transform_all.ensures.failed) (λ x h. h)

@@ -4,7 +4,7 @@ use Rattle.std.proofs.lemmas.Grind.{flat_map-append}
 use Rattle.std.proofs.lemmas.List.{length-append}
 use Rattle.std.specs.List.{flat_map}
 use Rattle.csicodec_spans.specs.declared.table.Mode.{Mode}
-use Rattle.csicodec_spans.specs.Parts.{Part, bytes_of}
+use Rattle.csicodec_spans.specs.Parts.{Part, bytes_of, IsWhole}
 use Rattle.csicodec_spans.proofs.Spanned.{whole_joined}
 use Rattle.csicodec_filter.proofs.Meaning.{AreMeant, again}
 use Rattle.csicodec_compact.specs.Runs.{AreRuns, IsRun, CompactsAll}
@@ -46,3 +46,17 @@ pub has_again : (limit : ℕ) (m : Mode) (bytes text : List ℕ) (c : CompactsAl
 has_again limit m bytes text c l short =
     let a = again limit c.shortened.0 m bytes text c.parts l c.whole (are_meant limit c.shortened.0 c.parts text short c.shortened.1) in
     record { others = a.others; whole = a.whole; placed = a.placed }
+
+-- ---- a stream that is short enough
+
+pub rows_short : (limit : ℕ) (m : Mode) (bytes : List ℕ) (parts : List Part) → IsWhole limit m bytes parts → length bytes ≤ limit → HasShortRows limit parts
+rows_short limit m bytes parts w within before row behind e all =
+    let own = flat_map bytes_of row in
+    let front = flat_map bytes_of before in
+    let rest = flat_map bytes_of behind in
+    let is : flat_map bytes_of parts ≡ front ++ (own ++ rest) =
+    ap (λ (ps : List Part). flat_map bytes_of ps) e ∙ flat_map-append bytes_of before (row ++ behind) ∙ ap (λ (t : List ℕ). front ++ t) (flat_map-append bytes_of row behind) in
+    omega (arith, within, ap length (whole_joined limit m bytes parts w), ap length is, length-append front (own ++ rest), length-append own rest)
+
+pub again_alone : (limit : ℕ) (m : Mode) (bytes text : List ℕ) (c : CompactsAll limit m bytes text) → 0 < limit → length bytes ≤ limit → HasAgain c
+again_alone limit m bytes text c l within = has_again limit m bytes text c l (rows_short limit m bytes c.parts c.whole within)

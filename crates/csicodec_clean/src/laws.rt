@@ -11,6 +11,7 @@ ghost use Rattle.csicodec_clean.specs.declared.step.Pause.{Pause};
 ghost use Rattle.csicodec_clean.specs.declared.styles.Passing.{Passing};
 ghost use Rattle.csicodec_clean.specs.declared.whole.Dropped.{Dropped};
 ghost use Rattle.csicodec_clean.specs.Check.{IsFault};
+ghost use Rattle.csicodec_clean.specs.Marked.{IsMarked};
 ghost use Rattle.csicodec_clean.specs.Shown.{IsPlain};
 ghost use Rattle.csicodec_clean.specs.Titles.{InTitle, IsText, with_titles};
 ghost use Rattle.csicodec_spans.specs.Parts.{IsWhole, Part, part};
@@ -90,6 +91,14 @@ pub fn styled_stays()
 pub fn styled_twice()
     ensures { (d : Passing) (bytes text other : List ℕ) → StylesIn d bytes text
         → StylesIn d text other → other ≡ text }
+{}
+
+/// Told of its bytes alone, from the first to the last, such text has no control but newlines and tabs, and ESC only where a style
+/// begins, or a link, where these pass, or the end of one; and the last of each sets all back.
+pub fn marked()
+    ensures text { (d : Passing) (text : List ℕ) → IsStyledIn d text → IsMarked d.links text }
+    ensures cleaned { (d : Passing) (bytes text : List ℕ) → StylesIn d bytes text
+        → IsMarked d.links text }
 {}
 
 /// What was cleaned is stripped to what the bytes are stripped to.

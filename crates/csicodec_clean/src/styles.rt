@@ -5,6 +5,7 @@ ghost use Rattle.csicodec_actions.specs.Table.{texts};
 ghost use Rattle.csicodec_parser.specs.ActionOf.{action_of};
 ghost use Rattle.csicodec_clean.specs.declared.colors.Depth.TheVariants.{Full as AllColors};
 ghost use Rattle.csicodec_clean.specs.Links.{begun};
+ghost use Rattle.csicodec_clean.specs.Marked.{IsMarked};
 ghost use Rattle.csicodec_clean.specs.Styled.{Styles, StylesIn, IsStyled, IsStyledIn, Keeping, first_kept, hides, is_open, is_reset, keeping, kept, resumed, without_links};
 
 use crate::colors::{Depth, reduced};
@@ -293,6 +294,8 @@ pub fn clean(alloc: Global, bytes: &[u8]) -> Result<Vec<u8>, AllocError>
     ensures exact { IfOk result (λ out. Styles bytes.now out.items) }
     // It is texts of characters that are shown and of such styles, and leaves none open.
     ensures safe { IfOk result (λ out. IsStyled out.items) }
+    // The same, told of its bytes alone.
+    ensures marked { IfOk result (λ out. IsMarked false out.items) }
 {
     clean_in(alloc, Depth::Full, bytes)
 }
@@ -305,6 +308,7 @@ pub fn clean(alloc: Global, bytes: &[u8]) -> Result<Vec<u8>, AllocError>
 pub fn clean_in(alloc: Global, depth: Depth, bytes: &[u8]) -> Result<Vec<u8>, AllocError>
     ensures exact { IfOk result (λ out. StylesIn (without_links depth) bytes.now out.items) }
     ensures safe { IfOk result (λ out. IsStyledIn (without_links depth) out.items) }
+    ensures marked { IfOk result (λ out. IsMarked false out.items) }
 {
     let links = false;
     clean_with(alloc, Passing { depth, links }, bytes)
@@ -321,6 +325,7 @@ pub fn clean_with(alloc: Global, passing: Passing, bytes: &[u8]) -> Result<Vec<u
     ensures exact { IfOk result (λ out. StylesIn passing bytes.now out.items) }
     // It is texts of characters that are shown, of such styles and of such links, and leaves none open.
     ensures safe { IfOk result (λ out. IsStyledIn passing out.items) }
+    ensures marked { IfOk result (λ out. IsMarked passing.links out.items) }
 {
     clean_whole(alloc, &mut Kept::letting(alloc, passing), bytes)
 }

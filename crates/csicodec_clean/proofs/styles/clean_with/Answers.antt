@@ -1,5 +1,6 @@
 use Rattle.std.proofs.lemmas.Result.{IfOk-weaker}
 use Rattle.csicodec_clean.specs.Styled.{Keeping}
+use Rattle.csicodec_clean.proofs.Marked.{cleaned_marked}
 use Rattle.csicodec_clean.proofs.Styled.{styled, styles}
 use Rattle.csicodec_clean.proofs.styles.clean_with.Goals as goal
 
@@ -8,3 +9,6 @@ returns-clause-exact c = IfOk-weaker c.clean_whole.result _ _ (λ out h. styles 
 
 pub returns-clause-safe : goal.returns-clause-safe
 returns-clause-safe c = IfOk-weaker c.clean_whole.result _ _ (λ out h. styled c.args.passing c.args.bytes.now out.items (styles (λ (k : Keeping). k) c.args.passing c.letting.result c.args.bytes.now out.items c.letting.ensures h)) c.clean_whole.ensures
+
+pub returns-clause-marked : goal.returns-clause-marked
+returns-clause-marked c = IfOk-weaker c.clean_whole.result _ _ (λ out h. cleaned_marked c.args.passing c.args.bytes.now out.items (styles (λ (k : Keeping). k) c.args.passing c.letting.result c.args.bytes.now out.items c.letting.ensures h)) c.clean_whole.ensures

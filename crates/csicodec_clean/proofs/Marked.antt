@@ -1,0 +1,254 @@
+-- What `clean` leaves is safe by its bytes alone.
+use Rattle.std.proofs.Common.{◌≡◌, ◌≢◌, ◌<◌, ◌≤◌, ◌+◌, ◌/◌, ◌%◌, ℕ, Bool, true, false, cond, List, [], ◌∷◌, ◌++◌, ◌⊎◌, inl, inr, length, refl, sym, ap, subst, ◌∙◌, append_assoc, arith, ⊎_elim, lt-ltb, le-ltb}
+use Rattle.std.specs.Prelude.{codes, nat_le, nat_lt, not, ◌==◌, ◌&&◌, ◌||◌, if◌then◌else◌, encode_utf8}
+use Rattle.std.specs.Fmt.{decimal}
+use Rattle.std.specs.List.{AllByRecursion}
+use Rattle.std.proofs.lemmas.Bool.{and_parts, cases_lt, eqb-true, le-leb, ne_eqb, not-true}
+use Rattle.std.proofs.lemmas.Bool.Decides.{nat_tests}
+use Rattle.std.proofs.lemmas.Fmt.{decimal_by_steps}
+use Rattle.csicodec_names.specs.declared.color.Intensity.TheVariants.{Normal}
+use Rattle.csicodec_names.specs.declared.color.Underline.TheVariants as underline
+use Rattle.csicodec_names.specs.declared.color.Blink.TheVariants as blink
+use Rattle.csicodec_names.specs.declared.color.VerticalAlign.TheVariants as align
+use Rattle.csicodec_names.specs.declared.color.ColorSpec.TheVariants as color
+use Rattle.csicodec_names.specs.declared.color.SrgbaTuple.{SrgbaTuple}
+use Rattle.csicodec_base.specs.declared.sgr.Font.TheVariants as font
+use Rattle.csicodec_base.specs.declared.sgr.Sgr.{Sgr}
+use Rattle.csicodec_base.specs.declared.sgr.Sgr.TheVariants as sgr
+use Rattle.csicodec_base.specs.SgrText.{palette_text, sgr_text, true_color_text}
+use Rattle.csicodec_actions.specs.Actions as action
+use Rattle.csicodec_actions.specs.Ranges.{ColorInRange, SgrInRange}
+use Rattle.csicodec_actions.specs.Table.{text}
+use Rattle.csicodec_clean.specs.Shown.{IsShown}
+use Rattle.csicodec_clean.specs.Links.{Address, IsLink, is_linked, is_param, is_visible, link_text}
+use Rattle.csicodec_clean.specs.declared.styles.Passing.{Passing}
+use Rattle.csicodec_clean.specs.Styled.{hides, is_open, is_reset, Item, Shown, Style, Link, item_texts, links_of, styles_of, IsSafe, IsStyledIn, StylesIn}
+use Rattle.csicodec_clean.specs.Marked.{Stand, Text, Numbers, Params, Url, is_text_byte, is_number_byte, stand_behind, is_marked, IsMarked}
+use Rattle.csicodec_clean.proofs.Pieces.{style_range}
+use Rattle.csicodec_clean.proofs.Styled.{styled}
+
+-- ---- characters
+
+-- a byte that is no control, and doesn't begin one of C1
+abbrev pub IsHigh : ℕ → Type 0
+IsHigh b = (128 ≤ b) × (b ≢ 194)
+
+-- the bytes of a character that is shown: it itself, two of U+00A0 to U+00BF, or such bytes
+abbrev pub Spells : ℕ → List ℕ → Type 0
+Spells c bytes = ((c < 128) × (bytes ≡ c ∷ [])) ⊎ (((b : ℕ) × (160 ≤ b) × (bytes ≡ 194 ∷ b ∷ [])) ⊎ AllByRecursion IsHigh bytes)
+
+shown_from : (c : ℕ) → 128 ≤ c → IsShown c → 160 ≤ c
+shown_from c h s = grind (arith, nat_tests)
+
+within : (b least : ℕ) → least ≤ b → 194 < least → IsHigh b
+within b least h k = (omega (arith, h, k), λ e. absurd (omega (arith, h, k, e)))
+
+next_byte : (c : ℕ) → IsHigh (128 + c % 64)
+next_byte c = (omega arith, λ e. absurd (omega (arith, e)))
+
+two_bytes : (c : ℕ) → 160 ≤ c → c < 2048 → Spells c ((192 + c / 64) ∷ (128 + c % 64) ∷ [])
+two_bytes c h k =
+    ⊎_elim
+    (λ (a : c < 192). let first : 192 + c / 64 ≡ 194 = omega (arith, h, a) in inr (inl (128 + c % 64, omega (arith, h, a), ap (λ (b : ℕ). b ∷ (128 + c % 64) ∷ []) first)))
+    (λ (a : 192 ≤ c). let first : 195 ≤ 192 + c / 64 = omega (arith, a) in inr (inr (within (192 + c / 64) 195 first (omega arith), (next_byte c, tt))))
+    (cases_lt c 192)
+
+pub spells : (c : ℕ) → IsShown c → Spells c (encode_utf8 c)
+unfolding encode_utf8
+spells c h =
+    ⊎_elim
+    (λ (a : c < 128). rw (lt-ltb c 128 a) (inl (a, refl)))
+    (λ (a : 128 ≤ c). ⊎_elim
+    (λ (b : c < 2048). rw (le-ltb c 128 a, lt-ltb c 2048 b) (two_bytes c (shown_from c a h) b))
+    (λ (b : 2048 ≤ c). ⊎_elim
+    (λ (d : c < 65536). rw (le-ltb c 128 a, le-ltb c 2048 b, lt-ltb c 65536 d) (inr (inr (within (224 + c / 4096) 224 (omega arith) (omega arith), (next_byte (c / 64), (next_byte c, tt))))))
+    (λ (d : 65536 ≤ c). rw (le-ltb c 128 a, le-ltb c 2048 b, le-ltb c 65536 d) (inr (inr (within (240 + c / 262144) 240 (omega arith) (omega arith), (next_byte (c / 4096), (next_byte (c / 64), (next_byte c, tt)))))))
+    (cases_lt c 65536))
+    (cases_lt c 2048))
+    (cases_lt c 128)
+
+pub high_byte : (b : ℕ) → 128 ≤ b → is_text_byte b ≡ true
+high_byte b h = grind (arith, nat_tests)
+
+pub low_byte : (c : ℕ) → c < 128 → IsShown c → is_text_byte c ≡ true
+low_byte c h s = grind (arith, nat_tests)
+
+no_escape : (c : ℕ) → IsShown c → c ≢ 27
+no_escape c h = λ e. absurd (grind (arith, nat_tests))
+
+on_text : (links styled linked : Bool) (b : ℕ) (more : List ℕ) → b ≢ 27 → b ≢ 194 → is_text_byte b ≡ true → is_marked links Text styled linked (b ∷ more) ≡ is_marked links Text styled linked more
+on_text links styled linked b more e l t = rw (ne_eqb b 27 e, ne_eqb b 194 l, t) refl
+
+high_marked : (links styled linked : Bool) (bytes more : List ℕ) → AllByRecursion IsHigh bytes → is_marked links Text styled linked (bytes ++ more) ≡ is_marked links Text styled linked more
+high_marked links styled linked [] more h = refl
+high_marked links styled linked (b ∷ bytes) more h =
+    on_text links styled linked b (bytes ++ more) (λ e. absurd (omega (arith, e, h.0.0))) h.0.1 (high_byte b h.0.0) ∙ high_marked links styled linked bytes more h.1
+
+char_marked : (links styled linked : Bool) (c : ℕ) (more : List ℕ) → IsShown c → is_marked links Text styled linked (encode_utf8 c ++ more) ≡ is_marked links Text styled linked more
+char_marked links styled linked c more h = by (spells c h)
+  where
+    by : Spells c (encode_utf8 c) → is_marked links Text styled linked (encode_utf8 c ++ more) ≡ is_marked links Text styled linked more
+    by (inl (low, is)) = rw is (on_text links styled linked c more (no_escape c h) (λ e. absurd (omega (arith, e, low))) (low_byte c low h))
+    by (inr (inl (b, from, is))) = rw is (rw (le-leb 160 b from) refl)
+    by (inr (inr all)) = high_marked links styled linked (encode_utf8 c) more all
+
+-- ---- styles
+
+abbrev is_nil : List ℕ → Bool
+is_nil [] = true
+is_nil (b ∷ bs) = false
+
+-- numbers, and `m` at the end
+abbrev numbered : List ℕ → Bool
+numbered [] = false
+numbered (b ∷ bs) = if is_number_byte b then numbered bs else (b == 109 && is_nil bs)
+
+number_byte : (b : ℕ) → 48 ≤ b → b ≤ 59 → is_number_byte b ≡ true
+number_byte b h k = rw (le-leb 48 b h, le-leb b 59 k) refl
+
+number_more : (b : ℕ) (bs : List ℕ) → 48 ≤ b → b ≤ 59 → numbered bs ≡ true → numbered (b ∷ bs) ≡ true
+number_more b bs h k r = rw (number_byte b h k) r
+
+abbrev GoesOn : ℕ → List ℕ → Type 0
+GoesOn n ds = (rest : List ℕ) → numbered rest ≡ true → numbered (ds ++ rest) ≡ true
+
+one_digit : (n : ℕ) → n < 10 → GoesOn n ((48 + n) ∷ [])
+one_digit n h rest r = number_more (48 + n) rest (omega arith) (omega (arith, h)) r
+
+digit_more : (n : ℕ) (ds : List ℕ) → 10 ≤ n → GoesOn (n / 10) ds → GoesOn n (ds ++ ((48 + n % 10) ∷ []))
+digit_more n ds h on rest r = rw append_assoc (on ((48 + n % 10) ∷ rest) (number_more (48 + n % 10) rest (omega arith) (omega arith) r))
+
+number : (n : ℕ) (rest : List ℕ) → n < 1000 → numbered rest ≡ true → numbered (decimal n ++ rest) ≡ true
+number n rest h r = decimal_by_steps GoesOn one_digit digit_more n (omega (arith, h)) rest r
+
+either : (b : Bool) (s t : List ℕ) → numbered s ≡ true → numbered t ≡ true → numbered (cond b s t) ≡ true
+either true s t h k = h
+either false s t h k = k
+
+palette : (first i : ℕ) → first < 100 → i < 256 → numbered (palette_text first i) ≡ true
+palette first i f h =
+    let named = decimal (first + 8) ++ (codes ":5:" ++ (decimal i ++ codes "m")) in
+    let bright = decimal (i + first + 52) ++ codes "m" in
+    either (nat_lt i 8) (decimal (i + first) ++ codes "m") (cond (nat_lt i 16) bright named) (number (i + first) (codes "m") (omega (arith, f, h)) refl)
+    (either (nat_lt i 16) bright named (number (i + first + 52) (codes "m") (omega (arith, f, h)) refl) (number (first + 8) (codes ":5:" ++ (decimal i ++ codes "m")) (omega (arith, f)) (number i (codes "m") (omega (arith, h)) refl)))
+
+true_color : (code : ℕ) (c : SrgbaTuple) → code < 100 → ColorInRange (color.TrueColor c) → numbered (true_color_text code c) ≡ true
+true_color code c f (r, g, b, a) =
+    let blue = decimal c.2 ++ codes "m" in
+    let alpha = decimal c.2 ++ (codes ":" ++ (decimal c.3 ++ codes "m")) in
+    let clear : numbered alpha ≡ true = number c.2 (codes ":" ++ (decimal c.3 ++ codes "m")) (omega (arith, b)) (number c.3 (codes "m") (omega (arith, a)) refl) in
+    let three : numbered (decimal c.0 ++ (codes ":" ++ (decimal c.1 ++ (codes ":" ++ blue)))) ≡ true = number c.0 (codes ":" ++ (decimal c.1 ++ (codes ":" ++ blue))) (omega (arith, r)) (number c.1 (codes ":" ++ blue) (omega (arith, g)) (number c.2 (codes "m") (omega (arith, b)) refl)) in
+    let four : numbered (decimal c.0 ++ (codes ":" ++ (decimal c.1 ++ (codes ":" ++ alpha)))) ≡ true = number c.0 (codes ":" ++ (decimal c.1 ++ (codes ":" ++ alpha))) (omega (arith, r)) (number c.1 (codes ":" ++ alpha) (omega (arith, g)) clear) in
+    either (c.3 == 255) (decimal code ++ (codes ":2::" ++ (decimal c.0 ++ (codes ":" ++ (decimal c.1 ++ (codes ":" ++ blue))))))
+    (decimal code ++ (codes ":6::" ++ (decimal c.0 ++ (codes ":" ++ (decimal c.1 ++ (codes ":" ++ alpha))))))
+    (number code (codes ":2::" ++ (decimal c.0 ++ (codes ":" ++ (decimal c.1 ++ (codes ":" ++ blue))))) (omega (arith, f)) three)
+    (number code (codes ":6::" ++ (decimal c.0 ++ (codes ":" ++ (decimal c.1 ++ (codes ":" ++ alpha))))) (omega (arith, f)) four)
+
+style_numbered : (s : Sgr) → SgrInRange s → hides s ≡ false → numbered (sgr_text s) ≡ true
+style_numbered (sgr.UnderlineColor (color.PaletteIndex i)) h k = number i (codes "m") (omega (arith, h)) refl
+style_numbered (sgr.UnderlineColor (color.TrueColor c)) h k = true_color 58 c (omega arith) h
+style_numbered (sgr.Foreground (color.PaletteIndex i)) h k = palette 30 i (omega arith) h
+style_numbered (sgr.Foreground (color.TrueColor c)) h k = true_color 38 c (omega arith) h
+style_numbered (sgr.Background (color.PaletteIndex i)) h k = palette 40 i (omega arith) h
+style_numbered (sgr.Background (color.TrueColor c)) h k = true_color 48 c (omega arith) h
+style_numbered (sgr.Font (font.Alternate n)) h k = absurd cc
+style_numbered (sgr.Intensity Normal) h k = refl
+style_numbered (sgr.Underline underline.None) h k = refl
+style_numbered (sgr.Blink blink.None) h k = refl
+style_numbered (sgr.VerticalAlign align.BaseLine) h k = refl
+style_numbered (sgr.Italic true) h k = refl
+style_numbered (sgr.Inverse true) h k = refl
+style_numbered (sgr.Invisible true) h k = refl
+style_numbered (sgr.StrikeThrough true) h k = refl
+style_numbered (sgr.Overline true) h k = refl
+style_numbered s h k = refl
+
+-- behind such, a style may be open
+abbrev Behind : Bool → Stand → Bool → Bool → List ℕ → List ℕ → Type 0
+Behind links s styled linked t more = (opened : Bool) × (is_marked links s styled linked (t ++ more) ≡ is_marked links Text opened linked more)
+
+numbers_marked : (links zeros styled linked : Bool) (t more : List ℕ) → numbered t ≡ true → Behind links (Numbers zeros) styled linked t more
+numbers_marked links zeros styled linked [] more h = absurd cc
+numbers_marked links zeros styled linked (b ∷ bs) more h = by (is_number_byte b) refl h
+  where
+    ended : (rest : List ℕ) → (b == 109) ≡ true → is_nil rest ≡ true → Behind links (Numbers zeros) styled linked (b ∷ rest) more
+    ended [] e n = (not zeros, rw e refl)
+    ended (c ∷ rest) e n = absurd cc
+
+    by : (n : Bool) → is_number_byte b ≡ n → (if n then numbered bs else (b == 109 && is_nil bs)) ≡ true → Behind links (Numbers zeros) styled linked (b ∷ bs) more
+    by true e r =
+        let later = numbers_marked links (zeros && b == 48) styled linked bs more r in
+        let other : (b == 109) ≡ false = ne_eqb b 109 (λ same. absurd (grind (arith, nat_tests))) in
+        (later.0, rw (other, e) later.1)
+    by false e r = let both = and_parts (b == 109) (is_nil bs) r in ended bs both.0 both.1
+
+only_reset : (s : Sgr) → (s ≡ sgr.Reset) ⊎ (is_reset s ≡ false)
+only_reset sgr.Reset = inl refl
+only_reset s = inr refl
+
+pub record Styles (links styled linked : Bool) (s : Sgr) (more : List ℕ) : Type 0 where
+  pub opened : Bool
+  pub closed : not (is_reset s) ≡ false → opened ≡ false
+  pub on : is_marked links Text styled linked (text (action.Sgr s) ++ more) ≡ is_marked links Text opened linked more
+
+style_marked : (links styled linked : Bool) (s : Sgr) (more : List ℕ) → SgrInRange s → hides s ≡ false → Styles links styled linked s more
+style_marked links styled linked s more h k = elim (only_reset s) [
+  | inl e ↦ record { opened = false; closed = λ c. refl; on = rw e refl }
+  | inr e ↦
+      let r = numbers_marked links true styled linked (sgr_text s) more (style_numbered s h k) in
+      record { opened = r.0; closed = λ c. (let clash : true ≡ false = sym (ap not e) ∙ c in absurd cc); on = r.1 }
+]
+
+-- ---- links
+
+param_stays : (b : ℕ) → is_param b ≡ true → stand_behind true Params b ≡ Params
+param_stays b h =
+    let both = and_parts (is_visible b) (not (b == 59)) h in
+    let other : (b == 59) ≡ false = not-true (b == 59) both.1 in
+    rw (other, both.0) refl
+
+params_marked : (styled linked : Bool) (ps more : List ℕ) → AllByRecursion (λ b. is_param b ≡ true) ps → is_marked true Params styled linked (ps ++ more) ≡ is_marked true Params styled linked more
+params_marked styled linked [] more h = refl
+params_marked styled linked (b ∷ ps) more h = ap (λ (s : Stand). is_marked true s styled linked (ps ++ more)) (param_stays b h.0) ∙ params_marked styled linked ps more h.1
+
+url_stays : (some : Bool) (b : ℕ) → is_visible b ≡ true → stand_behind true (Url some) b ≡ Url true
+url_stays some b h =
+    let other : (b == 27) ≡ false = ne_eqb b 27 (λ same. absurd (grind (arith, nat_tests))) in
+    rw (other, h) refl
+
+url_marked : (styled linked : Bool) (us more : List ℕ) → AllByRecursion (λ b. is_visible b ≡ true) us → is_marked true (Url true) styled linked (us ++ 27 ∷ 92 ∷ more) ≡ is_marked true Text styled true more
+url_marked styled linked [] more h = refl
+url_marked styled linked (b ∷ us) more h = ap (λ (s : Stand). is_marked true s styled linked (us ++ 27 ∷ 92 ∷ more)) (url_stays true b h.0) ∙ url_marked styled linked us more h.1
+
+address_marked : (styled linked : Bool) (us more : List ℕ) → AllByRecursion (λ b. is_visible b ≡ true) us → is_marked true (Url false) styled linked (us ++ 27 ∷ 92 ∷ more) ≡ is_marked true Text styled (not (length us == 0)) more
+address_marked styled linked [] more h = refl
+address_marked styled linked (b ∷ us) more h =
+    ap (λ (s : Stand). is_marked true s styled linked (us ++ 27 ∷ 92 ∷ more)) (url_stays false b h.0) ∙ url_marked styled linked us more h.1
+    ∙ ap (λ (some : Bool). is_marked true Text styled (not some) more) (sym (ne_eqb (length (b ∷ us)) 0 (λ e. absurd (omega (arith, e)))))
+
+link_marked : (styled linked : Bool) (a : Address) (more : List ℕ) → IsLink a → is_marked true Text styled linked (link_text a ++ more) ≡ is_marked true Text styled (not (length a.url == 0)) more
+link_marked styled linked a more h =
+    let parts : ((a.params ++ 59 ∷ a.url) ++ 27 ∷ 92 ∷ []) ++ more ≡ a.params ++ 59 ∷ (a.url ++ 27 ∷ 92 ∷ more) =
+    append_assoc (a.params ++ 59 ∷ a.url) (27 ∷ 92 ∷ []) more ∙ append_assoc a.params (59 ∷ a.url) (27 ∷ 92 ∷ more) in
+    ap (λ (t : List ℕ). is_marked true Params styled linked t) parts ∙ params_marked styled linked a.params (59 ∷ (a.url ++ 27 ∷ 92 ∷ more)) h.params
+    ∙ address_marked styled linked a.url more h.url
+
+-- ---- all of it
+
+items_marked : (d : Passing) (styled opened linked : Bool) (items : List Item) → AllByRecursion (IsSafe d) items → (opened ≡ false → styled ≡ false) → is_open opened (styles_of items) ≡ false → is_linked linked (links_of items) ≡ false
+    → is_marked d.links Text styled linked (item_texts items) ≡ true
+items_marked d styled opened linked [] h f o k = rw (f o, k) refl
+items_marked d styled opened linked (Shown c ∷ items) h f o k = char_marked d.links styled linked c (item_texts items) h.0.0 ∙ items_marked d styled opened linked items h.1 f o k
+items_marked d styled opened linked (Style s ∷ items) h f o k =
+    let m = style_marked d.links styled linked s (item_texts items) (style_range s h.0.1) h.0.0 in
+    m.on ∙ items_marked d m.opened (not (is_reset s)) linked items h.1 m.closed o k
+items_marked d styled opened linked (Link a ∷ items) h f o k =
+    let more = item_texts items in
+    subst (λ (links : Bool). is_marked links Text styled linked (link_text a ++ more) ≡ is_marked links Text styled (not (length a.url == 0)) more) (sym h.0.0) (link_marked styled linked a more h.0.1)
+    ∙ items_marked d styled opened (not (length a.url == 0)) items h.1 f o k
+
+pub styled_marked : (d : Passing) (text : List ℕ) → IsStyledIn d text → IsMarked d.links text
+styled_marked d text i = rw i.texts (items_marked d false false false i.items i.safe (λ e. e) i.none_open i.none_linked)
+
+pub cleaned_marked : (d : Passing) (bytes text : List ℕ) → StylesIn d bytes text → IsMarked d.links text
+cleaned_marked d bytes text s = styled_marked d text (styled d bytes text s)

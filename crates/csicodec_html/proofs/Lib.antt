@@ -6,6 +6,7 @@ pub mod Joined
 pub mod Leads
 pub mod Left
 pub mod Marks
+pub mod MarkupBytes
 pub mod Named
 pub mod Paired
 pub mod Ruled

@@ -9,7 +9,8 @@ ghost use Rattle.csicodec_names.specs.declared.color.Underline.{Underline};
 ghost use Rattle.csicodec_html.specs.Classes.{IsClass, class_if, class_name, ground_color, lines_class, lines_color, text_color, true_colors, weight_class};
 ghost use Rattle.csicodec_html.specs.Given.{given_color};
 ghost use Rattle.csicodec_html.specs.Look.{colors, css, has_line, hex_color, slant, weight};
-ghost use Rattle.csicodec_html.specs.Page.{IsHarmless, IsQuoted, PageWith, chars_of, escaped};
+ghost use Rattle.csicodec_html.specs.MarkupBytes.{IsMarkup};
+ghost use Rattle.csicodec_html.specs.Page.{IsHarmless, IsPageWith, IsQuoted, PageWith, chars_of, escaped};
 ghost use Rattle.csicodec_html.specs.Palette.{color_at, xterm};
 ghost use Rattle.csicodec_html.specs.Sheet.{IsIn, class_rule, class_rules, color_of_lines, declares, in_pre, kind_of_lines, line_rule, said};
 ghost use Rattle.csicodec_html.specs.declared.classes.Class.{Class};
@@ -33,6 +34,14 @@ pub fn attributes_end()
         → AllByRecursion IsQuoted (flat_map escaped url) }
     ensures classes { (c : Class) → AllByRecursion IsHarmless (class_name c) }
     ensures colors { (l : Look) → AllByRecursion IsHarmless (true_colors l) }
+{}
+
+/// Told of its bytes alone, from the first to the last, a page has no `<` but in tags of spans and, where they pass, of links, in pairs, no
+/// `&` in its text but in five references, and no control there but newlines and tabs.
+pub fn tags()
+    ensures page { (m : Markup) (page : List ℕ) → IsPageWith m page → IsMarkup m.links page }
+    ensures made { (m : Markup) (bytes page : List ℕ) → PageWith m bytes page
+        → IsMarkup m.links page }
 {}
 
 /// Bytes are one page, whatever becomes markup.

@@ -1,5 +1,6 @@
 //! Bytes that are all there, as a piece of a page.
 ghost use Rattle.std.specs.Prelude.{◌≡◌, ◌++◌, ◌∷◌, [], ℕ, List, OnOk, IfOk};
+ghost use Rattle.csicodec_html.specs.MarkupBytes.{IsMarkup};
 ghost use Rattle.csicodec_html.specs.Page.{IsPage, IsPageWith, PageOf, PageWith};
 ghost use Rattle.csicodec_html.specs.Private.Marked.{page_byte, page_bytes};
 
@@ -52,6 +53,8 @@ pub fn html(alloc: Global, bytes: &[u8]) -> Result<Vec<u8>, AllocError>
     ensures exact { IfOk result (λ out. PageOf bytes.now out.items) }
     // It has characters that are shown, escaped, and tags of spans in pairs, and nothing else.
     ensures safe { IfOk result (λ out. IsPage out.items) }
+    // The same, told of its bytes alone.
+    ensures tags { IfOk result (λ out. IsMarkup false out.items) }
 {
     html_with(alloc, Markup::default(), bytes)
 }
@@ -66,6 +69,7 @@ pub fn html_with(alloc: Global, markup: Markup, bytes: &[u8]) -> Result<Vec<u8>,
     ensures exact { IfOk result (λ out. PageWith markup bytes.now out.items) }
     // Beside those it has tags of links in pairs, to addresses that a page may lead to.
     ensures safe { IfOk result (λ out. IsPageWith markup out.items) }
+    ensures tags { IfOk result (λ out. IsMarkup markup.links out.items) }
 {
     let mut cleaner = Cleaner::new(alloc, Spans::new(alloc, markup));
     let mut marked = Vec::new(alloc);

@@ -5,6 +5,7 @@ use Rattle.csicodec_clean.proofs.Chunks.{ends}
 use Rattle.csicodec_html.specs.Page.{Setting}
 use Rattle.csicodec_html.specs.Private.Marked.{closes, page_bytes, turns}
 use Rattle.csicodec_html.proofs.Left.{page_of}
+use Rattle.csicodec_html.proofs.MarkupBytes.{made_markup}
 use Rattle.csicodec_html.proofs.Paired.{is_page}
 use Rattle.csicodec_html.proofs.page.html_with.Goals as goal
 
@@ -22,3 +23,6 @@ returns-clause-exact c =
 
 pub returns-clause-safe : goal.returns-clause-safe
 returns-clause-safe c = is_page c.args.markup c.args.bytes.now c.append_page.new.out.items (returns-clause-exact c)
+
+pub returns-clause-tags : goal.returns-clause-tags
+returns-clause-tags c = made_markup c.args.markup c.args.bytes.now c.append_page.new.out.items (returns-clause-exact c)

@@ -1,0 +1,215 @@
+-- A page is markup by its bytes alone.
+use Rattle.std.proofs.Common.{◌≡◌, ◌≢◌, ◌<◌, ◌≤◌, ℕ, Bool, true, false, List, [], ◌∷◌, ◌++◌, inl, inr, Option, Some, None, refl, sym, ap, subst, ◌∙◌, append_assoc, arith}
+use Rattle.std.specs.Prelude.{codes, nat_le, not, ◌==◌, ◌&&◌, ◌||◌, if◌then◌else◌, encode_utf8}
+use Rattle.std.specs.List.{AllByRecursion, flat_map}
+use Rattle.std.proofs.lemmas.Bool.{eq-eqb, le-leb, ne_eqb}
+use Rattle.std.proofs.lemmas.Bool.Decides.{nat_tests}
+use Rattle.csicodec_clean.specs.Shown.{IsShown}
+use Rattle.csicodec_clean.proofs.Marked.{IsHigh, Spells, spells}
+use Rattle.csicodec_html.specs.declared.classes.Class.{Class}
+use Rattle.csicodec_html.specs.declared.look.Look.{Look}
+use Rattle.csicodec_html.specs.declared.markup.Markup.{Markup}
+use Rattle.csicodec_html.specs.Classes.{attributes, class_name, classes_of, has_true, names, rest_attribute, style_attribute, true_colors}
+use Rattle.csicodec_html.specs.Look.{css}
+use Rattle.csicodec_html.specs.Page.{IsHarmless, IsQuoted, IsPageWith, IsSafe, PageWith, Piece, Char, Begin, End, Open, Shut, are_paired, escaped, piece_text, piece_texts}
+use Rattle.csicodec_html.specs.MarkupBytes.{Spot, Inside, Tag, is_text_byte, is_value_byte, is_markup, no_value, spot_behind, IsMarkup}
+use Rattle.csicodec_html.proofs.Addresses.{all_quoted}
+use Rattle.csicodec_html.proofs.Declarations.{Fine, css_fine}
+use Rattle.csicodec_html.proofs.Named.{name_fine, true_fine}
+use Rattle.csicodec_html.proofs.Paired.{is_page}
+
+-- ---- characters
+
+on_text : (links linked spanned : Bool) (b : ℕ) (more : List ℕ) → b ≢ 60 → b ≢ 38 → b ≢ 194 → is_text_byte b ≡ true → is_markup links Inside linked spanned (b ∷ more) ≡ is_markup links Inside linked spanned more
+on_text links linked spanned b more less and l t = rw (ne_eqb b 60 less, ne_eqb b 38 and, ne_eqb b 194 l, t) refl
+
+high_byte : (b : ℕ) → 128 ≤ b → is_text_byte b ≡ true
+high_byte b h = grind (arith, nat_tests)
+
+low_byte : (c : ℕ) → c < 128 → IsShown c → c ≢ 34 → c ≢ 38 → c ≢ 39 → c ≢ 60 → c ≢ 62 → is_text_byte c ≡ true
+low_byte c h s quote and apostrophe less greater = rw (ne_eqb c 34 quote, ne_eqb c 38 and, ne_eqb c 39 apostrophe, ne_eqb c 60 less, ne_eqb c 62 greater) (grind (arith, nat_tests))
+
+high_markup : (links linked spanned : Bool) (bytes more : List ℕ) → AllByRecursion IsHigh bytes → is_markup links Inside linked spanned (bytes ++ more) ≡ is_markup links Inside linked spanned more
+high_markup links linked spanned [] more h = refl
+high_markup links linked spanned (b ∷ bytes) more h =
+    on_text links linked spanned b (bytes ++ more) (λ e. absurd (omega (arith, e, h.0.0))) (λ e. absurd (omega (arith, e, h.0.0))) h.0.1 (high_byte b h.0.0) ∙ high_markup links linked spanned bytes more h.1
+
+itself : (links linked spanned : Bool) (c : ℕ) (more : List ℕ) → IsShown c → c ≢ 34 → c ≢ 38 → c ≢ 39 → c ≢ 60 → c ≢ 62 → is_markup links Inside linked spanned (encode_utf8 c ++ more) ≡ is_markup links Inside linked spanned more
+itself links linked spanned c more h quote and apostrophe less greater = by (spells c h)
+  where
+    by : Spells c (encode_utf8 c) → is_markup links Inside linked spanned (encode_utf8 c ++ more) ≡ is_markup links Inside linked spanned more
+    by (inl (low, is)) = rw is (on_text links linked spanned c more less and (λ e. absurd (omega (arith, e, low))) (low_byte c low h quote and apostrophe less greater))
+    by (inr (inl (b, from, is))) = rw is (rw (le-leb 160 b from) refl)
+    by (inr (inr all)) = high_markup links linked spanned (encode_utf8 c) more all
+
+either : (P : List ℕ → Type 0) (a b : ℕ) (xs ys : List ℕ) → P xs → (a ≢ b → P ys) → P (if a == b then xs else ys)
+either P a b xs ys f g = by (a == b) refl
+  where
+    by : (t : Bool) → (a == b) ≡ t → P (if t then xs else ys)
+    by true e = f
+    by false e = g (λ same. absurd (cc (e, eq-eqb a b same)))
+
+char_markup : (links linked spanned : Bool) (c : ℕ) (more : List ℕ) → IsShown c → is_markup links Inside linked spanned (escaped c ++ more) ≡ is_markup links Inside linked spanned more
+char_markup links linked spanned c more h =
+    let On = λ (t : List ℕ). is_markup links Inside linked spanned (t ++ more) ≡ is_markup links Inside linked spanned more in
+    let last = encode_utf8 c in
+    let apostrophe = if c == 39 then codes "&#39;" else last in
+    let quote = if c == 34 then codes "&quot;" else apostrophe in
+    let greater = if c == 62 then codes "&gt;" else quote in
+    let less = if c == 60 then codes "&lt;" else greater in
+    either On c 38 (codes "&amp;") less refl
+    (λ and. either On c 60 (codes "&lt;") greater refl
+    (λ l. either On c 62 (codes "&gt;") quote refl
+    (λ g. either On c 34 (codes "&quot;") apostrophe refl
+    (λ q. either On c 39 (codes "&#39;") last refl
+    (λ a. itself links linked spanned c more h q and a l g)))))
+
+-- ---- what stands between quotation marks
+
+abbrev IsValue : ℕ → Type 0
+IsValue b = is_value_byte b ≡ true
+
+harmless_value : (b : ℕ) → IsHarmless b → IsValue b
+harmless_value b h = grind (arith, nat_tests)
+
+quoted_value : (b : ℕ) → IsQuoted b → IsValue b
+quoted_value b h = grind (arith, nat_tests)
+
+value_stays : (b : ℕ) → IsValue b → b ≢ 34
+value_stays b h = λ e. absurd (grind (arith, nat_tests))
+
+values : (P : ℕ → Type 0) (bytes : List ℕ) → ((b : ℕ) → P b → IsValue b) → AllByRecursion P bytes → AllByRecursion IsValue bytes
+values P [] f h = tt
+values P (b ∷ bytes) f h = (f b h.0, values P bytes f h.1)
+
+value_markup : (links linked spanned : Bool) (tag bytes more : List ℕ) → AllByRecursion IsValue bytes → is_markup links (Tag true tag) linked spanned (bytes ++ more) ≡ is_markup links (Tag true tag) linked spanned more
+value_markup links linked spanned tag [] more h = refl
+value_markup links linked spanned tag (b ∷ bytes) more h =
+    let step : spot_behind links linked spanned (Tag true tag) b ≡ Tag true tag = rw (ne_eqb b 34 (value_stays b h.0), h.0) refl in
+    ap (λ (s : Spot). is_markup links s linked spanned (bytes ++ more)) step ∙ value_markup links linked spanned tag bytes more h.1
+
+fine_markup : (links linked spanned : Bool) (tag bytes more : List ℕ) → Fine bytes → is_markup links (Tag true tag) linked spanned (bytes ++ more) ≡ is_markup links (Tag true tag) linked spanned more
+fine_markup links linked spanned tag bytes more h = value_markup links linked spanned tag bytes more (values IsHarmless bytes harmless_value h)
+
+-- ---- the attributes of a span
+
+-- the tags that begin one, with classes or without, and with a style or without
+abbrev span_tag : Bool → Bool → List ℕ
+span_tag false false = codes "span"
+span_tag false true = codes "span style=" ++ no_value
+span_tag true false = codes "span class=" ++ no_value
+span_tag true true = codes "span class=" ++ (no_value ++ (codes " style=" ++ no_value))
+
+abbrev Behind : (links linked spanned : Bool) → Bool → List ℕ → List ℕ → Type 0
+Behind links linked spanned classes bytes more =
+    (styles : Bool) × (is_markup links (Tag false (span_tag classes false)) linked spanned (bytes ++ more) ≡ is_markup links (Tag false (span_tag classes styles)) linked spanned more)
+
+style_markup : (links linked spanned classes : Bool) (style more : List ℕ) → Fine style → Behind links linked spanned classes (style_attribute 34 style) more
+style_markup links linked spanned false style more h =
+    let begun = codes "span style=" ++ 34 ∷ [] in
+    (true, ap (λ (t : List ℕ). is_markup links (Tag true begun) linked spanned t) (append_assoc style (34 ∷ []) more) ∙ fine_markup links linked spanned begun style (34 ∷ more) h)
+style_markup links linked spanned true style more h =
+    let begun = codes "span class=" ++ (no_value ++ (codes " style=" ++ 34 ∷ [])) in
+    (true, ap (λ (t : List ℕ). is_markup links (Tag true begun) linked spanned t) (append_assoc style (34 ∷ []) more) ∙ fine_markup links linked spanned begun style (34 ∷ more) h)
+
+rest_markup : (links linked spanned classes : Bool) (l : Look) (more : List ℕ) → Behind links linked spanned classes (rest_attribute 34 l) more
+rest_markup links linked spanned classes l more = by (has_true l)
+  where
+    by : (t : Bool) → Behind links linked spanned classes (if t then style_attribute 34 (true_colors l) else []) more
+    by true = style_markup links linked spanned classes (true_colors l) more (true_fine l)
+    by false = (false, refl)
+
+-- where classes came, their attribute is open
+abbrev named_at : Bool → Spot
+named_at false = Tag false (codes "span")
+named_at true = Tag true (codes "span class=" ++ 34 ∷ [])
+
+abbrev Names : (links linked spanned came : Bool) → List ℕ → List ℕ → Type 0
+Names links linked spanned came bytes more =
+    (classes : Bool) × (is_markup links (named_at came) linked spanned (bytes ++ more) ≡ is_markup links (Tag false (span_tag classes false)) linked spanned more)
+
+names_markup : (links linked spanned came : Bool) (slots : List (Option Class)) (more : List ℕ) → Names links linked spanned came (names 34 came slots) more
+names_markup links linked spanned true [] more = (true, refl)
+names_markup links linked spanned false [] more = (false, refl)
+names_markup links linked spanned came (None ∷ slots) more = names_markup links linked spanned came slots more
+names_markup links linked spanned came (Some c ∷ slots) more =
+    let later = names 34 true slots in
+    let r = names_markup links linked spanned true slots more in
+    let parts : (class_name c ++ later) ++ more ≡ class_name c ++ (later ++ more) = append_assoc (class_name c) later more in
+    let named : is_markup links (named_at true) linked spanned ((class_name c ++ later) ++ more) ≡ is_markup links (Tag false (span_tag r.0 false)) linked spanned more =
+    ap (λ (t : List ℕ). is_markup links (named_at true) linked spanned t) parts ∙ fine_markup links linked spanned (codes "span class=" ++ 34 ∷ []) (class_name c) (later ++ more) (name_fine c) ∙ r.1 in
+    (r.0, by came named)
+  where
+    by : {X : Bool} (b : Bool) → is_markup links (named_at true) linked spanned ((class_name c ++ names 34 true slots) ++ more) ≡ X → is_markup links (named_at b) linked spanned (names 34 b (Some c ∷ slots) ++ more) ≡ X
+    by true e = e
+    by false e = e
+
+pub record Begins (links linked spanned : Bool) (bytes more : List ℕ) : Type 0 where
+  pub classes : Bool
+  pub styles : Bool
+  pub on : is_markup links (Tag false (codes "span")) linked spanned (bytes ++ more) ≡ is_markup links (Tag false (span_tag classes styles)) linked spanned more
+
+attributes_markup : (links linked spanned : Bool) (m : Markup) (l : Look) (more : List ℕ) → Begins links linked spanned (attributes 34 m l) more
+attributes_markup links linked spanned m l more = by m.classes
+  where
+    by : (t : Bool) → Begins links linked spanned (if t then names 34 false (classes_of l) ++ rest_attribute 34 l else style_attribute 34 (css m.palette l)) more
+    by true =
+        let rest = rest_attribute 34 l in
+        let n = names_markup links linked spanned false (classes_of l) (rest ++ more) in
+        let r = rest_markup links linked spanned n.0 l more in
+        let parts = append_assoc (names 34 false (classes_of l)) rest more in
+        record { classes = n.0; styles = r.0; on = ap (λ (t : List ℕ). is_markup links (Tag false (codes "span")) linked spanned t) parts ∙ n.1 ∙ r.1 }
+    by false =
+        let r = style_markup links linked spanned false (css m.palette l) more (css_fine m.palette l) in
+        record { classes = false; styles = r.0; on = r.1 }
+
+-- ---- the tags
+
+begun : (links linked classes styles : Bool) (more : List ℕ) → is_markup links (Tag false (span_tag classes styles)) linked false (62 ∷ more) ≡ is_markup links Inside linked true more
+begun links linked false false more = refl
+begun links linked false true more = refl
+begun links linked true false more = refl
+begun links linked true true more = refl
+
+begin_markup : (links linked : Bool) (m : Markup) (l : Look) (more : List ℕ) → is_markup links Inside linked false (piece_text (Begin m l) ++ more) ≡ is_markup links Inside linked true more
+begin_markup links linked m l more =
+    let own = attributes 34 m l in
+    let r = attributes_markup links linked false m l (62 ∷ more) in
+    ap (λ (t : List ℕ). is_markup links (Tag false (codes "span")) linked false t) (append_assoc own (62 ∷ []) more) ∙ r.on ∙ begun links linked r.classes r.styles more
+
+end_markup : (links linked : Bool) (more : List ℕ) → is_markup links Inside linked true (piece_text End ++ more) ≡ is_markup links Inside linked false more
+end_markup links linked more = refl
+
+open_markup : (url more : List ℕ) → AllByRecursion IsQuoted (flat_map escaped url) → is_markup true Inside false false (piece_text (Open url) ++ more) ≡ is_markup true Inside true false more
+open_markup url more h =
+    let own = flat_map escaped url in
+    let tag = codes "a href=" ++ 34 ∷ [] in
+    ap (λ (t : List ℕ). is_markup true (Tag true tag) false false t) (append_assoc own (34 ∷ 62 ∷ []) more) ∙ value_markup true false false tag own (34 ∷ 62 ∷ more) (values IsQuoted own quoted_value h)
+
+shut_markup : (links : Bool) (more : List ℕ) → is_markup links Inside true false (piece_text Shut ++ more) ≡ is_markup links Inside false false more
+shut_markup links more = refl
+
+-- ---- the page
+
+pieces_markup : (m : Markup) (linked spanned : Bool) (pieces : List Piece) → AllByRecursion (IsSafe m) pieces → are_paired linked spanned pieces ≡ true → is_markup m.links Inside linked spanned (piece_texts pieces) ≡ true
+pieces_markup m linked spanned [] h p = p
+pieces_markup m linked spanned (Char c ∷ pieces) h p = char_markup m.links linked spanned c (piece_texts pieces) h.0.0 ∙ pieces_markup m linked spanned pieces h.1 p
+pieces_markup m linked true (Begin n l ∷ pieces) h p = absurd cc
+pieces_markup m linked false (Begin n l ∷ pieces) h p = begin_markup m.links linked n l (piece_texts pieces) ∙ pieces_markup m linked true pieces h.1 p
+pieces_markup m linked true (End ∷ pieces) h p = end_markup m.links linked (piece_texts pieces) ∙ pieces_markup m linked false pieces h.1 p
+pieces_markup m linked false (End ∷ pieces) h p = absurd cc
+pieces_markup m true spanned (Open url ∷ pieces) h p = absurd cc
+pieces_markup m false true (Open url ∷ pieces) h p = absurd cc
+pieces_markup m false false (Open url ∷ pieces) h p =
+    let more = piece_texts pieces in
+    subst (λ (links : Bool). is_markup links Inside false false (piece_text (Open url) ++ more) ≡ is_markup links Inside true false more) (sym h.0.0) (open_markup url more (all_quoted url h.0.1.visible))
+    ∙ pieces_markup m true false pieces h.1 p
+pieces_markup m false spanned (Shut ∷ pieces) h p = absurd cc
+pieces_markup m true true (Shut ∷ pieces) h p = absurd cc
+pieces_markup m true false (Shut ∷ pieces) h p = shut_markup m.links (piece_texts pieces) ∙ pieces_markup m false false pieces h.1 p
+
+pub page_markup : (m : Markup) (page : List ℕ) → IsPageWith m page → IsMarkup m.links page
+page_markup m page p = rw p.all (pieces_markup m false false p.pieces p.safe p.paired)
+
+pub made_markup : (m : Markup) (bytes page : List ℕ) → PageWith m bytes page → IsMarkup m.links page
+made_markup m bytes page p = page_markup m page (is_page m bytes page p)

@@ -1,0 +1,5 @@
+use Rattle.csicodec.proofs.Faithful.{faithful_again, faithful_alone, faithful_means}
+use Rattle.csicodec.proofs.laws.faithful_stream.Goals as goal
+
+pub returns : goal.returns
+returns c = record { means = faithful_means; again = faithful_again; alone = faithful_alone }

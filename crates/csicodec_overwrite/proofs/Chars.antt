@@ -1,4 +1,4 @@
--- The steps of characters and of actions, one behind the other.
+-- The steps of characters, of actions and of what went wrong, one behind the other.
 use Rattle.std.proofs.Common.{◌≡◌, ℕ, List, [], ◌∷◌, ◌++◌, length, sym, ap, ◌∙◌, append_assoc, append-nil, arith}
 use Rattle.std.proofs.lemmas.Grind.{flat_map-append}
 use Rattle.bstr.specs.Utf8.{lossy_chars, replacement}
@@ -7,7 +7,7 @@ use Rattle.csicodec_actions.specs.Actions.{Action}
 use Rattle.csicodec_clean.specs.Shown.{IsRead}
 use Rattle.csicodec_clean.proofs.Sure.{read_all}
 use Rattle.csicodec_overwrite.specs.declared.step.Step.{Step}
-use Rattle.csicodec_overwrite.specs.Steps.{of_action, of_actions, of_char, of_chars, of_run}
+use Rattle.csicodec_overwrite.specs.Steps.{of_action, of_actions, of_char, of_chars, of_run, of_wrong, of_wrong_byte}
 
 pub chars_on : (xs ys : List ℕ) → of_chars (xs ++ ys) ≡ of_chars xs ++ of_chars ys
 chars_on xs ys = flat_map-append of_char xs ys
@@ -34,6 +34,12 @@ pub action_on : (a : Action) (front : List Action) (old now new : List Step) →
 action_on a front old now new e f =
     more old (of_actions front) (of_action a) now new e f ∙ ap (λ (t : List Step). old ++ (of_actions front ++ t)) (sym (append-nil (of_action a)))
     ∙ ap (λ (t : List Step). old ++ t) (sym (flat_map-append of_action front (a ∷ [])))
+
+-- a byte more of what went wrong
+pub wrong_on : (b : ℕ) (front : List ℕ) (old now new : List Step) → now ≡ old ++ of_wrong front → new ≡ now ++ of_wrong_byte b → new ≡ old ++ of_wrong (front ++ b ∷ [])
+wrong_on b front old now new e f =
+    more old (of_wrong front) (of_wrong_byte b) now new e f ∙ ap (λ (t : List Step). old ++ (of_wrong front ++ t)) (sym (append-nil (of_wrong_byte b)))
+    ∙ ap (λ (t : List Step). old ++ t) (sym (flat_map-append of_wrong_byte front (b ∷ [])))
 
 run_empty : (run : List ℕ) → length run ≡ 0 → of_run run ≡ []
 run_empty [] none = run_none

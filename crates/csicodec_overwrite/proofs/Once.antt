@@ -6,9 +6,9 @@ use Rattle.csicodec_actions.specs.Actions.{Action}
 use Rattle.csicodec_spans.specs.declared.table.Kind.{Kind}
 use Rattle.csicodec_spans.specs.declared.table.Kind.TheVariants as kind
 use Rattle.csicodec_spans.specs.declared.table.Mode.TheVariants as mode
-use Rattle.csicodec_spans.specs.Parts.{Part, left_over}
+use Rattle.csicodec_spans.specs.Parts.{Part}
 use Rattle.csicodec_spans.proofs.Kept.{parts_more}
-use Rattle.csicodec_spans.proofs.Once.{parts_front, whole_once}
+use Rattle.csicodec_spans.proofs.Once.{parts_front, parts_once}
 use Rattle.csicodec_filter.specs.Transform.{Begins as BeginsWith, Sends, Transforms}
 use Rattle.csicodec_filter.proofs.Sent.{whole_front}
 use Rattle.csicodec_clean.specs.Cleaned.{longest}
@@ -21,7 +21,7 @@ use Rattle.csicodec_clean.proofs.Titles.{titles_on}
 use Rattle.csicodec_html.specs.Look.{plain}
 use Rattle.csicodec_overwrite.specs.declared.step.Step.{Step}
 use Rattle.csicodec_overwrite.specs.Line.{blank, do_all, look_behind_all}
-use Rattle.csicodec_overwrite.specs.Steps.{of_actions, of_chars, of_run}
+use Rattle.csicodec_overwrite.specs.Steps.{of_actions, of_chars, of_escape, of_run, of_wrong}
 use Rattle.csicodec_overwrite.specs.Reading.{AreOfParts, IsOfPart, Shows, Steps, most, shown_by}
 use Rattle.csicodec_overwrite.specs.Stream.{Ending, Goes, Held, Now, Passes, begun_as}
 use Rattle.csicodec_overwrite.proofs.Chars.{run_read}
@@ -60,7 +60,7 @@ parted run (p ∷ ps) qs x y a b (first, next, others, is, e, rest) (one, after,
 
 pub one_reading : (bytes : List ℕ) (steps others : List Step) → Steps bytes steps → Steps bytes others → steps ≡ others
 one_reading bytes steps others s t =
-    let parts = whole_once longest mode.Text bytes s.parts t.parts s.whole t.whole in
+    let parts = (parts_once longest s.parts t.parts mode.Text bytes s.rest t.rest s.after t.after s.first s.unsure t.first t.unsure).parts in
     let other = subst (λ (ps : List Part). AreOfParts [] (with_titles false ps) t.before t.run) (sym parts) t.read in
     let r = parted [] (with_titles false s.parts) [] s.before t.before s.run t.run s.read (subst (λ (ps : List Part). AreOfParts [] ps t.before t.run) (sym (append-nil (with_titles false s.parts))) other) in
     let before : t.before ≡ s.before = r.all ∙ ap (λ (x : List Step). s.before ++ x) r.others.0 ∙ append-nil s.before in
@@ -94,9 +94,9 @@ part_begins kind.Text run bytes chars rest next first others more last h (none, 
     let same : others ≡ more = f ∙ ap (λ (t : List Step). t ++ more) none in
     subst (λ (t : List Step). GoesOnFrom (t ++ last) (of_chars chars)) (sym same) (later chars (rest ++ bytes) (subst (λ (r : List ℕ). IsRead r chars (rest ++ bytes)) (sym left) (read_longer run chars rest bytes h)))
 part_begins kind.Csi run bytes chars rest next first others more last h (actions, of, e, none) f later = ends_run run chars rest (of_actions actions) first others more last h e f
-part_begins kind.Esc run bytes chars rest next first others more last h i f later = ends_run run chars rest [] first others more last h (i.0 ∙ sym (append-nil (of_run run))) f
+part_begins kind.Esc run bytes chars rest next first others more last h i f later = ends_run run chars rest (of_escape bytes) first others more last h i.0 f
 part_begins kind.Str run bytes chars rest next first others more last h i f later = ends_run run chars rest [] first others more last h (i.0 ∙ sym (append-nil (of_run run))) f
-part_begins kind.Other run bytes chars rest next first others more last h i f later = ends_run run chars rest [] first others more last h (i.0 ∙ sym (append-nil (of_run run))) f
+part_begins kind.Other run bytes chars rest next first others more last h i f later = ends_run run chars rest (of_wrong bytes) first others more last h i.0 f
 
 parts_begin : (run chars rest : List ℕ) (qs : List Part) (later : List Step) (last : List ℕ) → IsRead run chars rest → AreOfParts run qs later last → GoesOnFrom (later ++ of_run last) (of_chars chars)
 parts_begin run chars rest [] later last h (none, same) = subst (λ (t : List Step). GoesOnFrom t (of_chars chars)) (sym (ap (λ (t : List Step). t ++ of_run last) none ∙ ap of_run same)) (run_begins run chars rest h)
@@ -106,9 +106,7 @@ parts_begin run chars rest (q ∷ qs) later last h (first, next, others, is, e, 
 -- the steps that came for a front of some bytes begin those of all
 goes_front : (read more : List ℕ) (steps all : List Step) (last : Held) → (g : Goes mode.Text false [] [] read steps last.bytes last.mode last.titled last.held) → Steps (read ++ more) all → GoesOnFrom all steps
 goes_front read more steps all last g s =
-    let (others, e) = parts_front longest g.parts s.whole.sure mode.Text (read ++ more) (last.bytes ++ more) s.whole.rest last.mode s.whole.after (parts_more longest g.parts mode.Text read more last.bytes last.mode g.first) s.whole.first s.whole.unsure in
-    let qs = others ++ left_over s.whole.rest in
-    let parts : s.parts ≡ g.parts ++ qs = s.whole.whole ∙ ap (λ (x : List Part). x ++ left_over s.whole.rest) e ∙ append_assoc g.parts others (left_over s.whole.rest) in
+    let (qs, parts) = parts_front longest g.parts s.parts mode.Text (read ++ more) (last.bytes ++ more) s.rest last.mode s.after (parts_more longest g.parts mode.Text read more last.bytes last.mode g.first) s.first s.unsure in
     let titled : with_titles false s.parts ≡ with_titles false g.parts ++ with_titles (title_open false g.parts) qs = ap (with_titles false) parts ∙ titles_on false g.parts qs in
     let r = parted [] (with_titles false g.parts) (with_titles (title_open false g.parts) qs) g.before s.before g.left s.run g.are (subst (λ (ps : List Part). AreOfParts [] ps s.before s.run) titled s.read) in
     let (later, f) = parts_begin g.left g.read last.held (with_titles (title_open false g.parts) qs) r.later s.run g.is_read r.others in (

@@ -1,6 +1,6 @@
 -- What is written is plain: UTF-8 of characters that are shown.
-use Rattle.std.proofs.Common.{◌≡◌, ℕ, Bool, true, false, cond, List, [], ◌∷◌, ◌++◌, refl, ◌∙◌}
-use Rattle.std.specs.Prelude.{◌==◌, ◌||◌, Some, None}
+use Rattle.std.proofs.Common.{◌≡◌, ℕ, Bool, true, false, cond, List, [], ◌∷◌, ◌++◌, length, refl, ◌∙◌}
+use Rattle.std.specs.Prelude.{◌==◌, ◌&&◌, ◌||◌, slice_index, Some, None}
 use Rattle.std.specs.List.{AllByRecursion}
 use Rattle.std.specs.Str.{all_scalars}
 use Rattle.std.proofs.lemmas.Bool.{and_from, and_parts}
@@ -40,7 +40,7 @@ use Rattle.csicodec_overwrite.specs.declared.step.Step.{Step}
 use Rattle.csicodec_overwrite.specs.declared.step.Step.TheVariants as step
 use Rattle.csicodec_overwrite.specs.Line.{blank, do_all}
 use Rattle.csicodec_overwrite.specs.Paint.{IsInRange}
-use Rattle.csicodec_overwrite.specs.Steps.{of_action, of_actions, of_char, of_chars, of_code, of_control, of_cursor, of_display, of_edit, of_mode, of_part, of_private_mode, of_run}
+use Rattle.csicodec_overwrite.specs.Steps.{of_action, of_actions, of_char, of_chars, of_code, of_control, of_cursor, of_display, of_edit, of_escape, of_final, of_mode, of_part, of_private_mode, of_run, of_wrong, of_wrong_byte}
 use Rattle.csicodec_overwrite.specs.Reading.{AreOfParts, IsOfPart, Overwrites, Steps, most}
 use Rattle.csicodec_overwrite.proofs.Kept.{OfStep, of_shown}
 use Rattle.csicodec_overwrite.proofs.Texts.{chars_by, shown_plain}
@@ -85,6 +85,25 @@ chars_good (c ∷ cs) h =
 
 run_good : (run : List ℕ) → AreGood (of_run run)
 run_good run = chars_good (lossy_chars run) (scalars_lossy run)
+
+final_good : (c : ℕ) → AreGood (of_final c)
+final_good c = by (c == 68 || c == 77) (c == 56 || c == 69) (c == 99)
+  where
+    by : (same first reset : Bool) → AreGood (cond same (step.Leave None ∷ []) (cond first (step.Leave (Some 1) ∷ []) (cond reset (step.Leave (Some 1) ∷ (step.Attribute sgr.Reset ∷ [])) [])))
+    by true first reset = (tt, tt)
+    by false true reset = (tt, tt)
+    by false false true = (tt, (tt, tt))
+    by false false false = tt
+
+escape_good : (bytes : List ℕ) → AreGood (of_escape bytes)
+escape_good bytes =
+    let aligns = length bytes == 3 && (slice_index bytes 1 == 35 && slice_index bytes 2 == 56) in
+    let align : List Step = step.Leave (Some 1) ∷ [] in
+    pick (length bytes == 2) (of_final (slice_index bytes 1)) (cond aligns align []) (final_good (slice_index bytes 1)) (pick aligns align [] (tt, tt) tt)
+
+wrong_good : (bytes : List ℕ) → AreGood (of_wrong bytes)
+wrong_good [] = tt
+wrong_good (b ∷ bytes) = both (of_wrong_byte b) (of_wrong bytes) (pick (b == 27) (step.Leave None ∷ []) [] (tt, tt) tt) (wrong_good bytes)
 
 cursor_good : (c : Cursor) → AreGood (of_cursor c)
 cursor_good (cursor.Right n) = (tt, tt)
@@ -167,9 +186,9 @@ sequence_good bytes actions (list, final, is, read) = actions_good actions (pars
 part_steps : (k : Kind) (run bytes left : List ℕ) (steps : List Step) → IsOfPart k run bytes steps left → AreGood steps
 part_steps kind.Text run bytes left steps h = rw h.0 tt
 part_steps kind.Csi run bytes left steps (actions, of, e, none) = rw e (both (of_run run) (of_actions actions) (run_good run) (sequence_good bytes actions of))
-part_steps kind.Esc run bytes left steps h = rw h.0 (run_good run)
+part_steps kind.Esc run bytes left steps h = rw h.0 (both (of_run run) (of_escape bytes) (run_good run) (escape_good bytes))
 part_steps kind.Str run bytes left steps h = rw h.0 (run_good run)
-part_steps kind.Other run bytes left steps h = rw h.0 (run_good run)
+part_steps kind.Other run bytes left steps h = rw h.0 (both (of_run run) (of_wrong bytes) (run_good run) (wrong_good bytes))
 
 parts_good : (run : List ℕ) (ps : List Part) (steps : List Step) (left : List ℕ) → AreOfParts run ps steps left → AreGood steps
 parts_good run [] steps left h = rw h.0 tt

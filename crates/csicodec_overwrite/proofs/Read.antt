@@ -1,6 +1,7 @@
 -- The parts of a stream, span by span, and the steps that came for them.
 use Rattle.std.proofs.Common.{◌≡◌, ℕ, Bool, false, List, [], ◌∷◌, ◌++◌, refl, sym, ap, subst, ◌∙◌, append_assoc, append-nil, arith}
 use Rattle.std.specs.List.{AllByRecursion, flat_map}
+use Rattle.std.proofs.lemmas.Grind.{flat_map-append}
 use Rattle.csicodec_spans.specs.declared.table.Kind.{Kind}
 use Rattle.csicodec_spans.specs.declared.table.Kind.TheVariants as kind
 use Rattle.csicodec_spans.specs.declared.table.Mode.{Mode}
@@ -14,7 +15,7 @@ use Rattle.csicodec_clean.specs.Titles.{title_behind, title_open, read_as, with_
 use Rattle.csicodec_clean.proofs.Sure.{read_more, read_none}
 use Rattle.csicodec_clean.proofs.Titles.{open_on, titled, titles_on}
 use Rattle.csicodec_overwrite.specs.declared.step.Step.{Step}
-use Rattle.csicodec_overwrite.specs.Steps.{of_actions, of_chars, of_run}
+use Rattle.csicodec_overwrite.specs.Steps.{of_actions, of_chars, of_escape, of_run, of_wrong, of_wrong_byte}
 use Rattle.csicodec_overwrite.specs.Reading.{AreOfParts, IsOfPart, Steps}
 use Rattle.csicodec_overwrite.specs.Stream.{Goes, Held, Reads, none_held}
 use Rattle.csicodec_overwrite.specs.Private.Spans.{GoesTo, IsGiven}
@@ -46,6 +47,25 @@ drops k bytes [] run f h = absurd (omega (arith, h.some))
 drops k bytes (p ∷ ps) run f h =
     let step : IsOfPart p.kind run p.bytes (of_run run) [] = rw h.all.0 (f run p.bytes) in
     (of_run run, [], [], step, sym (append-nil (of_run run)), dropped k ps f h.all.1)
+
+-- parts that went wrong
+wrongs : (ps : List Part) → AllByRecursion (λ (p : Part). p.kind ≡ kind.Other) ps → AreOfParts [] ps (of_wrong (flat_map bytes_of ps)) []
+wrongs [] h = (refl, refl)
+wrongs (p ∷ ps) h =
+    let own = of_wrong p.bytes in
+    let others = flat_map bytes_of ps in
+    let step : IsOfPart p.kind [] p.bytes own [] = rw h.0 (sym (ap (λ (t : List Step). t ++ own) run_none), refl) in
+    (own, [], of_wrong others, step, flat_map-append of_wrong_byte p.bytes others, wrongs ps h.1)
+
+wrong : (bytes : List ℕ) (ps : List Part) (run : List ℕ) → AreAll kind.Other bytes ps → AreOfParts run ps (of_run run ++ of_wrong bytes) []
+wrong bytes [] run h = absurd (omega (arith, h.some))
+wrong bytes (p ∷ ps) run h =
+    let own = of_wrong p.bytes in
+    let others = flat_map bytes_of ps in
+    let step : IsOfPart p.kind run p.bytes (of_run run ++ own) [] = rw h.all.0 (refl, refl) in
+    let whole : of_run run ++ of_wrong bytes ≡ (of_run run ++ own) ++ of_wrong others =
+    ap (λ (b : List ℕ). of_run run ++ of_wrong b) (sym h.joined) ∙ ap (λ (t : List Step). of_run run ++ t) (flat_map-append of_wrong_byte p.bytes others) ∙ sym (append_assoc (of_run run) own (of_wrong others)) in
+    (of_run run ++ own, [], of_wrong others, step, whole, wrongs ps h.all.1)
 
 only : (k : Kind) (bytes : List ℕ) (steps : List Step) (ps : List Part) (run : List ℕ) → ps ≡ part k bytes ∷ [] → IsOfPart k run bytes steps [] → AreOfParts run ps steps []
 only k bytes steps ps run e h = rw e (steps, [], [], h, sym (append-nil steps), (refl, refl))
@@ -88,9 +108,9 @@ spanned kind.Text run chars held bytes more ps left span read (now, later, e) = 
 spanned kind.Csi run chars held bytes more ps left span read (actions, of, e, none) =
     ended run chars held ps (of_actions actions) more left read e none (only kind.Csi bytes (of_run run ++ of_actions actions) ps run span (actions, of, refl, refl))
 spanned kind.Esc run chars held bytes more ps left span read h =
-    no_own run chars held ps more left read h (only kind.Esc bytes (of_run run) ps run span (refl, refl))
+    ended run chars held ps (of_escape bytes) more left read h.0 h.1 (only kind.Esc bytes (of_run run ++ of_escape bytes) ps run span (refl, refl))
 spanned kind.Str run chars held bytes more ps left span read h = no_own run chars held ps more left read h (drops kind.Str bytes ps run (λ r b. (refl, refl)) span)
-spanned kind.Other run chars held bytes more ps left span read h = no_own run chars held ps more left read h (drops kind.Other bytes ps run (λ r b. (refl, refl)) span)
+spanned kind.Other run chars held bytes more ps left span read h = ended run chars held ps (of_wrong bytes) more left read h.0 h.1 (wrong bytes ps run span)
 
 -- ---- one behind the other
 
@@ -188,30 +208,17 @@ reads_from old new bytes all rest before after e f unsure (steps, out, goes) = (
 -- ---- the whole stream
 
 whole_goes : (a : Mode) (u : Bool) (bytes rest held : List ℕ) (steps : List Step) → Goes mode.Text false [] [] bytes steps rest a u held → IsUnsure longest a rest → Steps bytes (steps ++ of_run held)
-whole_goes a u bytes [] held steps g unsure = record {
-  parts = g.parts ++ [];
-  whole = record { sure = g.parts; rest = []; after = a; first = g.first; unsure = unsure; whole = refl };
+whole_goes a u bytes rest held steps g unsure = record {
+  parts = g.parts;
+  rest = rest;
+  after = a;
+  first = g.first;
+  unsure = unsure;
   before = g.before;
   run = g.left;
-  read = subst (λ (ps : List Part). AreOfParts [] (with_titles false ps) g.before g.left) (sym (append-nil g.parts)) g.are;
+  read = g.are;
   all = ap (λ (t : List Step). t ++ of_run held) g.same ∙ append_assoc g.before (of_chars g.read) (of_run held) ∙ ap (λ (t : List Step). g.before ++ t) (sym (run_read g.left g.read held g.is_read));
 }
-whole_goes a u bytes (b ∷ rest) held steps g unsure =
-    let end : List Part = part kind.Other (b ∷ rest) ∷ [] in
-    record {
-      parts = g.parts ++ end;
-      whole = record { sure = g.parts; rest = b ∷ rest; after = a; first = g.first; unsure = unsure; whole = refl };
-      before = g.before ++ of_run g.left;
-      run = [];
-      read = subst (λ (ps : List Part). AreOfParts [] ps (g.before ++ of_run g.left) []) (sym (titles_on false g.parts end))
-          (parts_then (with_titles false g.parts) (with_titles (title_open false g.parts) end) [] g.left [] g.before (of_run g.left) g.are
-          (ends_run (title_open false g.parts) g.left));
-      all = ap (λ (t : List Step). t ++ of_run held) g.same ∙ append_assoc g.before (of_chars g.read) (of_run held) ∙ ap (λ (t : List Step). g.before ++ t) (sym (run_read g.left g.read held g.is_read))
-          ∙ sym (append-nil (g.before ++ of_run g.left)) ∙ ap (λ (t : List Step). (g.before ++ of_run g.left) ++ t) (sym run_none);
-    }
-  where
-    ends_run : (t : Bool) (run : List ℕ) → AreOfParts run (with_titles t (part kind.Other (b ∷ rest) ∷ [])) (of_run run) []
-    ends_run t run = (of_run run, [], [], (refl, refl), sym (append-nil (of_run run)), (refl, refl))
 
 pub whole_reads : (bytes : List ℕ) (steps : List Step) (last : Held) → Reads none_held bytes steps last → Steps bytes (steps ++ of_run last.held)
 whole_reads bytes steps last h = whole_goes last.mode last.titled bytes last.bytes last.held steps (h.goes [] [] (read_none [])) h.unsure

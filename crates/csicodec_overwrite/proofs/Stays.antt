@@ -202,14 +202,10 @@ of_singles (b ∷ bs) run = ([], run ++ b ∷ [], [], (refl, refl), refl, subst 
 plain_steps : (text : List ℕ) → IsPlain text → Steps text (of_run text)
 plain_steps text p = record {
   parts = singles kind.Text text;
-  whole = record {
-    sure = singles kind.Text text;
-    rest = [];
-    after = mode.Text;
-    first = all_text longest text (plain_bytes text p);
-    unsure = none_unsure longest mode.Text;
-    whole = sym (append-nil (singles kind.Text text));
-  };
+  rest = [];
+  after = mode.Text;
+  first = all_text longest text (plain_bytes text p);
+  unsure = none_unsure longest mode.Text;
   before = [];
   run = text;
   read = subst (λ (ps : List Part). AreOfParts [] ps [] text) (sym (single_texts text)) (of_singles text []);

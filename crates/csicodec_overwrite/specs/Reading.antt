@@ -1,11 +1,12 @@
--- The steps of a stream: those of the characters of its runs of text, each read by itself, and of its control sequences. Escape
--- sequences, control strings, titles and what went wrong end a run, and do nothing.
+-- The steps of a stream: those of the characters of its runs of text, each read by itself, of its escape sequences and its control
+-- sequences, and of what went wrong. Control strings and titles end a run, and do nothing.
 use Rattle.std.specs.Prelude.{ℕ, ◌≡◌, Bool, false, true, List, [], ◌∷◌, ◌++◌}
 use Rattle.csicodec_actions.specs.Actions.{Action}
 use Rattle.csicodec_spans.specs.declared.table.Kind.{Kind}
 use Rattle.csicodec_spans.specs.declared.table.Kind.TheVariants as kind
+use Rattle.csicodec_spans.specs.declared.table.Mode.{Mode}
 use Rattle.csicodec_spans.specs.declared.table.Mode.TheVariants as mode
-use Rattle.csicodec_spans.specs.Parts.{Part, IsWhole}
+use Rattle.csicodec_spans.specs.Parts.{Part, AreFirstParts, IsUnsure}
 use Rattle.csicodec_clean.specs.Cleaned.{longest}
 use Rattle.csicodec_clean.specs.Styled.{IsOf}
 use Rattle.csicodec_clean.specs.Titles.{with_titles}
@@ -13,16 +14,16 @@ use Rattle.csicodec_overwrite.specs.declared.step.Step.{Step}
 use Rattle.csicodec_html.specs.Look.{plain}
 use Rattle.csicodec_overwrite.specs.Line.{Done, blank, cells_of, do_all}
 use Rattle.csicodec_overwrite.specs.Paint.{text_of, texts_of}
-use Rattle.csicodec_overwrite.specs.Steps.{of_actions, of_run}
+use Rattle.csicodec_overwrite.specs.Steps.{of_actions, of_escape, of_run, of_wrong}
 
 -- one part behind a run of text: text goes on with the run, and any other part ends it
 abbrev pub IsOfPart : Kind → List ℕ → List ℕ → List Step → List ℕ → Type 0
 IsOfPart kind.Text run bytes steps left = (steps ≡ []) × (left ≡ run ++ bytes)
 IsOfPart kind.Csi run bytes steps left = (actions : List Action) × IsOf bytes actions
     × (steps ≡ of_run run ++ of_actions actions) × (left ≡ [])
-IsOfPart kind.Esc run bytes steps left = (steps ≡ of_run run) × (left ≡ [])
+IsOfPart kind.Esc run bytes steps left = (steps ≡ of_run run ++ of_escape bytes) × (left ≡ [])
 IsOfPart kind.Str run bytes steps left = (steps ≡ of_run run) × (left ≡ [])
-IsOfPart kind.Other run bytes steps left = (steps ≡ of_run run) × (left ≡ [])
+IsOfPart kind.Other run bytes steps left = (steps ≡ of_run run ++ of_wrong bytes) × (left ≡ [])
 
 -- the parts in turn, behind a run of text: their steps, and the run that they end in
 abbrev pub AreOfParts : List ℕ → List Part → List Step → List ℕ → Type 0
@@ -32,10 +33,13 @@ AreOfParts run (p ∷ parts) steps left =
     × IsOfPart p.kind run p.bytes first next × (steps ≡ first ++ others)
     × AreOfParts next parts others left
 
--- the steps of a whole stream
+-- the steps of a whole stream: a sequence that isn't over at its end does nothing
 pub record Steps (bytes : List ℕ) (steps : List Step) : Type 0 where
   pub parts : List Part
-  pub whole : IsWhole longest mode.Text bytes parts
+  pub rest : List ℕ
+  pub after : Mode
+  pub first : AreFirstParts longest mode.Text bytes parts rest after
+  pub unsure : IsUnsure longest after rest
   pub before : List Step
   pub run : List ℕ
   pub read : AreOfParts [] (with_titles false parts) before run

@@ -1,5 +1,5 @@
--- What each character and each action does in a line. All others do nothing there.
-use Rattle.std.specs.Prelude.{ℕ, ◌==◌, ◌||◌, min, List, [], ◌∷◌, Option, Some, None, if◌then◌else◌}
+-- What each character, escape sequence and action does in a line. All others do nothing there.
+use Rattle.std.specs.Prelude.{ℕ, ◌==◌, ◌&&◌, ◌||◌, min, List, [], ◌∷◌, length, slice_index, Option, Some, None, if◌then◌else◌}
 use Rattle.std.specs.List.{flat_map}
 use Rattle.bstr.specs.Utf8.{lossy_chars}
 use Rattle.csicodec_names.specs.declared.enums.EraseInDisplay.{EraseInDisplay}
@@ -8,6 +8,7 @@ use Rattle.csicodec_names.specs.declared.enums.EraseInLine.{EraseInLine}
 use Rattle.csicodec_names.specs.declared.enums.EraseInLine.TheVariants as part
 use Rattle.csicodec_names.specs.declared.modes.DecPrivateModeCode.{DecPrivateModeCode}
 use Rattle.csicodec_names.specs.declared.modes.DecPrivateModeCode.TheVariants as code
+use Rattle.csicodec_base.specs.declared.sgr.Sgr.TheVariants as sgr
 use Rattle.csicodec_actions.specs.declared.cursor.Cursor.{Cursor}
 use Rattle.csicodec_actions.specs.declared.cursor.Cursor.TheVariants as cursor
 use Rattle.csicodec_actions.specs.declared.edit.Edit.{Edit}
@@ -34,6 +35,26 @@ abbrev pub of_char : ℕ → List Step
 of_char c = if c == 10 then step.NewLine ∷ [] else if c == 13 then step.Column 1 ∷ []
     else if c == 8 then step.Left 1 ∷ [] else if c == 9 then step.Tab ∷ []
     else if shown c then step.Put c ∷ [] else of_control c
+
+-- IND (ECMA-48:1986) and RI (8.3.104) go to another row, in the same column; DECRC (8), whose column isn't kept, NEL (8.3.86) and
+-- RIS (8.3.105) to the first, and behind RIS nothing is set
+abbrev pub of_final : ℕ → List Step
+of_final c = if c == 68 || c == 77 then step.Leave None ∷ []
+    else if c == 56 || c == 69 then step.Leave (Some 1) ∷ []
+    else if c == 99 then step.Leave (Some 1) ∷ (step.Attribute sgr.Reset ∷ []) else []
+
+-- an escape sequence without an intermediate byte, or DECALN (`ESC # 8`)
+abbrev pub of_escape : List ℕ → List Step
+of_escape bytes = if length bytes == 2 then of_final (slice_index bytes 1)
+    else if length bytes == 3 && (slice_index bytes 1 == 35 && slice_index bytes 2 == 56)
+    then step.Leave (Some 1) ∷ [] else []
+
+-- a sequence that went wrong may go to another row, as terminals carry some out; one ESC introduces each
+abbrev pub of_wrong_byte : ℕ → List Step
+of_wrong_byte b = if b == 27 then step.Leave None ∷ [] else []
+
+abbrev pub of_wrong : List ℕ → List Step
+of_wrong bytes = flat_map of_wrong_byte bytes
 
 -- a count or a column goes no further than the widest terminal: so a few bytes make no long line
 abbrev pub as_far : ℕ → ℕ

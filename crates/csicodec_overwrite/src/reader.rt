@@ -12,7 +12,7 @@ ghost use Rattle.csicodec_overwrite.specs.Steps.{of_actions, of_run};
 ghost use Rattle.csicodec_overwrite.specs.Stream.{Reads, none_held};
 
 use crate::step::Step;
-use crate::text::{append_actions, append_run, append_text};
+use crate::text::{append_actions, append_escape, append_run, append_text, append_wrong};
 use csicodec::CSI;
 use csicodec_base::CsiParam;
 use csicodec_clean::{read_as, title_behind};
@@ -60,9 +60,13 @@ fn append_span(
     }
     append_run(held, steps)?;
     held.clear();
-    match control {
-        Some(control) => append_sequence(alloc, actions, params, control, steps),
-        None => Ok(()),
+    if let Some(control) = control {
+        return append_sequence(alloc, actions, params, control, steps);
+    }
+    match kind {
+        Kind::Esc => append_escape(bytes, steps),
+        Kind::Other => append_wrong(bytes, steps),
+        Kind::Text | Kind::Csi | Kind::Str => Ok(()),
     }
 }
 

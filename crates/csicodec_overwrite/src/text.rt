@@ -1,13 +1,14 @@
-//! The steps of text, and of actions.
+//! The steps of text, of escape sequences and of actions.
 ghost use Rattle.std.specs.Prelude.{◌≡◌, ◌≤◌, ◌++◌, ℕ, List, length, map, OnOk, IfOk};
 ghost use Rattle.csicodec_parser.specs.ActionOf.{action_of};
 ghost use Rattle.csicodec_clean.specs.Shown.{IsCut, IsRead};
-ghost use Rattle.csicodec_overwrite.specs.Steps.{as_far, of_action, of_actions, of_char, of_chars, of_control, of_cursor, of_edit, of_mode, of_private_mode, of_run, of_unread};
+ghost use Rattle.csicodec_overwrite.specs.Steps.{as_far, of_action, of_actions, of_char, of_chars, of_control, of_cursor, of_edit, of_escape, of_final, of_mode, of_private_mode, of_run, of_unread, of_wrong, of_wrong_byte};
 
 use crate::step::Step;
 use csicodec::{
     CSI, Cursor, DecPrivateMode, DecPrivateModeCode, Edit, EraseInDisplay, EraseInLine, Mode,
 };
+use csicodec_base::Sgr;
 use csicodec_clean::first_sure;
 use csicodec_streams::keep_from;
 use std::alloc::AllocError;
@@ -45,6 +46,55 @@ fn append_char(char: char, steps: &mut Vec<Step>) -> Result<(), AllocError>
         '\t' => steps.push(Step::Tab)?,
         '\0'..='\u{1f}' | '\u{7f}'..='\u{9f}' => append_control(char, steps)?,
         _ => steps.push(Step::Put(char))?,
+    }
+    Ok(())
+}
+
+/// Appends what an escape sequence without an intermediate byte does.
+fn append_final(byte: u8, steps: &mut Vec<Step>) -> Result<(), AllocError>
+    ensures { OnOk result (steps.new.items ≡ steps.old.items ++ of_final byte) }
+{
+    match byte {
+        b'D' | b'M' => steps.push(Step::Leave(None))?,
+        b'8' | b'E' => steps.push(Step::Leave(Some(1)))?,
+        b'c' => {
+            steps.push(Step::Leave(Some(1)))?;
+            steps.push(Step::Attribute(Sgr::Reset))?;
+        }
+        _ => {}
+    }
+    Ok(())
+}
+
+/// Appends what an escape sequence does.
+pub(crate) fn append_escape(bytes: &[u8], steps: &mut Vec<Step>) -> Result<(), AllocError>
+    ensures { OnOk result (steps.new.items ≡ steps.old.items ++ of_escape bytes.now) }
+{
+    if bytes.len() == 2 {
+        return append_final(bytes[1], steps);
+    }
+    if bytes.len() == 3 && bytes[1] == b'#' && bytes[2] == b'8' {
+        steps.push(Step::Leave(Some(1)))?;
+    }
+    Ok(())
+}
+
+/// Appends what a byte does of a sequence that went wrong.
+fn append_wrong_byte(byte: u8, steps: &mut Vec<Step>) -> Result<(), AllocError>
+    ensures { OnOk result (steps.new.items ≡ steps.old.items ++ of_wrong_byte byte) }
+{
+    if byte == 0x1b {
+        steps.push(Step::Leave(None))?;
+    }
+    Ok(())
+}
+
+/// Appends what sequences do that went wrong.
+pub(crate) fn append_wrong(bytes: &[u8], steps: &mut Vec<Step>) -> Result<(), AllocError>
+    ensures { OnOk result (steps.new.items ≡ steps.old.items ++ of_wrong bytes.now) }
+{
+    for byte in bytes {
+        append_wrong_byte(*byte, steps)?;
     }
     Ok(())
 }

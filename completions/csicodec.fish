@@ -32,7 +32,7 @@ complete -c csicodec -n '__fish_seen_subcommand_from html' -l fragment -d 'Write
 complete -c csicodec -n '__fish_seen_subcommand_from html' -l links -d 'Keep links (OSC 8) whose address is of http or https, and visible ASCII of at most 2,083 bytes. Text is kept as with --no-overwrite'
 complete -c csicodec -n '__fish_seen_subcommand_from html' -l no-overwrite -d 'Keep text that a carriage return or an erase would hide. It is for what a full-screen program wrote'
 complete -c csicodec -n '__fish_seen_subcommand_from html' -l overwrite -d 'Write each line as it stands when it ends, as is the default. It doesn'\''t go with --links'
-complete -c csicodec -n '__fish_seen_subcommand_from html' -l palette -x -d 'Use these 16 colours, as #rrggbb with commas between, in place of xterm'\''s. Two more are the page'\''s text and background'
+complete -c csicodec -n '__fish_seen_subcommand_from html' -l palette -x -d 'Use exactly these 16 colours, as #rrggbb with commas between. Two more are the page'\''s text and background. The word xterm stands for the 16 of xterm'
 complete -c csicodec -n '__fish_seen_subcommand_from html' -l help -d 'Show this text'
 complete -c csicodec -n '__fish_seen_subcommand_from explain' -l at -x -d 'Show only what has a byte at these offsets: 120, 120-180 or 120-'
 complete -c csicodec -n '__fish_seen_subcommand_from explain' -l color -x -a 'always never auto' -d 'Use colours always, never or auto, which is the default: in a terminal, unless NO_COLOR is set'

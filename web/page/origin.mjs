@@ -14,8 +14,8 @@ const FURTHEST = 6400;
  * @type {[RegExp, RegExp][]}
  */
 const LOOKS = [
-    [/\bfg-(?!background)|(?<!background-)(?<!decoration-)color:/, /^Sgr::Foreground/],
-    [/\bbg-(?!foreground)|background-color:/, /^Sgr::Background/],
+    [/\bfg-(?!background)|\bbg-foreground-|(?<!background-)(?<!decoration-)color:/, /^Sgr::Foreground/],
+    [/\bbg-(?!foreground)|\bfg-background-|background-color:/, /^Sgr::Background/],
     [/fg-background|bg-foreground/, /^Sgr::Inverse/],
     [/\bbold\b|\bfaint\b/, /^Sgr::Intensity/],
     [/\bitalic\b/, /^Sgr::Italic/],

@@ -163,7 +163,8 @@ usage: csicodec html [OPTION ..] [FILE ..]
 
 Write each FILE as a page of HTML. It shows each line as it stands when it ends,
 with its colours and styles. Nothing of the input gets into a tag, except
-addresses with --links.
+addresses with --links. The first 16 colours are such as can be read on a light
+and on a dark page. The title is the name of the first FILE.
 
 If there is no FILE, or if it is -, standard input is read. Of a recording of
 asciinema the page shows what the programs wrote. It is a FILE whose name ends
@@ -179,9 +180,9 @@ in .cast, or standard input that begins as one.
                      is for what a full-screen program wrote.
   --overwrite        Write each line as it stands when it ends, as is the
                      default. It doesn't go with --links.
-  --palette COLOURS  Use these 16 colours, as #rrggbb with commas between, in
-                     place of xterm's. Two more are the page's text and
-                     background.
+  --palette COLOURS  Use exactly these 16 colours, as #rrggbb with commas
+                     between. Two more are the page's text and background. The
+                     word xterm stands for the 16 of xterm.
   -h, --help         Show this text.";
 
 /// How `explain` is used.

@@ -1,5 +1,5 @@
 -- Each class has a name of its own: the class is known by it.
-use Rattle.std.proofs.Common.{◌≡◌, ◌<◌, ◌≤◌, ℕ, false, List, [], ◌∷◌, length, get_or, cond, ◌==◌, refl, sym, ap, ◌∙◌, arith}
+use Rattle.std.proofs.Common.{◌≡◌, ◌<◌, ◌≤◌, ℕ, zero, suc, List, [], ◌∷◌, length, drop, get_or, cond, ◌==◌, refl, sym, ap, ◌∙◌, arith}
 use Rattle.std.specs.Fmt.{decimal}
 use Rattle.std.specs.Str.Parse.{digits_value}
 use Rattle.std.proofs.lemmas.Fmt.{decimal_is_IsNumeral, length-decimal-le}
@@ -8,15 +8,19 @@ use Rattle.csicodec_html.specs.declared.classes.Class.TheVariants as kind
 use Rattle.csicodec_html.specs.declared.classes.Part.{Part}
 use Rattle.csicodec_html.specs.declared.classes.Part.TheVariants as part
 use Rattle.csicodec_html.specs.Classes.{IsClass, class_name}
-use Rattle.csicodec_html.proofs.Declarations.{apart}
 
 -- lines below by a letter of their kind, what is behind `fg-` or `bg-`, and any other name by its first letter
 abbrev below : ℕ → Class
 below letter =
     cond (letter == 117) kind.Double (cond (letter == 114) kind.Curly (cond (letter == 116) kind.Dotted (cond (letter == 115) kind.Dashed kind.Underline)))
 
+abbrev swapped : ℕ → List ℕ → Class
+swapped first rest =
+    cond (get_or rest 10 0 == 0) (cond (first == 102) kind.TextAsGround kind.GroundAsText) (kind.Color (cond (first == 102) part.TextAsGround part.GroundAsText) (digits_value 10 (drop 11 rest)))
+
+-- a number has three digits at most
 abbrev dashed : ℕ → List ℕ → Class
-dashed first rest = cond (length rest == 10) (cond (first == 102) kind.TextAsGround kind.GroundAsText) (kind.Color (cond (first == 102) part.Text part.Ground) (digits_value 10 rest))
+dashed first rest = cond (get_or rest 3 0 == 0) (kind.Color (cond (first == 102) part.Text part.Ground) (digits_value 10 rest)) (swapped first rest)
 
 abbrev behind_dash : List ℕ → List ℕ
 behind_dash (a ∷ b ∷ rest) = rest
@@ -34,15 +38,20 @@ known name = kind.Bold
 value : (i : ℕ) → i < 256 → digits_value 10 (decimal i) ≡ i
 value i h = (decimal_is_IsNumeral i (omega (arith, h))).1
 
-short : (i : ℕ) → i < 256 → (length (decimal i) == 10) ≡ false
-short i h =
-    let le : length (decimal i) ≤ 3 = length-decimal-le 3 i (omega arith) (omega (arith, h)) (omega (arith, h)) in
-    apart (length (decimal i)) 10 (λ e. absurd (omega (arith, le, e)))
+past : (xs : List ℕ) (n : ℕ) → length xs ≤ n → get_or xs n 0 ≡ 0
+past [] n h = refl
+past (x ∷ xs) zero h = absurd (omega (arith, h))
+past (x ∷ xs) (suc n) h = past xs n (omega (arith, h))
+
+short : (i : ℕ) → i < 256 → get_or (decimal i) 3 0 ≡ 0
+short i h = past (decimal i) 3 (length-decimal-le 3 i (omega arith) (omega (arith, h)) (omega (arith, h)))
 
 of_place : (p : Part) (i : ℕ) → i < 256 → known (class_name (kind.Color p i)) ≡ kind.Color p i
 of_place part.Text i h = rw (short i h, value i h) refl
 of_place part.Ground i h = rw (short i h, value i h) refl
 of_place part.Line i h = rw (value i h) refl
+of_place part.TextAsGround i h = rw (value i h) refl
+of_place part.GroundAsText i h = rw (value i h) refl
 
 by_name : (c : Class) → IsClass c → known (class_name c) ≡ c
 by_name kind.Bold h = refl

@@ -1,4 +1,4 @@
--- A colour that is written is read back, and the palette that nobody chose is xterm's.
+-- A colour that is written is read back, and the palette of xterm has its colours.
 use Rattle.std.proofs.Common.{◌≡◌, ◌<◌, ◌≤◌, ◌+◌, ◌-◌, ◌*◌, ◌/◌, ◌%◌, ℕ, Bool, true, false, Some, cond, get_or, refl, ap, ⊎_elim, arith, lt-ltb, le-ltb}
 use Rattle.std.specs.Prelude.{nat_lt, if◌then◌else◌}
 use Rattle.std.proofs.lemmas.Bool.{cases_lt}
@@ -34,10 +34,10 @@ two n h =
 pub color_back : (red green blue : ℕ) → red < 256 → green < 256 → blue < 256 → given_color (hex_color (rgb red green blue)) ≡ Some (rgb red green blue)
 color_back red green blue r g b = rw (two red r, two green g, two blue b) refl
 
-again : (b : Bool) (x y : SrgbaTuple) → cond b x (cond b x y) ≡ cond b x y
+again : (b : Bool) (x y : SrgbaTuple) → cond b (Some x) (Some (cond b x y)) ≡ Some (cond b x y)
 again true x y = refl
 again false x y = refl
 
-pub xterm_colors : (place : ℕ) → color_at xterm place ≡ palette place
+pub xterm_colors : (place : ℕ) → color_at xterm place ≡ Some (palette place)
 unfolding palette
 xterm_colors place = again (nat_lt place 16) (get_or first_places place (rgb 0 0 0)) (if nat_lt place 232 then cube (place - 16) else grey (place - 232))

@@ -1,6 +1,6 @@
 -- No byte of a declaration ends the attribute that it stands in.
-use Rattle.std.proofs.Common.{◌≡◌, ◌≢◌, ◌≤◌, ◌<◌, ◌+◌, ◌/◌, ◌%◌, ℕ, Bool, true, false, List, [], ◌∷◌, ◌++◌, refl, ⊎_elim, arith, lt-ltb, le-ltb}
-use Rattle.std.specs.Prelude.{codes, not, ◌&&◌, ◌==◌, if◌then◌else◌}
+use Rattle.std.proofs.Common.{◌≡◌, ◌≢◌, ◌≤◌, ◌<◌, ◌+◌, ◌/◌, ◌%◌, ℕ, Bool, true, false, zero, suc, Some, None, get_or, List, [], ◌∷◌, ◌++◌, refl, ⊎_elim, arith, lt-ltb, le-ltb}
+use Rattle.std.specs.Prelude.{Option, codes, not, ◌&&◌, ◌==◌, if◌then◌else◌}
 use Rattle.std.specs.List.{AllByRecursion}
 use Rattle.std.proofs.lemmas.Bool.{and_parts, cases_lt}
 use Rattle.std.proofs.lemmas.Bool.Decides.{eqb_tells}
@@ -11,10 +11,12 @@ use Rattle.csicodec_names.specs.declared.color.Intensity.TheVariants as intensit
 use Rattle.csicodec_names.specs.declared.color.SrgbaTuple.{SrgbaTuple}
 use Rattle.csicodec_names.specs.declared.color.Underline.{Underline}
 use Rattle.csicodec_names.specs.declared.color.Underline.TheVariants as underline
+use Rattle.csicodec_html.specs.declared.classes.Part.{Part}
+use Rattle.csicodec_html.specs.declared.classes.Part.TheVariants as part
 use Rattle.csicodec_html.specs.declared.look.Look.{Look}
 use Rattle.csicodec_html.specs.declared.palette.Palette.{Palette}
-use Rattle.csicodec_html.specs.Look.{color_text, colored, colors, css, has_line, hex_color, hex_digit, inverse_colors, is_none, line_color, line_kind, line_places, line_style, lines, property, slant, some_lines, straight_colors, weight}
-use Rattle.csicodec_html.specs.Palette.{color_at, or_own}
+use Rattle.csicodec_html.specs.Look.{color_text, colored, colors, css, has_line, hex_color, hex_digit, inverse_colors, is_none, line_color, line_kind, line_places, line_style, lines, own_name, place_text, property, property_of, slant, some_lines, straight_colors, weight}
+use Rattle.csicodec_html.specs.Palette.{color_at, ground_pairs, or_own, pair_of, text_pairs}
 use Rattle.csicodec_html.specs.Page.{IsHarmless, is_harmless}
 
 pub apart : (b k : ℕ) → b ≢ k → (b == k) ≡ false
@@ -53,10 +55,46 @@ digit n = ⊎_elim
 pub hex : (c : SrgbaTuple) → Fine (hex_color c)
 hex c = (refl, (digit (c.0 / 16), (digit (c.0 % 16), (digit (c.1 / 16), (digit (c.1 % 16), (digit (c.2 / 16), (digit (c.2 % 16), tt)))))))
 
-colour : (p : Palette) (own : List ℕ) (c : ColorSpec) → Fine own → Fine (color_text p own c)
-colour p own color.Default h = h
-colour p own (color.PaletteIndex i) h = hex (color_at p i)
-colour p own (color.TrueColor c) h = hex c
+-- what a colour is of, the page's own, and pairs
+
+pub of_property : (of : Part) → Fine (property_of of)
+of_property part.Text = checked (codes "color:") refl
+of_property part.Ground = checked (codes "background-color:") refl
+of_property part.Line = checked (codes "text-decoration-color:") refl
+of_property part.TextAsGround = checked (codes "color:") refl
+of_property part.GroundAsText = checked (codes "background-color:") refl
+
+of_own : (of : Part) → Fine (own_name of)
+of_own part.Text = tt
+of_own part.Ground = tt
+of_own part.Line = tt
+of_own part.TextAsGround = checked (codes "Canvas") refl
+of_own part.GroundAsText = checked (codes "CanvasText") refl
+
+abbrev lists_harmless : List (List ℕ) → Bool
+lists_harmless [] = true
+lists_harmless (bytes ∷ lists) = all_harmless bytes && lists_harmless lists
+
+one_checked : (lists : List (List ℕ)) → lists_harmless lists ≡ true → (i : ℕ) → Fine (get_or lists i [])
+one_checked [] h i = tt
+one_checked (bytes ∷ lists) h zero = checked bytes (and_parts (all_harmless bytes) (lists_harmless lists) h).0
+one_checked (bytes ∷ lists) h (suc i) = one_checked lists (and_parts (all_harmless bytes) (lists_harmless lists) h).1 i
+
+pair : (of : Part) (i : ℕ) → Fine (pair_of of i)
+pair part.Text i = one_checked text_pairs refl i
+pair part.Ground i = one_checked ground_pairs refl i
+pair part.Line i = one_checked text_pairs refl i
+pair part.TextAsGround i = one_checked ground_pairs refl i
+pair part.GroundAsText i = one_checked text_pairs refl i
+
+at_place : (of : Part) (i : ℕ) (c : Option SrgbaTuple) → Fine (place_text of i c)
+at_place of i None = pair of i
+at_place of i (Some c) = hex c
+
+colour : (p : Palette) (of : Part) (c : ColorSpec) → Fine (color_text p of c)
+colour p of color.Default = of_own of
+colour p of (color.PaletteIndex i) = at_place of i (color_at p i)
+colour p of (color.TrueColor c) = hex c
 
 strokes : (i : Intensity) → Fine (weight i)
 unfolding weight
@@ -84,7 +122,7 @@ places l =
 line : (p : Palette) (c : ColorSpec) → Fine (line_color p c)
 unfolding line_color
 line p color.Default = tt
-line p (color.PaletteIndex i) = (refl, hex (color_at p i))
+line p (color.PaletteIndex i) = (refl, at_place part.Line i (color_at p i))
 line p (color.TrueColor c) = (refl, hex c)
 
 style : (p : Palette) (l : Look) → Fine (line_style p l)
@@ -100,26 +138,24 @@ all_lines p l = by (has_line l)
     by true = both (codes "text-decoration:") (line_places l ++ (line_style p l ++ 59 ∷ [])) (checked (codes "text-decoration:") refl)
         (both (line_places l) (line_style p l ++ 59 ∷ []) (places l) (both (line_style p l) (59 ∷ []) (style p l) (refl, tt)))
 
-of_one : (p : Palette) (what own : List ℕ) (c : ColorSpec) → Fine what → Fine own → Fine (property p what own c)
+of_one : (p : Palette) (of : Part) (c : ColorSpec) → Fine (property p of c)
 unfolding property
-of_one p what own c h k = both what (color_text p own c ++ 59 ∷ []) h (both (color_text p own c) (59 ∷ []) (colour p own c k) (refl, tt))
+of_one p of c = both (property_of of) (color_text p of c ++ 59 ∷ []) (of_property of) (both (color_text p of c) (59 ∷ []) (colour p of c) (refl, tt))
 
-one : (p : Palette) (what : List ℕ) (c : ColorSpec) → Fine what → Fine (colored p what c)
+one : (p : Palette) (of : Part) (c : ColorSpec) → Fine (colored p of c)
 unfolding colored
-one p what color.Default h = tt
-one p what (color.PaletteIndex i) h = of_one p what [] (color.PaletteIndex i) h tt
-one p what (color.TrueColor c) h = of_one p what [] (color.TrueColor c) h tt
+one p of color.Default = tt
+one p of (color.PaletteIndex i) = of_one p of (color.PaletteIndex i)
+one p of (color.TrueColor c) = of_one p of (color.TrueColor c)
 
 all_colors : (p : Palette) (l : Look) → Fine (colors p l)
 unfolding colors inverse_colors straight_colors
 all_colors p l = by l.inverse
   where
     by : (b : Bool) → Fine (if b then inverse_colors p l else straight_colors p l)
-    by true = both (property p (codes "color:") (codes "Canvas") (or_own p.background l.background)) (property p (codes "background-color:") (codes "CanvasText") (or_own p.foreground l.foreground))
-        (of_one p (codes "color:") (codes "Canvas") (or_own p.background l.background) (checked (codes "color:") refl) (checked (codes "Canvas") refl))
-        (of_one p (codes "background-color:") (codes "CanvasText") (or_own p.foreground l.foreground) (checked (codes "background-color:") refl) (checked (codes "CanvasText") refl))
-    by false = both (colored p (codes "color:") l.foreground) (colored p (codes "background-color:") l.background)
-        (one p (codes "color:") l.foreground (checked (codes "color:") refl)) (one p (codes "background-color:") l.background (checked (codes "background-color:") refl))
+    by true = both (property p part.TextAsGround (or_own p.background l.background)) (property p part.GroundAsText (or_own p.foreground l.foreground))
+        (of_one p part.TextAsGround (or_own p.background l.background)) (of_one p part.GroundAsText (or_own p.foreground l.foreground))
+    by false = both (colored p part.Text l.foreground) (colored p part.Ground l.background) (one p part.Text l.foreground) (one p part.Ground l.background)
 
 pub css_fine : (p : Palette) (l : Look) → Fine (css p l)
 css_fine p l =

@@ -18,9 +18,13 @@ three old one mid new a b c h k l = two old one new a (b ++ c) h (two one mid ne
 pub four : (old first second third new a b c d : List ℕ) → first ≡ old ++ a → second ≡ first ++ b → third ≡ second ++ c → new ≡ third ++ d → new ≡ old ++ (a ++ (b ++ (c ++ d)))
 four old first second third new a b c d h k l m = two old first new a (b ++ (c ++ d)) h (three first second third new b c d k l m)
 
-pub six : (old one two' three' four' five' new a b c d e f : List ℕ) → one ≡ old ++ a → two' ≡ one ++ b → three' ≡ two' ++ c → four' ≡ three' ++ d → five' ≡ four' ++ e → new ≡ five' ++ f
-    → new ≡ old ++ (a ++ (b ++ (c ++ (d ++ (e ++ f)))))
-six old one two' three' four' five' new a b c d e f h i j k l m = three old one two' new a b (c ++ (d ++ (e ++ f))) h i (four two' three' four' five' new c d e f j k l m)
+pub five : (old one two' three' four' new a b c d e : List ℕ) → one ≡ old ++ a → two' ≡ one ++ b → three' ≡ two' ++ c → four' ≡ three' ++ d → new ≡ four' ++ e → new ≡ old ++ (a ++ (b ++ (c ++ (d ++ e))))
+five old one two' three' four' new a b c d e h i j k l = two old one new a (b ++ (c ++ (d ++ e))) h (four one two' three' four' new b c d e i j k l)
+
+pub eight : (old one two' three' four' five' six' seven' new a b c d e f g h : List ℕ) → one ≡ old ++ a → two' ≡ one ++ b → three' ≡ two' ++ c → four' ≡ three' ++ d → five' ≡ four' ++ e → six' ≡ five' ++ f → seven' ≡ six' ++ g → new ≡ seven' ++ h
+    → new ≡ old ++ (a ++ (b ++ (c ++ (d ++ (e ++ (f ++ (g ++ h)))))))
+eight old one two' three' four' five' six' seven' new a b c d e f g h i j k l m n o p =
+    four old one two' three' new a b c (d ++ (e ++ (f ++ (g ++ h)))) i j k (five three' four' five' six' seven' new d e f g h l m n o p)
 
 -- the tag of a look that has one
 pub begun : (m : Markup) (l : Look) → is_plain l ≡ false → all_marked (begins m l) ≡ (1 ∷ codes "span") ++ (attributes 3 m l ++ 2 ∷ [])

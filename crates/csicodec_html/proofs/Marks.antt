@@ -1,6 +1,6 @@
 -- Pieces as the first step marks them are, byte by byte, what stands on the page.
 use Rattle.std.proofs.Common.{◌≡◌, ◌≤◌, ◌<◌, ◌+◌, ◌/◌, ℕ, Bool, true, false, List, [], ◌∷◌, ◌++◌, refl, sym, ap, ◌∙◌, ⊎_elim, append-nil, arith, lt-ltb, le-ltb}
-use Rattle.std.specs.Prelude.{codes, ◌==◌, if◌then◌else◌, Option, Some, None}
+use Rattle.std.specs.Prelude.{codes, encode_utf8_all, ◌==◌, if◌then◌else◌, Option, Some, None}
 use Rattle.std.specs.Char.{encode_utf8}
 use lib.Utf8.{next}
 use Rattle.std.specs.List.{AllByRecursion, flat_map}
@@ -11,8 +11,8 @@ use Rattle.csicodec_clean.specs.Shown.{IsShown, shown}
 use Rattle.csicodec_html.specs.declared.look.Look.{Look}
 use Rattle.csicodec_html.specs.declared.markup.Markup.{Markup}
 use Rattle.csicodec_html.specs.declared.classes.Class.{Class}
-use Rattle.csicodec_html.specs.Classes.{ahead, attributes, behind_slot, class_name, classes_of, has_true, names, rest_attribute, slot_text, style_attribute, true_colors}
-use Rattle.csicodec_html.specs.Look.{css}
+use Rattle.csicodec_html.specs.Classes.{ahead, attributes, attributes_of, behind_slot, class_name, classes_of, has_true, names, rest_attribute, slot_text, style_attribute, true_colors}
+use Rattle.csicodec_html.specs.Look.{css, settled}
 use Rattle.csicodec_html.specs.Page.{IsHarmless, is_harmless, IsSafe, Piece, Char, Begin, End, Open, Shut, escaped, piece_text, piece_texts}
 use Rattle.csicodec_html.specs.Private.Marked.{all_marked, marked, page_byte, page_bytes}
 use Rattle.csicodec_html.proofs.Declarations.{Fine, apart, css_fine, fine}
@@ -64,6 +64,10 @@ char c h = ⊎_elim
     far : 128 ≤ c → (k : ℕ) → k < 128 → (c == k) ≡ false
     far a k b = apart c k (λ e. absurd (omega (arith, a, b, e)))
 
+pub chars : (cs : List ℕ) → AllByRecursion IsShown cs → page_bytes (encode_utf8_all cs) ≡ flat_map escaped cs
+chars [] h = refl
+chars (c ∷ cs) h = flat_map-append page_byte (encode_utf8 c) (encode_utf8_all cs) ∙ ap (λ (t : List ℕ). t ++ page_bytes (encode_utf8_all cs)) (char c h.0) ∙ ap (λ (t : List ℕ). escaped c ++ t) (chars cs h.1)
+
 quoted : (style : List ℕ) → Fine style → page_bytes (style_attribute 3 style) ≡ style_attribute 34 style
 quoted style h = ap (λ (t : List ℕ). codes " style=" ++ (34 ∷ t)) (flat_map-append page_byte style (3 ∷ []) ∙ ap (λ (t : List ℕ). t ++ 34 ∷ []) (all_fine style h))
 
@@ -91,8 +95,8 @@ of_rest l = by (has_true l)
     by true = quoted (true_colors l) (true_fine l)
     by false = refl
 
-of_attributes : (m : Markup) (l : Look) → page_bytes (attributes 3 m l) ≡ attributes 34 m l
-of_attributes m l = by m.classes
+of_look : (m : Markup) (l : Look) → page_bytes (attributes_of 3 m l) ≡ attributes_of 34 m l
+of_look m l = by m.classes
   where
     slots : List (Option Class)
     slots = classes_of l
@@ -103,6 +107,9 @@ of_attributes m l = by m.classes
     by : (b : Bool) → page_bytes (if b then names 3 false slots ++ rest_attribute 3 l else style_attribute 3 style) ≡ (if b then names 34 false slots ++ rest_attribute 34 l else style_attribute 34 style)
     by true = flat_map-append page_byte (names 3 false slots) (rest_attribute 3 l) ∙ ap (λ (t : List ℕ). t ++ page_bytes (rest_attribute 3 l)) (of_names false slots) ∙ ap (λ (t : List ℕ). names 34 false slots ++ t) (of_rest l)
     by false = quoted style (css_fine m.palette l)
+
+of_attributes : (m : Markup) (l : Look) → page_bytes (attributes 3 m l) ≡ attributes 34 m l
+of_attributes m l = of_look m (settled m.palette l)
 
 begin : (m : Markup) (l : Look) → page_bytes (marked (Begin m l)) ≡ piece_text (Begin m l)
 begin m l =

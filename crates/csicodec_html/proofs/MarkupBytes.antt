@@ -9,8 +9,8 @@ use Rattle.csicodec_clean.proofs.Marked.{IsHigh, Spells, spells}
 use Rattle.csicodec_html.specs.declared.classes.Class.{Class}
 use Rattle.csicodec_html.specs.declared.look.Look.{Look}
 use Rattle.csicodec_html.specs.declared.markup.Markup.{Markup}
-use Rattle.csicodec_html.specs.Classes.{attributes, class_name, classes_of, has_true, names, rest_attribute, style_attribute, true_colors}
-use Rattle.csicodec_html.specs.Look.{css}
+use Rattle.csicodec_html.specs.Classes.{attributes, attributes_of, class_name, classes_of, has_true, names, rest_attribute, style_attribute, true_colors}
+use Rattle.csicodec_html.specs.Look.{css, settled}
 use Rattle.csicodec_html.specs.Page.{IsHarmless, IsQuoted, IsPageWith, IsSafe, PageWith, Piece, Char, Begin, End, Open, Shut, are_paired, escaped, piece_text, piece_texts}
 use Rattle.csicodec_html.specs.MarkupBytes.{Spot, Inside, Tag, is_text_byte, is_value_byte, is_markup, no_value, spot_behind, IsMarkup}
 use Rattle.csicodec_html.proofs.Addresses.{all_quoted}
@@ -149,7 +149,7 @@ pub record Begins (links linked spanned : Bool) (bytes more : List ℕ) : Type 0
   pub styles : Bool
   pub on : is_markup links (Tag false (codes "span")) linked spanned (bytes ++ more) ≡ is_markup links (Tag false (span_tag classes styles)) linked spanned more
 
-attributes_markup : (links linked spanned : Bool) (m : Markup) (l : Look) (more : List ℕ) → Begins links linked spanned (attributes 34 m l) more
+attributes_markup : (links linked spanned : Bool) (m : Markup) (l : Look) (more : List ℕ) → Begins links linked spanned (attributes_of 34 m l) more
 attributes_markup links linked spanned m l more = by m.classes
   where
     by : (t : Bool) → Begins links linked spanned (if t then names 34 false (classes_of l) ++ rest_attribute 34 l else style_attribute 34 (css m.palette l)) more
@@ -174,7 +174,7 @@ begun links linked true true more = refl
 begin_markup : (links linked : Bool) (m : Markup) (l : Look) (more : List ℕ) → is_markup links Inside linked false (piece_text (Begin m l) ++ more) ≡ is_markup links Inside linked true more
 begin_markup links linked m l more =
     let own = attributes 34 m l in
-    let r = attributes_markup links linked false m l (62 ∷ more) in
+    let r = attributes_markup links linked false m (settled m.palette l) (62 ∷ more) in
     ap (λ (t : List ℕ). is_markup links (Tag false (codes "span")) linked false t) (append_assoc own (62 ∷ []) more) ∙ r.on ∙ begun links linked r.classes r.styles more
 
 end_markup : (links linked : Bool) (more : List ℕ) → is_markup links Inside linked true (piece_text End ++ more) ≡ is_markup links Inside linked false more

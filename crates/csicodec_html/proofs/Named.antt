@@ -10,10 +10,10 @@ use Rattle.csicodec_html.specs.declared.classes.Class.TheVariants as kind
 use Rattle.csicodec_html.specs.declared.classes.Part.{Part}
 use Rattle.csicodec_html.specs.declared.classes.Part.TheVariants as part
 use Rattle.csicodec_html.specs.declared.look.Look.{Look}
-use Rattle.csicodec_html.specs.Classes.{class_name, ground_color, lines_color, part_name, property_of, text_color, true_color, true_colors}
-use Rattle.csicodec_html.specs.Look.{hex_color}
+use Rattle.csicodec_html.specs.Classes.{class_name, ground_color, lines_color, part_name, text_color, true_color, true_colors}
+use Rattle.csicodec_html.specs.Look.{hex_color, property_of}
 use Rattle.csicodec_html.specs.Page.{is_harmless}
-use Rattle.csicodec_html.proofs.Declarations.{Fine, both, checked, fine, hex}
+use Rattle.csicodec_html.proofs.Declarations.{Fine, both, checked, fine, hex, of_property}
 
 glyph : (d : ℕ) → is_harmless (digit_glyph false d) ≡ true
 glyph d = ⊎_elim
@@ -42,6 +42,8 @@ of_part : (p : Part) → Fine (part_name p)
 of_part part.Text = checked (codes "fg-") refl
 of_part part.Ground = checked (codes "bg-") refl
 of_part part.Line = checked (codes "line-") refl
+of_part part.TextAsGround = checked (codes "fg-background-") refl
+of_part part.GroundAsText = checked (codes "bg-foreground-") refl
 
 pub name_fine : (c : Class) → Fine (class_name c)
 name_fine kind.Bold = checked (codes "bold") refl
@@ -57,11 +59,6 @@ name_fine kind.Strike = checked (codes "strike") refl
 name_fine kind.TextAsGround = checked (codes "fg-background") refl
 name_fine kind.GroundAsText = checked (codes "bg-foreground") refl
 name_fine (kind.Color p i) = both (part_name p) (decimal i) (of_part p) (number i)
-
-of_property : (p : Part) → Fine (property_of p)
-of_property part.Text = checked (codes "color:") refl
-of_property part.Ground = checked (codes "background-color:") refl
-of_property part.Line = checked (codes "text-decoration-color:") refl
 
 one : (p : Part) (c : ColorSpec) → Fine (true_color p c)
 one p color.Default = tt

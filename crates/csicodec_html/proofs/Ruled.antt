@@ -63,10 +63,23 @@ of_last p i c e =
 
 -- ---- all
 
+-- the colours of each part, and of those behind it
+abbrev swapped : Palette → List ℕ
+swapped p = color_rules p part.TextAsGround 256 ++ color_rules p part.GroundAsText 256
+
+abbrev from_lines : Palette → List ℕ
+from_lines p = color_rules p part.Line 256 ++ swapped p
+
+abbrev from_grounds : Palette → List ℕ
+from_grounds p = color_rules p part.Ground 256 ++ from_lines p
+
+abbrev all_colors : Palette → List ℕ
+all_colors p = color_rules p part.Text 256 ++ from_grounds p
+
 -- behind them
 behind_fixed : Palette → List ℕ
 behind_fixed p =
-    class_rule p kind.TextAsGround ++ (class_rule p kind.GroundAsText ++ (color_rules p part.Text 256 ++ (color_rules p part.Ground 256 ++ color_rules p part.Line 256)))
+    class_rule p kind.TextAsGround ++ (class_rule p kind.GroundAsText ++ (all_colors p))
 
 of_fixed : (p : Palette) (x : List ℕ) → IsIn x (fixed_rules p) → IsIn x (class_rules p)
 unfolding class_rules behind_fixed
@@ -93,33 +106,46 @@ of_place p of i (suc n) h =
 as_text : (p : Palette) → IsIn (class_rule p kind.TextAsGround) (behind_fixed p)
 unfolding behind_fixed
 as_text p =
-    ahead (class_rule p kind.TextAsGround) (class_rule p kind.TextAsGround) (class_rule p kind.GroundAsText ++ (color_rules p part.Text 256 ++ (color_rules p part.Ground 256 ++ color_rules p part.Line 256)))
+    ahead (class_rule p kind.TextAsGround) (class_rule p kind.TextAsGround) (class_rule p kind.GroundAsText ++ (all_colors p))
     (own (class_rule p kind.TextAsGround))
 
-behind_text : (p : Palette) (x : List ℕ) → IsIn x (class_rule p kind.GroundAsText ++ (color_rules p part.Text 256 ++ (color_rules p part.Ground 256 ++ color_rules p part.Line 256))) → IsIn x (behind_fixed p)
+behind_text : (p : Palette) (x : List ℕ) → IsIn x (class_rule p kind.GroundAsText ++ (all_colors p)) → IsIn x (behind_fixed p)
 unfolding behind_fixed
-behind_text p x h = later x (class_rule p kind.TextAsGround) (class_rule p kind.GroundAsText ++ (color_rules p part.Text 256 ++ (color_rules p part.Ground 256 ++ color_rules p part.Line 256))) h
+behind_text p x h = later x (class_rule p kind.TextAsGround) (class_rule p kind.GroundAsText ++ (all_colors p)) h
 
 as_ground : (p : Palette) → IsIn (class_rule p kind.GroundAsText) (behind_fixed p)
 as_ground p =
     let x = class_rule p kind.GroundAsText in
-    behind_text p x (ahead x x (color_rules p part.Text 256 ++ (color_rules p part.Ground 256 ++ color_rules p part.Line 256)) (own x))
+    behind_text p x (ahead x x (all_colors p) (own x))
 
-behind_ground : (p : Palette) (x : List ℕ) → IsIn x (color_rules p part.Text 256 ++ (color_rules p part.Ground 256 ++ color_rules p part.Line 256)) → IsIn x (behind_fixed p)
-behind_ground p x h = behind_text p x (later x (class_rule p kind.GroundAsText) (color_rules p part.Text 256 ++ (color_rules p part.Ground 256 ++ color_rules p part.Line 256)) h)
+behind_ground : (p : Palette) (x : List ℕ) → IsIn x (all_colors p) → IsIn x (behind_fixed p)
+behind_ground p x h = behind_text p x (later x (class_rule p kind.GroundAsText) (all_colors p) h)
+
+behind_texts : (p : Palette) (x : List ℕ) → IsIn x (from_grounds p) → IsIn x (behind_fixed p)
+behind_texts p x h = behind_ground p x (later x (color_rules p part.Text 256) (from_grounds p) h)
+
+behind_grounds : (p : Palette) (x : List ℕ) → IsIn x (from_lines p) → IsIn x (behind_fixed p)
+behind_grounds p x h = behind_texts p x (later x (color_rules p part.Ground 256) (from_lines p) h)
+
+behind_lines : (p : Palette) (x : List ℕ) → IsIn x (swapped p) → IsIn x (behind_fixed p)
+behind_lines p x h = behind_grounds p x (later x (color_rules p part.Line 256) (swapped p) h)
 
 of_color : (p : Palette) (of : Part) (i : ℕ) → i < 256 → IsIn (class_rule p (kind.Color of i)) (behind_fixed p)
 of_color p part.Text i h =
     let x = class_rule p (kind.Color part.Text i) in
-    behind_ground p x (ahead x (color_rules p part.Text 256) (color_rules p part.Ground 256 ++ color_rules p part.Line 256) (of_place p part.Text i 256 h))
+    behind_ground p x (ahead x (color_rules p part.Text 256) (from_grounds p) (of_place p part.Text i 256 h))
 of_color p part.Ground i h =
     let x = class_rule p (kind.Color part.Ground i) in
-    behind_ground p x
-    (later x (color_rules p part.Text 256) (color_rules p part.Ground 256 ++ color_rules p part.Line 256) (ahead x (color_rules p part.Ground 256) (color_rules p part.Line 256) (of_place p part.Ground i 256 h)))
+    behind_texts p x (ahead x (color_rules p part.Ground 256) (from_lines p) (of_place p part.Ground i 256 h))
 of_color p part.Line i h =
     let x = class_rule p (kind.Color part.Line i) in
-    behind_ground p x
-    (later x (color_rules p part.Text 256) (color_rules p part.Ground 256 ++ color_rules p part.Line 256) (later x (color_rules p part.Ground 256) (color_rules p part.Line 256) (of_place p part.Line i 256 h)))
+    behind_grounds p x (ahead x (color_rules p part.Line 256) (swapped p) (of_place p part.Line i 256 h))
+of_color p part.TextAsGround i h =
+    let x = class_rule p (kind.Color part.TextAsGround i) in
+    behind_lines p x (ahead x (color_rules p part.TextAsGround 256) (color_rules p part.GroundAsText 256) (of_place p part.TextAsGround i 256 h))
+of_color p part.GroundAsText i h =
+    let x = class_rule p (kind.Color part.GroundAsText i) in
+    behind_lines p x (later x (color_rules p part.TextAsGround 256) (color_rules p part.GroundAsText 256) (of_place p part.GroundAsText i 256 h))
 
 pub ruled : (p : Palette) (c : Class) → IsClass c → IsIn (class_rule p c) (class_rules p)
 ruled p kind.Bold h = of_fixed p (class_rule p kind.Bold) (of_first p 0 kind.Bold refl)

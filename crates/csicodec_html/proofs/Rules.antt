@@ -6,9 +6,9 @@ use Rattle.csicodec_html.specs.declared.classes.Part.{Part}
 use Rattle.csicodec_html.specs.declared.classes.Part.TheVariants as part
 use Rattle.csicodec_html.specs.declared.palette.Palette.{Palette}
 use Rattle.csicodec_html.specs.declared.sheet.TheConstants.{RULES}
-use Rattle.csicodec_html.specs.Classes.{class_name, property_of}
-use Rattle.csicodec_html.specs.Look.{hex_color, line_kind, line_places, property, weight}
-use Rattle.csicodec_html.specs.Palette.{color_at, or_own}
+use Rattle.csicodec_html.specs.Classes.{class_name}
+use Rattle.csicodec_html.specs.Look.{line_kind, line_places, property, weight}
+use Rattle.csicodec_html.specs.Palette.{or_own}
 use Rattle.csicodec_html.specs.Sheet.{class_rule, color_rules, declaration, fixed_rules, kind_of_lines, line_rule, places}
 
 pub none : (p : Palette) (of : Part) → color_rules p of 0 ≡ []
@@ -23,16 +23,14 @@ pub fixed : (p : Palette) → RULES.now ≡ fixed_rules p
 unfolding fixed_rules class_rule line_rule declaration places kind_of_lines line_places line_kind weight
 fixed p = refl
 
-pub of_color : (p : Palette) (of : Part) (i : ℕ) → codes "." ++ (class_name (kind.Color of i) ++ (codes "{" ++ (property_of of ++ (hex_color (color_at p i) ++ codes ";}\n")))) ≡ class_rule p (kind.Color of i)
+pub of_color : (p : Palette) (of : Part) (i : ℕ) → codes "." ++ (class_name (kind.Color of i) ++ (codes "{" ++ (property p of (color.PaletteIndex i) ++ codes "}\n"))) ≡ class_rule p (kind.Color of i)
 unfolding class_rule declaration
-of_color p part.Text i = refl
-of_color p part.Ground i = refl
-of_color p part.Line i = refl
+of_color p of i = refl
 
-pub of_text : (p : Palette) → codes ".fg-background{" ++ (property p (codes "color:") (codes "Canvas") (or_own p.background color.Default) ++ codes "}\n") ≡ class_rule p kind.TextAsGround
+pub of_text : (p : Palette) → codes ".fg-background{" ++ (property p part.TextAsGround (or_own p.background color.Default) ++ codes "}\n") ≡ class_rule p kind.TextAsGround
 unfolding class_rule declaration
 of_text p = refl
 
-pub of_ground : (p : Palette) → codes ".bg-foreground{" ++ (property p (codes "background-color:") (codes "CanvasText") (or_own p.foreground color.Default) ++ codes "}\n") ≡ class_rule p kind.GroundAsText
+pub of_ground : (p : Palette) → codes ".bg-foreground{" ++ (property p part.GroundAsText (or_own p.foreground color.Default) ++ codes "}\n") ≡ class_rule p kind.GroundAsText
 unfolding class_rule declaration
 of_ground p = refl

@@ -13,7 +13,7 @@ use Rattle.csicodec_html.specs.declared.classes.Part.{Part}
 use Rattle.csicodec_html.specs.declared.classes.Part.TheVariants as part
 use Rattle.csicodec_html.specs.declared.look.Look.{Look}
 use Rattle.csicodec_html.specs.declared.markup.Markup.{Markup}
-use Rattle.csicodec_html.specs.Look.{css, has_line, hex_color, is_none}
+use Rattle.csicodec_html.specs.Look.{css, has_line, hex_color, is_none, property_of, settled}
 
 -- ---- the names
 
@@ -22,6 +22,8 @@ abbrev pub part_name : Part → List ℕ
 part_name part.Text = codes "fg-"
 part_name part.Ground = codes "bg-"
 part_name part.Line = codes "line-"
+part_name part.TextAsGround = codes "fg-background-"
+part_name part.GroundAsText = codes "bg-foreground-"
 
 -- the names of classes: there are no others
 abbrev pub class_name : Class → List ℕ
@@ -69,7 +71,14 @@ color_class p own color.Default = own
 color_class p own (color.PaletteIndex i) = Some (kind.Color p i)
 color_class p own (color.TrueColor c) = None
 
--- the colours that text and background have, which may have changed places, and that of lines, where there are any
+-- what the colours of text and background are of, which may have changed places
+abbrev pub text_part : Look → Part
+text_part l = if l.inverse then part.TextAsGround else part.Text
+
+abbrev pub ground_part : Look → Part
+ground_part l = if l.inverse then part.GroundAsText else part.Ground
+
+-- the colours that they have, and that of lines, where there are any
 abbrev pub text_color : Look → ColorSpec
 text_color l = if l.inverse then l.background else l.foreground
 
@@ -84,8 +93,8 @@ classes_of l =
     weight_class l.intensity ∷ class_if l.italic kind.Italic
     ∷ class_if (not (is_none l.underline)) kind.Underline ∷ lines_class l.underline
     ∷ class_if l.overline kind.Overline ∷ class_if l.strike kind.Strike
-    ∷ color_class part.Text (class_if l.inverse kind.TextAsGround) (text_color l)
-    ∷ color_class part.Ground (class_if l.inverse kind.GroundAsText) (ground_color l)
+    ∷ color_class (text_part l) (class_if l.inverse kind.TextAsGround) (text_color l)
+    ∷ color_class (ground_part l) (class_if l.inverse kind.GroundAsText) (ground_color l)
     ∷ color_class part.Line None (lines_color l) ∷ []
 
 -- ---- the attributes of a span, where `q` is the byte that stands for a quotation mark
@@ -112,11 +121,6 @@ is_true color.Default = false
 is_true (color.PaletteIndex i) = false
 is_true (color.TrueColor c) = true
 
-abbrev pub property_of : Part → List ℕ
-property_of part.Text = codes "color:"
-property_of part.Ground = codes "background-color:"
-property_of part.Line = codes "text-decoration-color:"
-
 -- a colour by its parts
 abbrev pub true_color : Part → ColorSpec → List ℕ
 true_color p color.Default = []
@@ -138,7 +142,11 @@ style_attribute q style = codes " style=" ++ (q ∷ (style ++ q ∷ []))
 abbrev pub rest_attribute : ℕ → Look → List ℕ
 rest_attribute q l = if has_true l then style_attribute q (true_colors l) else []
 
-abbrev pub attributes : ℕ → Markup → Look → List ℕ
-attributes q m l =
+abbrev pub attributes_of : ℕ → Markup → Look → List ℕ
+attributes_of q m l =
     if m.classes then names q false (classes_of l) ++ rest_attribute q l
     else style_attribute q (css m.palette l)
+
+-- of the look as it can be read
+abbrev pub attributes : ℕ → Markup → Look → List ℕ
+attributes q m l = attributes_of q m (settled m.palette l)

@@ -40,7 +40,7 @@ given_color (c ∷ digits) = if c == 35 then digits_color digits else None
 abbrev pub given_palette : List SrgbaTuple → Option Palette
 given_palette cs =
     if length cs == 16 || length cs == 18 then Some (record {
-      first = take 16 cs;
+      first = Some (take 16 cs);
       foreground = slice_get cs 16;
       background = slice_get cs 17;
     })

@@ -1,5 +1,5 @@
 -- How text looks by the attributes that are set, and the declarations of CSS that say it.
-use Rattle.std.specs.Prelude.{ℕ, ◌+◌, ◌/◌, ◌%◌, Bool, true, false, not, ◌&&◌, ◌||◌, nat_lt, List, [], ◌∷◌, ◌++◌, codes, if◌then◌else◌}
+use Rattle.std.specs.Prelude.{ℕ, ◌+◌, ◌/◌, ◌%◌, Bool, true, false, not, ◌&&◌, ◌||◌, nat_lt, List, [], ◌∷◌, ◌++◌, codes, if◌then◌else◌, Option, Some, None}
 use Rattle.csicodec_names.specs.declared.color.ColorSpec.{ColorSpec}
 use Rattle.csicodec_names.specs.declared.color.ColorSpec.TheVariants as color
 use Rattle.csicodec_names.specs.declared.color.Intensity.{Intensity}
@@ -11,9 +11,12 @@ use Rattle.csicodec_base.specs.declared.sgr.Sgr.{Sgr}
 use Rattle.csicodec_base.specs.declared.sgr.Sgr.TheVariants as sgr
 use Rattle.csicodec_actions.specs.Actions.{Action}
 use Rattle.csicodec_actions.specs.Actions as action
+use Rattle.csicodec_clean.specs.Palette.{palette}
+use Rattle.csicodec_html.specs.declared.classes.Part.{Part}
+use Rattle.csicodec_html.specs.declared.classes.Part.TheVariants as part
 use Rattle.csicodec_html.specs.declared.look.Look.{Look}
 use Rattle.csicodec_html.specs.declared.palette.Palette.{Palette}
-use Rattle.csicodec_html.specs.Palette.{color_at, or_own}
+use Rattle.csicodec_html.specs.Palette.{color_at, has_pairs, or_own, pair_of}
 
 -- where nothing is set
 abbrev pub plain : Look
@@ -86,6 +89,33 @@ is_plain l = is_normal l.intensity &&
     (not l.italic &&
     (not (has_line l) && (not l.inverse && (is_default l.foreground && is_default l.background))))
 
+-- ---- colours beside pairs
+
+-- one that is the same on a light and on a dark page
+abbrev pub is_exact : ColorSpec → Bool
+is_exact color.Default = false
+is_exact (color.PaletteIndex i) = nat_lt 15 i
+is_exact (color.TrueColor c) = true
+
+abbrev pub exact : ColorSpec → ColorSpec
+exact color.Default = color.Default
+exact (color.PaletteIndex i) =
+    if nat_lt i 16 then color.TrueColor (palette i) else color.PaletteIndex i
+exact (color.TrueColor c) = color.TrueColor c
+
+abbrev pub has_exact : Look → Bool
+has_exact l = is_exact l.foreground || is_exact l.background
+
+-- A pair can be read beside another one, and beside the page's own colour. Where text or background has another colour, both have
+-- xterm's.
+abbrev pub settled : Palette → Look → Look
+settled p l =
+    if has_pairs p && has_exact l then record l {
+      foreground = exact l.foreground;
+      background = exact l.background;
+    }
+    else l
+
 -- ---- CSS
 
 -- a digit of base sixteen
@@ -99,11 +129,32 @@ two_digits n = hex_digit (n / 16) ∷ hex_digit (n % 16) ∷ []
 abbrev pub hex_color : SrgbaTuple → List ℕ
 hex_color c = 35 ∷ (two_digits c.0 ++ (two_digits c.1 ++ two_digits c.2))
 
+-- what a colour is of
+abbrev pub property_of : Part → List ℕ
+property_of part.Text = codes "color:"
+property_of part.Ground = codes "background-color:"
+property_of part.Line = codes "text-decoration-color:"
+property_of part.TextAsGround = codes "color:"
+property_of part.GroundAsText = codes "background-color:"
+
+-- the page's own colour that a part has where text and background change places
+abbrev pub own_name : Part → List ℕ
+own_name part.Text = []
+own_name part.Ground = []
+own_name part.Line = []
+own_name part.TextAsGround = codes "Canvas"
+own_name part.GroundAsText = codes "CanvasText"
+
+-- the colour of a place, or its pair where it has none
+abbrev pub place_text : Part → ℕ → Option SrgbaTuple → List ℕ
+place_text of i None = pair_of of i
+place_text of i (Some c) = hex_color c
+
 -- a colour, with a name for the page's own
-abbrev pub color_text : Palette → List ℕ → ColorSpec → List ℕ
-color_text p own color.Default = own
-color_text p own (color.PaletteIndex i) = hex_color (color_at p i)
-color_text p own (color.TrueColor c) = hex_color c
+abbrev pub color_text : Palette → Part → ColorSpec → List ℕ
+color_text p of color.Default = own_name of
+color_text p of (color.PaletteIndex i) = place_text of i (color_at p i)
+color_text p of (color.TrueColor c) = hex_color c
 
 unfoldable pub weight : Intensity → List ℕ
 weight intensity.Normal = []
@@ -124,7 +175,7 @@ line_kind underline.Dashed = codes " dashed"
 
 -- a colour of the lines that isn't the text's
 unfoldable pub line_color : Palette → ColorSpec → List ℕ
-line_color p c = if is_default c then [] else 32 ∷ color_text p [] c
+line_color p c = if is_default c then [] else 32 ∷ color_text p part.Line c
 
 unfoldable pub line_places : Look → List ℕ
 line_places l =
@@ -141,24 +192,23 @@ some_lines p l = codes "text-decoration:" ++ (line_places l ++ (line_style p l +
 unfoldable pub lines : Palette → Look → List ℕ
 lines p l = if has_line l then some_lines p l else []
 
--- what a colour is of, and the colour, with a name for the page's own
-unfoldable pub property : Palette → List ℕ → List ℕ → ColorSpec → List ℕ
-property p what own c = what ++ (color_text p own c ++ 59 ∷ [])
+-- what a colour is of, and the colour
+unfoldable pub property : Palette → Part → ColorSpec → List ℕ
+property p of c = property_of of ++ (color_text p of c ++ 59 ∷ [])
 
 -- of one that isn't the page's own
-unfoldable pub colored : Palette → List ℕ → ColorSpec → List ℕ
-colored p what c = if is_default c then [] else property p what [] c
+unfoldable pub colored : Palette → Part → ColorSpec → List ℕ
+colored p of c = if is_default c then [] else property p of c
 
 -- text and background where they change places: the page's own colours that aren't given have names then
 unfoldable pub inverse_colors : Palette → Look → List ℕ
 inverse_colors p l =
-    property p (codes "color:") (codes "Canvas") (or_own p.background l.background)
-    ++ property p (codes "background-color:") (codes "CanvasText")
-    (or_own p.foreground l.foreground)
+    property p part.TextAsGround (or_own p.background l.background)
+    ++ property p part.GroundAsText (or_own p.foreground l.foreground)
 
 unfoldable pub straight_colors : Palette → Look → List ℕ
 straight_colors p l =
-    colored p (codes "color:") l.foreground ++ colored p (codes "background-color:") l.background
+    colored p part.Text l.foreground ++ colored p part.Ground l.background
 
 unfoldable pub colors : Palette → Look → List ℕ
 colors p l = if l.inverse then inverse_colors p l else straight_colors p l

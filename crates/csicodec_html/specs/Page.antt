@@ -17,7 +17,7 @@ use Rattle.csicodec_html.specs.declared.look.Look.{Look}
 use Rattle.csicodec_html.specs.declared.markup.Markup.{Markup}
 use Rattle.csicodec_html.specs.Classes.{attributes}
 use Rattle.csicodec_html.specs.Look.{behind_all, is_plain, plain, sets_any}
-use Rattle.csicodec_html.specs.Palette.{xterm}
+use Rattle.csicodec_html.specs.Palette.{readable}
 
 -- a character on the page: one that HTML could take for markup by its name or number, any other one as UTF-8
 abbrev pub escaped : ℕ → List ℕ
@@ -168,9 +168,9 @@ pub record PageWith (m : Markup) (bytes page : List ℕ) : Type 0 where
   pub left : AreLeft (first_set m) [] (with_titles false parts) pieces
   pub all : page ≡ piece_texts pieces
 
--- without links, with styles in place of classes, and xterm's palette
+-- without links, with styles in place of classes, and colours that can be read
 abbrev pub simple : Markup
-simple = record { links = false; classes = false; palette = xterm }
+simple = record { links = false; classes = false; palette = readable }
 
 abbrev pub PageOf : List ℕ → List ℕ → Type 0
 PageOf bytes page = PageWith simple bytes page

@@ -1,18 +1,32 @@
 -- The colours of a page by number, and the page's own.
-use Rattle.std.specs.Prelude.{ℕ, nat_lt, get_or, if◌then◌else◌, Option, Some, None}
+use Rattle.std.specs.Prelude.{ℕ, nat_lt, get_or, Bool, List, [], ◌∷◌, codes, if◌then◌else◌, Option, Some, None, is_none}
 use Rattle.csicodec_names.specs.declared.color.ColorSpec.{ColorSpec}
 use Rattle.csicodec_names.specs.declared.color.ColorSpec.TheVariants as color
 use Rattle.csicodec_names.specs.declared.color.SrgbaTuple.{SrgbaTuple}
 use Rattle.csicodec_clean.specs.Palette.{first_places, palette, rgb}
+use Rattle.csicodec_html.specs.declared.classes.Part.{Part}
+use Rattle.csicodec_html.specs.declared.classes.Part.TheVariants as part
 use Rattle.csicodec_html.specs.declared.palette.Palette.{Palette}
+
+-- where nobody chose: the first 16 colours are pairs, and the page's own colours are the browser's
+abbrev pub readable : Palette
+readable = record { first = None; foreground = None; background = None }
+
+-- each of the first 16 is a pair
+abbrev pub has_pairs : Palette → Bool
+has_pairs p = is_none p.first
 
 -- xterm's, and the page's own colours are the browser's
 abbrev pub xterm : Palette
-xterm = record { first = first_places; foreground = None; background = None }
+xterm = record { first = Some first_places; foreground = None; background = None }
+
+abbrev pub first_color : Option (List SrgbaTuple) → ℕ → Option SrgbaTuple
+first_color None i = None
+first_color (Some cs) i = Some (get_or cs i (rgb 0 0 0))
 
 -- the colour of a place: one that is given below 16, and from there on xterm's cube and greys, which are the same on every terminal
-abbrev pub color_at : Palette → ℕ → SrgbaTuple
-color_at p i = if nat_lt i 16 then get_or p.first i (rgb 0 0 0) else palette i
+abbrev pub color_at : Palette → ℕ → Option SrgbaTuple
+color_at p i = if nat_lt i 16 then first_color p.first i else Some (palette i)
 
 -- the page's own colour is the one that is given for it, if one is
 abbrev pub or_own : Option SrgbaTuple → ColorSpec → ColorSpec
@@ -20,3 +34,51 @@ or_own (Some own) color.Default = color.TrueColor own
 or_own None color.Default = color.Default
 or_own given (color.PaletteIndex i) = color.PaletteIndex i
 or_own given (color.TrueColor c) = color.TrueColor c
+
+-- ---- pairs: a colour on a light page, and one on a dark page (CSS Color, level 5, `light-dark`). Of text, and of what is behind it:
+-- each text has a contrast of at least 4.5 to 1 (WCAG 2.2, 1.4.3) to each ground, and to the page's own; `.ci/contrast` measures it
+
+abbrev pub text_pairs : List (List ℕ)
+text_pairs =
+    codes "light-dark(#000000,#a9b1ba)"
+    ∷ codes "light-dark(#9f0017,#ff8e86)"
+    ∷ codes "light-dark(#015a14,#5fc366)"
+    ∷ codes "light-dark(#634901,#dca603)"
+    ∷ codes "light-dark(#0049a3,#7ab0ff)"
+    ∷ codes "light-dark(#890092,#e68eec)"
+    ∷ codes "light-dark(#03565e,#00c0cf)"
+    ∷ codes "light-dark(#3d444d,#d5dbe1)"
+    ∷ codes "light-dark(#57606a,#b4bcc5)"
+    ∷ codes "light-dark(#bf001d,#ffb3ac)"
+    ∷ codes "light-dark(#006e1a,#77db7d)"
+    ∷ codes "light-dark(#795900,#f6bd2a)"
+    ∷ codes "light-dark(#005ac4,#a3c8fe)"
+    ∷ codes "light-dark(#a600b1,#faaafe)"
+    ∷ codes "light-dark(#046871,#04daeb)"
+    ∷ codes "light-dark(#24292f,#ffffff)" ∷ []
+
+abbrev pub ground_pairs : List (List ℕ)
+ground_pairs =
+    codes "light-dark(#d8dde2,#000000)"
+    ∷ codes "light-dark(#fed3ce,#581c1a)"
+    ∷ codes "light-dark(#b7eab8,#04390c)"
+    ∷ codes "light-dark(#f7da9c,#3f2d00)"
+    ∷ codes "light-dark(#c9dffe,#0f2f5d)"
+    ∷ codes "light-dark(#fdceff,#49204c)"
+    ∷ codes "light-dark(#93ebf4,#00363b)"
+    ∷ codes "light-dark(#eef0f2,#31373d)"
+    ∷ codes "light-dark(#e2e6ea,#262b31)"
+    ∷ codes "light-dark(#ffe4e1,#6f2120)"
+    ∷ codes "light-dark(#bdf9bd,#00470d)"
+    ∷ codes "light-dark(#ffe8b8,#4f3900)"
+    ∷ codes "light-dark(#deebfe,#123b76)"
+    ∷ codes "light-dark(#fee1ff,#5c2760)"
+    ∷ codes "light-dark(#aef6fe,#00434a)"
+    ∷ codes "light-dark(#ffffff,#3a4148)" ∷ []
+
+abbrev pub pair_of : Part → ℕ → List ℕ
+pair_of part.Text i = get_or text_pairs i []
+pair_of part.Ground i = get_or ground_pairs i []
+pair_of part.Line i = get_or text_pairs i []
+pair_of part.TextAsGround i = get_or ground_pairs i []
+pair_of part.GroundAsText i = get_or text_pairs i []

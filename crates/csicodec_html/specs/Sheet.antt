@@ -1,12 +1,14 @@
 -- The style sheet of a page of its own.
-use Rattle.std.specs.Prelude.{ℕ, ◌≡◌, ◌==◌, zero, suc, Bool, true, false, not, ◌||◌, List, [], ◌∷◌, ◌++◌, codes, if◌then◌else◌, Option, Some, None, is_some}
-use Rattle.std.specs.List.{flat_map}
+use Rattle.std.specs.Prelude.{ℕ, ◌≡◌, ◌==◌, zero, suc, Bool, true, false, not, List, [], ◌∷◌, ◌++◌, codes, encode_utf8_all, if◌then◌else◌, Option, Some, None}
+use Rattle.std.specs.List.{AllByRecursion, flat_map}
 use Rattle.csicodec_names.specs.declared.color.ColorSpec.{ColorSpec}
 use Rattle.csicodec_names.specs.declared.color.ColorSpec.TheVariants as color
 use Rattle.csicodec_names.specs.declared.color.Intensity.TheVariants as intensity
 use Rattle.csicodec_names.specs.declared.color.SrgbaTuple.{SrgbaTuple}
 use Rattle.csicodec_names.specs.declared.color.Underline.{Underline}
 use Rattle.csicodec_names.specs.declared.color.Underline.TheVariants as underline
+use Rattle.csicodec_clean.specs.Cleaned.{Strips, longest}
+use Rattle.csicodec_clean.specs.Shown.{IsShown}
 use Rattle.csicodec_html.specs.declared.classes.Class.{Class}
 use Rattle.csicodec_html.specs.declared.classes.Class.TheVariants as kind
 use Rattle.csicodec_html.specs.declared.classes.Part.{Part}
@@ -14,9 +16,10 @@ use Rattle.csicodec_html.specs.declared.classes.Part.TheVariants as part
 use Rattle.csicodec_html.specs.declared.look.Look.{Look}
 use Rattle.csicodec_html.specs.declared.markup.Markup.{Markup}
 use Rattle.csicodec_html.specs.declared.palette.Palette.{Palette}
-use Rattle.csicodec_html.specs.Classes.{class_name, color_class, property_of, true_color}
+use Rattle.csicodec_html.specs.Classes.{class_name, color_class, true_color}
 use Rattle.csicodec_html.specs.Look.{hex_color, is_none, line_color, line_kind, line_places, plain, property, slant, weight}
-use Rattle.csicodec_html.specs.Palette.{color_at, or_own}
+use Rattle.csicodec_html.specs.Page.{escaped}
+use Rattle.csicodec_html.specs.Palette.{or_own}
 
 -- ---- the page's own colours
 
@@ -25,16 +28,10 @@ abbrev pub own_color : List ℕ → Option SrgbaTuple → List ℕ
 own_color what None = []
 own_color what (Some c) = what ++ (hex_color c ++ 59 ∷ [])
 
-abbrev pub has_own : Palette → Bool
-has_own p = is_some p.foreground || is_some p.background
-
-unfoldable pub own_rule : Palette → List ℕ
-own_rule p = codes "body{"
-    ++ (own_color (codes "color:") p.foreground
-    ++ (own_color (codes "background-color:") p.background ++ codes "}\n"))
-
-unfoldable pub own_rules : Palette → List ℕ
-own_rules p = if has_own p then own_rule p else []
+-- both, in the rule that the page's front begins
+unfoldable pub own_colors : Palette → List ℕ
+own_colors p = own_color (codes "color:") p.foreground
+    ++ (own_color (codes "background-color:") p.background ++ codes "}\n")
 
 -- ---- what each class means
 
@@ -72,10 +69,10 @@ declaration p kind.Curly = kind_of_lines underline.Curly
 declaration p kind.Dotted = kind_of_lines underline.Dotted
 declaration p kind.Dashed = kind_of_lines underline.Dashed
 declaration p kind.TextAsGround =
-    property p (codes "color:") (codes "Canvas") (or_own p.background color.Default)
+    property p part.TextAsGround (or_own p.background color.Default)
 declaration p kind.GroundAsText =
-    property p (codes "background-color:") (codes "CanvasText") (or_own p.foreground color.Default)
-declaration p (kind.Color of i) = property_of of ++ (hex_color (color_at p i) ++ 59 ∷ [])
+    property p part.GroundAsText (or_own p.foreground color.Default)
+declaration p (kind.Color of i) = property p of (color.PaletteIndex i)
 
 unfoldable pub class_rule : Palette → Class → List ℕ
 class_rule p c = codes "." ++ (class_name c ++ (codes "{" ++ (declaration p c ++ codes "}\n")))
@@ -108,21 +105,15 @@ color_rules p of (suc i) = color_rules p of i ++ class_rule p (kind.Color of i)
 unfoldable pub class_rules : Palette → List ℕ
 class_rules p = fixed_rules p ++ (class_rule p kind.TextAsGround
     ++ (class_rule p kind.GroundAsText ++ (color_rules p part.Text 256
-    ++ (color_rules p part.Ground 256 ++ color_rules p part.Line 256))))
+    ++ (color_rules p part.Ground 256 ++ (color_rules p part.Line 256
+    ++ (color_rules p part.TextAsGround 256 ++ color_rules p part.GroundAsText 256))))))
 
 unfoldable pub rules_of_classes : Markup → List ℕ
 rules_of_classes m = if m.classes then class_rules m.palette else []
 
-unfoldable pub some_sheet : Markup → List ℕ
-some_sheet m =
-    codes "<style>\n" ++ (own_rules m.palette ++ (rules_of_classes m ++ codes "</style>\n"))
-
--- the style sheet, where there is one
-abbrev pub has_sheet : Markup → Bool
-has_sheet m = m.classes || has_own m.palette
-
+-- what the style sheet has of the markup
 unfoldable pub sheet : Markup → List ℕ
-sheet m = if has_sheet m then some_sheet m else []
+sheet m = own_colors m.palette ++ rules_of_classes m
 
 -- ---- what the attributes of a span say by it
 
@@ -139,6 +130,11 @@ abbrev pub IsIn : List ℕ → List ℕ → Type 0
 IsIn own all = (front behind : List ℕ) × (all ≡ front ++ (own ++ behind))
 
 -- ---- what HTML reads
+
+-- the title of a page: the characters that its name is stripped to, escaped
+abbrev pub IsTitle : List ℕ → List ℕ → Type 0
+IsTitle name title = (chars : List ℕ) × Strips longest name (encode_utf8_all chars)
+    × AllByRecursion IsShown chars × (title ≡ flat_map escaped chars)
 
 -- of the text of a `pre`: a newline directly behind its tag is dropped (HTML, 13.2.6.4.7)
 abbrev pub in_pre : List ℕ → List ℕ

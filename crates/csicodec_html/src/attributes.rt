@@ -1,15 +1,16 @@
 //! The attributes of a span, with controls in place of the quotation marks.
 ghost use Rattle.std.specs.Prelude.{◌≡◌, ◌++◌, [], ◌∷◌, OnOk};
-ghost use Rattle.csicodec_html.specs.Classes.{attributes, has_true, is_true, property_of, rest_attribute, style_attribute, true_color, true_colors};
-ghost use Rattle.csicodec_html.specs.Look.{css};
+ghost use Rattle.csicodec_html.specs.Classes.{attributes, attributes_of, has_true, is_true, rest_attribute, style_attribute, true_color, true_colors};
+ghost use Rattle.csicodec_html.specs.Look.{css, exact, has_exact, is_exact, settled};
 
 use crate::classes::{Part, append_classes};
-use crate::colors::append_parts;
+use crate::colors::{append_parts, append_property_of};
 use crate::css::append_css;
 use crate::look::Look;
 use crate::markup::Markup;
 use crate::palette::Palette;
 use csicodec_base::ColorSpec;
+use csicodec_clean::palette;
 use std::alloc::AllocError;
 
 /// Whether it is a colour by its parts.
@@ -24,17 +25,6 @@ fn has_true(look: Look) -> bool
     ensures { result ≡ has_true look }
 {
     is_true(look.text_color()) || is_true(look.ground_color()) || is_true(look.lines_color())
-}
-
-/// Appends the name of the property of a colour.
-pub(crate) fn append_property_of(part: Part, out: &mut Vec<u8>) -> Result<(), AllocError>
-    ensures { OnOk result (out.new.items ≡ out.old.items ++ property_of part) }
-{
-    match part {
-        Part::Text => out.extend_from_slice(b"color:"),
-        Part::Ground => out.extend_from_slice(b"background-color:"),
-        Part::Line => out.extend_from_slice(b"text-decoration-color:"),
-    }
 }
 
 /// Appends the declaration of a colour by its parts.
@@ -81,7 +71,66 @@ fn append_style(palette: &Palette, look: Look, out: &mut Vec<u8>) -> Result<(), 
     Ok(out.push(3)?)
 }
 
-/// Appends the attributes of a span that looks so: classes, and a style for colours by their parts, or a style for all.
+/// Whether a colour is the same on a light and on a dark page.
+fn is_exact(color: ColorSpec) -> bool
+    ensures { result ≡ is_exact color }
+{
+    match color {
+        ColorSpec::Default => false,
+        ColorSpec::PaletteIndex(index) => 15 < index,
+        ColorSpec::TrueColor(_) => true,
+    }
+}
+
+/// The colour, for which xterm's stands where each page may have its own.
+fn exact(color: ColorSpec) -> ColorSpec
+    ensures { result ≡ exact color }
+{
+    match color {
+        ColorSpec::PaletteIndex(index) => {
+            if index < 16 {
+                ColorSpec::TrueColor(palette(index))
+            } else {
+                color
+            }
+        }
+        ColorSpec::Default | ColorSpec::TrueColor(_) => color,
+    }
+}
+
+/// Whether one of text and what is behind it has such a colour.
+fn has_exact(look: Look) -> bool
+    ensures { result ≡ has_exact look }
+{
+    is_exact(look.foreground) || is_exact(look.background)
+}
+
+/// The look with colours that can be read beside each other: where one of them is the same on a light and on a dark page, both are.
+fn settled(palette: &Palette, look: Look) -> Look
+    ensures { result ≡ settled palette.now look }
+{
+    if palette.has_pairs() && has_exact(look) {
+        return Look {
+            foreground: exact(look.foreground),
+            background: exact(look.background),
+            ..look
+        };
+    }
+    look
+}
+
+/// Appends classes, and a style for colours by their parts, or a style for all.
+fn append_attributes_of(markup: &Markup, look: Look, out: &mut Vec<u8>) -> Result<(), AllocError>
+    ensures { OnOk result (out.new.items ≡ out.old.items ++ attributes_of 3 markup.now look) }
+{
+    if !markup.classes {
+        return append_style(&markup.palette, look, out);
+    }
+    append_classes(&look.classes(), out)?;
+    append_rest(look, out)
+}
+
+/// Appends the attributes of a span that looks so, with colours that can be read beside each other.
 pub(crate) fn append_attributes(
     markup: &Markup,
     look: Look,
@@ -89,9 +138,5 @@ pub(crate) fn append_attributes(
 ) -> Result<(), AllocError>
     ensures { OnOk result (out.new.items ≡ out.old.items ++ attributes 3 markup.now look) }
 {
-    if !markup.classes {
-        return append_style(&markup.palette, look, out);
-    }
-    append_classes(&look.classes(), out)?;
-    append_rest(look, out)
+    append_attributes_of(markup, settled(&markup.palette, look), out)
 }

@@ -1,6 +1,6 @@
 //! Classes of CSS that say how text looks.
 ghost use Rattle.std.specs.Prelude.{◌≡◌, ◌++◌, [], ◌∷◌, false, IfOk, OnOk};
-ghost use Rattle.csicodec_html.specs.Classes.{ahead, behind_slot, class_if, class_name, classes_of, color_class, ground_color, lines_class, lines_color, names, part_name, slot_text, text_color, weight_class};
+ghost use Rattle.csicodec_html.specs.Classes.{ahead, behind_slot, class_if, class_name, classes_of, color_class, ground_color, ground_part, lines_class, lines_color, names, part_name, slot_text, text_color, text_part, weight_class};
 
 use crate::look::{Look, is_none};
 use csicodec_base::{ColorSpec, Intensity, Underline};
@@ -14,6 +14,10 @@ pub enum Part {
     Ground,
     /// The lines below, above and through text.
     Line,
+    /// Text in the colour of what was behind it, since the two changed places.
+    TextAsGround,
+    /// What is behind text, in the colour of that.
+    GroundAsText,
 }
 
 /// A class that a span may have.
@@ -81,6 +85,28 @@ fn color_class(part: Part, own: Option<Class>, color: ColorSpec) -> Option<Class
 }
 
 impl Look {
+    /// What the colour of its text is of.
+    pub(crate) fn text_part(self) -> Part
+        ensures { result ≡ text_part self }
+    {
+        if self.inverse {
+            Part::TextAsGround
+        } else {
+            Part::Text
+        }
+    }
+
+    /// What the colour behind it is of.
+    pub(crate) fn ground_part(self) -> Part
+        ensures { result ≡ ground_part self }
+    {
+        if self.inverse {
+            Part::GroundAsText
+        } else {
+            Part::Ground
+        }
+    }
+
     /// The colour that text has.
     pub(crate) fn text_color(self) -> ColorSpec
         ensures { result ≡ text_color self }
@@ -127,8 +153,8 @@ impl Look {
             lines_class(self.underline),
             class_if(self.overline, Class::Overline),
             class_if(self.strike, Class::Strike),
-            color_class(Part::Text, text, self.text_color()),
-            color_class(Part::Ground, ground, self.ground_color()),
+            color_class(self.text_part(), text, self.text_color()),
+            color_class(self.ground_part(), ground, self.ground_color()),
             color_class(Part::Line, None, self.lines_color()),
         ]
     }
@@ -142,6 +168,8 @@ fn append_part(part: Part, out: &mut Vec<u8>) -> Result<(), AllocError>
         Part::Text => out.extend_from_slice(b"fg-"),
         Part::Ground => out.extend_from_slice(b"bg-"),
         Part::Line => out.extend_from_slice(b"line-"),
+        Part::TextAsGround => out.extend_from_slice(b"fg-background-"),
+        Part::GroundAsText => out.extend_from_slice(b"bg-foreground-"),
     }
 }
 

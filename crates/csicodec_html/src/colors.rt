@@ -1,9 +1,13 @@
 //! Colours as CSS has them.
 ghost use Rattle.std.specs.Prelude.{◌≡◌, ◌<◌, ◌++◌, OnOk};
-ghost use Rattle.csicodec_html.specs.Look.{color_text, hex_color, hex_digit, two_digits};
+ghost use Rattle.csicodec_html.specs.Look.{color_text, hex_color, hex_digit, own_name, place_text, property_of, two_digits};
+ghost use Rattle.csicodec_html.specs.Palette.{color_at};
 
+use crate::classes::Part;
+use crate::pairs::append_pair;
 use crate::palette::Palette;
 use csicodec_base::{ColorSpec, SrgbaTuple};
+use csicodec_clean::palette as xterm_color;
 use std::alloc::AllocError;
 
 /// A digit of base sixteen.
@@ -31,18 +35,58 @@ pub(crate) fn append_parts(color: SrgbaTuple, out: &mut Vec<u8>) -> Result<(), A
     append_two_digits(color.2, out)
 }
 
-/// Appends a colour, for which `own` stands where it is the page's own.
+/// Appends the name of the property of a colour.
+pub(crate) fn append_property_of(part: Part, out: &mut Vec<u8>) -> Result<(), AllocError>
+    ensures { OnOk result (out.new.items ≡ out.old.items ++ property_of part) }
+{
+    match part {
+        Part::Text | Part::TextAsGround => out.extend_from_slice(b"color:"),
+        Part::Ground | Part::GroundAsText => out.extend_from_slice(b"background-color:"),
+        Part::Line => out.extend_from_slice(b"text-decoration-color:"),
+    }
+}
+
+/// Appends the name of the page's own colour that a part has where text and what is behind it change places.
+fn append_own_name(part: Part, out: &mut Vec<u8>) -> Result<(), AllocError>
+    ensures { OnOk result (out.new.items ≡ out.old.items ++ own_name part) }
+{
+    match part {
+        Part::TextAsGround => out.extend_from_slice(b"Canvas"),
+        Part::GroundAsText => out.extend_from_slice(b"CanvasText"),
+        Part::Text | Part::Ground | Part::Line => Ok(()),
+    }
+}
+
+/// Appends the colour of a place.
+fn append_place(
+    palette: &Palette,
+    part: Part,
+    place: u8,
+    out: &mut Vec<u8>,
+) -> Result<(), AllocError>
+    ensures { OnOk result (out.new.items ≡ out.old.items ++ place_text part place (color_at palette.now place)) }
+{
+    if place < 16 {
+        return match palette.first_color(place) {
+            Some(color) => append_parts(color, out),
+            None => append_pair(part, place, out),
+        };
+    }
+    append_parts(xterm_color(place), out)
+}
+
+/// Appends a colour, or the name of the page's own.
 pub(crate) fn append_color(
     palette: &Palette,
-    own: &[u8],
+    part: Part,
     color: ColorSpec,
     out: &mut Vec<u8>,
 ) -> Result<(), AllocError>
-    ensures { OnOk result (out.new.items ≡ out.old.items ++ color_text palette.now own.now color) }
+    ensures { OnOk result (out.new.items ≡ out.old.items ++ color_text palette.now part color) }
 {
     match color {
-        ColorSpec::Default => out.extend_from_slice(own),
-        ColorSpec::PaletteIndex(index) => append_parts(palette.color(index), out),
+        ColorSpec::Default => append_own_name(part, out),
+        ColorSpec::PaletteIndex(index) => append_place(palette, part, index, out),
         ColorSpec::TrueColor(color) => append_parts(color, out),
     }
 }

@@ -2,7 +2,8 @@
 ghost use Rattle.std.specs.Prelude.{◌≡◌, ◌++◌, [], OnOk, codes, if◌then◌else◌};
 ghost use Rattle.csicodec_html.specs.Look.{colored, colors, css, inverse_colors, line_color, line_kind, line_places, line_style, lines, property, slant, some_lines, straight_colors, weight};
 
-use crate::colors::append_color;
+use crate::classes::Part;
+use crate::colors::{append_color, append_property_of};
 use crate::look::{Look, is_default, is_none};
 use crate::palette::{Palette, or_own};
 use csicodec_base::{ColorSpec, Intensity, Underline};
@@ -57,7 +58,7 @@ fn append_line_color(
         return Ok(());
     }
     out.push(b' ')?;
-    append_color(palette, &[], color, out)
+    append_color(palette, Part::Line, color, out)
 }
 
 /// Appends where there are lines.
@@ -101,19 +102,18 @@ fn append_lines(palette: &Palette, look: Look, out: &mut Vec<u8>) -> Result<(), 
     append_some_lines(palette, look, out)
 }
 
-/// Appends what a colour is of, and the colour, for which `own` stands where it is the page's own.
+/// Appends what a colour is of, and the colour.
 #[tactic(auto, unfolding(crate::specs::Look::property))]
 pub(crate) fn append_property(
     palette: &Palette,
-    what: &[u8],
-    own: &[u8],
+    part: Part,
     color: ColorSpec,
     out: &mut Vec<u8>,
 ) -> Result<(), AllocError>
-    ensures { OnOk result (out.new.items ≡ out.old.items ++ property palette.now what.now own.now color) }
+    ensures { OnOk result (out.new.items ≡ out.old.items ++ property palette.now part color) }
 {
-    out.extend_from_slice(what)?;
-    append_color(palette, own, color, out)?;
+    append_property_of(part, out)?;
+    append_color(palette, part, color, out)?;
     Ok(out.push(b';')?)
 }
 
@@ -121,16 +121,16 @@ pub(crate) fn append_property(
 #[tactic(auto, unfolding(crate::specs::Look::colored))]
 fn append_colored(
     palette: &Palette,
-    what: &[u8],
+    part: Part,
     color: ColorSpec,
     out: &mut Vec<u8>,
 ) -> Result<(), AllocError>
-    ensures { OnOk result (out.new.items ≡ out.old.items ++ colored palette.now what.now color) }
+    ensures { OnOk result (out.new.items ≡ out.old.items ++ colored palette.now part color) }
 {
     if is_default(color) {
         return Ok(());
     }
-    append_property(palette, what, &[], color, out)
+    append_property(palette, part, color, out)
 }
 
 /// Appends the colours of text and background where they change places.
@@ -140,8 +140,8 @@ fn append_inverse(palette: &Palette, look: Look, out: &mut Vec<u8>) -> Result<()
 {
     let text = or_own(palette.background, look.background);
     let ground = or_own(palette.foreground, look.foreground);
-    append_property(palette, b"color:", b"Canvas", text, out)?;
-    append_property(palette, b"background-color:", b"CanvasText", ground, out)
+    append_property(palette, Part::TextAsGround, text, out)?;
+    append_property(palette, Part::GroundAsText, ground, out)
 }
 
 /// Appends them where they don't.
@@ -149,8 +149,8 @@ fn append_inverse(palette: &Palette, look: Look, out: &mut Vec<u8>) -> Result<()
 fn append_straight(palette: &Palette, look: Look, out: &mut Vec<u8>) -> Result<(), AllocError>
     ensures { OnOk result (out.new.items ≡ out.old.items ++ straight_colors palette.now look) }
 {
-    append_colored(palette, b"color:", look.foreground, out)?;
-    append_colored(palette, b"background-color:", look.background, out)
+    append_colored(palette, Part::Text, look.foreground, out)?;
+    append_colored(palette, Part::Ground, look.background, out)
 }
 
 /// Appends the colours of text and background.

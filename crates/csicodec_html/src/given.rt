@@ -74,7 +74,7 @@ pub fn given_palette(colors: &[SrgbaTuple]) -> Option<Palette>
     }
     let first = *colors.first_chunk::<16>()?;
     Some(Palette {
-        first,
+        first: Some(first),
         foreground: nth(colors, 16),
         background: nth(colors, 17),
     })

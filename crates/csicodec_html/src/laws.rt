@@ -6,7 +6,7 @@ ghost use Rattle.csicodec_clean.specs.Links.{is_visible};
 ghost use Rattle.csicodec_clean.specs.Palette.{palette, rgb};
 ghost use Rattle.csicodec_names.specs.declared.color.Intensity.{Intensity};
 ghost use Rattle.csicodec_names.specs.declared.color.Underline.{Underline};
-ghost use Rattle.csicodec_html.specs.Classes.{IsClass, class_if, class_name, ground_color, lines_class, lines_color, text_color, true_colors, weight_class};
+ghost use Rattle.csicodec_html.specs.Classes.{IsClass, class_if, class_name, ground_color, ground_part, lines_class, lines_color, text_color, text_part, true_colors, weight_class};
 ghost use Rattle.csicodec_html.specs.Given.{given_color};
 ghost use Rattle.csicodec_html.specs.Look.{colors, css, has_line, hex_color, slant, weight};
 ghost use Rattle.csicodec_html.specs.MarkupBytes.{IsMarkup};
@@ -58,8 +58,8 @@ pub fn same_styles()
     ensures line { (p : Palette) (l : Look)
         → said p part.Line None (lines_color l) ≡ color_of_lines p (lines_color l) }
     ensures colors { (p : Palette) (l : Look)
-        → said p part.Text (class_if l.inverse class.TextAsGround) (text_color l)
-        ++ said p part.Ground (class_if l.inverse class.GroundAsText) (ground_color l)
+        → said p (text_part l) (class_if l.inverse class.TextAsGround) (text_color l)
+        ++ said p (ground_part l) (class_if l.inverse class.GroundAsText) (ground_color l)
         ≡ colors p l }
 {}
 
@@ -80,9 +80,9 @@ pub fn color_back()
         → given_color (hex_color (rgb red green blue)) ≡ Some (rgb red green blue) }
 {}
 
-/// The palette that nobody chose has the colours of xterm's places.
+/// The palette of xterm has the colours of its places.
 pub fn xterm_colors()
-    ensures { (place : ℕ) → color_at xterm place ≡ palette place }
+    ensures { (place : ℕ) → color_at xterm place ≡ Some (palette place) }
 {}
 
 /// What HTML reads in the `pre` of a page of its own is all of its pieces, with a newline that they begin with.

@@ -17,7 +17,7 @@ pub struct Markup {
     pub palette: Palette,
 }
 
-/// No links, no classes, and xterm's palette.
+/// No links, no classes, and colours that can be read.
 impl Default for Markup {
     ghost is_default = { λ markup. markup ≡ simple };
 

@@ -1,6 +1,6 @@
 //! The colours of a page by number, and the page's own.
 ghost use Rattle.std.specs.Prelude.{◌≡◌};
-ghost use Rattle.csicodec_html.specs.Palette.{color_at, or_own, xterm};
+ghost use Rattle.csicodec_html.specs.Palette.{color_at, first_color, has_pairs, or_own, readable, xterm};
 
 use csicodec_base::{ColorSpec, SrgbaTuple};
 use csicodec_clean::palette;
@@ -8,42 +8,26 @@ use csicodec_clean::palette;
 /// The colours that a user of a terminal may choose. Those of the places from 16 on are the same everywhere.
 ///
 /// ```text
-/// Palette::default().color(1)         // SrgbaTuple(205, 0, 0, 255)
+/// Palette::xterm().color(1)           // Some(SrgbaTuple(205, 0, 0, 255))
 /// ```
 #[derive(Clone, Copy, PartialEq, Eq, Debug)]
 pub struct Palette {
-    /// Those of the places 0 to 15. Their alpha isn't looked at, nor that of the others.
-    pub first: [SrgbaTuple; 16],
+    /// Those of the places 0 to 15, on a light page and on a dark one. Without them each place has a colour for either that can be read
+    /// there, and others behind text. Their alpha isn't looked at, nor that of the others.
+    pub first: Option<[SrgbaTuple; 16]>,
     /// The colour of text that has none of its own; without it the browser's.
     pub foreground: Option<SrgbaTuple>,
     /// The colour of the page behind text.
     pub background: Option<SrgbaTuple>,
 }
 
-/// xterm's colours, where nobody chose others.
+/// Where nobody chose.
 impl Default for Palette {
-    ghost is_default = { λ p. p ≡ xterm };
+    ghost is_default = { λ p. p ≡ readable };
 
     fn default() -> Palette {
         Palette {
-            first: [
-                palette(0),
-                palette(1),
-                palette(2),
-                palette(3),
-                palette(4),
-                palette(5),
-                palette(6),
-                palette(7),
-                palette(8),
-                palette(9),
-                palette(10),
-                palette(11),
-                palette(12),
-                palette(13),
-                palette(14),
-                palette(15),
-            ],
+            first: None,
             foreground: None,
             background: None,
         }
@@ -61,13 +45,57 @@ pub(crate) fn or_own(given: Option<SrgbaTuple>, color: ColorSpec) -> ColorSpec
 }
 
 impl Palette {
-    /// The colour of a place, from 0 to 255.
-    pub fn color(&self, index: u8) -> SrgbaTuple
+    /// Whether each of the first 16 places has a colour for a light page and one for a dark one.
+    pub(crate) fn has_pairs(&self) -> bool
+        ensures { result ≡ has_pairs self.now }
+    {
+        self.first.is_none()
+    }
+
+    /// xterm's colours, and the browser's own.
+    pub fn xterm() -> Palette
+        ensures { result ≡ xterm }
+    {
+        Palette {
+            first: Some([
+                palette(0),
+                palette(1),
+                palette(2),
+                palette(3),
+                palette(4),
+                palette(5),
+                palette(6),
+                palette(7),
+                palette(8),
+                palette(9),
+                palette(10),
+                palette(11),
+                palette(12),
+                palette(13),
+                palette(14),
+                palette(15),
+            ]),
+            foreground: None,
+            background: None,
+        }
+    }
+
+    /// The colour that is given for one of the first 16 places, if one is.
+    pub(crate) fn first_color(&self, index: u8) -> Option<SrgbaTuple>
+        requires { index < 16 }
+        ensures { result ≡ first_color self.now.first index }
+    {
+        let first = self.first?;
+        Some(first[index as usize])
+    }
+
+    /// The colour of a place, from 0 to 255; none of those below 16 where none are given.
+    pub fn color(&self, index: u8) -> Option<SrgbaTuple>
         ensures { result ≡ color_at self.now index }
     {
         if index < 16 {
-            return self.first[index as usize];
+            return self.first_color(index);
         }
-        palette(index)
+        Some(palette(index))
     }
 }

@@ -1,28 +1,38 @@
 //! A page of its own: what stands ahead of its pieces, with its style sheet, and behind them.
-ghost use Rattle.std.specs.Prelude.{◌≡◌, ◌<◌, ◌++◌, [], IfOk, OnOk};
-ghost use Rattle.csicodec_html.specs.Sheet.{class_rule, class_rules, color_rules, has_own, has_sheet, own_color, own_rule, own_rules, rules_of_classes, sheet, some_sheet};
+ghost use Rattle.std.specs.Prelude.{◌≡◌, ◌<◌, ◌++◌, [], ℕ, IfOk, List, OnOk};
+ghost use Rattle.csicodec_html.specs.Sheet.{IsTitle, class_rule, class_rules, color_rules, own_color, own_colors, rules_of_classes, sheet};
 
-use crate::attributes::append_property_of;
 use crate::classes::{Class, Part, append_name};
 use crate::colors::append_parts;
 use crate::css::append_property;
 use crate::markup::Markup;
+use crate::page::append_page;
 use crate::palette::{Palette, or_own};
 use csicodec_base::{ColorSpec, SrgbaTuple};
+use csicodec_clean::strip;
 use std::alloc::{AllocError, Global};
 
-/// What stands ahead of the style sheet of a page.
+/// What stands ahead of the title of a page.
 pub const HEAD: &str = "<!DOCTYPE html>
-<html>
+<html lang=\"en\">
 <head>
 <meta charset=\"utf-8\">
+<meta name=\"viewport\" content=\"width=device-width,initial-scale=1\">
 <meta name=\"color-scheme\" content=\"light dark\">
-<title>csicodec</title>
-";
+<title>";
+
+/// What stands between that and what its style sheet has of the markup. In a browser that doesn't know pairs of colours, from before 2024,
+/// text in them is plain.
+pub const STYLE: &str = "</title>
+<style>
+pre{margin:0;padding:1rem 1.25rem;font:.875rem ui-monospace,Menlo,Consolas,\"DejaVu Sans Mono\",\"Liberation Mono\",monospace;}
+@supports not (color:light-dark(red,red)){[style*=light-dark]{color:CanvasText!important;background-color:Canvas!important;}}
+body{margin:0;";
 
 /// What stands between that and its pieces. HTML drops a newline directly behind `<pre>` (HTML, 13.2.6.4.7), so one of its own stands
 /// there, and those of the pieces are read.
-pub const BODY: &str = "</head>
+pub const BODY: &str = "</style>
+</head>
 <body>
 <pre>
 ";
@@ -69,33 +79,14 @@ fn append_own(what: &[u8], given: Option<SrgbaTuple>, out: &mut Vec<u8>) -> Resu
     Ok(out.push(b';')?)
 }
 
-/// Whether a colour of the page's own is given.
-fn has_own(palette: &Palette) -> bool
-    ensures { result ≡ has_own palette.now }
+/// Appends the page's own colours, and the end of the rule that they stand in.
+fn append_own_colors(palette: &Palette, out: &mut Vec<u8>) -> Result<(), AllocError>
+    ensures { OnOk result (out.new.items ≡ out.old.items ++ own_colors palette.now) }
 {
-    palette.foreground.is_some() || palette.background.is_some()
-}
-
-/// Appends the rule of the page's own colours.
-fn append_own_rule(palette: &Palette, out: &mut Vec<u8>) -> Result<(), AllocError>
-    ensures { OnOk result (out.new.items ≡ out.old.items ++ own_rule palette.now) }
-{
-    out.extend_from_slice(b"body{")?;
     append_own(b"color:", palette.foreground, out)?;
     append_own(b"background-color:", palette.background, out)?;
     out.extend_from_slice(b"}\n")?;
     Ok(())
-}
-
-/// Appends it, if one of them is given.
-#[tactic(auto, unfolding(crate::specs::Sheet::own_rules))]
-fn append_own_rules(palette: &Palette, out: &mut Vec<u8>) -> Result<(), AllocError>
-    ensures { OnOk result (out.new.items ≡ out.old.items ++ own_rules palette.now) }
-{
-    if !has_own(palette) {
-        return Ok(());
-    }
-    append_own_rule(palette, out)
 }
 
 /// Appends what the class of a colour means.
@@ -111,9 +102,8 @@ fn append_color_rule(
     out.extend_from_slice(b".")?;
     append_name(Class::Color(part, place), out)?;
     out.extend_from_slice(b"{")?;
-    append_property_of(part, out)?;
-    append_parts(palette.color(place), out)?;
-    out.extend_from_slice(b";}\n")?;
+    append_property(palette, part, ColorSpec::PaletteIndex(place), out)?;
+    out.extend_from_slice(b"}\n")?;
     Ok(())
 }
 
@@ -134,7 +124,7 @@ fn append_text_rule(palette: &Palette, out: &mut Vec<u8>) -> Result<(), AllocErr
 {
     let color = or_own(palette.background, ColorSpec::Default);
     out.extend_from_slice(b".fg-background{")?;
-    append_property(palette, b"color:", b"Canvas", color, out)?;
+    append_property(palette, Part::TextAsGround, color, out)?;
     out.extend_from_slice(b"}\n")?;
     Ok(())
 }
@@ -146,7 +136,7 @@ fn append_ground_rule(palette: &Palette, out: &mut Vec<u8>) -> Result<(), AllocE
 {
     let color = or_own(palette.foreground, ColorSpec::Default);
     out.extend_from_slice(b".bg-foreground{")?;
-    append_property(palette, b"background-color:", b"CanvasText", color, out)?;
+    append_property(palette, Part::GroundAsText, color, out)?;
     out.extend_from_slice(b"}\n")?;
     Ok(())
 }
@@ -160,7 +150,9 @@ fn append_class_rules(palette: &Palette, out: &mut Vec<u8>) -> Result<(), AllocE
     append_ground_rule(palette, out)?;
     append_color_rules(palette, Part::Text, out)?;
     append_color_rules(palette, Part::Ground, out)?;
-    append_color_rules(palette, Part::Line, out)
+    append_color_rules(palette, Part::Line, out)?;
+    append_color_rules(palette, Part::TextAsGround, out)?;
+    append_color_rules(palette, Part::GroundAsText, out)
 }
 
 /// Appends that, where there are classes.
@@ -174,42 +166,35 @@ fn append_rules_of_classes(markup: &Markup, out: &mut Vec<u8>) -> Result<(), All
     append_class_rules(&markup.palette, out)
 }
 
-/// Whether a page has a style sheet.
-fn has_sheet(markup: &Markup) -> bool
-    ensures { result ≡ has_sheet markup.now }
-{
-    markup.classes || has_own(&markup.palette)
-}
-
-/// Appends the style sheet of a page that has one.
-fn append_some_sheet(markup: &Markup, out: &mut Vec<u8>) -> Result<(), AllocError>
-    ensures { OnOk result (out.new.items ≡ out.old.items ++ some_sheet markup.now) }
-{
-    out.extend_from_slice(b"<style>\n")?;
-    append_own_rules(&markup.palette, out)?;
-    append_rules_of_classes(markup, out)?;
-    out.extend_from_slice(b"</style>\n")?;
-    Ok(())
-}
-
-/// Appends the style sheet, if there is one.
-#[tactic(auto, unfolding(crate::specs::Sheet::sheet))]
+/// Appends what the style sheet of a page has of the markup: the page's own colours, and classes.
 fn append_sheet(markup: &Markup, out: &mut Vec<u8>) -> Result<(), AllocError>
     ensures { OnOk result (out.new.items ≡ out.old.items ++ sheet markup.now) }
 {
-    if !has_sheet(markup) {
-        return Ok(());
-    }
-    append_some_sheet(markup, out)
+    append_own_colors(&markup.palette, out)?;
+    append_rules_of_classes(markup, out)
 }
 
-/// What stands ahead of the pieces of a page of their own: a head, with a style sheet where there are classes or colours of the page's
-/// own are given. That of classes has 25,000 bytes.
-pub fn front(alloc: Global, markup: Markup) -> Result<Vec<u8>, AllocError>
-    ensures { IfOk result (λ out. out.items ≡ HEAD.now ++ (sheet markup ++ BODY.now)) }
+/// The title of a page by its name: what `strip` leaves of that, escaped. No tag begins in it.
+fn title(alloc: Global, name: &[u8]) -> Result<Vec<u8>, AllocError>
+    ensures { IfOk result (λ out. IsTitle name.now out.items) }
 {
+    let text = strip(alloc, name)?;
+    let mut out = Vec::new(alloc);
+    append_page(&text, &mut out)?;
+    Ok(out)
+}
+
+/// What stands ahead of the pieces of a page of this name of their own: a head, with the name as its title, and a style sheet. With
+/// classes that has 42,000 bytes.
+pub fn front(alloc: Global, markup: Markup, name: &[u8]) -> Result<Vec<u8>, AllocError>
+    ensures { IfOk result (λ out. (title : List ℕ) × IsTitle name.now title
+        × (out.items ≡ HEAD.now ++ (title ++ (STYLE.now ++ (sheet markup ++ BODY.now))))) }
+{
+    let title = title(alloc, name)?;
     let mut out = Vec::new(alloc);
     append_text(HEAD, &mut out)?;
+    out.extend_from_slice(&title)?;
+    append_text(STYLE, &mut out)?;
     append_sheet(&markup, &mut out)?;
     append_text(BODY, &mut out)?;
     Ok(out)

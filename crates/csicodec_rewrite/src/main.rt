@@ -29,7 +29,7 @@ use std::process::ExitCode;
 
 /// What is made of one input after the other.
 #[derive(Drop)]
-enum Work {
+enum Work<'a> {
     Filter {
         faithful: bool,
     },
@@ -51,8 +51,9 @@ enum Work {
         passing: Passing,
         lines: bool,
     },
-    /// A page, which ends behind the last input if it has begun.
+    /// A page of this name, which ends behind the last input if it has begun.
     Html {
+        name: &'a str,
         markup: Markup,
         overwrite: bool,
         fragment: bool,
@@ -91,9 +92,17 @@ fn markup_of<'a>(alloc: Global, run: &Request<'a>) -> Result<Markup, Wrong<'a>> 
     })
 }
 
-impl Work {
+/// The name of a page: that of its first file, without its folder, and of standard input what it is.
+fn name_of<'a>(files: &[&'a str]) -> &'a str {
+    match files.first() {
+        None | Some(&"-") => "Terminal output",
+        Some(file) => file.rsplit('/').next().unwrap_or(file),
+    }
+}
+
+impl<'a> Work<'a> {
     /// Of a run; an error where another program does it.
-    fn new<'a>(alloc: Global, run: &Request<'a>) -> Result<Work, Wrong<'a>> {
+    fn new(alloc: Global, run: &Request<'a>) -> Result<Work<'a>, Wrong<'a>> {
         Ok(match run.task {
             Task::Filter => Work::Filter {
                 faithful: run.faithful,
@@ -119,6 +128,7 @@ impl Work {
                 }
             }
             Task::Html => Work::Html {
+                name: name_of(&run.files),
                 markup: markup_of(alloc, run)?,
                 overwrite: run.overwrites(),
                 fragment: run.fragment,
@@ -162,6 +172,7 @@ impl Work {
     /// Writes what stands ahead of the first input.
     fn begin<W: Write>(&mut self, alloc: Global, output: &mut W) -> Result<(), Failure> {
         if let Work::Html {
+            name,
             markup,
             fragment: false,
             begun,
@@ -170,7 +181,7 @@ impl Work {
         {
             if !*begun {
                 *begun = true;
-                let text = front(alloc, *markup).map_err(no_memory)?;
+                let text = front(alloc, *markup, name.as_bytes()).map_err(no_memory)?;
                 return Ok(send(output, &text)?);
             }
         }
@@ -178,7 +189,7 @@ impl Work {
     }
 }
 
-impl Worker for Work {
+impl<'a> Worker for Work<'a> {
     fn read<R: Read, W: Write>(
         &mut self,
         alloc: Global,
@@ -246,12 +257,12 @@ impl Worker for Work {
 
 /// What is made of inputs, and whether of a recording comes what its programs wrote, and no recording.
 #[derive(Drop)]
-struct Job {
-    work: Work,
+struct Job<'a> {
+    work: Work<'a>,
     text: bool,
 }
 
-impl Worker for Job {
+impl<'a> Worker for Job<'a> {
     fn read<R: Read, W: Write>(
         &mut self,
         alloc: Global,

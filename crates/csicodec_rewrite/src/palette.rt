@@ -7,7 +7,7 @@ use std::alloc::Global;
 /// The palette of `xterm`, or of colours with commas between them.
 pub fn palette_of(alloc: Global, text: &str) -> Result<Palette, Wrong<'_>> {
     if text == "xterm" {
-        return Ok(Palette::default());
+        return Ok(Palette::xterm());
     }
     let mut colors = Vec::new(alloc);
     for (index, part) in text.split(',').enumerate() {

@@ -63,6 +63,7 @@ fn told(alloc: Global, row: &str) -> Result<String, AllocError> {
         "palette" => pages::palette(alloc, rest),
         "classes" => pages::classes(alloc, rest),
         "rule" => pages::rule(alloc, rest),
+        "title" => pages::title(alloc, rest),
         _ => format!(in alloc; "no such row"),
     }
 }

@@ -2,13 +2,16 @@
 
 use crate::spelling::{bytes_of, law, spelled};
 use csicodec_html::{
-    BODY, HEAD, Markup, Palette, front, given_color, given_palette, html_all_with, html_with,
+    BODY, HEAD, Markup, Palette, STYLE, front, given_color, given_palette, html_all_with, html_with,
 };
 use std::alloc::{AllocError, Global};
 
-/// The palette of `xterm`, or of colours with commas between them; or what is wrong with it.
+/// The palette of `xterm`, of `none`, or of colours with commas between them; or what is wrong with it.
 fn palette_of(alloc: Global, text: &str) -> Result<Result<Palette, String>, AllocError> {
     if text == "xterm" {
+        return Ok(Ok(Palette::xterm()));
+    }
+    if text == "none" {
         return Ok(Ok(Palette::default()));
     }
     let mut colors = Vec::new(alloc);
@@ -38,14 +41,28 @@ fn page(alloc: Global, markup: Markup, word: &str) -> Result<String, AllocError>
     format!(in alloc; "{text}{end}")
 }
 
-/// The style sheet of a page of its own.
-fn sheet(alloc: Global, markup: Markup) -> Result<Vec<u8>, AllocError> {
-    let front = front(alloc, markup)?;
-    let rest = front.strip_prefix(HEAD.as_bytes()).unwrap_or(b"otherwise");
-    let sheet = rest.strip_suffix(BODY.as_bytes()).unwrap_or(b"otherwise");
+/// What is between these two.
+fn between(alloc: Global, all: &[u8], ahead: &str, behind: &str) -> Result<Vec<u8>, AllocError> {
+    let rest = all.strip_prefix(ahead.as_bytes()).unwrap_or(b"otherwise");
+    let inside = rest.strip_suffix(behind.as_bytes()).unwrap_or(b"otherwise");
     let mut out = Vec::new(alloc);
-    out.extend_from_slice(sheet)?;
+    out.extend_from_slice(inside)?;
     Ok(out)
+}
+
+/// What the style sheet of a page of its own has of the markup.
+fn sheet(alloc: Global, markup: Markup) -> Result<Vec<u8>, AllocError> {
+    let front = front(alloc, markup, b"")?;
+    let ahead = format!(in alloc; "{HEAD}{STYLE}")?;
+    between(alloc, &front, &ahead, BODY)
+}
+
+/// `title BYTES`: the title of a page of this name.
+pub(crate) fn title(alloc: Global, word: &str) -> Result<String, AllocError> {
+    let name = bytes_of(alloc, word)?;
+    let front = front(alloc, Markup::default(), &name)?;
+    let behind = format!(in alloc; "{STYLE}}}\n{BODY}")?;
+    spelled(alloc, &between(alloc, &front, HEAD, &behind)?)
 }
 
 /// `palette COLOURS BYTES`: the page with this palette, and its style sheet.
@@ -60,11 +77,7 @@ pub(crate) fn palette(alloc: Global, rest: &str) -> Result<String, AllocError> {
         ..Markup::default()
     };
     let page = page(alloc, markup, word)?;
-    let sheet = sheet(alloc, markup)?;
-    if sheet.is_empty() {
-        return format!(in alloc; "{page}\tno style sheet");
-    }
-    let sheet = spelled(alloc, &sheet)?;
+    let sheet = spelled(alloc, &sheet(alloc, markup)?)?;
     format!(in alloc; "{page}\t{sheet}")
 }
 

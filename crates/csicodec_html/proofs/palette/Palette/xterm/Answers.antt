@@ -1,6 +1,6 @@
 use Rattle.std.proofs.Common.{refl}
 use Rattle.csicodec_clean.specs.Palette.{palette}
-use Rattle.csicodec_html.proofs.palette.PaletteDefault.default.Goals as goal
+use Rattle.csicodec_html.proofs.palette.Palette.xterm.Goals as goal
 
 pub returns : goal.returns
 unfolding palette

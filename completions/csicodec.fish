@@ -39,7 +39,7 @@ complete -c csicodec -n '__fish_seen_subcommand_from explain' -l color -x -a 'al
 complete -c csicodec -n '__fish_seen_subcommand_from explain' -l count -d 'Show only totals, at the end: of each kind and each name'
 complete -c csicodec -n '__fish_seen_subcommand_from explain' -l decode -d 'Show what is put into the clipboard (OSC 52), decoded from base64'
 complete -c csicodec -n '__fish_seen_subcommand_from explain' -l diff -d 'Show the lines that differ between two FILEs, whatever their offsets. It doesn'\''t go with --count, --json, --quiet, --stats or --timing'
-complete -c csicodec -n '__fish_seen_subcommand_from explain' -l full -d 'Show all bytes, however many they are'
+complete -c csicodec -n '__fish_seen_subcommand_from explain' -l full -d 'Show all bytes, however many they are, and each newline in a line of its own'
 complete -c csicodec -n '__fish_seen_subcommand_from explain' -l grep -x -d 'Show only what has this text in its bytes or its words. Exit 1 if there is nothing'
 complete -c csicodec -n '__fish_seen_subcommand_from explain' -l input -d 'Read what a terminal sends: keys, the mouse and answers. Of a recording it lists what was typed'
 complete -c csicodec -n '__fish_seen_subcommand_from explain' -l json -d 'Write an object of JSON a line: at, kind, text or hex, and actions with name, words, action and its fields'

@@ -190,7 +190,8 @@ pub const EXPLAIN: &str = "\
 usage: csicodec explain [OPTION ..] [FILE ..]
 
 List what stands in each FILE. Each text, control character, sequence and string
-has a line with its offset, its bytes and what it does, as soon as it is over.
+has a line with its offset, its bytes and what it does, as soon as it is over. A
+newline, or CR LF, stands in the line of the text ahead of it.
 
 If there is no FILE, or if it is -, standard input is read. Of a recording of
 asciinema it lists what the programs wrote, with the time of each. It is a FILE
@@ -207,7 +208,8 @@ several FILEs, their names are shown.
   --diff          Show the lines that differ between two FILEs, whatever their
                   offsets. It doesn't go with --count, --json, --quiet, --stats
                   or --timing.
-  --full          Show all bytes, however many they are.
+  --full          Show all bytes, however many they are, and each newline in a
+                  line of its own.
   --grep TEXT     Show only what has this text in its bytes or its words. Exit 1
                   if there is nothing.
   --input         Read what a terminal sends: keys, the mouse and answers. Of a

@@ -266,7 +266,7 @@ impl<'a> Page<'a> {
     #[inline(always)]
     pub fn close(&mut self) -> Result<(), AllocError> {
         if self.open.len > 0 {
-            self.close_open()?;
+            self.close_open(&[])?;
         }
         match self.held.take() {
             Some((place, time)) => self.tell_control(place, time, b"\r"),
@@ -277,7 +277,7 @@ impl<'a> Page<'a> {
     /// Tells text that may go on, if a character isn't cut there: nothing more is there at once.
     pub fn pause(&mut self) -> Result<(), AllocError> {
         let front = self.open.front.as_slice();
-        let whole = whole_characters(front).len() == front.len();
+        let whole = self.held.is_some() || whole_characters(front).len() == front.len();
         if self.open.len == 0 || (self.open.kind == Kind::Text && whole) {
             self.close()
         } else {
@@ -285,8 +285,8 @@ impl<'a> Page<'a> {
         }
     }
 
-    /// Tells the span of which more could have come.
-    fn close_open(&mut self) -> Result<(), AllocError> {
+    /// Tells the span of which more could have come, a text with this end of its line.
+    fn close_open(&mut self, end: &[u8]) -> Result<(), AllocError> {
         let kind = self.open.kind;
         let span = Told {
             sort: sort_of(kind),
@@ -294,6 +294,7 @@ impl<'a> Page<'a> {
             time: self.open.time,
             bytes: &self.open.front,
             len: self.open.len,
+            end,
         };
         self.open.len = 0;
         match kind {
@@ -322,6 +323,7 @@ impl<'a> Page<'a> {
             time: self.time,
             bytes,
             len: bytes.len() as u64,
+            end: &[],
         }
     }
 
@@ -440,6 +442,7 @@ impl<'a> Page<'a> {
             time,
             bytes: &[],
             len: 0,
+            end: &[],
         };
         tell_words(&mut self.sheet, span, words)
     }
@@ -455,6 +458,7 @@ impl<'a> Page<'a> {
             time,
             bytes,
             len: bytes.len() as u64,
+            end: &[],
         };
         self.sheet.begin(span)?;
         let is_input = self.sheet.style().dialect.is_some();
@@ -470,20 +474,43 @@ impl<'a> Page<'a> {
         self.sheet.keep(bytes, 0)
     }
 
-    /// A control character. A carriage return waits for a line feed, where both are told as one.
-    fn add_control(&mut self, byte: u8) -> Result<(), AllocError> {
-        if let Some((place, time)) = self.held {
-            if byte == b'\n' {
-                self.held = None;
-                return self.tell_control(place, time, b"\r\n");
-            }
+    /// Whether a text is open.
+    fn is_in_text(&self) -> bool {
+        self.open.len > 0 && self.open.kind == Kind::Text
+    }
+
+    /// The end of a line: in the row of the text ahead of it, where that came at the same time, and else in a row of its own.
+    fn tell_line_end(&mut self, place: u64, time: u64, end: &[u8]) -> Result<(), AllocError> {
+        if self.is_in_text() && self.open.time == time && self.sheet.style().ends_rows() {
+            return self.close_open(end);
         }
         self.close()?;
-        if byte == b'\r' && self.sheet.style().joins_lines() {
-            self.held = Some((self.place, self.time));
-            return Ok(());
+        self.tell_control(place, time, end)
+    }
+
+    /// A carriage return waits for a line feed, and so does the text ahead of it.
+    fn hold_return(&mut self) -> Result<(), AllocError> {
+        if self.held.is_some() || !self.is_in_text() {
+            self.close()?;
         }
-        self.tell_control(self.place, self.time, &[byte])
+        self.held = Some((self.place, self.time));
+        Ok(())
+    }
+
+    /// A control character.
+    fn add_control(&mut self, byte: u8) -> Result<(), AllocError> {
+        match (byte, self.held) {
+            (b'\n', Some((place, time))) => {
+                self.held = None;
+                self.tell_line_end(place, time, b"\r\n")
+            }
+            (b'\n', None) => self.tell_line_end(self.place, self.time, b"\n"),
+            (b'\r', _) if self.sheet.style().joins_lines() => self.hold_return(),
+            _ => {
+                self.close()?;
+                self.tell_control(self.place, self.time, &[byte])
+            }
+        }
     }
 
     /// Bytes of a span of which more may come; it goes on with them, or begins.
@@ -523,8 +550,12 @@ impl<'a> Page<'a> {
             _ => (part, None),
         };
         if !run.is_empty() {
-            let same = self.open.len > 0 && self.open.kind == Kind::Text;
-            if !same && (over || control.is_some()) {
+            let same = self.is_in_text() && self.held.is_none();
+            let alone = match control {
+                Some(_) => !self.sheet.style().ends_rows(),
+                None => over,
+            };
+            if alone && !same {
                 self.add_whole_text(run)?;
             } else {
                 self.add_open(Kind::Text, same, run)?;

@@ -59,6 +59,8 @@ pub struct Told<'a> {
     pub bytes: &'a [u8],
     /// How many bytes it has.
     pub len: u64,
+    /// The end of a line that stands behind a text, and in its row: LF, or CR and LF. Else it is empty.
+    pub end: &'a [u8],
 }
 
 /// So many blanks, 50 at most.
@@ -202,13 +204,13 @@ fn append_shown(text: &mut Vec<u8>, span: Told<'_>, most: usize) -> Result<usize
         append_escaped(text, front)?;
         text.len().saturating_sub(begin)
     };
-    if !more {
-        return Ok(columns);
-    }
     let begin = text.len();
-    text.extend_from_slice(b".. (")?;
-    append_number(text, span.len)?;
-    text.extend_from_slice(b" bytes)")?;
+    if more {
+        text.extend_from_slice(b".. (")?;
+        append_number(text, span.len)?;
+        text.extend_from_slice(b" bytes)")?;
+    }
+    append_escaped(text, span.end)?;
     Ok(columns.saturating_add(text.len().saturating_sub(begin)))
 }
 
@@ -225,10 +227,11 @@ pub fn append_margin(text: &mut Vec<u8>, style: &Style<'_>) -> Result<(), AllocE
     )
 }
 
-/// The columns of a short text of ASCII characters that stand for themselves.
+/// The columns of a short text of ASCII characters that stand for themselves, with no end of a line behind it.
 #[inline(always)]
-fn short_text(bytes: &[u8]) -> Option<[u8; BYTES]> {
-    if bytes.len() > BYTES - 4 || !are_plain(bytes) {
+fn short_text(span: Told<'_>) -> Option<[u8; BYTES]> {
+    let bytes = span.bytes;
+    if !span.end.is_empty() || bytes.len() > BYTES - 4 || !are_plain(bytes) {
         return None;
     }
     let mut columns = [b' '; BYTES];
@@ -246,7 +249,7 @@ pub fn append_bytes(
     span: Told<'_>,
 ) -> Result<(), AllocError> {
     if span.sort == Sort::Text && !style.color && span.len == span.bytes.len() as u64 {
-        if let Some(columns) = short_text(span.bytes) {
+        if let Some(columns) = short_text(span) {
             return text.extend_from_slice(&columns);
         }
     }
@@ -268,12 +271,22 @@ pub fn append_name(text: &mut Vec<u8>, style: &Style<'_>, name: &str) -> Result<
     text.extend_from_slice(b"  ")
 }
 
-/// The words of a text of so many bytes, and the line's end.
+/// What stands behind the words of a text with this end of a line.
+fn words_of_end(end: &[u8]) -> &'static [u8] {
+    match end {
+        [] => b"\n",
+        [_] => b", LF\n",
+        _ => b", CR LF\n",
+    }
+}
+
+/// The words of a text, and the line's end.
 pub fn append_text_words(
     text: &mut Vec<u8>,
     style: &Style<'_>,
-    len: u64,
+    span: Told<'_>,
 ) -> Result<(), AllocError> {
+    let len = span.len;
     if style.color {
         append_name(text, style, "text")?;
     } else {
@@ -284,5 +297,7 @@ pub fn append_text_words(
     } else {
         append_number(text, len)?;
     }
-    text.extend_from_slice(if len == 1 { b" byte\n" } else { b" bytes\n" })
+    let unit: &[u8] = if len == 1 { b" byte" } else { b" bytes" };
+    text.extend_from_slice(unit)?;
+    text.extend_from_slice(words_of_end(span.end))
 }

@@ -190,7 +190,7 @@ impl<'a> Sheet<'a> {
             return append_end(&mut self.text, false);
         }
         append_bytes(&mut self.text, &self.style, span)?;
-        append_text_words(&mut self.text, &self.style, span.len)
+        append_text_words(&mut self.text, &self.style, span)
     }
 
     /// A text, if it is one that is asked for. In JSON it has no actions.
@@ -211,7 +211,7 @@ impl<'a> Sheet<'a> {
             return append_end(&mut self.text, false);
         }
         append_bytes(&mut self.text, &self.style, span)?;
-        append_text_words(&mut self.text, &self.style, len)
+        append_text_words(&mut self.text, &self.style, span)
     }
 
     /// A span begins.

@@ -6,7 +6,8 @@ use memchr::memmem::find;
 /// How a stream is told, and what of it.
 #[derive(Clone, Copy, Debug, Default, PartialEq, Eq)]
 pub struct Style<'a> {
-    /// All bytes of each span are shown; a span is held until it is over, however long it is.
+    /// All bytes of each span are shown, and each end of a line has a row of its own; a span is held until it is over, however long
+    /// it is.
     pub full: bool,
     /// An object of JSON for each span.
     pub json: bool,
@@ -92,6 +93,11 @@ impl<'a> Style<'a> {
     /// Whether a carriage return and the line feed behind it are told as one.
     pub fn joins_lines(&self) -> bool {
         !self.json && self.is_plain() && self.dialect.is_none()
+    }
+
+    /// Whether the end of a line stands in the row of the text ahead of it.
+    pub fn ends_rows(&self) -> bool {
+        !self.full && self.joins_lines()
     }
 
     /// Whether a span is held until it is over, so that all its bytes are there.

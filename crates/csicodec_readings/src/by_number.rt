@@ -68,8 +68,38 @@ fn bare(control: char, first: i64, params: &[CsiParam]) -> Option<Told> {
         'r' if count_fields(params) == 2 => Some(Told::Filled(scrolling_region(params))),
         't' if first >= 24 && params.len() == 1 => Some(Told::Filled("DECSLPP  {1#line} a page")),
         'x' => Some(Told::SerialLine),
+        'u' | '~' => Some(Told::Filled(key_by_number(control, params)?)),
         ']' if positive(params, 1).is_none() => Some(Told::Filled(words_of(&NEVER, first)?)),
         'm' if params.len() == 1 => Some(Told::Filled(words_of(&UNREAD, first)?)),
+        _ => None,
+    }
+}
+
+/// A key by the number of its character, which is a control's, or no character's: no key that csicodec_keys knows (kitty; xterm's
+/// modifyOtherKeys).
+fn key_by_number(control: char, params: &[CsiParam]) -> Option<&'static str> {
+    match (control, params) {
+        (
+            '~',
+            [
+                CsiParam::Integer(27),
+                CsiParam::P(b';'),
+                CsiParam::Integer(1..=256),
+                CsiParam::P(b';'),
+                CsiParam::Integer(_),
+            ],
+        ) => Some("key  of character {3:0}, modifiers {2} (modifyOtherKeys)"),
+        ('u', [CsiParam::Integer(_)] | [CsiParam::Integer(_), CsiParam::P(b';')]) => Some(
+            "key  of character {1:0}",
+        ),
+        (
+            'u',
+            [
+                CsiParam::Integer(_),
+                CsiParam::P(b';'),
+                CsiParam::Integer(1..=256),
+            ],
+        ) => Some("key  of character {1:0}, modifiers {2}"),
         _ => None,
     }
 }

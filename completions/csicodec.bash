@@ -24,7 +24,7 @@ _csicodec() {
         strip) of="--check --lines --log --overwrite --text --help" ;;
         clean) of="--colors --lines --links --log --text --help" ;;
         html) of="--classes --fragment --links --no-overwrite --overwrite --palette --help" ;;
-        explain) of="--at --color --count --decode --diff --full --grep --input --json --only --quiet --stats --timing --unknown --utf8-mouse --help" ;;
+        explain) of="--at --color --count --decode --diff --full --grep --ignore-case --input --json --only --quiet --stats --timing --unknown --utf8-mouse --help" ;;
         assemble) of="--help" ;;
         help) COMPREPLY=($(compgen -W "filter compact strip clean html explain assemble" -- "$word")); return ;;
         *) of="filter compact strip clean html explain assemble help --help --version" ;;

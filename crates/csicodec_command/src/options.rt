@@ -16,7 +16,7 @@ pub(crate) static TASKS: [(&str, Task, &str); 7] = [
 
 /// The options: how each stands in a command line, the words that have it, none where all have, and which values it has, none
 /// where it has no value.
-pub(crate) static OPTIONS: [(&str, &str, &str); 30] = [
+pub(crate) static OPTIONS: [(&str, &str, &str); 31] = [
     ("--at", "explain", "places, as 120, 120-180 or 120-"),
     ("--check", "strip", ""),
     ("--classes", "html", ""),
@@ -30,6 +30,7 @@ pub(crate) static OPTIONS: [(&str, &str, &str); 30] = [
     ("--full", "explain", ""),
     ("--grep", "explain", "a text"),
     ("--help", "", ""),
+    ("--ignore-case", "explain", ""),
     ("--input", "explain", ""),
     ("--json", "explain", ""),
     ("--lines", "strip clean", ""),
@@ -210,8 +211,9 @@ several FILEs, their names are shown.
                   or --timing.
   --full          Show all bytes, however many they are, and each newline in a
                   line of its own.
-  --grep TEXT     Show only what has this text in its bytes or its words. Exit 1
-                  if there is nothing.
+  --grep TEXT     Show only what has this text in its bytes, in its bytes as
+                  they are shown, or in its words. Exit 1 if there is nothing.
+  -i, --ignore-case  With --grep, take capitals and small letters as the same.
   --input         Read what a terminal sends: keys, the mouse and answers. Of a
                   recording it lists what was typed.
   --json          Write an object of JSON a line: at, kind, text or hex, and

@@ -175,6 +175,7 @@ fn style_of<'a>(rt: &HostRuntime, run: &Request<'a>) -> Style<'a> {
         only: wanted.only,
         at: ends_of(wanted.at),
         grep: wanted.grep,
+        ignore_case: wanted.ignore_case,
         dialect: dialect_of(wanted),
     }
 }

@@ -27,6 +27,7 @@ const IN_JSON: Style<'static> = Style {
     only: None,
     at: None,
     grep: None,
+    ignore_case: false,
     dialect: None,
 };
 

@@ -7,6 +7,7 @@ mod decode;
 mod fields;
 mod json;
 mod line;
+mod search;
 mod sheet;
 mod style;
 

@@ -193,7 +193,7 @@ pub fn whole_characters(bytes: &[u8]) -> &[u8] {
 }
 
 /// The bytes of a span as a line shows them, and how many columns they take.
-fn append_shown(text: &mut Vec<u8>, span: Told<'_>, most: usize) -> Result<usize, AllocError> {
+pub fn append_shown(text: &mut Vec<u8>, span: Told<'_>, most: usize) -> Result<usize, AllocError> {
     let near = span.bytes.get(..most);
     let front = near.unwrap_or(span.bytes);
     let more = (front.len() as u64) < span.len;

@@ -10,6 +10,7 @@ use crate::json::{
 use crate::line::{
     Place, Told, append_begin, append_bytes, append_margin, append_name, append_text_words,
 };
+use crate::search::Search;
 use crate::style::{Style, name_of};
 use csicodec_strings::Shown;
 use std::alloc::{AllocError, Global};
@@ -39,6 +40,7 @@ pub struct Sheet<'a> {
     place: Place,
     known: Remembered,
     names: Names,
+    search: Search,
 }
 
 /// When and where a span begins.
@@ -76,6 +78,7 @@ impl<'a> Sheet<'a> {
             place: Place::new(),
             known: Remembered::new(alloc),
             names: Names::new(alloc),
+            search: Search::new(alloc),
         }
     }
 
@@ -193,13 +196,21 @@ impl<'a> Sheet<'a> {
         append_text_words(&mut self.text, &self.style, span)
     }
 
+    /// Whether the words that are there are told of the span.
+    fn is_wanted(&mut self, span: Told<'_>) -> Result<bool, AllocError> {
+        if !self.style.tells(&self.words, span.place, span.len) {
+            return Ok(false);
+        }
+        self.search.finds(&self.style, span, &self.words)
+    }
+
     /// A text, if it is one that is asked for. In JSON it has no actions.
     fn tell_some_text(&mut self, span: Told<'_>) -> Result<(), AllocError> {
         let len = span.len;
         self.words.clear();
         let unit = if len == 1 { "byte" } else { "bytes" };
         write!(self.words, "text  {len} {unit}")?;
-        if !self.style.tells(&self.words, span.place, len, span.bytes) {
+        if !self.is_wanted(span)? {
             return Ok(());
         }
         if self.style.is_silent() {
@@ -269,10 +280,7 @@ impl<'a> Sheet<'a> {
     fn add_words<T: Display>(&mut self, span: Told<'_>, value: &T) -> Result<(), AllocError> {
         self.words.clear();
         write!(self.words, "{value}")?;
-        if !self
-            .style
-            .tells(&self.words, span.place, span.len, span.bytes)
-        {
+        if !self.is_wanted(span)? {
             return Ok(());
         }
         let first = self.actions == 0;

@@ -1,7 +1,6 @@
 //! How a stream is told, and what of it.
 
 use csicodec_events::Dialect;
-use memchr::memmem::find;
 
 /// How a stream is told, and what of it.
 #[derive(Clone, Copy, Debug, Default, PartialEq, Eq)]
@@ -29,8 +28,10 @@ pub struct Style<'a> {
     pub only: Option<&'a str>,
     /// Only what has a byte at one of these places, the last one included.
     pub at: Option<(u64, u64)>,
-    /// Only what has this text in its bytes or its words; a span is held until it is over.
+    /// Only what has this text in its bytes, in these as they are shown, or in its words; a span is held until it is over.
     pub grep: Option<&'a str>,
+    /// There capitals and small letters are the same.
+    pub ignore_case: bool,
     /// What a terminal sends, in this dialect, and not what it is sent.
     pub dialect: Option<Dialect>,
 }
@@ -105,10 +106,9 @@ impl<'a> Style<'a> {
         self.full || self.json || self.decode || self.grep.is_some()
     }
 
-    /// Whether what has these words, and bytes of which the first stands at this place, is told.
-    pub fn tells(&self, words: &str, place: u64, len: u64, bytes: &[u8]) -> bool {
-        self.tells_all()
-            || (self.tells_words(words) && self.is_at(place, len) && self.finds(words, bytes))
+    /// Whether what has these words, and so many bytes of which the first stands at this place, is told, if `Search` finds it.
+    pub fn tells(&self, words: &str, place: u64, len: u64) -> bool {
+        self.tells_words(words) && self.is_at(place, len)
     }
 
     fn tells_words(&self, words: &str) -> bool {
@@ -125,16 +125,6 @@ impl<'a> Style<'a> {
     fn is_at(&self, place: u64, len: u64) -> bool {
         match self.at {
             Some((first, last)) => place <= last && place.saturating_add(len.max(1)) > first,
-            None => true,
-        }
-    }
-
-    fn finds(&self, words: &str, bytes: &[u8]) -> bool {
-        match self.grep {
-            Some(text) => {
-                let text = text.as_bytes();
-                find(bytes, text).is_some() || find(words.as_bytes(), text).is_some()
-            }
             None => true,
         }
     }

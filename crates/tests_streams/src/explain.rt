@@ -19,6 +19,7 @@ const PLAIN: Style<'static> = Style {
     only: None,
     at: None,
     grep: None,
+    ignore_case: false,
     dialect: None,
 };
 

@@ -9,9 +9,7 @@ mod options;
 mod recording;
 mod run;
 
-pub use command::{
-    ColorWhen, Colors, Command, Places, Request, Task, Wanted, Wrong, command_of, nearest,
-};
+pub use command::{ColorWhen, Colors, Command, Request, Task, Wanted, Wrong, command_of, nearest};
 pub use failure::{Failure, Found};
 pub use options::{USAGE, VERSION};
 pub use recording::{Recording, line_front, micros, time_of};

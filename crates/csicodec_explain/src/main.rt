@@ -13,8 +13,8 @@ use assemble::Assembly;
 use cast::explain_cast;
 use compare::explain_diff;
 use csicodec_command::{
-    ColorWhen, Failure, Places, Request, Task, Wanted, Worker, Wrong, asked, failed, is_cast,
-    refused, text_of, words_of, work_through,
+    ColorWhen, Failure, Request, Task, Wanted, Worker, Wrong, asked, failed, is_cast, refused,
+    text_of, words_of, work_through,
 };
 use csicodec_events::Dialect;
 use csicodec_page::Explainer;
@@ -152,14 +152,8 @@ fn is_colored(rt: &HostRuntime, color: ColorWhen, live: bool) -> bool {
     }
 }
 
-/// The first and the last place.
-fn ends_of(places: Option<Places>) -> Option<(u64, u64)> {
-    let places = places?;
-    Some((places.first, places.last))
-}
-
 /// How the streams of a run are explained.
-fn style_of<'a>(rt: &HostRuntime, run: &Request<'a>) -> Style<'a> {
+fn style_of<'a>(rt: &HostRuntime, run: &'a Request<'a>) -> Style<'a> {
     let wanted = run.wanted;
     let live = rt.stdout().is_terminal();
     Style {
@@ -173,7 +167,7 @@ fn style_of<'a>(rt: &HostRuntime, run: &Request<'a>) -> Style<'a> {
         timed: false,
         live,
         only: wanted.only,
-        at: ends_of(wanted.at),
+        at: &run.at,
         grep: wanted.grep,
         ignore_case: wanted.ignore_case,
         dialect: dialect_of(wanted),

@@ -25,7 +25,7 @@ const IN_JSON: Style<'static> = Style {
     timed: false,
     live: false,
     only: None,
-    at: None,
+    at: &[],
     grep: None,
     ignore_case: false,
     dialect: None,

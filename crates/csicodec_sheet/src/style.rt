@@ -26,8 +26,8 @@ pub struct Style<'a> {
     pub live: bool,
     /// Only what has one of these names, with commas between them.
     pub only: Option<&'a str>,
-    /// Only what has a byte at one of these places, the last one included.
-    pub at: Option<(u64, u64)>,
+    /// Only what has a byte in one of these ranges, each by its first and its last place; without any, all.
+    pub at: &'a [(u64, u64)],
     /// Only what has this text in its bytes, in these as they are shown, or in its words; a span is held until it is over.
     pub grep: Option<&'a str>,
     /// There capitals and small letters are the same.
@@ -78,7 +78,7 @@ impl<'a> Style<'a> {
 
     /// Whether all spans are told.
     pub fn tells_all(&self) -> bool {
-        !self.unknown && self.only.is_none() && self.at.is_none() && self.grep.is_none()
+        !self.unknown && self.only.is_none() && self.at.is_empty() && self.grep.is_none()
     }
 
     /// Whether all spans are told, each as it comes.
@@ -88,7 +88,7 @@ impl<'a> Style<'a> {
 
     /// Whether what was told of a span once is what is told of one with the same bytes.
     pub fn recalls(&self) -> bool {
-        self.at.is_none() && !self.counts()
+        self.at.is_empty() && !self.counts()
     }
 
     /// Whether a carriage return and the line feed behind it are told as one.
@@ -123,9 +123,12 @@ impl<'a> Style<'a> {
     }
 
     fn is_at(&self, place: u64, len: u64) -> bool {
-        match self.at {
-            Some((first, last)) => place <= last && place.saturating_add(len.max(1)) > first,
-            None => true,
+        let behind = place.saturating_add(len.max(1));
+        for (first, last) in self.at {
+            if place <= *last && behind > *first {
+                return true;
+            }
         }
+        self.at.is_empty()
     }
 }

@@ -51,8 +51,8 @@ pub(crate) fn command(alloc: Global, line: &str) -> Result<String, AllocError> {
             if run.overwrites() {
                 return format!(in alloc; "{task:?} {files:?} overwritten");
             }
-            if wanted.stats || wanted.diff || wanted.at.is_some() || wanted.grep.is_some() {
-                let (stats, diff, at) = (wanted.stats, wanted.diff, wanted.at);
+            if wanted.stats || wanted.diff || !run.at.is_empty() || wanted.grep.is_some() {
+                let (stats, diff, at) = (wanted.stats, wanted.diff, run.at.as_slice());
                 let grep = wanted.grep.unwrap_or("all");
                 return format!(in alloc; "{files:?} {stats} {diff} {at:?} {grep}");
             }

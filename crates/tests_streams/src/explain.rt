@@ -17,7 +17,7 @@ const PLAIN: Style<'static> = Style {
     timed: false,
     live: false,
     only: None,
-    at: None,
+    at: &[],
     grep: None,
     ignore_case: false,
     dialect: None,

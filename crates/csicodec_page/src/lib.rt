@@ -6,6 +6,5 @@ mod explain;
 mod input;
 mod page;
 mod stats;
-mod totals;
 
 pub use explain::Explainer;

@@ -2,12 +2,13 @@
 ghost use Rattle.std.specs.Prelude.{◌≤◌, IfOk, length};
 
 use crate::controls::{is_control, text_front, words_of};
-use crate::totals::{Summary, Totals};
 use csicodec_base::{CsiParam, Esc, read_csi_into};
 use csicodec_inputs::Did;
 use csicodec_parser::CSI;
 use csicodec_readings::{EscReading, LongEscReading, Reading};
-use csicodec_sheet::{Names, Sheet, Sort, Style, Told, clipboard_bytes, whole_characters};
+use csicodec_sheet::{
+    Names, Sheet, Sort, Style, Summary, Told, Totals, clipboard_bytes, whole_characters,
+};
 use csicodec_spans::{Kind, Mode};
 use csicodec_strings::{ControlString, FRONT};
 use csicodec_words::Described;
@@ -126,7 +127,7 @@ fn tell_words<T: Display>(
 ) -> Result<(), AllocError> {
     sheet.begin(span)?;
     sheet.add(span, words)?;
-    sheet.end()
+    sheet.end(span)
 }
 
 /// A string, which may be closed, and what it puts into the clipboard, where that is asked for.
@@ -148,7 +149,7 @@ fn tell_string(
             sheet.add_decoded(span, &bytes)?;
         }
     }
-    sheet.end()
+    sheet.end(span)
 }
 
 /// What went wrong, which may be a long escape sequence.
@@ -187,7 +188,7 @@ fn tell_actions(
         sheet.add_action(span, &Described(&reading), &action)?;
         count = count.saturating_add(1);
     }
-    sheet.end()?;
+    sheet.end(span)?;
     Ok(count)
 }
 
@@ -225,10 +226,15 @@ impl<'a> Page<'a> {
         self.sheet.clear();
     }
 
-    /// How much came.
+    /// How much came, or where only some is told, how much was.
     pub fn summary(&self) -> Summary<'_> {
+        let tells_all = self.sheet.style().tells_all();
         Summary {
-            totals: self.totals,
+            totals: if tells_all {
+                self.totals
+            } else {
+                self.sheet.totals()
+            },
             names: self.sheet.names(),
             json: self.sheet.style().json,
         }
@@ -366,7 +372,7 @@ impl<'a> Page<'a> {
         let span = self.span_here(sort, bytes);
         self.sheet.begin(span)?;
         self.sheet.add(span, did)?;
-        self.sheet.end()?;
+        self.sheet.end(span)?;
         self.text = false;
         self.advance(kind, 1, bytes.len());
         Ok(())
@@ -418,7 +424,7 @@ impl<'a> Page<'a> {
         let esc = escape_of(bytes);
         self.sheet
             .add_action(span, &Described(&EscReading(esc)), &Named(esc))?;
-        self.sheet.end()?;
+        self.sheet.end(span)?;
         self.sheet.keep(bytes, 0)
     }
 
@@ -470,7 +476,7 @@ impl<'a> Page<'a> {
             Some(did) => self.sheet.add(span, &did)?,
             None => self.sheet.add(span, &words_of(bytes))?,
         }
-        self.sheet.end()?;
+        self.sheet.end(span)?;
         self.sheet.keep(bytes, 0)
     }
 

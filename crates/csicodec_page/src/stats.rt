@@ -12,33 +12,32 @@ const HEADING: &str = "name                         times        bytes    share\
 struct Row<'a> {
     name: &'a str,
     sum: Sum,
-    /// All bytes of the stream.
-    all: u64,
+    /// Its share of all bytes, in thousandths.
+    share: u64,
     /// Whether it is an object of JSON.
     json: bool,
 }
 
-impl<'a> Row<'a> {
-    /// Its share of all bytes, in thousandths.
-    fn share(&self) -> u64 {
-        let bytes = self.sum.bytes.saturating_mul(1000);
-        bytes.checked_div(self.all).unwrap_or(0)
-    }
+/// What part so many bytes are of all, in thousandths, rounded.
+fn thousandths(bytes: u64, all: u64) -> u64 {
+    let half = all / 2;
+    let bytes = bytes.saturating_mul(1000).saturating_add(half);
+    bytes.checked_div(all).unwrap_or(0)
+}
 
+impl<'a> Row<'a> {
     fn write_object<W: fmt::Write>(&self, f: &mut fmt::Formatter<W>) -> fmt::Result {
         let (name, times, bytes) = (self.name, self.sum.times, self.sum.bytes);
         write!(f, "{{\"kind\":\"stats\",\"name\":\"{name}\"")?;
         write!(f, ",\"times\":{times},\"bytes\":{bytes}")?;
-        let share = self.share();
-        let (whole, tenths) = (share / 10, share % 10);
+        let (whole, tenths) = (self.share / 10, self.share % 10);
         write!(f, ",\"share\":{whole}.{tenths}}}\n")
     }
 
     fn write_line<W: fmt::Write>(&self, f: &mut fmt::Formatter<W>) -> fmt::Result {
         let (name, times, bytes) = (self.name, self.sum.times, self.sum.bytes);
         write!(f, "{name:<24}{times:>10}{bytes:>13}")?;
-        let share = self.share();
-        let (whole, tenths) = (share / 10, share % 10);
+        let (whole, tenths) = (self.share / 10, self.share % 10);
         write!(f, "{whole:>6}.{tenths}%\n")
     }
 }
@@ -54,27 +53,24 @@ impl<'a> fmt::Display for Row<'a> {
 }
 
 /// The table, names of more bytes first; in JSON an object for each name. A sequence of several actions counts with its bytes for the
-/// first of them.
+/// first of them. The shares down to each row are together that part of all bytes, rounded: of a whole stream they are 100 per cent.
 pub fn stats_of(alloc: Global, names: &Names, all: u64, json: bool) -> Result<String, AllocError> {
     let mut out = String::new(alloc);
     if !json {
         out.push_str(HEADING)?;
     }
-    let (rows, others) = names.by_bytes()?;
+    let (mut rows, others) = names.by_bytes()?;
+    if others.times > 0 {
+        rows.push(("other names", others))?;
+    }
+    let mut bytes = 0u64;
     for (name, sum) in &rows {
+        let before = thousandths(bytes, all);
+        bytes = bytes.saturating_add(sum.bytes);
         let row = Row {
             name: *name,
             sum: *sum,
-            all,
-            json,
-        };
-        write!(out, "{row}")?;
-    }
-    if others.times > 0 {
-        let row = Row {
-            name: "other names",
-            sum: others,
-            all,
+            share: thousandths(bytes, all).saturating_sub(before),
             json,
         };
         write!(out, "{row}")?;

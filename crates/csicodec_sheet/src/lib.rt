@@ -10,9 +10,11 @@ mod line;
 mod search;
 mod sheet;
 mod style;
+mod totals;
 
 pub use counts::{Names, Sum};
 pub use decode::clipboard_bytes;
 pub use line::{Sort, Told, whole_characters};
 pub use sheet::Sheet;
 pub use style::Style;
+pub use totals::{Summary, Totals};

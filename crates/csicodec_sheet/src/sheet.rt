@@ -8,10 +8,11 @@ use crate::json::{
     append_action, append_begin_object, append_decoded, append_end, append_object, append_string,
 };
 use crate::line::{
-    Place, Told, append_begin, append_bytes, append_margin, append_name, append_text_words,
+    Place, Sort, Told, append_begin, append_bytes, append_margin, append_name, append_text_words,
 };
 use crate::search::Search;
 use crate::style::{Style, name_of};
+use crate::totals::Totals;
 use csicodec_strings::Shown;
 use std::alloc::{AllocError, Global};
 use std::fmt::{Debug, Display, Write};
@@ -40,6 +41,7 @@ pub struct Sheet<'a> {
     place: Place,
     known: Remembered,
     names: Names,
+    totals: Totals,
     search: Search,
 }
 
@@ -78,6 +80,7 @@ impl<'a> Sheet<'a> {
             place: Place::new(),
             known: Remembered::new(alloc),
             names: Names::new(alloc),
+            totals: Totals::default(),
             search: Search::new(alloc),
         }
     }
@@ -95,6 +98,11 @@ impl<'a> Sheet<'a> {
     /// How often each name was told, where sums are asked for.
     pub fn names(&self) -> &Names {
         &self.names
+    }
+
+    /// How much was told.
+    pub fn totals(&self) -> Totals {
+        self.totals
     }
 
     /// Takes the lines away.
@@ -213,6 +221,7 @@ impl<'a> Sheet<'a> {
         if !self.is_wanted(span)? {
             return Ok(());
         }
+        self.totals.add_told(Sort::Text, len, 0);
         if self.style.is_silent() {
             return self.names.add("text", len);
         }
@@ -317,8 +326,11 @@ impl<'a> Sheet<'a> {
     }
 
     /// The span is over. One of which nothing was wanted is taken back.
-    pub fn end(&mut self) -> Result<(), AllocError> {
+    pub fn end(&mut self, span: Told<'_>) -> Result<(), AllocError> {
         let some = self.actions > 0;
+        if some {
+            self.totals.add_told(span.sort, span.len, self.actions);
+        }
         if !some && !(self.style.json && self.style.tells_all()) {
             self.text.truncate(self.begin);
             return Ok(());

@@ -1,6 +1,7 @@
 //! How much of a stream is what.
 
-use csicodec_sheet::Names;
+use crate::counts::Names;
+use crate::line::Sort;
 use csicodec_spans::Kind;
 use std::fmt;
 
@@ -40,6 +41,21 @@ impl Totals {
             Kind::Esc => self.escapes.add(spans, bytes),
             Kind::Str => self.strings.add(spans, bytes),
             Kind::Other => self.malformed.add(spans, bytes),
+        }
+    }
+
+    /// A span that is told as this, of so many bytes and actions.
+    pub fn add_told(&mut self, sort: Sort, bytes: u64, actions: u64) {
+        match sort {
+            Sort::Text | Sort::Control => self.text.add(1, bytes),
+            Sort::Sequence => {
+                self.sequences.add(1, bytes);
+                self.add_actions(actions);
+            }
+            Sort::Escape => self.escapes.add(1, bytes),
+            Sort::String => self.strings.add(1, bytes),
+            Sort::Malformed => self.malformed.add(1, bytes),
+            Sort::Event => {}
         }
     }
 

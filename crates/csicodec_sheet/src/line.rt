@@ -1,15 +1,19 @@
 //! The begin of a line: when and where a span came, and its bytes.
 
 use crate::style::Style;
-use csicodec_strings::{append_escaped, append_quoted, are_plain};
+use bstr::ByteSlice;
+use csicodec_strings::{append_escaped, append_quoted, are_plain, is_seen};
 use itoa::write_digits;
 use std::alloc::AllocError;
 
-/// How many bytes of a span are shown at most.
-const SHOWN: usize = 60;
-
 /// How many columns the bytes have, behind those of the time and the place.
 const BYTES: usize = 26;
+
+/// How many they have where the words stand in the next line.
+const ROW: usize = 80;
+
+/// The most columns of a character that can't be seen: `\u{e0001}`.
+const UNSEEN: usize = 9;
 
 /// How many columns the place has.
 const PLACE: usize = 10;
@@ -192,23 +196,82 @@ pub fn whole_characters(bytes: &[u8]) -> &[u8] {
     bytes
 }
 
-/// The bytes of a span as a line shows them, and how many columns they take.
-pub fn append_shown(text: &mut Vec<u8>, span: Told<'_>, most: usize) -> Result<usize, AllocError> {
-    let near = span.bytes.get(..most);
-    let front = near.unwrap_or(span.bytes);
-    let more = (front.len() as u64) < span.len;
+/// At most how many columns a character of so many bytes takes where it is shown, between quotation marks or not.
+fn columns_of(character: char, bytes: usize, quoted: bool) -> usize {
+    match character {
+        '"' | '\\' | '\t' | '\n' | '\r' | '\u{1b}' => 2,
+        ' '..='~' => 1,
+        '\0'..='\x7f' => 4,
+        // What is no UTF-8 is given as this too.
+        '\u{fffd}' => bytes.saturating_mul(4),
+        _ if !quoted => bytes.saturating_mul(4),
+        _ if is_seen(character) => 1,
+        _ => UNSEEN,
+    }
+}
+
+/// The bytes in front that are shown in so many columns.
+fn shown_front(sort: Sort, bytes: &[u8], columns: usize) -> &[u8] {
+    if bytes.len() <= columns && are_plain(bytes) {
+        return bytes;
+    }
+    let mut room = columns;
+    for (begin, end, character) in bytes.char_indices() {
+        let taken = columns_of(character, end.saturating_sub(begin), sort == Sort::Text);
+        if taken > room {
+            return bytes.get(..begin).unwrap_or(bytes);
+        }
+        room = room.saturating_sub(taken);
+    }
+    bytes
+}
+
+/// How many bytes there are, of which not all are shown.
+fn append_count(text: &mut Vec<u8>, len: u64) -> Result<(), AllocError> {
+    text.extend_from_slice(b".. (")?;
+    append_number(text, len)?;
+    text.extend_from_slice(b" bytes)")
+}
+
+/// The first bytes of a span, which are shown in so many columns with their count behind them.
+fn counted_front<'b>(
+    text: &mut Vec<u8>,
+    span: Told<'b>,
+    columns: usize,
+) -> Result<&'b [u8], AllocError> {
+    // The count is written to see how long it is.
+    let begin = text.len();
+    append_count(text, span.len)?;
+    let count = text.len().saturating_sub(begin);
+    text.truncate(begin);
+    Ok(shown_front(span.sort, span.bytes, columns.saturating_sub(count)))
+}
+
+/// The bytes of a span as a line shows them in so many columns, the first of them where not all have room; how many columns they take.
+pub fn append_shown(
+    text: &mut Vec<u8>,
+    span: Told<'_>,
+    columns: usize,
+) -> Result<usize, AllocError> {
+    let marks = span.end.len().saturating_add(1).saturating_mul(2);
+    let room = columns.saturating_sub(marks);
+    let whole = shown_front(span.sort, span.bytes, room);
+    let more = (whole.len() as u64) < span.len;
+    let front = if more {
+        counted_front(text, span, room)?
+    } else {
+        whole
+    };
     let begin = text.len();
     let columns = if span.sort == Sort::Text {
-        append_quoted(text, if more { whole_characters(front) } else { front })?
+        append_quoted(text, front)?
     } else {
         append_escaped(text, front)?;
         text.len().saturating_sub(begin)
     };
     let begin = text.len();
     if more {
-        text.extend_from_slice(b".. (")?;
-        append_number(text, span.len)?;
-        text.extend_from_slice(b" bytes)")?;
+        append_count(text, span.len)?;
     }
     append_escaped(text, span.end)?;
     Ok(columns.saturating_add(text.len().saturating_sub(begin)))
@@ -253,8 +316,8 @@ pub fn append_bytes(
             return text.extend_from_slice(&columns);
         }
     }
-    let most = if style.full { usize::MAX } else { SHOWN };
-    let columns = append_shown(text, span, most)?;
+    let room = if style.full { usize::MAX } else { ROW };
+    let columns = append_shown(text, span, room)?;
     paint(text, style, PLAIN)?;
     if columns.saturating_add(2) > BYTES {
         text.push(b'\n')?;

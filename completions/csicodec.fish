@@ -43,7 +43,7 @@ complete -c csicodec -n '__fish_seen_subcommand_from explain' -l full -d 'Show a
 complete -c csicodec -n '__fish_seen_subcommand_from explain' -l grep -x -d 'Show only what has this text in its bytes, in its bytes as they are shown, or in its words. Exit 1 if there is nothing'
 complete -c csicodec -n '__fish_seen_subcommand_from explain' -l ignore-case -d 'With --grep, take capitals and small letters as the same'
 complete -c csicodec -n '__fish_seen_subcommand_from explain' -l input -d 'Read what a terminal sends: keys, the mouse and answers. Of a recording it lists what was typed'
-complete -c csicodec -n '__fish_seen_subcommand_from explain' -l json -d 'Write an object of JSON a line: at, kind, text or hex, and actions with name, words, action and its fields'
+complete -c csicodec -n '__fish_seen_subcommand_from explain' -l json -d 'Write an object of JSON a line: at, kind, text or hex, and actions with name, words, action and its fields. What has more than 1 MiB has several, and more is true but in the last'
 complete -c csicodec -n '__fish_seen_subcommand_from explain' -l only -x -d 'Show only these names, with commas between, such as SGR,DECSET 2004'
 complete -c csicodec -n '__fish_seen_subcommand_from explain' -l quiet -d 'Show nothing. Exit 0 if anything would be shown, else 1'
 complete -c csicodec -n '__fish_seen_subcommand_from explain' -l stats -d 'Show only a table, at the end: how often each name came, its bytes, and their share of all'

@@ -221,7 +221,8 @@ several FILEs, their names are shown.
   --input         Read what a terminal sends: keys, the mouse and answers. Of a
                   recording it lists what was typed.
   --json          Write an object of JSON a line: at, kind, text or hex, and
-                  actions with name, words, action and its fields.
+                  actions with name, words, action and its fields. What has more
+                  than 1 MiB has several, and more is true but in the last.
   --only NAMES    Show only these names, with commas between, such as
                   SGR,DECSET 2004.
   -q, --quiet     Show nothing. Exit 0 if anything would be shown, else 1.

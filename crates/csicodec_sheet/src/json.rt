@@ -142,6 +142,11 @@ pub fn append_object(text: &mut Vec<u8>, span: Told<'_>) -> Result<(), AllocErro
     append_member(text, span.bytes, b"\",\"text\":", b"\",\"hex\":")
 }
 
+/// The end of an object of which the next one has more bytes.
+pub fn append_more(text: &mut Vec<u8>) -> Result<(), AllocError> {
+    text.extend_from_slice(b",\"more\":true}\n")
+}
+
 /// An action of an object: its name, its words, and its fields.
 pub fn append_action(
     text: &mut Vec<u8>,

@@ -5,10 +5,12 @@ use crate::counts::Names;
 use crate::decode::Clipboard;
 use crate::fields::JsonFields;
 use crate::json::{
-    append_action, append_begin_object, append_decoded, append_end, append_object, append_string,
+    append_action, append_begin_object, append_decoded, append_end, append_more, append_object,
+    append_string,
 };
 use crate::line::{
     Place, Sort, Told, append_begin, append_bytes, append_margin, append_name, append_text_words,
+    whole_characters,
 };
 use crate::search::Search;
 use crate::style::{Style, name_of};
@@ -16,6 +18,18 @@ use crate::totals::Totals;
 use csicodec_strings::Shown;
 use std::alloc::{AllocError, Global};
 use std::fmt::{Debug, Display, Write};
+
+/// So many bytes of a span an object of JSON has at most.
+const PIECE: usize = 1_048_576;
+
+/// The first piece of a long span, with whole characters, and what is behind it.
+fn piece_of(bytes: &[u8]) -> Option<(&[u8], &[u8])> {
+    if bytes.len() <= PIECE {
+        return None;
+    }
+    let front = whole_characters(bytes.get(..PIECE)?);
+    bytes.split_at_checked(front.len())
+}
 
 /// The lines of the spans that came, in a buffer that is kept.
 #[derive(Drop)]
@@ -190,16 +204,34 @@ impl<'a> Sheet<'a> {
         )
     }
 
+    /// The begin of a span's object: ahead of it stands one for each piece of a long span, but for the last.
+    fn begin_object(&mut self, span: Told<'_>) -> Result<(), AllocError> {
+        let mut rest = span;
+        for _ in 0..span.bytes.len() {
+            let Some((bytes, behind)) = piece_of(rest.bytes) else {
+                break;
+            };
+            self.begin_span(rest)?;
+            append_object(&mut self.text, Told { bytes, ..rest })?;
+            append_more(&mut self.text)?;
+            rest.place = rest.place.saturating_add(bytes.len() as u64);
+            rest.bytes = behind;
+        }
+        self.begin_span(rest)?;
+        self.behind = self.text.len();
+        append_object(&mut self.text, rest)
+    }
+
     /// A text.
     pub fn tell_text(&mut self, span: Told<'_>) -> Result<(), AllocError> {
         if !self.style.is_plain() {
             return self.tell_some_text(span);
         }
-        self.begin_span(span)?;
         if self.style.json {
-            append_object(&mut self.text, span)?;
+            self.begin_object(span)?;
             return append_end(&mut self.text, false);
         }
+        self.begin_span(span)?;
         append_bytes(&mut self.text, &self.style, span)?;
         append_text_words(&mut self.text, &self.style, span)
     }
@@ -225,11 +257,11 @@ impl<'a> Sheet<'a> {
         if self.style.is_silent() {
             return self.names.add("text", len);
         }
-        self.begin_span(span)?;
         if self.style.json {
-            append_object(&mut self.text, span)?;
+            self.begin_object(span)?;
             return append_end(&mut self.text, false);
         }
+        self.begin_span(span)?;
         append_bytes(&mut self.text, &self.style, span)?;
         append_text_words(&mut self.text, &self.style, span)
     }
@@ -241,11 +273,11 @@ impl<'a> Sheet<'a> {
         if self.style.is_silent() {
             return Ok(());
         }
+        if self.style.json {
+            return self.begin_object(span);
+        }
         self.begin_span(span)?;
         self.behind = self.text.len();
-        if self.style.json {
-            return append_object(&mut self.text, span);
-        }
         Ok(())
     }
 

@@ -1,6 +1,5 @@
-/* The program csicodec: three proved programs in one file, of which the words say which runs, and what these ask of the system
- * beside C's own calls: their words, the environment and errno. It is compiled with no header of C. STREAM_WORDS and VALUED_WORDS
- * are those of tools/programs. */
+/* The program csicodec: the one that is proved, and what it asks of the system beside C's own calls: its words, the environment and
+ * errno. It is compiled with no header of C. */
 typedef __SIZE_TYPE__ size_t;
 typedef __PTRDIFF_TYPE__ ptrdiff_t;
 char *getenv(const char *);
@@ -29,30 +28,16 @@ ptrdiff_t rattle_env(const char *name, unsigned char *to, size_t room) { return 
 int rattle_errno(void) { return *__errno_location(); }
 void rattle_set_errno(int number) { *__errno_location() = number; }
 
-#include "among.h"
+int run_proved(void);
 
-int run_normal(void), run_explain(void), run_stream(void);
-
-/* The first word that is no option, and no value of one, says which program runs, as program_of in tools/programs has it. */
-static int run(int n, char **v) {
-    int i;
-    if (n < 2) return run_normal();
-    for (i = 1; i < n; i++) {
-        if (is_among(v[i], STREAM_WORDS)) return run_stream();
-        if (is_among(v[i], VALUED_WORDS)) i++;
-        else if (v[i][0] != '-' || !v[i][1]) break;
-    }
-    return run_explain();
-}
-
-/* The status that a program ends with where the reader of its output went away (GONE in csicodec_command), and SIGPIPE. */
+/* The status that it ends with where the reader of its output went away (GONE in csicodec_command), and SIGPIPE. */
 enum { GONE = 141, PIPE = 13 };
 
 int main(int n, char **v) {
     int status;
     count = n;
     words = v;
-    status = run(n, v);
+    status = run_proved();
     if (status == GONE) {
         /* Other programs end by the signal then, which one more write brings. */
         signal(PIPE, 0);

@@ -109,17 +109,11 @@ int __xpg_strerror_r(int number, char *to, size_t room) {
     return 0;
 }
 long __sysv_signal(int signal, long handler) { (void)signal; (void)handler; return 0; }
-#include "among.h"
 
-/* Two of the three programs; the host's first word says which runs, and it passes no option ahead of that. STREAM_WORDS are those of
- * tools/programs. */
-int run_explain(void), run_stream(void);
+int run_proved(void);
 EXPORT(run) int run(void) {
-    char word[16];
-    ptrdiff_t length = host_word(1, word, sizeof word - 1);
-    word[length > 0 ? length : 0] = 0;
     error = 0;
-    return is_among(word, STREAM_WORDS) ? run_stream() : run_explain();
+    return run_proved();
 }
 #endif
 

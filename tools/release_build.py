@@ -39,12 +39,10 @@ def shared(words):
     return run("sh", "-c", f'set -eu; top=$1; . "$top/tools/programs"; {words}', "release", TOP).strip()
 
 
-NORMAL, EXPLAIN, STREAM, LIBRARY, STREAM_WORDS, VALUED_WORDS = shared(
-    'printf "%s\\n" "$normal_program" "$explain_program" "$stream_program" "$library" "$stream_words" "$valued_words"'
-).split("\n")
-# The crates that are built, each with the name of its entry in the program.
-ENTRIES = {NORMAL: "run_normal", EXPLAIN: "run_explain", STREAM: "run_stream"}
-MADE = [*ENTRIES, LIBRARY]
+# The crates that are built.
+MADE = [PROGRAM, LIBRARY] = shared('echo "$program $library"').split()
+# The name that the program's main has beside that of system/program.c.
+ENTRY = "run_proved"
 
 
 def contents(name):
@@ -183,16 +181,13 @@ def all_objects(kit, places, names, kept, room):
 
 
 def link_program(kit, place, made, to, room):
-    """One static program of the three, on which ASLR works, with the parts of musl that it asks for."""
+    """The static program, on which ASLR works, with the parts of musl that it asks for."""
     target = TARGETS[place][0]
     own = tempfile.mkdtemp(dir=room)
-    texts = [f'-DSTREAM_WORDS="{STREAM_WORDS}"', f'-DVALUED_WORDS="{VALUED_WORDS}"']
-    files = [kit.c_object(target, "program", f"{own}/program.o", "-fPIE", *texts)]
-    for name in ("begin", "heap", "wide", *(["copy"] if place == HERE else [])):
-        files.append(kit.c_object(target, name, f"{own}/{name}.o", "-fPIE"))
-    for name, entry in ENTRIES.items():
-        kit.tool("llvm-objcopy", "--redefine-sym", f"main={entry}", made[place, name], f"{own}/{name}.o")
-        files.append(f"{own}/{name}.o")
+    parts = ("program", "begin", "heap", "wide", *(["copy"] if place == HERE else []))
+    files = [kit.c_object(target, name, f"{own}/{name}.o", "-fPIE") for name in parts]
+    files.append(f"{own}/{PROGRAM}.o")
+    kit.tool("llvm-objcopy", "--redefine-sym", f"main={ENTRY}", made[place, PROGRAM], files[-1])
     how = ["-static", "-pie", "--no-dynamic-linker", "-z", "relro", "-z", "now", "-z", "noexecstack", "--gc-sections", "--icf=safe", "--build-id=none"]
     how += ["--pack-dyn-relocs=relr", "-e", "program_begin"]
     kit.tool("ld.lld", *how, "-s", "-u", "_start", "-o", to, *files, f"{TOP}/system/{place}/musl.a")

@@ -8,15 +8,15 @@ import sys
 import tempfile
 
 import release_page
-from release_build import ENTRIES, EXPLAIN, LIBRARY, STREAM, STREAM_WORDS, TOP, Stop, calls, run, sum_of
+from release_build import ENTRY, LIBRARY, PROGRAM, TOP, Stop, calls, run, sum_of
 
 TARGET = "wasm64-unknown-unknown"
 FEATURES = ["-mbulk-memory", "-mnontrapping-fptoint", "-msign-ext"]
 ENABLED = ["--enable-bulk-memory", "--enable-nontrapping-float-to-int", "--enable-sign-ext", "--enable-mutable-globals", "--enable-memory64"]
 LAYOUT = 'target datalayout = "e-m:e-p:64:64-p10:8:8-p20:8:8-i64:64-i128:128-n32:64-S128"'
 PARTS = ("web", "wide")
-# The crates that are in each module: the library's, which the package for node has, and the program's, which the page has too.
-MODULES = {"csicodec": [LIBRARY], "explain": [EXPLAIN, STREAM]}
+# The crate that each module is of: the library's, which the package for node has, and the program's, which the page has too.
+MODULES = {"csicodec": LIBRARY, "explain": PROGRAM}
 
 
 def need():
@@ -29,7 +29,7 @@ def tool():
     return "binaryen " + run("wasm-opt", "--version").strip()
 
 
-def lowered(text, entry):
+def lowered(text):
     """The module of LLVM for aarch64, for WebAssembly: its layout, no words on processors, and the one instruction of ARM by shuffles. A
     program's main has the name of its entry."""
     def mask(odd):
@@ -46,7 +46,7 @@ def lowered(text, entry):
     text = re.sub(r'^target triple = ".*"$', f'target triple = "{TARGET}"', text, flags=re.M)
     text = re.sub(r' "(frame-pointer|probe-stack|stack-probe-size|target-cpu|target-features)"="[^"]*"', "", text)
     text = re.sub(r"^declare <16 x i8> @llvm\.aarch64\.neon\.addp\.v16i8.*\n", lambda _: pairs, text, flags=re.M)
-    text = text.replace("@llvm.aarch64.neon.addp.v16i8", "@pairs").replace("@main(", f"@{entry}(")
+    text = text.replace("@llvm.aarch64.neon.addp.v16i8", "@pairs").replace("@main(", f"@{ENTRY}(")
     left = sorted({*re.findall(r"@llvm\.(?:aarch64|x86)[\w.]*", text)})
     if left:
         raise Stop(f"release: WebAssembly has nothing for {', '.join(left)}")
@@ -80,10 +80,10 @@ def table_of_32_bits(held):
 
 
 def module(kit, made, name, to, room):
-    """A module of one crate or two, or what was made of the same."""
-    sources = {crate: f"{os.path.splitext(made['aarch64-linux', crate])[0]}.ll" for crate in MODULES[name]}
-    read = (*sources.values(), __file__, *(f"{TOP}/system/{part}.c" for part in PARTS), f"{TOP}/system/among.h")
-    kept, stamp = f"{TOP}/out/release/web/{name}.wasm", " ".join(map(sum_of, read)) + STREAM_WORDS + tool()
+    """The module of a crate, or what was made of the same."""
+    source = f"{os.path.splitext(made['aarch64-linux', MODULES[name]])[0]}.ll"
+    read = (source, __file__, *(f"{TOP}/system/{part}.c" for part in PARTS))
+    kept, stamp = f"{TOP}/out/release/web/{name}.wasm", " ".join(map(sum_of, read)) + tool()
     os.makedirs(os.path.dirname(kept), exist_ok=True)
     if os.path.isfile(f"{kept}.stamp") and os.path.isfile(kept):
         with open(f"{kept}.stamp", encoding="utf-8") as file:
@@ -91,23 +91,21 @@ def module(kit, made, name, to, room):
                 shutil.copy(kept, to)
                 return
     print(f"release: {name} for WebAssembly", file=sys.stderr, flush=True)
-    build_module(kit, sources, kept, room)
+    build_module(kit, source, MODULES[name] == PROGRAM, kept, room)
     with open(f"{kept}.stamp", "w", encoding="utf-8") as file:
         file.write(f"{stamp} {sum_of(kept)}")
     shutil.copy(kept, to)
 
 
-def build_module(kit, sources, to, room):
-    own, is_program, objects = tempfile.mkdtemp(dir=room), LIBRARY not in sources, []
-    for crate, source in sources.items():
-        with open(source, encoding="utf-8") as file:
-            text = lowered(file.read(), ENTRIES.get(crate, "main"))
-        with open(f"{own}/{crate}.ll", "w", encoding="utf-8") as file:
-            file.write(text)
-        objects.append(f"{own}/{crate}.o")
-        run(kit.clang, f"--target={TARGET}", "-O3", *FEATURES, "-w", "-ffunction-sections", "-c", f"{own}/{crate}.ll", "-o", objects[-1])
-    words = ["-DPROGRAM", f'-DSTREAM_WORDS="{STREAM_WORDS}"'] if is_program else []
-    objects += [kit.c_object(TARGET, part, f"{own}/{part}.o", "-fno-builtin", *FEATURES, *words) for part in PARTS]
+def build_module(kit, source, is_program, to, room):
+    own = tempfile.mkdtemp(dir=room)
+    with open(source, encoding="utf-8") as file:
+        text = lowered(file.read())
+    with open(f"{own}/crate.ll", "w", encoding="utf-8") as file:
+        file.write(text)
+    run(kit.clang, f"--target={TARGET}", "-O3", *FEATURES, "-w", "-ffunction-sections", "-c", f"{own}/crate.ll", "-o", f"{own}/crate.o")
+    words = ["-DPROGRAM"] if is_program else []
+    objects = [f"{own}/crate.o", *(kit.c_object(TARGET, part, f"{own}/{part}.o", "-fno-builtin", *FEATURES, *words) for part in PARTS)]
     exports = ["run"] if is_program else calls()
     how = ["--no-entry", "--gc-sections", "--strip-all", "--stack-first", "-z", "stack-size=1048576", *(f"--export={it}" for it in exports)]
     kit.tool("wasm-ld", "-mwasm64", *how, "-o", f"{own}/it.wasm", *objects)

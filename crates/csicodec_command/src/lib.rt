@@ -1,5 +1,5 @@
-//! What the programs share: the words of a command line, inputs one after the other, recordings of asciinema, and what is told
-//! of a run that failed.
+//! What all words of the program share: the command line, inputs one after the other, recordings of asciinema, and what is told of a
+//! run that failed.
 #![tactic(auto)]
 
 mod command;

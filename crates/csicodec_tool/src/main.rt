@@ -1,48 +1,62 @@
-//! The program `csicodec` without a word: reads control sequences from standard input, and writes each action of theirs as a
-//! sequence of its own to standard output. Arguments are not looked at.
+//! The program `csicodec`: it does what the words of its command line ask for, and without one it writes the normal form of
+//! sequences alone.
 #![tactic(auto)]
 
-use csicodec_command::{Failure, Worker, work_through};
-use csicodec_streams::{RunError, normalise};
-use std::alloc::Global;
-use std::io::{BufRead, Read, Write};
+mod assemble;
+mod check;
+mod compare;
+mod diff;
+mod explain;
+mod explained_cast;
+mod log;
+mod names;
+mod normal;
+mod palette;
+mod rewrite;
+mod rewritten_cast;
+mod timing;
+
+use assemble::Assembly;
+use csicodec_command::{Request, Task, asked, refused, words_of, work_through};
+use explain::explain_inputs;
+use normal::Normal;
+use rewrite::{Job, Work};
 use std::process::ExitCode;
 
-/// The normal form of sequences one after the other.
-#[derive(Drop)]
-struct Normal;
+/// Does the work of a task; the status, if that failed.
+fn work_of_task(rt: &HostRuntime, run: &Request<'_>) -> Result<(), u8> {
+    let work = match run.task {
+        Task::Normal => return work_through(rt, &mut Normal, &run.files),
+        Task::Explain => return explain_inputs(rt, run),
+        Task::Assemble => return work_through(rt, &mut Assembly, &run.files),
+        Task::Filter => Work::Filter {
+            faithful: run.faithful,
+        },
+        Task::Compact => Work::Compact {
+            semicolons: run.semicolons,
+        },
+        Task::Strip => Work::strip(run),
+        Task::Clean => Work::clean(run),
+        Task::Html => match Work::html(rt.alloc(), run) {
+            Ok(work) => work,
+            Err(wrong) => return Err(refused(rt, wrong)),
+        },
+    };
+    let text = run.text;
+    work_through(rt, &mut Job { work, text }, &run.files)
+}
 
-impl Worker for Normal {
-    /// A recording is no control sequence.
-    fn takes_recordings(&self) -> bool {
-        false
-    }
-
-    fn read<R: Read, W: Write>(
-        &mut self,
-        alloc: Global,
-        input: &mut R,
-        output: &mut W,
-    ) -> Result<(), Failure> {
-        Ok(normalise(alloc, input, output)?)
-    }
-
-    fn read_cast<R: BufRead, W: Write>(
-        &mut self,
-        alloc: Global,
-        input: &mut R,
-        output: &mut W,
-    ) -> Result<(), Failure> {
-        self.read(alloc, input, output)
-    }
-
-    fn end<W: Write>(&mut self, _output: &mut W) -> Result<(), RunError> {
-        Ok(())
+/// Does what the words of the command line say; the status, if that failed.
+fn started(rt: &HostRuntime) -> Result<(), u8> {
+    let words = words_of(rt)?;
+    match asked(rt, &words)? {
+        Some(run) => work_of_task(rt, &run),
+        None => Ok(()),
     }
 }
 
 fn main(rt: HostRuntime) -> ExitCode {
-    match work_through(&rt, &mut Normal, &[]) {
+    match started(&rt) {
         Ok(()) => ExitCode::SUCCESS,
         Err(status) => ExitCode::from(status),
     }

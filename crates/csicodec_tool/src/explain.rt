@@ -1,31 +1,19 @@
-//! The program of `csicodec explain`, which tells in words what stands in a stream, and of `csicodec assemble`, which makes the stream
-//! again of what that tells in JSON.
-#![tactic(auto)]
+//! What `csicodec explain` does: it tells in words what stands in a stream.
 
-mod assemble;
-mod cast;
-mod compare;
-mod diff;
-mod names;
-mod timing;
-
-use assemble::Assembly;
-use cast::explain_cast;
-use compare::explain_diff;
+use crate::compare::explain_diff;
+use crate::explained_cast::explain_cast;
+use crate::names::are_known;
+use crate::timing::Timing;
 use csicodec_command::{
-    ColorWhen, Failure, Request, Task, Wanted, Worker, Wrong, asked, failed, is_cast, refused,
-    text_of, words_of, work_through,
+    ColorWhen, Failure, Request, Wanted, Worker, failed, is_cast, refused, text_of, work_through,
 };
 use csicodec_events::Dialect;
 use csicodec_page::Explainer;
 use csicodec_sheet::Style;
 use csicodec_streams::RunError;
-use names::are_known;
 use std::alloc::Global;
 use std::env;
 use std::io::{self, BufRead, IsTerminal, Read, Write};
-use std::process::ExitCode;
-use timing::Timing;
 
 /// An output, and whether anything was to be written; where nothing may be, that is dropped.
 #[derive(Drop)]
@@ -207,29 +195,11 @@ fn explain(rt: &HostRuntime, run: &Request<'_>) -> Result<(), u8> {
 }
 
 /// Explains what the words of the command line ask for, if they do so in names that there are; the status, if that failed.
-fn checked(rt: &HostRuntime, run: &Request<'_>) -> Result<(), u8> {
+pub fn explain_inputs(rt: &HostRuntime, run: &Request<'_>) -> Result<(), u8> {
     if let Some(names) = run.wanted.only {
         if let Err(wrong) = are_known(rt.alloc(), names) {
             return Err(refused(rt, wrong));
         }
     }
     explain(rt, run)
-}
-
-/// Does what the words of the command line say; the status, if that failed.
-fn started(rt: &HostRuntime) -> Result<(), u8> {
-    let words = words_of(rt)?;
-    match asked(rt, &words)? {
-        Some(run) if run.task == Task::Explain => checked(rt, &run),
-        Some(run) if run.task == Task::Assemble => work_through(rt, &mut Assembly, &run.files),
-        Some(_) => Err(refused(rt, Wrong::Nothing)),
-        None => Ok(()),
-    }
-}
-
-fn main(rt: HostRuntime) -> ExitCode {
-    match started(&rt) {
-        Ok(()) => ExitCode::SUCCESS,
-        Err(status) => ExitCode::from(status),
-    }
 }

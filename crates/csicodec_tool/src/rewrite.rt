@@ -1,19 +1,13 @@
-//! The program of `csicodec filter`, `compact`, `strip`, `clean` and `html`: with `filter` it writes each control sequence in its normal
+//! What `csicodec filter`, `compact`, `strip`, `clean` and `html` make of a stream: with `filter` each control sequence in its normal
 //! form and all else as it came, with `compact` in a shorter spelling; with `strip` the plain text alone, with `clean` that and
 //! its styles; with `html` those as a page.
-#![tactic(auto)]
 
-mod cast;
-mod check;
-mod log;
-mod palette;
-
-use cast::{Stage, html_cast, no_memory, rewrite_cast, unwrap_cast};
-use check::{check_cast, check_stream};
+use crate::check::{check_cast, check_stream};
+use crate::log::{Log, log_all};
+use crate::palette::palette_of;
+use crate::rewritten_cast::{Stage, html_cast, no_memory, rewrite_cast, unwrap_cast};
 use csicodec_clean::{Cleaner, Depth, Dropped, Kept, Passing, clean_all_with, strip_all};
-use csicodec_command::{
-    Colors, Failure, Request, Task, Worker, Wrong, asked, refused, words_of, work_through,
-};
+use csicodec_command::{Colors, Failure, Request, Worker, Wrong};
 use csicodec_compact::{Compact, Compactor, compact_all};
 use csicodec_filter::{Faithful, Filter, NormalForm, filter_all};
 use csicodec_html::{BEHIND, Markup, Palette, front, html_all_with};
@@ -21,15 +15,12 @@ use csicodec_lines::{Lines, clean_lines_all, strip_lines_all};
 use csicodec_overwrite::{Overwriter, html_overwritten_all, overwrite_all};
 use csicodec_spans::LIMIT;
 use csicodec_streams::{RunError, send};
-use log::{Log, log_all};
-use palette::palette_of;
 use std::alloc::Global;
 use std::io::{BufRead, Read, Write};
-use std::process::ExitCode;
 
 /// What is made of one input after the other.
 #[derive(Drop)]
-enum Work<'a> {
+pub enum Work<'a> {
     Filter {
         faithful: bool,
     },
@@ -101,40 +92,42 @@ fn name_of<'a>(files: &[&'a str]) -> &'a str {
 }
 
 impl<'a> Work<'a> {
-    /// Of a run; an error where another program does it.
-    fn new(alloc: Global, run: &Request<'a>) -> Result<Work<'a>, Wrong<'a>> {
-        Ok(match run.task {
-            Task::Filter => Work::Filter {
-                faithful: run.faithful,
-            },
-            Task::Compact => Work::Compact {
-                semicolons: run.semicolons,
-            },
-            Task::Strip if run.check => Work::Check,
-            Task::Strip if run.overwrites() => Work::Overwrite,
-            Task::Strip if run.log => Work::Log { styles: None },
-            Task::Strip => Work::Strip { lines: run.lines },
-            Task::Clean => {
-                let (depth, links) = (depth_of(run.depth), run.links);
-                let passing = Passing { depth, links };
-                if run.log {
-                    return Ok(Work::Log {
-                        styles: Some(passing),
-                    });
-                }
-                Work::Clean {
-                    passing,
-                    lines: run.lines,
-                }
-            }
-            Task::Html => Work::Html {
-                name: name_of(&run.files),
-                markup: markup_of(alloc, run)?,
-                overwrite: run.overwrites(),
-                fragment: run.fragment,
-                begun: false,
-            },
-            Task::Explain | Task::Assemble => return Err(Wrong::Nothing),
+    /// Plain text, as the options of `strip` want it.
+    pub fn strip(run: &Request<'a>) -> Work<'a> {
+        if run.check {
+            Work::Check
+        } else if run.overwrites() {
+            Work::Overwrite
+        } else if run.log {
+            Work::Log { styles: None }
+        } else {
+            Work::Strip { lines: run.lines }
+        }
+    }
+
+    /// The same with its styles, as those of `clean` do.
+    pub fn clean(run: &Request<'a>) -> Work<'a> {
+        let (depth, links) = (depth_of(run.depth), run.links);
+        let passing = Passing { depth, links };
+        if run.log {
+            return Work::Log {
+                styles: Some(passing),
+            };
+        }
+        Work::Clean {
+            passing,
+            lines: run.lines,
+        }
+    }
+
+    /// A page, as those of `html` do; an error where its palette is none.
+    pub fn html(alloc: Global, run: &Request<'a>) -> Result<Work<'a>, Wrong<'a>> {
+        Ok(Work::Html {
+            name: name_of(&run.files),
+            markup: markup_of(alloc, run)?,
+            overwrite: run.overwrites(),
+            fragment: run.fragment,
+            begun: false,
         })
     }
 
@@ -257,9 +250,9 @@ impl<'a> Worker for Work<'a> {
 
 /// What is made of inputs, and whether of a recording comes what its programs wrote, and no recording.
 #[derive(Drop)]
-struct Job<'a> {
-    work: Work<'a>,
-    text: bool,
+pub struct Job<'a> {
+    pub work: Work<'a>,
+    pub text: bool,
 }
 
 impl<'a> Worker for Job<'a> {
@@ -288,27 +281,5 @@ impl<'a> Worker for Job<'a> {
 
     fn end<W: Write>(&mut self, output: &mut W) -> Result<(), RunError> {
         self.work.end(output)
-    }
-}
-
-/// Does what the words of the command line say; the status, if that failed.
-fn started(rt: &HostRuntime) -> Result<(), u8> {
-    let words = words_of(rt)?;
-    let Some(run) = asked(rt, &words)? else {
-        return Ok(());
-    };
-    match Work::new(rt.alloc(), &run) {
-        Ok(work) => {
-            let text = run.text;
-            work_through(rt, &mut Job { work, text }, &run.files)
-        }
-        Err(wrong) => Err(refused(rt, wrong)),
-    }
-}
-
-fn main(rt: HostRuntime) -> ExitCode {
-    match started(&rt) {
-        Ok(()) => ExitCode::SUCCESS,
-        Err(status) => ExitCode::from(status),
     }
 }

@@ -1,6 +1,6 @@
 //! Where a stream is plain text no more.
 
-use crate::cast::{no_memory, written_of};
+use crate::rewritten_cast::{no_memory, written_of};
 use csicodec_clean::{Checked, check_all};
 use csicodec_command::{Failure, Found};
 use std::alloc::{AllocError, Global};

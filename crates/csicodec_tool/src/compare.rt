@@ -1,7 +1,7 @@
 //! What differs between two streams in words.
 
-use crate::cast::explain_cast;
 use crate::diff::{Line, Side, lines_of};
+use crate::explained_cast::explain_cast;
 use csicodec_command::{Failure, Worker, line_front, work_through};
 use csicodec_page::Explainer;
 use csicodec_sheet::Style;

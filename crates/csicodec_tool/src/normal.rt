@@ -1,0 +1,40 @@
+//! What `csicodec` does without a word: it reads control sequences from standard input, and writes each action of theirs as a
+//! sequence of its own to standard output.
+
+use csicodec_command::{Failure, Worker};
+use csicodec_streams::{RunError, normalise};
+use std::alloc::Global;
+use std::io::{BufRead, Read, Write};
+
+/// The normal form of sequences one after the other.
+#[derive(Drop)]
+pub struct Normal;
+
+impl Worker for Normal {
+    /// A recording is no control sequence.
+    fn takes_recordings(&self) -> bool {
+        false
+    }
+
+    fn read<R: Read, W: Write>(
+        &mut self,
+        alloc: Global,
+        input: &mut R,
+        output: &mut W,
+    ) -> Result<(), Failure> {
+        Ok(normalise(alloc, input, output)?)
+    }
+
+    fn read_cast<R: BufRead, W: Write>(
+        &mut self,
+        alloc: Global,
+        input: &mut R,
+        output: &mut W,
+    ) -> Result<(), Failure> {
+        self.read(alloc, input, output)
+    }
+
+    fn end<W: Write>(&mut self, _output: &mut W) -> Result<(), RunError> {
+        Ok(())
+    }
+}

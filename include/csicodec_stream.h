@@ -307,7 +307,8 @@ static inline size_t csicodec_tell_events(struct csicodec_parser *parser, const 
 /* How many of the bytes are taken to those that wait: of a control sequence that has begun up to its end, else a few. */
 static inline size_t csicodec_taken(struct csicodec_parser *parser, const uint8_t *bytes, size_t len) {
     size_t room = parser->held_room - parser->waiting, end = parser->waiting == 1;
-    size_t most = room < CSICODEC_TAKEN ? room : CSICODEC_TAKEN;
+    size_t most = CSICODEC_TAKEN;
+    if (most > room) most = room;
     if (most > len) most = len;
     if (!parser->begun || !most) return most;
     if (!end || bytes[0] == '[')

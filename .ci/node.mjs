@@ -6,11 +6,13 @@ import { createRequire } from 'node:module';
 import { pathToFileURL } from 'node:url';
 
 const [folder, program, kinds, ...files] = process.argv.slice(2);
-const { Codec, CodecError, InputParser, Parser, recorded } = await import(pathToFileURL(createRequire(`${folder}/it.js`).resolve('csicodec')));
+const { Codec, CodecError, InputParser, KeyParser, Parser, recorded } = await import(pathToFileURL(createRequire(`${folder}/it.js`).resolve('csicodec')));
 const codec = await Codec.load();
 const native = (words, input) => execFileSync(program, words, { input, maxBuffer: 1 << 30 });
 const same = (one, other) => Buffer.compare(Buffer.from(one), Buffer.from(other)) === 0;
 const wrong = what => { console.error(`node: ${what}`); process.exit(1); };
+
+const PALETTE = Array.from({ length: 18 }, (_, i) => `#${String(i).padStart(2, '0')}7fff`);
 
 /** What a TransformStream makes of some bytes, which come in pieces. */
 async function through(stream, data, size) {
@@ -50,6 +52,13 @@ for (const file of files) {
         ['clean', ['clean'], codec.clean(data)],
         ['clean with links in 16 colours', ['clean', '--links', '--colors=16'], codec.clean(data, { colors: 16, links: true })],
         ['filter', ['filter'], codec.filter(data)],
+        ['compact', ['compact'], codec.compact(data)],
+        ['compact with semicolons', ['compact', '--semicolons'], codec.compact(data, { semicolons: true })],
+        ['overwritten lines', ['strip', '--overwrite'], codec.overwrite(data)],
+        ['html', ['html'], codec.html(data)],
+        ['html with classes, a fragment', ['html', '--classes', '--fragment'], codec.html(data, { classes: true, fragment: true })],
+        ['html with links', ['html', '--links'], codec.html(data, { links: true })],
+        ['html with a palette', ['html', '--no-overwrite', `--palette=${PALETTE}`], codec.html(data, { overwrite: false, palette: PALETTE })],
     ]) {
         if (!same(made, native(words, data))) wrong(`${name} of ${file} is another`);
     }
@@ -57,7 +66,7 @@ for (const file of files) {
         ['strip', codec.strip(data), codec.stripStream()],
         ['clean in 256 colours', codec.clean(data, { colors: 256 }), codec.cleanStream({ colors: 256 })],
         ['filter', codec.filter(data), codec.filterStream()],
-        ['compact', codec.compact(data), codec.compactStream()],
+        ['compact', await through(codec.compactStream(), data, data.length + 1), codec.compactStream()],
     ]) {
         if (!same(await through(stream, data, 7), whole)) wrong(`${name} of ${file} as it comes is another`);
     }
@@ -69,12 +78,8 @@ for (const file of files) {
     const whole = joined(codec.events(data)), parser = new Parser(codec), pieces = [];
     for (let at = 0; at < data.length; at += 5) pieces.push(...parser.feed(data.subarray(at, at + 5)));
     if (JSON.stringify(joined([...pieces, ...parser.finish()])) !== JSON.stringify(whole)) wrong(`the events of ${file} as it comes are others`);
-    // The program also puts attributes of several sequences side by side; the library's step does not.
-    for (const options of [{}, { semicolons: true }]) {
-        const short = codec.compact(data, options);
-        if (short.length > data.length) wrong(`compact of ${file} is longer`);
-        if (!same(codec.filter(short), codec.filter(data))) wrong(`compact of ${file} does something else`);
-    }
+    const short = await through(codec.compactStream({ semicolons: true }), data, data.length + 1);
+    if (!same(codec.filter(short), codec.filter(data))) wrong(`compact of ${file} as it comes does something else`);
 }
 if (codec.strip('\x1b[1mé') !== 'é' || codec.normalise('\x1b[01;3m') !== '\x1b[1m\x1b[3m') wrong('strings');
 try {
@@ -109,6 +114,10 @@ for (const [said, call] of [
     ['made of a Codec', () => new Parser()],
     ['Cursor.Up: count must be a whole number, not x', () => codec.encode([{ type: 'Cursor.Up', count: 'x' }])],
     ['Sgr.Underline: value must be a name of Underline', () => codec.encode([{ type: 'Sgr.Underline', value: 'Odd' }])],
+    ['16 or 18 colours', () => codec.html('a', { palette: ['#000000'] })],
+    ["as '#rrggbb', not red", () => codec.html('a', { palette: Array(16).fill('red') })],
+    ['links must be boolean, not number', () => codec.html('a', { links: 1 })],
+    ['made of a Codec', () => new KeyParser()],
     ["an action of type 'Unspecified' is required", () => codec.known({ type: 'Sgr.Reset' })],
 ]) {
     try { call(); } catch (error) { if (error instanceof TypeError && error.message.includes(said)) continue; wrong(`${call} throws ${error}`); }

@@ -39,10 +39,11 @@ enum csicodec_status {
     CSICODEC_TRUNCATED = 4,
     /* malloc or realloc gave no memory. */
     CSICODEC_MEMORY = 5,
-    /* A struct stands for no action: its kind doesn't exist, one of its numbers is out of range, or an unused field isn't 0. */
+    /* A struct stands for no action: its kind doesn't exist, one of its numbers is out of range, or an unused field isn't 0. Of
+     * csicodec_key: it is no key. */
     CSICODEC_NO_ACTION = 6,
     /* An argument is wrong: a mode that isn't in enum csicodec_filter_mode, a limit of 0, a depth that isn't in enum csicodec_depth, a
-     * dialect that isn't in enum csicodec_dialect, links above 1, a struct csicodec_cleaning with a number out of range, or with more
+     * dialect that isn't in enum csicodec_dialect, a choice above 1, colours that are no palette, a struct csicodec_cleaning with a number out of range, or with more
      * bytes held than are passed. */
     CSICODEC_BAD_STATE = 7
 };
@@ -256,7 +257,7 @@ struct csicodec_encoded csicodec_encode_compact(const struct csicodec_action *ac
                                                 const struct csicodec_param *params, size_t params_count, uint8_t *out, size_t room);
 
 struct csicodec_stripped {
-    /* CSICODEC_OK or CSICODEC_MEMORY; from csicodec_clean_with and csicodec_clean_end also CSICODEC_BAD_STATE. */
+    /* CSICODEC_OK or CSICODEC_MEMORY; but from csicodec_strip and csicodec_clean also CSICODEC_BAD_STATE. */
     uint32_t status;
     /* Of CSICODEC_OK, the length of what is left. */
     size_t needed;
@@ -285,6 +286,37 @@ enum csicodec_depth {
  * link without an address closes it. For another depth, and for links above 1, the status is CSICODEC_BAD_STATE. */
 struct csicodec_stripped csicodec_clean_with(uint32_t depth, uint32_t links, const uint8_t *bytes, size_t len, uint8_t *out,
                                              size_t room);
+
+/* What a page of HTML is asked to be. Zeros ask for what `csicodec html` writes without options; a number above 1 is CSICODEC_BAD_STATE. */
+struct csicodec_markup {
+    /* 1: links (OSC 8) become links, if the address is one of http or https, of visible ASCII and at most 2,083 bytes. Text is then kept as
+     * with no_overwrite. */
+    uint32_t links;
+    /* 1: attributes become CSS classes in place of styles. A page has the style sheet, a fragment doesn't. */
+    uint32_t classes;
+    /* 1: a piece for a <pre> in a page of your own. */
+    uint32_t fragment;
+    /* 1: text stays that a carriage return or an erase would hide. */
+    uint32_t no_overwrite;
+};
+
+/* Writes len untrusted bytes, which are a whole text, as a page of HTML: text, escaped, and its styles. Nothing of them gets into a tag but
+ * addresses, with links. colors are the palette, 16 numbers 0xRRGGBB, or 18 with the page's own colour of text and its background; without
+ * any it is the one that the program takes, and any other count is CSICODEC_BAD_STATE. The page is UTF-8, and written to out if needed <= room;
+ * otherwise nothing is written. */
+struct csicodec_stripped csicodec_html(const struct csicodec_markup *markup, const uint32_t *colors, size_t count, const uint8_t *bytes,
+                                       size_t len, uint8_t *out, size_t room);
+
+/* Writes each line of len untrusted bytes, which are a whole text, as it stands when it ends: what a carriage return, a backspace or an
+ * erase hides is gone. It is plain text as csicodec_strip's or, if `styles` is 1, has the sequences (SGR) that set how characters look, and at
+ * the end of each line none is set. It is written to out if needed <= room; otherwise nothing is written. For styles above 1 the status is
+ * CSICODEC_BAD_STATE. */
+struct csicodec_stripped csicodec_overwrite(uint32_t styles, const uint8_t *bytes, size_t len, uint8_t *out, size_t room);
+
+/* Writes a whole stream of len bytes in fewer, as `csicodec compact` does, with semicolons if `semicolons` is 1 (csicodec_compact_semicolons):
+ * in the place of control sequences that stand side by side one may stand that is read as the same actions. It is never longer, and written to
+ * out if needed <= room; otherwise nothing is written. For semicolons above 1 the status is CSICODEC_BAD_STATE. */
+struct csicodec_stripped csicodec_compact_whole(uint32_t semicolons, const uint8_t *bytes, size_t len, uint8_t *out, size_t room);
 
 /* The state between two steps over untrusted text, in 16 bytes without gaps. At the beginning all numbers are 0. */
 struct csicodec_cleaning {
@@ -484,6 +516,92 @@ struct csicodec_received csicodec_input(uint32_t dialect, uint32_t mode, size_t 
  * CSICODEC_INPUT_ALT for ESC and one character of ASCII. Otherwise the status is CSICODEC_TRUNCATED, and they go on waiting in their
  * state. */
 struct csicodec_received csicodec_pause(const uint8_t *bytes, size_t len);
+
+/* What happens to a key. */
+enum csicodec_key_event {
+    /* It goes down. All encodings but kitty's and Win32's know only this. */
+    CSICODEC_KEY_EVENT_PRESS = 0,
+    /* It is held down. */
+    CSICODEC_KEY_EVENT_REPEAT = 1,
+    /* It goes up. */
+    CSICODEC_KEY_EVENT_RELEASE = 2
+};
+
+/* How a terminal said which key it is. */
+enum csicodec_key_encoding {
+    /* Characters, controls, ESC ahead for alt, SS3 and xterm's control sequences with modifiers. */
+    CSICODEC_KEY_ENCODING_LEGACY = 0,
+    /* xterm's resource modifyOtherKeys. */
+    CSICODEC_KEY_ENCODING_MODIFY_OTHER_KEYS = 1,
+    /* kitty's protocol. */
+    CSICODEC_KEY_ENCODING_KITTY = 2,
+    /* Win32-input-mode, of Windows' console. */
+    CSICODEC_KEY_ENCODING_WIN32 = 3,
+    /* What rxvt has of its own. */
+    CSICODEC_KEY_ENCODING_RXVT = 4,
+    /* What Linux' console has of its own. */
+    CSICODEC_KEY_ENCODING_LINUX = 5
+};
+
+/* What is held down with a key, and the locks that are on: a sum of these. */
+enum csicodec_key_modifiers {
+    CSICODEC_KEY_MODIFIERS_SHIFT = 1,
+    CSICODEC_KEY_MODIFIERS_ALT = 2,
+    CSICODEC_KEY_MODIFIERS_CTRL = 4,
+    /* The key of Windows, Command of a Mac; xterm's meta. */
+    CSICODEC_KEY_MODIFIERS_SUPER = 8,
+    CSICODEC_KEY_MODIFIERS_HYPER = 16,
+    CSICODEC_KEY_MODIFIERS_META = 32,
+    CSICODEC_KEY_MODIFIERS_CAPS_LOCK = 64,
+    CSICODEC_KEY_MODIFIERS_NUM_LOCK = 128
+};
+
+/* The most characters that a key types. */
+#define CSICODEC_TYPED 32
+
+struct csicodec_key {
+    /* CSICODEC_OK, CSICODEC_NO_ACTION if it is no key, CSICODEC_TRUNCATED or CSICODEC_MEMORY. */
+    uint32_t status;
+    /* enum csicodec_key_code. */
+    uint32_t code;
+    /* The character of CSICODEC_KEY_CHAR, the number of CSICODEC_KEY_F. */
+    uint32_t value;
+    /* enum csicodec_key_modifiers, enum csicodec_key_event and enum csicodec_key_encoding. */
+    uint32_t modifiers;
+    uint32_t event;
+    uint32_t encoding;
+    /* How many characters it types: none if the encoding doesn't say, or it types nothing. */
+    size_t typed;
+    /* Of CSICODEC_OK, how many bytes it has; of CSICODEC_NO_ACTION how many the event has that is no key, such as an answer. */
+    size_t used;
+};
+
+/* The key at the front of len bytes of what a terminal sent, whichever encoding it came in, with the code points that it types, which are
+ * written to typed if they fit. In text each character is a key. CSICODEC_TRUNCATED says that it depends on what follows.
+ *
+ *     while (at < held) {
+ *         struct csicodec_key key = csicodec_key(1, bytes + at, held - at, typed, CSICODEC_TYPED);
+ *         if (key.status == CSICODEC_TRUNCATED || key.status == CSICODEC_MEMORY) break;
+ *         if (key.status == CSICODEC_OK && key.code == CSICODEC_KEY_UP) scroll(-1);
+ *         at += key.used;
+ *     }
+ *
+ * With a `more` of 1 an ESC at the end waits, as it may be the first byte of another key. With 0, for a caller that waited for some
+ * milliseconds, it is a key, and so is ESC with one character. What is no key goes to csicodec_input. */
+struct csicodec_key csicodec_key(uint32_t more, const uint8_t *bytes, size_t len, uint32_t *typed, size_t room);
+
+struct csicodec_osc {
+    /* enum csicodec_osc_kind: CSICODEC_OSC_UNKNOWN if no command reads it. */
+    uint32_t kind;
+    /* How many texts stand behind its number, 0 to 2. Fields, with ; between them, are one text. */
+    uint32_t texts;
+    /* Where the first text begins. Of two it ends before the ; in front of the second one, which ends where the bytes end. */
+    size_t first;
+    size_t second;
+};
+
+/* What an OSC says, by its content: the bytes between ESC ] and what ends it, as csicodec_collect gives them. */
+struct csicodec_osc csicodec_osc(const uint8_t *bytes, size_t len);
 
 /* enum csicodec_esc_code: the code of an escape sequence, by its intermediate byte, or 0 for none, and its final byte; 0 if there
  * is no code. */

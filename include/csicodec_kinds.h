@@ -1246,4 +1246,294 @@ enum csicodec_known_kind {
     CSICODEC_KNOWN_KEY_F20 = 10271
 };
 
+/* Which command an OSC is. */
+enum csicodec_osc_kind {
+    /* What no command reads; its text is all of it. */
+    CSICODEC_OSC_UNKNOWN = 0,
+    /* 0: The window's title and the icon's name. */
+    CSICODEC_OSC_TITLE_BOTH = 16,
+    /* 1: The icon's name. */
+    CSICODEC_OSC_TITLE_ICON = 17,
+    /* 2: The window's title. */
+    CSICODEC_OSC_TITLE_WINDOW = 18,
+    /* 4: The palette, from 0 to 255; xterm takes 256 and more for the special ones. */
+    CSICODEC_OSC_COLORS_INDEXED = 32,
+    /* 5: Those of text that is bold (0), underlined (1), blinking (2), inverse (3) or italic (4). */
+    CSICODEC_OSC_COLORS_SPECIAL = 33,
+    /* 104: the same as at first. */
+    CSICODEC_OSC_RESET_COLORS_INDEXED = 48,
+    /* 105: the same as at first. */
+    CSICODEC_OSC_RESET_COLORS_SPECIAL = 49,
+    /* 10: Text. */
+    CSICODEC_OSC_COLOR_FOREGROUND = 64,
+    /* 11: The background. */
+    CSICODEC_OSC_COLOR_BACKGROUND = 65,
+    /* 12: The text cursor. */
+    CSICODEC_OSC_COLOR_CURSOR = 66,
+    /* 13: The pointer. */
+    CSICODEC_OSC_COLOR_POINTER_FOREGROUND = 67,
+    /* 14: What is around the pointer. */
+    CSICODEC_OSC_COLOR_POINTER_BACKGROUND = 68,
+    /* 15: Text in a window of a Tektronix terminal. */
+    CSICODEC_OSC_COLOR_TEKTRONIX_FOREGROUND = 69,
+    /* 16: Its background. */
+    CSICODEC_OSC_COLOR_TEKTRONIX_BACKGROUND = 70,
+    /* 17: The background of what is selected. */
+    CSICODEC_OSC_COLOR_HIGHLIGHT_BACKGROUND = 71,
+    /* 18: The cursor of a Tektronix terminal. */
+    CSICODEC_OSC_COLOR_TEKTRONIX_CURSOR = 72,
+    /* 19: Text that is selected. */
+    CSICODEC_OSC_COLOR_HIGHLIGHT_FOREGROUND = 73,
+    /* 110: the same as at first. */
+    CSICODEC_OSC_RESET_COLOR_FOREGROUND = 80,
+    /* 111: the same as at first. */
+    CSICODEC_OSC_RESET_COLOR_BACKGROUND = 81,
+    /* 112: the same as at first. */
+    CSICODEC_OSC_RESET_COLOR_CURSOR = 82,
+    /* 113: the same as at first. */
+    CSICODEC_OSC_RESET_COLOR_POINTER_FOREGROUND = 83,
+    /* 114: the same as at first. */
+    CSICODEC_OSC_RESET_COLOR_POINTER_BACKGROUND = 84,
+    /* 115: the same as at first. */
+    CSICODEC_OSC_RESET_COLOR_TEKTRONIX_FOREGROUND = 85,
+    /* 116: the same as at first. */
+    CSICODEC_OSC_RESET_COLOR_TEKTRONIX_BACKGROUND = 86,
+    /* 117: the same as at first. */
+    CSICODEC_OSC_RESET_COLOR_HIGHLIGHT_BACKGROUND = 87,
+    /* 118: the same as at first. */
+    CSICODEC_OSC_RESET_COLOR_TEKTRONIX_CURSOR = 88,
+    /* 119: the same as at first. */
+    CSICODEC_OSC_RESET_COLOR_HIGHLIGHT_FOREGROUND = 89,
+    /* 7: As an address, file://host/path with % and two digits for other bytes. */
+    CSICODEC_OSC_FOLDER_ADDRESS = 96,
+    /* 9;9: As a path, with or without quotation marks (ConEmu, Windows Terminal). */
+    CSICODEC_OSC_FOLDER_PATH = 97,
+    /* 133;A: The prompt begins. */
+    CSICODEC_OSC_PROMPT_PROMPT = 112,
+    /* 133;B: The prompt is over, and the command line begins. */
+    CSICODEC_OSC_PROMPT_COMMAND = 113,
+    /* 133;C: The output begins. */
+    CSICODEC_OSC_PROMPT_OUTPUT = 114,
+    /* 133;D: The command is over; its first field may be the status. */
+    CSICODEC_OSC_PROMPT_END = 115,
+    /* 133;I: The command line begins, and ends with the line. */
+    CSICODEC_OSC_PROMPT_COMMAND_LINE = 116,
+    /* 133;L: A new line, unless the cursor is at the beginning of one. */
+    CSICODEC_OSC_PROMPT_FRESH_LINE = 117,
+    /* 133;N: The last command is over, and a prompt begins. */
+    CSICODEC_OSC_PROMPT_NEXT_PROMPT = 118,
+    /* 133;P: A prompt begins, of the kind that its fields say. */
+    CSICODEC_OSC_PROMPT_PROMPT_PART = 119,
+    /* 633;A: The prompt begins. */
+    CSICODEC_OSC_EDITOR_PROMPT = 128,
+    /* 633;B: The prompt is over, and the command line begins. */
+    CSICODEC_OSC_EDITOR_COMMAND = 129,
+    /* 633;C: The output begins. */
+    CSICODEC_OSC_EDITOR_OUTPUT = 130,
+    /* 633;D: The command is over; its first field may be the status. */
+    CSICODEC_OSC_EDITOR_END = 131,
+    /* 633;E: The command line itself, and a nonce. */
+    CSICODEC_OSC_EDITOR_COMMAND_TEXT = 132,
+    /* 633;F: A prompt for a further line begins. */
+    CSICODEC_OSC_EDITOR_CONTINUATION = 133,
+    /* 633;G: It is over. */
+    CSICODEC_OSC_EDITOR_CONTINUATION_END = 134,
+    /* 633;H: A prompt at the right begins. */
+    CSICODEC_OSC_EDITOR_RIGHT_PROMPT = 135,
+    /* 633;I: It is over. */
+    CSICODEC_OSC_EDITOR_RIGHT_PROMPT_END = 136,
+    /* 633;P: A property, name=value. */
+    CSICODEC_OSC_EDITOR_PROPERTY = 137,
+    /* 9;4;0: Not at all. */
+    CSICODEC_OSC_PROGRESS_OFF = 144,
+    /* 9;4;1: With a percentage. */
+    CSICODEC_OSC_PROGRESS_SHOWN = 145,
+    /* 9;4;2: As failed. */
+    CSICODEC_OSC_PROGRESS_FAILED = 146,
+    /* 9;4;3: Without a percentage. */
+    CSICODEC_OSC_PROGRESS_BUSY = 147,
+    /* 9;4;4: As paused. */
+    CSICODEC_OSC_PROGRESS_PAUSED = 148,
+    /* 8: What is printed from now on leads to the second text, an address; the first has parameters. Without an address the
+     * link ends. */
+    CSICODEC_OSC_LINK = 160,
+    /* 52: The clipboard, by the letters of the first text; the second is its content in base64, or ?, a question for it. */
+    CSICODEC_OSC_CLIPBOARD = 161,
+    /* 22: The shape of the pointer. */
+    CSICODEC_OSC_POINTER = 162,
+    /* 99: A notification of kitty: its metadata, and its text. */
+    CSICODEC_OSC_KITTY_NOTICE = 163,
+    /* 777;notify: A notification: its title, and its text. */
+    CSICODEC_OSC_TITLED_NOTICE = 164,
+    /* 9: A notification. */
+    CSICODEC_OSC_NOTICE = 165
+};
+
+/* Which key it is. The same key of the keypad is another one. */
+enum csicodec_key_code {
+    /* The key of a character, as it types it without modifiers: a, also where shift makes it A. Where the encoding says only
+     * what is typed, it is that. */
+    CSICODEC_KEY_CHAR = 0,
+    /* A function key, by its number. */
+    CSICODEC_KEY_F = 1,
+    /* The return key. */
+    CSICODEC_KEY_ENTER = 2,
+    /* Esc. */
+    CSICODEC_KEY_ESCAPE = 3,
+    /* Tab; with shift it goes back. */
+    CSICODEC_KEY_TAB = 4,
+    /* The key that erases to the left. */
+    CSICODEC_KEY_BACKSPACE = 5,
+    /* Insert. */
+    CSICODEC_KEY_INSERT = 6,
+    /* Delete. */
+    CSICODEC_KEY_DELETE = 7,
+    /* The arrow to the left. */
+    CSICODEC_KEY_LEFT = 8,
+    /* The arrow to the right. */
+    CSICODEC_KEY_RIGHT = 9,
+    /* The arrow up. */
+    CSICODEC_KEY_UP = 10,
+    /* The arrow down. */
+    CSICODEC_KEY_DOWN = 11,
+    /* Page up, DEC's Prev Screen. */
+    CSICODEC_KEY_PAGE_UP = 12,
+    /* Page down, DEC's Next Screen. */
+    CSICODEC_KEY_PAGE_DOWN = 13,
+    /* Home, DEC's Find. */
+    CSICODEC_KEY_HOME = 14,
+    /* End, DEC's Select. */
+    CSICODEC_KEY_END = 15,
+    /* Caps lock. */
+    CSICODEC_KEY_CAPS_LOCK = 16,
+    /* Scroll lock. */
+    CSICODEC_KEY_SCROLL_LOCK = 17,
+    /* Num lock. */
+    CSICODEC_KEY_NUM_LOCK = 18,
+    /* Print screen. */
+    CSICODEC_KEY_PRINT_SCREEN = 19,
+    /* Pause. */
+    CSICODEC_KEY_PAUSE = 20,
+    /* The key of the menu, Apps of Windows. */
+    CSICODEC_KEY_MENU = 21,
+    /* 0 on the keypad. */
+    CSICODEC_KEY_KEYPAD0 = 22,
+    /* 1 on the keypad. */
+    CSICODEC_KEY_KEYPAD1 = 23,
+    /* 2 on the keypad. */
+    CSICODEC_KEY_KEYPAD2 = 24,
+    /* 3 on the keypad. */
+    CSICODEC_KEY_KEYPAD3 = 25,
+    /* 4 on the keypad. */
+    CSICODEC_KEY_KEYPAD4 = 26,
+    /* 5 on the keypad. */
+    CSICODEC_KEY_KEYPAD5 = 27,
+    /* 6 on the keypad. */
+    CSICODEC_KEY_KEYPAD6 = 28,
+    /* 7 on the keypad. */
+    CSICODEC_KEY_KEYPAD7 = 29,
+    /* 8 on the keypad. */
+    CSICODEC_KEY_KEYPAD8 = 30,
+    /* 9 on the keypad. */
+    CSICODEC_KEY_KEYPAD9 = 31,
+    /* The decimal point on the keypad. */
+    CSICODEC_KEY_KEYPAD_DECIMAL = 32,
+    /* / on the keypad. */
+    CSICODEC_KEY_KEYPAD_DIVIDE = 33,
+    /* * on the keypad. */
+    CSICODEC_KEY_KEYPAD_MULTIPLY = 34,
+    /* - on the keypad. */
+    CSICODEC_KEY_KEYPAD_SUBTRACT = 35,
+    /* + on the keypad. */
+    CSICODEC_KEY_KEYPAD_ADD = 36,
+    /* Enter on the keypad. */
+    CSICODEC_KEY_KEYPAD_ENTER = 37,
+    /* = on the keypad. */
+    CSICODEC_KEY_KEYPAD_EQUAL = 38,
+    /* The separator on the keypad. */
+    CSICODEC_KEY_KEYPAD_SEPARATOR = 39,
+    /* The arrow to the left on the keypad. */
+    CSICODEC_KEY_KEYPAD_LEFT = 40,
+    /* The arrow to the right on the keypad. */
+    CSICODEC_KEY_KEYPAD_RIGHT = 41,
+    /* The arrow up on the keypad. */
+    CSICODEC_KEY_KEYPAD_UP = 42,
+    /* The arrow down on the keypad. */
+    CSICODEC_KEY_KEYPAD_DOWN = 43,
+    /* Page up on the keypad. */
+    CSICODEC_KEY_KEYPAD_PAGE_UP = 44,
+    /* Page down on the keypad. */
+    CSICODEC_KEY_KEYPAD_PAGE_DOWN = 45,
+    /* Home on the keypad. */
+    CSICODEC_KEY_KEYPAD_HOME = 46,
+    /* End on the keypad. */
+    CSICODEC_KEY_KEYPAD_END = 47,
+    /* Insert on the keypad. */
+    CSICODEC_KEY_KEYPAD_INSERT = 48,
+    /* Delete on the keypad. */
+    CSICODEC_KEY_KEYPAD_DELETE = 49,
+    /* The middle key of the keypad, 5 with num lock. */
+    CSICODEC_KEY_KEYPAD_BEGIN = 50,
+    /* Play. */
+    CSICODEC_KEY_MEDIA_PLAY = 51,
+    /* Pause what plays. */
+    CSICODEC_KEY_MEDIA_PAUSE = 52,
+    /* Play or pause. */
+    CSICODEC_KEY_MEDIA_PLAY_PAUSE = 53,
+    /* Play backwards. */
+    CSICODEC_KEY_MEDIA_REVERSE = 54,
+    /* Stop what plays. */
+    CSICODEC_KEY_MEDIA_STOP = 55,
+    /* Fast forward. */
+    CSICODEC_KEY_MEDIA_FAST_FORWARD = 56,
+    /* Rewind. */
+    CSICODEC_KEY_MEDIA_REWIND = 57,
+    /* The next track. */
+    CSICODEC_KEY_MEDIA_NEXT = 58,
+    /* The previous track. */
+    CSICODEC_KEY_MEDIA_PREVIOUS = 59,
+    /* Record. */
+    CSICODEC_KEY_MEDIA_RECORD = 60,
+    /* Less loud. */
+    CSICODEC_KEY_LOWER_VOLUME = 61,
+    /* Louder. */
+    CSICODEC_KEY_RAISE_VOLUME = 62,
+    /* Silent. */
+    CSICODEC_KEY_MUTE_VOLUME = 63,
+    /* The shift key on the left. */
+    CSICODEC_KEY_LEFT_SHIFT = 64,
+    /* The ctrl key on the left. */
+    CSICODEC_KEY_LEFT_CTRL = 65,
+    /* The alt key on the left. */
+    CSICODEC_KEY_LEFT_ALT = 66,
+    /* The super key on the left. */
+    CSICODEC_KEY_LEFT_SUPER = 67,
+    /* The hyper key on the left. */
+    CSICODEC_KEY_LEFT_HYPER = 68,
+    /* The meta key on the left. */
+    CSICODEC_KEY_LEFT_META = 69,
+    /* The shift key on the right. */
+    CSICODEC_KEY_RIGHT_SHIFT = 70,
+    /* The ctrl key on the right. */
+    CSICODEC_KEY_RIGHT_CTRL = 71,
+    /* The alt key on the right. */
+    CSICODEC_KEY_RIGHT_ALT = 72,
+    /* The super key on the right. */
+    CSICODEC_KEY_RIGHT_SUPER = 73,
+    /* The hyper key on the right. */
+    CSICODEC_KEY_RIGHT_HYPER = 74,
+    /* The meta key on the right. */
+    CSICODEC_KEY_RIGHT_META = 75,
+    /* AltGr (ISO level 3 shift). */
+    CSICODEC_KEY_ISO_LEVEL3_SHIFT = 76,
+    /* ISO level 5 shift. */
+    CSICODEC_KEY_ISO_LEVEL5_SHIFT = 77,
+    /* Tab on the keypad. */
+    CSICODEC_KEY_KEYPAD_TAB = 78,
+    /* The space bar on the keypad. */
+    CSICODEC_KEY_KEYPAD_SPACE = 79,
+    /* No key: text that comes without one, as of an input method (kitty). */
+    CSICODEC_KEY_TEXT = 80
+};
+
 #endif

@@ -3,6 +3,7 @@ import re
 
 from kinds_known import GONE, GONE_MEANING, PREFIX, known
 from kinds_library import ESCAPES, NAMED, acting, declared, kinds, low, numbers_of, snake, type_of, variants
+from kinds_said import c_enumerations
 from kinds_table import PATH, PREFIXES
 
 # What the fields of a struct hold, by its form.
@@ -87,7 +88,7 @@ def header_known():
     for name, kind, said in said_of:
         out += comment(said.replace("`", chr(0))).replace(chr(0), "`")
         out += f"    {PREFIX}{name} = {kind}{',' if name != said_of[-1][0] else ''}\n"
-    return out + "};\n"
+    return out + "};\n" + c_enumerations(comment)
 
 
 def header_names():

@@ -6,6 +6,7 @@ import textwrap
 
 from kinds_known import known
 from kinds_library import BY_NUMBER, ESCAPES, NAMED, acting, declared, numbers_of, of, type_of, variants
+from kinds_said import said_enumerations
 from kinds_table import PATH
 
 WIDTH = 136
@@ -76,6 +77,7 @@ def enumerations():
         ("SixelGraphicsGeometry", 2, "The largest picture in sixels, in pixels."),
         ("RegisGraphicsGeometry", 3, "The largest picture in ReGIS, in pixels."),
     ]
+    yield from said_enumerations()
 
 
 def enumeration(name, docs, rows):

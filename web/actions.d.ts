@@ -110,6 +110,33 @@ export type EscCode =
 export type XtSmGraphicsItem =
     'NumberOfColorRegisters' | 'SixelGraphicsGeometry' | 'RegisGraphicsGeometry';
 
+/** Which command an OSC is. */
+export type OscKind =
+    'Unknown' | 'TitleBoth' | 'TitleIcon' | 'TitleWindow' | 'ColorsIndexed' | 'ColorsSpecial' | 'ResetColorsIndexed'
+    | 'ResetColorsSpecial' | 'ColorForeground' | 'ColorBackground' | 'ColorCursor' | 'ColorPointerForeground'
+    | 'ColorPointerBackground' | 'ColorTektronixForeground' | 'ColorTektronixBackground' | 'ColorHighlightBackground'
+    | 'ColorTektronixCursor' | 'ColorHighlightForeground' | 'ResetColorForeground' | 'ResetColorBackground' | 'ResetColorCursor'
+    | 'ResetColorPointerForeground' | 'ResetColorPointerBackground' | 'ResetColorTektronixForeground'
+    | 'ResetColorTektronixBackground' | 'ResetColorHighlightBackground' | 'ResetColorTektronixCursor'
+    | 'ResetColorHighlightForeground' | 'FolderAddress' | 'FolderPath' | 'PromptPrompt' | 'PromptCommand' | 'PromptOutput'
+    | 'PromptEnd' | 'PromptCommandLine' | 'PromptFreshLine' | 'PromptNextPrompt' | 'PromptPromptPart' | 'EditorPrompt'
+    | 'EditorCommand' | 'EditorOutput' | 'EditorEnd' | 'EditorCommandText' | 'EditorContinuation' | 'EditorContinuationEnd'
+    | 'EditorRightPrompt' | 'EditorRightPromptEnd' | 'EditorProperty' | 'ProgressOff' | 'ProgressShown' | 'ProgressFailed'
+    | 'ProgressBusy' | 'ProgressPaused' | 'Link' | 'Clipboard' | 'Pointer' | 'KittyNotice' | 'TitledNotice' | 'Notice';
+
+/** Which key it is. The same key of the keypad is another one. */
+export type KeyCode =
+    'Char' | 'F' | 'Enter' | 'Escape' | 'Tab' | 'Backspace' | 'Insert' | 'Delete' | 'Left' | 'Right' | 'Up' | 'Down' | 'PageUp'
+    | 'PageDown' | 'Home' | 'End' | 'CapsLock' | 'ScrollLock' | 'NumLock' | 'PrintScreen' | 'Pause' | 'Menu' | 'Keypad0' | 'Keypad1'
+    | 'Keypad2' | 'Keypad3' | 'Keypad4' | 'Keypad5' | 'Keypad6' | 'Keypad7' | 'Keypad8' | 'Keypad9' | 'KeypadDecimal'
+    | 'KeypadDivide' | 'KeypadMultiply' | 'KeypadSubtract' | 'KeypadAdd' | 'KeypadEnter' | 'KeypadEqual' | 'KeypadSeparator'
+    | 'KeypadLeft' | 'KeypadRight' | 'KeypadUp' | 'KeypadDown' | 'KeypadPageUp' | 'KeypadPageDown' | 'KeypadHome' | 'KeypadEnd'
+    | 'KeypadInsert' | 'KeypadDelete' | 'KeypadBegin' | 'MediaPlay' | 'MediaPause' | 'MediaPlayPause' | 'MediaReverse' | 'MediaStop'
+    | 'MediaFastForward' | 'MediaRewind' | 'MediaNext' | 'MediaPrevious' | 'MediaRecord' | 'LowerVolume' | 'RaiseVolume'
+    | 'MuteVolume' | 'LeftShift' | 'LeftCtrl' | 'LeftAlt' | 'LeftSuper' | 'LeftHyper' | 'LeftMeta' | 'RightShift' | 'RightCtrl'
+    | 'RightAlt' | 'RightSuper' | 'RightHyper' | 'RightMeta' | 'IsoLevel3Shift' | 'IsoLevel5Shift' | 'KeypadTab' | 'KeypadSpace'
+    | 'Text';
+
 /** A row of docs/SEQUENCES.md, under its name in C. */
 export type KnownKind =
     'DECSED' | 'DECSEL' | 'DECSCA' | 'DECSCL' | 'DECSRFR' | 'DECSTRL' | 'DECIC' | 'DECDC' | 'DECELR' | 'DECSLE' | 'DECEFR'

@@ -88,6 +88,35 @@ export const NAMES = {
     XtSmGraphicsItem: {
         1: 'NumberOfColorRegisters', 2: 'SixelGraphicsGeometry', 3: 'RegisGraphicsGeometry',
     },
+    OscKind: {
+        0: 'Unknown', 16: 'TitleBoth', 17: 'TitleIcon', 18: 'TitleWindow', 32: 'ColorsIndexed', 33: 'ColorsSpecial', 48:
+        'ResetColorsIndexed', 49: 'ResetColorsSpecial', 64: 'ColorForeground', 65: 'ColorBackground', 66: 'ColorCursor', 67:
+        'ColorPointerForeground', 68: 'ColorPointerBackground', 69: 'ColorTektronixForeground', 70: 'ColorTektronixBackground', 71:
+        'ColorHighlightBackground', 72: 'ColorTektronixCursor', 73: 'ColorHighlightForeground', 80: 'ResetColorForeground', 81:
+        'ResetColorBackground', 82: 'ResetColorCursor', 83: 'ResetColorPointerForeground', 84: 'ResetColorPointerBackground', 85:
+        'ResetColorTektronixForeground', 86: 'ResetColorTektronixBackground', 87: 'ResetColorHighlightBackground', 88:
+        'ResetColorTektronixCursor', 89: 'ResetColorHighlightForeground', 96: 'FolderAddress', 97: 'FolderPath', 112:
+        'PromptPrompt', 113: 'PromptCommand', 114: 'PromptOutput', 115: 'PromptEnd', 116: 'PromptCommandLine', 117:
+        'PromptFreshLine', 118: 'PromptNextPrompt', 119: 'PromptPromptPart', 128: 'EditorPrompt', 129: 'EditorCommand', 130:
+        'EditorOutput', 131: 'EditorEnd', 132: 'EditorCommandText', 133: 'EditorContinuation', 134: 'EditorContinuationEnd', 135:
+        'EditorRightPrompt', 136: 'EditorRightPromptEnd', 137: 'EditorProperty', 144: 'ProgressOff', 145: 'ProgressShown', 146:
+        'ProgressFailed', 147: 'ProgressBusy', 148: 'ProgressPaused', 160: 'Link', 161: 'Clipboard', 162: 'Pointer', 163:
+        'KittyNotice', 164: 'TitledNotice', 165: 'Notice',
+    },
+    KeyCode: {
+        0: 'Char', 1: 'F', 2: 'Enter', 3: 'Escape', 4: 'Tab', 5: 'Backspace', 6: 'Insert', 7: 'Delete', 8: 'Left', 9: 'Right', 10:
+        'Up', 11: 'Down', 12: 'PageUp', 13: 'PageDown', 14: 'Home', 15: 'End', 16: 'CapsLock', 17: 'ScrollLock', 18: 'NumLock', 19:
+        'PrintScreen', 20: 'Pause', 21: 'Menu', 22: 'Keypad0', 23: 'Keypad1', 24: 'Keypad2', 25: 'Keypad3', 26: 'Keypad4', 27:
+        'Keypad5', 28: 'Keypad6', 29: 'Keypad7', 30: 'Keypad8', 31: 'Keypad9', 32: 'KeypadDecimal', 33: 'KeypadDivide', 34:
+        'KeypadMultiply', 35: 'KeypadSubtract', 36: 'KeypadAdd', 37: 'KeypadEnter', 38: 'KeypadEqual', 39: 'KeypadSeparator', 40:
+        'KeypadLeft', 41: 'KeypadRight', 42: 'KeypadUp', 43: 'KeypadDown', 44: 'KeypadPageUp', 45: 'KeypadPageDown', 46:
+        'KeypadHome', 47: 'KeypadEnd', 48: 'KeypadInsert', 49: 'KeypadDelete', 50: 'KeypadBegin', 51: 'MediaPlay', 52: 'MediaPause',
+        53: 'MediaPlayPause', 54: 'MediaReverse', 55: 'MediaStop', 56: 'MediaFastForward', 57: 'MediaRewind', 58: 'MediaNext', 59:
+        'MediaPrevious', 60: 'MediaRecord', 61: 'LowerVolume', 62: 'RaiseVolume', 63: 'MuteVolume', 64: 'LeftShift', 65: 'LeftCtrl',
+        66: 'LeftAlt', 67: 'LeftSuper', 68: 'LeftHyper', 69: 'LeftMeta', 70: 'RightShift', 71: 'RightCtrl', 72: 'RightAlt', 73:
+        'RightSuper', 74: 'RightHyper', 75: 'RightMeta', 76: 'IsoLevel3Shift', 77: 'IsoLevel5Shift', 78: 'KeypadTab', 79:
+        'KeypadSpace', 80: 'Text',
+    },
     KnownKind: {
         10001: 'DECSED', 10002: 'DECSEL', 10003: 'DECSCA', 10004: 'DECSCL', 10005: 'DECSRFR', 10006: 'DECSTRL', 10007: 'DECIC',
         10008: 'DECDC', 10009: 'DECELR', 10010: 'DECSLE', 10011: 'DECEFR', 10012: 'DECSDDT', 10013: 'DECSPRTT', 10014: 'DECCARA',

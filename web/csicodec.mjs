@@ -49,6 +49,12 @@ export function optionsOf(given, defaults) {
     return { ...defaults, ...Object.fromEntries(Object.entries(given).filter(([, value]) => value !== undefined)) };
 }
 
+/** The number of a colour as '#rrggbb'. */
+function numberOf(color) {
+    if (!/^#[0-9a-f]{6}$/i.test(color)) throw new TypeError(`a colour of the option palette must be as '#rrggbb', not ${String(color)}`);
+    return parseInt(color.slice(1), 16);
+}
+
 /** The number of a depth of colours. */
 function depthOf(colors) {
     const depth = { all: 0, 256: 1, 16: 2 }[colors];
@@ -386,6 +392,30 @@ export class Codec {
         return this.#written(input, 8, (calls, answer, ...words) => calls.csicodec_clean_with(answer, depth, links ? 1 : 0, ...words));
     }
 
+    /** A page of HTML with the text, its colours and styles, each line as it stands when it ends. Nothing of the text gets into a tag, but addresses with
+     * `links`, with which text stays that was written over, as where `overwrite` is false. A `fragment` is a piece for a <pre>; `classes` are in place
+     * of styles; `palette` has 16 colours as '#rrggbb', or 18 with the page's own of text and behind it. */
+    html(input, options) {
+        const { links, classes, fragment, overwrite, palette } = optionsOf(options, { links: false, classes: false, fragment: false, overwrite: true, palette: [] });
+        if (!Array.isArray(palette) || ![0, 16, 18].includes(palette.length)) throw new TypeError('the option palette must be an array of 16 or 18 colours');
+        const numbers = Uint32Array.from([links, classes, fragment, !overwrite, ...palette.map(numberOf)]), count = BigInt(palette.length);
+        return this.guarded(library => {
+            const markup = library.room(numbers.byteLength);
+            try {
+                library.bytes(markup, numbers.byteLength).set(new Uint8Array(numbers.buffer));
+                return this.#written(input, 8, (calls, answer, ...words) => calls.csicodec_html(answer, markup, markup + 16n, count, ...words));
+            } finally {
+                library.calls.csicodec_free(markup);
+            }
+        });
+    }
+
+    /** Each line as it stands when it ends, as plain text; with `styles` also the sequences that set how characters look. */
+    overwrite(input, options) {
+        const styles = optionsOf(options, { styles: false }).styles ? 1 : 0;
+        return this.#written(input, 8, (calls, answer, ...words) => calls.csicodec_overwrite(answer, styles, ...words));
+    }
+
     /** The normal form of control sequences alone, one after the other; other bytes are refused with their place. */
     normalise(input) {
         return this.#written(input, 24, (calls, ...words) => calls.csicodec_normalise(...words), (status, library) =>
@@ -395,14 +425,15 @@ export class Codec {
     /** Any whole stream with each control sequence in its normal form. */
     filter(input) { return this.#whole(input, new Filter(this, 'csicodec_filter')); }
 
-    /** The same stream for a terminal, each control sequence in the shortest spelling that is found, never longer. (The program also puts
-     * attributes of several sequences side by side.) */
+    /** The same stream for a terminal in fewer bytes, as `csicodec compact` writes it: in the place of control sequences that stand side by side one
+     * may stand that is read as the same actions. */
     compact(input, options) {
-        const { semicolons } = optionsOf(options, { semicolons: false });
-        return this.#whole(input, new Filter(this, semicolons ? 'csicodec_compact_semicolons' : 'csicodec_compact'));
+        const semicolons = optionsOf(options, { semicolons: false }).semicolons ? 1 : 0;
+        return this.#written(input, 8, (calls, answer, ...words) => calls.csicodec_compact_whole(answer, semicolons, ...words));
     }
 
-    /** The same for a stream as it comes, of bytes or of strings: TransformStreams that write bytes, with bounded memory. */
+    /** The same for a stream as it comes, of bytes or of strings: TransformStreams that write bytes, with bounded memory. compact writes each
+     * control sequence by itself. */
     stripStream() { return streamOf(new Cleaner(this)); }
     cleanStream(options) { return streamOf(new Cleaner(this, depthOf(optionsOf(options, { colors: 'all' }).colors))); }
     filterStream() { return streamOf(new Filter(this, 'csicodec_filter')); }

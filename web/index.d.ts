@@ -1,4 +1,4 @@
-import type { Action, EscCode, KnownKind } from './actions.js';
+import type { Action, EscCode, KeyCode, KnownKind, OscKind } from './actions.js';
 export * from './actions.js';
 
 /** Bytes. */
@@ -23,7 +23,7 @@ export type Event =
     | { readonly type: 'ControlString'; readonly kind: 'OSC' | 'DCS' | 'SOS' | 'PM' | 'APC'; readonly bytes: Uint8Array; readonly first: boolean; readonly last: boolean }
     | { readonly type: 'Malformed'; readonly bytes: Uint8Array };
 
-/** An event of what a terminal sends. Most keys are control sequences: `codec.known` has their names. */
+/** An event of what a terminal sends. Keys as one type: `codec.keys`. */
 export type InputEvent =
     | Event
     /** SS3 (`ESC O`) and this character: a key of the keypad, an arrow, or F1 to F4. */
@@ -39,6 +39,29 @@ export type InputEvent =
     /** ESC alone: the key. */
     | { readonly type: 'Input.Escape' };
 
+/** A key that was pressed, repeated or released, whichever encoding it came in. */
+export interface Key {
+    readonly type: 'Key';
+    readonly code: KeyCode;
+    /** The character of 'Char', and the number of 'F'. */
+    readonly character?: string;
+    readonly number?: number;
+    /** What is held down with it: a sum of `KeyModifiers`. */
+    readonly modifiers: number;
+    readonly event: 'press' | 'repeat' | 'release';
+    readonly encoding: 'legacy' | 'modifyOtherKeys' | 'kitty' | 'win32' | 'rxvt' | 'linux';
+    /** What it types, where the encoding says that. */
+    readonly text: string;
+}
+
+/** What an OSC says: its command, and the texts behind that. An unknown command has all bytes as its first text. */
+export interface Osc {
+    readonly type: 'Osc';
+    readonly kind: OscKind;
+    readonly first?: Uint8Array;
+    readonly second?: Uint8Array;
+}
+
 /** Bytes of a stream, and what they are. */
 export interface StreamSpan {
     kind: 'text' | 'csi' | 'esc' | 'string' | 'other';
@@ -53,6 +76,10 @@ export interface Known {
 
 /** The keys that are held while the mouse reports: `modifiers` is a sum of these. */
 export const Modifiers: { readonly SHIFT: 2; readonly ALT: 4; readonly CTRL: 8 };
+/** What is held down with a key, and the locks that are on: `modifiers` of a key is a sum of these. */
+export const KeyModifiers: {
+    readonly SHIFT: 1; readonly ALT: 2; readonly CTRL: 4; readonly SUPER: 8; readonly HYPER: 16; readonly META: 32; readonly CAPS_LOCK: 64; readonly NUM_LOCK: 128;
+};
 /** How a program wants keys reported (kitty's keyboard protocol): `flags` is a sum of these. */
 export const KittyKeyboardFlags: {
     readonly DISAMBIGUATE_ESCAPE_CODES: 1; readonly REPORT_EVENT_TYPES: 2; readonly REPORT_ALTERNATE_KEYS: 4;
@@ -106,6 +133,19 @@ export interface ExplainOptions {
     decode?: boolean;
 }
 
+export interface HtmlOptions {
+    /** Links (OSC 8) become links, if the address is one of http or https; text then stays that was written over. */
+    links?: boolean;
+    /** CSS classes in place of styles. */
+    classes?: boolean;
+    /** A piece for a <pre> in a page of your own. */
+    fragment?: boolean;
+    /** False: text stays that a carriage return or an erase would hide. */
+    overwrite?: boolean;
+    /** 16 colours as '#rrggbb', or 18 with the page's own colour of text and its background. */
+    palette?: readonly string[];
+}
+
 /** Which colours stay: all, or the nearest of 256 or of 16. */
 export type Colors = 'all' | 256 | 16;
 
@@ -120,13 +160,17 @@ export class Codec {
     strip<T extends Input>(input: T): T extends string ? string : Uint8Array;
     /** The visible text with its styles; with `links` also links whose address is visible ASCII. */
     clean<T extends Input>(input: T, options?: { colors?: Colors; links?: boolean }): T extends string ? string : Uint8Array;
+    /** A page of HTML with the text, its colours and styles, each line as it stands when it ends. */
+    html<T extends Input>(input: T, options?: HtmlOptions): T extends string ? string : Uint8Array;
+    /** Each line as it stands when it ends, as plain text; with `styles` also the sequences that set how characters look. */
+    overwrite<T extends Input>(input: T, options?: { styles?: boolean }): T extends string ? string : Uint8Array;
     /** The normal form of control sequences alone; other bytes are refused with their place. */
     normalise<T extends Input>(input: T): T extends string ? string : Uint8Array;
     /** A whole stream with each control sequence in its normal form. */
     filter<T extends Input>(input: T): T extends string ? string : Uint8Array;
-    /** A whole stream, each control sequence in the shortest spelling that is found, never longer. */
+    /** A whole stream in fewer bytes: in the place of control sequences side by side one may stand with the same actions. */
     compact<T extends Input>(input: T, options?: { semicolons?: boolean }): T extends string ? string : Uint8Array;
-    /** The same for a stream as it comes, with bounded memory. */
+    /** The same for a stream as it comes, with bounded memory; compact writes each control sequence by itself. */
     stripStream(): Transform;
     cleanStream(options?: { colors?: Colors }): Transform;
     filterStream(): Transform;
@@ -135,6 +179,10 @@ export class Codec {
     events(input: Input): Generator<Event, void, undefined>;
     /** The events of all that a terminal sent. An ESC at the end is a key. */
     inputs(input: Input, options?: { dialect?: Dialect; limit?: number }): Generator<InputEvent, void, undefined>;
+    /** The keys of all that a terminal sent; what is no key comes as its bytes. An ESC at the end is a key. */
+    keys(input: Input): Generator<Key | Uint8Array, void, undefined>;
+    /** What an OSC says, by its content: the bytes between ESC ] and what ends it. */
+    osc(content: Input): Osc;
     /** The spans of a whole stream: joined they are its bytes. */
     spans(input: Input): StreamSpan[];
     /** The row of docs/SEQUENCES.md that reads an action without a type of its own; undefined, if none does. */
@@ -168,6 +216,23 @@ export class InputParser {
     /** What waits, where nothing more came in time: ESC alone is a key, and so is ESC with one character. Else it goes on waiting. */
     pause(): InputEvent[];
     finish(): InputEvent[];
+}
+
+/** Reads the keys of what a terminal sends, as it comes; what is no key comes as its bytes. */
+export class KeyParser {
+    constructor(codec: Codec);
+    /** The keys of the next bytes, or characters, as far as they don't depend on what follows: an ESC at the end waits. */
+    feed(input: Input): (Key | Uint8Array)[];
+    /** What waits, where nothing more came in time. */
+    pause(): (Key | Uint8Array)[];
+    finish(): (Key | Uint8Array)[];
+}
+
+/** Joins the pieces of each OSC among events. A content of more than `limit` bytes isn't told. */
+export class OscReader {
+    constructor(codec: Codec, options?: { limit?: number });
+    /** What the OSC says that is over with this event; undefined, if none is. */
+    take(event: Event): Osc | undefined;
 }
 
 /** What the programs wrote in a recording of asciinema (versions 2 and 3). */

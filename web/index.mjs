@@ -11,8 +11,14 @@ export const KittyKeyboardFlags = Object.freeze({
     DISAMBIGUATE_ESCAPE_CODES: 1, REPORT_EVENT_TYPES: 2, REPORT_ALTERNATE_KEYS: 4, REPORT_ALL_KEYS_AS_ESCAPE_CODES: 8, REPORT_ASSOCIATED_TEXT: 16,
 });
 
+/** What is held down with a key, and the locks that are on: `modifiers` of a key is a sum of these. */
+export const KeyModifiers = Object.freeze({ SHIFT: 1, ALT: 2, CTRL: 4, SUPER: 8, HYPER: 16, META: 32, CAPS_LOCK: 64, NUM_LOCK: 128 });
+
 const decoder = new TextDecoder('utf-8', { ignoreBOM: true });
-const LIMIT = 65536, PIECE = 65536, TRUNCATED = 4;
+const LIMIT = 65536, PIECE = 65536, TRUNCATED = 4, NO_ACTION = 6;
+// enum csicodec_key_event and enum csicodec_key_encoding; how many characters a key types at most, each of 4 bytes.
+const KEY_EVENTS = ['press', 'repeat', 'release'], KEY_ENCODINGS = ['legacy', 'modifyOtherKeys', 'kitty', 'win32', 'rxvt', 'linux'];
+const TYPED = 32n;
 // enum csicodec_event_kind and enum csicodec_input_kind; enum csicodec_dialect; enum csicodec_span_kind.
 const TEXT = 1, ACTIONS = 2, ESC = 3, STRING = 4, OTHER = 5, CONTROL = 6, SS3 = 7, LINUX = 8, RXVT = 9, MOUSE = 10, ALT = 11;
 const DIALECTS = { output: 0, input: 1, utf8: 2 };
@@ -178,12 +184,105 @@ export class InputParser extends Reader {
     finish() { return [...this.pause(), ...super.finish()]; }
 }
 
+/** Reads the keys of what a terminal sends, as it comes. What is no key comes as its bytes. */
+export class KeyParser {
+    constructor(codec) {
+        if (!(codec instanceof Codec)) throw new TypeError('a parser is made of a Codec: new KeyParser(await Codec.load())');
+        this.codec = codec;
+        this.rest = new Uint8Array();
+    }
+
+    /** The keys of the next bytes, or characters, as far as they don't depend on what follows: an ESC at the end waits. */
+    feed(input) {
+        const given = bytesOf(input), held = new Uint8Array(this.rest.length + given.length);
+        held.set(this.rest);
+        held.set(given, this.rest.length);
+        this.rest = held;
+        return this.#read(1);
+    }
+
+    /** What waits, where nothing more came in time: ESC alone is a key, and so is ESC with one character. Else it goes on waiting. */
+    pause() { return this.#read(0); }
+
+    /** What is left at the end: keys, and bytes that are none. */
+    finish() {
+        const found = this.#read(0), left = this.rest;
+        this.rest = new Uint8Array();
+        return left.length ? [...found, left] : found;
+    }
+
+    #read(more) {
+        const held = this.rest, found = [];
+        this.rest = held.subarray(this.codec.guarded(library => {
+            library.take(held);
+            library.typed ??= library.room(Number(TYPED) * 4);
+            let at = 0;
+            while (at < held.length) {
+                library.calls.csicodec_key(library.answer, more, library.input.at + BigInt(at), BigInt(held.length - at), library.typed, TYPED);
+                library.look();
+                const status = library.told(0), used = library.told(32);
+                if (status === TRUNCATED) break;
+                if (status && status !== NO_ACTION) throw new CodecError('out of memory', { status });
+                found.push(status ? held.subarray(at, at + used) : strokeOf(library));
+                at += used;
+            }
+            return at;
+        }));
+        return found;
+    }
+}
+
+/** The key that a call has told. */
+function strokeOf(library) {
+    const code = NAMES.KeyCode[library.told(4)], value = library.told(8), typed = Number(library.typed);
+    const text = Array.from({ length: library.told(24) }, (_, i) => String.fromCodePoint(library.view.getUint32(typed + 4 * i, true))).join('');
+    const of = code === 'Char' ? { character: String.fromCodePoint(value) } : code === 'F' ? { number: value } : {};
+    return { type: 'Key', code, ...of, modifiers: library.told(12), event: KEY_EVENTS[library.told(16)], encoding: KEY_ENCODINGS[library.told(20)], text };
+}
+
+/** Joins the pieces of each OSC among events. A content of more than `limit` bytes isn't told. */
+export class OscReader {
+    constructor(codec, options) {
+        if (!(codec instanceof Codec)) throw new TypeError('a reader is made of a Codec: new OscReader(await Codec.load())');
+        Object.assign(this, { codec, limit: optionsOf(options, { limit: LIMIT }).limit, held: [], length: Infinity });
+    }
+
+    /** What the OSC says that is over with this event; undefined, if none is. */
+    take(event) {
+        if (event.type !== 'ControlString' || event.kind !== 'OSC') { this.length = Infinity; return undefined; }
+        if (event.first) { this.held = []; this.length = 0; }
+        this.length += event.bytes.length;
+        if (this.length > this.limit) { this.held = []; this.length = Infinity; return undefined; }
+        this.held.push(event.bytes);
+        if (!event.last) return undefined;
+        const all = new Uint8Array(this.length);
+        this.held.reduce((at, part) => { all.set(part, at); return at + part.length; }, 0);
+        return this.codec.osc(all);
+    }
+}
+
 export class Codec extends TextCodec {
     /** The events of a whole stream. */
     *events(input) { yield* allOf(new Parser(this), bytesOf(input)); }
 
     /** The events of all that a terminal sent. An ESC at the end is a key. */
     *inputs(input, options) { yield* allOf(new InputParser(this, options), bytesOf(input)); }
+
+    /** The keys of all that a terminal sent; what is no key comes as its bytes. An ESC at the end is a key. */
+    *keys(input) { yield* allOf(new KeyParser(this), bytesOf(input)); }
+
+    /** What an OSC says, by its content: the bytes between `ESC ]` and what ends it. */
+    osc(content) {
+        const held = bytesOf(content);
+        return this.guarded(library => {
+            library.take(held);
+            library.calls.csicodec_osc(library.answer, library.input.at, library.length);
+            library.look();
+            const texts = library.told(4), second = library.told(16), kind = NAMES.OscKind[library.told(0)];
+            const first = texts ? held.slice(library.told(8), texts === 2 ? second - 1 : held.length) : undefined;
+            return { type: 'Osc', kind, first, second: texts === 2 ? held.slice(second) : undefined };
+        });
+    }
 
     /** The spans of a whole stream: joined they are its bytes. */
     spans(input) {

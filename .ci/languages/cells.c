@@ -7,7 +7,8 @@
 #define B(text) (const uint8_t *)(text), sizeof(text) - 1
 static struct csicodec_action actions[8];
 static struct csicodec_param params[8];
-static uint8_t out[64];
+static uint8_t out[128];
+static uint32_t typed[CSICODEC_TYPED];
 
 static void says(const char *row, int is_so) {
     if (!is_so) fprintf(stderr, "not so: %s\n", row), exit(1);
@@ -39,11 +40,19 @@ int main(void) {
     csicodec_next(B("\033[?2K"), actions, 8, params, 8);
     says("known", csicodec_known(actions, params, 8).kind == CSICODEC_KNOWN_DECSEL);
     says("spans", csicodec_span(0, 4096, B("a\033[m")).used == 1);
-    says("whole", wrote(csicodec_strip(B("\033[01ma"), out, 64).needed, "a") && wrote(csicodec_clean(B("\033[01ma"), out, 64).needed, "\033[1ma\033[0m")
-        && wrote(csicodec_filter(0, 4096, B("\033[01ma"), out, 64).needed, "\033[1ma") && wrote(csicodec_compact(0, 4096, B("\033[01ma"), out, 64).needed, "\033[1ma"));
-    step = csicodec_strip_step(&state, B("a\033[01"), out, 64);
+    says("whole", wrote(csicodec_strip(B("\033[01ma"), out, 128).needed, "a") && wrote(csicodec_clean(B("\033[01ma"), out, 128).needed, "\033[1ma\033[0m")
+        && wrote(csicodec_filter(0, 4096, B("\033[01ma"), out, 128).needed, "\033[1ma") && wrote(csicodec_compact_whole(0, B("\033[01m\033[3ma"), out, 128).needed, "\033[1;3ma"));
+    step = csicodec_strip_step(&state, B("a\033[01"), out, 128);
     says("stream", wrote(step.needed, "a") && step.used == 1);
     csicodec_next(B("\033[3m"), actions, 8, params, 8);
-    says("encode", wrote(csicodec_encode(actions, 1, params, 0, out, 64).needed, "\033[3m"));
+    struct csicodec_key key = csicodec_key(1, B("\033[97;5u"), typed, CSICODEC_TYPED);
+    says("keys", key.code == CSICODEC_KEY_CHAR && key.value == 'a' && key.modifiers == CSICODEC_KEY_MODIFIERS_CTRL && key.used == 7
+        && csicodec_key(1, B("\033"), NULL, 0).status == CSICODEC_TRUNCATED && csicodec_key(0, B("\033"), NULL, 0).code == CSICODEC_KEY_ESCAPE);
+    struct csicodec_osc osc = csicodec_osc(B("8;id=1;http://a.example"));
+    says("osc", osc.kind == CSICODEC_OSC_LINK && osc.texts == 2 && osc.first == 2 && osc.second == 7);
+    struct csicodec_markup markup = {0, 0, 1, 0};
+    says("html", wrote(csicodec_html(&markup, NULL, 0, B("1\r\033[1m<"), out, 128).needed, "<span style=\"font-weight:bold;\">&lt;</span>")
+        && wrote(csicodec_overwrite(0, B("1\r2"), out, 128).needed, "2"));
+    says("encode", wrote(csicodec_encode(actions, 1, params, 0, out, 128).needed, "\033[3m"));
     return 0;
 }

@@ -15,14 +15,16 @@ if TYPE_CHECKING:
     from .event import ControlString, Esc, Event, Malformed, Text, UnknownEsc
     from .forms import Action
     from .input import Dialect, Input, InputEvent, InputKey, InputParser, inputs
+    from .key import Key, KeyEncoding, KeyEvent, KeyParser, keys
     from .known_kinds import KnownKind
     from .library import Data
     from .parser import Parser, events
     from .program import explain
     from .sequences import Known, known
     from .span import Span, SpanKind, spans
-    from .text import Cleaner, Filter, clean, compact, filter, normalise, strip
-    from .values import Color, DefaultColor, KittyKeyboardFlags, Modifiers, PaletteColor, Token, TrueColor
+    from .strings import Osc, OscReader, osc
+    from .text import Cleaner, Filter, clean, compact, filter, html, normalise, overwrite, strip
+    from .values import Color, DefaultColor, KeyModifiers, KittyKeyboardFlags, Modifiers, PaletteColor, Token, TrueColor
 
 __version__ = "1.9.0"
 # fmt: off
@@ -30,17 +32,18 @@ __all__ = [
     "Action", "Blink", "CharacterPath", "Cleaner", "CodecError", "Color", "ControlString", "Cursor", "CursorAction", "CursorStyle",
     "CursorTabulationControl", "Data", "DecPrivateModeCode", "DefaultColor", "Device", "DeviceAction", "DeviceAttributeCodes",
     "Dialect", "Edit", "EditAction", "EraseInDisplay", "EraseInLine", "Esc", "EscCode", "Event", "FieldError", "Filter", "Input",
-    "InputEvent", "InputKey", "InputParser", "Intensity", "Keyboard", "KeyboardAction", "KittyKeyboardFlags", "KittyKeyboardMode",
-    "Known", "KnownKind", "Malformed", "Mode", "ModeAction", "Modifiers", "MouseButton", "MouseReport", "MouseReportAction",
-    "PaletteColor", "Parser", "SelectCharacterPath", "Sgr", "SgrAction", "Span", "SpanKind", "TabulationClear", "TerminalModeCode",
-    "Text", "Token", "TrueColor", "Underline", "UnknownEsc", "Unspecified", "VerticalAlign", "Window", "WindowAction",
-    "XtSmGraphicsAction", "XtSmGraphicsItem", "XtSmGraphicsStatus", "XtermKeyModifierResource", "clean", "compact", "encode",
-    "encode_compact", "events", "explain", "filter", "inputs", "known", "normalise", "spans", "strip",
+    "InputEvent", "InputKey", "InputParser", "Intensity", "Key", "KeyCode", "KeyEncoding", "KeyEvent", "KeyModifiers", "KeyParser",
+    "Keyboard", "KeyboardAction", "KittyKeyboardFlags", "KittyKeyboardMode", "Known", "KnownKind", "Malformed", "Mode",
+    "ModeAction", "Modifiers", "MouseButton", "MouseReport", "MouseReportAction", "Osc", "OscKind", "OscReader", "PaletteColor",
+    "Parser", "SelectCharacterPath", "Sgr", "SgrAction", "Span", "SpanKind", "TabulationClear", "TerminalModeCode", "Text", "Token",
+    "TrueColor", "Underline", "UnknownEsc", "Unspecified", "VerticalAlign", "Window", "WindowAction", "XtSmGraphicsAction",
+    "XtSmGraphicsItem", "XtSmGraphicsStatus", "XtermKeyModifierResource", "clean", "compact", "encode", "encode_compact", "events",
+    "explain", "filter", "html", "inputs", "keys", "known", "normalise", "osc", "overwrite", "spans", "strip",
 ]
 # fmt: on
 #: The modules that have these names, those first that are loaded soonest. A name is loaded when it is first asked for, so that a program
 #: which strips doesn't load the actions.
-_MODULES = ("text", "error", "program", "values", "enums", "forms", "actions", "encoding", "event", "parser", "known_kinds", "sequences", "span", "input")
+_MODULES = ("text", "error", "program", "values", "enums", "forms", "actions", "encoding", "event", "parser", "known_kinds", "sequences", "span", "input", "key", "strings")
 
 
 def __getattr__(name: str) -> object:

@@ -14,8 +14,10 @@ __all__ = [
     "EraseInLine",
     "EscCode",
     "Intensity",
+    "KeyCode",
     "KittyKeyboardMode",
     "MouseButton",
+    "OscKind",
     "TabulationClear",
     "TerminalModeCode",
     "Underline",
@@ -485,3 +487,295 @@ class XtSmGraphicsItem(IntEnum):
     SixelGraphicsGeometry = 2
     #: The largest picture in ReGIS, in pixels.
     RegisGraphicsGeometry = 3
+
+
+class OscKind(IntEnum):
+    """Which command an OSC is."""
+
+    #: What no command reads; its text is all of it.
+    Unknown = 0
+    #: `0`: The window's title and the icon's name.
+    TitleBoth = 16
+    #: `1`: The icon's name.
+    TitleIcon = 17
+    #: `2`: The window's title.
+    TitleWindow = 18
+    #: `4`: The palette, from 0 to 255; xterm takes 256 and more for the special ones.
+    ColorsIndexed = 32
+    #: `5`: Those of text that is bold (0), underlined (1), blinking (2), inverse (3) or italic (4).
+    ColorsSpecial = 33
+    #: `104`: the same as at first.
+    ResetColorsIndexed = 48
+    #: `105`: the same as at first.
+    ResetColorsSpecial = 49
+    #: `10`: Text.
+    ColorForeground = 64
+    #: `11`: The background.
+    ColorBackground = 65
+    #: `12`: The text cursor.
+    ColorCursor = 66
+    #: `13`: The pointer.
+    ColorPointerForeground = 67
+    #: `14`: What is around the pointer.
+    ColorPointerBackground = 68
+    #: `15`: Text in a window of a Tektronix terminal.
+    ColorTektronixForeground = 69
+    #: `16`: Its background.
+    ColorTektronixBackground = 70
+    #: `17`: The background of what is selected.
+    ColorHighlightBackground = 71
+    #: `18`: The cursor of a Tektronix terminal.
+    ColorTektronixCursor = 72
+    #: `19`: Text that is selected.
+    ColorHighlightForeground = 73
+    #: `110`: the same as at first.
+    ResetColorForeground = 80
+    #: `111`: the same as at first.
+    ResetColorBackground = 81
+    #: `112`: the same as at first.
+    ResetColorCursor = 82
+    #: `113`: the same as at first.
+    ResetColorPointerForeground = 83
+    #: `114`: the same as at first.
+    ResetColorPointerBackground = 84
+    #: `115`: the same as at first.
+    ResetColorTektronixForeground = 85
+    #: `116`: the same as at first.
+    ResetColorTektronixBackground = 86
+    #: `117`: the same as at first.
+    ResetColorHighlightBackground = 87
+    #: `118`: the same as at first.
+    ResetColorTektronixCursor = 88
+    #: `119`: the same as at first.
+    ResetColorHighlightForeground = 89
+    #: `7`: As an address, `file://host/path` with `%` and two digits for other bytes.
+    FolderAddress = 96
+    #: `9;9`: As a path, with or without quotation marks (ConEmu, Windows Terminal).
+    FolderPath = 97
+    #: `133;A`: The prompt begins.
+    PromptPrompt = 112
+    #: `133;B`: The prompt is over, and the command line begins.
+    PromptCommand = 113
+    #: `133;C`: The output begins.
+    PromptOutput = 114
+    #: `133;D`: The command is over; its first field may be the status.
+    PromptEnd = 115
+    #: `133;I`: The command line begins, and ends with the line.
+    PromptCommandLine = 116
+    #: `133;L`: A new line, unless the cursor is at the beginning of one.
+    PromptFreshLine = 117
+    #: `133;N`: The last command is over, and a prompt begins.
+    PromptNextPrompt = 118
+    #: `133;P`: A prompt begins, of the kind that its fields say.
+    PromptPromptPart = 119
+    #: `633;A`: The prompt begins.
+    EditorPrompt = 128
+    #: `633;B`: The prompt is over, and the command line begins.
+    EditorCommand = 129
+    #: `633;C`: The output begins.
+    EditorOutput = 130
+    #: `633;D`: The command is over; its first field may be the status.
+    EditorEnd = 131
+    #: `633;E`: The command line itself, and a nonce.
+    EditorCommandText = 132
+    #: `633;F`: A prompt for a further line begins.
+    EditorContinuation = 133
+    #: `633;G`: It is over.
+    EditorContinuationEnd = 134
+    #: `633;H`: A prompt at the right begins.
+    EditorRightPrompt = 135
+    #: `633;I`: It is over.
+    EditorRightPromptEnd = 136
+    #: `633;P`: A property, `name=value`.
+    EditorProperty = 137
+    #: `9;4;0`: Not at all.
+    ProgressOff = 144
+    #: `9;4;1`: With a percentage.
+    ProgressShown = 145
+    #: `9;4;2`: As failed.
+    ProgressFailed = 146
+    #: `9;4;3`: Without a percentage.
+    ProgressBusy = 147
+    #: `9;4;4`: As paused.
+    ProgressPaused = 148
+    #: `8`: What is printed from now on leads to the second text, an address; the first has parameters. Without an address the link
+    #:ends.
+    Link = 160
+    #: `52`: The clipboard, by the letters of the first text; the second is its content in base64, or `?`, a question for it.
+    Clipboard = 161
+    #: `22`: The shape of the pointer.
+    Pointer = 162
+    #: `99`: A notification of kitty: its metadata, and its text.
+    KittyNotice = 163
+    #: `777;notify`: A notification: its title, and its text.
+    TitledNotice = 164
+    #: `9`: A notification.
+    Notice = 165
+
+
+class KeyCode(IntEnum):
+    """Which key it is. The same key of the keypad is another one."""
+
+    #: The key of a character, as it types it without modifiers: `a`, also where shift makes it `A`. Where the encoding says only what
+    #:is typed, it is that.
+    Char = 0
+    #: A function key, by its number.
+    F = 1
+    #: The return key.
+    Enter = 2
+    #: Esc.
+    Escape = 3
+    #: Tab; with shift it goes back.
+    Tab = 4
+    #: The key that erases to the left.
+    Backspace = 5
+    #: Insert.
+    Insert = 6
+    #: Delete.
+    Delete = 7
+    #: The arrow to the left.
+    Left = 8
+    #: The arrow to the right.
+    Right = 9
+    #: The arrow up.
+    Up = 10
+    #: The arrow down.
+    Down = 11
+    #: Page up, DEC's Prev Screen.
+    PageUp = 12
+    #: Page down, DEC's Next Screen.
+    PageDown = 13
+    #: Home, DEC's Find.
+    Home = 14
+    #: End, DEC's Select.
+    End = 15
+    #: Caps lock.
+    CapsLock = 16
+    #: Scroll lock.
+    ScrollLock = 17
+    #: Num lock.
+    NumLock = 18
+    #: Print screen.
+    PrintScreen = 19
+    #: Pause.
+    Pause = 20
+    #: The key of the menu, Apps of Windows.
+    Menu = 21
+    #: 0 on the keypad.
+    Keypad0 = 22
+    #: 1 on the keypad.
+    Keypad1 = 23
+    #: 2 on the keypad.
+    Keypad2 = 24
+    #: 3 on the keypad.
+    Keypad3 = 25
+    #: 4 on the keypad.
+    Keypad4 = 26
+    #: 5 on the keypad.
+    Keypad5 = 27
+    #: 6 on the keypad.
+    Keypad6 = 28
+    #: 7 on the keypad.
+    Keypad7 = 29
+    #: 8 on the keypad.
+    Keypad8 = 30
+    #: 9 on the keypad.
+    Keypad9 = 31
+    #: The decimal point on the keypad.
+    KeypadDecimal = 32
+    #: `/` on the keypad.
+    KeypadDivide = 33
+    #: `*` on the keypad.
+    KeypadMultiply = 34
+    #: `-` on the keypad.
+    KeypadSubtract = 35
+    #: `+` on the keypad.
+    KeypadAdd = 36
+    #: Enter on the keypad.
+    KeypadEnter = 37
+    #: `=` on the keypad.
+    KeypadEqual = 38
+    #: The separator on the keypad.
+    KeypadSeparator = 39
+    #: The arrow to the left on the keypad.
+    KeypadLeft = 40
+    #: The arrow to the right on the keypad.
+    KeypadRight = 41
+    #: The arrow up on the keypad.
+    KeypadUp = 42
+    #: The arrow down on the keypad.
+    KeypadDown = 43
+    #: Page up on the keypad.
+    KeypadPageUp = 44
+    #: Page down on the keypad.
+    KeypadPageDown = 45
+    #: Home on the keypad.
+    KeypadHome = 46
+    #: End on the keypad.
+    KeypadEnd = 47
+    #: Insert on the keypad.
+    KeypadInsert = 48
+    #: Delete on the keypad.
+    KeypadDelete = 49
+    #: The middle key of the keypad, 5 with num lock.
+    KeypadBegin = 50
+    #: Play.
+    MediaPlay = 51
+    #: Pause what plays.
+    MediaPause = 52
+    #: Play or pause.
+    MediaPlayPause = 53
+    #: Play backwards.
+    MediaReverse = 54
+    #: Stop what plays.
+    MediaStop = 55
+    #: Fast forward.
+    MediaFastForward = 56
+    #: Rewind.
+    MediaRewind = 57
+    #: The next track.
+    MediaNext = 58
+    #: The previous track.
+    MediaPrevious = 59
+    #: Record.
+    MediaRecord = 60
+    #: Less loud.
+    LowerVolume = 61
+    #: Louder.
+    RaiseVolume = 62
+    #: Silent.
+    MuteVolume = 63
+    #: The shift key on the left.
+    LeftShift = 64
+    #: The ctrl key on the left.
+    LeftCtrl = 65
+    #: The alt key on the left.
+    LeftAlt = 66
+    #: The super key on the left.
+    LeftSuper = 67
+    #: The hyper key on the left.
+    LeftHyper = 68
+    #: The meta key on the left.
+    LeftMeta = 69
+    #: The shift key on the right.
+    RightShift = 70
+    #: The ctrl key on the right.
+    RightCtrl = 71
+    #: The alt key on the right.
+    RightAlt = 72
+    #: The super key on the right.
+    RightSuper = 73
+    #: The hyper key on the right.
+    RightHyper = 74
+    #: The meta key on the right.
+    RightMeta = 75
+    #: AltGr (ISO level 3 shift).
+    IsoLevel3Shift = 76
+    #: ISO level 5 shift.
+    IsoLevel5Shift = 77
+    #: Tab on the keypad.
+    KeypadTab = 78
+    #: The space bar on the keypad.
+    KeypadSpace = 79
+    #: No key: text that comes without one, as of an input method (kitty).
+    Text = 80

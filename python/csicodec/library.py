@@ -93,6 +93,27 @@ class Cleaned(Structure):
     _fields_ = [("status", c_uint32), ("state", Cleaning), ("used", c_size_t), ("needed", c_size_t)]
 
 
+class Markup(Structure):
+    _fields_ = [("links", c_uint32), ("classes", c_uint32), ("fragment", c_uint32), ("no_overwrite", c_uint32)]
+
+
+class Key(Structure):
+    _fields_ = [
+        ("status", c_uint32),
+        ("code", c_uint32),
+        ("value", c_uint32),
+        ("modifiers", c_uint32),
+        ("event", c_uint32),
+        ("encoding", c_uint32),
+        ("typed", c_size_t),
+        ("used", c_size_t),
+    ]
+
+
+class Osc(Structure):
+    _fields_ = [("kind", c_uint32), ("texts", c_uint32), ("first", c_size_t), ("second", c_size_t)]
+
+
 class Spanned(Structure):
     _fields_ = [("status", c_uint32), ("kind", c_uint32), ("mode", c_uint32), ("used", c_size_t)]
 
@@ -140,6 +161,11 @@ compact_semicolons_step = _call("compact_semicolons", Filtered, c_uint32, c_size
 strip_step = _call("strip_step", Cleaned, _STATE, *_BYTES, *_ROOM)
 clean_step = _call("clean_step", Cleaned, c_uint32, _STATE, *_BYTES, *_ROOM)
 clean_end = _call("clean_end", Stripped, _STATE, *_BYTES, *_ROOM)
+html = _call("html", Stripped, POINTER(Markup), POINTER(c_uint32), c_size_t, *_BYTES, *_ROOM)
+compact_whole = _call("compact_whole", Stripped, c_uint32, *_BYTES, *_ROOM)
+overwrite = _call("overwrite", Stripped, c_uint32, *_BYTES, *_ROOM)
+key = _call("key", Key, c_uint32, *_ROOM, POINTER(c_uint32), c_size_t)
+osc = _call("osc", Osc, *_BYTES)
 span = _call("span", Spanned, c_uint32, c_size_t, *_ROOM)
 esc = _call("esc", c_uint32, c_uint8, c_uint8)
 receive = _call("input", Received, c_uint32, c_uint32, c_size_t, c_size_t, *_ROOM, *_ROOM, *_ROOM)

@@ -1,8 +1,9 @@
 """Untrusted text made safe, and streams in other spellings."""
 from __future__ import annotations
 
-from ctypes import byref
-from typing import Any, AnyStr, Dict, Optional, Tuple
+import re
+from ctypes import byref, c_uint32
+from typing import Any, AnyStr, Dict, Iterable, Optional, Tuple
 
 from . import library
 from .library import Data, bytes_of, written
@@ -67,6 +68,42 @@ def clean(text: AnyStr, *, colors: Optional[int] = None, links: bool = False) ->
         return text if _is_plain(text) else call.written(text.encode("utf-8", "surrogatepass")).decode()
     held = bytes_of(text)
     return held if _is_plain_ascii(held) else call.written(held)
+
+
+def _number(color: str) -> int:
+    """The number of a colour."""
+    if not isinstance(color, str) or not re.fullmatch("#[0-9a-fA-F]{6}", color):
+        raise ValueError(f"a colour of a palette must be as '#rrggbb', not {color!r}")
+    return int(color[1:], 16)
+
+
+def html(text: AnyStr, *, links: bool = False, classes: bool = False, fragment: bool = False, overwrite: bool = True, palette: Iterable[str] = ()) -> AnyStr:
+    """A page of HTML with the text, its colours and its styles, each line as it stands when it ends. Nothing of the text gets into a tag,
+    but addresses with `links`, with which text stays that was written over, as with `overwrite=False`.
+
+    `fragment=True` gives a piece for a `<pre>` in a page of your own, `classes=True` CSS classes in place of styles. `palette` has 16
+    colours as '#rrggbb', or 18 with the page's own colour of text and its background.
+
+    >>> html("10%\\r\\x1b[1m<b>\\x1b[m", fragment=True)
+    '<span style="font-weight:bold;">&lt;b&gt;</span>'
+    """
+    numbers = [_number(color) for color in palette]
+    if len(numbers) not in (0, 16, 18):
+        raise ValueError(f"a palette has 16 or 18 colours, not {len(numbers)}")
+    markup, held = library.Markup(links, classes, fragment, not overwrite), _bytes(text)
+    given = (byref(markup), (c_uint32 * len(numbers))(*numbers), len(numbers), held, len(held))
+    return _like(text, written(library.html, 4 * len(held) + 1024, *given)[0])  # type: ignore[no-any-return]
+
+
+def overwrite(text: AnyStr, *, styles: bool = False) -> AnyStr:
+    """Each line as it stands when it ends: what a carriage return, a backspace or an erase hides is gone. It is plain text, with `styles`
+    the sequences (SGR) too that set how characters look.
+
+    >>> overwrite("10%\\r20%\\r\\x1b[Kdone\\n")
+    'done\\n'
+    """
+    held = _bytes(text)
+    return _like(text, written(library.overwrite, len(held) + 64, bool(styles), held, len(held))[0])  # type: ignore[no-any-return]
 
 
 def normalise(sequences: AnyStr) -> AnyStr:
@@ -168,22 +205,22 @@ def filter(stream: AnyStr) -> AnyStr:
     >>> filter("a\\x1b[01mb")
     'a\\x1b[1mb'
     """
-    return _filtered(stream, Filter())
+    held, it = _bytes(stream), Filter()
+    return _like(stream, it.feed(held) + it.finish() if b"\x1b" in held else held)  # type: ignore[no-any-return]
 
 
 def compact(stream: AnyStr, *, semicolons: bool = False) -> AnyStr:
-    """A whole stream for a terminal, each control sequence in the shortest spelling that is found, never longer. (The program `csicodec
-    compact` also puts attributes of several sequences side by side.)
+    """A whole stream for a terminal in fewer bytes, as the program `csicodec compact` writes it: in the place of control sequences that stand
+    side by side one may stand that is read as the same actions. It is never longer.
 
     >>> compact("\\x1b[0;01mred\\x1b[10;1H")
     '\\x1b[;1mred\\x1b[10H'
+    >>> compact("\\x1b[2m\\x1b[3mfaint")
+    '\\x1b[2;3mfaint'
     """
-    return _filtered(stream, Filter.compact(semicolons=semicolons))
-
-
-def _filtered(stream: AnyStr, it: Filter) -> AnyStr:
     held = _bytes(stream)
-    return _like(stream, it.feed(held) + it.finish() if b"\x1b" in held else held)  # type: ignore[no-any-return]
+    out = written(library.compact_whole, len(held), bool(semicolons), held, len(held))[0] if b"\x1b" in held else held
+    return _like(stream, out)  # type: ignore[no-any-return]
 
 
 class Cleaner(_Steps):

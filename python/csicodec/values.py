@@ -140,6 +140,21 @@ class Modifiers(IntFlag):
     CTRL = 8
 
 
+class KeyModifiers(IntFlag):
+    """What is held down with a key, and the locks that are on, by the bits of kitty's protocol."""
+
+    NONE = 0
+    SHIFT = 1
+    ALT = 2
+    CTRL = 4
+    #: The key of Windows, Command of a Mac; xterm's meta.
+    SUPER = 8
+    HYPER = 16
+    META = 32
+    CAPS_LOCK = 64
+    NUM_LOCK = 128
+
+
 class KittyKeyboardFlags(IntFlag):
     """How a program wants keys reported (kitty's keyboard protocol, progressive enhancement)."""
 

@@ -20,6 +20,13 @@ REPOSITORY = pathlib.Path(sys.argv.pop(1) if len(sys.argv) > 1 else os.path.join
 STREAMS = [pathlib.Path(name).read_bytes() for name in sorted(glob.glob(str(REPOSITORY / "examples/*.stream")))]
 ODD = b"a\xc3\xa9\x1b[1\x08;5Hb\x1b]0;title\x07\x1b[38;2;1;2;3m\x1b[99z\x1b(0\x1bPdata\x1b\\\x1b[?25h\xff\x1b[1\x1b[2Jx\xe2\x82\x1b#3\xe2\x82\xac\x1b["
 
+PALETTE = [f"#{i:02x}0{i % 10}ff" for i in range(18)]
+
+
+def in_one(it, stream):
+    """What one call for a whole writes as it comes."""
+    return it.feed(stream) + it.finish()
+
 
 def joined(events):
     """The events with texts and strings that were cut put together."""
@@ -188,7 +195,7 @@ class Codec(unittest.TestCase):
                     (csicodec.strip(stream), Cleaner()),
                     (csicodec.clean(stream, colors=16), Cleaner(styles=True, colors=16)),
                     (csicodec.filter(stream), Filter()),
-                    (csicodec.compact(stream), Filter.compact()),
+                    (in_one(Filter.compact(), stream), Filter.compact()),
                 ]:
                     self.assertEqual(it.feed(stream[:cut]) + it.feed(stream[cut:]) + it.finish(), wanted, (stream, cut))
 
@@ -203,6 +210,31 @@ class Codec(unittest.TestCase):
             self.assertEqual(csicodec.strip(b"\xff" * size), b"\xef\xbf\xbd" * size)
             self.assertEqual(csicodec.clean(b"\x1b[1m\xff" * size).count(b"\xef\xbf\xbd"), size)
 
+    def test_what_the_program_writes(self):
+        for stream in [ODD, *STREAMS]:
+            for words, made in [
+                ("compact", csicodec.compact(stream)),
+                ("compact --semicolons", csicodec.compact(stream, semicolons=True)),
+                ("strip --overwrite", csicodec.overwrite(stream)),
+                ("html", csicodec.html(stream)),
+                ("html --classes --fragment", csicodec.html(stream, classes=True, fragment=True)),
+                ("html --links", csicodec.html(stream, links=True)),
+                ("html --no-overwrite --palette=" + ",".join(PALETTE), csicodec.html(stream, overwrite=False, palette=PALETTE)),
+            ]:
+                ran = subprocess.run([csicodec.program.path(), *words.split()], input=stream, stdout=subprocess.PIPE, check=True)
+                self.assertEqual(made, ran.stdout, words)
+        for palette in [["#000000"], ["red"] * 16, [1] * 16]:
+            with self.assertRaises(ValueError):
+                csicodec.html("a", palette=palette)
+
+    def test_keys(self):
+        held = b"a\x1bOP\x1b[1;5A\x1b[57399u\xc3\xa9\x1b[5;7R\x1b[<0;1;2M\x1b[200~\x1b"
+        names = [it if isinstance(it, bytes) else it.code.name + it.value for it in csicodec.keys(held)]
+        self.assertEqual(names, ["Chara", "F1", "Up", "Keypad0", "Charé", b"\x1b[5;7R", b"\x1b[<0;1;2M", b"\x1b[200~", "Escape"])
+        for cut in range(len(held)):
+            parser = csicodec.KeyParser()
+            self.assertEqual(parser.feed(held[:cut]) + parser.feed(held[cut:]) + parser.finish(), list(csicodec.keys(held)), cut)
+
     def test_program(self):
         spans = csicodec.explain("\x1b[1mbold", only=["SGR"])
         self.assertEqual([span["at"] for span in spans], [0])
@@ -213,7 +245,7 @@ class Codec(unittest.TestCase):
 
 
 def load_tests(loader, tests, pattern):
-    for name in ("csicodec", "csicodec.actions", "csicodec.encoding", "csicodec.input", "csicodec.parser", "csicodec.program", "csicodec.sequences", "csicodec.span", "csicodec.text"):
+    for name in ("csicodec", "csicodec.actions", "csicodec.encoding", "csicodec.input", "csicodec.key", "csicodec.parser", "csicodec.program", "csicodec.sequences", "csicodec.span", "csicodec.strings", "csicodec.text"):
         tests.addTests(doctest.DocTestSuite(importlib.import_module(name), extraglobs={"events": csicodec.events}))
     return tests
 

@@ -1,6 +1,7 @@
-//! Filtering a whole stream, as it comes.
+//! Streams in other spellings.
 
-use crate::pending::{Pending, Step};
+use crate::pending::{LIMIT, Pending, Step};
+use crate::strip::left_bytes;
 use crate::{Error, raw};
 use std::num::NonZeroUsize;
 
@@ -65,4 +66,41 @@ impl Filter {
     pub fn finish(self, out: &mut Vec<u8>) {
         out.extend_from_slice(self.pending.bytes());
     }
+}
+
+/// A whole stream with each control sequence in its normal form. `Err` is [`Error::Memory`].
+///
+/// ```
+/// assert_eq!(csicodec::filter(b"a\x1b[01;3mb")?, b"a\x1b[1m\x1b[3mb");
+/// # Ok::<(), csicodec::Error>(())
+/// ```
+pub fn filter(bytes: impl AsRef<[u8]>) -> Result<Vec<u8>, Error> {
+    let mut out = Vec::new();
+    let limit = NonZeroUsize::new(LIMIT).unwrap_or(NonZeroUsize::MIN);
+    let mut filter = Filter::new(limit);
+    filter.push(bytes.as_ref(), &mut out)?;
+    filter.finish(&mut out);
+    Ok(out)
+}
+
+/// A whole stream in fewer bytes, as `csicodec compact` writes it: in the place of control sequences that stand side by side one may stand
+/// that is read as the same actions. `Err` is [`Error::Memory`].
+///
+/// ```
+/// assert_eq!(csicodec::compact(b"\x1b[1m\x1b[3ma")?, b"\x1b[1;3ma");
+/// # Ok::<(), csicodec::Error>(())
+/// ```
+pub fn compact(bytes: impl AsRef<[u8]>) -> Result<Vec<u8>, Error> {
+    left_bytes(
+        |bytes, out| raw::compact_whole(0, bytes, out),
+        bytes.as_ref(),
+    )
+}
+
+/// The same with semicolons in colours, as [`Filter::compact_semicolons`].
+pub fn compact_semicolons(bytes: impl AsRef<[u8]>) -> Result<Vec<u8>, Error> {
+    left_bytes(
+        |bytes, out| raw::compact_whole(1, bytes, out),
+        bytes.as_ref(),
+    )
 }

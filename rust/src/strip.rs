@@ -77,7 +77,20 @@ pub fn clean_with(passing: Passing, bytes: impl AsRef<[u8]>) -> Result<String, E
     )
 }
 
-fn left(call: impl Fn(&[u8], &mut [u8]) -> raw::Stripped, bytes: &[u8]) -> Result<String, Error> {
+/// The text that a call leaves of some bytes.
+pub(crate) fn left(
+    call: impl Fn(&[u8], &mut [u8]) -> raw::Stripped,
+    bytes: &[u8],
+) -> Result<String, Error> {
+    let out = left_bytes(call, bytes)?;
+    Ok(String::from_utf8(out).expect("what is left is UTF-8"))
+}
+
+/// The same as bytes.
+pub(crate) fn left_bytes(
+    call: impl Fn(&[u8], &mut [u8]) -> raw::Stripped,
+    bytes: &[u8],
+) -> Result<Vec<u8>, Error> {
     let mut out = vec![0; bytes.len() + 16];
     loop {
         let answer = call(bytes, &mut out);
@@ -87,7 +100,7 @@ fn left(call: impl Fn(&[u8], &mut [u8]) -> raw::Stripped, bytes: &[u8]) -> Resul
         let fits = answer.needed <= out.len();
         out.resize(answer.needed, 0);
         if fits {
-            return Ok(String::from_utf8(out).expect("what is left is UTF-8"));
+            return Ok(out);
         }
     }
 }

@@ -148,6 +148,29 @@ flags! {
 }
 
 flags! {
+    /// What is held down with a key, and the locks that are on, by the bits of kitty's protocol.
+    KeyModifiers:
+    /// No key.
+    NONE = 0,
+    /// Shift.
+    SHIFT = 1,
+    /// Alt, Option of a Mac.
+    ALT = 2,
+    /// Control.
+    CTRL = 4,
+    /// Super, the key of Windows, Command of a Mac; xterm's meta.
+    SUPER = 8,
+    /// Hyper.
+    HYPER = 16,
+    /// Meta.
+    META = 32,
+    /// Caps lock is on.
+    CAPS_LOCK = 64,
+    /// Num lock is on.
+    NUM_LOCK = 128
+}
+
+flags! {
     /// How a program wants keys reported (kitty's keyboard protocol, progressive enhancement).
     KittyKeyboardFlags:
     /// Nothing: keys are sent as usual.

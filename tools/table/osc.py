@@ -71,7 +71,7 @@ def faults(groups, single, alone):
         for row, of in group.rows.items():
             yield from row_faults(f"[{group.name}] {row}", of, {"begins", "doc", "source", *(["resets"] if group.resets else [])}, {"words"}, FORMS)
     for row, of in single.items():
-        yield from row_faults(f"[Command] {row}", of, {"begins", "form", "source"}, {"words"}, FORMS)
+        yield from row_faults(f"[Command] {row}", of, {"begins", "doc", "form", "source"}, {"words"}, FORMS)
     for row, of in alone.items():
         yield from row_faults(f"[words] {row}", of, {"form", "words", "source"}, set(), ALONE)
     begins = [of[column] for rows in [*(group.rows for group in groups), single] for of in rows.values() for column in ("begins", "resets") if column in of]
@@ -181,6 +181,67 @@ def words_rt(groups, single, alone):
     return "\n".join([*lines, "];"]) + "\n"
 
 
+def numbered(groups, single):
+    """Every command: the constructor, the variant in it if there is one, its row, and its number in C. Sixteen numbers are kept for each constructor, and for
+    the commands that stand alone what is behind them."""
+    tables = [(group, command, function) for group in groups for command, _, function in group.commands()]
+    for place, (group, command, function) in enumerate(tables, 1):
+        for at, (variant, row) in enumerate(group.rows.items()):
+            yield group, command, variant, row, 16 * place + at
+    for at, (name, row) in enumerate(single.items()):
+        yield None, name, "", row, 16 * (len(tables) + 1) + at
+
+
+def commands(tables):
+    """The commands as C and the languages over it have them: name, number and what is said of it."""
+    groups = [Group(name, table) for name, table in tables.items() if name not in ("Command", "words")]
+    for group, command, variant, row, number in numbered(groups, tables["Command"]):
+        if group is None:
+            yield command, number, f"`{row['begins']}`: {row['doc']}"
+        else:
+            column = "resets" if command == group.resets else "begins"
+            yield command + variant, number, f"`{row[column]}`: {row['doc'] if column == 'begins' else 'the same as at first.'}"
+
+
+def kind_function(group, function):
+    return f"{group.snake}_{function.replace('number', 'kind')}"
+
+
+def kinds_rt(groups, single):
+    """src/osc_kinds.rt of csicodec_c."""
+    numbers = {(command, variant): number for _, command, variant, _, number in numbered(groups, single)}
+    functions = sorted(kind_function(group, function) for group in groups for _, _, function in group.commands())
+    lines = ["//! The numbers of the commands of OSC.", "ghost use Rattle.std.specs.Prelude.{◌≡◌};",
+             f"ghost use Rattle.csicodec_c.specs.OscKinds.{{{', '.join(functions)}}};", "",
+             f"use csicodec_osc::{{{', '.join(sorted(group.name for group in groups))}}};"]
+    for group in groups:
+        for command, column, function in group.commands():
+            name, again = kind_function(group, function), " that sets it back" if column == "resets" else ""
+            lines += ["", f"/// The number of a command{again}.", f"pub(crate) fn {name}({group.snake}: {group.name}) -> u32",
+                      f"    ensures {{ result ≡ {name} {group.snake} }}", "{", f"    match {group.snake} {{"]
+            lines += [f"        {group.name}::{variant} => {numbers[command, variant]}," for variant in group.rows]
+            lines += ["    }", "}"]
+    lines += [line for name in single for line in ("", f"pub(crate) const {snake(name).upper()}: u32 = {numbers[name, '']};")]
+    return "\n".join(lines) + "\n"
+
+
+def kinds_antt(groups, single):
+    """specs/OscKinds.antt of csicodec_c."""
+    numbers = {(command, variant): number for _, command, variant, _, number in numbered(groups, single)}
+    declared = "use Rattle.csicodec_osc.specs.declared.command"
+    lines = ["-- The numbers of `enum csicodec_osc_kind`, of what lists its commands.", "use Rattle.std.specs.Prelude.{ℕ}"]
+    for group in groups:
+        lines += [f"{declared}.{group.name}.{{{group.name}}}", f"{declared}.{group.name}.TheVariants as {group.snake}"]
+    for group in groups:
+        for command, _, function in group.commands():
+            name = kind_function(group, function)
+            lines += ["", f"abbrev pub {name} : {group.name} → ℕ"]
+            lines += [f"{name} {group.snake}.{variant} = {numbers[command, variant]}" for variant in group.rows]
+    for name in single:
+        lines += ["", f"abbrev pub {snake(name)}_kind : ℕ", f"{snake(name)}_kind = {numbers[name, '']}"]
+    return "\n".join(lines) + "\n"
+
+
 def files(tables):
     groups = [Group(name, table) for name, table in tables.items() if name not in ("Command", "words")]
     single, alone = tables["Command"], alone_of(tables)
@@ -192,5 +253,7 @@ def files(tables):
         "crates/csicodec_osc/src/command.rt": rust + command_rt(groups, single),
         "crates/csicodec_osc/specs/Commands.antt": antt + commands_antt(groups, single),
         "crates/csicodec_osc/proofs/Places.antt": antt + places_antt(groups),
+        "crates/csicodec_c/src/osc_kinds.rt": rust + kinds_rt(groups, single),
+        "crates/csicodec_c/specs/OscKinds.antt": antt + kinds_antt(groups, single),
         "crates/csicodec_strings/src/osc_words.rt": rust + words_rt(groups, single, alone),
     }

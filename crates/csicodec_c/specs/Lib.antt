@@ -3,6 +3,10 @@ pub mod Span
 pub mod Event
 pub mod Input
 pub mod Strip
+pub mod Html
+pub mod Key
+pub mod Osc
+pub mod OscKinds
 pub mod Step
 pub mod Compact
 pub mod Version

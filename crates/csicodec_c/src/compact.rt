@@ -2,13 +2,15 @@
 ghost use Rattle.std.specs.Prelude.{◌≡◌, ◌⊎◌, List, IfOk, IfErr};
 ghost use Rattle.csicodec_actions.specs.Actions.{Action};
 ghost use Rattle.csicodec_compact.specs.Compacts.{Encodes};
-ghost use Rattle.csicodec_c.specs.Compact.{IsCompact, IsCompacted};
+ghost use Rattle.csicodec_c.specs.Compact.{IsCompact, IsCompacted, IsShort, IsShortRefused};
 ghost use Rattle.csicodec_structs.specs.Encode.{AllStand, HasNone};
 ghost use Rattle.csicodec_structs.specs.Encode.{IsRefused as RefusesActions};
 ghost use Rattle.csicodec_c.specs.Filter.{IsRefused};
 
 use crate::filter::{Filtered, step};
-use csicodec_compact::{Compact, encode_compact};
+use crate::strip::{Stripped, bit_at, put, refused as nothing};
+use csicodec_compact::{Compact, compact_bytes, encode_compact};
+use csicodec_spans::LIMIT;
 use csicodec_structs::{Encoded, Param, Status, Struct, actions_of, put_text, refused};
 use std::alloc::{AllocError, Global};
 
@@ -48,6 +50,31 @@ pub extern "C" fn csicodec_compact_semicolons(
         bytes,
         out,
     )
+}
+
+/// Puts a shorter stream in the place of one that is all there, where it fits: control sequences side by side may go into one.
+#[unsafe(no_mangle)]
+pub extern "C" fn csicodec_compact_whole(
+    alloc: Global,
+    semicolons: u32,
+    bytes: &[u8],
+    out: &mut [u8],
+) -> Stripped
+    ensures { IsShort LIMIT semicolons bytes.now out.old out.new result
+        ⊎ IsShortRefused semicolons out.old out.new result }
+{
+    let Some(semicolons) = bit_at(semicolons) else {
+        return nothing(Status::BadState);
+    };
+    let rule = if semicolons {
+        Compact::with_semicolons(alloc)
+    } else {
+        Compact::new(alloc)
+    };
+    let Ok(text) = compact_bytes(alloc, LIMIT, rule, bytes) else {
+        return nothing(Status::Memory);
+    };
+    put(text.as_slice(), out)
 }
 
 /// A short text of the actions that the structs stand for, or which of these stands for none.

@@ -4,20 +4,30 @@
 mod compact;
 mod event;
 mod filter;
+mod html;
 mod input;
+mod key;
+mod key_codes;
 mod known;
 pub mod laws;
+mod osc;
+mod osc_kinds;
 mod sequences;
 mod span;
 mod step;
 mod strip;
 mod version;
 
-pub use compact::{csicodec_compact, csicodec_compact_semicolons, csicodec_encode_compact};
+pub use compact::{
+    csicodec_compact, csicodec_compact_semicolons, csicodec_compact_whole, csicodec_encode_compact,
+};
 pub use event::{Evented, csicodec_event};
 pub use filter::{Filtered, csicodec_filter};
+pub use html::{Choices, csicodec_html, csicodec_overwrite};
 pub use input::{Received, csicodec_input, csicodec_pause};
+pub use key::{Keyed, csicodec_key};
 pub use known::csicodec_known;
+pub use osc::{Commanded, csicodec_osc};
 pub use sequences::{csicodec_encode, csicodec_is_canonical, csicodec_next, csicodec_normalise};
 pub use span::{Spanned, csicodec_esc, csicodec_span};
 pub use step::{Cleaned, Cleaning, csicodec_clean_end, csicodec_clean_step, csicodec_strip_step};

@@ -145,6 +145,37 @@ pub struct Received {
     pub params: usize,
 }
 
+#[repr(C)]
+#[derive(Clone, Copy, Debug, Default, PartialEq, Eq)]
+pub struct Markup {
+    pub links: u32,
+    pub classes: u32,
+    pub fragment: u32,
+    pub no_overwrite: u32,
+}
+
+#[repr(C)]
+#[derive(Clone, Copy, Debug, PartialEq, Eq)]
+pub struct Key {
+    pub status: u32,
+    pub code: u32,
+    pub value: u32,
+    pub modifiers: u32,
+    pub event: u32,
+    pub encoding: u32,
+    pub typed: usize,
+    pub used: usize,
+}
+
+#[repr(C)]
+#[derive(Clone, Copy, Debug, PartialEq, Eq)]
+pub struct Osc {
+    pub kind: u32,
+    pub texts: u32,
+    pub first: usize,
+    pub second: usize,
+}
+
 const _: () = assert!(size_of::<Action>() == 64 && size_of::<Param>() == 16);
 const _: () = assert!(size_of::<Cleaning>() == 16 && size_of::<Cleaned>() == 40);
 const _: () = assert!(size_of::<Known>() == 56);
@@ -239,6 +270,31 @@ unsafe extern "C" {
         out: *mut u8,
         room: usize,
     ) -> Stripped;
+    fn csicodec_html(
+        markup: *const Markup,
+        colors: *const u32,
+        count: usize,
+        bytes: *const u8,
+        len: usize,
+        out: *mut u8,
+        room: usize,
+    ) -> Stripped;
+    fn csicodec_overwrite(
+        styles: u32,
+        bytes: *const u8,
+        len: usize,
+        out: *mut u8,
+        room: usize,
+    ) -> Stripped;
+    fn csicodec_compact_whole(
+        semicolons: u32,
+        bytes: *const u8,
+        len: usize,
+        out: *mut u8,
+        room: usize,
+    ) -> Stripped;
+    fn csicodec_key(more: u32, bytes: *const u8, len: usize, typed: *mut u32, room: usize) -> Key;
+    fn csicodec_osc(bytes: *const u8, len: usize) -> Osc;
     fn csicodec_strip_step(
         state: *const Cleaning,
         bytes: *const u8,
@@ -446,6 +502,65 @@ pub fn clean_with(depth: u32, links: u32, bytes: &[u8], out: &mut [u8]) -> Strip
             out.len(),
         )
     }
+}
+
+pub fn html(markup: &Markup, colors: &[u32], bytes: &[u8], out: &mut [u8]) -> Stripped {
+    // SAFETY: as above.
+    unsafe {
+        csicodec_html(
+            markup,
+            colors.as_ptr(),
+            colors.len(),
+            bytes.as_ptr(),
+            bytes.len(),
+            out.as_mut_ptr(),
+            out.len(),
+        )
+    }
+}
+
+pub fn overwrite(styles: u32, bytes: &[u8], out: &mut [u8]) -> Stripped {
+    // SAFETY: as above.
+    unsafe {
+        csicodec_overwrite(
+            styles,
+            bytes.as_ptr(),
+            bytes.len(),
+            out.as_mut_ptr(),
+            out.len(),
+        )
+    }
+}
+
+pub fn compact_whole(semicolons: u32, bytes: &[u8], out: &mut [u8]) -> Stripped {
+    // SAFETY: as above.
+    unsafe {
+        csicodec_compact_whole(
+            semicolons,
+            bytes.as_ptr(),
+            bytes.len(),
+            out.as_mut_ptr(),
+            out.len(),
+        )
+    }
+}
+
+pub fn key(more: u32, bytes: &[u8], typed: &mut [u32]) -> Key {
+    // SAFETY: as above.
+    unsafe {
+        csicodec_key(
+            more,
+            bytes.as_ptr(),
+            bytes.len(),
+            typed.as_mut_ptr(),
+            typed.len(),
+        )
+    }
+}
+
+pub fn osc(bytes: &[u8]) -> Osc {
+    // SAFETY: as above.
+    unsafe { csicodec_osc(bytes.as_ptr(), bytes.len()) }
 }
 
 pub fn strip_step(state: &Cleaning, bytes: &[u8], out: &mut [u8]) -> Cleaned {

@@ -1,0 +1,100 @@
+-- What the call that reads a key answers a C program.
+use Rattle.std.specs.Prelude.{ℕ, ◌≡◌, ◌⊎◌, List, [], length, Option, None, Some, option_and_then}
+use Rattle.bstr.specs.Utf8.{decoded}
+use Rattle.csicodec_tokens.specs.declared.param.CsiParam.{CsiParam}
+use Rattle.csicodec_spans.specs.declared.table.Mode.TheVariants as mode
+use Rattle.csicodec_events.specs.declared.event.Event.TheVariants as event
+use Rattle.csicodec_events.specs.declared.event.Events.{Events}
+use Rattle.csicodec_events.specs.declared.input.Dialect.TheVariants as dialects
+use Rattle.csicodec_events.specs.declared.input.InputEvent.{InputEvent}
+use Rattle.csicodec_events.specs.declared.input.InputEvent.TheVariants as input
+use Rattle.csicodec_events.specs.Input.{Awaits, IsSent, IsSentBy, paused}
+use Rattle.csicodec_keys.specs.declared.key.Encoding.{Encoding}
+use Rattle.csicodec_keys.specs.declared.key.Encoding.TheVariants as encoding
+use Rattle.csicodec_keys.specs.declared.key.KeyEvent.{KeyEvent}
+use Rattle.csicodec_keys.specs.declared.key.KeyEvent.TheVariants as key
+use Rattle.csicodec_keys.specs.Forms.{by, read_char, read_event}
+use Rattle.csicodec_keys.specs.Keys.{Stroke}
+use Rattle.csicodec_keys.specs.SameKeys.{code_tag, code_value}
+use Rattle.csicodec_structs.specs.Room.{Fills}
+use Rattle.csicodec_structs.specs.Status.{status_number}
+use Rattle.csicodec_structs.specs.declared.status.Status.{Status}
+use Rattle.csicodec_structs.specs.declared.status.Status.TheVariants as status
+use Rattle.csicodec_c.specs.declared.key.Keyed.{Keyed}
+
+-- the numbers of `enum csicodec_key_event`
+abbrev pub happens : KeyEvent → ℕ
+happens key.Press = 0
+happens key.Repeat = 1
+happens key.Release = 2
+
+-- the numbers of `enum csicodec_key_encoding`
+abbrev pub encoding_number : Encoding → ℕ
+encoding_number encoding.Legacy = 0
+encoding_number encoding.ModifyOtherKeys = 1
+encoding_number encoding.Kitty = 2
+encoding_number encoding.Win32 = 3
+encoding_number encoding.Rxvt = 4
+encoding_number encoding.Linux = 5
+
+-- the key of an event's bytes: of text that of its first character
+abbrev pub key_of : InputEvent → List CsiParam → List ℕ → Option (Encoding × Stroke)
+key_of (input.Output event.Text) list bytes =
+    by encoding.Legacy (option_and_then read_char (decoded bytes).char)
+key_of sent list bytes = read_event sent list
+
+-- how many of its bytes are the key
+abbrev pub used_by : InputEvent → List ℕ → ℕ
+used_by (input.Output event.Text) bytes = (decoded bytes).size
+used_by sent bytes = length bytes
+
+abbrev pub told : Encoding → Stroke → ℕ → Keyed
+told e s used = record {
+  status = status_number status.Done;
+  code = code_tag s.code;
+  value = code_value s.code;
+  modifiers = s.held;
+  event = happens s.event;
+  encoding = encoding_number e;
+  typed = length s.text;
+  used = used;
+}
+
+-- without a key
+abbrev pub without : Status → ℕ → Keyed
+without why used = record { status = status_number why; code = 0; value = 0; modifiers = 0; event = 0; encoding = 0; typed = 0; used = used }
+
+-- a stream of which nothing came before
+abbrev pub fresh : ℕ → Events
+fresh limit = record { limit = limit; mode = mode.Text; looked = 0 }
+
+-- the event that stands in front, or, where it waits for more bytes and none come for now, what it is then
+abbrev pub IsFirst : ℕ → ℕ → List ℕ → InputEvent → List ℕ → List CsiParam → Type 0
+IsFirst more limit bytes sent text list = (rest : List ℕ) × (after : Events)
+    × (IsSent dialects.Input (fresh limit) bytes sent text rest list after
+    ⊎ ((more ≡ 0) × IsSentBy (paused bytes) (fresh limit) bytes sent text rest list after))
+
+-- its key, and the characters that it types, which are put where they fit; or it is none, and nothing is put
+abbrev pub IsRead : Option (Encoding × Stroke) → ℕ → List ℕ → List ℕ → Keyed → Type 0
+IsRead (Some (e, s)) used old new answer = (answer ≡ told e s used) × Fills old new s.text
+IsRead None used old new answer = (answer ≡ without status.NoAction used) × (new ≡ old)
+
+pub record IsKey (more limit : ℕ) (bytes old new : List ℕ) (answer : Keyed) : Type 0 where
+  pub sent : InputEvent
+  pub text : List ℕ
+  pub list : List CsiParam
+  pub first : IsFirst more limit bytes sent text list
+  pub reads : IsRead (key_of sent list text) (used_by sent text) old new answer
+
+-- what stands in front depends on later bytes, also if none come for now
+pub record IsOpen (more limit : ℕ) (bytes : List ℕ) : Type 0 where
+  pub after : Events
+  pub awaits : Awaits dialects.Input (fresh limit) bytes after
+  pub none : more ≡ 0 → (last : Events) (sent : InputEvent) (text rest : List ℕ)
+      → IsSentBy (paused bytes) (fresh limit) bytes sent text rest [] last → ⊥
+
+-- or memory ran out, or it is open, and nothing is put
+pub record IsNoKey (more limit : ℕ) (bytes old new : List ℕ) (answer : Keyed) : Type 0 where
+  pub why : (answer ≡ without status.Memory 0)
+      ⊎ ((answer ≡ without status.Truncated 0) × IsOpen more limit bytes)
+  pub same : new ≡ old

@@ -1,0 +1,210 @@
+//! Pages of HTML, and each line as it stands when it ends.
+ghost use Rattle.std.specs.Prelude.{◌≡◌, ◌++◌, ◌⊎◌, List, ℕ, IfOk, IfSome, IfNone, map};
+ghost use Rattle.csicodec_html.specs.Page.{IsPageWith};
+ghost use Rattle.csicodec_overwrite.specs.Reading.{Shows};
+ghost use Rattle.csicodec_overwrite.specs.Stream.{begun_as};
+ghost use Rattle.csicodec_c.specs.declared.html.Asked.{Asked};
+ghost use Rattle.csicodec_c.specs.Strip.{IsRefused};
+ghost use Rattle.csicodec_c.specs.Html.{IsAsked, IsHtml, IsHtmlRefused, IsLined, IsLinesRefused, IsPieceOf, IsPut, color_of, framed, palette_of};
+
+use crate::strip::{Stripped, bit_at, put, refused};
+use csicodec_base::SrgbaTuple;
+use csicodec_html::{BEHIND, BODY, HEAD, Markup, Palette, front, given_palette, html_with};
+use csicodec_overwrite::Overwriter;
+use csicodec_structs::Status;
+use std::alloc::{AllocError, Global};
+
+/// What a page is asked to be: each number is 1 or 0, and zeros ask for what the program writes without options.
+#[repr(C)]
+#[derive(Clone, Copy, Debug, PartialEq, Eq)]
+pub struct Choices {
+    /// 1: links (OSC 8) become links. The text is then kept as with `no_overwrite`.
+    pub links: u32,
+    /// 1: attributes become classes in place of styles.
+    pub classes: u32,
+    /// 1: a piece for a `pre` in a page of the caller's own.
+    pub fragment: u32,
+    /// 1: text stays that a carriage return or an erase would hide.
+    pub no_overwrite: u32,
+}
+
+/// The same with its meaning.
+#[derive(Clone, Copy, Debug, PartialEq, Eq)]
+pub struct Asked {
+    /// What becomes markup.
+    pub markup: Markup,
+    /// Whether it is a piece alone.
+    pub fragment: bool,
+    /// Whether text stays that is written over.
+    pub no_overwrite: bool,
+}
+
+/// The colour of a number, of which the lowest 24 bits are its parts.
+fn color_of(number: u32) -> SrgbaTuple
+    ensures { result ≡ color_of number }
+{
+    SrgbaTuple(
+        (number / 65536 % 256) as u8,
+        (number / 256 % 256) as u8,
+        (number % 256) as u8,
+        255,
+    )
+}
+
+/// The colours of numbers.
+fn colors_of(alloc: Global, numbers: &[u32]) -> Result<Vec<SrgbaTuple>, AllocError>
+    ensures { IfOk result (λ colors. colors.items ≡ map color_of numbers.now) }
+{
+    let mut colors = Vec::new(alloc);
+    let mut rest = numbers;
+    while let Some((number, behind)) = rest.split_first() {
+        colors.push(color_of(*number))?;
+        rest = behind;
+    }
+    Ok(colors)
+}
+
+/// The palette of numbers: without any the one that a page has where nobody chose another.
+fn palette_of(alloc: Global, numbers: &[u32]) -> Result<Option<Palette>, AllocError>
+    ensures { IfOk result (λ palette. palette ≡ palette_of numbers.now) }
+{
+    if numbers.is_empty() {
+        return Ok(Some(Markup::default().palette));
+    }
+    let colors = colors_of(alloc, numbers)?;
+    Ok(given_palette(&colors))
+}
+
+/// What is asked for, if the numbers ask for anything.
+fn choices_of(choices: &Choices, palette: Palette) -> Option<Asked>
+    ensures some { IfSome result (λ asked. IsAsked choices.now palette asked) }
+    ensures none { IfNone result ((asked : Asked) → IsAsked choices.now palette asked → ⊥) }
+{
+    let Some(links) = bit_at(choices.links) else {
+        return None;
+    };
+    let Some(classes) = bit_at(choices.classes) else {
+        return None;
+    };
+    let Some(fragment) = bit_at(choices.fragment) else {
+        return None;
+    };
+    let Some(no_overwrite) = bit_at(choices.no_overwrite) else {
+        return None;
+    };
+    let markup = Markup {
+        links,
+        classes,
+        palette,
+    };
+    Some(Asked {
+        markup,
+        fragment,
+        no_overwrite,
+    })
+}
+
+/// What writes lines, as plain text or painted.
+fn writer_of(alloc: Global, painted: bool) -> Overwriter
+    ensures { result ≡ begun_as painted }
+{
+    if painted {
+        return Overwriter::painting(alloc);
+    }
+    Overwriter::new(alloc)
+}
+
+/// Each line as it stands when it ends, as plain text or painted.
+fn lines_of(alloc: Global, painted: bool, bytes: &[u8]) -> Result<Vec<u8>, AllocError>
+    ensures { IfOk result (λ text. Shows painted bytes.now text.items) }
+{
+    let mut writer = writer_of(alloc, painted);
+    let mut text = Vec::new(alloc);
+    writer.push(bytes, &mut text)?;
+    writer.finish(&mut text)?;
+    Ok(text)
+}
+
+/// The piece of a page that the bytes become.
+fn piece_of(alloc: Global, asked: Asked, bytes: &[u8]) -> Result<Vec<u8>, AllocError>
+    ensures piece { IfOk result (λ piece. IsPieceOf asked bytes.now piece.items) }
+    ensures safe { IfOk result (λ piece. IsPageWith asked.markup piece.items) }
+{
+    if asked.no_overwrite || asked.markup.links {
+        return html_with(alloc, asked.markup, bytes);
+    }
+    let painted = lines_of(alloc, true, bytes)?;
+    html_with(alloc, asked.markup, &painted)
+}
+
+/// A piece with what stands around it on a page.
+fn around(alloc: Global, asked: Asked, piece: Vec<u8>) -> Result<Vec<u8>, AllocError>
+    ensures { IfOk result (λ page. page.items
+        ≡ framed HEAD.now BODY.now BEHIND.now asked piece.items) }
+{
+    if asked.fragment {
+        return Ok(piece);
+    }
+    let mut page = front(alloc, asked.markup)?;
+    page.extend_from_slice(&piece)?;
+    page.extend_from_slice(BEHIND.as_bytes())?;
+    Ok(page)
+}
+
+/// Puts the page that the bytes become, where it fits.
+fn put_page(alloc: Global, asked: Asked, bytes: &[u8], out: &mut [u8]) -> Stripped
+    ensures { IsPut HEAD.now BODY.now BEHIND.now asked bytes.now out.old out.new result
+        ⊎ IsRefused out.old out.new result }
+{
+    let Ok(piece) = piece_of(alloc, asked, bytes) else {
+        return refused(Status::Memory);
+    };
+    let Ok(page) = around(alloc, asked, piece) else {
+        return refused(Status::Memory);
+    };
+    put(page.as_slice(), out)
+}
+
+/// Puts the page of HTML that the bytes become, where it fits. `colors` are none, 16 or 18 numbers.
+#[unsafe(no_mangle)]
+pub extern "C" fn csicodec_html(
+    alloc: Global,
+    choices: &Choices,
+    colors: &[u32],
+    bytes: &[u8],
+    out: &mut [u8],
+) -> Stripped
+    ensures { IsHtml HEAD.now BODY.now BEHIND.now choices.now colors.now bytes.now out.old out.new result
+        ⊎ IsHtmlRefused choices.now colors.now out.old out.new result }
+{
+    let Ok(palette) = palette_of(alloc, colors) else {
+        return refused(Status::Memory);
+    };
+    let Some(palette) = palette else {
+        return refused(Status::BadState);
+    };
+    let Some(asked) = choices_of(choices, palette) else {
+        return refused(Status::BadState);
+    };
+    put_page(alloc, asked, bytes, out)
+}
+
+/// Puts each line of the bytes as it stands when it ends, where all fits: as plain text, or with how it looks.
+#[unsafe(no_mangle)]
+pub extern "C" fn csicodec_overwrite(
+    alloc: Global,
+    styles: u32,
+    bytes: &[u8],
+    out: &mut [u8],
+) -> Stripped
+    ensures { IsLined styles bytes.now out.old out.new result
+        ⊎ IsLinesRefused styles out.old out.new result }
+{
+    let Some(painted) = bit_at(styles) else {
+        return refused(Status::BadState);
+    };
+    let Ok(text) = lines_of(alloc, painted, bytes) else {
+        return refused(Status::Memory);
+    };
+    put(text.as_slice(), out)
+}

@@ -1,0 +1,175 @@
+//! The key in front of what a terminal sends.
+ghost use Rattle.std.specs.Prelude.{◌≡◌, ◌⊎◌, List, IfOk, option_map, option_and_then};
+ghost use Rattle.bstr.specs.Utf8.{decoded};
+ghost use Rattle.csicodec_keys.specs.declared.key.Encoding.TheVariants as encoding;
+ghost use Rattle.csicodec_keys.specs.Forms.{by, read_char};
+ghost use Rattle.csicodec_keys.specs.Keys.{stroke_of};
+ghost use Rattle.csicodec_structs.specs.declared.status.Status.TheVariants as status;
+ghost use Rattle.csicodec_c.specs.Key.{IsKey, IsNoKey, IsRead, encoding_number, happens, key_of, told, used_by, without};
+
+use crate::key_codes::{code_number, code_value};
+use bitflags::Flags;
+use bstr::decode_utf8;
+use csicodec_events::{Dialect, Event, Events, InputEvent, Sent};
+use csicodec_keys::{Encoding, Key, KeyEvent, read, read_char};
+use csicodec_spans::LIMIT;
+use csicodec_structs::{Status, fill};
+use csicodec_tokens::CsiParam;
+use std::alloc::{AllocError, Global};
+
+/// The key in front of bytes.
+#[repr(C)]
+#[derive(Clone, Copy, Debug, PartialEq, Eq)]
+pub struct Keyed {
+    /// The number of a `Status`: `Done`, `NoAction` where it is no key, `Truncated` where that depends on later bytes, or `Memory`.
+    pub status: u32,
+    /// Which key.
+    pub code: u32,
+    /// Its character, or the number of a function key.
+    pub value: u32,
+    /// What is held down with it.
+    pub modifiers: u32,
+    /// What happens to it.
+    pub event: u32,
+    /// How the terminal said it.
+    pub encoding: u32,
+    /// How many characters it types.
+    pub typed: usize,
+    /// How many bytes it has, or the event that is no key.
+    pub used: usize,
+}
+
+fn without(why: Status, used: usize) -> Keyed
+    ensures { result ≡ without why used }
+{
+    Keyed {
+        status: why.number(),
+        code: 0,
+        value: 0,
+        modifiers: 0,
+        event: 0,
+        encoding: 0,
+        typed: 0,
+        used,
+    }
+}
+
+fn happens(event: KeyEvent) -> u32
+    ensures { result ≡ happens event }
+{
+    match event {
+        KeyEvent::Press => 0,
+        KeyEvent::Repeat => 1,
+        KeyEvent::Release => 2,
+    }
+}
+
+fn encoding_number(encoding: Encoding) -> u32
+    ensures { result ≡ encoding_number encoding }
+{
+    match encoding {
+        Encoding::Legacy => 0,
+        Encoding::ModifyOtherKeys => 1,
+        Encoding::Kitty => 2,
+        Encoding::Win32 => 3,
+        Encoding::Rxvt => 4,
+        Encoding::Linux => 5,
+    }
+}
+
+fn told(encoding: Encoding, key: &Key, used: usize) -> Keyed
+    ensures { result ≡ told encoding (stroke_of key.now) used }
+{
+    Keyed {
+        status: Status::Done.number(),
+        code: code_number(key.code),
+        value: code_value(key.code),
+        modifiers: u32::from(key.modifiers.bits()),
+        event: happens(key.event),
+        encoding: encoding_number(encoding),
+        typed: key.text.len(),
+        used,
+    }
+}
+
+/// The numbers of characters.
+fn numbers_of(alloc: Global, text: &[char]) -> Result<Vec<u32>, AllocError>
+    ensures { IfOk result (λ numbers. numbers.items ≡ text.now) }
+{
+    let mut numbers = Vec::new(alloc);
+    let mut rest = text;
+    while let Some((character, behind)) = rest.split_first() {
+        numbers.push(*character as u32)?;
+        rest = behind;
+    }
+    Ok(numbers)
+}
+
+/// The key of the first character.
+fn typed(bytes: &[u8]) -> Option<(Encoding, Key)>
+    ensures { option_map (λ r. (r.0, stroke_of r.1)) result
+        ≡ by encoding.Legacy (option_and_then read_char (decoded bytes.now).char) }
+{
+    let character = decode_utf8(bytes).0?;
+    let key = read_char(character)?;
+    Some((Encoding::Legacy, key))
+}
+
+/// The key of an event.
+fn key_of(sent: InputEvent, params: &[CsiParam], bytes: &[u8]) -> Option<(Encoding, Key)>
+    ensures { option_map (λ r. (r.0, stroke_of r.1)) result ≡ key_of sent params.now bytes.now }
+{
+    match sent {
+        InputEvent::Output(Event::Text) => typed(bytes),
+        _ => read(sent, params),
+    }
+}
+
+/// How many of its bytes are the key.
+fn used_by(sent: InputEvent, bytes: &[u8]) -> usize
+    ensures { result ≡ used_by sent bytes.now }
+{
+    match sent {
+        InputEvent::Output(Event::Text) => decode_utf8(bytes).1,
+        _ => bytes.len(),
+    }
+}
+
+/// Puts what the key of an event types, where it fits; nothing where memory ran out.
+fn put_key(alloc: Global, sent: Sent<'_>, params: &[CsiParam], text: &mut [u32]) -> Keyed
+    ensures { IsRead (key_of sent.entry.event params.now sent.entry.bytes.now) (used_by sent.entry.event sent.entry.bytes.now) text.old text.new result
+        ⊎ ((result ≡ without status.Memory 0) × (text.new ≡ text.old)) }
+{
+    let used = used_by(sent.event, sent.bytes);
+    let Some((encoding, key)) = key_of(sent.event, params, sent.bytes) else {
+        return without(Status::NoAction, used);
+    };
+    let Ok(numbers) = numbers_of(alloc, key.text.as_slice()) else {
+        return without(Status::Memory, 0);
+    };
+    fill(text, numbers.as_slice());
+    told(encoding, &key, used)
+}
+
+/// The key in front of bytes of input, of which nothing came before, and the characters that it types, where they fit. Where the bytes
+/// could go on, as ESC alone, and no more of them come for now, which a `more` of 0 says, it is what they are.
+#[unsafe(no_mangle)]
+pub extern "C" fn csicodec_key(alloc: Global, more: u32, bytes: &[u8], text: &mut [u32]) -> Keyed
+    ensures { IsKey more LIMIT bytes.now text.old text.new result
+        ⊎ IsNoKey more LIMIT bytes.now text.old text.new result }
+{
+    let mut params = Vec::new(alloc);
+    let Ok(first) = Events::new(LIMIT).next_in(Dialect::Input, bytes, &mut params) else {
+        return without(Status::Memory, 0);
+    };
+    if let Some(sent) = first {
+        return put_key(alloc, sent, params.as_slice(), text);
+    }
+    if more != 0 {
+        return without(Status::Truncated, 0);
+    }
+    match Events::new(LIMIT).pause(bytes) {
+        Some(sent) => put_key(alloc, sent, &[], text),
+        None => without(Status::Truncated, 0),
+    }
+}

@@ -89,6 +89,13 @@ enum csicodec_xt_sm_graphics_item {
     CSICODEC_XT_SM_GRAPHICS_ITEM_REGIS_GRAPHICS_GEOMETRY = 3
 };
 
+/* A place among the tokens, in 8 bytes: size_t, if that has so many. */
+#if SIZE_MAX < UINT64_MAX
+typedef uint64_t csicodec_place;
+#else
+typedef size_t csicodec_place;
+#endif
+
 /* An action, in 64 bytes without gaps. */
 struct csicodec_action {
     /* enum csicodec_kind: which action. The comment at the kind says what the other fields hold; fields that it doesn't name are 0. */
@@ -101,8 +108,8 @@ struct csicodec_action {
     /* Of an area, its first and last lines and columns, from 1. */
     uint32_t top, left, bottom, right;
     /* The tokens of the action are params[place] to params[place + len - 1]. */
-    size_t place;
-    size_t len;
+    csicodec_place place;
+    csicodec_place len;
     /* Of a true colour. */
     uint8_t red, green, blue, alpha;
     /* Of a mouse report, enum csicodec_modifiers and enum csicodec_mouse_button. */

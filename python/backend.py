@@ -13,11 +13,15 @@ HERE = os.path.dirname(os.path.abspath(__file__))
 PLACES = {
     "x86_64-linux": "manylinux2014_x86_64.manylinux_2_17_x86_64.musllinux_1_1_x86_64",
     "aarch64-linux": "manylinux2014_aarch64.manylinux_2_17_aarch64.musllinux_1_1_aarch64",
+    "x86_64-windows": "win_amd64",
 }
+# The names of the library and of the program, and those of Windows.
+FILES, WINDOWS_FILES = ("libcsicodec.so", "csicodec"), ("csicodec.dll", "csicodec.exe")
 CLASSIFIERS = [
     "Development Status :: 5 - Production/Stable",
     "Intended Audience :: Developers",
     "License :: OSI Approved :: MIT License",
+    "Operating System :: Microsoft :: Windows",
     "Operating System :: POSIX :: Linux",
     "Programming Language :: Python :: 3 :: Only",
     *(f"Programming Language :: Python :: 3.{minor}" for minor in range(9, 14)),
@@ -69,8 +73,9 @@ def write_wheel(dist, place, folder, licences, epoch):
     for name in sorted(os.listdir(f"{HERE}/csicodec")):
         if name.endswith((".py", ".typed")):
             files[f"csicodec/{name}"] = (f"{HERE}/csicodec/{name}", 0o644)
-    files["csicodec/libcsicodec.so"] = (f"{dist}/{place}/libcsicodec.so", 0o755)
-    files[f"csicodec-{version()}.data/scripts/csicodec"] = (f"{dist}/{place}/csicodec", 0o755)
+    library, program = WINDOWS_FILES if place.endswith("windows") else FILES
+    files[f"csicodec/{library}"] = (f"{dist}/{place}/{library}", 0o755)
+    files[f"csicodec-{version()}.data/scripts/{program}"] = (f"{dist}/{place}/{program}", 0o755)
     for path in licences:
         files[f"{info}/licenses/{os.path.basename(path)}"] = (path, 0o644)
     held = {}
@@ -86,10 +91,15 @@ def write_wheel(dist, place, folder, licences, epoch):
     made = f"csicodec-{version()}-py3-none-{PLACES[place]}.whl"
     with zipfile.ZipFile(f"{folder}/{made}", "w", zipfile.ZIP_DEFLATED, compresslevel=9) as packed:
         for name, (it, mode) in held.items():
-            entry = zipfile.ZipInfo(name, time.gmtime(epoch)[:6])
-            entry.compress_type, entry.external_attr = zipfile.ZIP_DEFLATED, (0o100000 | mode) << 16
-            packed.writestr(entry, it)
+            put_in(packed, name, it, mode, epoch)
     return made
+
+
+def put_in(packed, name, held, mode, epoch):
+    """Puts a file into a zip, the same bytes each time."""
+    entry = zipfile.ZipInfo(name, time.gmtime(epoch)[:6])
+    entry.compress_type, entry.external_attr = zipfile.ZIP_DEFLATED, (0o100000 | mode) << 16
+    packed.writestr(entry, held, compresslevel=9)
 
 
 def build_wheel(wheel_directory, config_settings=None, metadata_directory=None):

@@ -127,7 +127,7 @@ def prove_below(name, kept):
 
 
 def folder_that_keeps(kit, room, module):
-    """A copy of the kit's compilers, made of links, whose clang keeps the module of LLVM that it is given as text."""
+    """A copy of the kit's compilers, made of links, whose clang keeps the last module of LLVM that it is given: bitcode, or for ARM text."""
     to = f"{room}/toolchain"
     os.makedirs(f"{to}/bin")
     os.symlink(f"{kit.folder}/toolchain/lib", f"{to}/lib")
@@ -135,30 +135,35 @@ def folder_that_keeps(kit, room, module):
         if name != "clang":
             os.symlink(os.path.realpath(f"{kit.folder}/toolchain/bin/{name}"), f"{to}/bin/{name}")
     with open(f"{to}/bin/clang", "w", encoding="utf-8") as file:
-        file.write(f'#!/bin/sh\nfor word; do case $word in *.ll) [ ! -f "$word" ] || /bin/cp "$word" "{module}" ;; esac; done\nexec "{kit.clang}" "$@"\n')
+        file.write(f'#!/bin/sh\nfor word; do case $word in *.ll | *.bc) [ ! -f "$word" ] || /bin/cp "$word" "{module}" ;; esac; done\nexec "{kit.clang}" "$@"\n')
     os.chmod(f"{to}/bin/clang", 0o755)
     return to
 
 
 def object_of(kit, place, name):
-    """Where a crate's object for a processor lies, or its archive, what its stamp must say, and whether it was built of these sources."""
+    """Where a crate's object for a processor lies, or its archive, what its stamp must say, and whether it was built of these sources,
+    and its module of LLVM is beside it."""
     to = f"{TOP}/out/release/{place}/{name}.{'a' if name == LIBRARY else 'o'}"
     stamp, is_there = f"{shared(f'sum_of_crates {name}')} {kit.line} {' '.join(TARGETS[place][1])}", False
-    if os.path.isfile(f"{to}.stamp") and os.path.isfile(to):
+    if os.path.isfile(f"{to}.stamp") and os.path.isfile(to) and os.path.isfile(module_of(to)):
         with open(f"{to}.stamp", encoding="utf-8") as file:
             is_there = file.read() == f"{stamp} {sum_of(to)}"
     return to, stamp, is_there
 
 
+def module_of(to):
+    """Where the module of LLVM lies that an object was compiled from."""
+    return f"{os.path.splitext(to)[0]}.ll"
+
+
 def build_object(kit, place, name, room):
-    """Proves and builds a crate for a processor over the libraries below. For ARM the module of LLVM is kept beside it, of which the
-    module for WebAssembly is made."""
+    """Proves and builds a crate for a processor over the libraries below. The module of LLVM is kept beside it: of that for ARM the module for
+    WebAssembly is made, and of both what runs on other systems (release_systems.py)."""
     target, more = TARGETS[place]
     to, stamp, _ = object_of(kit, place, name)
     os.makedirs(os.path.dirname(to), exist_ok=True)
     print(f"release: {name} for {place}", file=sys.stderr, flush=True)
-    own, module = tempfile.mkdtemp(dir=room), f"{os.path.splitext(to)[0]}.ll"
-    toolchain = folder_that_keeps(kit, own, module) if place != HERE else f"{kit.folder}/toolchain"
+    toolchain = folder_that_keeps(kit, tempfile.mkdtemp(dir=room), module_of(to))
     words = [*words_for(kit, name), "--jobs", "2", "--toolchain", toolchain, "--backend", "llvm", "--target", target, *more]
     run(f"{kit.folder}/bin/rattle", "build", *words, "-o", to, cwd=f"{TOP}/crates/{name}")
     with open(f"{to}.stamp", "w", encoding="utf-8") as file:

@@ -1,4 +1,6 @@
-"""The packages of what dist/ holds, the same bytes each time: tarballs, Debian's, Rust's, Python's and node's, and the page as one file."""
+"""The packages of what dist/ holds, the same bytes each time: tarballs, Debian's, Rust's, Python's and node's, and the page as one file; and
+those for other systems, of the modules that dist/'s builds left: Windows, macOS, and the library as one file of C.
+"""
 import gzip
 import io
 import json
@@ -8,17 +10,26 @@ import shutil
 import sys
 import tarfile
 import tempfile
+import zipfile
 
 sys.path.insert(0, os.path.join(os.path.dirname(os.path.dirname(os.path.realpath(__file__))), "python"))
 import backend  # noqa: E402
 from backend import about  # noqa: E402
-from release_build import TARGETS, TOP, Stop, run, sum_of, version
+import release_build as build  # noqa: E402
+import release_portable as portable_c  # noqa: E402
+import release_systems as systems  # noqa: E402
+from release_build import HERE, TARGETS, TOP, Stop, run, sum_of, version
 from release_web import modules_of
 
 # The files of web/ that are node's package.
 NODE = ("index.mjs", "index.d.ts", "csicodec.mjs", "forms.mjs", "actions.mjs", "actions.d.ts", "package.json", "README.md")
 # Debian's names of the processors.
 DEBIAN = {"x86_64-linux": "amd64", "aarch64-linux": "arm64"}
+# Cargo's names of the places that have an archive for it.
+CARGO_TARGETS = {**{place: target for place, (target, _) in TARGETS.items()}, systems.WINDOWS: "x86_64-pc-windows-gnu"}
+# The systems of each kind of package that isn't of dist/ alone.
+OTHERS = {"windows": [systems.WINDOWS], "macos": ["aarch64-macos", "x86_64-macos"]}
+HEADERS = [f"include/{name}" for name in ("csicodec.h", "csicodec_kinds.h", "csicodec_names.h", "csicodec_stream.h")]
 
 
 def epoch():
@@ -79,8 +90,13 @@ def debian(dist, out, room):
 def rust(dist, out, room):
     """The two packages as cargo makes them, with the archives inside."""
     shutil.copytree(f"{TOP}/rust", f"{room}/rust", ignore=shutil.ignore_patterns("target"))
-    for place, (target, _) in TARGETS.items():
-        copy([f"{dist}/{place}/libcsicodec.a"], f"{room}/rust/sys/lib/{target}")
+    for place, target in CARGO_TARGETS.items():
+        if os.path.isdir(f"{dist}/{place}"):
+            copy([f"{dist}/{place}/libcsicodec.a"], f"{room}/rust/sys/lib/{target}")
+    if not portable_c.lacks():
+        os.makedirs(f"{room}/rust/sys/portable")
+        portable_c.write(f"{dist}/web/csicodec.wasm", f"{room}/rust/sys/portable/csicodec-portable.c", room)
+        copy(HEADERS, f"{room}/rust/sys/portable/include")
     copy([f"{dist}/NOTICE"], f"{room}/rust/sys")
     run("cargo", "package", "--workspace", "--offline", "--no-verify", "--quiet", "--target-dir", f"{room}/target", cwd=f"{room}/rust")
     for name in ("csicodec-sys", "csicodec"):
@@ -121,8 +137,8 @@ def node(dist, out, room):
 
 
 def python(dist, out, room):
-    """Wheels for both processors, and the sources with both libraries in them."""
-    for place in TARGETS:
+    """Wheels for both processors of Linux, and for Windows where that is made, and the sources with both libraries of Linux in them."""
+    for place in filter(lambda it: os.path.isdir(f"{dist}/{it}"), backend.PLACES):
         backend.write_wheel(dist, place, out, [f"{TOP}/LICENSE", f"{dist}/NOTICE"], epoch())
     name = f"csicodec-{version()}"
     folder = f"{room}/python/{name}"
@@ -137,7 +153,77 @@ def python(dist, out, room):
     pack(folder, name, f"{out}/{name}.tar.gz")
 
 
-KINDS = {"tarballs": tarballs, "debian": debian, "rust": rust, "python": python, "page": page, "node": node}
+def whole(folder, dist, place, tools):
+    """What each folder for another system has: headers, documents, and MANIFEST."""
+    copy(HEADERS, f"{folder}/include")
+    copy(["README.md", "CHANGELOG.md", "LICENSE", f"{dist}/NOTICE"], f"{folder}/share/doc/csicodec")
+    build.manifest(build.Kit(), folder, tools)
+
+
+def windows(dist, out, room):
+    """The program, the library in both forms, and what a linker takes for it, as a zip."""
+    name, from_folder = f"csicodec-{version()}-{systems.WINDOWS}", f"{dist}/{systems.WINDOWS}"
+    folder = f"{room}/{name}"
+    copy([f"{from_folder}/csicodec.exe", f"{from_folder}/csicodec.dll"], f"{folder}/bin")
+    copy([f"{from_folder}/{it}" for it in ("libcsicodec.a", "libcsicodec.dll.a", "csicodec.def")], f"{folder}/lib")
+    whole(folder, dist, systems.WINDOWS, [run(systems.MINGW, "--version").split("\n")[0]])
+    with zipfile.ZipFile(f"{out}/{name}.zip", "w") as packed:
+        for at, folders, names in os.walk(folder):
+            folders.sort()
+            for it in sorted(names):
+                with open(f"{at}/{it}", "rb") as file:
+                    backend.put_in(packed, os.path.join(name, os.path.relpath(f"{at}/{it}", folder)), file.read(), 0o755 if at.endswith("/bin") else 0o644, epoch())
+
+
+def checked(folder, dist, room, library):
+    """What shows whether a library that was built elsewhere does what Linux' does: c/all.c, the examples, the sums that it must write of
+    them, and a script that compares."""
+    copy(["c/all.c"], folder)
+    streams = examples(".stream")
+    copy(streams, f"{folder}/examples")
+    run("cc", "-O2", f"-I{TOP}/include", "-o", f"{room}/all", f"{TOP}/c/all.c", f"{dist}/{HERE}/libcsicodec.a")
+    with open(f"{folder}/sums", "w", encoding="utf-8") as file:
+        file.write(run(f"{room}/all", *streams, cwd=TOP))
+    with open(f"{folder}/check", "w", encoding="utf-8") as file:
+        file.write(f"""#!/bin/sh
+# Says whether the library does here what it does on Linux: the sums of what each call answers of the examples.
+set -eu
+cd "$(dirname "$0")"
+cc -O2 -Iinclude -o all all.c {library}
+./all examples/*.stream > found
+if diff sums found; then echo "the library answers here as on Linux: $(wc -l < sums) sums"; else echo "the library answers otherwise here"; exit 1; fi
+""")
+    os.chmod(f"{folder}/check", 0o755)
+
+
+def macos(dist, out, room):
+    """Folders for both processors of macOS, which nobody has run yet: each has the script `check`."""
+    for place in OTHERS["macos"]:
+        name = f"csicodec-{version()}-{place}"
+        folder = f"{room}/{name}"
+        copy([f"{dist}/{place}/csicodec"], f"{folder}/bin")
+        copy([f"{dist}/{place}/libcsicodec.a", f"{dist}/{place}/libcsicodec.dylib"], f"{folder}/lib")
+        checked(folder, dist, room, "lib/libcsicodec.a")
+        with open(f"{folder}/check", "a", encoding="utf-8") as file:
+            file.write("printf '\\033[1mred\\033[5;7H' | bin/csicodec explain\n")
+        whole(folder, dist, place, ["linked, and checked without being run: send us what ./check writes"])
+        pack(folder, name, f"{out}/{name}.tar.gz")
+
+
+def portable(dist, out, room):
+    """The library as one file of C, for any system with a C compiler."""
+    name = f"csicodec-{version()}-portable"
+    folder = f"{room}/{name}"
+    os.makedirs(folder)
+    portable_c.write(f"{dist}/web/csicodec.wasm", f"{folder}/csicodec-portable.c", room)
+    copy(HEADERS, f"{folder}/include")
+    checked(folder, dist, room, "csicodec-portable.c")
+    copy(["LICENSE", f"{dist}/NOTICE"], folder)
+    pack(folder, name, f"{out}/{name}.tar.gz")
+
+
+KINDS = {"tarballs": tarballs, "debian": debian, "rust": rust, "python": python, "page": page, "node": node,
+         "windows": windows, "macos": macos, "portable": portable}
 # The oldest cargo that reads the packages' edition.
 CARGO = (1, 85)
 
@@ -154,13 +240,28 @@ def no_cargo():
     return "" if found and (int(found[1]), int(found[2])) >= CARGO else f"cargo is {said.strip()}, and the packages take {CARGO[0]}.{CARGO[1]}"
 
 
+def no_cc():
+    return "" if shutil.which("cc") else "no cc in PATH"
+
+
 # What says why a kind can't be made here; the others take Python alone.
-LACKS = {"debian": no_dpkg, "rust": no_cargo}
+LACKS = {"debian": no_dpkg, "rust": no_cargo, "windows": systems.lacks, "macos": no_cc, "portable": lambda: no_cc() or portable_c.lacks()}
+
+
+def not_built(kind):
+    """Why a kind isn't made where it isn't asked for: what it is made of isn't here, and an hour's proofs would make it."""
+    if kind not in OTHERS:
+        return ""
+    if not shutil.which("rt"):
+        return "it is made of what is proved here, and no rt is in PATH"
+    kit, sources = build.Kit(), {systems.SYSTEMS[place].source for place in OTHERS[kind]}
+    missing = [it for it in sorted(sources) for name in build.MADE if not build.object_of(kit, it, name)[2]]
+    return f"nothing of these sources is built for {missing[0]} (tools/release FOLDER {kind} does it)" if missing else ""
 
 
 def kinds_here(asked):
     """The kinds that are made: those that are asked for, or else all that can be made here; what is left out is said."""
-    lacking = {name: why for name in asked or KINDS if (why := LACKS.get(name, str)())}
+    lacking = {name: why for name in asked or KINDS if (why := LACKS.get(name, str)() or ("" if asked else not_built(name)))}
     if asked and lacking:
         raise Stop("\n".join(f"release: {name} can't be made: {why}" for name, why in lacking.items()))
     for name, why in lacking.items():
@@ -174,10 +275,26 @@ def others_in(folder):
     return [name for name in there if not name.startswith(("csicodec", "libcsicodec")) and name != "SHA256SUMS"]
 
 
+def with_systems(dist, kinds, room):
+    """A folder with what dist/ holds and with the files of the other systems that these kinds are for."""
+    to = f"{room}/all"
+    os.mkdir(to)
+    for name in os.listdir(dist):
+        os.symlink(os.path.join(os.path.abspath(dist), name), f"{to}/{name}")
+    places = [place for kind in kinds for place in OTHERS.get(kind, [])]
+    if places:
+        kit = build.Kit()
+        made = build.all_objects(kit, sorted({systems.SYSTEMS[place].source for place in places}), build.MADE, False, room)
+        for place in places:
+            print(f"release: {place}", file=sys.stderr, flush=True)
+            systems.build(kit, made, place, f"{to}/{place}", room)
+    return to
+
+
 def write(dist, to, kinds):
     """Makes the packages of these kinds, and SHA256SUMS, in a new folder, which then takes the place of the one at `to`."""
     with tempfile.TemporaryDirectory(prefix=".release-", dir=os.path.dirname(to)) as room:
-        out = f"{room}/out"
+        out, dist = f"{room}/out", with_systems(dist, kinds, room)
         os.mkdir(out)
         for name in kinds:
             print(f"release: {name}", file=sys.stderr)

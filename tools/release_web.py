@@ -8,7 +8,7 @@ import sys
 import tempfile
 
 import release_page
-from release_build import ENTRY, LIBRARY, PROGRAM, TOP, Stop, calls, run, sum_of
+from release_build import ENTRY, LIBRARY, PROGRAM, TOP, Stop, calls, module_of, run, sum_of
 
 TARGET = "wasm64-unknown-unknown"
 FEATURES = ["-mbulk-memory", "-mnontrapping-fptoint", "-msign-ext"]
@@ -81,7 +81,7 @@ def table_of_32_bits(held):
 
 def module(kit, made, name, to, room):
     """The module of a crate, or what was made of the same."""
-    source = f"{os.path.splitext(made['aarch64-linux', MODULES[name]])[0]}.ll"
+    source = module_of(made["aarch64-linux", MODULES[name]])
     read = (source, __file__, *(f"{TOP}/system/{part}.c" for part in PARTS))
     kept, stamp = f"{TOP}/out/release/web/{name}.wasm", " ".join(map(sum_of, read)) + tool()
     os.makedirs(os.path.dirname(kept), exist_ok=True)

@@ -138,11 +138,11 @@ def _call(name: str, result: Any, *arguments: Any) -> Callable[..., Any]:
 
 
 def _beside() -> ctypes.CDLL:
-    name = os.path.join(os.path.dirname(os.path.abspath(__file__)), "libcsicodec.so")
+    name = os.path.join(os.path.dirname(os.path.abspath(__file__)), "csicodec.dll" if os.name == "nt" else "libcsicodec.so")
     try:
         return ctypes.CDLL(name)
     except OSError as error:
-        raise ImportError(f"csicodec has no library for this machine (it is for Linux on x86_64 and aarch64): {error}") from None
+        raise ImportError(f"csicodec has no library for this machine (it is for Linux on x86_64 and aarch64, and for Windows on x86_64): {error}") from None
 
 
 _library = _beside()

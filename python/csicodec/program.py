@@ -13,8 +13,9 @@ def path() -> str:
     import sysconfig
 
     beside = os.path.dirname(os.path.dirname(os.path.abspath(__file__)))
-    folders = [sysconfig.get_path("scripts"), sysconfig.get_path("scripts", "posix_user"), os.path.join(beside, "bin")]
-    found = [os.path.join(folder, "csicodec") for folder in folders]
+    folders = [sysconfig.get_path("scripts"), sysconfig.get_path("scripts", f"{os.name}_user"), os.path.join(beside, "bin")]
+    name = "csicodec.exe" if os.name == "nt" else "csicodec"
+    found = [os.path.join(folder, name) for folder in folders]
     for place in found:
         if os.access(place, os.X_OK):
             return place
@@ -44,4 +45,9 @@ def explain(stream: Data, *, only: Optional[Iterable[str]] = None, unknown: bool
 def main() -> None:
     """Runs the program with the words of the command line."""
     place = path()
+    if os.name == "nt":
+        # There a process can't become another: this one waits.
+        import subprocess
+
+        sys.exit(subprocess.call([place, *sys.argv[1:]]))
     os.execv(place, ["csicodec", *sys.argv[1:]])

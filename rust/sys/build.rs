@@ -1,5 +1,5 @@
 //! Where the static library lies: in the folder of CSICODEC_LIB, in this package, where pkg-config finds the same version, or in dist/
-//! of the repository that this package is a part of.
+//! of the repository that this package is a part of. With the feature `portable` it is compiled here, of the file of C in this package.
 
 use std::env;
 use std::path::{Path, PathBuf};
@@ -49,29 +49,86 @@ fn installed() -> Option<PathBuf> {
         .find(|folder| has_archive(folder))
 }
 
+fn told_of(name: &str) -> String {
+    env::var(name).unwrap_or_default()
+}
+
 /// That of the package, or of the repository.
 fn beside(folder: &str) -> Option<PathBuf> {
     let folder = PathBuf::from(env::var_os("CARGO_MANIFEST_DIR")?).join(folder);
     has_archive(&folder).then_some(folder)
 }
 
+/// The name of the target as the folders of lib/ have it, if releases have an archive for it.
+fn known() -> Option<String> {
+    let processor = told_of("CARGO_CFG_TARGET_ARCH");
+    let is_wide = told_of("CARGO_CFG_TARGET_POINTER_WIDTH") == "64"
+        && told_of("CARGO_CFG_TARGET_ENDIAN") == "little";
+    let system = told_of("CARGO_CFG_TARGET_OS");
+    let is_gnu = told_of("CARGO_CFG_TARGET_ENV") == "gnu";
+    match (system.as_str(), processor.as_str()) {
+        ("linux", "x86_64" | "aarch64") if is_wide => {
+            Some(format!("{processor}-unknown-linux-gnu"))
+        }
+        ("windows", "x86_64") if is_gnu => Some("x86_64-pc-windows-gnu".to_string()),
+        _ => None,
+    }
+}
+
+/// The environment's word for a tool of the target, or this one.
+fn tool(name: &str, other: &str) -> String {
+    let target = told_of("TARGET");
+    [
+        format!("{name}_{target}"),
+        format!("{name}_{}", target.replace('-', "_")),
+        format!("TARGET_{name}"),
+        name.to_string(),
+    ]
+    .iter()
+    .inspect(|name| println!("cargo:rerun-if-env-changed={name}"))
+    .find_map(|name| env::var(name).ok())
+    .unwrap_or_else(|| other.to_string())
+}
+
+fn run(tool: &str, words: &[&str], folder: &Path) {
+    match Command::new(tool).args(words).current_dir(folder).status() {
+        Ok(status) if status.success() => {}
+        failed => panic!("{tool} {}: {failed:?}", words.join(" ")),
+    }
+}
+
+/// The archive that a C compiler makes of the file of C, if the feature asks for it.
+fn compiled() -> Option<PathBuf> {
+    env::var_os("CARGO_FEATURE_PORTABLE")?;
+    let source = PathBuf::from(env::var_os("CARGO_MANIFEST_DIR")?).join("portable");
+    let folder = PathBuf::from(env::var_os("OUT_DIR")?);
+    let file = source.join("csicodec-portable.c");
+    if !file.is_file() {
+        panic!("no {}, which the package of a release has", file.display());
+    }
+    let include = format!("-I{}", source.join("include").display());
+    let words = ["-O2", "-w", "-fPIC", &include, "-c", "-o", "csicodec.o"];
+    run(
+        &tool("CC", "cc"),
+        &[&words[..], &[&file.display().to_string()]].concat(),
+        &folder,
+    );
+    run(&tool("AR", "ar"), &["crs", ARCHIVE, "csicodec.o"], &folder);
+    Some(folder)
+}
+
 fn main() {
     println!("cargo:rerun-if-changed=build.rs");
     let is_documented = env::var_os("DOCS_RS").is_some();
-    let told_of = |name| env::var(name).unwrap_or_default();
-    let processor = told_of("CARGO_CFG_TARGET_ARCH");
-    let is_known = matches!(processor.as_str(), "x86_64" | "aarch64")
-        && told_of("CARGO_CFG_TARGET_OS") == "linux"
-        && told_of("CARGO_CFG_TARGET_POINTER_WIDTH") == "64"
-        && told_of("CARGO_CFG_TARGET_ENDIAN") == "little";
-    if !is_known && !is_documented {
-        let target = told_of("TARGET");
-        panic!("csicodec is for Linux on x86_64 and aarch64, and not for {target}");
-    }
+    let known = known();
     let found = told()
-        .or_else(|| beside(&format!("lib/{processor}-unknown-linux-gnu")))
-        .or_else(installed)
-        .or_else(|| beside(&format!("../../dist/{processor}-linux")));
+        .or_else(compiled)
+        .or_else(|| beside(&format!("lib/{}", known.as_deref()?)))
+        .or_else(|| known.as_deref().and_then(|_| installed()))
+        .or_else(|| {
+            let (place, _) = known.as_deref()?.split_once("-unknown-linux-gnu")?;
+            beside(&format!("../../dist/{place}-linux"))
+        });
     match found {
         Some(folder) => {
             println!("cargo:rerun-if-changed={}", folder.join(ARCHIVE).display());
@@ -79,6 +136,10 @@ fn main() {
             println!("cargo:rustc-link-lib=static=csicodec");
         }
         None if is_documented => {}
+        None if known.is_none() => panic!(
+            "csicodec-sys has no {ARCHIVE} for {}: its feature `portable` compiles the library with a C compiler, which takes most of a minute, or CSICODEC_LIB names a folder that has one",
+            told_of("TARGET")
+        ),
         None => println!(
             "cargo:warning=no {ARCHIVE} was found: set CSICODEC_LIB to its folder, or install it for pkg-config"
         ),

@@ -24,6 +24,12 @@ pub struct Action {
     pub absent: u8,
 }
 
+/// Its places have 8 bytes, which a `usize` of 32 bits hasn't.
+const _: () = assert!(
+    size_of::<Action>() == 64,
+    "csicodec is for targets of 64 bits"
+);
+
 /// Its name up to 1.1.
 #[deprecated(note = "it is Action, as `struct csicodec_action` in C")]
 pub type Plain = Action;

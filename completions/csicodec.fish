@@ -34,7 +34,7 @@ complete -c csicodec -n '__fish_seen_subcommand_from html' -l no-overwrite -d 'K
 complete -c csicodec -n '__fish_seen_subcommand_from html' -l overwrite -d 'Write each line as it stands when it ends, as is the default. It doesn'\''t go with --links'
 complete -c csicodec -n '__fish_seen_subcommand_from html' -l palette -x -d 'Use exactly these 16 colours, as #rrggbb with commas between. Two more are the page'\''s text and background. The word xterm stands for the 16 of xterm'
 complete -c csicodec -n '__fish_seen_subcommand_from html' -l help -d 'Show this text'
-complete -c csicodec -n '__fish_seen_subcommand_from explain' -l at -x -d 'Show only what has a byte at these offsets, with commas between: 120, 120-180 or 120-'
+complete -c csicodec -n '__fish_seen_subcommand_from explain' -l at -x -d 'Show only what has a byte at these offsets: 120, 120-180 or 120-, or several of them with commas between'
 complete -c csicodec -n '__fish_seen_subcommand_from explain' -l color -x -a 'always never auto' -d 'Use colours always, never or auto, which is the default: in a terminal, unless NO_COLOR is set'
 complete -c csicodec -n '__fish_seen_subcommand_from explain' -l count -d 'Show only totals, at the end: of each kind and each name'
 complete -c csicodec -n '__fish_seen_subcommand_from explain' -l decode -d 'Show what is put into the clipboard (OSC 52), decoded from base64'

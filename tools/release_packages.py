@@ -181,9 +181,9 @@ def checked(folder, dist, room, library):
     copy(["c/all.c"], folder)
     streams = examples(".stream")
     copy(streams, f"{folder}/examples")
-    run("cc", "-O2", f"-I{TOP}/include", "-o", f"{room}/all", f"{TOP}/c/all.c", f"{dist}/{HERE}/libcsicodec.a")
+    run("cc", "-O2", f"-I{TOP}/include", "-o", f"{room}/answers", f"{TOP}/c/all.c", f"{dist}/{HERE}/libcsicodec.a")
     with open(f"{folder}/sums", "w", encoding="utf-8") as file:
-        file.write(run(f"{room}/all", *streams, cwd=TOP))
+        file.write(run(f"{room}/answers", *streams, cwd=TOP))
     with open(f"{folder}/check", "w", encoding="utf-8") as file:
         file.write(f"""#!/bin/sh
 # Says whether the library does here what it does on Linux: the sums of what each call answers of the examples.

@@ -13,8 +13,8 @@ from release_build import ENTRY, LIBRARY, MANY_EVENTS, PROGRAM, TOP, calls, modu
 MINGW = "x86_64-w64-mingw32-gcc"
 WINDOWS = "x86_64-windows"
 # What macOS' C library is asked for.
-SYSTEM_CALLS = ("malloc realloc free memcpy memmove memset memcmp memchr bzero bcmp read write open close isatty lseek strerror_r __error signal getenv "
-                "__stack_chk_fail dyld_stub_binder").split()
+SYSTEM_CALLS = ("malloc calloc realloc free memcpy memmove memset memset_pattern16 memcmp memchr bzero __bzero bcmp read write open close isatty lseek "
+                "strerror_r __error signal getenv __stack_chk_fail").split()
 # The host's calls, by the names that the modules have for them, and those that system/windows.c and system/macos.c have.
 HOST = {"read": "host_read", "write": "host_write", "close": "host_close", "isatty": "host_isatty", "lseek": "host_lseek",
         "__xpg_strerror_r": "host_strerror", "__sysv_signal": "host_signal"}
@@ -132,7 +132,7 @@ def object_of(kit, made, place, crate, room):
             if file.read() == f"{stamp} {sum_of(to)}":
                 return to
     own = tempfile.mkdtemp(dir=room)
-    text = lowered(text_of(kit, source), lines_of_target(kit, system.target), ENTRY, place == WINDOWS)
+    text = lowered(text_of(kit, source), lines_of_target(kit, system.target), ENTRY if crate == PROGRAM else "main", place == WINDOWS)
     with open(f"{own}/it.ll", "w", encoding="utf-8") as file:
         file.write(text)
     run(kit.clang, f"--target={system.target}", "-O3", "-w", "-ffunction-sections", "-fdata-sections", "-c", f"{own}/it.ll", "-o", to)
@@ -179,14 +179,14 @@ def link_macos(kit, made, place, folder, room):
     arch = target.split("-")[0]
     with open(f"{own}/libSystem.tbd", "w", encoding="utf-8") as file:
         file.write(f"--- !tapi-tbd\ntbd-version: 4\ntargets: [ {arch}-macos ]\ninstall-name: '/usr/lib/libSystem.B.dylib'\n"
-                   f"exports:\n  - targets: [ {arch}-macos ]\n    symbols: [ {', '.join(f'_{name}' for name in SYSTEM_CALLS)} ]\n...\n")
+                   f"exports:\n  - targets: [ {arch}-macos ]\n    symbols: [ {', '.join(f'_{name}' for name in SYSTEM_CALLS)}, dyld_stub_binder ]\n...\n")
     parts = {name: kit.c_object(target, name, f"{own}/{name}.o", "-fno-stack-protector", *more) for name, more in {
         "program": ["-fno-builtin", *words()], "macos": ["-fno-builtin"], "wide": [],
         "events": [f"-I{TOP}/system/headers", f"-I{TOP}/include"]}.items()}
     library = object_of(kit, made, place, LIBRARY, room)
     how = ["-arch", arch, "-platform_version", "macos", "11.0", "11.0", "-dead_strip", "-adhoc_codesign", "-no_uuid"]
     objects = [parts["program"], parts["macos"], parts["wide"], object_of(kit, made, place, PROGRAM, room)]
-    kit.tool("ld64.lld", *how, "-stack_size", "0x800000", "-o", f"{folder}/csicodec", *objects, f"{own}/libSystem.tbd")
+    kit.tool("ld64.lld", *how, "-o", f"{folder}/csicodec", *objects, f"{own}/libSystem.tbd")
     with open(f"{own}/names", "w", encoding="utf-8") as file:
         file.writelines(f"_{name}\n" for name in [*calls(), *MANY_EVENTS])
     major = version().split(".")[0]

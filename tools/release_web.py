@@ -29,8 +29,24 @@ def tool():
     return "binaryen " + run("wasm-opt", "--version").strip()
 
 
+def picked():
+    """ARM's TBL in terms of LLVM: each byte of the second vector says which one of the first it becomes, or 0 from 16 on."""
+    lanes, before = [], "zeroinitializer"
+    for i in range(16):
+        lanes.append(f"""  %at{i} = extractelement <16 x i8> %places, i32 {i}
+  %is{i} = icmp ult i8 %at{i}, 16
+  %in{i} = and i8 %at{i}, 15
+  %place{i} = zext i8 %in{i} to i32
+  %byte{i} = extractelement <16 x i8> %table, i32 %place{i}
+  %own{i} = select i1 %is{i}, i8 %byte{i}, i8 0
+  %all{i} = insertelement <16 x i8> {before}, i8 %own{i}, i32 {i}
+""")
+        before = f"%all{i}"
+    return f"define internal <16 x i8> @picked(<16 x i8> %table, <16 x i8> %places) noinline {{\n{''.join(lanes)}  ret <16 x i8> {before}\n}}\n"
+
+
 def lowered(text):
-    """The module of LLVM for aarch64, for WebAssembly: its layout, no words on processors, and the one instruction of ARM by shuffles. A
+    """The module of LLVM for aarch64, for WebAssembly: its layout, no words on processors, and ARM's two instructions in LLVM's terms. A
     program's main has the name of its entry."""
     def mask(odd):
         return "<16 x i32> <" + ", ".join(f"i32 {i + odd}" for i in range(0, 32, 2)) + ">"
@@ -46,6 +62,8 @@ def lowered(text):
     text = re.sub(r'^target triple = ".*"$', f'target triple = "{TARGET}"', text, flags=re.M)
     text = re.sub(r' "(frame-pointer|probe-stack|stack-probe-size|target-cpu|target-features)"="[^"]*"', "", text)
     text = re.sub(r"^declare <16 x i8> @llvm\.aarch64\.neon\.addp\.v16i8.*\n", lambda _: pairs, text, flags=re.M)
+    text = re.sub(r"^declare <16 x i8> @llvm\.aarch64\.neon\.tbl1\.v16i8.*\n", lambda _: picked(), text, flags=re.M)
+    text = text.replace("@llvm.aarch64.neon.tbl1.v16i8", "@picked")
     text = text.replace("@llvm.aarch64.neon.addp.v16i8", "@pairs").replace("@main(", f"@{ENTRY}(")
     left = sorted({*re.findall(r"@llvm\.(?:aarch64|x86)[\w.]*", text)})
     if left:

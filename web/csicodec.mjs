@@ -464,7 +464,8 @@ export class Codec {
             rest = lines.pop();
             if (lines.length) each(lines);
         });
-        if (status) throw new CodecError(message.replace(/^csicodec: /, '').replace(/: input\.cast$/, '') || `status ${status}`, { status });
+        // Without a message status 1 says that nothing is unknown.
+        if (status > 1 || message) throw new CodecError(message.replace(/^csicodec: /, '').replace(/: input\.cast$/, '') || `status ${status}`, { status });
     }
 
     /** Runs the program. An instance that trapped, or that was left by an error of `write`, isn't run again. */

@@ -16,4 +16,4 @@ pub mod Exactly
 pub mod Twice
 pub mod JoinedCuts
 pub mod Compose
-pub mod Faithful
+pub mod FaithfulKept

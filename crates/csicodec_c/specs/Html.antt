@@ -1,12 +1,12 @@
 -- What the calls for pages of HTML, and for lines as they stand when they end, answer a C program.
-use Rattle.std.specs.Prelude.{ℕ, ◌≡◌, ◌==◌, ◌/◌, ◌%◌, ◌⊎◌, ◌||◌, Bool, true, false, Option, Some, List, ◌++◌, length, map, if◌then◌else◌}
+use Rattle.std.specs.Prelude.{ℕ, ◌≡◌, ◌==◌, ◌/◌, ◌%◌, ◌⊎◌, ◌||◌, Bool, true, false, Option, Some, List, [], ◌++◌, length, map, if◌then◌else◌}
 use Rattle.csicodec_names.specs.declared.color.SrgbaTuple.{SrgbaTuple}
 use Rattle.csicodec_clean.specs.Palette.{rgb}
 use Rattle.csicodec_html.specs.declared.markup.Markup.{Markup}
 use Rattle.csicodec_html.specs.declared.palette.Palette.{Palette}
 use Rattle.csicodec_html.specs.Given.{given_palette}
 use Rattle.csicodec_html.specs.Page.{IsPageWith, PageWith, simple}
-use Rattle.csicodec_html.specs.Sheet.{sheet}
+use Rattle.csicodec_html.specs.Sheet.{IsTitle, sheet}
 use Rattle.csicodec_overwrite.specs.Reading.{Paints, Shows}
 use Rattle.csicodec_structs.specs.Room.{Fills}
 use Rattle.csicodec_structs.specs.declared.status.Status.TheVariants as status
@@ -40,25 +40,33 @@ abbrev pub IsPieceOf : Asked → List ℕ → List ℕ → Type 0
 IsPieceOf asked bytes piece =
     IsPiece (asked.no_overwrite || asked.markup.links) asked.markup bytes piece
 
--- a page has texts ahead of its style sheet, ahead of the piece, and behind it
-abbrev pub framed : List ℕ → List ℕ → List ℕ → Asked → List ℕ → List ℕ
-framed head body behind asked piece =
-    if asked.fragment then piece else (head ++ (sheet asked.markup ++ body)) ++ (piece ++ behind)
+-- a page of its own: a head without a name and with a style sheet, the piece, and what ends it
+abbrev pub IsWhole : List ℕ → List ℕ → List ℕ → List ℕ → Markup → List ℕ → List ℕ → Type 0
+IsWhole head style body behind m piece page = (title : List ℕ) × IsTitle [] title
+    × (page ≡ (head ++ (title ++ (style ++ (sheet m ++ body)))) ++ (piece ++ behind))
+
+-- the piece alone, or such a page
+abbrev pub IsFramed : Bool → (List ℕ → List ℕ → Type 0) → List ℕ → List ℕ → Type 0
+IsFramed true Whole piece page = page ≡ piece
+IsFramed false Whole piece page = Whole piece page
 
 -- the length of the page, which is put where it fits; its piece has text that is shown, escaped, and tags in pairs
-pub record IsPut (head body behind : List ℕ) (asked : Asked) (bytes old new : List ℕ)
+pub record IsPut (Whole : List ℕ → List ℕ → Type 0) (asked : Asked) (bytes old new : List ℕ)
     (answer : Stripped) : Type 0 where
   pub piece : List ℕ
-  pub page : IsPieceOf asked bytes piece
+  pub page : List ℕ
+  pub is : IsPieceOf asked bytes piece
   pub safe : IsPageWith asked.markup piece
-  pub tells : answer ≡ stripped (length (framed head body behind asked piece))
-  pub fills : Fills old new (framed head body behind asked piece)
+  pub framed : IsFramed asked.fragment Whole piece page
+  pub tells : answer ≡ stripped (length page)
+  pub fills : Fills old new page
 
 -- by the numbers and the colours
-abbrev pub IsHtml : List ℕ → List ℕ → List ℕ → Choices → List ℕ → List ℕ → List ℕ → List ℕ → Stripped → Type 0
-IsHtml head body behind choices colors bytes old new answer =
-    (palette : Palette) × (asked : Asked) × (palette_of colors ≡ Some palette) × IsAsked choices palette asked
-    × IsPut head body behind asked bytes old new answer
+abbrev pub IsHtml : (Markup → List ℕ → List ℕ → Type 0) → Choices → List ℕ → List ℕ → List ℕ
+    → List ℕ → Stripped → Type 0
+IsHtml Whole choices colors bytes old new answer =
+    (palette : Palette) × (asked : Asked) × (palette_of colors ≡ Some palette)
+    × IsAsked choices palette asked × IsPut (Whole asked.markup) asked bytes old new answer
 
 -- or memory ran out, or nothing is asked for by them, and then nothing is put
 pub record IsHtmlRefused (choices : Choices) (colors old new : List ℕ) (answer : Stripped) : Type 0 where

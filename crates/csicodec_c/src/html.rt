@@ -5,11 +5,11 @@ ghost use Rattle.csicodec_overwrite.specs.Reading.{Shows};
 ghost use Rattle.csicodec_overwrite.specs.Stream.{begun_as};
 ghost use Rattle.csicodec_c.specs.declared.html.Asked.{Asked};
 ghost use Rattle.csicodec_c.specs.Strip.{IsRefused};
-ghost use Rattle.csicodec_c.specs.Html.{IsAsked, IsHtml, IsHtmlRefused, IsLined, IsLinesRefused, IsPieceOf, IsPut, color_of, framed, palette_of};
+ghost use Rattle.csicodec_c.specs.Html.{IsAsked, IsHtml, IsHtmlRefused, IsLined, IsLinesRefused, IsFramed, IsPieceOf, IsPut, IsWhole, color_of, palette_of};
 
 use crate::strip::{Stripped, bit_at, put, refused};
 use csicodec_base::SrgbaTuple;
-use csicodec_html::{BEHIND, BODY, HEAD, Markup, Palette, front, given_palette, html_with};
+use csicodec_html::{BEHIND, BODY, HEAD, Markup, Palette, STYLE, front, given_palette, html_with};
 use csicodec_overwrite::Overwriter;
 use csicodec_structs::Status;
 use std::alloc::{AllocError, Global};
@@ -137,24 +137,32 @@ fn piece_of(alloc: Global, asked: Asked, bytes: &[u8]) -> Result<Vec<u8>, AllocE
     html_with(alloc, asked.markup, &painted)
 }
 
-/// A piece with what stands around it on a page.
-fn around(alloc: Global, asked: Asked, piece: Vec<u8>) -> Result<Vec<u8>, AllocError>
-    ensures { IfOk result (λ page. page.items
-        ≡ framed HEAD.now BODY.now BEHIND.now asked piece.items) }
+/// A page of its own, without a name.
+fn whole_page(alloc: Global, markup: Markup, piece: Vec<u8>) -> Result<Vec<u8>, AllocError>
+    ensures { IfOk result (λ page.
+        IsWhole HEAD.now STYLE.now BODY.now BEHIND.now markup piece.items page.items) }
 {
-    if asked.fragment {
-        return Ok(piece);
-    }
-    let mut page = front(alloc, asked.markup)?;
+    let mut page = front(alloc, markup, b"")?;
     page.extend_from_slice(&piece)?;
     page.extend_from_slice(BEHIND.as_bytes())?;
     Ok(page)
 }
 
+/// A piece alone, or with what stands around it on a page.
+fn around(alloc: Global, asked: Asked, piece: Vec<u8>) -> Result<Vec<u8>, AllocError>
+    ensures { IfOk result (λ page. IsFramed asked.fragment
+        (IsWhole HEAD.now STYLE.now BODY.now BEHIND.now asked.markup) piece.items page.items) }
+{
+    if asked.fragment {
+        return Ok(piece);
+    }
+    whole_page(alloc, asked.markup, piece)
+}
+
 /// Puts the page that the bytes become, where it fits.
 fn put_page(alloc: Global, asked: Asked, bytes: &[u8], out: &mut [u8]) -> Stripped
-    ensures { IsPut HEAD.now BODY.now BEHIND.now asked bytes.now out.old out.new result
-        ⊎ IsRefused out.old out.new result }
+    ensures { IsPut (IsWhole HEAD.now STYLE.now BODY.now BEHIND.now asked.markup) asked
+        bytes.now out.old out.new result ⊎ IsRefused out.old out.new result }
 {
     let Ok(piece) = piece_of(alloc, asked, bytes) else {
         return refused(Status::Memory);
@@ -174,7 +182,8 @@ pub extern "C" fn csicodec_html(
     bytes: &[u8],
     out: &mut [u8],
 ) -> Stripped
-    ensures { IsHtml HEAD.now BODY.now BEHIND.now choices.now colors.now bytes.now out.old out.new result
+    ensures { IsHtml (IsWhole HEAD.now STYLE.now BODY.now BEHIND.now) choices.now colors.now
+        bytes.now out.old out.new result
         ⊎ IsHtmlRefused choices.now colors.now out.old out.new result }
 {
     let Ok(palette) = palette_of(alloc, colors) else {

@@ -1,6 +1,7 @@
 -- What `clean` leaves is safe by its bytes alone.
 use Rattle.std.proofs.Common.{◌≡◌, ◌≢◌, ◌<◌, ◌≤◌, ◌+◌, ◌/◌, ◌%◌, ℕ, Bool, true, false, cond, List, [], ◌∷◌, ◌++◌, ◌⊎◌, inl, inr, length, refl, sym, ap, subst, ◌∙◌, append_assoc, arith, ⊎_elim, lt-ltb, le-ltb}
-use Rattle.std.specs.Prelude.{codes, nat_le, nat_lt, not, ◌==◌, ◌&&◌, ◌||◌, if◌then◌else◌, encode_utf8}
+use Rattle.std.specs.Prelude.{codes, nat_le, nat_lt, not, ◌==◌, ◌&&◌, ◌||◌, if◌then◌else◌}
+use Rattle.std.specs.Char.{encode_utf8}
 use Rattle.std.specs.Fmt.{decimal}
 use Rattle.std.specs.List.{AllByRecursion}
 use Rattle.std.proofs.lemmas.Bool.{and_parts, cases_lt, eqb-true, le-leb, ne_eqb, not-true}
@@ -23,7 +24,7 @@ use Rattle.csicodec_clean.specs.Shown.{IsShown}
 use Rattle.csicodec_clean.specs.Links.{Address, IsLink, is_linked, is_param, is_visible, link_text}
 use Rattle.csicodec_clean.specs.declared.styles.Passing.{Passing}
 use Rattle.csicodec_clean.specs.Styled.{hides, is_open, is_reset, Item, Shown, Style, Link, item_texts, links_of, styles_of, IsSafe, IsStyledIn, StylesIn}
-use Rattle.csicodec_clean.specs.Marked.{Stand, Text, Numbers, Params, Url, is_text_byte, is_number_byte, stand_behind, is_marked, IsMarked}
+use Rattle.csicodec_clean.specs.Marked.{Stand, Text, Lead, Numbers, Params, Url, is_text_byte, is_number_byte, stand_behind, is_marked, IsMarked}
 use Rattle.csicodec_clean.proofs.Pieces.{style_range}
 use Rattle.csicodec_clean.proofs.Styled.{styled}
 
@@ -84,12 +85,15 @@ high_marked links styled linked [] more h = refl
 high_marked links styled linked (b ∷ bytes) more h =
     on_text links styled linked b (bytes ++ more) (λ e. absurd (omega (arith, e, h.0.0))) h.0.1 (high_byte b h.0.0) ∙ high_marked links styled linked bytes more h.1
 
+lead : (links : Bool) (b : ℕ) → 160 ≤ b → stand_behind links Lead b ≡ Text
+lead links b from = rw (le-leb 160 b from) refl
+
 char_marked : (links styled linked : Bool) (c : ℕ) (more : List ℕ) → IsShown c → is_marked links Text styled linked (encode_utf8 c ++ more) ≡ is_marked links Text styled linked more
 char_marked links styled linked c more h = by (spells c h)
   where
     by : Spells c (encode_utf8 c) → is_marked links Text styled linked (encode_utf8 c ++ more) ≡ is_marked links Text styled linked more
     by (inl (low, is)) = rw is (on_text links styled linked c more (no_escape c h) (λ e. absurd (omega (arith, e, low))) (low_byte c low h))
-    by (inr (inl (b, from, is))) = rw is (rw (le-leb 160 b from) refl)
+    by (inr (inl (b, from, is))) = rw is (ap (λ (s : Stand). is_marked links s styled linked more) (lead links b from))
     by (inr (inr all)) = high_marked links styled linked (encode_utf8 c) more all
 
 -- ---- styles
@@ -167,20 +171,26 @@ style_numbered s h k = refl
 abbrev Behind : Bool → Stand → Bool → Bool → List ℕ → List ℕ → Type 0
 Behind links s styled linked t more = (opened : Bool) × (is_marked links s styled linked (t ++ more) ≡ is_marked links Text opened linked more)
 
+on_number : (links zeros styled linked : Bool) (b : ℕ) (more : List ℕ) → is_number_byte b ≡ true → b ≢ 109 → is_marked links (Numbers zeros) styled linked (b ∷ more) ≡ is_marked links (Numbers (zeros && b == 48)) styled linked more
+on_number links zeros styled linked b more e o = rw (ne_eqb b 109 o, e) refl
+
+on_end : (links zeros styled linked : Bool) (b : ℕ) (more : List ℕ) → (b == 109) ≡ true → is_marked links (Numbers zeros) styled linked (b ∷ more) ≡ is_marked links Text (not zeros) linked more
+on_end links zeros styled linked b more e = rw e refl
+
 numbers_marked : (links zeros styled linked : Bool) (t more : List ℕ) → numbered t ≡ true → Behind links (Numbers zeros) styled linked t more
 numbers_marked links zeros styled linked [] more h = absurd cc
-numbers_marked links zeros styled linked (b ∷ bs) more h = by (is_number_byte b) refl h
+numbers_marked links zeros styled linked (b ∷ bs) more h = by (is_number_byte b) refl h (λ z r. numbers_marked links z styled linked bs more r)
   where
     ended : (rest : List ℕ) → (b == 109) ≡ true → is_nil rest ≡ true → Behind links (Numbers zeros) styled linked (b ∷ rest) more
-    ended [] e n = (not zeros, rw e refl)
+    ended [] e n = (not zeros, on_end links zeros styled linked b more e)
     ended (c ∷ rest) e n = absurd cc
 
-    by : (n : Bool) → is_number_byte b ≡ n → (if n then numbered bs else (b == 109 && is_nil bs)) ≡ true → Behind links (Numbers zeros) styled linked (b ∷ bs) more
-    by true e r =
-        let later = numbers_marked links (zeros && b == 48) styled linked bs more r in
-        let other : (b == 109) ≡ false = ne_eqb b 109 (λ same. absurd (grind (arith, nat_tests))) in
-        (later.0, rw (other, e) later.1)
-    by false e r = let both = and_parts (b == 109) (is_nil bs) r in ended bs both.0 both.1
+    by : (n : Bool) → is_number_byte b ≡ n → (if n then numbered bs else (b == 109 && is_nil bs)) ≡ true → ((z : Bool) → numbered bs ≡ true → Behind links (Numbers z) styled linked bs more)
+        → Behind links (Numbers zeros) styled linked (b ∷ bs) more
+    by true e r on =
+        let later = on (zeros && b == 48) r in
+        (later.0, on_number links zeros styled linked b (bs ++ more) e (λ same. absurd (grind (arith, nat_tests))) ∙ later.1)
+    by false e r on = let both = and_parts (b == 109) (is_nil bs) r in ended bs both.0 both.1
 
 only_reset : (s : Sgr) → (s ≡ sgr.Reset) ⊎ (is_reset s ≡ false)
 only_reset sgr.Reset = inl refl

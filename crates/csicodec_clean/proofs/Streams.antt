@@ -20,7 +20,7 @@ module _ (Sure Whole Out : List ℕ → List ℕ → Type 0) (Safe : List ℕ �
       × Begins Sure Whole ((more ≡ []) × IsAtEnd k) bytes sent × Appends w y sent)
 
   -- what is whole is the text, what begins it is a front of one, and each is safe
-  pub record Texts : Type 0 where
+  pub record Texts : Type 1 where
     pub whole : (bytes text : List ℕ) → Whole bytes text → Out bytes text
     pub begins : (AreAll : Type 0) (bytes sent : List ℕ) → Begins Sure Whole AreAll bytes sent → (unsent : List ℕ) × Out bytes (sent ++ unsent)
     pub safe : (bytes text : List ℕ) → Out bytes text → Safe text

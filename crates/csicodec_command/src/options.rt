@@ -203,8 +203,8 @@ asciinema it lists what the programs wrote, with the time of each. It is a FILE
 whose name ends in .cast, or standard input that begins as one. If there are
 several FILEs, their names are shown.
 
-  --at PLACES     Show only what has a byte at these offsets, with commas between:
-                  120, 120-180 or 120-.
+  --at PLACES     Show only what has a byte at these offsets: 120, 120-180 or
+                  120-, or several of them with commas between.
   --color WHEN    Use colours always, never or auto, which is the default: in a
                   terminal, unless NO_COLOR is set.
   --count         Show only totals, at the end: of each kind and each name.

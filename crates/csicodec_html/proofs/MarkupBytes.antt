@@ -12,7 +12,7 @@ use Rattle.csicodec_html.specs.declared.markup.Markup.{Markup}
 use Rattle.csicodec_html.specs.Classes.{attributes, attributes_of, class_name, classes_of, has_true, names, rest_attribute, style_attribute, true_colors}
 use Rattle.csicodec_html.specs.Look.{css, settled}
 use Rattle.csicodec_html.specs.Page.{IsHarmless, IsQuoted, IsPageWith, IsSafe, PageWith, Piece, Char, Begin, End, Open, Shut, are_paired, escaped, piece_text, piece_texts}
-use Rattle.csicodec_html.specs.MarkupBytes.{Spot, Inside, Tag, is_text_byte, is_value_byte, is_markup, no_value, spot_behind, IsMarkup}
+use Rattle.csicodec_html.specs.MarkupBytes.{Spot, Inside, Lead, Nowhere, Reference, Tag, is_text_byte, is_value_byte, is_markup, no_value, spot_behind, IsMarkup}
 use Rattle.csicodec_html.proofs.Addresses.{all_quoted}
 use Rattle.csicodec_html.proofs.Declarations.{Fine, css_fine}
 use Rattle.csicodec_html.proofs.Named.{name_fine, true_fine}
@@ -20,8 +20,17 @@ use Rattle.csicodec_html.proofs.Paired.{is_page}
 
 -- ---- characters
 
+-- one test after the other, where each test may ask what one before it asked
+chosen : (x y z w : Bool) (a b c d e : Spot) → x ≡ false → y ≡ false → z ≡ false → w ≡ true → (if x then a else if y then b else if z then c else if w then d else e) ≡ d
+chosen x y z w a b c d e f g h i = rw (f, g, h, i) refl
+
+second : (x w : Bool) (a b c : Spot) → x ≡ false → w ≡ true → (if x then a else if w then b else c) ≡ b
+second x w a b c f g = rw (f, g) refl
+
 on_text : (links linked spanned : Bool) (b : ℕ) (more : List ℕ) → b ≢ 60 → b ≢ 38 → b ≢ 194 → is_text_byte b ≡ true → is_markup links Inside linked spanned (b ∷ more) ≡ is_markup links Inside linked spanned more
-on_text links linked spanned b more less and l t = rw (ne_eqb b 60 less, ne_eqb b 38 and, ne_eqb b 194 l, t) refl
+on_text links linked spanned b more less and l t =
+    ap (λ (s : Spot). is_markup links s linked spanned more)
+    (chosen (b == 60) (b == 38) (b == 194) (is_text_byte b) (Tag false []) (Reference []) Lead Inside Nowhere (ne_eqb b 60 less) (ne_eqb b 38 and) (ne_eqb b 194 l) t)
 
 high_byte : (b : ℕ) → 128 ≤ b → is_text_byte b ≡ true
 high_byte b h = grind (arith, nat_tests)
@@ -34,12 +43,15 @@ high_markup links linked spanned [] more h = refl
 high_markup links linked spanned (b ∷ bytes) more h =
     on_text links linked spanned b (bytes ++ more) (λ e. absurd (omega (arith, e, h.0.0))) (λ e. absurd (omega (arith, e, h.0.0))) h.0.1 (high_byte b h.0.0) ∙ high_markup links linked spanned bytes more h.1
 
+lead : (links linked spanned : Bool) (b : ℕ) → 160 ≤ b → spot_behind links linked spanned Lead b ≡ Inside
+lead links linked spanned b from = rw (le-leb 160 b from) refl
+
 itself : (links linked spanned : Bool) (c : ℕ) (more : List ℕ) → IsShown c → c ≢ 34 → c ≢ 38 → c ≢ 39 → c ≢ 60 → c ≢ 62 → is_markup links Inside linked spanned (encode_utf8 c ++ more) ≡ is_markup links Inside linked spanned more
 itself links linked spanned c more h quote and apostrophe less greater = by (spells c h)
   where
     by : Spells c (encode_utf8 c) → is_markup links Inside linked spanned (encode_utf8 c ++ more) ≡ is_markup links Inside linked spanned more
     by (inl (low, is)) = rw is (on_text links linked spanned c more less and (λ e. absurd (omega (arith, e, low))) (low_byte c low h quote and apostrophe less greater))
-    by (inr (inl (b, from, is))) = rw is (rw (le-leb 160 b from) refl)
+    by (inr (inl (b, from, is))) = rw is (ap (λ (s : Spot). is_markup links s linked spanned more) (lead links linked spanned b from))
     by (inr (inr all)) = high_markup links linked spanned (encode_utf8 c) more all
 
 either : (P : List ℕ → Type 0) (a b : ℕ) (xs ys : List ℕ) → P xs → (a ≢ b → P ys) → P (if a == b then xs else ys)
@@ -85,7 +97,7 @@ values P (b ∷ bytes) f h = (f b h.0, values P bytes f h.1)
 value_markup : (links linked spanned : Bool) (tag bytes more : List ℕ) → AllByRecursion IsValue bytes → is_markup links (Tag true tag) linked spanned (bytes ++ more) ≡ is_markup links (Tag true tag) linked spanned more
 value_markup links linked spanned tag [] more h = refl
 value_markup links linked spanned tag (b ∷ bytes) more h =
-    let step : spot_behind links linked spanned (Tag true tag) b ≡ Tag true tag = rw (ne_eqb b 34 (value_stays b h.0), h.0) refl in
+    let step : spot_behind links linked spanned (Tag true tag) b ≡ Tag true tag = second (b == 34) (is_value_byte b) (Tag false (tag ++ 34 ∷ [])) (Tag true tag) Nowhere (ne_eqb b 34 (value_stays b h.0)) h.0 in
     ap (λ (s : Spot). is_markup links s linked spanned (bytes ++ more)) step ∙ value_markup links linked spanned tag bytes more h.1
 
 fine_markup : (links linked spanned : Bool) (tag bytes more : List ℕ) → Fine bytes → is_markup links (Tag true tag) linked spanned (bytes ++ more) ≡ is_markup links (Tag true tag) linked spanned more

@@ -97,22 +97,23 @@ is_exact color.Default = false
 is_exact (color.PaletteIndex i) = nat_lt 15 i
 is_exact (color.TrueColor c) = true
 
-abbrev pub exact : ColorSpec → ColorSpec
-exact color.Default = color.Default
-exact (color.PaletteIndex i) =
+abbrev pub settled_color : ColorSpec → ColorSpec
+settled_color color.Default = color.Default
+settled_color (color.PaletteIndex i) =
     if nat_lt i 16 then color.TrueColor (palette i) else color.PaletteIndex i
-exact (color.TrueColor c) = color.TrueColor c
+settled_color (color.TrueColor c) = color.TrueColor c
 
-abbrev pub has_exact : Look → Bool
-has_exact l = is_exact l.foreground || is_exact l.background
+-- text or background has one, and pairs could stand beside it
+abbrev pub is_mixed : Palette → Look → Bool
+is_mixed p l = has_pairs p && (is_exact l.foreground || is_exact l.background)
 
 -- A pair can be read beside another one, and beside the page's own colour. Where text or background has another colour, both have
 -- xterm's.
 abbrev pub settled : Palette → Look → Look
 settled p l =
-    if has_pairs p && has_exact l then record l {
-      foreground = exact l.foreground;
-      background = exact l.background;
+    if is_mixed p l then record l {
+      foreground = settled_color l.foreground;
+      background = settled_color l.background;
     }
     else l
 

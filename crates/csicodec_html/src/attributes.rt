@@ -1,7 +1,7 @@
 //! The attributes of a span, with controls in place of the quotation marks.
 ghost use Rattle.std.specs.Prelude.{◌≡◌, ◌++◌, [], ◌∷◌, OnOk};
 ghost use Rattle.csicodec_html.specs.Classes.{attributes, attributes_of, has_true, is_true, rest_attribute, style_attribute, true_color, true_colors};
-ghost use Rattle.csicodec_html.specs.Look.{css, exact, has_exact, is_exact, settled};
+ghost use Rattle.csicodec_html.specs.Look.{css, is_exact, is_mixed, settled, settled_color};
 
 use crate::classes::{Part, append_classes};
 use crate::colors::{append_parts, append_property_of};
@@ -83,8 +83,8 @@ fn is_exact(color: ColorSpec) -> bool
 }
 
 /// The colour, for which xterm's stands where each page may have its own.
-fn exact(color: ColorSpec) -> ColorSpec
-    ensures { result ≡ exact color }
+fn settled_color(color: ColorSpec) -> ColorSpec
+    ensures { result ≡ settled_color color }
 {
     match color {
         ColorSpec::PaletteIndex(index) => {
@@ -98,21 +98,21 @@ fn exact(color: ColorSpec) -> ColorSpec
     }
 }
 
-/// Whether one of text and what is behind it has such a colour.
-fn has_exact(look: Look) -> bool
-    ensures { result ≡ has_exact look }
+/// Whether text or what is behind it has such a colour, and pairs could stand beside that.
+fn is_mixed(palette: &Palette, look: Look) -> bool
+    ensures { result ≡ is_mixed palette.now look }
 {
-    is_exact(look.foreground) || is_exact(look.background)
+    palette.has_pairs() && (is_exact(look.foreground) || is_exact(look.background))
 }
 
 /// The look with colours that can be read beside each other: where one of them is the same on a light and on a dark page, both are.
 fn settled(palette: &Palette, look: Look) -> Look
     ensures { result ≡ settled palette.now look }
 {
-    if palette.has_pairs() && has_exact(look) {
+    if is_mixed(palette, look) {
         return Look {
-            foreground: exact(look.foreground),
-            background: exact(look.background),
+            foreground: settled_color(look.foreground),
+            background: settled_color(look.background),
             ..look
         };
     }

@@ -1,5 +1,5 @@
 //! Bytes that are all there, as a piece of a page.
-ghost use Rattle.std.specs.Prelude.{◌≡◌, ◌++◌, ◌∷◌, [], ℕ, List, OnOk, IfOk};
+ghost use Rattle.std.specs.Prelude.{◌≡◌, ◌++◌, ◌∷◌, [], ℕ, List, OnOk, IfOk, false};
 ghost use Rattle.csicodec_html.specs.MarkupBytes.{IsMarkup};
 ghost use Rattle.csicodec_html.specs.Page.{IsPage, IsPageWith, PageOf, PageWith};
 ghost use Rattle.csicodec_html.specs.Private.Marked.{page_byte, page_bytes};
@@ -42,11 +42,11 @@ pub(crate) fn append_page(bytes: &[u8], out: &mut Vec<u8>) -> Result<(), AllocEr
 /// and what has attributes (SGR) in spans with a `style`. It stands well in a `pre`.
 ///
 /// Of the attributes it shows bold, faint, italic, lines below of each kind and their colours, lines above and through, inverse, and
-/// colours: those of numbers as xterm has them, and those by their parts without their alpha. What is concealed is shown. A span
-/// is ended before another begins, and at the end.
+/// colours: the first 16 as pairs that can be read on a light and on a dark page, those of other numbers as xterm has them, and those
+/// by their parts without their alpha. What is concealed is shown. A span is ended before another begins, and at the end.
 ///
 /// ```text
-/// html(alloc, b"a\x1b[1;31m<b>\x1b[m")?      // "a<span style=\"font-weight:bold;color:#cd0000;\">&lt;b&gt;</span>"
+/// html(alloc, b"a\x1b[1;38;5;100m<b>\x1b[m")?      // "a<span style=\"font-weight:bold;color:#878700;\">&lt;b&gt;</span>"
 /// ```
 pub fn html(alloc: Global, bytes: &[u8]) -> Result<Vec<u8>, AllocError>
     // Run by run, it is what is shown of the text, escaped, and between them the tags of the attributes.

@@ -1,5 +1,5 @@
 //! The colours of a page by number, and the page's own.
-ghost use Rattle.std.specs.Prelude.{◌≡◌};
+ghost use Rattle.std.specs.Prelude.{◌<◌, ◌≡◌};
 ghost use Rattle.csicodec_html.specs.Palette.{color_at, first_color, has_pairs, or_own, readable, xterm};
 
 use csicodec_base::{ColorSpec, SrgbaTuple};

@@ -9,7 +9,7 @@ use Rattle.csicodec_clean.proofs.Chunks.{begins_whole}
 use Rattle.csicodec_clean.proofs.Streams.{Texts, streams_one}
 use Rattle.csicodec_clean.proofs.run.clean_all_with.Goals as goal
 
-own : Keeping → Keeping
+abbrev own : Keeping → Keeping
 own k = k
 
 pub returns : goal.returns

@@ -1,5 +1,5 @@
 -- What the faithful filter writes for a sequence is read as its actions: before a final of which none stays, no action is special.
-use Rattle.std.proofs.Common.{◌≡◌, ℕ, List, [], ◌∷◌, ◌++◌, ◌+◌, ◌<◌, ◌≤◌, Bool, true, false, Some, refl, sym, ap, subst, ◌∙◌, inl, inr, arith, drop, length, length-append, take}
+use Rattle.std.proofs.Common.{rules, ◌≡◌, ℕ, List, [], ◌∷◌, ◌++◌, ◌+◌, ◌<◌, ◌≤◌, Bool, true, false, Some, refl, sym, ap, subst, ◌∙◌, inl, inr, arith, drop, length, length-append, take}
 use Rattle.std.specs.Prelude.{◌==◌, ◌||◌, ◌-◌, not, slice_get}
 use Rattle.std.specs.List.{AllByRecursion, list_any}
 use Rattle.std.proofs.lemmas.Bool.{cases_Bool, eq-eqb}

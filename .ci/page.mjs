@@ -272,12 +272,11 @@ async function card(browser) {
     for (const [seq, wanted] of [
         ['CSI ?73n', 'CSI ? 73 n|DSR|nothing to tell of data|EK-VT520-RM, DSR'],
         ['CSI ? 25 h', String.raw`\e[?25h|DECSET 25|visible cursor (DECTCEM) on|EK-VT520-RM, DECTCEM`],
+        ['DECTCEM', String.raw`\e[?25h|DECSET 25|visible cursor (DECTCEM) on|EK-VT520-RM, DECTCEM`],
     ]) {
         await browser.open(page, spell({ seq }));
         equals(await first(), wanted, seq);
     }
-    await browser.open(page, spell({ seq: 'DECTCEM' }));
-    wants((await browser.text('card')).includes('visible cursor (DECTCEM) on'), 'no row for DECTCEM');
     await browser.open(page, spell({ seq: String.raw`\e[?2J` }));
     wants((await browser.text('card')).includes('CSI ? extent 0-3 (or 0) J'), 'no form of DECSED');
     await browser.open(page, spell({ seq: 'CSI 3 r' }));
@@ -446,7 +445,7 @@ function typed() {
 
 function policy() {
     const text = readFileSync(page, 'utf8');
-    wants(text.length < 750_000, `the page has ${text.length} bytes`);
+    wants(text.length < 700_000, `the page has ${text.length} bytes`);
     const [said] = /http-equiv="Content-Security-Policy" content="[^"]*"/.exec(text);
     wants(said.includes("default-src 'none'") && !said.includes('unsafe-inline') && !/https?:|connect-src/.test(said), `the policy: ${said}`);
 }

@@ -64,9 +64,7 @@ for (const file of files) {
         ['html with links', ['html', '--links'], codec.html(data, { links: true })],
         ['html with a palette', ['html', '--no-overwrite', `--palette=${PALETTE}`], codec.html(data, { overwrite: false, palette: PALETTE })],
     ]) {
-        // The program names a page, and the library's has no name.
-        const wanted = native(words, data).toString('latin1').replace('<title>Terminal output</title>', '<title></title>');
-        if (!same(made, Buffer.from(wanted, 'latin1'))) wrong(`${name} of ${file} is another`);
+        if (!same(made, native(words, data))) wrong(`${name} of ${file} is another`);
     }
     for (const [name, whole, stream] of [
         ['strip', codec.strip(data), codec.stripStream()],

@@ -79,7 +79,7 @@ def rows_of(document, heading):
 
 def tables():
     """What the reference card has: sequences with their words and documents, forms of many, and where terminals read otherwise."""
-    examples = [line.split("\t") for line in read(".ci/sequences").split("\n") if line and not line.startswith("#")] + told()
+    examples = told() + [line.split("\t") for line in read(".ci/sequences").split("\n") if line and not line.startswith("#")]
     forms = rows_of("docs/SEQUENCES.md", "# Control sequences without an action")
     differences = rows_of("docs/DIFFERENCES.md", "## Kept, where a terminal or a program reads otherwise")
     if not all(len(row) == 4 for row in [*examples, *forms]) or not all(len(row) == 3 for row in differences):

@@ -85,9 +85,9 @@ def code_rt(named):
     for name, row in named.items():
         lines += [f"    /// {row['doc']}", f"    {name},"]
     lines += ["}", "", "impl KeyCode {", "    /// Whether both are one key.", "    pub(crate) fn same(self, other: KeyCode) -> bool", "        ensures { result ≡ same_code self other }", "    {",
-              "        self.tag() == other.tag() && self.value() == other.value()", "    }", "", "    /// The character or the number of a key that has one.", "    fn value(self) -> u32",
+              "        self.tag() == other.tag() && self.value() == other.value()", "    }", "", "    /// The character of a key that types one, the number of a function key, and 0 of any other.", "    pub fn value(self) -> u32",
               "        ensures { result ≡ code_value self }", "    {", "        match self {", "            KeyCode::Char(character) => character as u32,",
-              "            KeyCode::F(number) => u32::from(number),", "            _ => 0,", "        }", "    }", "", "    /// A number for each kind of key.", "    fn tag(self) -> u8",
+              "            KeyCode::F(number) => u32::from(number),", "            _ => 0,", "        }", "    }", "", "    /// Which key it is, whatever its value: 0 for a character, 1 for a function key, and a number of its own for each other.", "    pub fn tag(self) -> u8",
               "        ensures { result ≡ code_tag self }", "    {", "        match self {", "            KeyCode::Char(_) => 0,", "            KeyCode::F(_) => 1,"]
     return "\n".join([*lines, *(f"            KeyCode::{name} => {tag}," for tag, name in enumerate(named, 2)), "        }", "    }", "}"]) + "\n"
 
@@ -141,16 +141,6 @@ def words_rt(named):
     return "\n".join([*lines, *(f'        KeyCode::{name} => "{row["words"]}",' for name, row in named.items()), "    })", "}"]) + "\n"
 
 
-def numbers_rt(named):
-    """src/key_codes.rt of csicodec_c."""
-    lines = ["//! The numbers of keys.", "ghost use Rattle.std.specs.Prelude.{◌≡◌};", "ghost use Rattle.csicodec_keys.specs.SameKeys.{code_tag, code_value};", "",
-             "use csicodec_keys::KeyCode;", "", "/// The number of `enum csicodec_key_code`.", "pub(crate) fn code_number(code: KeyCode) -> u32", "    ensures { result ≡ code_tag code }", "{",
-             "    match code {", "        KeyCode::Char(_) => 0,", "        KeyCode::F(_) => 1,"]
-    lines += [f"        KeyCode::{name} => {tag}," for tag, name in enumerate(named, 2)]
-    return "\n".join([*lines, "    }", "}", "", "/// The character of a key, the number of a function key, and 0.", "pub(crate) fn code_value(code: KeyCode) -> u32", "    ensures { result ≡ code_value code }", "{",
-                      "    match code {", "        KeyCode::Char(character) => character as u32,", "        KeyCode::F(number) => u32::from(number),", "        _ => 0,", "    }", "}"]) + "\n"
-
-
 def files(tables):
     keys, named = list(keys_of(tables)), tables["named"]
     wrong = [*faults(tables, keys), *(f"[named] {name} is no name" for name in named if not re.fullmatch(r"[A-Z]\w+", name))]
@@ -163,6 +153,5 @@ def files(tables):
         "crates/csicodec_keys/specs/Tables.antt": antt + tables_antt(),
         "crates/csicodec_keys/specs/SameKeys.antt": antt + same_keys_antt(named),
         "crates/csicodec_keys/proofs/Named.antt": antt + named_antt(named),
-        "crates/csicodec_c/src/key_codes.rt": rust + numbers_rt(named),
         "crates/csicodec_readings/src/key_words.rt": rust + words_rt(named),
     }

@@ -1,5 +1,5 @@
 -- What the calls for pages of HTML, and for lines as they stand when they end, answer a C program.
-use Rattle.std.specs.Prelude.{ℕ, ◌≡◌, ◌==◌, ◌/◌, ◌%◌, ◌⊎◌, ◌||◌, Bool, true, false, Option, Some, List, [], ◌++◌, length, map, if◌then◌else◌}
+use Rattle.std.specs.Prelude.{ℕ, ◌≡◌, ◌==◌, ◌/◌, ◌%◌, ◌⊎◌, ◌||◌, Bool, true, false, Option, Some, List, ◌++◌, length, map, if◌then◌else◌}
 use Rattle.csicodec_names.specs.declared.color.SrgbaTuple.{SrgbaTuple}
 use Rattle.csicodec_clean.specs.Palette.{rgb}
 use Rattle.csicodec_html.specs.declared.markup.Markup.{Markup}
@@ -40,9 +40,10 @@ abbrev pub IsPieceOf : Asked → List ℕ → List ℕ → Type 0
 IsPieceOf asked bytes piece =
     IsPiece (asked.no_overwrite || asked.markup.links) asked.markup bytes piece
 
--- a page of its own: a head without a name and with a style sheet, the piece, and what ends it
-abbrev pub IsWhole : List ℕ → List ℕ → List ℕ → List ℕ → Markup → List ℕ → List ℕ → Type 0
-IsWhole head style body behind m piece page = (title : List ℕ) × IsTitle [] title
+-- a page of its own: a head with a name and a style sheet, the piece, and what ends it
+abbrev pub IsWhole : List ℕ → List ℕ → List ℕ → List ℕ → List ℕ → Markup → List ℕ → List ℕ
+    → Type 0
+IsWhole name head style body behind m piece page = (title : List ℕ) × IsTitle name title
     × (page ≡ (head ++ (title ++ (style ++ (sheet m ++ body)))) ++ (piece ++ behind))
 
 -- the piece alone, or such a page

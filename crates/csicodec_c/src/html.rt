@@ -9,7 +9,7 @@ ghost use Rattle.csicodec_c.specs.Html.{IsAsked, IsHtml, IsHtmlRefused, IsLined,
 
 use crate::strip::{Stripped, bit_at, put, refused};
 use csicodec_base::SrgbaTuple;
-use csicodec_html::{BEHIND, BODY, HEAD, Markup, Palette, STYLE, front, given_palette, html_with};
+use csicodec_html::{BEHIND, BODY, HEAD, Markup, Palette, STYLE, UNNAMED, front, given_palette, html_with};
 use csicodec_overwrite::Overwriter;
 use csicodec_structs::Status;
 use std::alloc::{AllocError, Global};
@@ -137,12 +137,12 @@ fn piece_of(alloc: Global, asked: Asked, bytes: &[u8]) -> Result<Vec<u8>, AllocE
     html_with(alloc, asked.markup, &painted)
 }
 
-/// A page of its own, without a name.
+/// A page of its own.
 fn whole_page(alloc: Global, markup: Markup, piece: Vec<u8>) -> Result<Vec<u8>, AllocError>
     ensures { IfOk result (λ page.
-        IsWhole HEAD.now STYLE.now BODY.now BEHIND.now markup piece.items page.items) }
+        IsWhole UNNAMED.now HEAD.now STYLE.now BODY.now BEHIND.now markup piece.items page.items) }
 {
-    let mut page = front(alloc, markup, b"")?;
+    let mut page = front(alloc, markup, UNNAMED)?;
     page.extend_from_slice(&piece)?;
     page.extend_from_slice(BEHIND.as_bytes())?;
     Ok(page)
@@ -151,7 +151,7 @@ fn whole_page(alloc: Global, markup: Markup, piece: Vec<u8>) -> Result<Vec<u8>, 
 /// A piece alone, or with what stands around it on a page.
 fn around(alloc: Global, asked: Asked, piece: Vec<u8>) -> Result<Vec<u8>, AllocError>
     ensures { IfOk result (λ page. IsFramed asked.fragment
-        (IsWhole HEAD.now STYLE.now BODY.now BEHIND.now asked.markup) piece.items page.items) }
+        (IsWhole UNNAMED.now HEAD.now STYLE.now BODY.now BEHIND.now asked.markup) piece.items page.items) }
 {
     if asked.fragment {
         return Ok(piece);
@@ -161,7 +161,7 @@ fn around(alloc: Global, asked: Asked, piece: Vec<u8>) -> Result<Vec<u8>, AllocE
 
 /// Puts the page that the bytes become, where it fits.
 fn put_page(alloc: Global, asked: Asked, bytes: &[u8], out: &mut [u8]) -> Stripped
-    ensures { IsPut (IsWhole HEAD.now STYLE.now BODY.now BEHIND.now asked.markup) asked
+    ensures { IsPut (IsWhole UNNAMED.now HEAD.now STYLE.now BODY.now BEHIND.now asked.markup) asked
         bytes.now out.old out.new result ⊎ IsRefused out.old out.new result }
 {
     let Ok(piece) = piece_of(alloc, asked, bytes) else {
@@ -182,7 +182,7 @@ pub extern "C" fn csicodec_html(
     bytes: &[u8],
     out: &mut [u8],
 ) -> Stripped
-    ensures { IsHtml (IsWhole HEAD.now STYLE.now BODY.now BEHIND.now) choices.now colors.now
+    ensures { IsHtml (IsWhole UNNAMED.now HEAD.now STYLE.now BODY.now BEHIND.now) choices.now colors.now
         bytes.now out.old out.new result
         ⊎ IsHtmlRefused choices.now colors.now out.old out.new result }
 {

@@ -7,7 +7,6 @@ ghost use Rattle.csicodec_keys.specs.Keys.{stroke_of};
 ghost use Rattle.csicodec_structs.specs.declared.status.Status.TheVariants as status;
 ghost use Rattle.csicodec_c.specs.Key.{IsKey, IsNoKey, IsRead, encoding_number, happens, key_of, told, used_by, without};
 
-use crate::key_codes::{code_number, code_value};
 use bitflags::Flags;
 use bstr::decode_utf8;
 use csicodec_events::{Dialect, Event, Events, InputEvent, Sent};
@@ -82,8 +81,8 @@ fn told(encoding: Encoding, key: &Key, used: usize) -> Keyed
 {
     Keyed {
         status: Status::Done.number(),
-        code: code_number(key.code),
-        value: code_value(key.code),
+        code: u32::from(key.code.tag()),
+        value: key.code.value(),
         modifiers: u32::from(key.modifiers.bits()),
         event: happens(key.event),
         encoding: encoding_number(encoding),

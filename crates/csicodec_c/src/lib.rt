@@ -7,7 +7,6 @@ mod filter;
 mod html;
 mod input;
 mod key;
-mod key_codes;
 mod known;
 pub mod laws;
 mod osc;

@@ -25,5 +25,5 @@ pub use markup::Markup;
 pub use page::{html, html_with};
 pub use palette::Palette;
 pub use run::{html_all, html_all_with};
-pub use sheet::{BEHIND, BODY, HEAD, RULES, STYLE, front};
+pub use sheet::{BEHIND, BODY, HEAD, RULES, STYLE, UNNAMED, front};
 pub use through::html_through;

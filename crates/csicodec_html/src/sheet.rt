@@ -12,6 +12,9 @@ use csicodec_base::{ColorSpec, SrgbaTuple};
 use csicodec_clean::strip;
 use std::alloc::{AllocError, Global};
 
+/// What a page is called whose text comes from no file.
+pub const UNNAMED: &[u8] = b"Terminal output";
+
 /// What stands ahead of the title of a page.
 pub const HEAD: &str = "<!DOCTYPE html>
 <html lang=\"en\">

@@ -179,8 +179,8 @@ impl KeyCode {
         self.tag() == other.tag() && self.value() == other.value()
     }
 
-    /// The character or the number of a key that has one.
-    fn value(self) -> u32
+    /// The character of a key that types one, the number of a function key, and 0 of any other.
+    pub fn value(self) -> u32
         ensures { result ≡ code_value self }
     {
         match self {
@@ -190,8 +190,8 @@ impl KeyCode {
         }
     }
 
-    /// A number for each kind of key.
-    fn tag(self) -> u8
+    /// Which key it is, whatever its value: 0 for a character, 1 for a function key, and a number of its own for each other.
+    pub fn tag(self) -> u8
         ensures { result ≡ code_tag self }
     {
         match self {

@@ -105,10 +105,14 @@ put limit g l = if fits limit (width g.char (columns l.left)) l then done [] (pl
 
 -- ---- another row
 
--- the columns left of a column, of which the first is 1, or of the cursor: no terminal is wider than 1,024
+-- no terminal has more columns, so a few bytes make no long line
+abbrev pub widest : ℕ
+widest = 1024
+
+-- the columns left of a column, of which the first is 1, or of the cursor
 abbrev pub target : Option ℕ → Line → ℕ
-target None l = min (columns l.left) 1023
-target (Some column) l = min (column - 1) 1023
+target None l = min (columns l.left) (widest - 1)
+target (Some column) l = min (column - 1) (widest - 1)
 
 -- the line, if anything stands in it
 abbrev pub lines_of : Line → List (List Cell)

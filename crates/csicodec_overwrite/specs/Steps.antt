@@ -20,6 +20,7 @@ use Rattle.csicodec_actions.specs.declared.mode.Mode.TheVariants as mode
 use Rattle.csicodec_actions.specs.Actions.{Action}
 use Rattle.csicodec_actions.specs.Actions as action
 use Rattle.csicodec_clean.specs.Shown.{shown}
+use Rattle.csicodec_overwrite.specs.Line.{widest}
 use Rattle.csicodec_overwrite.specs.declared.step.Step.{Step}
 use Rattle.csicodec_overwrite.specs.declared.step.Step.TheVariants as step
 
@@ -56,13 +57,13 @@ of_wrong_byte b = if b == 27 then step.Leave None ∷ [] else []
 abbrev pub of_wrong : List ℕ → List Step
 of_wrong bytes = flat_map of_wrong_byte bytes
 
--- a count or a column goes no further than the widest terminal: so a few bytes make no long line
+-- a count or a column goes no further than the widest terminal
 abbrev pub as_far : ℕ → ℕ
-as_far n = min n 1024
+as_far n = min n widest
 
--- In the line are CUF (8.3.20), CUB (8.3.18), CHA (8.3.9), HPA (8.3.57), HPR (8.3.59) and HPB (8.3.58). To another row, or maybe so, go CUP
--- (8.3.21) and HVP (8.3.63), to a column; CUU (8.3.22), CUD (8.3.19), VPA (8.3.158), VPR (8.3.160), VPB (8.3.159) and CVT (8.3.17), in the same column; and
--- CNL (8.3.12), CPL (8.3.13), DECSTBM, and SCORC, whose column isn't kept, to the first.
+-- In the line are CUF (8.3.20), CUB (8.3.18), CHA (8.3.9), HPA (8.3.57), HPR (8.3.59) and HPB (8.3.58). To another row, or maybe so, go
+-- CUP (8.3.21) and HVP (8.3.63), to a column. CUU (8.3.22), CUD (8.3.19), VPA (8.3.158), VPR (8.3.160), VPB (8.3.159) and CVT (8.3.17)
+-- go there in the same column. CNL (8.3.12), CPL (8.3.13), DECSTBM, and SCORC, whose column isn't kept, go to the first.
 abbrev pub of_cursor : Cursor → List Step
 of_cursor (cursor.Right n) = step.Right (as_far n) ∷ []
 of_cursor (cursor.Left n) = step.Left (as_far n) ∷ []

@@ -12,6 +12,9 @@ use crate::step::Step;
 use csicodec_html::Look;
 use std::alloc::{AllocError, Global};
 
+/// The most columns that a movement or an edit goes: no terminal is wider.
+pub(crate) const WIDEST: u32 = 1024;
+
 /// How characters look that are put behind a step.
 fn look_behind(look: Look, step: Step) -> Look
     ensures { result ≡ look_behind look step }
@@ -221,7 +224,7 @@ impl Line {
             Some(column) => column.saturating_sub(1) as usize,
             None => self.left.columns(),
         };
-        column.min(1023)
+        column.min(WIDEST as usize - 1)
     }
 
     /// Appends what stands on the left, the farthest first, and a newline.

@@ -9,7 +9,7 @@ use csicodec_streams::RunError;
 use std::alloc::Global;
 use std::io::{Read, Write};
 
-/// Reads to the end, and writes each line as it stands when it ends, as plain text. A control sequence that may go to another row ends one.
+/// Reads to the end, and writes each line as it stands when it ends, as plain text. A sequence that may go to another row ends one.
 ///
 /// The errors are those of `csicodec_clean::strip_all`.
 ///

@@ -4,6 +4,7 @@ ghost use Rattle.csicodec_parser.specs.ActionOf.{action_of};
 ghost use Rattle.csicodec_clean.specs.Shown.{IsCut, IsRead};
 ghost use Rattle.csicodec_overwrite.specs.Steps.{as_far, of_action, of_actions, of_char, of_chars, of_control, of_cursor, of_edit, of_escape, of_final, of_mode, of_private_mode, of_run, of_unread, of_wrong, of_wrong_byte};
 
+use crate::line::WIDEST;
 use crate::step::Step;
 use csicodec::{
     CSI, Cursor, DecPrivateMode, DecPrivateModeCode, Edit, EraseInDisplay, EraseInLine, Mode,
@@ -12,9 +13,6 @@ use csicodec_base::Sgr;
 use csicodec_clean::first_sure;
 use csicodec_streams::keep_from;
 use std::alloc::AllocError;
-
-/// The most columns that a movement or an edit goes: no terminal is wider.
-const WIDEST: u32 = 1024;
 
 /// A count or a column, as far as it goes.
 fn as_far(count: u32) -> u32

@@ -184,6 +184,7 @@ fn tell_actions(
             action: &action,
             params,
             control,
+            sent: sheet.style().dialect.is_some(),
         };
         sheet.add_action(span, &Described(&reading), &action)?;
         count = count.saturating_add(1);

@@ -43,12 +43,21 @@ pub struct Reading<'a> {
     pub params: &'a [CsiParam],
     /// Its final character.
     pub control: char,
+    /// Whether it was sent to a program, so that a table of keys was asked whether it is one.
+    pub sent: bool,
+}
+
+impl Reading<'_> {
+    /// Whether the final character is that of keys alone, and yet no key has this list.
+    fn is_no_key(&self) -> bool {
+        self.sent && marker(self.params) == 0 && matches!(self.control, 'u' | '~')
+    }
 }
 
 impl<'a> Describe for Reading<'a> {
     fn describe<W: fmt::Write>(&self, f: &mut fmt::Formatter<W>) -> fmt::Result {
         if let CSI::Unspecified(unknown) = self.action {
-            return if marker(&unknown.params) == marker(self.params) {
+            return if marker(&unknown.params) == marker(self.params) && !self.is_no_key() {
                 unread(f, unknown)
             } else {
                 unknown.describe(f)

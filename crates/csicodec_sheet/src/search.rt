@@ -74,6 +74,10 @@ impl Search {
                 return Ok(true);
             }
         }
+        // What a line shows otherwise than it came begins with a backslash.
+        if !text.contains('\\') {
+            return Ok(false);
+        }
         self.shown.clear();
         let _columns = append_shown(&mut self.shown, span, usize::MAX)?;
         is_in(&mut self.letters, style, text, &self.shown)

@@ -10,7 +10,7 @@ use csicodec_clean::{Cleaner, Depth, Dropped, Kept, Passing, clean_all_with, str
 use csicodec_command::{Colors, Failure, Request, Worker, Wrong};
 use csicodec_compact::{Compact, Compactor, compact_all};
 use csicodec_filter::{Faithful, Filter, NormalForm, filter_all};
-use csicodec_html::{BEHIND, Markup, Palette, front, html_all_with};
+use csicodec_html::{BEHIND, Markup, Palette, UNNAMED, front, html_all_with};
 use csicodec_lines::{Lines, clean_lines_all, strip_lines_all};
 use csicodec_overwrite::{Overwriter, html_overwritten_all, overwrite_all};
 use csicodec_spans::LIMIT;
@@ -44,7 +44,7 @@ pub enum Work<'a> {
     },
     /// A page of this name, which ends behind the last input if it has begun.
     Html {
-        name: &'a str,
+        name: &'a [u8],
         markup: Markup,
         overwrite: bool,
         fragment: bool,
@@ -84,10 +84,10 @@ fn markup_of<'a>(alloc: Global, run: &Request<'a>) -> Result<Markup, Wrong<'a>> 
 }
 
 /// The name of a page: that of its first file, without its folder, and of standard input what it is.
-fn name_of<'a>(files: &[&'a str]) -> &'a str {
+fn name_of<'a>(files: &[&'a str]) -> &'a [u8] {
     match files.first() {
-        None | Some(&"-") => "Terminal output",
-        Some(file) => file.rsplit('/').next().unwrap_or(file),
+        None | Some(&"-") => UNNAMED,
+        Some(file) => file.rsplit('/').next().unwrap_or(file).as_bytes(),
     }
 }
 
@@ -174,7 +174,7 @@ impl<'a> Work<'a> {
         {
             if !*begun {
                 *begun = true;
-                let text = front(alloc, *markup, name.as_bytes()).map_err(no_memory)?;
+                let text = front(alloc, *markup, name).map_err(no_memory)?;
                 return Ok(send(output, &text)?);
             }
         }

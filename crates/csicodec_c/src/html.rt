@@ -9,7 +9,9 @@ ghost use Rattle.csicodec_c.specs.Html.{IsAsked, IsHtml, IsHtmlRefused, IsLined,
 
 use crate::strip::{Stripped, bit_at, put, refused};
 use csicodec_base::SrgbaTuple;
-use csicodec_html::{BEHIND, BODY, HEAD, Markup, Palette, STYLE, UNNAMED, front, given_palette, html_with};
+use csicodec_html::{
+    BEHIND, BODY, HEAD, Markup, Palette, STYLE, UNNAMED, front, given_palette, html_with,
+};
 use csicodec_overwrite::Overwriter;
 use csicodec_structs::Status;
 use std::alloc::{AllocError, Global};

@@ -9,10 +9,10 @@ LANGUAGES = ["C", "Rust", "Python", "JavaScript"]
 ROWS = [
     ("events", "events of a stream", {}),
     ("parser", "a parser that is fed by pieces, and told the end", {}),
-    ("input", "what a terminal sends: keys by their bytes, the mouse, answers, dialects, the pause behind an ESC", {}),
+    ("input", "what a terminal sends, with keys by their bytes, the mouse, answers, dialects and the pause behind an ESC", {}),
     ("keys", "keys as one type", {}),
     ("known", "names and values of sequences without an action, as most keys are", {}),
-    ("osc", "what an OSC says: title, clipboard, link, colours, folder, marks; its whole content up to a limit", {}),
+    ("osc", "what an OSC says, as title, clipboard, link, colours, folder and marks, and its whole content up to a limit", {}),
     ("spans", "spans", {}),
     ("whole", "`strip`, `clean`, `filter`, `compact` of a whole", {}),
     ("stream", "the same as it comes", {}),
@@ -35,7 +35,7 @@ def table(folder):
     def cell(name, notes, language):
         if name not in said[language]:
             return "no"
-        return f"yes; {notes[language]}" if language in notes else "yes"
+        return f"yes, {notes[language]}" if language in notes else "yes"
 
     return BEGIN + "\n".join(f"| {what} | {' | '.join(cell(name, notes, language) for language in LANGUAGES)} |" for name, what, notes in ROWS)
 

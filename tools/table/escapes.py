@@ -110,7 +110,8 @@ def sequences(rows):
 PAGE = """\
 # Escape sequences and character sets
 
-What explain says of each, and the variant of `EscCode` where it has one. A sequence without one is `Unspecified`. A blank stands as SP.
+This page is for you if you look up an escape sequence, or what selects a character set. It has what `explain` says of each, and the variant
+of `EscCode` where it has one. A sequence without one is `Unspecified`. A blank stands as SP.
 
 SEQUENCES
 ## Other sequences by their intermediate bytes
@@ -118,10 +119,13 @@ SEQUENCES
 BETWEEN
 ## Character sets
 
-A set becomes G0 behind `(`, G1 behind `)`, G2 behind `*` and G3 behind `+`; one of 96 characters becomes G1 behind `-`, G2 behind `.` and G3 behind
-`/`; one of several bytes has `$` ahead (ECMA-35, 14.3.2).
+A set becomes G0 behind `(`, G1 behind `)`, G2 behind `*` and G3 behind `+`. One of 96 characters becomes G1 behind `-`, G2 behind `.` and G3
+behind `/`. One of several bytes has `$` ahead. This is ECMA-35, 14.3.2.
 
-SETS"""
+SETS
+Next: [SPECIFICATION](SPECIFICATION.md#escape-sequences) says how an escape sequence is read and written, and [SEQUENCES](SEQUENCES.md) has
+control sequences.
+"""
 
 
 def shown(key):

@@ -113,7 +113,8 @@ def words(said, name, rows, column):
 PAGE = """\
 # Modes
 
-What explain calls each mode, and the variant of `DecPrivateModeCode` or `TerminalModeCode` where it has one. A mode without one is `Unspecified`.
+This page is for you if you look up what `CSI ? 25 h` or another mode does. It has what `explain` calls each mode, and the variant of
+`DecPrivateModeCode` or `TerminalModeCode` where it has one. A mode without one is `Unspecified`.
 
 ## Private modes
 
@@ -124,7 +125,10 @@ PRIVATE
 
 `CSI number h` sets one, and `CSI number l` resets it.
 
-TERMINAL"""
+TERMINAL
+Next: [SPECIFICATION](SPECIFICATION.md#modes) says how a list of modes is read, and [CONTRIBUTING](../CONTRIBUTING.md#a-first-change) how to
+add one.
+"""
 
 
 def page_rows(rows):

@@ -129,18 +129,28 @@ def parts(rows):
 
 PAGE = """# Control sequences without an action
 
-What `Known` of csicodec_sequences reads, written by `tools/table` from `table/sequences.toml`: the name, what stands behind `CSI`, the meaning and the source. `..` is a number that may follow again, up to 12 in all.
+This page is for you if you look up a control sequence that is no action of the codec. [SPECIFICATION](SPECIFICATION.md#forms-by-final)
+has the others, and [MODES](MODES.md) and [SGR](SGR.md) the numbers before `h`, `l` and `m`.
 
-Not among them: kitty's keys with parts behind colons, or with text; modes from 65536 on, whose lists are cut into pieces. SLS is read only as a whole list: a parser cuts it, as it begins like SM.
+These are the rows that `Known` of csicodec_sequences reads. `tools/table` writes them from `table/sequences.toml`. The form is what stands
+behind `CSI`. In it `..` is a number that may follow again, up to 12 in all.
+
+Two kinds of list aren't among them. These are kitty's keys with parts behind colons or with text, and modes from 65536 on, whose lists are
+cut into pieces. SLS is read only as a whole list. A parser cuts it, as it begins like SM.
 
 | name | form | meaning | source |
 |---|---|---|---|
 """
 
+NEXT = """
+Next: [ESCAPES](ESCAPES.md) has escape sequences, and [SPECIFICATION](SPECIFICATION.md#lists-of-the-second-table) says how a list is read by
+these rows.
+"""
+
 
 def page(rows):
     lines = (" | ".join(part.replace("|", "\\|") for part in (row.name, f"`` {row.form.shown()} ``", row.means, row.source)) for row in rows)
-    return PAGE + "".join(f"| {line} |\n" for line in lines)
+    return PAGE + "".join(f"| {line} |\n" for line in lines) + NEXT
 
 
 def files(table):

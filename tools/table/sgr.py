@@ -250,9 +250,13 @@ def words(table):
 PAGE = """\
 # Attributes of text
 
-What each number before `m` sets (SGR), and the variant of `SgrCode` where it has one. A number without one is read by no action.
+This page is for you if you look up a colour or a style. It has what each number before `m` sets (SGR), and the variant of `SgrCode` where it
+has one. A number without one is read by no action.
 
-NUMBERS"""
+NUMBERS
+Next: [SPECIFICATION](SPECIFICATION.md#the-table-of-spellings-before-m) has what may stand behind a number, as the colours behind 38, and
+[CONTRIBUTING](../CONTRIBUTING.md#an-sgr-code) says how to add one.
+"""
 
 
 def sets(table, number):

@@ -209,7 +209,7 @@ def link_library(kit, place, made, folder, room):
         raise Stop(f"release: {made[place, LIBRARY]} has {len(parts)} members, not 1")
     kit.c_object(target, "heap", f"{own}/heap.o", "-fPIC", "-fvisibility=hidden")
     kit.tool("ld.lld", "-r", "-o", f"{own}/whole.o", f"{own}/{parts[0]}", f"{own}/heap.o")
-    kit.tool("llvm-objcopy", "--wildcard", "--localize-symbol=rattle_*", f"{own}/whole.o")
+    kit.tool("llvm-objcopy", "--wildcard", "--localize-symbol=rattle_*", "--strip-unneeded", f"{own}/whole.o")
     kit.tool("llvm-ar", "rcsD", f"{folder}/libcsicodec.a", "whole.o", cwd=own)
     with open(f"{own}/calls.c", "w", encoding="utf-8") as file:
         file.writelines(f"void {name}(void) {{}}\n" for name in C_CALLS)

@@ -15,7 +15,9 @@ def lacks():
 def body(module, room):
     """What wasm2c makes of a module: its struct, and its functions, without what ahead of them is the same for each module, and without
     what it exports behind them."""
-    run("wasm2c", module, "-n", "csicodec", "-o", f"{room}/module.c")
+    with open(f"{room}/module.wasm", "wb") as file:
+        file.write(module)
+    run("wasm2c", f"{room}/module.wasm", "-n", "csicodec", "-o", f"{room}/module.c")
     with open(f"{room}/module.c", encoding="utf-8") as file:
         text = file.read()
     with open(f"{room}/module.h", encoding="utf-8") as file:

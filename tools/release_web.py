@@ -6,6 +6,7 @@ import re
 import shutil
 import sys
 import tempfile
+import zlib
 
 import release_page
 from release_build import ENTRY, LIBRARY, PROGRAM, TOP, Stop, calls, module_of, run, sum_of
@@ -121,7 +122,9 @@ def build_module(kit, source, is_program, to, room):
         text = lowered(file.read())
     with open(f"{own}/crate.ll", "w", encoding="utf-8") as file:
         file.write(text)
-    run(kit.clang, f"--target={TARGET}", "-O3", *FEATURES, "-w", "-ffunction-sections", "-c", f"{own}/crate.ll", "-o", f"{own}/crate.o")
+    # The page carries the program's, which is to be small; the library's is to be fast.
+    level, last = ("-Os", "-Oz") if is_program else ("-O3", "-O3")
+    run(kit.clang, f"--target={TARGET}", level, *FEATURES, "-w", "-ffunction-sections", "-c", f"{own}/crate.ll", "-o", f"{own}/crate.o")
     words = ["-DPROGRAM"] if is_program else []
     objects = [f"{own}/crate.o", *(kit.c_object(TARGET, part, f"{own}/{part}.o", "-fno-builtin", *FEATURES, *words) for part in PARTS)]
     exports = ["run"] if is_program else calls()
@@ -131,21 +134,27 @@ def build_module(kit, source, is_program, to, room):
         held = table_of_32_bits(file.read())
     with open(f"{own}/it.wasm", "wb") as file:
         file.write(held)
-    run("wasm-opt", f"{own}/it.wasm", *ENABLED, "--memory64-lowering", "-O3", "-o", f"{own}/lowered.wasm")
+    run("wasm-opt", f"{own}/it.wasm", *ENABLED, "--memory64-lowering", last, "-o", f"{own}/lowered.wasm")
     shutil.move(f"{own}/lowered.wasm", to)
 
 
 def build(kit, made, to, room):
-    """The page, with the program in it, and the library's module beside it, from what was built for ARM."""
+    """The page, with the program in it, and the library's module, packed, beside it, from what was built for ARM."""
     os.makedirs(to, exist_ok=True)
     for name in MODULES:
         module(kit, made, name, f"{room}/{name}.wasm", room)
-    shutil.copy(f"{room}/csicodec.wasm", to)
+    with open(f"{room}/csicodec.wasm", "rb") as file, open(f"{to}/csicodec.wasm.gz", "wb") as module_file:
+        module_file.write(release_page.packed(file.read()))
     with open(f"{room}/explain.wasm", "rb") as file, open(f"{to}/index.html", "w", encoding="utf-8", newline="") as page:
         page.write(release_page.page(file.read()))
 
 
-def modules_of(page_file):
-    """The modules of the package for node: the library's, which lies beside the page, and the program's, which is in it."""
-    with open(f"{os.path.dirname(page_file)}/csicodec.wasm", "rb") as file:
-        return {"csicodec": file.read(), "explain": release_page.program_of(page_file)}
+def library_of(dist):
+    """The library's module, which lies beside the page."""
+    with open(f"{dist}/web/csicodec.wasm.gz", "rb") as file:
+        return zlib.decompress(file.read(), 31)
+
+
+def modules_of(dist):
+    """The modules of the package for node: the library's, and the program's, which is in the page."""
+    return {"csicodec": library_of(dist), "explain": release_page.program_of(f"{dist}/web/index.html")}

@@ -7,6 +7,9 @@ from kinds_source import source_name
 from kinds_specs import names_in
 from kinds_table import PATH
 
+# What serde reads and writes, if it is asked for.
+SERDE = '#[cfg_attr(feature = "serde", derive(serde::Serialize, serde::Deserialize))]\n'
+
 # What has a variant more in no later version; the others grow as terminals do.
 CLOSED = {"Font", "ColorSpec", "CsiParam", "DecPrivateMode", "TerminalMode", "DeviceAttribute", "Esc"}
 
@@ -41,11 +44,13 @@ def rust_types(subject, sources):
     out = f"//! {subject}, under the names of the library and with its documentation. Written by tools/kinds.\n"
     if others:
         out += f"\nuse crate::{{{', '.join(sorted(others))}}};\n"
+    if any("Box<" in body for _, _, _, body in declared(sources)):
+        out += "use alloc::boxed::Box;\n"
     for name, docs, derives, body in declared(sources):
         derives = "Clone, Debug, PartialEq, Eq, Hash" if "Drop" in derives else "Clone, Copy, Debug, PartialEq, Eq, Hash"
         growing = ("" if name in CLOSED else "#[non_exhaustive]\n") + ("#[repr(u8)]\n" if name in TAGGED else "")
         body = boxed_last(body) if name in TAGGED else body
-        out += f"\n{docs}#[derive({derives})]\n{growing}pub enum {name} {{\n{body}}}\n"
+        out += f"\n{docs}#[derive({derives})]\n{SERDE}{growing}pub enum {name} {{\n{body}}}\n"
         rows_ = numbers_of(name, body)
         if not rows_:
             continue
@@ -121,6 +126,7 @@ def rust_rows():
 use crate::numbers::{color_row, count, extended_row, extensions, first, flags, font, font_number, graphics, graphics_row, index, place, report_row, rgba, row, second, sized_row, sure, tokens, unknown, unknown_row};
 use crate::raw::{Action, Param};
 use crate::*;
+use alloc::{boxed::Box, vec::Vec};
 """
     for group in BY_NUMBER:
         more = ", params: &mut Vec<Param>" if has_tokens(group) else ""

@@ -7,6 +7,7 @@ from kinds_library import TOP, snake
 sys.path.insert(0, os.path.join(TOP, "tools/table"))
 import keys  # noqa: E402
 import osc  # noqa: E402
+from kinds_rust import SERDE  # noqa: E402
 from read import rows_of  # noqa: E402
 
 PREFIXES = {"OscKind": "CSICODEC_OSC_", "KeyCode": "CSICODEC_KEY_"}
@@ -44,7 +45,7 @@ def c_enumerations(comment):
 def rust_osc():
     """rust/src/osc_kinds.rs."""
     _, docs, rows = next(said_enumerations())
-    out = f"//! The commands of OSC. Written by tools/kinds.\n\n/// {docs} The numbers are those of `enum csicodec_osc_kind`.\n#[derive(Clone, Copy, Debug, PartialEq, Eq, Hash)]\n#[non_exhaustive]\npub enum OscKind {{\n"
+    out = f"//! The commands of OSC. Written by tools/kinds.\n\n/// {docs} The numbers are those of `enum csicodec_osc_kind`.\n#[derive(Clone, Copy, Debug, PartialEq, Eq, Hash)]\n{SERDE}#[non_exhaustive]\npub enum OscKind {{\n"
     out += "".join(f"    /// {said}\n    {variant} = {number},\n" for variant, number, said in rows)
     out += "}\n\nimpl OscKind {\n    /// The command of a number.\n    pub(crate) fn of(number: u32) -> OscKind {\n        match number {\n"
     out += "".join(f"            {number} => OscKind::{variant},\n" for variant, number, _ in rows[1:])
@@ -55,7 +56,7 @@ def rust_keys():
     """rust/src/key_codes.rs."""
     _, docs, rows = list(said_enumerations())[1]
     values = {"Char": "(char)", "F": "(u8)"}
-    out = f"//! Keys. Written by tools/kinds.\n\n/// {docs}\n#[derive(Clone, Copy, Debug, PartialEq, Eq, Hash)]\n#[non_exhaustive]\npub enum KeyCode {{\n"
+    out = f"//! Keys. Written by tools/kinds.\n\n/// {docs}\n#[derive(Clone, Copy, Debug, PartialEq, Eq, Hash)]\n{SERDE}#[non_exhaustive]\npub enum KeyCode {{\n"
     out += "".join(f"    /// {said}\n    {variant}{values.get(variant, '')},\n" for variant, _, said in rows)
     out += "}\n\nimpl KeyCode {\n    /// The key of a number, and its value.\n    pub(crate) fn of(number: u32, value: u32) -> KeyCode {\n        match number {\n"
     out += "            1 => KeyCode::F(value as u8),\n" + "".join(f"            {number} => KeyCode::{variant},\n" for variant, number, _ in rows[2:])

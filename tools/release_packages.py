@@ -98,7 +98,7 @@ def rust(dist, out, room):
         portable_c.write(library_of(dist), f"{room}/rust/sys/portable/csicodec-portable.c", room)
         copy(HEADERS, f"{room}/rust/sys/portable/include")
     copy([f"{dist}/NOTICE"], f"{room}/rust/sys")
-    run("cargo", "package", "--workspace", "--offline", "--no-verify", "--quiet", "--target-dir", f"{room}/target", cwd=f"{room}/rust")
+    run("cargo", "package", "--workspace", "--offline", "--no-verify", "--exclude-lockfile", "--quiet", "--target-dir", f"{room}/target", cwd=f"{room}/rust")
     for name in ("csicodec-sys", "csicodec"):
         made = f"{name}-{version()}.crate"
         if os.path.getsize(f"{room}/target/package/{made}") > 1_000_000:

@@ -5,6 +5,7 @@ use crate::{
     DeviceAttributeFlags, EraseInDisplay, EraseInLine, KittyKeyboardFlags, Modifiers, OneBased,
     Sgr, TabulationClear, TerminalModeCode, Unspecified, XtSmGraphics,
 };
+use alloc::boxed::Box;
 
 /// What a sequence does with the cursor, with tab stops or with margins. The unit is the cell of one character. Counts
 /// are 1 or more where they were read; a terminal takes 0 for 1, and so `Up(0)` is written `0A` and read back as
@@ -17,6 +18,7 @@ use crate::{
 /// "\x1b[6n"          RequestActivePositionReport
 /// ```
 #[derive(Clone, Copy, Debug, PartialEq, Eq, Hash)]
+#[cfg_attr(feature = "serde", derive(serde::Serialize, serde::Deserialize))]
 #[non_exhaustive]
 pub enum Cursor {
     /// CUU (ECMA-48, 8.3.22): this many lines up.
@@ -110,6 +112,7 @@ pub enum Cursor {
 /// "\x1b[3L"          InsertLine(3)
 /// ```
 #[derive(Clone, Copy, Debug, PartialEq, Eq, Hash)]
+#[cfg_attr(feature = "serde", derive(serde::Serialize, serde::Deserialize))]
 #[non_exhaustive]
 pub enum Edit {
     /// ICH (ECMA-48, 8.3.64): this many blanks at the cursor, and what stood there moves to the right.
@@ -141,6 +144,7 @@ pub enum Edit {
 /// DecPrivateMode::from(7777)         // Unspecified(7777)
 /// ```
 #[derive(Clone, Copy, Debug, PartialEq, Eq, Hash)]
+#[cfg_attr(feature = "serde", derive(serde::Serialize, serde::Deserialize))]
 pub enum DecPrivateMode {
     /// One that has a name.
     Code(DecPrivateModeCode),
@@ -156,6 +160,7 @@ pub enum DecPrivateMode {
 /// TerminalMode::from(99)             // Unspecified(99)
 /// ```
 #[derive(Clone, Copy, Debug, PartialEq, Eq, Hash)]
+#[cfg_attr(feature = "serde", derive(serde::Serialize, serde::Deserialize))]
 pub enum TerminalMode {
     /// One that has a name.
     Code(TerminalModeCode),
@@ -166,6 +171,7 @@ pub enum TerminalMode {
 
 /// Which keys `XtermKeyMode` is about (xterm, XTMODKEYS).
 #[derive(Clone, Copy, Debug, PartialEq, Eq, Hash)]
+#[cfg_attr(feature = "serde", derive(serde::Serialize, serde::Deserialize))]
 #[non_exhaustive]
 pub enum XtermKeyModifierResource {
     /// `modifyKeyboard`, number 0.
@@ -210,6 +216,7 @@ impl XtermKeyModifierResource {
 /// "\x1b[>4;2m"       XtermKeyMode { resource: OtherKeys, value: Some(2) }
 /// ```
 #[derive(Clone, Copy, Debug, PartialEq, Eq, Hash)]
+#[cfg_attr(feature = "serde", derive(serde::Serialize, serde::Deserialize))]
 #[non_exhaustive]
 pub enum Mode {
     /// DECSET (xterm's name; SM in DEC VT510): the private mode is set.
@@ -239,6 +246,7 @@ pub enum Mode {
 
 /// One extension that a terminal says it has.
 #[derive(Clone, Copy, Debug, PartialEq, Eq, Hash)]
+#[cfg_attr(feature = "serde", derive(serde::Serialize, serde::Deserialize))]
 pub enum DeviceAttribute {
     /// One that has a name.
     Code(DeviceAttributeCodes),
@@ -248,6 +256,7 @@ pub enum DeviceAttribute {
 
 /// The answer to the primary device attributes (DA1; ECMA-48, 8.3.24): which terminal of DEC it is, or is like.
 #[derive(Clone, Debug, PartialEq, Eq, Hash)]
+#[cfg_attr(feature = "serde", derive(serde::Serialize, serde::Deserialize))]
 #[non_exhaustive]
 pub enum DeviceAttributes {
     /// `? 1 ; 2`: a VT100 with the advanced video option.
@@ -272,6 +281,7 @@ pub enum DeviceAttributes {
 /// "\x1b[!p"          SoftReset
 /// ```
 #[derive(Clone, Debug, PartialEq, Eq, Hash)]
+#[cfg_attr(feature = "serde", derive(serde::Serialize, serde::Deserialize))]
 #[non_exhaustive]
 pub enum Device {
     /// DA1 (ECMA-48, 8.3.24; DEC VT100 and up): the answer to the primary device attributes.
@@ -299,6 +309,7 @@ pub enum Device {
 
 /// What of the graphics is asked for or set: the first number of XTSMGRAPHICS (xterm's ctlseqs).
 #[derive(Clone, Copy, Debug, PartialEq, Eq, Hash)]
+#[cfg_attr(feature = "serde", derive(serde::Serialize, serde::Deserialize))]
 #[non_exhaustive]
 pub enum XtSmGraphicsItem {
     /// 1: how many colour registers there are.
@@ -313,6 +324,7 @@ pub enum XtSmGraphicsItem {
 
 /// What is done with the item: the second number of XTSMGRAPHICS, where it is a request.
 #[derive(Clone, Copy, Debug, PartialEq, Eq, Hash)]
+#[cfg_attr(feature = "serde", derive(serde::Serialize, serde::Deserialize))]
 #[non_exhaustive]
 pub enum XtSmGraphicsAction {
     /// 1: it is asked for.
@@ -350,6 +362,7 @@ impl XtSmGraphicsAction {
 
 /// What became of the request: the second number of XTSMGRAPHICS, where it is an answer.
 #[derive(Clone, Copy, Debug, PartialEq, Eq, Hash)]
+#[cfg_attr(feature = "serde", derive(serde::Serialize, serde::Deserialize))]
 #[non_exhaustive]
 pub enum XtSmGraphicsStatus {
     /// 0: it was done, and the values follow.
@@ -387,6 +400,7 @@ impl XtSmGraphicsStatus {
 
 /// A button.
 #[derive(Clone, Copy, Debug, PartialEq, Eq, Hash)]
+#[cfg_attr(feature = "serde", derive(serde::Serialize, serde::Deserialize))]
 #[non_exhaustive]
 pub enum MouseButton {
     /// Button 1, the left one: it goes down.
@@ -485,6 +499,7 @@ impl MouseButton {
 /// "\x1b[<4;5;6m"     SGR1006 { x: 5, y: 6, button: Button1Release, modifiers: SHIFT }
 /// ```
 #[derive(Clone, Copy, Debug, PartialEq, Eq, Hash)]
+#[cfg_attr(feature = "serde", derive(serde::Serialize, serde::Deserialize))]
 #[non_exhaustive]
 pub enum MouseReport {
     /// In cells.
@@ -526,6 +541,7 @@ pub enum MouseReport {
 /// "\x1b[1;1;1;1;9;9*y"       ChecksumRectangularArea of request 1 and page 1, from line 1 and column 1 to 9 and 9
 /// ```
 #[derive(Clone, Copy, Debug, PartialEq, Eq, Hash)]
+#[cfg_attr(feature = "serde", derive(serde::Serialize, serde::Deserialize))]
 #[non_exhaustive]
 pub enum Window {
     /// 1: the window is opened again, if it was an icon.
@@ -639,6 +655,7 @@ pub enum Window {
 
 /// How flags change what the keyboard reports.
 #[derive(Clone, Copy, Debug, PartialEq, Eq, Hash)]
+#[cfg_attr(feature = "serde", derive(serde::Serialize, serde::Deserialize))]
 #[non_exhaustive]
 pub enum KittyKeyboardMode {
     /// They take the place of the old ones.
@@ -678,6 +695,7 @@ impl KittyKeyboardMode {
 /// "\x1b[?u"          QueryKittySupport
 /// ```
 #[derive(Clone, Copy, Debug, PartialEq, Eq, Hash)]
+#[cfg_attr(feature = "serde", derive(serde::Serialize, serde::Deserialize))]
 #[non_exhaustive]
 pub enum Keyboard {
     /// The flags change in this way.
@@ -704,6 +722,7 @@ pub enum Keyboard {
 
 /// SCP (ECMA-48, 8.3.111): the path of characters.
 #[derive(Clone, Copy, Debug, PartialEq, Eq, Hash)]
+#[cfg_attr(feature = "serde", derive(serde::Serialize, serde::Deserialize))]
 #[non_exhaustive]
 pub enum CharacterPath {
     /// As the terminal has it: 0, or no number, of freedesktop's recommendation on bidirectional text; ECMA-48 has 1 and 2 alone.
@@ -739,6 +758,7 @@ impl CharacterPath {
 ///
 /// The bytes `ESC [ 3 8 ; 0 5 ; 1 m` have the tokens 38, `;`, 5, `;` and 1.
 #[derive(Clone, Copy, Debug, PartialEq, Eq, Hash)]
+#[cfg_attr(feature = "serde", derive(serde::Serialize, serde::Deserialize))]
 pub enum CsiParam {
     /// The number of a longest run of digits. What is read is from 0 to `i64::MAX`, and doesn't tell
     /// how many zeros led it; a number below 0 can be made and printed, and is never read.
@@ -756,6 +776,7 @@ pub enum CsiParam {
 /// CSI::from(Mode::SetDecPrivateMode(DecPrivateMode::from(2004)))   // "\x1b[?2004h"
 /// ```
 #[derive(Clone, Debug, PartialEq, Eq, Hash)]
+#[cfg_attr(feature = "serde", derive(serde::Serialize, serde::Deserialize))]
 #[non_exhaustive]
 #[repr(u8)]
 pub enum CSI {

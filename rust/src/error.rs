@@ -1,5 +1,5 @@
 //! What can be wrong with bytes or actions.
-use std::fmt;
+use core::fmt;
 
 /// Why bytes aren't sequences one after the other, or why actions have no texts. The refused sequence begins at `start`, and `at` is the
 /// place of the fault, counted from there.
@@ -57,7 +57,7 @@ impl fmt::Display for Error {
     }
 }
 
-impl std::error::Error for Error {}
+impl core::error::Error for Error {}
 
 pub(crate) fn refusal(status: u32, start: usize, at: usize) -> Error {
     match status {

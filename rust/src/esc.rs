@@ -4,6 +4,7 @@
 ///
 /// It prints ESC and its characters.
 #[derive(Clone, Copy, Debug, PartialEq, Eq, Hash)]
+#[cfg_attr(feature = "serde", derive(serde::Serialize, serde::Deserialize))]
 pub enum Esc {
     /// Two bytes that are no [`EscCode`]. Each is printed as the character of that number, from
     /// U+0000 to U+00FF.
@@ -19,6 +20,7 @@ pub enum Esc {
 
 /// The codes of escape sequences. A code's number is that of its last character, and 256 times that of the one before it, if any.
 #[derive(Clone, Copy, Debug, PartialEq, Eq, Hash)]
+#[cfg_attr(feature = "serde", derive(serde::Serialize, serde::Deserialize))]
 #[non_exhaustive]
 pub enum EscCode {
     /// `ESC c`, RIS (ECMA-48): puts the terminal into the state that it has when it is switched on.

@@ -4,6 +4,7 @@ use crate::{CSI, Esc};
 
 /// What opened a control string.
 #[derive(Clone, Copy, Debug, PartialEq, Eq, Hash)]
+#[cfg_attr(feature = "serde", derive(serde::Serialize, serde::Deserialize))]
 #[non_exhaustive]
 pub enum StringKind {
     /// `ESC P`, a device control string.
@@ -20,6 +21,7 @@ pub enum StringKind {
 
 /// An event of a stream.
 #[derive(Clone, Debug, PartialEq, Eq)]
+#[cfg_attr(feature = "serde", derive(serde::Serialize))]
 #[non_exhaustive]
 pub enum Event<'a> {
     /// Characters, C0 controls other than ESC, and DEL: [`characters`](crate::characters) gives them one by one. A UTF-8 character is

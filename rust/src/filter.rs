@@ -3,7 +3,8 @@
 use crate::pending::{LIMIT, Pending, Step};
 use crate::strip::left_bytes;
 use crate::{Error, raw};
-use std::num::NonZeroUsize;
+use alloc::vec::Vec;
+use core::num::NonZeroUsize;
 
 /// Rewrites a terminal's stream as it comes: each control sequence in its normal form, or in the shortest spelling that is found, and
 /// every other byte as it was. It doesn't matter how the stream is cut into slices.

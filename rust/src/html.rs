@@ -2,10 +2,11 @@
 
 use crate::strip::left;
 use crate::{Error, raw};
-use std::io::{self, ErrorKind, Write};
+use alloc::{string::String, vec::Vec};
 
 /// The colours of a page.
 #[derive(Clone, Copy, Debug, PartialEq, Eq, Hash)]
+#[cfg_attr(feature = "serde", derive(serde::Serialize, serde::Deserialize))]
 pub struct Palette {
     /// Those of the places 0 to 15, as red, green and blue.
     pub first: [(u8, u8, u8); 16],
@@ -23,6 +24,7 @@ pub struct Palette {
 /// # Ok::<(), csicodec::Error>(())
 /// ```
 #[derive(Clone, Copy, Debug, Default, PartialEq, Eq, Hash)]
+#[cfg_attr(feature = "serde", derive(serde::Serialize, serde::Deserialize))]
 pub struct Markup {
     /// Whether links (OSC 8) become links, if the address is one of http or https, of visible ASCII and at most 2,083 bytes. Text is then
     /// kept as with `no_overwrite`.
@@ -56,15 +58,6 @@ impl Markup {
             bytes.as_ref(),
         )
     }
-
-    /// A writer that writes the page of all that is written to it, at its end.
-    pub fn writer<W: Write>(self, to: W) -> HtmlWriter<W> {
-        HtmlWriter {
-            markup: self,
-            to,
-            held: Vec::new(),
-        }
-    }
 }
 
 /// Untrusted bytes as a page of HTML, as [`Markup::html`] makes it of them by default.
@@ -91,43 +84,4 @@ pub fn overwrite(bytes: impl AsRef<[u8]>) -> Result<String, Error> {
 /// The same with the sequences (SGR) that set how characters look; at the end of each line none is set.
 pub fn overwrite_styled(bytes: impl AsRef<[u8]>) -> Result<String, Error> {
     left(|bytes, out| raw::overwrite(1, bytes, out), bytes.as_ref())
-}
-
-/// Holds the bytes that are written to it; [`HtmlWriter::finish`] writes the page of them.
-///
-/// ```
-/// use csicodec::Markup;
-/// use std::io::Write;
-///
-/// let mut page = Markup { fragment: true, ..Markup::default() }.writer(Vec::new());
-/// write!(page, "\x1b[3m{}", "slanted")?;
-/// assert_eq!(page.finish()?, b"<span style=\"font-style:italic;\">slanted</span>");
-/// # Ok::<(), std::io::Error>(())
-/// ```
-#[derive(Debug)]
-pub struct HtmlWriter<W: Write> {
-    markup: Markup,
-    to: W,
-    held: Vec<u8>,
-}
-
-impl<W: Write> HtmlWriter<W> {
-    /// Writes the page, and gives the writer behind it back, which isn't flushed.
-    pub fn finish(mut self) -> io::Result<W> {
-        let no_memory = |_| io::Error::from(ErrorKind::OutOfMemory);
-        let page = self.markup.html(&self.held).map_err(no_memory)?;
-        self.to.write_all(page.as_bytes())?;
-        Ok(self.to)
-    }
-}
-
-impl<W: Write> Write for HtmlWriter<W> {
-    fn write(&mut self, bytes: &[u8]) -> io::Result<usize> {
-        self.held.extend_from_slice(bytes);
-        Ok(bytes.len())
-    }
-
-    fn flush(&mut self) -> io::Result<()> {
-        Ok(())
-    }
 }

@@ -6,6 +6,7 @@ use crate::raw::{self, Received, Told};
 
 /// How a terminal reports the mouse, where it doesn't by a control sequence.
 #[derive(Clone, Copy, Debug, PartialEq, Eq, Hash)]
+#[cfg_attr(feature = "serde", derive(serde::Serialize, serde::Deserialize))]
 #[non_exhaustive]
 pub enum Dialect {
     /// The three characters of a report are a byte each.
@@ -16,6 +17,7 @@ pub enum Dialect {
 
 /// An event of what a terminal sends.
 #[derive(Clone, Debug, PartialEq, Eq)]
+#[cfg_attr(feature = "serde", derive(serde::Serialize))]
 #[non_exhaustive]
 pub enum InputEvent<'a> {
     /// What output has too: text, an action of a control sequence, a piece of a string, ..
@@ -148,7 +150,7 @@ impl<'a> Iterator for Inputs<'a> {
         if event.is_some() || self.rest.is_empty() {
             return event;
         }
-        let held = std::mem::take(&mut self.rest);
+        let held = core::mem::take(&mut self.rest);
         let key = self.reader.pause(held);
         Some(key.unwrap_or(InputEvent::Output(Event::Other(held))))
     }

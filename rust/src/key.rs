@@ -2,12 +2,14 @@
 
 pub use crate::key_codes::KeyCode;
 use crate::{KeyModifiers, raw};
+use alloc::string::String;
 
 /// How many characters a key types at most.
 const MOST: usize = 32;
 
 /// What happens to a key.
 #[derive(Clone, Copy, Debug, PartialEq, Eq, Hash)]
+#[cfg_attr(feature = "serde", derive(serde::Serialize, serde::Deserialize))]
 pub enum KeyEvent {
     /// It goes down. All encodings but kitty's and Win32's know only this.
     Press,
@@ -19,6 +21,7 @@ pub enum KeyEvent {
 
 /// How a terminal said which key it is.
 #[derive(Clone, Copy, Debug, PartialEq, Eq, Hash)]
+#[cfg_attr(feature = "serde", derive(serde::Serialize, serde::Deserialize))]
 #[non_exhaustive]
 pub enum KeyEncoding {
     /// Characters, controls, ESC ahead for alt, SS3 and xterm's control sequences with modifiers.
@@ -44,6 +47,7 @@ pub enum KeyEncoding {
 /// assert_eq!((key.code, key.modifiers), (KeyCode::Up, KeyModifiers::CTRL));
 /// ```
 #[derive(Clone, Debug, PartialEq, Eq, Hash)]
+#[cfg_attr(feature = "serde", derive(serde::Serialize, serde::Deserialize))]
 pub struct Key {
     /// Which key.
     pub code: KeyCode,

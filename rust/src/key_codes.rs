@@ -2,6 +2,7 @@
 
 /// Which key it is. The same key of the keypad is another one.
 #[derive(Clone, Copy, Debug, PartialEq, Eq, Hash)]
+#[cfg_attr(feature = "serde", derive(serde::Serialize, serde::Deserialize))]
 #[non_exhaustive]
 pub enum KeyCode {
     /// The key of a character, as it types it without modifiers: `a`, also where shift makes it `A`. Where the encoding says only what is typed, it is that.

@@ -2,9 +2,11 @@
 
 use crate::numbers::unknown_row;
 use crate::{Unspecified, raw};
+use alloc::vec::Vec;
 
 /// Which sequence it is: a row of docs/SEQUENCES.md. The names are those of `enum csicodec_known_kind` in C.
 #[derive(Clone, Copy, Debug, PartialEq, Eq, Hash)]
+#[cfg_attr(feature = "serde", derive(serde::Serialize))]
 pub struct KnownKind(pub(crate) u32);
 
 impl KnownKind {

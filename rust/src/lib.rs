@@ -10,6 +10,11 @@
 //! # Ok::<(), csicodec::Error>(())
 //! ```
 #![deny(missing_docs)]
+#![no_std]
+
+extern crate alloc;
+#[cfg(feature = "std")]
+extern crate std;
 
 mod actions;
 mod error;
@@ -19,6 +24,8 @@ mod events;
 mod filter;
 mod html;
 mod input;
+#[cfg(feature = "std")]
+mod io;
 mod key;
 mod key_codes;
 mod kinds;
@@ -46,23 +53,26 @@ pub use esc::{Esc, EscCode};
 pub use event::{Event, StringKind};
 pub use events::{Events, events};
 pub use filter::{Filter, compact, compact_semicolons, filter};
-pub use html::{HtmlWriter, Markup, Palette, html, overwrite, overwrite_styled};
+pub use html::{Markup, Palette, html, overwrite, overwrite_styled};
 pub use input::{Dialect, InputEvent, Inputs, inputs};
+#[cfg(feature = "std")]
+pub use io::{CleanWriter, HtmlWriter};
 pub use key::{Key, KeyCode, KeyEncoding, KeyEvent, Keys, keys};
 pub use known::{Known, KnownKind};
 pub use osc::{Osc, OscKind, OscReader};
 pub use parser::Parser;
 pub use pen::Pen;
 pub use spans::{Span, SpanKind, Spans, spans};
-pub use strip::{CleanWriter, Cleaner, Depth, Passing, clean, clean_with, strip};
+pub use strip::{Cleaner, Depth, Passing, clean, clean_with, strip};
 pub use text::characters;
 pub use types::*;
 pub use values::*;
 
+use alloc::{vec, vec::Vec};
+use core::fmt;
 use csicodec_sys as raw;
 use error::refusal;
 use room::Room;
-use std::fmt;
 
 /// The normal form of the bytes, which are control sequences one after the other: one sequence for each action.
 pub fn normalise(bytes: &[u8]) -> Result<Vec<u8>, Error> {
@@ -326,6 +336,6 @@ impl fmt::Display for CSI {
             }
             _ => return Err(fmt::Error),
         };
-        f.write_str(std::str::from_utf8(text).map_err(|_| fmt::Error)?)
+        f.write_str(core::str::from_utf8(text).map_err(|_| fmt::Error)?)
     }
 }

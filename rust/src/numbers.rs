@@ -6,6 +6,7 @@ use crate::{
     KittyKeyboardFlags, Modifiers, MouseButton, OneBased, SrgbaTuple, Unspecified, XtSmGraphics,
     XtSmGraphicsItem,
 };
+use alloc::vec::Vec;
 
 /// What is in a struct that the library made: it makes no other.
 #[inline(always)]

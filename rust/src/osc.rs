@@ -2,6 +2,7 @@
 
 pub use crate::osc_kinds::OscKind;
 use crate::{Event, StringKind, raw};
+use alloc::vec::Vec;
 
 /// What an OSC says: its command, and the texts behind that, as they stand there.
 ///
@@ -13,6 +14,7 @@ use crate::{Event, StringKind, raw};
 /// assert_eq!(Osc::read(b"4;1;?;2;red").fields().count(), 4);
 /// ```
 #[derive(Clone, Copy, Debug, PartialEq, Eq)]
+#[cfg_attr(feature = "serde", derive(serde::Serialize))]
 pub struct Osc<'a> {
     /// The command.
     pub kind: OscKind,

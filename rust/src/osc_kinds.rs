@@ -2,6 +2,7 @@
 
 /// Which command an OSC is. The numbers are those of `enum csicodec_osc_kind`.
 #[derive(Clone, Copy, Debug, PartialEq, Eq, Hash)]
+#[cfg_attr(feature = "serde", derive(serde::Serialize, serde::Deserialize))]
 #[non_exhaustive]
 pub enum OscKind {
     /// What no command reads; its text is all of it.

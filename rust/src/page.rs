@@ -1,7 +1,7 @@
 //! What actions mean on a page of so many lines and columns, counted from 0.
 
 use crate::{Cursor, Edit, EraseInDisplay, EraseInLine, OneBased};
-use std::ops::Range;
+use core::ops::Range;
 
 fn steps(count: u32) -> usize {
     usize::try_from(count).unwrap_or(usize::MAX)

@@ -2,7 +2,7 @@
 
 use crate::events::Reader;
 use crate::{Dialect, Event, InputEvent};
-use std::io::{self, ErrorKind, Read};
+use alloc::vec::Vec;
 
 /// Reads a stream that comes in pieces. How it is cut changes only where text, strings and malformed controls are cut; it never cuts
 /// a character of text. A stream is UTF-8: bytes 80 to 9f are text, never 8-bit controls, so 9b isn't CSI.
@@ -85,26 +85,6 @@ impl Parser {
     pub fn finish<F: FnMut(Event<'_>)>(mut self, tell: &mut F) {
         self.reader.ends = true;
         run(&mut self.reader, &self.held, tell);
-    }
-
-    /// Reads to the end, in pieces, and passes each event, at last what is held. After an `Err`, which is the reader's, what is held
-    /// isn't passed.
-    pub fn read_to_end<F: FnMut(Event<'_>)>(
-        mut self,
-        mut from: impl Read,
-        tell: &mut F,
-    ) -> io::Result<()> {
-        let mut piece = [0; 4096];
-        loop {
-            match from.read(&mut piece) {
-                Ok(0) => break,
-                Ok(count) => self.advance(&piece[..count], tell),
-                Err(error) if error.kind() == ErrorKind::Interrupted => {}
-                Err(error) => return Err(error),
-            }
-        }
-        self.finish(tell);
-        Ok(())
     }
 }
 

@@ -1,7 +1,7 @@
 //! The attributes of text, as a terminal keeps them.
 
 use crate::{Blink, CSI, ColorSpec, Font, Intensity, Sgr, Underline, VerticalAlign};
-use std::fmt;
+use core::fmt;
 
 /// The attributes of text, each by its last action. A terminal keeps one for the next characters, and one with each character on its
 /// page. Two are equal exactly if text looks alike with them, in whichever order they were set.
@@ -112,7 +112,7 @@ impl Pen {
 /// Writes the sequences that set these attributes and no others, whatever was set before: a reset, and then each attribute.
 impl fmt::Display for Pen {
     fn fmt(&self, f: &mut fmt::Formatter<'_>) -> fmt::Result {
-        std::iter::once(Sgr::Reset)
+        core::iter::once(Sgr::Reset)
             .chain(self.attributes())
             .try_for_each(|sgr| CSI::from(sgr).fmt(f))
     }

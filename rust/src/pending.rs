@@ -1,6 +1,7 @@
 //! Bytes of a stream that wait for more.
 
 use crate::Error;
+use alloc::vec::Vec;
 
 /// The most bytes that a control sequence may have.
 pub(crate) const LIMIT: usize = 65536;
@@ -45,7 +46,7 @@ impl Pending {
     ) -> Result<Option<T>, Error> {
         self.bytes.extend_from_slice(bytes);
         let sequence = &self.bytes[self.held..];
-        let looked = std::mem::replace(&mut self.looked, sequence.len());
+        let looked = core::mem::replace(&mut self.looked, sequence.len());
         if sequence.len() < limit && goes_on(sequence, looked) {
             return Ok(None);
         }

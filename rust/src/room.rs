@@ -2,6 +2,7 @@
 
 use crate::pending::LIMIT;
 use crate::{CSI, Event, raw, rows};
+use alloc::{vec, vec::Vec};
 
 /// For how many structs, and how many tokens, there is room at first.
 const NEAR: usize = 16;

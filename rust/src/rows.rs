@@ -7,6 +7,7 @@ use crate::numbers::{
 };
 use crate::raw::{Action, Param};
 use crate::*;
+use alloc::{boxed::Box, vec::Vec};
 
 fn sgr_struct(sgr: &Sgr) -> Action {
     match sgr {

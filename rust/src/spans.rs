@@ -5,6 +5,7 @@ use crate::raw;
 
 /// What a span is.
 #[derive(Clone, Copy, Debug, PartialEq, Eq, Hash)]
+#[cfg_attr(feature = "serde", derive(serde::Serialize, serde::Deserialize))]
 #[non_exhaustive]
 pub enum SpanKind {
     /// Characters, C0 controls other than ESC, and DEL.
@@ -21,6 +22,7 @@ pub enum SpanKind {
 
 /// Some bytes of a stream, and what they are.
 #[derive(Clone, Copy, Debug, PartialEq, Eq)]
+#[cfg_attr(feature = "serde", derive(serde::Serialize))]
 pub struct Span<'a> {
     /// What they are.
     pub kind: SpanKind,

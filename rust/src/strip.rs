@@ -2,7 +2,7 @@
 
 use crate::pending::{LIMIT, Pending, Step};
 use crate::{Error, raw};
-use std::io::{self, ErrorKind, Read, Write};
+use alloc::{string::String, vec, vec::Vec};
 
 /// The plain text of untrusted bytes, with no control but newline and tab. Bytes that aren't UTF-8 become U+FFFD. `Err` is
 /// [`Error::Memory`].
@@ -28,6 +28,7 @@ pub fn clean(bytes: impl AsRef<[u8]>) -> Result<String, Error> {
 
 /// Which colours stay.
 #[derive(Clone, Copy, Debug, Default, PartialEq, Eq, Hash)]
+#[cfg_attr(feature = "serde", derive(serde::Serialize, serde::Deserialize))]
 #[non_exhaustive]
 pub enum Depth {
     /// All, as they are.
@@ -51,6 +52,7 @@ impl Depth {
 
 /// What passes besides text.
 #[derive(Clone, Copy, Debug, Default, PartialEq, Eq, Hash)]
+#[cfg_attr(feature = "serde", derive(serde::Serialize, serde::Deserialize))]
 pub struct Passing {
     /// Which colours stay.
     pub depth: Depth,
@@ -180,106 +182,5 @@ impl Cleaner {
         }
         out.extend_from_slice(&end[..answer.needed]);
         Ok(())
-    }
-
-    /// A writer that passes on what is left of the bytes that are written to it.
-    pub fn writer<W: Write>(self, to: W) -> CleanWriter<W> {
-        CleanWriter {
-            cleaner: self,
-            to,
-            out: Vec::new(),
-            sent: 0,
-        }
-    }
-
-    /// Reads to the end; writes and flushes the text as it comes, and the end. An `Err` is the reader's or the writer's, or
-    /// [`ErrorKind::OutOfMemory`]: the output is then a prefix of the text, and a style may be open.
-    pub fn copy(mut self, mut from: impl Read, mut to: impl Write) -> io::Result<()> {
-        let no_memory = |_| io::Error::from(ErrorKind::OutOfMemory);
-        let mut piece = [0; 4096];
-        let mut out = Vec::new();
-        loop {
-            match from.read(&mut piece) {
-                Ok(0) => break,
-                Ok(count) => self.push(&piece[..count], &mut out).map_err(no_memory)?,
-                Err(error) if error.kind() == ErrorKind::Interrupted => continue,
-                Err(error) => return Err(error),
-            }
-            to.write_all(&out)?;
-            to.flush()?;
-            out.clear();
-        }
-        self.finish(&mut out).map_err(no_memory)?;
-        to.write_all(&out)?;
-        to.flush()
-    }
-}
-
-/// Writes what a [`Cleaner`] leaves of the bytes that are written to it, at once. [`CleanWriter::finish`] writes the end, so that no style
-/// stays open. An error of the writer behind it is returned by the next call, and what wasn't written then comes again.
-///
-/// ```
-/// use csicodec::Cleaner;
-/// use std::io::Write;
-///
-/// let mut log = Cleaner::strip().writer(Vec::new());
-/// write!(log, "\x1b[31m{}\x1b[0m", "failed")?;
-/// assert_eq!(log.finish()?, b"failed");
-/// # Ok::<(), std::io::Error>(())
-/// ```
-#[derive(Debug)]
-pub struct CleanWriter<W: Write> {
-    cleaner: Cleaner,
-    to: W,
-    out: Vec<u8>,
-    /// How many of the bytes of `out` were written.
-    sent: usize,
-}
-
-impl<W: Write> CleanWriter<W> {
-    /// The writer behind it.
-    pub fn get_ref(&self) -> &W {
-        &self.to
-    }
-
-    /// Writes what waits.
-    fn send(&mut self) -> io::Result<()> {
-        while self.sent < self.out.len() {
-            match self.to.write(&self.out[self.sent..]) {
-                Ok(0) => return Err(ErrorKind::WriteZero.into()),
-                Ok(count) => self.sent += count,
-                Err(error) if error.kind() == ErrorKind::Interrupted => {}
-                Err(error) => return Err(error),
-            }
-        }
-        self.out.clear();
-        self.sent = 0;
-        Ok(())
-    }
-
-    /// Writes the end, and gives the writer behind it back, which isn't flushed.
-    pub fn finish(mut self) -> io::Result<W> {
-        let no_memory = |_| io::Error::from(ErrorKind::OutOfMemory);
-        let cleaner = std::mem::replace(&mut self.cleaner, Cleaner::strip());
-        cleaner.finish(&mut self.out).map_err(no_memory)?;
-        self.send()?;
-        Ok(self.to)
-    }
-}
-
-impl<W: Write> Write for CleanWriter<W> {
-    fn write(&mut self, bytes: &[u8]) -> io::Result<usize> {
-        self.send()?;
-        let no_memory = |_| io::Error::from(ErrorKind::OutOfMemory);
-        self.cleaner.push(bytes, &mut self.out).map_err(no_memory)?;
-        match self.send() {
-            // The bytes are taken: the next call tries again, and returns the error if that fails.
-            Ok(()) | Err(_) => Ok(bytes.len()),
-        }
-    }
-
-    fn flush(&mut self) -> io::Result<()> {
-        self.send()?;
-        self.to.flush()
     }
 }

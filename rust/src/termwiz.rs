@@ -32,7 +32,8 @@ pub mod esc {
 }
 
 use crate::CsiParam;
-use std::fmt;
+use alloc::string::{String, ToString};
+use core::fmt;
 
 /// A number from 1 to 4294967295: a line, a column or a margin of the page, in cells, of which the first is 1.
 #[derive(Clone, Copy, Debug, PartialEq, Eq, PartialOrd, Ord, Hash)]
@@ -176,7 +177,8 @@ mod types {
         CharacterPath, CsiParam, CursorStyle, CursorTabulationControl, Device, Edit, Keyboard,
         Mode, MouseReport, Sgr, TabulationClear, actions,
     };
-    use std::fmt;
+    use alloc::{boxed::Box, vec, vec::Vec};
+    use core::fmt;
 
     mirrored! {
         /// What a sequence does with the cursor: [`crate::Cursor`] tells of each.

@@ -4,7 +4,7 @@ use crate::event::{Event, escape, piece};
 use crate::events::{Reader, TEXT};
 use crate::pending::LIMIT;
 use crate::raw::{Front, Told};
-use std::mem::take;
+use core::mem::take;
 
 impl Reader {
     /// A control sequence with several actions, or with tokens, or one that is refused: then it has no actions.

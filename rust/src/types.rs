@@ -4,6 +4,7 @@ use crate::SrgbaTuple;
 
 /// The font of a character (ECMA-48, 8.3.117).
 #[derive(Clone, Copy, Debug, PartialEq, Eq, Hash)]
+#[cfg_attr(feature = "serde", derive(serde::Serialize, serde::Deserialize))]
 pub enum Font {
     /// The primary font, code 10.
     Default,
@@ -21,6 +22,7 @@ pub enum Font {
 /// "\x1b[48:2::1:2:3m"       Background(TrueColor(SrgbaTuple(1, 2, 3, 255)))
 /// ```
 #[derive(Clone, Copy, Debug, PartialEq, Eq, Hash)]
+#[cfg_attr(feature = "serde", derive(serde::Serialize, serde::Deserialize))]
 #[non_exhaustive]
 pub enum Sgr {
     /// All attributes back to the default rendition.
@@ -61,6 +63,7 @@ pub enum Sgr {
 /// "\x1b[38:2::1:2:3m"       TrueColor(SrgbaTuple(1, 2, 3, 255))
 /// ```
 #[derive(Clone, Copy, Debug, PartialEq, Eq, Hash)]
+#[cfg_attr(feature = "serde", derive(serde::Serialize, serde::Deserialize))]
 pub enum ColorSpec {
     /// The terminal's own: of the character code 39 and of the ground 49 (ECMA-48), of an underline 59 (kitty, VTE).
     Default,
@@ -73,6 +76,7 @@ pub enum ColorSpec {
 
 /// How strong the strokes of a character are (ECMA-48, 8.3.117).
 #[derive(Clone, Copy, Debug, PartialEq, Eq, Hash)]
+#[cfg_attr(feature = "serde", derive(serde::Serialize, serde::Deserialize))]
 #[non_exhaustive]
 pub enum Intensity {
     /// Neither bold nor faint, code 22.
@@ -106,6 +110,7 @@ impl Intensity {
 
 /// The line below a character: 21 and 24 are from ECMA-48, 8.3.117, the kinds behind a colon from kitty and VTE.
 #[derive(Clone, Copy, Debug, PartialEq, Eq, Hash)]
+#[cfg_attr(feature = "serde", derive(serde::Serialize, serde::Deserialize))]
 #[non_exhaustive]
 pub enum Underline {
     /// No line, code 24 or `4:0`.
@@ -151,6 +156,7 @@ impl Underline {
 
 /// Whether a character blinks, and how fast (ECMA-48, 8.3.117).
 #[derive(Clone, Copy, Debug, PartialEq, Eq, Hash)]
+#[cfg_attr(feature = "serde", derive(serde::Serialize, serde::Deserialize))]
 #[non_exhaustive]
 pub enum Blink {
     /// Steady, code 25.
@@ -184,6 +190,7 @@ impl Blink {
 
 /// Where on its line a character stands (mintty).
 #[derive(Clone, Copy, Debug, PartialEq, Eq, Hash)]
+#[cfg_attr(feature = "serde", derive(serde::Serialize, serde::Deserialize))]
 #[non_exhaustive]
 pub enum VerticalAlign {
     /// On the line, code 75.
@@ -217,6 +224,7 @@ impl VerticalAlign {
 
 /// How the cursor looks (DECSCUSR; DEC VT520, the bars xterm).
 #[derive(Clone, Copy, Debug, PartialEq, Eq, Hash)]
+#[cfg_attr(feature = "serde", derive(serde::Serialize, serde::Deserialize))]
 #[non_exhaustive]
 pub enum CursorStyle {
     /// As the user set the terminal up; by DEC a blinking block.
@@ -267,6 +275,7 @@ impl CursorStyle {
 /// What happens to tab stops where the cursor is (CTC, cursor tabulation control; ECMA-48, 8.3.17). A character tab stop
 /// is a column, a line tab stop a line.
 #[derive(Clone, Copy, Debug, PartialEq, Eq, Hash)]
+#[cfg_attr(feature = "serde", derive(serde::Serialize, serde::Deserialize))]
 #[non_exhaustive]
 pub enum CursorTabulationControl {
     /// A character tab stop is set in the cursor's column.
@@ -316,6 +325,7 @@ impl CursorTabulationControl {
 
 /// Which tab stops are cleared (TBC, tabulation clear; ECMA-48, 8.3.154).
 #[derive(Clone, Copy, Debug, PartialEq, Eq, Hash)]
+#[cfg_attr(feature = "serde", derive(serde::Serialize, serde::Deserialize))]
 #[non_exhaustive]
 pub enum TabulationClear {
     /// The character tab stop in the cursor's column.
@@ -361,6 +371,7 @@ impl TabulationClear {
 
 /// Which part of the cursor's line is erased (EL, erase in line; ECMA-48, 8.3.41). The cursor's own column is part of it.
 #[derive(Clone, Copy, Debug, PartialEq, Eq, Hash)]
+#[cfg_attr(feature = "serde", derive(serde::Serialize, serde::Deserialize))]
 #[non_exhaustive]
 pub enum EraseInLine {
     /// From the cursor to the end.
@@ -394,6 +405,7 @@ impl EraseInLine {
 
 /// Which part of the page is erased (ED, erase in page; ECMA-48, 8.3.39). The cursor's own place is part of it.
 #[derive(Clone, Copy, Debug, PartialEq, Eq, Hash)]
+#[cfg_attr(feature = "serde", derive(serde::Serialize, serde::Deserialize))]
 #[non_exhaustive]
 pub enum EraseInDisplay {
     /// From the cursor to the end.
@@ -432,6 +444,7 @@ impl EraseInDisplay {
 /// A private mode: one that `CSI ? .. h` sets and `CSI ? .. l` resets. Those of DEC (VT510, VT382) begin with the name that DEC gave
 /// them; where the others are from is said at each.
 #[derive(Clone, Copy, Debug, PartialEq, Eq, Hash)]
+#[cfg_attr(feature = "serde", derive(serde::Serialize, serde::Deserialize))]
 #[non_exhaustive]
 pub enum DecPrivateModeCode {
     /// DECCKM: the arrow keys send application sequences.
@@ -589,6 +602,7 @@ impl DecPrivateModeCode {
 
 /// A mode that `CSI .. h` sets and `CSI .. l` resets (SM and RM; ECMA-48, 8.3.125 and 8.3.106).
 #[derive(Clone, Copy, Debug, PartialEq, Eq, Hash)]
+#[cfg_attr(feature = "serde", derive(serde::Serialize, serde::Deserialize))]
 #[non_exhaustive]
 pub enum TerminalModeCode {
     /// KAM (ECMA-48, 7.2.11): the keyboard is locked.
@@ -635,6 +649,7 @@ impl TerminalModeCode {
 /// An extension that a terminal names behind its service class, in its answer to the primary device attributes (DA1,
 /// `CSI ? 62 ; .. c`; DEC VT220 and its successors).
 #[derive(Clone, Copy, Debug, PartialEq, Eq, Hash)]
+#[cfg_attr(feature = "serde", derive(serde::Serialize, serde::Deserialize))]
 #[non_exhaustive]
 pub enum DeviceAttributeCodes {
     /// Lines of 132 columns (DEC VT220).

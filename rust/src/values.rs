@@ -6,11 +6,13 @@ use crate::{
     DeviceAttribute, Edit, Keyboard, Mode, MouseReport, Sgr, TerminalMode, TerminalModeCode,
     Window, XtSmGraphicsAction, XtSmGraphicsItem, XtSmGraphicsStatus, XtermKeyModifierResource,
 };
-use std::fmt;
-use std::num::NonZeroU32;
+use alloc::{boxed::Box, vec::Vec};
+use core::fmt;
+use core::num::NonZeroU32;
 
 /// A number from 1 to 4294967295: a line, a column or a margin of the page, in cells, of which the first is 1.
 #[derive(Clone, Copy, Debug, PartialEq, Eq, PartialOrd, Ord, Hash)]
+#[cfg_attr(feature = "serde", derive(serde::Serialize, serde::Deserialize))]
 pub struct OneBased(NonZeroU32);
 
 impl OneBased {
@@ -35,6 +37,7 @@ impl OneBased {
 
 /// A colour as red, green, blue and alpha, each 0 to 255; an alpha of 255 is opaque.
 #[derive(Clone, Copy, Debug, PartialEq, Eq, Hash)]
+#[cfg_attr(feature = "serde", derive(serde::Serialize, serde::Deserialize))]
 pub struct SrgbaTuple(
     /// Red.
     pub u8,
@@ -57,6 +60,7 @@ macro_rules! flags {
     ($(#[$doc:meta])* $name:ident: $($(#[$each:meta])* $flag:ident = $bits:literal),*) => {
         $(#[$doc])*
         #[derive(Clone, Copy, Default, PartialEq, Eq, Hash)]
+        #[cfg_attr(feature = "serde", derive(serde::Serialize, serde::Deserialize), serde(transparent))]
         pub struct $name {
             bits: u16,
         }
@@ -90,9 +94,9 @@ macro_rules! flags {
             }
         }
 
-        impl std::fmt::Debug for $name {
+        impl core::fmt::Debug for $name {
             /// The names of the flags, and the other bits as a number: `SHIFT | CTRL | 0x40`.
-            fn fmt(&self, f: &mut std::fmt::Formatter<'_>) -> std::fmt::Result {
+            fn fmt(&self, f: &mut core::fmt::Formatter<'_>) -> core::fmt::Result {
                 let mut rest = self.bits;
                 let mut between = "";
                 for (name, bits) in [$((stringify!($flag), $bits)),*] {
@@ -110,7 +114,7 @@ macro_rules! flags {
             }
         }
 
-        impl std::ops::BitOr for $name {
+        impl core::ops::BitOr for $name {
             type Output = Self;
 
             fn bitor(self, other: Self) -> Self {
@@ -118,13 +122,13 @@ macro_rules! flags {
             }
         }
 
-        impl std::ops::BitOrAssign for $name {
+        impl core::ops::BitOrAssign for $name {
             fn bitor_assign(&mut self, other: Self) {
                 self.bits |= other.bits;
             }
         }
 
-        impl std::ops::BitAnd for $name {
+        impl core::ops::BitAnd for $name {
             type Output = Self;
 
             fn bitand(self, other: Self) -> Self {
@@ -189,6 +193,7 @@ flags! {
 
 /// The extensions in a terminal's answer, in order.
 #[derive(Clone, Debug, PartialEq, Eq, Hash)]
+#[cfg_attr(feature = "serde", derive(serde::Serialize, serde::Deserialize))]
 pub struct DeviceAttributeFlags {
     /// Each of them; one can be there twice.
     pub attributes: Vec<DeviceAttribute>,
@@ -203,6 +208,7 @@ impl DeviceAttributeFlags {
 
 /// XTSMGRAPHICS (xterm's ctlseqs): a request for what the terminal can draw, or its answer.
 #[derive(Clone, Debug, PartialEq, Eq, Hash)]
+#[cfg_attr(feature = "serde", derive(serde::Serialize, serde::Deserialize))]
 pub struct XtSmGraphics {
     /// The item.
     pub item: XtSmGraphicsItem,
@@ -227,6 +233,7 @@ impl XtSmGraphics {
 
 /// A parameter list, or the remainder of one, that no rule reads: nothing of it is lost.
 #[derive(Clone, Debug, PartialEq, Eq, Hash)]
+#[cfg_attr(feature = "serde", derive(serde::Serialize, serde::Deserialize))]
 pub struct Unspecified {
     /// The tokens, as they came. A remainder behind private modes has a `?` in front, so that its text means the same.
     pub params: Vec<CsiParam>,

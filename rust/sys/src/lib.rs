@@ -1,6 +1,7 @@
 //! The static library as `csicodec.h` declares it, which says what each struct and field means, and its calls over slices. Nothing compares
 //! these declarations with the library but the tests of `csicodec`.
 #![allow(missing_docs)]
+#![no_std]
 
 #[repr(C)]
 #[derive(Clone, Copy, Debug, Default, PartialEq, Eq)]

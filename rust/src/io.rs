@@ -1,0 +1,180 @@
+//! Readers and writers of the standard library: what takes the feature `std`.
+
+use crate::{Cleaner, Event, Markup, Parser};
+use std::io::{self, ErrorKind, Read, Write};
+use std::vec::Vec;
+
+impl Parser {
+    /// Reads to the end, in pieces, and passes each event, at last what is held. After an `Err`, which is the reader's, what is held
+    /// isn't passed.
+    pub fn read_to_end<F: FnMut(Event<'_>)>(
+        mut self,
+        mut from: impl Read,
+        tell: &mut F,
+    ) -> io::Result<()> {
+        let mut piece = [0; 4096];
+        loop {
+            match from.read(&mut piece) {
+                Ok(0) => break,
+                Ok(count) => self.advance(&piece[..count], tell),
+                Err(error) if error.kind() == ErrorKind::Interrupted => {}
+                Err(error) => return Err(error),
+            }
+        }
+        self.finish(tell);
+        Ok(())
+    }
+}
+
+impl Cleaner {
+    /// A writer that passes on what is left of the bytes that are written to it.
+    pub fn writer<W: Write>(self, to: W) -> CleanWriter<W> {
+        CleanWriter {
+            cleaner: self,
+            to,
+            out: Vec::new(),
+            sent: 0,
+        }
+    }
+
+    /// Reads to the end; writes and flushes the text as it comes, and the end. An `Err` is the reader's or the writer's, or
+    /// [`ErrorKind::OutOfMemory`]: the output is then a prefix of the text, and a style may be open.
+    pub fn copy(mut self, mut from: impl Read, mut to: impl Write) -> io::Result<()> {
+        let no_memory = |_| io::Error::from(ErrorKind::OutOfMemory);
+        let mut piece = [0; 4096];
+        let mut out = Vec::new();
+        loop {
+            match from.read(&mut piece) {
+                Ok(0) => break,
+                Ok(count) => self.push(&piece[..count], &mut out).map_err(no_memory)?,
+                Err(error) if error.kind() == ErrorKind::Interrupted => continue,
+                Err(error) => return Err(error),
+            }
+            to.write_all(&out)?;
+            to.flush()?;
+            out.clear();
+        }
+        self.finish(&mut out).map_err(no_memory)?;
+        to.write_all(&out)?;
+        to.flush()
+    }
+}
+
+/// Writes what a [`Cleaner`] leaves of the bytes that are written to it, at once. [`CleanWriter::finish`] writes the end, so that no style
+/// stays open. An error of the writer behind it is returned by the next call, and what wasn't written then comes again.
+///
+/// ```
+/// use csicodec::Cleaner;
+/// use std::io::Write;
+///
+/// let mut log = Cleaner::strip().writer(Vec::new());
+/// write!(log, "\x1b[31m{}\x1b[0m", "failed")?;
+/// assert_eq!(log.finish()?, b"failed");
+/// # Ok::<(), std::io::Error>(())
+/// ```
+#[derive(Debug)]
+pub struct CleanWriter<W: Write> {
+    cleaner: Cleaner,
+    to: W,
+    out: Vec<u8>,
+    /// How many of the bytes of `out` were written.
+    sent: usize,
+}
+
+impl<W: Write> CleanWriter<W> {
+    /// The writer behind it.
+    pub fn get_ref(&self) -> &W {
+        &self.to
+    }
+
+    /// Writes what waits.
+    fn send(&mut self) -> io::Result<()> {
+        while self.sent < self.out.len() {
+            match self.to.write(&self.out[self.sent..]) {
+                Ok(0) => return Err(ErrorKind::WriteZero.into()),
+                Ok(count) => self.sent += count,
+                Err(error) if error.kind() == ErrorKind::Interrupted => {}
+                Err(error) => return Err(error),
+            }
+        }
+        self.out.clear();
+        self.sent = 0;
+        Ok(())
+    }
+
+    /// Writes the end, and gives the writer behind it back, which isn't flushed.
+    pub fn finish(mut self) -> io::Result<W> {
+        let no_memory = |_| io::Error::from(ErrorKind::OutOfMemory);
+        let cleaner = core::mem::replace(&mut self.cleaner, Cleaner::strip());
+        cleaner.finish(&mut self.out).map_err(no_memory)?;
+        self.send()?;
+        Ok(self.to)
+    }
+}
+
+impl<W: Write> Write for CleanWriter<W> {
+    fn write(&mut self, bytes: &[u8]) -> io::Result<usize> {
+        self.send()?;
+        let no_memory = |_| io::Error::from(ErrorKind::OutOfMemory);
+        self.cleaner.push(bytes, &mut self.out).map_err(no_memory)?;
+        match self.send() {
+            // The bytes are taken: the next call tries again, and returns the error if that fails.
+            Ok(()) | Err(_) => Ok(bytes.len()),
+        }
+    }
+
+    fn flush(&mut self) -> io::Result<()> {
+        self.send()?;
+        self.to.flush()
+    }
+}
+
+impl Markup {
+    /// A writer that writes the page of all that is written to it, at its end.
+    pub fn writer<W: Write>(self, to: W) -> HtmlWriter<W> {
+        HtmlWriter {
+            markup: self,
+            to,
+            held: Vec::new(),
+        }
+    }
+}
+
+/// Holds the bytes that are written to it; [`HtmlWriter::finish`] writes the page of them.
+///
+/// ```
+/// use csicodec::Markup;
+/// use std::io::Write;
+///
+/// let mut page = Markup { fragment: true, ..Markup::default() }.writer(Vec::new());
+/// write!(page, "\x1b[3m{}", "slanted")?;
+/// assert_eq!(page.finish()?, b"<span style=\"font-style:italic;\">slanted</span>");
+/// # Ok::<(), std::io::Error>(())
+/// ```
+#[derive(Debug)]
+pub struct HtmlWriter<W: Write> {
+    markup: Markup,
+    to: W,
+    held: Vec<u8>,
+}
+
+impl<W: Write> HtmlWriter<W> {
+    /// Writes the page, and gives the writer behind it back, which isn't flushed.
+    pub fn finish(mut self) -> io::Result<W> {
+        let no_memory = |_| io::Error::from(ErrorKind::OutOfMemory);
+        let page = self.markup.html(&self.held).map_err(no_memory)?;
+        self.to.write_all(page.as_bytes())?;
+        Ok(self.to)
+    }
+}
+
+impl<W: Write> Write for HtmlWriter<W> {
+    fn write(&mut self, bytes: &[u8]) -> io::Result<usize> {
+        self.held.extend_from_slice(bytes);
+        Ok(bytes.len())
+    }
+
+    fn flush(&mut self) -> io::Result<()> {
+        Ok(())
+    }
+}

@@ -1,5 +1,5 @@
-"""A plugin for pytest that strips what tests print: reports, and the JUnit file of `--junitxml`, are then plain text, whatever a program under
-test writes to the terminal.
+"""A plugin for pytest that strips what tests print: in its reports, and in the JUnit file of `--junitxml`, stands plain text, whatever a
+program under test writes to the terminal.
 
     pytest -p plain_reports
 """
@@ -14,5 +14,23 @@ class Report(Protocol):
     sections: List[Tuple[str, str]]
 
 
-def pytest_runtest_logreport(report: Report) -> None:
-    report.sections = [(heading, strip(text)) for heading, text in report.sections]
+class Plugins(Protocol):
+    def register(self, plugin: object) -> object: ...
+
+
+class Config(Protocol):
+    pluginmanager: Plugins
+
+
+class Session(Protocol):
+    config: Config
+
+
+class PlainReports:
+    def pytest_runtest_logreport(self, report: Report) -> None:
+        report.sections = [(heading, strip(text)) for heading, text in report.sections]
+
+
+def pytest_sessionstart(session: Session) -> None:
+    """What is registered last is called first: before the terminal and the file take what a report has."""
+    session.config.pluginmanager.register(PlainReports())

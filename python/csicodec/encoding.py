@@ -2,6 +2,7 @@
 from __future__ import annotations
 
 import struct
+from collections.abc import Iterable as IterableOf
 from typing import Any, Iterable, List, Sequence, Tuple
 
 from . import library
@@ -34,6 +35,8 @@ def rows_of(actions: Iterable[Action]) -> Tuple[bytes, int, bytes, int]:
     """The structs of actions and of their tokens, and how many there are of both."""
     params: Params = []
     rows: List[bytes] = []
+    if not isinstance(actions, IterableOf):
+        raise TypeError(f"an iterable of actions is required, not {type(actions).__name__}")
     for action in actions:
         if not isinstance(action, Action):
             raise TypeError(f"an action of csicodec is required, not {type(action).__name__}")

@@ -4,6 +4,7 @@ from __future__ import annotations
 from typing import Union
 
 from .enums import EscCode
+from .error import FieldError
 from .forms import Action
 from .values import Value
 
@@ -61,7 +62,9 @@ class ControlString(Value):
     last: bool
 
     def __init__(self, kind: str, data: bytes, first: bool = True, last: bool = True) -> None:
-        self._set_of("kind", kind, str)
+        if kind not in STRINGS.values():
+            raise FieldError(f"ControlString: kind must be OSC, DCS, SOS, PM or APC, not {kind!r}")
+        self._set("kind", kind)
         self._set_of("data", data, bytes)
         self._set_of("first", first, bool)
         self._set_of("last", last, bool)

@@ -109,9 +109,7 @@ class InputParser:
     """
 
     def __init__(self, dialect: Dialect = Dialect.Input, limit: int = library.LIMIT) -> None:
-        if limit < 1:
-            raise ValueError("the limit is 1 or more")
-        self._dialect, self._limit, self._counts = Dialect(dialect), limit, (32, 32)
+        self._dialect, self._limit, self._counts = Dialect(dialect), library.limit_of(limit), (32, 32)
         self._begin()
 
     def _begin(self) -> None:

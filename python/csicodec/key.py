@@ -109,6 +109,12 @@ class KeyParser:
         left, self._rest = self._rest, b""
         return [*found, left] if left else found
 
+    def __enter__(self) -> KeyParser:
+        return self
+
+    def __exit__(self, *_: object) -> None:
+        self._rest = b""
+
     def _read(self, more: bool) -> List[Union[Key, bytes]]:
         found: List[Union[Key, bytes]] = []
         held, at, typed = self._rest, 0, (c_uint32 * _MOST)()
@@ -132,6 +138,10 @@ def keys(data: Data) -> Iterator[Union[Key, bytes]]:
     >>> [(key.code.name, key.value) for key in keys(b"a\\x1bOP\\x1b[1;5A\\x1b")]
     [('Char', 'a'), ('F', '1'), ('Up', ''), ('Escape', '')]
     """
+    return _keys(bytes_of(data))
+
+
+def _keys(held: bytes) -> Iterator[Union[Key, bytes]]:
     parser = KeyParser()
-    yield from parser.feed(data)
+    yield from parser.feed(held)
     yield from parser.finish()

@@ -188,6 +188,15 @@ def bytes_of(data: Data, errors: str = "surrogateescape") -> bytes:
         raise TypeError(f"a str or bytes-like object is required, not {type(data).__name__}") from None
 
 
+def limit_of(limit: int) -> int:
+    """A limit, if it is one."""
+    if not isinstance(limit, int):
+        raise TypeError(f"limit must be int, not {type(limit).__name__}")
+    if limit < 1:
+        raise ValueError(f"limit must be 1 or more, not {limit}")
+    return limit
+
+
 def address_of(held: bytes) -> int:
     """Where C finds bytes, as long as the caller keeps them."""
     return ctypes.cast(c_char_p(held), c_void_p).value or 0
@@ -225,7 +234,24 @@ class TextCall:
 
     def __init__(self, call: Callable[..., Any], depth: int = 0, links: bool = False) -> None:
         self._call, self._options = call, (depth, links)
-        self._desks: List[Desk] = []
+        self._desks: List[Desk] = [Desk(_KEPT, depth, links)]
+
+    def text(self, text: str) -> str:
+        """What the call makes of a text. Most texts are short, where a call of Python costs as much as one of C, so that this doesn't use `written`."""
+        held = text.encode("utf-8", "surrogatepass")
+        length = len(held)
+        if length > _KEPT or not self._desks:
+            return self.written(held).decode()
+        desk = self._desks.pop()
+        asked = desk.asked
+        asked.bytes, asked.len = held, length
+        self._call(desk.pointer)
+        needed = asked.needed
+        if needed > _KEPT:
+            return self.written(held).decode()
+        out: str = desk.room[:needed].decode()  # type: ignore[attr-defined]
+        self._desks.append(desk)
+        return out
 
     def written(self, held: bytes) -> bytes:
         """What the call writes of some bytes."""

@@ -117,9 +117,7 @@ class Parser:
     """
 
     def __init__(self, limit: int = library.LIMIT) -> None:
-        if limit < 1:
-            raise ValueError("the limit is 1 or more")
-        self._limit = limit
+        self._limit = library.limit_of(limit)
         self._begin()
 
     def _begin(self) -> None:

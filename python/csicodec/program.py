@@ -3,6 +3,7 @@ from __future__ import annotations
 
 import os
 import sys
+from collections.abc import Iterable as IterableOf
 from typing import Any, Dict, Iterable, List, Optional
 
 from .library import Data, bytes_of
@@ -33,11 +34,14 @@ def explain(stream: Data, *, only: Optional[Iterable[str]] = None, unknown: bool
     import subprocess
 
     words = [path(), "explain", "--json"]
+    if not isinstance(only, (type(None), str, IterableOf)):
+        raise TypeError(f"only must be names, not {type(only).__name__}")
     if only is not None:
         words.append("--only=" + ",".join([only] if isinstance(only, str) else only))
     words += ["--unknown"] * unknown + ["--decode"] * decode
     ran = subprocess.run(words, input=bytes_of(stream), stdout=subprocess.PIPE, stderr=subprocess.PIPE, check=False)
-    if ran.returncode:
+    # Without a message status 1 says that nothing is unknown.
+    if ran.returncode > 1 or ran.stderr:
         raise ValueError(ran.stderr.decode("utf-8", "replace").strip())
     return [json.loads(line) for line in ran.stdout.splitlines()]
 

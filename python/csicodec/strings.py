@@ -57,10 +57,12 @@ class OscReader:
     """
 
     def __init__(self, limit: int = library.LIMIT) -> None:
-        self._limit, self._held, self._fits = limit, b"", False
+        self._limit, self._held, self._fits = library.limit_of(limit), b"", False
 
     def take(self, event: Event) -> List[Osc]:
         """What the OSC says that is over with this event, if one is."""
+        if not isinstance(event, Value):
+            raise TypeError(f"an event is required, not {type(event).__name__}")
         if not isinstance(event, ControlString) or event.kind != "OSC":
             self._fits = False
             return []

@@ -104,6 +104,23 @@ class Codec(unittest.TestCase):
             csicodec.encode([1])
         with self.assertRaisesRegex(TypeError, "an Unspecified is required, not Up"):
             csicodec.known(Cursor.Up(1))
+        for make, said in [
+            (lambda: csicodec.keys(1), "a str or bytes-like object is required, not int"),
+            (lambda: csicodec.encode(Cursor.Up(1)), "an iterable of actions is required, not Up"),
+            (lambda: csicodec.clean("a", links="no"), "links must be bool, not str"),
+            (lambda: csicodec.html("a", overwrite=1), "overwrite must be bool, not int"),
+            (lambda: csicodec.html("a", palette=5), "palette must be colours, not int"),
+            (lambda: csicodec.compact("a", semicolons=None), "semicolons must be bool, not NoneType"),
+            (lambda: csicodec.explain("a", only=5), "only must be names, not int"),
+            (lambda: csicodec.OscReader().take("x"), "an event is required, not str"),
+            (lambda: ControlString("XX", b""), "ControlString: kind must be OSC, DCS, SOS, PM or APC, not 'XX'"),
+            *((lambda make=make: make(limit="x"), "limit must be int, not str") for make in (Parser, InputParser, csicodec.OscReader)),
+        ]:
+            with self.assertRaises(TypeError) as caught:
+                make()
+            self.assertEqual(str(caught.exception), said)
+        with self.assertRaisesRegex(ValueError, "limit must be 1 or more, not 0"):
+            Parser(limit=0)
 
     def test_an_action_is_of_its_group(self):
         self.assertIsInstance(Cursor.Up(1), Cursor)
@@ -124,7 +141,13 @@ class Codec(unittest.TestCase):
         for value in [*csicodec.events(ODD), *csicodec.inputs(b"\x1bOP\x1b[M !!"), *csicodec.spans(ODD)]:
             self.assertEqual(pickle.loads(pickle.dumps(value)), value)
             self.assertEqual(copy.deepcopy(value), value)
-        for it in [Parser(), InputParser(), Cleaner(styles=True), Filter(), Filter.compact()]:
+        for error in [FieldError("a"), csicodec.CodecError("b")]:
+            self.assertEqual(repr(pickle.loads(pickle.dumps(error))), repr(error))
+        reader, event = csicodec.OscReader(), ControlString("OSC", b"2;a", last=False)
+        reader.take(event)
+        for other in [pickle.loads(pickle.dumps(reader)), copy.deepcopy(reader)]:
+            self.assertEqual([said.first for said in other.take(ControlString("OSC", b"b", first=False))], [b"ab"])
+        for it in [Parser(), InputParser(), csicodec.KeyParser(), Cleaner(styles=True), Filter(), Filter.compact()]:
             it.feed(b"a\x1b[1m\x1b]0;t\x1b[3")
             others = [pickle.loads(pickle.dumps(it)), copy.deepcopy(it)]
             wanted = (it.feed("1mé"), it.finish())
@@ -132,7 +155,7 @@ class Codec(unittest.TestCase):
                 self.assertEqual((other.feed("1mé"), other.finish()), wanted)
 
     def test_with(self):
-        for it in [Parser(), InputParser(), Cleaner(), Filter()]:
+        for it in [Parser(), InputParser(), csicodec.KeyParser(), Cleaner(), Filter()]:
             with it:
                 it.feed("\x1b[1")
             self.assertFalse(it.finish())
@@ -238,6 +261,9 @@ class Codec(unittest.TestCase):
     def test_program(self):
         spans = csicodec.explain("\x1b[1mbold", only=["SGR"])
         self.assertEqual([span["at"] for span in spans], [0])
+        self.assertEqual(csicodec.explain("plain", unknown=True), [])
+        with self.assertRaisesRegex(ValueError, "Nope"):
+            csicodec.explain("a", only=["Nope"])
 
     def test_version(self):
         major, minor, patch = map(int, csicodec.__version__.split("."))

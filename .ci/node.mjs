@@ -6,7 +6,7 @@ import { createRequire } from 'node:module';
 import { pathToFileURL } from 'node:url';
 
 const [folder, program, kinds, ...files] = process.argv.slice(2);
-const { Codec, CodecError, InputParser, KeyParser, Parser, recorded } = await import(pathToFileURL(createRequire(`${folder}/it.js`).resolve('csicodec')));
+const { Codec, CodecError, InputParser, KeyParser, OscReader, Parser, recorded } = await import(pathToFileURL(createRequire(`${folder}/it.js`).resolve('csicodec')));
 const codec = await Codec.load();
 const native = (words, input) => {
     const { status, stdout, stderr } = spawnSync(program, words, { input, maxBuffer: 1 << 30 });
@@ -111,7 +111,12 @@ if (keys.pause().length || keys.finish().length) wrong('something is left behind
 for (const [said, call] of [
     ['not number', () => codec.strip(5)],
     ['not null', () => codec.explain(null)],
-    ['not Array', () => codec.events([1]).next()],
+    ['not Array', () => codec.events([1])],
+    ['not number', () => codec.inputs(1)],
+    ['not undefined', () => codec.keys()],
+    ['not null', () => codec.spans(null)],
+    ['not number', () => codec.osc(2)],
+    ['not Promise', () => codec.html(Promise.resolve(''))],
     ['no option color,', () => codec.clean('x', { color: 256 })],
     ["'all', 256 or 16, not 8", () => codec.clean('x', { colors: 8 })],
     ['await Codec.load()', () => new Codec()],
@@ -122,10 +127,34 @@ for (const [said, call] of [
     ["as '#rrggbb', not red", () => codec.html('a', { palette: Array(16).fill('red') })],
     ['links must be boolean, not number', () => codec.html('a', { links: 1 })],
     ['made of a Codec', () => new KeyParser()],
-    ["an action of type 'Unspecified' is required", () => codec.known({ type: 'Sgr.Reset' })],
+    ["an action of type 'Unspecified' is required, not Sgr.Reset", () => codec.known({ type: 'Sgr.Reset' })],
+    ["an action of type 'Unspecified' is required, not null", () => codec.known(null)],
+    ['an array of actions, or another iterable, is required, not Object', () => codec.encode({ type: 'Sgr.Reset' })],
+    ['an action with a type is required, not null', () => codec.encode([null])],
+    ['an action with a type is required, not Sgr.Odd', () => codec.encodeCompact([{ type: 'Sgr.Odd' }])],
+    ['limit must be 1 or more, not 0', () => new Parser(codec, { limit: 0 })],
+    ['limit must be 1 or more, not x', () => new OscReader(codec, { limit: 'x' })],
+    ["dialect must be 'input' or 'utf8', not latin", () => codec.inputs('a', { dialect: 'latin' })],
+    ['an event is required, not string', () => new OscReader(codec).take('x')],
+    ['the option name must be a string, not number', () => codec.explain('a', { name: 5 })],
+    ['must be a function, not undefined', () => codec.explainEach('a', {})],
+    ['no option semicolon,', () => codec.compactStream({ semicolon: true })],
+    ['styles must be boolean, not string', () => codec.overwrite('a', { styles: 'all' })],
+    ['the options must be an object, not null', () => codec.clean('a', null)],
 ]) {
     try { call(); } catch (error) { if (error instanceof TypeError && error.message.includes(said)) continue; wrong(`${call} throws ${error}`); }
     wrong(`${call} is taken`);
+}
+
+// A chunk of another type fails its stream, and each piece that comes out has at most a few times 64 KB.
+const broken = codec.stripStream(), sink = broken.writable.getWriter();
+for (const { reason } of await Promise.allSettled([sink.write(5), sink.closed, broken.readable.getReader().read()])) {
+    if (!(reason instanceof TypeError && reason.message.includes('not number'))) wrong(`a number in a stream: ${reason}`);
+}
+for (const stream of [codec.stripStream(), codec.cleanStream(), codec.filterStream(), codec.compactStream()]) {
+    const writer = stream.writable.getWriter();
+    writer.write(new Uint8Array(1 << 20).fill(97)).then(() => writer.close());
+    for await (const part of stream.readable) if (part.length > 1 << 17) wrong(`a piece of ${part.length} bytes`);
 }
 
 // Memory stays bounded: 64 MB through strip, and explain a thousand times.

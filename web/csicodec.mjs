@@ -27,7 +27,7 @@ export class CodecError extends Error {
 }
 
 /** The name of a value's type. */
-const typeName = value => value === null ? 'null' : typeof value === 'object' ? value.constructor?.name ?? 'object' : typeof value;
+export const typeName = value => value === null ? 'null' : typeof value === 'object' ? value.constructor?.name ?? 'object' : typeof value;
 
 /** The bytes of an input; a string is taken as UTF-8. */
 export function bytesOf(input) {
@@ -450,6 +450,8 @@ export class Codec {
     /** The same as lines of JSON, which `each` is called with as they come. */
     explainEach(input, options, each) {
         const { name, only, unknown, decode } = optionsOf(options, { name: '', only: '', unknown: false, decode: false });
+        for (const [option, value] of Object.entries({ name, only })) if (typeof value !== 'string') throw new TypeError(`the option ${option} must be a string, not ${typeName(value)}`);
+        if (typeof each !== 'function') throw new TypeError(`what lines are passed to must be a function, not ${typeName(each)}`);
         const words = ['explain', '--json'], files = { '-': new Uint8Array() };
         if (unknown) words.push('--unknown');
         if (decode) words.push('--decode');

@@ -76,7 +76,7 @@ class Writer {
     constructor(action, tokens) {
         Object.assign(this, { action, tokens, view: new DataView(new ArrayBuffer(ACTION_SIZE)) });
         const kind = KIND_OF.get(action?.type);
-        if (kind === undefined) throw new TypeError(`an action with a type is required, not ${action?.type ?? typeof action}`);
+        if (kind === undefined) throw new TypeError(`an action with a type is required, not ${action?.type ?? (action === null ? 'null' : typeof action)}`);
         this.view.setUint32(0, kind, true);
         const [, form, ...names] = KINDS[kind];
         WRITE[form](this, ...names);

@@ -1,6 +1,6 @@
 // The package csicodec for JavaScript: csicodec.mjs, and events, input, spans and actions over the same library.
 import { NAMES } from './actions.mjs';
-import { Codec as TextCodec, CodecError, bytesOf, optionsOf, recorded, textOf } from './csicodec.mjs';
+import { Codec as TextCodec, CodecError, bytesOf, optionsOf, recorded, textOf, typeName } from './csicodec.mjs';
 import { ACTION_SIZE, PARAM_SIZE, actionOf, rowsOf } from './forms.mjs';
 
 export { CodecError, recorded };
@@ -58,12 +58,17 @@ function keyOf(kind, value, bytes, dialect) {
     }
 }
 
+/** The limit of a reader, which is 1 or more. */
+function limitOf(limit) {
+    if (!Number.isInteger(limit) || limit < 1) throw new TypeError(`the option limit must be 1 or more, not ${String(limit)}`);
+    return limit;
+}
+
 /** Reads a stream as it comes. What waits for more bytes is kept: fewer than `limit` of a control sequence, or 3 of a character. */
 class Reader {
     constructor(codec, dialect, limit) {
         if (!(codec instanceof Codec)) throw new TypeError('a parser is made of a Codec: new Parser(await Codec.load())');
-        if (!Number.isInteger(limit) || limit < 1) throw new TypeError(`the option limit must be 1 or more, not ${String(limit)}`);
-        Object.assign(this, { codec, dialect, limit });
+        Object.assign(this, { codec, dialect, limit: limitOf(limit) });
         this.begin();
     }
 
@@ -244,11 +249,12 @@ function strokeOf(library) {
 export class OscReader {
     constructor(codec, options) {
         if (!(codec instanceof Codec)) throw new TypeError('a reader is made of a Codec: new OscReader(await Codec.load())');
-        Object.assign(this, { codec, limit: optionsOf(options, { limit: LIMIT }).limit, held: [], length: Infinity });
+        Object.assign(this, { codec, limit: limitOf(optionsOf(options, { limit: LIMIT }).limit), held: [], length: Infinity });
     }
 
     /** What the OSC says that is over with this event; undefined, if none is. */
     take(event) {
+        if (typeof event?.type !== 'string') throw new TypeError(`an event is required, not ${typeName(event)}`);
         if (event.type !== 'ControlString' || event.kind !== 'OSC') { this.length = Infinity; return undefined; }
         if (event.first) { this.held = []; this.length = 0; }
         this.length += event.bytes.length;
@@ -263,13 +269,13 @@ export class OscReader {
 
 export class Codec extends TextCodec {
     /** The events of a whole stream. */
-    *events(input) { yield* allOf(new Parser(this), bytesOf(input)); }
+    events(input) { return allOf(new Parser(this), bytesOf(input)); }
 
     /** The events of all that a terminal sent. An ESC at the end is a key. */
-    *inputs(input, options) { yield* allOf(new InputParser(this, options), bytesOf(input)); }
+    inputs(input, options) { return allOf(new InputParser(this, options), bytesOf(input)); }
 
     /** The keys of all that a terminal sent; what is no key comes as its bytes. An ESC at the end is a key. */
-    *keys(input) { yield* allOf(new KeyParser(this), bytesOf(input)); }
+    keys(input) { return allOf(new KeyParser(this), bytesOf(input)); }
 
     /** What an OSC says, by its content: the bytes between `ESC ]` and what ends it. */
     osc(content) {
@@ -303,7 +309,7 @@ export class Codec extends TextCodec {
 
     /** The row of docs/SEQUENCES.md that reads an action of type 'Unspecified', and its values; undefined, if none does. */
     known(action) {
-        if (action?.type !== 'Unspecified') throw new TypeError(`an action of type 'Unspecified' is required, not ${action?.type ?? typeof action}`);
+        if (action?.type !== 'Unspecified') throw new TypeError(`an action of type 'Unspecified' is required, not ${action?.type ?? typeName(action)}`);
         return this.#withRows([action], (library, rows, _, params, count) => {
             library.calls.csicodec_known(library.answer, rows, params, count);
             library.look();
@@ -326,6 +332,7 @@ export class Codec extends TextCodec {
 
     /** Puts the structs of actions and of their tokens where calls find them. */
     #withRows(actions, use) {
+        if (typeof actions?.[Symbol.iterator] !== 'function') throw new TypeError(`an array of actions, or another iterable, is required, not ${typeName(actions)}`);
         const { rows, tokens } = rowsOf(actions), all = new Uint8Array(rows.length + tokens.length);
         all.set(rows);
         all.set(tokens, rows.length);

@@ -38,6 +38,13 @@ def boxed_last(body):
     return "".join(sorted(each, key=lambda variant: "Box<" in variant))
 
 
+def with_numbers(name, body):
+    """A declaration of which each variant is a name alone, with the numbers that they have, so that `as` gives these too."""
+    numbers = {variant: number for variant, number, _ in numbers_of(name, body)}
+    is_plain = numbers and not re.search(r"^    [A-Z]\w*[^\w,]", body, re.M)
+    return re.sub(r"^    ([A-Z]\w*),$", lambda it: f"    {it[1]} = {numbers[it[1]]},", body, flags=re.M) if is_plain else body
+
+
 def rust_types(subject, sources):
     own = {name for name, _, _, _ in declared(sources)} | {"Box", "Option"}
     others = {other for _, _, _, body in declared(sources) for other in said(body)} - own
@@ -49,7 +56,7 @@ def rust_types(subject, sources):
     for name, docs, derives, body in declared(sources):
         derives = "Clone, Debug, PartialEq, Eq, Hash" if "Drop" in derives else "Clone, Copy, Debug, PartialEq, Eq, Hash"
         growing = ("" if name in CLOSED else "#[non_exhaustive]\n") + ("#[repr(u8)]\n" if name in TAGGED else "")
-        body = boxed_last(body) if name in TAGGED else body
+        body = boxed_last(body) if name in TAGGED else with_numbers(name, body)
         out += f"\n{docs}#[derive({derives})]\n{SERDE}{growing}pub enum {name} {{\n{body}}}\n"
         rows_ = numbers_of(name, body)
         if not rows_:

@@ -175,13 +175,13 @@ pub enum TerminalMode {
 #[non_exhaustive]
 pub enum XtermKeyModifierResource {
     /// `modifyKeyboard`, number 0.
-    Keyboard,
+    Keyboard = 0,
     /// `modifyCursorKeys`, number 1.
-    CursorKeys,
+    CursorKeys = 1,
     /// `modifyFunctionKeys`, number 2.
-    FunctionKeys,
+    FunctionKeys = 2,
     /// `modifyOtherKeys`, number 4.
-    OtherKeys,
+    OtherKeys = 4,
 }
 
 impl XtermKeyModifierResource {
@@ -328,13 +328,13 @@ pub enum XtSmGraphicsItem {
 #[non_exhaustive]
 pub enum XtSmGraphicsAction {
     /// 1: it is asked for.
-    ReadAttribute,
+    ReadAttribute = 1,
     /// 2: it is set back to what it was at first.
-    ResetToDefault,
+    ResetToDefault = 2,
     /// 3: it is set to the values.
-    SetToValue,
+    SetToValue = 3,
     /// 4: the most that it can be is asked for.
-    ReadMaximumAllowedValue,
+    ReadMaximumAllowedValue = 4,
 }
 
 impl XtSmGraphicsAction {
@@ -366,13 +366,13 @@ impl XtSmGraphicsAction {
 #[non_exhaustive]
 pub enum XtSmGraphicsStatus {
     /// 0: it was done, and the values follow.
-    Success,
+    Success = 0,
     /// 1: the terminal has no such item.
-    InvalidItem,
+    InvalidItem = 1,
     /// 2: the terminal has no such action.
-    InvalidAction,
+    InvalidAction = 2,
     /// 3: it could not be done.
-    Failure,
+    Failure = 3,
 }
 
 impl XtSmGraphicsStatus {
@@ -404,41 +404,41 @@ impl XtSmGraphicsStatus {
 #[non_exhaustive]
 pub enum MouseButton {
     /// Button 1, the left one: it goes down.
-    Button1Press,
+    Button1Press = 1,
     /// Button 2, the middle one: it goes down.
-    Button2Press,
+    Button2Press = 2,
     /// Button 3, the right one: it goes down.
-    Button3Press,
+    Button3Press = 3,
     /// Button 4, the wheel, up: it goes down.
-    Button4Press,
+    Button4Press = 4,
     /// Button 5, the wheel, down: it goes down.
-    Button5Press,
+    Button5Press = 5,
     /// Button 6, the wheel, to the left: it goes down.
-    Button6Press,
+    Button6Press = 6,
     /// Button 7, the wheel, to the right: it goes down.
-    Button7Press,
+    Button7Press = 7,
     /// Button 1, the left one: it goes up.
-    Button1Release,
+    Button1Release = 11,
     /// Button 2, the middle one: it goes up.
-    Button2Release,
+    Button2Release = 12,
     /// Button 3, the right one: it goes up.
-    Button3Release,
+    Button3Release = 13,
     /// Button 4, the wheel, up: it goes up.
-    Button4Release,
+    Button4Release = 14,
     /// Button 5, the wheel, down: it goes up.
-    Button5Release,
+    Button5Release = 15,
     /// Button 6, the wheel, to the left: it goes up.
-    Button6Release,
+    Button6Release = 16,
     /// Button 7, the wheel, to the right: it goes up.
-    Button7Release,
+    Button7Release = 17,
     /// Button 1, the left one: the mouse moves while it is down.
-    Button1Drag,
+    Button1Drag = 21,
     /// Button 2, the middle one: the mouse moves while it is down.
-    Button2Drag,
+    Button2Drag = 22,
     /// Button 3, the right one: the mouse moves while it is down.
-    Button3Drag,
+    Button3Drag = 23,
     /// No button: the mouse moves.
-    None,
+    None = 0,
 }
 
 impl MouseButton {
@@ -659,11 +659,11 @@ pub enum Window {
 #[non_exhaustive]
 pub enum KittyKeyboardMode {
     /// They take the place of the old ones.
-    AssignAll,
+    AssignAll = 1,
     /// They are added.
-    SetSpecified,
+    SetSpecified = 2,
     /// They are taken away.
-    ClearSpecified,
+    ClearSpecified = 3,
 }
 
 impl KittyKeyboardMode {
@@ -726,11 +726,11 @@ pub enum Keyboard {
 #[non_exhaustive]
 pub enum CharacterPath {
     /// As the terminal has it: 0, or no number, of freedesktop's recommendation on bidirectional text; ECMA-48 has 1 and 2 alone.
-    ImplementationDefault,
+    ImplementationDefault = 0,
     /// From left to right, or from top to bottom.
-    LeftToRightOrTopToBottom,
+    LeftToRightOrTopToBottom = 1,
     /// From right to left, or from bottom to top.
-    RightToLeftOrBottomToTop,
+    RightToLeftOrBottomToTop = 2,
 }
 
 impl CharacterPath {

@@ -80,11 +80,11 @@ pub enum ColorSpec {
 #[non_exhaustive]
 pub enum Intensity {
     /// Neither bold nor faint, code 22.
-    Normal,
+    Normal = 0,
     /// Bold or increased intensity, code 1.
-    Bold,
+    Bold = 1,
     /// Faint or decreased intensity, code 2.
-    Half,
+    Half = 2,
 }
 
 impl Intensity {
@@ -114,17 +114,17 @@ impl Intensity {
 #[non_exhaustive]
 pub enum Underline {
     /// No line, code 24 or `4:0`.
-    None,
+    None = 0,
     /// One line, code 4 or `4:1`.
-    Single,
+    Single = 1,
     /// Two lines, code 21 or `4:2`.
-    Double,
+    Double = 2,
     /// A wavy line, `4:3`.
-    Curly,
+    Curly = 3,
     /// A line of dots, `4:4`.
-    Dotted,
+    Dotted = 4,
     /// A line of dashes, `4:5`.
-    Dashed,
+    Dashed = 5,
 }
 
 impl Underline {
@@ -160,11 +160,11 @@ impl Underline {
 #[non_exhaustive]
 pub enum Blink {
     /// Steady, code 25.
-    None,
+    None = 0,
     /// Less than 150 times a minute, code 5.
-    Slow,
+    Slow = 1,
     /// 150 times a minute or more, code 6.
-    Rapid,
+    Rapid = 2,
 }
 
 impl Blink {
@@ -194,11 +194,11 @@ impl Blink {
 #[non_exhaustive]
 pub enum VerticalAlign {
     /// On the line, code 75.
-    BaseLine,
+    BaseLine = 0,
     /// Raised and small, code 73.
-    SuperScript,
+    SuperScript = 1,
     /// Lowered and small, code 74.
-    SubScript,
+    SubScript = 2,
 }
 
 impl VerticalAlign {

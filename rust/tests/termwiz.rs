@@ -271,3 +271,11 @@ fn what_stays() {
     let again = CSI::from(csicodec::CSI::from(CSI::Cursor(Cursor::SaveCursor)));
     assert_eq!(again, CSI::Cursor(Cursor::SaveCursor));
 }
+
+#[test]
+fn numbers() {
+    assert_eq!(KittyKeyboardMode::AssignAll as u16, 1);
+    assert_eq!(XtermKeyModifierResource::OtherKeys as i64, 4);
+    assert_eq!(XtSmGraphicsStatus::Failure as i64, 3);
+    assert_eq!(DecPrivateModeCode::BracketedPaste as u16, 2004);
+}

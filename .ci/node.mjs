@@ -71,6 +71,11 @@ for (const file of files) {
         ['clean in 256 colours', codec.clean(data, { colors: 256 }), codec.cleanStream({ colors: 256 })],
         ['filter', codec.filter(data), codec.filterStream()],
         ['compact', await through(codec.compactStream(), data, data.length + 1), codec.compactStream()],
+        ['html', codec.html(data), codec.htmlStream()],
+        ['html with classes, a fragment', codec.html(data, { classes: true, fragment: true }), codec.htmlStream({ classes: true, fragment: true })],
+        ['html with a palette', codec.html(data, { palette: PALETTE }), codec.htmlStream({ palette: PALETTE })],
+        ['overwritten lines', codec.overwrite(data), codec.overwriteStream()],
+        ['painted lines', codec.overwrite(data, { styles: true }), codec.overwriteStream({ styles: true })],
     ]) {
         if (!same(await through(stream, data, 7), whole)) wrong(`${name} of ${file} as it comes is another`);
     }
@@ -91,6 +96,16 @@ try {
     wrong('nothing was refused');
 } catch (error) {
     if (!(error instanceof CodecError) || error.start !== 4) wrong(String(error));
+}
+
+// Lines as they come are those of the whole: short streams at random of what lines are made of, in pieces of each length.
+const BITS = ['a', 'é', '\n', '\n', '\r', '\x1b[1m', '\x1b[38;5;200;4m', '\x1b[m', '\x1b[8m', '\x1bc', '\x1bkt', '\x1b\\', '\x1b]0;t\n', '\x07', '\x1b[3\n1m', '\x1b[K', '\x1b[2C', '\x1bM', '\x1b7', '\x1b8', '\x1b[', '\x1bP\n', '\t', '\x18', '\x1b]8;;http://a.b\x07', '\x0e', '\x1b(0'];
+let seed = 1;
+const drawn = below => { seed = (seed * 48271) % 0x7fffffff; return seed % below; };
+for (let i = 0; i < 3000; i++) {
+    const data = Buffer.from(Array.from({ length: 3 + drawn(25) }, () => BITS[drawn(BITS.length)]).join('')), size = 1 + drawn(9);
+    if (!same(await through(codec.htmlStream({ fragment: true }), data, size), codec.html(data, { fragment: true }))) wrong(`html of ${JSON.stringify(data.toString())} in pieces of ${size} is another`);
+    if (!same(await through(codec.overwriteStream({ styles: true }), data, size), codec.overwrite(data, { styles: true }))) wrong(`lines of ${JSON.stringify(data.toString())} in pieces of ${size} are others`);
 }
 
 const types = new Set();
@@ -138,6 +153,7 @@ for (const [said, call] of [
     ['an event is required, not string', () => new OscReader(codec).take('x')],
     ['the option name must be a string, not number', () => codec.explain('a', { name: 5 })],
     ['must be a function, not undefined', () => codec.explainEach('a', {})],
+    ['no option links,', () => codec.htmlStream({ links: true })],
     ['no option semicolon,', () => codec.compactStream({ semicolon: true })],
     ['styles must be boolean, not string', () => codec.overwrite('a', { styles: 'all' })],
     ['the options must be an object, not null', () => codec.clean('a', null)],

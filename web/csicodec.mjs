@@ -62,7 +62,7 @@ function depthOf(colors) {
     return depth;
 }
 
-const joined = parts => {
+export const joined = parts => {
     if (parts.length === 1) return parts[0];
     const all = new Uint8Array(parts.reduce((sum, part) => sum + part.length, 0));
     let at = 0;
@@ -268,7 +268,7 @@ class Filter extends Steps {
 }
 
 /** A stream of bytes, or of strings, through this. */
-const streamOf = steps => new TransformStream({
+export const streamOf = steps => new TransformStream({
     transform(chunk, controller) { for (const part of steps.feed(bytesOf(chunk))) controller.enqueue(part); },
     flush(controller) { const end = steps.finish(); if (end.length) controller.enqueue(end); },
 });

@@ -175,6 +175,9 @@ export class Codec {
     cleanStream(options?: { colors?: Colors }): Transform;
     filterStream(): Transform;
     compactStream(options?: { semicolons?: boolean }): Transform;
+    /** What `html` and `overwrite` write of a whole stream, line by line as it comes; they hold a line. */
+    htmlStream(options?: Omit<HtmlOptions, 'links' | 'overwrite'>): Transform;
+    overwriteStream(options?: { styles?: boolean }): Transform;
     /** The events of a whole stream. */
     events(input: Input): Generator<Event, void, undefined>;
     /** The events of all that a terminal sent. An ESC at the end is a key. */

@@ -1,6 +1,6 @@
 // The package csicodec for JavaScript: csicodec.mjs, and events, input, spans and actions over the same library.
 import { NAMES } from './actions.mjs';
-import { Codec as TextCodec, CodecError, bytesOf, optionsOf, recorded, textOf, typeName } from './csicodec.mjs';
+import { Codec as TextCodec, CodecError, bytesOf, joined, optionsOf, recorded, streamOf, textOf, typeName } from './csicodec.mjs';
 import { ACTION_SIZE, PARAM_SIZE, actionOf, rowsOf } from './forms.mjs';
 
 export { CodecError, recorded };
@@ -267,7 +267,98 @@ export class OscReader {
     }
 }
 
+/** Writes the lines of a stream, each as it stands when it ends, as they come. Behind a newline of text outside of a title nothing is left of a line
+ * but how further characters look (`NewLine` of csicodec_overwrite's Line.antt), so that whole lines can be written by themselves, behind the sequence
+ * that sets this. */
+class Lines {
+    /** `write` makes what is written of the bytes of whole lines, and `around` is what stands ahead of all and behind it. */
+    constructor(codec, write, around = [new Uint8Array(), new Uint8Array()]) {
+        Object.assign(this, { codec, write, around });
+        this.begin();
+    }
+
+    begin() {
+        Object.assign(this, { look: new Uint8Array(), held: [], rest: new Uint8Array(), controls: [], mode: 0, isTitle: false, isBegun: false });
+    }
+
+    /** What becomes of the next bytes, as far as they are whole lines, in pieces. */
+    feed(given) {
+        const parts = this.#ahead();
+        for (let at = 0; at < given.length; at += PIECE) {
+            const bytes = joined([this.rest, given.subarray(at, at + PIECE)]), controls = [], { used, cut } = this.#cut(bytes, controls);
+            this.rest = bytes.slice(used);
+            if (!cut) {
+                this.held.push(bytes.slice(0, used));
+                this.controls.push(...controls.map(({ piece }) => piece));
+                continue;
+            }
+            parts.push(this.write(joined([this.look, ...this.held, bytes.subarray(0, cut)])));
+            this.#look([...this.controls, ...controls.filter(({ at }) => at < cut).map(({ piece }) => piece)]);
+            this.held = [bytes.slice(cut, used)];
+            this.controls = controls.filter(({ at }) => at >= cut).map(({ piece }) => piece);
+        }
+        return parts.filter(part => part.length);
+    }
+
+    finish() {
+        const end = joined([...this.#ahead(), this.write(joined([this.look, ...this.held, this.rest])), this.around[1]]);
+        this.begin();
+        return end;
+    }
+
+    #ahead() {
+        const parts = this.isBegun ? [] : [this.around[0]];
+        this.isBegun = true;
+        return parts;
+    }
+
+    /** How many bytes are in whole spans, and how many of them end with the last newline that ends a line; appends the sequences that can set how
+     * characters look. */
+    #cut(bytes, controls) {
+        let used = 0, cut = 0;
+        this.codec.guarded(library => {
+            library.take(bytes);
+            while (used < bytes.length) {
+                library.calls.csicodec_span(library.answer, this.mode, BigInt(LIMIT), library.input.at + BigInt(used), BigInt(bytes.length - used));
+                library.look();
+                if (library.told(0)) return;
+                const piece = bytes.subarray(used, used + library.told(16)), kind = SPANS[library.told(4)];
+                if (kind !== 'text') {
+                    this.isTitle = kind === 'esc' && piece.length === 2 && piece[1] === 0x6b;
+                    if (kind === 'csi' || kind === 'esc' && !this.isTitle) controls.push({ at: used, piece: piece.slice() });
+                } else if (!this.isTitle && piece.includes(10)) {
+                    cut = used + piece.lastIndexOf(10) + 1;
+                }
+                this.mode = library.told(8);
+                used += piece.length;
+            }
+        });
+        return { used, cut };
+    }
+
+    /** Behind these sequences: the one with which the library writes how a character looks. */
+    #look(controls) {
+        if (!controls.length) return;
+        const shown = this.codec.overwrite(joined([this.look, ...controls, Uint8Array.of(10, 0x58)]), { styles: true });
+        this.look = shown.slice(shown.lastIndexOf(10) + 1, shown.lastIndexOf(0x58));
+    }
+}
+
 export class Codec extends TextCodec {
+    /** A page as `html` makes it of a whole stream, for one that comes, of bytes or of strings: a TransformStream that writes bytes, and holds a line.
+     * Links don't pass. */
+    htmlStream(options) {
+        const { fragment, ...how } = optionsOf(options, { classes: false, fragment: false, palette: [] });
+        const [ahead, behind] = fragment ? ['', ''] : this.html('\ue000', how).split('\ue000');
+        return streamOf(new Lines(this, bytes => this.html(bytes, { ...how, fragment: true }), [ahead, behind].map(bytesOf)));
+    }
+
+    /** The same of `overwrite`. */
+    overwriteStream(options) {
+        const how = optionsOf(options, { styles: false });
+        return streamOf(new Lines(this, bytes => this.overwrite(bytes, how)));
+    }
+
     /** The events of a whole stream. */
     events(input) { return allOf(new Parser(this), bytesOf(input)); }
 

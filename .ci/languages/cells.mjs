@@ -15,6 +15,8 @@ says('keys', pressed.code === 'Char' && pressed.character === 'a' && pressed.mod
 const [told] = [...parser.feed('\x1b]2;a ti'), ...parser.feed('tle\x07')].map(it => said.take(it)).filter(Boolean);
 says('osc', told.kind === 'TitleWindow' && decoder.decode(told.first) === 'a title' && decoder.decode(codec.osc('8;;http://a.example').second) === 'http://a.example');
 says('html', codec.html('1\r\x1b[1m<', { fragment: true }) === '<span style="font-weight:bold;">&lt;</span>' && codec.overwrite('1\r2') === '2');
+says('lines', await through(codec.htmlStream({ fragment: true }), '1\r\x1b[1m<\n&') === '<span style="font-weight:bold;">&lt;</span>\n<span style="font-weight:bold;">&amp;</span>'
+    && await through(codec.overwriteStream(), '1\r2\n3') === '2\n3');
 says('known', [...codec.events('\x1b[?2K')].map(it => codec.known(it).kind).join() === 'DECSEL');
 says('spans', codec.spans('a\x1b[m').map(it => it.kind).join() === 'text,csi');
 says('whole', ['strip', 'clean', 'filter', 'compact'].map(it => codec[it]('\x1b[01m\x1b[3ma')).join() === 'a,\x1b[1m\x1b[3ma\x1b[0m,\x1b[1m\x1b[3ma,\x1b[1;3ma');

@@ -17,6 +17,7 @@ ROWS = [
     ("whole", "`strip`, `clean`, `filter`, `compact` of a whole", {}),
     ("stream", "the same as it comes", {}),
     ("html", "`html`, overwritten lines of a whole", {}),
+    ("lines", "the same, line by line as it comes", {}),
     ("encode", "actions built, and written", {}),
     ("explain", "`explain`", {"Python": "runs the program"}),
 ]

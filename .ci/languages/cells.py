@@ -1,5 +1,5 @@
 """What the package for Python has, each row tried: a row's name is said behind it."""
-from csicodec import Cleaner, Cursor, Filter, Input, InputParser, Key, KeyCode, KeyModifiers, KeyParser, KnownKind, OscKind, OscReader, Parser, Sgr, Text
+from csicodec import Cleaner, Cursor, Filter, HtmlWriter, Input, InputParser, Key, KeyCode, KeyModifiers, KeyParser, KnownKind, OscKind, OscReader, Parser, Sgr, Text
 from csicodec import clean, compact, encode, events, explain, filter, html, inputs, keys as keys_of, known, osc, overwrite, spans, strip
 
 
@@ -16,6 +16,8 @@ pressed, presses, reader = list(keys_of("\x1b[97;5u"))[0], KeyParser(), OscReade
 says("keys", isinstance(pressed, Key) and (pressed.code, pressed.value, pressed.modifiers) == (KeyCode.Char, "a", KeyModifiers.CTRL))
 says("osc", [it.first for piece in ("\x1b]2;a ti", "tle\a") for event in parser.feed(piece) for it in reader.take(event)] == [b"a title"] and osc("8;;x").kind == OscKind.Link)
 says("html", html("1\r\x1b[1m<", fragment=True) == '<span style="font-weight:bold;">&lt;</span>' and overwrite("1\r2") == "2")
+page = HtmlWriter(fragment=True)
+says("lines", page.feed("1\r\x1b[1m<\n&") + page.finish() == b'<span style="font-weight:bold;">&lt;</span>\n<span style="font-weight:bold;">&amp;</span>')
 assert presses.feed("\x1b") == [] and [it.code for it in presses.pause() if isinstance(it, Key)] == [KeyCode.Escape]
 says("known", [known(it).kind for it in events("\x1b[?2K")] == [KnownKind.DECSEL])
 says("spans", [it.data for it in spans("a\x1b[m")] == [b"a", b"\x1b[m"])

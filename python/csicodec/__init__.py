@@ -18,6 +18,7 @@ if TYPE_CHECKING:
     from .key import Key, KeyEncoding, KeyEvent, KeyParser, keys
     from .known_kinds import KnownKind
     from .library import Data
+    from .lines import HtmlWriter, Overwriter
     from .parser import Parser, events
     from .program import explain
     from .sequences import Known, known
@@ -31,10 +32,10 @@ __version__ = "1.9.0"
 __all__ = [
     "Action", "Blink", "CharacterPath", "Cleaner", "CodecError", "Color", "ControlString", "Cursor", "CursorAction", "CursorStyle",
     "CursorTabulationControl", "Data", "DecPrivateModeCode", "DefaultColor", "Device", "DeviceAction", "DeviceAttributeCodes",
-    "Dialect", "Edit", "EditAction", "EraseInDisplay", "EraseInLine", "Esc", "EscCode", "Event", "FieldError", "Filter", "Input",
+    "Dialect", "Edit", "EditAction", "EraseInDisplay", "EraseInLine", "Esc", "EscCode", "Event", "FieldError", "Filter", "HtmlWriter", "Input",
     "InputEvent", "InputKey", "InputParser", "Intensity", "Key", "KeyCode", "KeyEncoding", "KeyEvent", "KeyModifiers", "KeyParser",
     "Keyboard", "KeyboardAction", "KittyKeyboardFlags", "KittyKeyboardMode", "Known", "KnownKind", "Malformed", "Mode",
-    "ModeAction", "Modifiers", "MouseButton", "MouseReport", "MouseReportAction", "Osc", "OscKind", "OscReader", "PaletteColor",
+    "ModeAction", "Modifiers", "MouseButton", "MouseReport", "MouseReportAction", "Osc", "OscKind", "OscReader", "Overwriter", "PaletteColor",
     "Parser", "SelectCharacterPath", "Sgr", "SgrAction", "Span", "SpanKind", "TabulationClear", "TerminalModeCode", "Text", "Token",
     "TrueColor", "Underline", "UnknownEsc", "Unspecified", "VerticalAlign", "Window", "WindowAction", "XtSmGraphicsAction",
     "XtSmGraphicsItem", "XtSmGraphicsStatus", "XtermKeyModifierResource", "clean", "compact", "encode", "encode_compact", "events",
@@ -43,7 +44,7 @@ __all__ = [
 # fmt: on
 #: The modules that have these names, those first that are loaded soonest. A name is loaded when it is first asked for, so that a program
 #: which strips doesn't load the actions.
-_MODULES = ("text", "error", "program", "values", "enums", "forms", "actions", "encoding", "event", "parser", "known_kinds", "sequences", "span", "input", "key", "strings")
+_MODULES = ("text", "error", "program", "values", "enums", "forms", "actions", "encoding", "event", "parser", "known_kinds", "sequences", "span", "input", "key", "strings", "lines")
 
 
 def __getattr__(name: str) -> object:

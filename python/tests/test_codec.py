@@ -7,6 +7,7 @@ import importlib
 import os
 import pathlib
 import pickle
+import random
 import re
 import subprocess
 import sys
@@ -147,7 +148,7 @@ class Codec(unittest.TestCase):
         reader.take(event)
         for other in [pickle.loads(pickle.dumps(reader)), copy.deepcopy(reader)]:
             self.assertEqual([said.first for said in other.take(ControlString("OSC", b"b", first=False))], [b"ab"])
-        for it in [Parser(), InputParser(), csicodec.KeyParser(), Cleaner(styles=True), Filter(), Filter.compact()]:
+        for it in [Parser(), InputParser(), csicodec.KeyParser(), Cleaner(styles=True), Filter(), Filter.compact(), csicodec.Overwriter(), csicodec.HtmlWriter()]:
             it.feed(b"a\x1b[1m\x1b]0;t\x1b[3")
             others = [pickle.loads(pickle.dumps(it)), copy.deepcopy(it)]
             wanted = (it.feed("1mé"), it.finish())
@@ -155,7 +156,7 @@ class Codec(unittest.TestCase):
                 self.assertEqual((other.feed("1mé"), other.finish()), wanted)
 
     def test_with(self):
-        for it in [Parser(), InputParser(), csicodec.KeyParser(), Cleaner(), Filter()]:
+        for it in [Parser(), InputParser(), csicodec.KeyParser(), Cleaner(), Filter(), csicodec.Overwriter()]:
             with it:
                 it.feed("\x1b[1")
             self.assertFalse(it.finish())
@@ -250,6 +251,24 @@ class Codec(unittest.TestCase):
             with self.assertRaises(ValueError):
                 csicodec.html("a", palette=palette)
 
+    def test_lines_as_they_come(self):
+        for stream in [ODD, *STREAMS]:
+            for whole, it in [
+                (csicodec.html(stream), csicodec.HtmlWriter()),
+                (csicodec.html(stream, fragment=True, classes=True), csicodec.HtmlWriter(fragment=True, classes=True)),
+                (csicodec.html(stream, palette=PALETTE), csicodec.HtmlWriter(palette=PALETTE)),
+                (csicodec.overwrite(stream), csicodec.Overwriter()),
+                (csicodec.overwrite(stream, styles=True), csicodec.Overwriter(styles=True)),
+            ]:
+                self.assertEqual(b"".join(it.feed(stream[at : at + 7]) for at in range(0, len(stream), 7)) + it.finish(), whole)
+        bits = ["a", "é", "\n", "\n", "\r", "\x1b[1m", "\x1b[38;5;200;4m", "\x1b[m", "\x1b[8m", "\x1bc", "\x1bkt", "\x1b\\", "\x1b]0;t\n", "\a", "\x1b[3\n1m", "\x1b[K"]
+        bits += ["\x1b[2C", "\x1bM", "\x1b7", "\x1b8", "\x1b[", "\x1bP\n", "\t", "\x18", "\x0e", "\x1b(0", "\x1b[5;7H", "\x1b[2"]
+        drawn = random.Random(1)
+        for _ in range(2000):
+            stream, size = "".join(drawn.choices(bits, k=drawn.randrange(3, 28))).encode(), drawn.randrange(1, 9)
+            for whole, it in [(csicodec.html(stream, fragment=True), csicodec.HtmlWriter(fragment=True)), (csicodec.overwrite(stream, styles=True), csicodec.Overwriter(styles=True))]:
+                self.assertEqual(b"".join(it.feed(stream[at : at + size]) for at in range(0, len(stream), size)) + it.finish(), whole, (stream, size))
+
     def test_keys(self):
         held = b"a\x1bOP\x1b[1;5A\x1b[57399u\xc3\xa9\x1b[5;7R\x1b[<0;1;2M\x1b[200~\x1b"
         names = [it if isinstance(it, bytes) else it.code.name + it.value for it in csicodec.keys(held)]
@@ -271,7 +290,7 @@ class Codec(unittest.TestCase):
 
 
 def load_tests(loader, tests, pattern):
-    for name in ("csicodec", "csicodec.actions", "csicodec.encoding", "csicodec.input", "csicodec.key", "csicodec.parser", "csicodec.program", "csicodec.sequences", "csicodec.span", "csicodec.strings", "csicodec.text"):
+    for name in ("csicodec", "csicodec.actions", "csicodec.encoding", "csicodec.input", "csicodec.key", "csicodec.lines", "csicodec.parser", "csicodec.program", "csicodec.sequences", "csicodec.span", "csicodec.strings", "csicodec.text"):
         tests.addTests(doctest.DocTestSuite(importlib.import_module(name), extraglobs={"events": csicodec.events}))
     return tests
 

@@ -33,6 +33,8 @@ fn main() -> Result<(), serde_json::Error> {
     let told: Vec<_> = events(b"a\x1b[1m\x1bD\x1b]2;t\x07").collect();
     let string = json!({"Str": {"kind": "Osc", "bytes": [50, 59, 116], "first": true, "last": true}});
     assert_eq!(to_value(&told)?, json!([{"Text": [97]}, {"Csi": {"Sgr": {"Intensity": "Bold"}}}, {"Esc": {"Code": "Index"}}, string]));
+    let kept: Vec<_> = told.iter().cloned().map(Event::into_owned).collect();
+    assert_eq!(from_str::<Vec<OwnedEvent>>(&to_string(&told)?)?, kept);
     let input: Vec<_> = inputs(Dialect::Input, b"\x1bOP\x1b").collect();
     assert_eq!(to_value(&input)?, json!([{"Ss3": "P"}, "Escape"]));
     let key = keys(b"\x1b[97;5u").next().expect("a key").expect("no other event");

@@ -1,6 +1,7 @@
 //! An event of a stream.
 
 use crate::{CSI, Esc};
+use alloc::vec::Vec;
 
 /// What opened a control string.
 #[derive(Clone, Copy, Debug, PartialEq, Eq, Hash)]
@@ -44,6 +45,85 @@ pub enum Event<'a> {
     },
     /// A malformed control, or a piece of it.
     Other(&'a [u8]),
+}
+
+/// An event with bytes of its own, which can be kept, sent to another thread, or, with the feature `serde`, read again.
+///
+/// ```
+/// use csicodec::{Event, OwnedEvent, events};
+///
+/// let kept: Vec<OwnedEvent> = events(b"a\x1b[2A").map(Event::into_owned).collect();
+/// assert_eq!(kept[0].as_event(), Event::Text(b"a"));
+/// ```
+#[derive(Clone, Debug, PartialEq, Eq)]
+#[cfg_attr(feature = "serde", derive(serde::Serialize, serde::Deserialize))]
+#[non_exhaustive]
+pub enum OwnedEvent {
+    /// As [`Event::Text`].
+    Text(Vec<u8>),
+    /// As [`Event::Csi`].
+    Csi(CSI),
+    /// As [`Event::Esc`].
+    Esc(Esc),
+    /// As [`Event::Str`].
+    Str {
+        /// What opened it.
+        kind: StringKind,
+        /// The data, without what opens and closes the string.
+        bytes: Vec<u8>,
+        /// Whether it is the first piece.
+        first: bool,
+        /// Whether it is the last piece.
+        last: bool,
+    },
+    /// As [`Event::Other`].
+    Other(Vec<u8>),
+}
+
+impl Event<'_> {
+    /// The same with bytes of its own.
+    pub fn into_owned(self) -> OwnedEvent {
+        match self {
+            Event::Text(bytes) => OwnedEvent::Text(bytes.to_vec()),
+            Event::Csi(action) => OwnedEvent::Csi(action),
+            Event::Esc(esc) => OwnedEvent::Esc(esc),
+            Event::Str {
+                kind,
+                bytes,
+                first,
+                last,
+            } => OwnedEvent::Str {
+                kind,
+                bytes: bytes.to_vec(),
+                first,
+                last,
+            },
+            Event::Other(bytes) => OwnedEvent::Other(bytes.to_vec()),
+        }
+    }
+}
+
+impl OwnedEvent {
+    /// The event.
+    pub fn as_event(&self) -> Event<'_> {
+        match self {
+            OwnedEvent::Text(bytes) => Event::Text(bytes),
+            OwnedEvent::Csi(action) => Event::Csi(action.clone()),
+            OwnedEvent::Esc(esc) => Event::Esc(*esc),
+            OwnedEvent::Str {
+                kind,
+                bytes,
+                first,
+                last,
+            } => Event::Str {
+                kind: *kind,
+                bytes,
+                first: *first,
+                last: *last,
+            },
+            OwnedEvent::Other(bytes) => Event::Other(bytes),
+        }
+    }
 }
 
 impl StringKind {

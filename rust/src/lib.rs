@@ -50,7 +50,7 @@ mod values;
 pub use actions::*;
 pub use error::Error;
 pub use esc::{Esc, EscCode};
-pub use event::{Event, StringKind};
+pub use event::{Event, OwnedEvent, StringKind};
 pub use events::{Events, events};
 pub use filter::{Filter, compact, compact_semicolons, filter};
 pub use html::{Markup, Palette, html, overwrite, overwrite_styled};

@@ -1,5 +1,5 @@
 //! What the crate has, each row tried: a row's name is said behind it.
-use csicodec::{CSI, Cleaner, Cursor, Dialect, Event, Filter, InputEvent, Key, KeyCode, KeyModifiers, Known, KnownKind, Markup, Osc, OscKind, Parser, Sgr, SpanKind};
+use csicodec::{CSI, Cleaner, Cursor, Dialect, Event, Filter, InputEvent, Key, KeyCode, KeyModifiers, Known, KnownKind, Lines, Markup, Osc, OscKind, Parser, Sgr, SpanKind};
 use std::num::NonZeroUsize;
 
 fn says(row: &str, is_so: bool) {
@@ -23,6 +23,9 @@ fn main() -> Result<(), csicodec::Error> {
     says("osc", (link.kind, link.second) == (OscKind::Link, Some(b"http://a.example".as_slice())));
     let fragment = Markup { fragment: true, ..Markup::default() };
     says("html", fragment.html(b"1\r\x1b[1m<")? == "<span style=\"font-weight:bold;\">&lt;</span>" && csicodec::overwrite(b"1\r2")? == "2");
+    let (mut lines, mut written) = (Lines::html(fragment), Vec::new());
+    lines.push(b"1\r\x1b[1m<\n", &mut written)?;
+    says("lines", written == b"<span style=\"font-weight:bold;\">&lt;</span>\n");
     let Some(Event::Csi(CSI::Unspecified(unknown))) = csicodec::events(b"\x1b[?2K").next() else { panic!() };
     says("known", Known::of(&unknown).is_some_and(|it| it.kind() == KnownKind::DECSEL));
     says("spans", csicodec::spans(b"a\x1b[m").map(|it| it.kind).eq([SpanKind::Text, SpanKind::Csi]));

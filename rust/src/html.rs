@@ -78,10 +78,18 @@ pub fn html(bytes: impl AsRef<[u8]>) -> Result<String, Error> {
 /// # Ok::<(), csicodec::Error>(())
 /// ```
 pub fn overwrite(bytes: impl AsRef<[u8]>) -> Result<String, Error> {
-    left(|bytes, out| raw::overwrite(0, bytes, out), bytes.as_ref())
+    overwritten(false, bytes.as_ref())
 }
 
 /// The same with the sequences (SGR) that set how characters look; at the end of each line none is set.
 pub fn overwrite_styled(bytes: impl AsRef<[u8]>) -> Result<String, Error> {
-    left(|bytes, out| raw::overwrite(1, bytes, out), bytes.as_ref())
+    overwritten(true, bytes.as_ref())
+}
+
+/// Either of them.
+pub(crate) fn overwritten(styled: bool, bytes: &[u8]) -> Result<String, Error> {
+    left(
+        |bytes, out| raw::overwrite(styled.into(), bytes, out),
+        bytes,
+    )
 }

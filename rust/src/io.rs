@@ -1,6 +1,6 @@
 //! Readers and writers of the standard library: what takes the feature `std`.
 
-use crate::{Cleaner, Event, Markup, Parser};
+use crate::{Cleaner, Error, Event, Lines, Markup, Parser};
 use std::io::{self, ErrorKind, Read, Write};
 use std::vec::Vec;
 
@@ -26,21 +26,81 @@ impl Parser {
     }
 }
 
-impl Cleaner {
-    /// A writer that passes on what is left of the bytes that are written to it.
-    pub fn writer<W: Write>(self, to: W) -> CleanWriter<W> {
-        CleanWriter {
-            cleaner: self,
+fn no_memory(_: Error) -> io::Error {
+    ErrorKind::OutOfMemory.into()
+}
+
+/// A writer, and bytes that are to be written to it.
+#[derive(Debug)]
+struct Sender<W> {
+    to: W,
+    out: Vec<u8>,
+    /// How many of the bytes of `out` were written.
+    sent: usize,
+}
+
+impl<W: Write> Sender<W> {
+    fn new(to: W) -> Self {
+        Sender {
             to,
             out: Vec::new(),
             sent: 0,
         }
     }
 
+    /// Writes what waits.
+    fn send(&mut self) -> io::Result<()> {
+        while self.sent < self.out.len() {
+            match self.to.write(&self.out[self.sent..]) {
+                Ok(0) => return Err(ErrorKind::WriteZero.into()),
+                Ok(count) => self.sent += count,
+                Err(error) if error.kind() == ErrorKind::Interrupted => {}
+                Err(error) => return Err(error),
+            }
+        }
+        self.out.clear();
+        self.sent = 0;
+        Ok(())
+    }
+
+    /// Writes what waits, and then what `push` appends of some bytes. These are taken then: if the writer fails, the next call tries again.
+    fn write(
+        &mut self,
+        bytes: &[u8],
+        push: impl FnOnce(&[u8], &mut Vec<u8>) -> Result<(), Error>,
+    ) -> io::Result<usize> {
+        self.send()?;
+        push(bytes, &mut self.out).map_err(no_memory)?;
+        match self.send() {
+            Ok(()) | Err(_) => Ok(bytes.len()),
+        }
+    }
+
+    fn flush(&mut self) -> io::Result<()> {
+        self.send()?;
+        self.to.flush()
+    }
+
+    /// Writes what waits and what `end` appends, and gives the writer back.
+    fn finish(mut self, end: impl FnOnce(&mut Vec<u8>) -> Result<(), Error>) -> io::Result<W> {
+        end(&mut self.out).map_err(no_memory)?;
+        self.send()?;
+        Ok(self.to)
+    }
+}
+
+impl Cleaner {
+    /// A writer that passes on what is left of the bytes that are written to it.
+    pub fn writer<W: Write>(self, to: W) -> CleanWriter<W> {
+        CleanWriter {
+            cleaner: self,
+            sender: Sender::new(to),
+        }
+    }
+
     /// Reads to the end; writes and flushes the text as it comes, and the end. An `Err` is the reader's or the writer's, or
     /// [`ErrorKind::OutOfMemory`]: the output is then a prefix of the text, and a style may be open.
     pub fn copy(mut self, mut from: impl Read, mut to: impl Write) -> io::Result<()> {
-        let no_memory = |_| io::Error::from(ErrorKind::OutOfMemory);
         let mut piece = [0; 4096];
         let mut out = Vec::new();
         loop {
@@ -75,72 +135,45 @@ impl Cleaner {
 #[derive(Debug)]
 pub struct CleanWriter<W: Write> {
     cleaner: Cleaner,
-    to: W,
-    out: Vec<u8>,
-    /// How many of the bytes of `out` were written.
-    sent: usize,
+    sender: Sender<W>,
 }
 
 impl<W: Write> CleanWriter<W> {
     /// The writer behind it.
     pub fn get_ref(&self) -> &W {
-        &self.to
-    }
-
-    /// Writes what waits.
-    fn send(&mut self) -> io::Result<()> {
-        while self.sent < self.out.len() {
-            match self.to.write(&self.out[self.sent..]) {
-                Ok(0) => return Err(ErrorKind::WriteZero.into()),
-                Ok(count) => self.sent += count,
-                Err(error) if error.kind() == ErrorKind::Interrupted => {}
-                Err(error) => return Err(error),
-            }
-        }
-        self.out.clear();
-        self.sent = 0;
-        Ok(())
+        &self.sender.to
     }
 
     /// Writes the end, and gives the writer behind it back, which isn't flushed.
-    pub fn finish(mut self) -> io::Result<W> {
-        let no_memory = |_| io::Error::from(ErrorKind::OutOfMemory);
-        let cleaner = core::mem::replace(&mut self.cleaner, Cleaner::strip());
-        cleaner.finish(&mut self.out).map_err(no_memory)?;
-        self.send()?;
-        Ok(self.to)
+    pub fn finish(self) -> io::Result<W> {
+        self.sender.finish(|out| self.cleaner.finish(out))
     }
 }
 
 impl<W: Write> Write for CleanWriter<W> {
     fn write(&mut self, bytes: &[u8]) -> io::Result<usize> {
-        self.send()?;
-        let no_memory = |_| io::Error::from(ErrorKind::OutOfMemory);
-        self.cleaner.push(bytes, &mut self.out).map_err(no_memory)?;
-        match self.send() {
-            // The bytes are taken: the next call tries again, and returns the error if that fails.
-            Ok(()) | Err(_) => Ok(bytes.len()),
-        }
+        let cleaner = &mut self.cleaner;
+        self.sender
+            .write(bytes, |bytes, out| cleaner.push(bytes, out))
     }
 
     fn flush(&mut self) -> io::Result<()> {
-        self.send()?;
-        self.to.flush()
+        self.sender.flush()
     }
 }
 
 impl Markup {
-    /// A writer that writes the page of all that is written to it, at its end.
+    /// A writer that writes the page of all that is written to it.
     pub fn writer<W: Write>(self, to: W) -> HtmlWriter<W> {
         HtmlWriter {
-            markup: self,
-            to,
-            held: Vec::new(),
+            lines: Lines::html(self),
+            sender: Sender::new(to),
         }
     }
 }
 
-/// Holds the bytes that are written to it; [`HtmlWriter::finish`] writes the page of them.
+/// Writes the page of the bytes that are written to it, line by line as [`Lines`] does. [`HtmlWriter::finish`] writes the end. An error of the
+/// writer behind it is returned by the next call, and what wasn't written then comes again.
 ///
 /// ```
 /// use csicodec::Markup;
@@ -153,28 +186,25 @@ impl Markup {
 /// ```
 #[derive(Debug)]
 pub struct HtmlWriter<W: Write> {
-    markup: Markup,
-    to: W,
-    held: Vec<u8>,
+    lines: Lines,
+    sender: Sender<W>,
 }
 
 impl<W: Write> HtmlWriter<W> {
-    /// Writes the page, and gives the writer behind it back, which isn't flushed.
-    pub fn finish(mut self) -> io::Result<W> {
-        let no_memory = |_| io::Error::from(ErrorKind::OutOfMemory);
-        let page = self.markup.html(&self.held).map_err(no_memory)?;
-        self.to.write_all(page.as_bytes())?;
-        Ok(self.to)
+    /// Writes the end, and gives the writer behind it back, which isn't flushed.
+    pub fn finish(self) -> io::Result<W> {
+        self.sender.finish(|out| self.lines.finish(out))
     }
 }
 
 impl<W: Write> Write for HtmlWriter<W> {
     fn write(&mut self, bytes: &[u8]) -> io::Result<usize> {
-        self.held.extend_from_slice(bytes);
-        Ok(bytes.len())
+        let lines = &mut self.lines;
+        self.sender
+            .write(bytes, |bytes, out| lines.push(bytes, out))
     }
 
     fn flush(&mut self) -> io::Result<()> {
-        Ok(())
+        self.sender.flush()
     }
 }

@@ -1,0 +1,195 @@
+//! Pages of HTML, and overwritten lines, of a stream as it comes.
+
+use crate::pending::LIMIT;
+use crate::{Error, Markup, html::overwritten, raw};
+use alloc::vec::Vec;
+
+/// What is written of lines.
+#[derive(Clone, Copy, Debug)]
+enum Form {
+    Page(Markup),
+    Text { styled: bool },
+}
+
+impl Form {
+    /// What is written of whole lines.
+    fn of(self, lines: &[u8]) -> Result<Vec<u8>, Error> {
+        let text = match self {
+            Form::Page(markup) => Markup {
+                fragment: true,
+                ..markup
+            }
+            .html(lines),
+            Form::Text { styled } => overwritten(styled, lines),
+        };
+        text.map(Into::into)
+    }
+
+    /// What stands ahead of all lines, and behind them.
+    fn around(self) -> Result<(Vec<u8>, Vec<u8>), Error> {
+        const MARK: char = '\u{e000}';
+        let Form::Page(markup) = self else {
+            return Ok((Vec::new(), Vec::new()));
+        };
+        let page = markup.html(MARK.encode_utf8(&mut [0; 4]).as_bytes())?;
+        let (ahead, behind) = page.split_once(MARK).unwrap_or_default();
+        Ok((ahead.into(), behind.into()))
+    }
+
+    /// Whether lines can be written by themselves.
+    fn is_by_lines(self) -> bool {
+        !matches!(self, Form::Page(markup) if markup.links || markup.no_overwrite)
+    }
+}
+
+/// Writes a stream of untrusted text as it comes as a page of HTML, or as its lines, each as it stands when it ends. It holds a line, and, with
+/// `links` or `no_overwrite`, everything. The pushed slices and the end append what [`Markup::html`](crate::Markup::html),
+/// [`overwrite`](crate::overwrite) or [`overwrite_styled`](crate::overwrite_styled) gives for the whole text.
+///
+/// Behind a newline of text outside of a title nothing is left of a line but how further characters look, so that whole lines can be written by
+/// themselves, behind the sequence that sets this.
+///
+/// ```
+/// use csicodec::Lines;
+///
+/// let mut lines = Lines::overwritten();
+/// let mut out = Vec::new();
+/// lines.push(b"10%\r20%", &mut out)?;
+/// lines.push(b"\r\x1b[Kdone\nnext", &mut out)?;
+/// assert_eq!(out, b"done\n");
+/// lines.finish(&mut out)?;
+/// assert_eq!(out, b"done\nnext");
+/// # Ok::<(), csicodec::Error>(())
+/// ```
+#[derive(Clone, Debug)]
+pub struct Lines {
+    form: Form,
+    is_begun: bool,
+    /// The sequence that sets how characters look at the front of what is held.
+    look: Vec<u8>,
+    /// The bytes that aren't written, of which so many are in whole spans, and so many, at the front, in whole lines.
+    held: Vec<u8>,
+    spanned: usize,
+    whole: usize,
+    mode: u32,
+    is_title: bool,
+    /// The sequences that can set how characters look, in the whole lines, and behind them.
+    within: Vec<u8>,
+    behind: Vec<u8>,
+}
+
+impl Lines {
+    fn of(form: Form) -> Self {
+        Lines {
+            form,
+            is_begun: false,
+            look: Vec::new(),
+            held: Vec::new(),
+            spanned: 0,
+            whole: 0,
+            mode: 0,
+            is_title: false,
+            within: Vec::new(),
+            behind: Vec::new(),
+        }
+    }
+
+    /// A new stream, which becomes a page.
+    pub fn html(markup: Markup) -> Self {
+        Lines::of(Form::Page(markup))
+    }
+
+    /// A new stream, which becomes lines of plain text.
+    pub fn overwritten() -> Self {
+        Lines::of(Form::Text { styled: false })
+    }
+
+    /// A new stream, which becomes lines with the sequences (SGR) that set how characters look.
+    pub fn overwritten_styled() -> Self {
+        Lines::of(Form::Text { styled: true })
+    }
+
+    /// Takes the next bytes, and appends what is written of the lines that are whole now. After an `Err`, which is [`Error::Memory`], nothing is
+    /// appended, and the bytes are held.
+    pub fn push(&mut self, bytes: &[u8], out: &mut Vec<u8>) -> Result<(), Error> {
+        self.held.extend_from_slice(bytes);
+        if self.form.is_by_lines() {
+            self.span();
+        }
+        if self.whole > 0 {
+            self.write(out)?;
+        }
+        Ok(())
+    }
+
+    /// The end of the stream: appends the last line, and what ends a page. After an `Err`, which is [`Error::Memory`], nothing is appended.
+    pub fn finish(self, out: &mut Vec<u8>) -> Result<(), Error> {
+        let (ahead, end) = self.form.around()?;
+        let last = self.form.of(&self.seen(self.held.len()))?;
+        if !self.is_begun {
+            out.extend_from_slice(&ahead);
+        }
+        out.extend_from_slice(&last);
+        out.extend_from_slice(&end);
+        Ok(())
+    }
+
+    /// So many of the bytes, behind what sets how they look.
+    fn seen(&self, len: usize) -> Vec<u8> {
+        [&self.look[..], &self.held[..len]].concat()
+    }
+
+    /// Goes on over the spans that are whole now.
+    fn span(&mut self) {
+        while self.spanned < self.held.len() {
+            let rest = &self.held[self.spanned..];
+            let span = raw::span(self.mode, LIMIT, rest);
+            if span.status != 0 {
+                return;
+            }
+            let bytes = &rest[..span.used];
+            if span.kind == 0 {
+                let newline = bytes.iter().rposition(|byte| *byte == b'\n');
+                if let (Some(at), false) = (newline, self.is_title) {
+                    self.whole = self.spanned + at + 1;
+                    self.within.append(&mut self.behind);
+                }
+            } else {
+                self.is_title = span.kind == 2 && bytes == b"\x1bk";
+                if matches!(span.kind, 1 | 2) && !self.is_title {
+                    self.behind.extend_from_slice(bytes);
+                }
+            }
+            self.mode = span.mode;
+            self.spanned += span.used;
+        }
+    }
+
+    /// Appends what is written of the whole lines.
+    fn write(&mut self, out: &mut Vec<u8>) -> Result<(), Error> {
+        let ahead = match self.is_begun {
+            true => Vec::new(),
+            false => self.form.around()?.0,
+        };
+        let lines = self.form.of(&self.seen(self.whole))?;
+        self.look = self.look_behind()?;
+        self.within.clear();
+        self.held.drain(..self.whole);
+        self.spanned -= self.whole;
+        self.whole = 0;
+        self.is_begun = true;
+        out.extend_from_slice(&ahead);
+        out.extend_from_slice(&lines);
+        Ok(())
+    }
+
+    /// The sequence with which the library writes how a character looks behind the whole lines.
+    fn look_behind(&self) -> Result<Vec<u8>, Error> {
+        if self.within.is_empty() {
+            return Ok(self.look.clone());
+        }
+        let shown = overwritten(true, &[&self.look[..], &self.within, b"\nX"].concat())?;
+        let last = shown.rsplit_once('\n').map_or("", |(_, last)| last);
+        Ok(last.split('X').next().unwrap_or_default().into())
+    }
+}

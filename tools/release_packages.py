@@ -237,6 +237,9 @@ def no_cargo():
         return "no cargo in PATH"
     said = run("cargo", "--version")
     found = re.match(r"cargo (\d+)\.(\d+)", said)
+    # A lock file would ask a registry for serde, which is optional.
+    if "--exclude-lockfile" not in run("cargo", "package", "--help"):
+        return f"{said.strip()} has no `cargo package --exclude-lockfile`"
     return "" if found and (int(found[1]), int(found[2])) >= CARGO else f"cargo is {said.strip()}, and the packages take {CARGO[0]}.{CARGO[1]}"
 
 

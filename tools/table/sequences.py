@@ -1,4 +1,4 @@
-"""What follows from table/sequences.toml: the rows of csicodec_sequences, and docs/SEQUENCES.md."""
+"""What follows from table/sequences.toml: the rows of csicodec_sequences, docs/SEQUENCES.md, and what explain says (told.py)."""
 import json
 import sys
 from dataclasses import dataclass
@@ -6,6 +6,7 @@ from dataclasses import dataclass
 from forms import Form, form_of
 from read import first_line
 from templates import by_number
+from told import fields_of, rows_rt
 
 TABLE = "sequences.toml"
 COLUMNS = {"name", "form", "means", "source"}
@@ -27,12 +28,13 @@ def row_of(kind, row, lists):
     try:
         if not kind.isdigit() or COLUMNS - row.keys():
             raise ValueError(f"it lacks {', '.join(sorted(COLUMNS - row.keys())) or 'a number'}")
-        own = {name: words for name, words in row.items() if name not in COLUMNS | {"words", "shown"}}
+        own = {name: words for name, words in row.items() if name not in COLUMNS | {"words", "shown", "fields"}}
         unread = [name for name in own if f"@{name}}}" not in str(row.get("words"))]
         if unread:
             raise ValueError(f"what nothing reads: {', '.join(unread)}")
         form = form_of(row["form"])
         words = by_number(row, form, {**lists, **own})
+        fields_of(row.get("fields"))
         return Row(int(kind), row["name"], form, row["means"], words, row["source"])
     except ValueError as error:
         sys.exit(f"table: table/{TABLE}, [{kind}]: {error}")
@@ -41,7 +43,7 @@ def row_of(kind, row, lists):
 def all_rows(table):
     """The rows, in order."""
     lists = table.get("words", {})
-    return [row_of(kind, row, lists) for kind, row in table.items() if kind not in ("words", "gone")]
+    return [row_of(kind, row, lists) for kind, row in table.items() if kind not in ("words", "gone", "beyond", "instead")]
 
 
 # The files of rows: the first row of each, what its constants begin with, and what it says of itself.
@@ -156,4 +158,4 @@ def page(rows):
 def files(table):
     rows = all_rows(table)
     texts = {f"crates/csicodec_sequences/src/rows/{name}.rt": rows_text(some, *PARTS[name][1:]) for name, some in parts(rows).items()}
-    return {**texts, "docs/SEQUENCES.md": page(rows)}
+    return {**texts, "docs/SEQUENCES.md": page(rows), "crates/csicodec_readings/src/sequence_rows.rt": rows_rt(table)}

@@ -2,28 +2,30 @@
 import re
 
 # What code tells: csicodec_readings has a function for each.
-CODE = ("mode", "private_mode", "extensions", "win32_held", "mouse", "mouse_held")
-HOLE = re.compile(r"(\w+)(\.\.)?(?:([#:@])(.*))?$")
+CODE = ("mode", "private_mode", "extensions", "win32_held", "mouse", "mouse_held", "button", "released", "button_held")
+HOLE = re.compile(r"(\w+)(?:=(\d+))?(\.\.)?(?:([#:@])(.*))?$")
 
 
 def hole_of(text, form, lists):
-    """A hole by its place: `{0}` the value, `{0:text}` the text where it is 0, `{0#line}` it with what it counts, `{0?1=on|2=off}` the words of
-    the value, `{0..?..}` those of it and of all behind it, `{0@mode}` what code tells of it."""
+    """A hole by its place: `{0}` the value, 0 where it is left out, `{0=100}` it, and 100 where it is left out, `{0:text}` the text where it is 0 or left out, `{0#line}` it with
+    what it counts, `{0?1=on|2=off}` the words of the value, `{0..?..}` those of it and of all behind it, `{0@mode}` what code tells of it."""
     found = HOLE.match(text)
     places = [place for place, slot in enumerate(form.slots) if found and slot.name == found[1].replace("_", " ")]
     if not places:
         raise ValueError(f"no number is named so: {{{text}}}")
-    place, (_, further, kind, rest) = places[0], found.groups()
+    place, (_, needed, further, kind, rest) = places[0], found.groups()
     slot = form.slots[place]
     zero = ":" + rest if kind == ":" else f":{slot.missing}" if slot.as_zero else ""
+    missing = needed if slot.missing is None else slot.missing if not zero or further else None
+    left_out = f"{place}={missing}" if missing and missing != "0" or missing is not None and further else place
     if kind in (None, ":"):
-        return f"{{{place}{zero}}}"
+        return f"{{{left_out}{zero}}}"
     if kind == "#":
-        return f"{{{place}{f'{zero} {rest}' if slot.as_zero else ''}#{rest}}}"
+        return f"{{{left_out}{f'{zero} {rest}' if slot.as_zero else ''}#{rest}}}"
     if any(byte in rest for byte in "#?@|"):
         raise ValueError(f"a byte that holes have: {{{text}}}")
     if rest in lists:
-        return f"{{{place}{further or ''}?" + "|".join(f"{'' if number == 'else' else number}={words}" for number, words in lists[rest].items()) + "}"
+        return f"{{{left_out}{further or ''}?" + "|".join(f"{'' if number == 'else' else number}={words}" for number, words in lists[rest].items()) + "}"
     if rest not in CODE:
         raise ValueError(f"no list of words: {{{text}}}")
     return f"{{{place}@{rest}}}"
@@ -34,19 +36,29 @@ def template_of(words, form, lists):
     return re.sub(r"\{([^}]*)\}", lambda hole: hole_of(hole[1], form, lists), words)
 
 
-def by_number(row, form, lists):
-    """The words of a row behind its name, by the first number that isn't one alone: its place, each number with its words, and those of others."""
-    if "words" not in row and row["name"] != "key":
+def place_of(form):
+    """The place of the number by which a row's words differ: the first one that isn't one alone."""
+    return next((place for place, slot in enumerate(form.slots) if slot.first < slot.last), 0)
+
+
+def told_of(row, form, lists):
+    """The words of a row behind its name, by that number; `else` those of others. Where there are none, each number has its own."""
+    words = row.get("words", row["means"]) if row["name"] == "key" else row.get("words")
+    if words is None:
         raise ValueError("it lacks words")
-    words = row.get("words", row["means"])
     told = words if isinstance(words, dict) else {"else": words}
     told = {number: template_of(f"{row.get('shown', row['name'])}  {text}", form, lists) for number, text in told.items()}
-    place = next((place for place, slot in enumerate(form.slots) if slot.first < slot.last), 0)
     if "else" not in told:
-        slot = form.slots[place]
+        slot = form.slots[place_of(form)]
         lacking = [number for number in range(slot.first, slot.last + 1) if str(number) not in told]
         if lacking:
             raise ValueError(f"no words where {slot.name} is {lacking[0]}")
-        told["else"] = told.pop(str(slot.last))
-    others = told.pop("else")
-    return place, [(int(number), text) for number, text in told.items() if text != others], others
+    return told
+
+
+def by_number(row, form, lists):
+    """The same: the place, each number with its words, and those of others."""
+    told = told_of(row, form, lists)
+    last = str(form.slots[place_of(form)].last) if "else" not in told else "else"
+    others = told.pop(last)
+    return place_of(form), [(int(number), text) for number, text in told.items() if text != others], others

@@ -62,9 +62,10 @@ impl fmt::Display for Place {
 impl fmt::Display for Report {
     fn fmt<W: fmt::Write>(&self, f: &mut fmt::Formatter<W>) -> fmt::Result {
         let code = self.button.saturating_sub(32);
-        let done = mouse_event(code);
         let (line, column) = (Place(self.line), Place(self.column));
-        write!(f, "mouse  {done} line {line}, column {column}")?;
+        f.write_str("mouse  ")?;
+        mouse_event(f, code, false)?;
+        write!(f, " line {line}, column {column}")?;
         held(f, code)
     }
 }

@@ -44,6 +44,35 @@ pub fn key_of(params: &[CsiParam], control: char) -> Option<KeyWords> {
     }
 }
 
+/// A key by the number of its character, which is a control's, or no character's: no key that csicodec_keys knows (kitty; xterm's
+/// modifyOtherKeys). Its words have holes for numbers.
+pub fn key_by_number(control: char, params: &[CsiParam]) -> Option<&'static str> {
+    Some(match (control, params) {
+        (
+            '~',
+            [
+                CsiParam::Integer(27),
+                CsiParam::P(b';'),
+                CsiParam::Integer(1..=256),
+                CsiParam::P(b';'),
+                CsiParam::Integer(_),
+            ],
+        ) => "key  of character {2}, modifiers {1} (modifyOtherKeys)",
+        ('u', [CsiParam::Integer(_)] | [CsiParam::Integer(_), CsiParam::P(b';')]) => {
+            "key  of character {0}"
+        }
+        (
+            'u',
+            [
+                CsiParam::Integer(_),
+                CsiParam::P(b';'),
+                CsiParam::Integer(1..=256),
+            ],
+        ) => "key  of character {0}, modifiers {1}",
+        _ => return None,
+    })
+}
+
 impl fmt::Display for KeyWords {
     fn fmt<W: fmt::Write>(&self, f: &mut fmt::Formatter<W>) -> fmt::Result {
         let key = &self.0;

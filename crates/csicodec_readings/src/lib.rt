@@ -2,9 +2,6 @@
 //! it otherwise than the codec, or the codec has no action for it, the words of what terminals make of it.
 #![tactic(auto)]
 
-mod by_number;
-mod dec;
-mod ecma;
 mod escape_rows;
 mod escapes;
 mod intermediates;
@@ -13,26 +10,27 @@ mod keys;
 mod list;
 mod other_sets;
 mod otherwise;
+mod sequence_rows;
 mod sgr_rows;
 mod table;
 mod template;
-mod terminals;
+mod told;
 
-use crate::by_number::{tell_numbers, told_of};
 use crate::escapes::escape_of;
 use crate::intermediates::escape_of_bytes;
-use crate::list::{intermediate, is_regular, marker, number};
+use crate::keys::key_by_number;
+use crate::list::{is_regular, marker};
 use crate::other_sets::Escape;
 use crate::otherwise::{Otherwise, read_otherwise};
-use crate::table::{Parts, words};
+use crate::sgr_rows::UNREAD;
+use crate::table::words;
 use crate::template::fill;
-pub use by_number::mouse_event;
 use csicodec_base::{CsiParam, Esc};
 use csicodec_parser::{CSI, Unspecified};
-use csicodec_words::Describe;
+use csicodec_words::{Describe, words_of};
 pub use keys::{KeyWords, key_of};
-pub use otherwise::held;
 use std::fmt;
+pub use told::{held, mouse_event};
 
 /// One action of a control sequence, as a terminal reads it.
 #[derive(Clone, Copy)]
@@ -64,7 +62,11 @@ impl<'a> Describe for Reading<'a> {
             };
         }
         match read_otherwise(self.params, self.control) {
-            Some(reading) => tell(f, &reading, self.action),
+            Some(Otherwise::Instead(words)) => fill(f, self.params, words),
+            Some(Otherwise::Or(also)) => {
+                self.action.describe(f)?;
+                f.write_str(also)
+            }
             None => self.action.describe(f),
         }
     }
@@ -107,21 +109,6 @@ impl Describe for LongEscReading {
     }
 }
 
-/// What terminals read otherwise than the codec.
-fn tell<W: fmt::Write>(
-    f: &mut fmt::Formatter<W>,
-    reading: &Otherwise,
-    action: &CSI,
-) -> fmt::Result {
-    match reading {
-        Otherwise::Instead(reading) => write!(f, "{reading}"),
-        Otherwise::Or(also) => {
-            action.describe(f)?;
-            f.write_str(also)
-        }
-    }
-}
-
 /// A sequence, or what is left of one, that no row of the codec's table reads: a key, or the words that a table has for its form. A list
 /// with a byte where none may stand isn't read by terminals either.
 fn unread<W: fmt::Write>(f: &mut fmt::Formatter<W>, unknown: &Unspecified) -> fmt::Result {
@@ -132,15 +119,11 @@ fn unread<W: fmt::Write>(f: &mut fmt::Formatter<W>, unknown: &Unspecified) -> fm
     if let Some(key) = key_of(params, control) {
         return write!(f, "{key}");
     }
-    let form = Parts {
-        marker: marker(params),
-        between: intermediate(params),
-        control,
+    let words = match (control, params) {
+        ('m', [CsiParam::Integer(number)]) => words_of(&UNREAD, *number),
+        _ => key_by_number(control, params).or_else(|| words(params, control)),
     };
-    if let Some(told) = told_of(form, params) {
-        return tell_numbers(f, told, params);
-    }
-    match words(form, number(params, 0).unwrap_or(0)) {
+    match words {
         Some(words) => fill(f, params, words),
         None => unknown.describe(f),
     }

@@ -39,47 +39,33 @@ pub fn is_regular(params: &[CsiParam]) -> bool {
     ))
 }
 
-/// Whether a token is the semicolon that stands between fields.
-pub fn is_semicolon(token: &CsiParam) -> bool {
-    *token == CsiParam::P(b';')
+/// How many fields a list has between its semicolons, an empty list one; the most that there can be where it has a colon.
+pub fn count_fields(params: &[CsiParam]) -> i64 {
+    let mut count = 1i64;
+    for token in params {
+        match token {
+            CsiParam::P(b';') => count = count.saturating_add(1),
+            CsiParam::P(b':') => return i64::MAX,
+            _ => {}
+        }
+    }
+    count
 }
 
-/// How many fields a list has between its semicolons; an empty list has one, which is empty.
-pub fn count_fields(params: &[CsiParam]) -> usize {
-    params.split(is_semicolon).count()
-}
-
-/// The number at a place, counted from 0 by the semicolons ahead of it, and there at a sub-place, counted by the colons.
-pub fn sub_number(params: &[CsiParam], place: u32, sub: u32) -> Option<i64> {
+/// The number at a place, counted from 0 by the semicolons ahead of it; behind a colon stand others, of the same place.
+pub fn number(params: &[CsiParam], place: u32) -> Option<i64> {
     let mut at = 0u32;
-    let mut under = 0u32;
+    let mut is_behind = false;
     for token in params {
         match token {
             CsiParam::P(b';') => {
                 at = at.saturating_add(1);
-                under = 0;
+                is_behind = false;
             }
-            CsiParam::P(b':') => under = under.saturating_add(1),
-            CsiParam::P(_) => {}
-            CsiParam::Integer(number) => {
-                if at == place && under == sub {
-                    return Some(*number);
-                }
-            }
+            CsiParam::P(b':') => is_behind = true,
+            CsiParam::Integer(number) if at == place && !is_behind => return Some(*number),
+            _ => {}
         }
     }
     None
-}
-
-/// The number at a place.
-pub fn number(params: &[CsiParam], place: u32) -> Option<i64> {
-    sub_number(params, place, 0)
-}
-
-/// The number at a place, where it is there and isn't 0.
-pub fn positive(params: &[CsiParam], place: u32) -> Option<i64> {
-    match number(params, place) {
-        Some(value) if value > 0 => Some(value),
-        _ => None,
-    }
 }

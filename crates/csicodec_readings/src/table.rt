@@ -1,47 +1,87 @@
-//! Names of control sequences that no row of the codec's table reads, by their marker, intermediate byte and final character,
-//! and where it says more by their first number.
+//! The words of control sequences that table/sequences.toml has, of those that a row of csicodec_sequences reads and of others.
 
-use crate::dec::DEC;
-use crate::ecma::ECMA;
-use crate::terminals::{KITTY, LINUX, XTERM};
+use crate::list::{count_fields, intermediate, marker, number};
+use crate::sequence_rows::{INSTEAD, TOLD};
+use csicodec_base::CsiParam;
+use csicodec_sequences::Known;
 
-/// A control sequence by its parts: the marker and the intermediate byte, 0 where there is none, and the final character.
+/// From a number to another one.
+pub type Span = (i64, i64);
+
+/// Any number.
+pub const ANY: Span = (0, i64::MAX);
+
+/// Words, and the lists that they are of.
 #[derive(Clone, Copy)]
-pub struct Parts {
-    /// One of `< = > ?`.
+pub struct Row {
+    /// The row of csicodec_sequences that reads such a list; 0 where none does.
+    pub kind: u32,
+    /// One of `< = > ?`, and 0 where the list has none.
     pub marker: u8,
-    /// The last byte before the final one, from `' '` to `'/'`.
+    /// The byte ahead of the final character, and 0 where the list has none.
     pub between: u8,
     /// The final character.
     pub control: char,
+    /// The first number, 0 where it is left out.
+    pub first: Span,
+    /// The second number.
+    pub second: Span,
+    /// How many numbers a list has that no row reads, those counted too that are left out; a list with a colon has too many.
+    pub fields: Span,
+    /// The words, with holes for numbers.
+    pub words: &'static str,
 }
 
-/// The form of sequences, the first number that they have (with none, any), and the words, with holes for numbers.
-pub type Row = (u8, u8, char, Option<i64>, &'static str);
+impl Row {
+    /// Whether these can be its first two numbers.
+    fn has(&self, first: i64, second: i64) -> bool {
+        is_within(first, self.first) && is_within(second, self.second)
+    }
+}
 
-/// The words of the first row of a table that has this form, and this first number where it has one.
-fn find(rows: &[Row], form: Parts, first: i64) -> Option<&'static str> {
-    for (marker, between, control, number, words) in rows {
-        let same = *marker == form.marker && *between == form.between && *control == form.control;
-        if same && number.unwrap_or(first) == first {
-            return Some(*words);
+fn is_within(number: i64, span: Span) -> bool {
+    span.0 <= number && number <= span.1
+}
+
+/// The words of a list that a row of csicodec_sequences reads; none of a key.
+fn of_row(known: &Known) -> Option<&'static str> {
+    let kind = known.form().kind;
+    let first = i64::from(known.value(0).unwrap_or(0));
+    let second = i64::from(known.value(1).unwrap_or(0));
+    for row in &TOLD {
+        if row.kind == kind && row.has(first, second) {
+            return Some(row.words);
         }
     }
     None
 }
 
-/// The words of a control sequence of this form whose first number is this, 0 where it is left out.
-pub fn words(form: Parts, first: i64) -> Option<&'static str> {
-    for rows in [
-        KITTY.as_slice(),
-        XTERM.as_slice(),
-        LINUX.as_slice(),
-        DEC.as_slice(),
-        ECMA.as_slice(),
-    ] {
-        if let Some(words) = find(rows, form, first) {
+/// The words of a list by its bytes, its first two numbers and how many it has.
+fn of_bytes(rows: &'static [Row], params: &[CsiParam], control: char) -> Option<&'static str> {
+    let (marker, between) = (marker(params), intermediate(params));
+    let first = number(params, 0).unwrap_or(0);
+    let second = number(params, 1).unwrap_or(0);
+    let fields = count_fields(params);
+    for row in rows {
+        let same = row.marker == marker && row.between == between && row.control == control;
+        if same && is_within(fields, row.fields) && row.has(first, second) {
+            return Some(row.words);
+        }
+    }
+    None
+}
+
+/// The words of a list without an action.
+pub fn words(params: &[CsiParam], control: char) -> Option<&'static str> {
+    if let Some(known) = Known::read(params, control) {
+        if let Some(words) = of_row(&known) {
             return Some(words);
         }
     }
-    None
+    of_bytes(&TOLD, params, control)
+}
+
+/// The words in the place of an action's, where terminals read its list otherwise.
+pub fn words_instead(params: &[CsiParam], control: char) -> Option<&'static str> {
+    of_bytes(&INSTEAD, params, control)
 }

@@ -2,6 +2,7 @@
 //! sequences alone.
 #![tactic(auto)]
 
+mod all_names;
 mod assemble;
 mod check;
 mod compare;

@@ -45,18 +45,11 @@ pub struct Reading<'a> {
     pub sent: bool,
 }
 
-impl Reading<'_> {
-    /// Whether the final character is that of keys alone, and yet no key has this list.
-    fn is_no_key(&self) -> bool {
-        self.sent && marker(self.params) == 0 && matches!(self.control, 'u' | '~')
-    }
-}
-
 impl<'a> Describe for Reading<'a> {
     fn describe<W: fmt::Write>(&self, f: &mut fmt::Formatter<W>) -> fmt::Result {
         if let CSI::Unspecified(unknown) = self.action {
-            return if marker(&unknown.params) == marker(self.params) && !self.is_no_key() {
-                unread(f, unknown)
+            return if marker(&unknown.params) == marker(self.params) {
+                unread(f, unknown, self.sent)
             } else {
                 unknown.describe(f)
             };
@@ -111,7 +104,11 @@ impl Describe for LongEscReading {
 
 /// A sequence, or what is left of one, that no row of the codec's table reads: a key, or the words that a table has for its form. A list
 /// with a byte where none may stand isn't read by terminals either.
-fn unread<W: fmt::Write>(f: &mut fmt::Formatter<W>, unknown: &Unspecified) -> fmt::Result {
+fn unread<W: fmt::Write>(
+    f: &mut fmt::Formatter<W>,
+    unknown: &Unspecified,
+    sent: bool,
+) -> fmt::Result {
     let (params, control) = (unknown.params.as_slice(), unknown.control);
     if !is_regular(params) {
         return unknown.describe(f);
@@ -121,6 +118,7 @@ fn unread<W: fmt::Write>(f: &mut fmt::Formatter<W>, unknown: &Unspecified) -> fm
     }
     let words = match (control, params) {
         ('m', [CsiParam::Integer(number)]) => words_of(&UNREAD, *number),
+        _ if sent => words(params, control),
         _ => key_by_number(control, params).or_else(|| words(params, control)),
     };
     match words {

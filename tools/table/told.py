@@ -8,6 +8,8 @@ from templates import place_of, told_of
 
 TABLE = "sequences.toml"
 ANY = (0, 2**63 - 1)
+# How many rows an array has at most.
+MOST = 60
 
 TEXT = """\
 //! Control sequences without an action, in words.
@@ -91,10 +93,25 @@ def array(said, name, rows):
     return f"/// {said}\npub(crate) static {name}: [Row; {len(rows)}] = [\n" + "".join(row.text() for row in rows) + "];\n"
 
 
+def parts(rows):
+    """The rows in arrays that the checker computes at once, with a function for each, and one for all."""
+    pieces = [rows[at:at + MOST] for at in range(0, len(rows), MOST)]
+    text = "\n".join(array(f"Those from place {at * MOST} on.", f"PART_{at}", piece) + f"""
+fn part_{at}() -> &'static [Row] {{
+    &PART_{at}
+}}
+""" for at, piece in enumerate(pieces))
+    calls = ", ".join(f"part_{at}()" for at in range(len(pieces)))
+    return f"""/// What sequences without an action are, those that no row reads by the first that has their bytes and numbers.
+pub(crate) fn parts() -> [&'static [Row]; {len(pieces)}] {{
+    [{calls}]
+}}
+
+""" + text
+
+
 def rows_rt(table):
     """src/sequence_rows.rt of csicodec_readings. Words of one first number stand ahead of those of any."""
     told = sorted([*of_section(table, "beyond"), *of_rows(table)], key=lambda told: told.first == ANY)
     instead = list(of_section(table, "instead"))
-    return first_line(TABLE) + TEXT + array(
-        "What sequences without an action are, those that no row reads by the first that has their bytes and numbers.", "TOLD", told
-    ) + "\n" + array("What is said in the place of an action.", "INSTEAD", instead)
+    return first_line(TABLE) + TEXT + parts(told) + "\n" + array("What is said in the place of an action.", "INSTEAD", instead)

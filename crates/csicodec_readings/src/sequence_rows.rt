@@ -10,7 +10,12 @@ macro_rules! row {
 }
 
 /// What sequences without an action are, those that no row reads by the first that has their bytes and numbers.
-pub(crate) static TOLD: [Row; 284] = [
+pub(crate) fn parts() -> [&'static [Row]; 5] {
+    [part_0(), part_1(), part_2(), part_3(), part_4()]
+}
+
+/// Those from place 0 on.
+pub(crate) static PART_0: [Row; 60] = [
     row! { 0, b'?', 0, 'h', (737769, 737769), ANY, ANY, "DECSET {0}  input method (foot) on" },
     row! { 0, b'?', 0, 'l', (737769, 737769), ANY, ANY, "DECRST {0}  input method (foot) off" },
     row! { 0, b'?', b'$', 'p', (737769, 737769), ANY, ANY, "DECRQM {0}  ask for the mode: input method (foot)" },
@@ -71,6 +76,14 @@ pub(crate) static TOLD: [Row; 284] = [
     row! { 10089, 0, 0, 'n', (0, 0), ANY, ANY, "DSR  answer: ready, no malfunction" },
     row! { 10090, 0, 0, 'n', (1, 1), ANY, ANY, "DSR  status report {0}" },
     row! { 10091, 0, 0, 'n', (2, 2), ANY, ANY, "DSR  status report {0}" },
+];
+
+fn part_0() -> &'static [Row] {
+    &PART_0
+}
+
+/// Those from place 60 on.
+pub(crate) static PART_1: [Row; 60] = [
     row! { 10092, 0, 0, 'n', (3, 3), ANY, ANY, "DSR  answer: malfunction" },
     row! { 10093, 0, 0, 'n', (4, 4), ANY, ANY, "DSR  status report {0}" },
     row! { 10144, b'>', 0, 'p', (0, 0), ANY, ANY, "XTSMPOINTER  never hide the pointer" },
@@ -131,6 +144,14 @@ pub(crate) static TOLD: [Row; 284] = [
     row! { 10216, b'?', 0, 'n', (83, 83), ANY, ANY, "DSR  answer: one session" },
     row! { 10217, b'?', 0, 'n', (997, 997), (1, 1), ANY, "colour scheme  answer: dark (contour, kitty)" },
     row! { 10217, b'?', 0, 'n', (997, 997), (2, 2), ANY, "colour scheme  answer: light (contour, kitty)" },
+];
+
+fn part_1() -> &'static [Row] {
+    &PART_1
+}
+
+/// Those from place 120 on.
+pub(crate) static PART_2: [Row; 60] = [
     row! { 10217, b'?', 0, 'n', (997, 997), ANY, ANY, "colour scheme  answer: unknown (contour, kitty)" },
     row! { 10218, b'?', 0, 'c', (4, 4), ANY, ANY, "DA1  answer: VT132 with advanced video and graphics" },
     row! { 10219, b'?', 0, 'c', (7, 7), ANY, ANY, "DA1  answer: VT131" },
@@ -191,6 +212,14 @@ pub(crate) static TOLD: [Row; 284] = [
     row! { 10041, 0, b',', '|', ANY, ANY, ANY, "DECAC  colours of text: item {0}, {1} on {2}" },
     row! { 10042, 0, b',', '}', ANY, ANY, ANY, "DECATC  colours of attributes {0}: {1} on {2}" },
     row! { 10043, 0, b',', '~', ANY, ANY, ANY, "DECPS  play note {2}, volume {0}, duration {1}" },
+];
+
+fn part_2() -> &'static [Row] {
+    &PART_2
+}
+
+/// Those from place 180 on.
+pub(crate) static PART_3: [Row; 60] = [
     row! { 10044, 0, b'-', 'q', ANY, ANY, ANY, "DECCRTST  time to the screen saver: {0=15}" },
     row! { 10045, 0, b'-', 'r', ANY, ANY, ANY, "DECSEST  time to saving energy: {0=15}" },
     row! { 10046, 0, b'-', 'p', ANY, ANY, ANY, "DECARR  auto-repeat rate {0=30}" },
@@ -251,6 +280,14 @@ pub(crate) static TOLD: [Row; 284] = [
     row! { 10128, 0, b' ', 'c', ANY, ANY, ANY, "TCC  tab stop centred on a character: {0}" },
     row! { 10129, 0, b' ', 'd', ANY, ANY, ANY, "TSR  remove tab stop {0}" },
     row! { 10130, 0, b' ', 'e', ANY, ANY, ANY, "SCO  orientation of characters: {0}" },
+];
+
+fn part_3() -> &'static [Row] {
+    &PART_3
+}
+
+/// Those from place 240 on.
+pub(crate) static PART_4: [Row; 44] = [
     row! { 10131, 0, b' ', 'f', ANY, ANY, ANY, "SRCS  reduced character separation: {0}" },
     row! { 10132, 0, b' ', 'g', ANY, ANY, ANY, "SCS  character spacing: {0}" },
     row! { 10133, 0, b' ', 'h', ANY, ANY, ANY, "SLS  line spacing: {0}" },
@@ -296,6 +333,10 @@ pub(crate) static TOLD: [Row; 284] = [
     row! { 10231, 0, 0, 'M', ANY, ANY, (1, 0), "mouse  {0@mouse} line {2}, column {1}{0@mouse_held} (urxvt form)" },
     row! { 10232, 0, 0, '_', ANY, ANY, (1, 6), "key  virtual key {0}, scan code {1}, character {2}, {3?1=pressed|=released}{4@win32_held} (Win32 input mode)" },
 ];
+
+fn part_4() -> &'static [Row] {
+    &PART_4
+}
 
 /// What is said in the place of an action.
 pub(crate) static INSTEAD: [Row; 5] = [

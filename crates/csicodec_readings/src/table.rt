@@ -1,7 +1,7 @@
 //! The words of control sequences that table/sequences.toml has, of those that a row of csicodec_sequences reads and of others.
 
 use crate::list::{count_fields, intermediate, marker, number};
-use crate::sequence_rows::{INSTEAD, TOLD};
+use crate::sequence_rows::{INSTEAD, parts};
 use csicodec_base::CsiParam;
 use csicodec_sequences::Known;
 
@@ -43,14 +43,25 @@ fn is_within(number: i64, span: Span) -> bool {
     span.0 <= number && number <= span.1
 }
 
+/// The words of a row of csicodec_sequences, by its first two numbers.
+fn of_kind(rows: &'static [Row], kind: u32, first: i64, second: i64) -> Option<&'static str> {
+    for row in rows {
+        if row.kind == kind && row.has(first, second) {
+            return Some(row.words);
+        }
+    }
+    None
+}
+
 /// The words of a list that a row of csicodec_sequences reads; none of a key.
-fn of_row(known: &Known) -> Option<&'static str> {
+fn of_row(params: &[CsiParam], control: char) -> Option<&'static str> {
+    let known = Known::read(params, control)?;
     let kind = known.form().kind;
     let first = i64::from(known.value(0).unwrap_or(0));
     let second = i64::from(known.value(1).unwrap_or(0));
-    for row in &TOLD {
-        if row.kind == kind && row.has(first, second) {
-            return Some(row.words);
+    for rows in parts() {
+        if let Some(words) = of_kind(rows, kind, first, second) {
+            return Some(words);
         }
     }
     None
@@ -73,12 +84,15 @@ fn of_bytes(rows: &'static [Row], params: &[CsiParam], control: char) -> Option<
 
 /// The words of a list without an action.
 pub fn words(params: &[CsiParam], control: char) -> Option<&'static str> {
-    if let Some(known) = Known::read(params, control) {
-        if let Some(words) = of_row(&known) {
+    if let Some(words) = of_row(params, control) {
+        return Some(words);
+    }
+    for rows in parts() {
+        if let Some(words) = of_bytes(rows, params, control) {
             return Some(words);
         }
     }
-    of_bytes(&TOLD, params, control)
+    None
 }
 
 /// The words in the place of an action's, where terminals read its list otherwise.

@@ -7,7 +7,7 @@ use Rattle.csicodec_actions.specs.Actions.{Action}
 use Rattle.csicodec_clean.specs.Shown.{IsRead}
 use Rattle.csicodec_clean.proofs.Sure.{read_all}
 use Rattle.csicodec_overwrite.specs.declared.step.Step.{Step}
-use Rattle.csicodec_overwrite.specs.Steps.{of_action, of_actions, of_char, of_chars, of_run, of_wrong, of_wrong_byte}
+use Rattle.csicodec_overwrite.specs.Steps.{of_action, of_actions, of_char, of_chars, of_run, of_string, of_string_byte, of_wrong, of_wrong_byte}
 
 pub chars_on : (xs ys : List ℕ) → of_chars (xs ++ ys) ≡ of_chars xs ++ of_chars ys
 chars_on xs ys = flat_map-append of_char xs ys
@@ -40,6 +40,12 @@ pub wrong_on : (b : ℕ) (front : List ℕ) (old now new : List Step) → now �
 wrong_on b front old now new e f =
     more old (of_wrong front) (of_wrong_byte b) now new e f ∙ ap (λ (t : List Step). old ++ (of_wrong front ++ t)) (sym (append-nil (of_wrong_byte b)))
     ∙ ap (λ (t : List Step). old ++ t) (sym (flat_map-append of_wrong_byte front (b ∷ [])))
+
+-- and of control strings
+pub string_on : (b : ℕ) (front : List ℕ) (old now new : List Step) → now ≡ old ++ of_string front → new ≡ now ++ of_string_byte b → new ≡ old ++ of_string (front ++ b ∷ [])
+string_on b front old now new e f =
+    more old (of_string front) (of_string_byte b) now new e f ∙ ap (λ (t : List Step). old ++ (of_string front ++ t)) (sym (append-nil (of_string_byte b)))
+    ∙ ap (λ (t : List Step). old ++ t) (sym (flat_map-append of_string_byte front (b ∷ [])))
 
 run_empty : (run : List ℕ) → length run ≡ 0 → of_run run ≡ []
 run_empty [] none = run_none

@@ -1,6 +1,6 @@
 -- What holds of all characters that steps put, and of blanks, tabs and newlines, holds of all that they write; and so it is with looks.
 use Rattle.std.proofs.Common.{ℕ, ◌-◌, zero, suc, Bool, true, false, cond, min, List, [], ◌∷◌, ◌++◌, length, replicate}
-use Rattle.std.specs.Prelude.{◌==◌, nat_lt}
+use Rattle.std.specs.Prelude.{◌==◌, nat_lt, Option, Some, None}
 use Rattle.std.specs.List.{AllByRecursion, flat_map}
 use Rattle.csicodec_base.specs.declared.sgr.Sgr.{Sgr}
 use Rattle.csicodec_html.specs.declared.look.Look.{Look}
@@ -9,10 +9,11 @@ use Rattle.csicodec_overwrite.specs.declared.cells.Cell.{Cell}
 use Rattle.csicodec_overwrite.specs.declared.cells.Cell.TheVariants.{Behind, Char, Empty, Mark}
 use Rattle.csicodec_overwrite.specs.declared.cells.Glyph.{Glyph}
 use Rattle.csicodec_overwrite.specs.declared.line.Line.{Line}
+use Rattle.csicodec_overwrite.specs.declared.pen.Pen.{Pen}
 use Rattle.csicodec_overwrite.specs.declared.step.Step.{Step}
 use Rattle.csicodec_overwrite.specs.declared.step.Step.TheVariants as step
 use Rattle.csicodec_overwrite.specs.Cells.{begins_behind, belongs, chars_of, columns, emptied, erased, glyph, gone, is_empty, onto, outside, takes, to_tab_stop, trimmed, width, without}
-use Rattle.csicodec_overwrite.specs.Line.{Done, back, blank, cells_of, do_all, does, done, fits, forward, line, look_behind, over, padded, parted, placed, put, size, standing, target}
+use Rattle.csicodec_overwrite.specs.Line.{Done, back, behind_columns, blank, cells_of, do_all, does, done, fits, forward, fresh, from_stop, last_behind, line, lines_of, over, padded, parted, pen_behind, placed, put, repeat, repeated, restored, size, standing, target, to_stop, widest}
 use Rattle.csicodec_overwrite.proofs.Texts.{chars_by, line_chars}
 
 -- either way of a test
@@ -37,6 +38,13 @@ module _ (P : ℕ → Type 0) (Q : Look → Type 0) (R : Sgr → Type 0) where
   OfStep (step.Put c) = P c
   OfStep (step.Attribute s) = R s
   OfStep s = Unit {0}
+
+  abbrev pub OfLast : Option ℕ → Type 0
+  OfLast None = Unit {0}
+  OfLast (Some c) = P c
+
+  abbrev pub OfPen : Pen → Type 0
+  OfPen pen = Q pen.look × OfLast pen.last
 
   both : (xs ys : List Cell) → OfCells xs → OfCells ys → OfCells (xs ++ ys)
   both [] ys h k = k
@@ -93,11 +101,12 @@ module _ (P : ℕ → Type 0) (Q : Look → Type 0) (R : Sgr → Type 0) where
   of_parted l h = either OfLine (begins_behind l.right) (line (emptied l.left (without 1 (outside l.left))) (emptied l.right (outside l.right))) l
       (of_emptied l.left (without 1 (outside l.left)) (of_without 1 (outside l.left) (of_outside l.left h.0)), of_emptied l.right (outside l.right) (of_outside l.right h.1)) h
 
-  of_placed : (g : Glyph) (n : ℕ) (l : Line) → OfCell (Char g) → OfLine l → OfLine (placed g n l)
-  of_placed g n l p h =
+  of_placed : (inserts : Bool) (g : Glyph) (n : ℕ) (l : Line) → OfCell (Char g) → OfLine l → OfLine (placed inserts g n l)
+  of_placed inserts g n l p h =
       let k = of_parted l h in
-      either OfLine (n == 0) (line (Mark g.char ∷ l.left) l.right) (line (replicate (n - 1) Behind ++ (Char g ∷ (parted l).left)) (gone n (parted l).right)) ((p.0, h.0), h.1)
-      (both (replicate (n - 1) Behind) (Char g ∷ (parted l).left) (behinds (n - 1)) (p, k.0), of_gone n (parted l).right k.1)
+      let right = cond inserts (parted l).right (gone n (parted l).right) in
+      either OfLine (n == 0) (line (Mark g.char ∷ l.left) l.right) (line (replicate (n - 1) Behind ++ (Char g ∷ (parted l).left)) right) ((p.0, h.0), h.1)
+      (both (replicate (n - 1) Behind) (Char g ∷ (parted l).left) (behinds (n - 1)) (p, k.0), either OfCells inserts (parted l).right (gone n (parted l).right) k.1 (of_gone n (parted l).right k.1))
 
   -- the cells of a line
   pub of_line : (l : Line) → OfLine l → OfCells (cells_of l)
@@ -109,63 +118,107 @@ module _ (P : ℕ → Type 0) (Q : Look → Type 0) (R : Sgr → Type 0) where
     abbrev pub OfDone : Done → Type 0
     OfDone d = AllByRecursion OfCells d.lines × OfLine d.line
 
-    of_put : (limit : ℕ) (g : Glyph) (l : Line) → OfCell (Char g) → OfLine l → OfDone (put limit g l)
-    of_put limit g l p h = either OfDone (fits limit (width g.char (columns l.left)) l) (done [] (placed g (width g.char (columns l.left)) l)) (done (cells_of l ∷ []) (placed g (width g.char 0) blank))
-        (tt, of_placed g (width g.char (columns l.left)) l p h) ((of_line l h, tt), of_placed g (width g.char 0) blank p (tt, tt))
-
-    of_does : (limit : ℕ) (look : Look) (s : Step) (l : Line) → Q look → OfStep s → OfLine l → OfDone (does limit look s l)
-    of_does limit look (step.Put c) l q p h = of_put limit (glyph c look) l (p, q) h
-    of_does limit look step.Tab l q p h = either OfDone (length l.right == 0) (put limit (glyph 9 look) l) (done [] (forward limit (to_tab_stop (columns l.left)) l)) (of_put limit (glyph 9 look) l (tab, q) h)
-        (tt, of_forward limit (to_tab_stop (columns l.left)) l h)
-    of_does limit look step.NewLine l q p h = ((of_line l h, tt), (tt, tt))
-    of_does limit look (step.Right n) l q p h = (tt, of_forward limit n l h)
-    of_does limit look (step.Left n) l q p h = (tt, of_back n l.left l.right h.0 h.1)
-    of_does limit look (step.Column n) l q p h = (tt, of_forward limit (n - 1) (line [] (onto l.left l.right)) (tt, moved l.left l.right h.0 h.1))
-    of_does limit look step.EraseRight l q p h = (tt, ((of_parted l h).0, tt))
-    of_does limit look step.EraseLeft l q p h = (tt, (empties (columns l.left), of_erased 1 l.right h.1))
-    of_does limit look step.EraseAll l q p h = (tt, (empties (columns l.left), tt))
-    of_does limit look (step.Erase n) l q p h = let k = of_parted l h in (tt, (k.0, of_erased n (parted l).right k.1))
-    of_does limit look (step.Delete n) l q p h = let k = of_parted l h in (tt, (k.0, of_gone n (parted l).right k.1))
-    of_does limit look (step.Insert n) l q p h =
-        let k = of_parted l h in
-        let some = min n (limit - size (parted l)) in
-        (tt, (k.0, both (replicate some Empty) (parted l).right (empties some) k.1))
-    of_does limit look (step.Attribute s) l q p h = (tt, h)
-    of_does limit look (step.Leave to) l q p h = (either (AllByRecursion OfCells) (length (standing l) == 0) [] (cells_of l ∷ []) tt (of_line l h, tt), of_forward limit (target to l) blank (tt, tt))
-
-    look_kept : (look : Look) (s : Step) → Q look → OfStep s → Q (look_behind look s)
-    look_kept look (step.Put c) q p = q
-    look_kept look step.Tab q p = q
-    look_kept look step.NewLine q p = q
-    look_kept look (step.Right n) q p = q
-    look_kept look (step.Left n) q p = q
-    look_kept look (step.Column n) q p = q
-    look_kept look step.EraseRight q p = q
-    look_kept look step.EraseLeft q p = q
-    look_kept look step.EraseAll q p = q
-    look_kept look (step.Erase n) q p = q
-    look_kept look (step.Delete n) q p = q
-    look_kept look (step.Insert n) q p = q
-    look_kept look (step.Attribute s) q p = kept look s q p
-    look_kept look (step.Leave to) q p = q
+    of_put : (limit : ℕ) (inserts : Bool) (g : Glyph) (l : Line) → OfCell (Char g) → OfLine l → OfDone (put limit inserts g l)
+    of_put limit inserts g l p h =
+        let w = width g.char (columns l.left) in
+        either OfDone (fits limit w l) (done [] (placed inserts g w l)) (done (cells_of l ∷ []) (placed inserts g (width g.char 0) blank))
+        (tt, of_placed inserts g w l p h) ((of_line l h, tt), of_placed inserts g (width g.char 0) blank p (tt, tt))
 
     all_both : (xs ys : List (List Cell)) → AllByRecursion OfCells xs → AllByRecursion OfCells ys → AllByRecursion OfCells (xs ++ ys)
     all_both [] ys h k = k
     all_both (x ∷ xs) ys h k = (h.0, all_both xs ys h.1 k)
 
-    of_all : (limit : ℕ) (look : Look) (steps : List Step) (l : Line) → Q look → AllByRecursion OfStep steps → OfLine l → OfDone (do_all limit look steps l)
-    of_all limit look [] l q p h = (tt, h)
-    of_all limit look (s ∷ steps) l q p h =
-        let one = of_does limit look s l q p.0 h in
-        let later = do_all limit (look_behind look s) steps (does limit look s l).line in
-        let others = of_all limit (look_behind look s) steps (does limit look s l).line (look_kept look s q p.0) p.1 one.1 in
-        (all_both (does limit look s l).lines later.lines one.0 others.0, others.1)
+    of_repeat : (limit : ℕ) (inserts : Bool) (g : Glyph) (n : ℕ) (l : Line) → OfCell (Char g) → OfLine l → OfDone (repeat limit inserts g n l)
+    of_repeat limit inserts g zero l p h = (tt, h)
+    of_repeat limit inserts g (suc n) l p h =
+        let d = put limit inserts g l in
+        let one = of_put limit inserts g l p h in
+        let others = of_repeat limit inserts g n d.line p one.1 in
+        (all_both d.lines (repeat limit inserts g n d.line).lines one.0 others.0, others.1)
+
+    of_repeated : (limit : ℕ) (pen : Pen) (last : Option ℕ) (n : ℕ) (l : Line) → Q pen.look → OfLast last → OfLine l → OfDone (repeated limit pen last n l)
+    of_repeated limit pen None n l q p h = (tt, h)
+    of_repeated limit pen (Some c) n l q p h = of_repeat limit pen.inserts (glyph c pen.look) n l (p, q) h
+
+    of_behind : (limit n : ℕ) (l : Line) → OfLine l → OfLine (behind_columns limit n l)
+    of_behind limit n l h = of_forward limit n (line [] (onto l.left l.right)) (tt, moved l.left l.right h.0 h.1)
+
+    of_over_lines : (l : Line) → OfLine l → AllByRecursion OfCells (lines_of l)
+    of_over_lines l h = either (AllByRecursion OfCells) (length (standing l) == 0) [] (cells_of l ∷ []) tt (of_line l h, tt)
+
+    of_restored : (limit : ℕ) (pen : Pen) (l : Line) → OfLine l → OfDone (restored limit pen l)
+    of_restored limit pen l h = either OfDone pen.here (done [] (behind_columns limit pen.saved l)) (done (lines_of l) (forward limit (min pen.saved (widest - 1)) blank)) (tt, of_behind limit pen.saved l h)
+        (of_over_lines l h, of_forward limit (min pen.saved (widest - 1)) blank (tt, tt))
+
+    of_does : (limit : ℕ) (pen : Pen) (s : Step) (l : Line) → OfPen pen → OfStep s → OfLine l → OfDone (does limit pen s l)
+    of_does limit pen (step.Put c) l q p h = of_put limit pen.inserts (glyph c pen.look) l (p, q.0) h
+    of_does limit pen (step.Repeat n) l q p h = of_repeated limit pen pen.last n l q.0 q.1 h
+    of_does limit pen step.Tab l q p h = either OfDone (length l.right == 0) (put limit pen.inserts (glyph 9 pen.look) l) (done [] (forward limit (to_tab_stop (columns l.left)) l)) (of_put limit pen.inserts (glyph 9 pen.look) l (tab, q.0) h)
+        (tt, of_forward limit (to_tab_stop (columns l.left)) l h)
+    of_does limit pen (step.Tabs n) l q p h = (tt, of_forward limit (to_stop n (columns l.left)) l h)
+    of_does limit pen (step.TabsBack n) l q p h = (tt, of_back (from_stop n (columns l.left)) l.left l.right h.0 h.1)
+    of_does limit pen step.NewLine l q p h = ((of_line l h, tt), (tt, tt))
+    of_does limit pen (step.Right n) l q p h = (tt, of_forward limit n l h)
+    of_does limit pen (step.Left n) l q p h = (tt, of_back n l.left l.right h.0 h.1)
+    of_does limit pen (step.Column n) l q p h = (tt, of_behind limit (n - 1) l h)
+    of_does limit pen step.EraseRight l q p h = (tt, ((of_parted l h).0, tt))
+    of_does limit pen step.EraseLeft l q p h = (tt, (empties (columns l.left), of_erased 1 l.right h.1))
+    of_does limit pen step.EraseAll l q p h = (tt, (empties (columns l.left), tt))
+    of_does limit pen (step.Erase n) l q p h = let k = of_parted l h in (tt, (k.0, of_erased n (parted l).right k.1))
+    of_does limit pen (step.Delete n) l q p h = let k = of_parted l h in (tt, (k.0, of_gone n (parted l).right k.1))
+    of_does limit pen (step.Insert n) l q p h =
+        let k = of_parted l h in
+        let some = min n (limit - size (parted l)) in
+        (tt, (k.0, both (replicate some Empty) (parted l).right (empties some) k.1))
+    of_does limit pen (step.Attribute s) l q p h = (tt, h)
+    of_does limit pen (step.Inserts inserts) l q p h = (tt, h)
+    of_does limit pen step.Save l q p h = (tt, h)
+    of_does limit pen step.Restore l q p h = of_restored limit pen l h
+    of_does limit pen step.Reset l q p h = (tt, h)
+    of_does limit pen (step.Leave to) l q p h = (of_over_lines l h, of_forward limit (target to l) blank (tt, tt))
+    of_does limit pen step.Other l q p h = (tt, h)
+
+    last_kept : (last : Option ℕ) (c : ℕ) → OfLast last → P c → OfLast (last_behind last c)
+    last_kept last c h p = either OfLast (width c 0 == 0) last (Some c) h p
+
+    pen_kept : (pen : Pen) (s : Step) (column : ℕ) → OfPen pen → OfStep s → OfPen (pen_behind pen s column)
+    pen_kept pen (step.Put c) column q p = (q.0, last_kept pen.last c q.1 p)
+    pen_kept pen (step.Repeat n) column q p = (q.0, tt)
+    pen_kept pen step.Tab column q p = (q.0, tt)
+    pen_kept pen (step.Tabs n) column q p = (q.0, tt)
+    pen_kept pen (step.TabsBack n) column q p = (q.0, tt)
+    pen_kept pen step.NewLine column q p = (q.0, tt)
+    pen_kept pen (step.Right n) column q p = (q.0, tt)
+    pen_kept pen (step.Left n) column q p = (q.0, tt)
+    pen_kept pen (step.Column n) column q p = (q.0, tt)
+    pen_kept pen step.EraseRight column q p = (q.0, tt)
+    pen_kept pen step.EraseLeft column q p = (q.0, tt)
+    pen_kept pen step.EraseAll column q p = (q.0, tt)
+    pen_kept pen (step.Erase n) column q p = (q.0, tt)
+    pen_kept pen (step.Delete n) column q p = (q.0, tt)
+    pen_kept pen (step.Insert n) column q p = (q.0, tt)
+    pen_kept pen (step.Attribute s) column q p = (kept pen.look s q.0 p, tt)
+    pen_kept pen (step.Inserts inserts) column q p = (q.0, tt)
+    pen_kept pen step.Save column q p = (q.0, tt)
+    pen_kept pen step.Restore column q p = (q.0, tt)
+    pen_kept pen step.Reset column q p = (plain_kept, tt)
+    pen_kept pen (step.Leave to) column q p = (q.0, tt)
+    pen_kept pen step.Other column q p = (q.0, tt)
+
+    of_all : (limit : ℕ) (pen : Pen) (steps : List Step) (l : Line) → OfPen pen → AllByRecursion OfStep steps → OfLine l → OfDone (do_all limit pen steps l)
+    of_all limit pen [] l q p h = (tt, h)
+    of_all limit pen (s ∷ steps) l q p h =
+        let next = pen_behind pen s (columns l.left) in
+        let one = of_does limit pen s l q p.0 h in
+        let later = do_all limit next steps (does limit pen s l).line in
+        let others = of_all limit next steps (does limit pen s l).line (pen_kept pen s (columns l.left) q p.0) p.1 one.1 in
+        (all_both (does limit pen s l).lines later.lines one.0 others.0, others.1)
 
     -- the cells of all that is shown
-    pub of_done : (limit : ℕ) (steps : List Step) → AllByRecursion OfStep steps → AllByRecursion OfCells (do_all limit plain steps blank).lines × OfCells (cells_of (do_all limit plain steps blank).line)
+    pub of_done : (limit : ℕ) (steps : List Step) → AllByRecursion OfStep steps → AllByRecursion OfCells (do_all limit fresh steps blank).lines × OfCells (cells_of (do_all limit fresh steps blank).line)
     of_done limit steps p =
-        let all = of_all limit plain steps blank plain_kept p (tt, tt) in
-        (all.0, of_line (do_all limit plain steps blank).line all.1)
+        let all = of_all limit fresh steps blank (plain_kept, tt) p (tt, tt) in
+        (all.0, of_line (do_all limit fresh steps blank).line all.1)
 
     module _ (space : P 32) (newline : P 10) where
       chars_both : (xs ys : List ℕ) → AllByRecursion P xs → AllByRecursion P ys → AllByRecursion P (xs ++ ys)
@@ -186,8 +239,8 @@ module _ (P : ℕ → Type 0) (Q : Look → Type 0) (R : Sgr → Type 0) where
       of_lines [] h = tt
       of_lines (x ∷ xs) h = chars_both (line_chars x) (flat_map line_chars xs) (chars_both (flat_map chars_of x) (10 ∷ []) (of_cells x h.0) (newline, tt)) (of_lines xs h.1)
 
-      pub of_shown : (limit : ℕ) (steps : List Step) → AllByRecursion OfStep steps → AllByRecursion P (chars_by (do_all limit plain steps blank))
+      pub of_shown : (limit : ℕ) (steps : List Step) → AllByRecursion OfStep steps → AllByRecursion P (chars_by (do_all limit fresh steps blank))
       of_shown limit steps p =
-          let d = do_all limit plain steps blank in
+          let d = do_all limit fresh steps blank in
           let all = of_done limit steps p in
           chars_both (flat_map line_chars d.lines) (flat_map chars_of (cells_of d.line)) (of_lines d.lines all.0) (of_cells (cells_of d.line) all.1)

@@ -1,9 +1,11 @@
 -- Cells that are moved or taken, one after the other.
-use Rattle.std.proofs.Common.{◌≡◌, ℕ, ◌-◌, ◌+◌, ◌<◌, ◌≤◌, Bool, true, false, cond, ◌==◌, nat_le, nat_lt, List, [], ◌∷◌, ◌++◌, refl, sym, ap, ◌∙◌, arith, append_assoc}
+use Rattle.std.proofs.Common.{◌≡◌, ℕ, zero, suc, ◌-◌, ◌+◌, ◌<◌, ◌≤◌, Bool, true, false, cond, ◌==◌, nat_le, nat_lt, List, [], ◌∷◌, ◌++◌, refl, sym, ap, ◌∙◌, arith, append_assoc}
 use Rattle.std.proofs.lemmas.Bool.Decides.{nat_tests}
 use Rattle.csicodec_overwrite.specs.declared.cells.Cell.{Cell}
+use Rattle.csicodec_overwrite.specs.declared.cells.Glyph.{Glyph}
+use Rattle.csicodec_overwrite.specs.declared.line.Line.{Line}
 use Rattle.csicodec_overwrite.specs.Cells.{takes, without}
-use Rattle.csicodec_overwrite.specs.Line.{back, line, over}
+use Rattle.csicodec_overwrite.specs.Line.{back, before, line, over, put, repeat}
 use Rattle.csicodec_overwrite.specs.Paint.{texts_of}
 use Rattle.csicodec_overwrite.proofs.Texts.{texts_on}
 
@@ -62,3 +64,9 @@ pub step_text : (painted : Bool) (now new : List ℕ) (first later : List (List 
     → new ++ texts_of painted later ≡ whole
 step_text painted now new first later whole e f =
     ap (λ (t : List ℕ). t ++ texts_of painted later) e ∙ append_assoc now (texts_of painted first) (texts_of painted later) ∙ ap (λ (t : List ℕ). now ++ t) (sym (texts_on painted first later)) ∙ f
+
+-- ---- so many times
+
+pub repeat_on : (limit : ℕ) (inserts : Bool) (g : Glyph) (n : ℕ) (l : Line) → 0 < n → repeat limit inserts g n l ≡ before (put limit inserts g l).lines (repeat limit inserts g (n - 1) (put limit inserts g l).line)
+repeat_on limit inserts g zero l h = absurd (omega (arith, h))
+repeat_on limit inserts g (suc n) l h = let less : suc n - 1 ≡ n = omega arith in ap (λ (k : ℕ). before (put limit inserts g l).lines (repeat limit inserts g k (put limit inserts g l).line)) (sym less)

@@ -18,10 +18,9 @@ use Rattle.csicodec_clean.specs.Titles.{title_open, with_titles}
 use Rattle.csicodec_clean.proofs.Again.{of_once}
 use Rattle.csicodec_clean.proofs.Sure.{read_none}
 use Rattle.csicodec_clean.proofs.Titles.{titles_on}
-use Rattle.csicodec_html.specs.Look.{plain}
 use Rattle.csicodec_overwrite.specs.declared.step.Step.{Step}
-use Rattle.csicodec_overwrite.specs.Line.{blank, do_all, look_behind_all}
-use Rattle.csicodec_overwrite.specs.Steps.{of_actions, of_chars, of_escape, of_run, of_wrong}
+use Rattle.csicodec_overwrite.specs.Line.{blank, do_all, fresh, pen_behind_all}
+use Rattle.csicodec_overwrite.specs.Steps.{of_chars, of_escape, of_run, of_sequence, of_string, of_wrong}
 use Rattle.csicodec_overwrite.specs.Reading.{AreOfParts, IsOfPart, Shows, Steps, most, shown_by}
 use Rattle.csicodec_overwrite.specs.Stream.{Ending, Goes, Held, Now, Passes, begun_as}
 use Rattle.csicodec_overwrite.proofs.Chars.{run_read}
@@ -36,7 +35,7 @@ record Same (x y : List Step) (a b : List ℕ) : Type 0 where
 part_once : (k : Kind) (run bytes : List ℕ) (x y : List Step) (a b : List ℕ) → IsOfPart k run bytes x a → IsOfPart k run bytes y b → Same x y a b
 part_once kind.Text run bytes x y a b h i = record { steps = h.0 ∙ sym i.0; runs = h.1 ∙ sym i.1 }
 part_once kind.Csi run bytes x y a b (own, of, e, none) (other, is, f, nil) =
-    record { steps = e ∙ ap (λ (actions : List Action). of_run run ++ of_actions actions) (of_once bytes own other of is) ∙ sym f; runs = none ∙ sym nil }
+    record { steps = e ∙ ap (λ (actions : List Action). of_run run ++ of_sequence actions) (of_once bytes own other of is) ∙ sym f; runs = none ∙ sym nil }
 part_once kind.Esc run bytes x y a b h i = record { steps = h.0 ∙ sym i.0; runs = h.1 ∙ sym i.1 }
 part_once kind.Str run bytes x y a b h i = record { steps = h.0 ∙ sym i.0; runs = h.1 ∙ sym i.1 }
 part_once kind.Other run bytes x y a b h i = record { steps = h.0 ∙ sym i.0; runs = h.1 ∙ sym i.1 }
@@ -67,7 +66,7 @@ one_reading bytes steps others s t =
     s.all ∙ ap (λ (x : List Step). x ++ of_run s.run) (sym before) ∙ ap (λ (run : List ℕ). t.before ++ of_run run) (sym r.others.1) ∙ sym t.all
 
 pub one_text : (painted : Bool) (bytes text other : List ℕ) → Shows painted bytes text → Shows painted bytes other → text ≡ other
-one_text painted bytes text other o p = o.all ∙ ap (λ (steps : List Step). shown_by painted (do_all most plain steps blank)) (one_reading bytes o.steps p.steps o.read p.read) ∙ sym p.all
+one_text painted bytes text other o p = o.all ∙ ap (λ (steps : List Step). shown_by painted (do_all most fresh steps blank)) (one_reading bytes o.steps p.steps o.read p.read) ∙ sym p.all
 
 -- ---- fronts
 
@@ -93,9 +92,9 @@ part_begins : (k : Kind) (run bytes chars rest next : List ℕ) (first others mo
 part_begins kind.Text run bytes chars rest next first others more last h (none, left) f later =
     let same : others ≡ more = f ∙ ap (λ (t : List Step). t ++ more) none in
     subst (λ (t : List Step). GoesOnFrom (t ++ last) (of_chars chars)) (sym same) (later chars (rest ++ bytes) (subst (λ (r : List ℕ). IsRead r chars (rest ++ bytes)) (sym left) (read_longer run chars rest bytes h)))
-part_begins kind.Csi run bytes chars rest next first others more last h (actions, of, e, none) f later = ends_run run chars rest (of_actions actions) first others more last h e f
+part_begins kind.Csi run bytes chars rest next first others more last h (actions, of, e, none) f later = ends_run run chars rest (of_sequence actions) first others more last h e f
 part_begins kind.Esc run bytes chars rest next first others more last h i f later = ends_run run chars rest (of_escape bytes) first others more last h i.0 f
-part_begins kind.Str run bytes chars rest next first others more last h i f later = ends_run run chars rest [] first others more last h (i.0 ∙ sym (append-nil (of_run run))) f
+part_begins kind.Str run bytes chars rest next first others more last h i f later = ends_run run chars rest (of_string bytes) first others more last h i.0 f
 part_begins kind.Other run bytes chars rest next first others more last h i f later = ends_run run chars rest (of_wrong bytes) first others more last h i.0 f
 
 parts_begin : (run chars rest : List ℕ) (qs : List Part) (later : List Step) (last : List ℕ) → IsRead run chars rest → AreOfParts run qs later last → GoesOnFrom (later ++ of_run last) (of_chars chars)
@@ -118,9 +117,9 @@ goes_front read more steps all last g s =
 passes_front : (painted : Bool) (read more text : List ℕ) (last : Now) → Passes (begun_as painted) read text last → IsFrontOf (Shows painted) (read ++ more) text
 passes_front painted read more text last p whole o =
     let (later, e) = goes_front read more p.steps o.steps last.reader (p.reads.goes [] [] (read_none [])) o.read in
-    let behind = shown_by painted (do_all most (look_behind_all plain p.steps) later (do_all most plain p.steps blank).line) in (
+    let behind = shown_by painted (do_all most (pen_behind_all most fresh p.steps blank) later (do_all most fresh p.steps blank).line) in (
       behind,
-      o.all ∙ ap (λ (steps : List Step). shown_by painted (do_all most plain steps blank)) e ∙ shown_on painted most p.steps later plain blank ∙ ap (λ (t : List ℕ). t ++ behind) (sym p.all),
+      o.all ∙ ap (λ (steps : List Step). shown_by painted (do_all most fresh steps blank)) e ∙ shown_on painted most p.steps later fresh blank ∙ ap (λ (t : List ℕ). t ++ behind) (sym p.all),
     )
 
 module _ (painted : Bool) where

@@ -12,10 +12,16 @@ use Rattle.csicodec_names.specs.declared.enums.EraseInLine.{EraseInLine}
 use Rattle.csicodec_names.specs.declared.enums.EraseInLine.TheVariants as part
 use Rattle.csicodec_names.specs.declared.modes.DecPrivateModeCode.{DecPrivateModeCode}
 use Rattle.csicodec_names.specs.declared.modes.DecPrivateModeCode.TheVariants as code
+use Rattle.csicodec_names.specs.declared.modes.TerminalModeCode.{TerminalModeCode}
+use Rattle.csicodec_names.specs.declared.modes.TerminalModeCode.TheVariants as terminal_code
 use Rattle.csicodec_actions.specs.declared.mode.DecPrivateMode.{DecPrivateMode}
 use Rattle.csicodec_actions.specs.declared.mode.DecPrivateMode.TheVariants as private
+use Rattle.csicodec_actions.specs.declared.mode.TerminalMode.{TerminalMode}
+use Rattle.csicodec_actions.specs.declared.mode.TerminalMode.TheVariants as terminal
 use Rattle.csicodec_actions.specs.declared.mode.Mode.{Mode}
 use Rattle.csicodec_actions.specs.declared.mode.Mode.TheVariants as mode
+use Rattle.csicodec_actions.specs.Devices.{Device}
+use Rattle.csicodec_actions.specs.Devices as device
 use Rattle.csicodec_actions.specs.declared.cursor.Cursor.{Cursor}
 use Rattle.csicodec_actions.specs.declared.cursor.Cursor.TheVariants as cursor
 use Rattle.csicodec_actions.specs.declared.edit.Edit.{Edit}
@@ -38,9 +44,9 @@ use Rattle.csicodec_html.specs.declared.look.Look.{Look}
 use Rattle.csicodec_html.specs.Look.{behind, plain}
 use Rattle.csicodec_overwrite.specs.declared.step.Step.{Step}
 use Rattle.csicodec_overwrite.specs.declared.step.Step.TheVariants as step
-use Rattle.csicodec_overwrite.specs.Line.{blank, do_all}
+use Rattle.csicodec_overwrite.specs.Line.{blank, do_all, fresh}
 use Rattle.csicodec_overwrite.specs.Paint.{IsInRange}
-use Rattle.csicodec_overwrite.specs.Steps.{of_action, of_actions, of_char, of_chars, of_code, of_control, of_cursor, of_display, of_edit, of_escape, of_final, of_mode, of_part, of_private_mode, of_run, of_wrong, of_wrong_byte}
+use Rattle.csicodec_overwrite.specs.Steps.{by_code, of_action, of_actions, of_char, of_chars, of_code, of_control, of_cursor, of_device, of_display, of_edit, of_escape, of_final, of_mode, of_part, of_reset, of_run, of_sequence, of_set, of_string, of_string_byte, of_terminal_code, of_terminal_mode, of_wrong, of_wrong_byte}
 use Rattle.csicodec_overwrite.specs.Reading.{AreOfParts, IsOfPart, Overwrites, Steps, most}
 use Rattle.csicodec_overwrite.proofs.Kept.{OfStep, of_shown}
 use Rattle.csicodec_overwrite.proofs.Texts.{chars_by, shown_plain}
@@ -63,7 +69,7 @@ pick true x y h k = h
 pick false x y h k = k
 
 control_good : (c : ℕ) → AreGood (of_control c)
-control_good c = pick (c == 11 || (c == 12 || (c == 132 || (c == 141 || c == 155)))) (step.Leave None ∷ []) (cond (c == 133) (step.Leave (Some 1) ∷ []) []) (tt, tt) (pick (c == 133) (step.Leave (Some 1) ∷ []) [] (tt, tt) tt)
+control_good c = pick (c == 11 || (c == 12 || (c == 132 || (c == 141 || c == 155)))) (step.Leave None ∷ []) (cond (c == 133) (step.Leave (Some 1) ∷ []) (step.Other ∷ [])) (tt, tt) (pick (c == 133) (step.Leave (Some 1) ∷ []) (step.Other ∷ []) (tt, tt) (tt, tt))
 
 char_good : (c : ℕ) → scalar c ≡ true → AreGood (of_char c)
 char_good c h = by (c == 10) (c == 13) (c == 8) (c == 9) (shown c) (λ e. (e, h))
@@ -87,19 +93,27 @@ run_good : (run : List ℕ) → AreGood (of_run run)
 run_good run = chars_good (lossy_chars run) (scalars_lossy run)
 
 final_good : (c : ℕ) → AreGood (of_final c)
-final_good c = by (c == 68 || c == 77) (c == 56 || c == 69) (c == 99)
+final_good c = by (c == 68 || c == 77) (c == 69) (c == 55) (c == 56) (c == 99)
   where
-    by : (same first reset : Bool) → AreGood (cond same (step.Leave None ∷ []) (cond first (step.Leave (Some 1) ∷ []) (cond reset (step.Leave (Some 1) ∷ (step.Attribute sgr.Reset ∷ [])) [])))
-    by true first reset = (tt, tt)
-    by false true reset = (tt, tt)
-    by false false true = (tt, (tt, tt))
-    by false false false = tt
+    by : (same first saves restores reset : Bool)
+        → AreGood (cond same (step.Leave None ∷ []) (cond first (step.Leave (Some 1) ∷ []) (cond saves (step.Save ∷ []) (cond restores (step.Restore ∷ []) (cond reset (step.Leave (Some 1) ∷ (step.Reset ∷ [])) (step.Other ∷ []))))))
+    by true first saves restores reset = (tt, tt)
+    by false true saves restores reset = (tt, tt)
+    by false false true restores reset = (tt, tt)
+    by false false false true reset = (tt, tt)
+    by false false false false true = (tt, (tt, tt))
+    by false false false false false = (tt, tt)
 
 escape_good : (bytes : List ℕ) → AreGood (of_escape bytes)
 escape_good bytes =
     let aligns = length bytes == 3 && (slice_index bytes 1 == 35 && slice_index bytes 2 == 56) in
     let align : List Step = step.Leave (Some 1) ∷ [] in
-    pick (length bytes == 2) (of_final (slice_index bytes 1)) (cond aligns align []) (final_good (slice_index bytes 1)) (pick aligns align [] (tt, tt) tt)
+    let other : List Step = step.Other ∷ [] in
+    pick (length bytes == 2) (of_final (slice_index bytes 1)) (cond aligns align other) (final_good (slice_index bytes 1)) (pick aligns align other (tt, tt) (tt, tt))
+
+string_good : (bytes : List ℕ) → AreGood (of_string bytes)
+string_good [] = tt
+string_good (b ∷ bytes) = both (of_string_byte b) (of_string bytes) (pick (b == 27) (step.Other ∷ []) [] (tt, tt) tt) (string_good bytes)
 
 wrong_good : (bytes : List ℕ) → AreGood (of_wrong bytes)
 wrong_good [] = tt
@@ -112,6 +126,9 @@ cursor_good (cursor.CharacterAbsolute col) = (tt, tt)
 cursor_good (cursor.CharacterPositionAbsolute col) = (tt, tt)
 cursor_good (cursor.CharacterPositionForward n) = (tt, tt)
 cursor_good (cursor.CharacterPositionBackward n) = (tt, tt)
+cursor_good (cursor.ForwardTabulation n) = (tt, tt)
+cursor_good (cursor.BackwardTabulation n) = (tt, tt)
+cursor_good cursor.SaveCursor = (tt, tt)
 cursor_good (cursor.Position row col) = (tt, tt)
 cursor_good (cursor.CharacterAndLinePosition row col) = (tt, tt)
 cursor_good (cursor.Up n) = (tt, tt)
@@ -141,13 +158,13 @@ edit_good : (e : Edit) → AreGood (of_edit e)
 edit_good (edit.EraseCharacter n) = (tt, tt)
 edit_good (edit.DeleteCharacter n) = (tt, tt)
 edit_good (edit.InsertCharacter n) = (tt, tt)
+edit_good (edit.Repeat n) = (tt, tt)
 edit_good (edit.ScrollUp n) = (tt, tt)
 edit_good (edit.ScrollDown n) = (tt, tt)
 edit_good (edit.InsertLine n) = (tt, tt)
 edit_good (edit.DeleteLine n) = (tt, tt)
 edit_good (edit.EraseInLine p) = part_good p
 edit_good (edit.EraseInDisplay p) = display_good p
-edit_good _ = tt
 
 code_good : (c : DecPrivateModeCode) → AreGood (of_code c)
 code_good code.Select132Columns = (tt, tt)
@@ -158,21 +175,46 @@ code_good code.SaveCursor = (tt, tt)
 code_good code.ClearAndEnableAlternateScreen = (tt, tt)
 code_good _ = tt
 
-private_good : (m : DecPrivateMode) → AreGood (of_private_mode m)
-private_good (private.Code c) = code_good c
-private_good (private.Unspecified n) = tt
+set_good : (c : DecPrivateModeCode) → AreGood (of_set c)
+set_good code.SaveCursor = (tt, tt)
+set_good code.ClearAndEnableAlternateScreen = (tt, (tt, tt))
+set_good c = code_good c
+
+reset_good : (c : DecPrivateModeCode) → AreGood (of_reset c)
+reset_good code.SaveCursor = (tt, tt)
+reset_good code.ClearAndEnableAlternateScreen = (tt, (tt, tt))
+reset_good c = code_good c
+
+private_good : (steps : DecPrivateModeCode → List Step) (m : DecPrivateMode) → ((c : DecPrivateModeCode) → AreGood (steps c)) → AreGood (by_code steps m)
+private_good steps (private.Code c) h = h c
+private_good steps (private.Unspecified n) h = tt
+
+terminal_code_good : (set : Bool) (c : TerminalModeCode) → AreGood (of_terminal_code set c)
+terminal_code_good set terminal_code.Insert = (tt, tt)
+terminal_code_good set _ = tt
+
+terminal_good : (set : Bool) (m : TerminalMode) → AreGood (of_terminal_mode set m)
+terminal_good set (terminal.Code c) = terminal_code_good set c
+terminal_good set (terminal.Unspecified n) = tt
 
 mode_good : (m : Mode) → AreGood (of_mode m)
-mode_good (mode.SetDecPrivateMode m) = private_good m
-mode_good (mode.ResetDecPrivateMode m) = private_good m
-mode_good (mode.RestoreDecPrivateMode m) = private_good m
+mode_good (mode.SetDecPrivateMode m) = private_good of_set m set_good
+mode_good (mode.ResetDecPrivateMode m) = private_good of_reset m reset_good
+mode_good (mode.RestoreDecPrivateMode m) = private_good of_code m code_good
+mode_good (mode.SetMode m) = terminal_good true m
+mode_good (mode.ResetMode m) = terminal_good false m
 mode_good _ = tt
+
+device_good : (d : Device) → AreGood (of_device d)
+device_good device.SoftReset = (tt, tt)
+device_good _ = tt
 
 action_good : (a : Action) → InRange a → AreGood (of_action a)
 action_good (action.Cursor c) h = cursor_good c
 action_good (action.Edit e) h = edit_good e
 action_good (action.Sgr s) h = (h, tt)
 action_good (action.Mode m) h = mode_good m
+action_good (action.Device d) h = device_good d
 action_good (action.Unspecified params flag final) h = pick (final == 109) [] (step.Leave None ∷ []) tt (tt, tt)
 action_good _ h = tt
 
@@ -180,14 +222,14 @@ actions_good : (actions : List Action) → AllByRecursion (Kept false) actions �
 actions_good [] h = tt
 actions_good (a ∷ actions) h = both (of_action a) (of_actions actions) (action_good a h.0.range) (actions_good actions h.1)
 
-sequence_good : (bytes : List ℕ) (actions : List Action) → IsOf bytes actions → AreGood (of_actions actions)
-sequence_good bytes actions (list, final, is, read) = actions_good actions (parsed-kept list false final actions is.spellable is.ends read)
+sequence_good : (bytes : List ℕ) (actions : List Action) → IsOf bytes actions → AreGood (of_sequence actions)
+sequence_good bytes actions (list, final, is, read) = both (of_actions actions) (step.Other ∷ []) (actions_good actions (parsed-kept list false final actions is.spellable is.ends read)) (tt, tt)
 
 part_steps : (k : Kind) (run bytes left : List ℕ) (steps : List Step) → IsOfPart k run bytes steps left → AreGood steps
 part_steps kind.Text run bytes left steps h = rw h.0 tt
-part_steps kind.Csi run bytes left steps (actions, of, e, none) = rw e (both (of_run run) (of_actions actions) (run_good run) (sequence_good bytes actions of))
+part_steps kind.Csi run bytes left steps (actions, of, e, none) = rw e (both (of_run run) (of_sequence actions) (run_good run) (sequence_good bytes actions of))
 part_steps kind.Esc run bytes left steps h = rw h.0 (both (of_run run) (of_escape bytes) (run_good run) (escape_good bytes))
-part_steps kind.Str run bytes left steps h = rw h.0 (run_good run)
+part_steps kind.Str run bytes left steps h = rw h.0 (both (of_run run) (of_string bytes) (run_good run) (string_good bytes))
 part_steps kind.Other run bytes left steps h = rw h.0 (both (of_run run) (of_wrong bytes) (run_good run) (wrong_good bytes))
 
 parts_good : (run : List ℕ) (ps : List Part) (steps : List Step) (left : List ℕ) → AreOfParts run ps steps left → AreGood steps
@@ -230,6 +272,6 @@ all_shown (c ∷ cs) h = (h.0.0, all_shown cs h.1)
 
 pub overwritten_plain : (bytes text : List ℕ) → Overwrites bytes text → IsPlain text
 overwritten_plain bytes text o =
-    let d = do_all most plain o.steps blank in
+    let d = do_all most fresh o.steps blank in
     let good = of_shown IsGood IsInRange SgrInRange (refl, refl) plain_kept kept (refl, refl) (refl, refl) most o.steps (steps_good bytes o.steps o.read) in
     (chars_by d, scalars (chars_by d) good, all_shown (chars_by d) good, o.all ∙ shown_plain d)

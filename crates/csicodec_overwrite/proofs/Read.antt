@@ -15,7 +15,7 @@ use Rattle.csicodec_clean.specs.Titles.{title_behind, title_open, read_as, with_
 use Rattle.csicodec_clean.proofs.Sure.{read_more, read_none}
 use Rattle.csicodec_clean.proofs.Titles.{open_on, titled, titles_on}
 use Rattle.csicodec_overwrite.specs.declared.step.Step.{Step}
-use Rattle.csicodec_overwrite.specs.Steps.{of_actions, of_chars, of_escape, of_run, of_wrong, of_wrong_byte}
+use Rattle.csicodec_overwrite.specs.Steps.{of_chars, of_escape, of_run, of_sequence, of_string, of_string_byte, of_wrong, of_wrong_byte}
 use Rattle.csicodec_overwrite.specs.Reading.{AreOfParts, IsOfPart, Steps}
 use Rattle.csicodec_overwrite.specs.Stream.{Goes, Held, Reads, none_held}
 use Rattle.csicodec_overwrite.specs.Private.Spans.{GoesTo, IsGiven}
@@ -35,37 +35,26 @@ texts (p ∷ ps) run h =
     let others = subst (λ (x : List ℕ). AreOfParts (run ++ p.bytes) ps [] x) (append_assoc run p.bytes (flat_map bytes_of ps)) (texts ps (run ++ p.bytes) h.1) in
     ([], run ++ p.bytes, [], step, refl, others)
 
--- parts of a kind that ends a run and does nothing
-dropped : (k : Kind) (ps : List Part) → ((run bytes : List ℕ) → IsOfPart k run bytes (of_run run) []) → AllByRecursion (λ (p : Part). p.kind ≡ k) ps → AreOfParts [] ps [] []
-dropped k [] f h = (refl, refl)
-dropped k (p ∷ ps) f h =
-    let step : IsOfPart p.kind [] p.bytes (of_run []) [] = rw h.0 (f [] p.bytes) in
-    (of_run [], [], [], step, sym (append-nil (of_run []) ∙ run_none), dropped k ps f h.1)
+-- parts of a kind of which each byte does something by itself
+module _ (k : Kind) (of_byte : ℕ → List Step) (ends : (run bytes : List ℕ) → IsOfPart k run bytes (of_run run ++ flat_map of_byte bytes) []) where
+  others_by : (ps : List Part) → AllByRecursion (λ (p : Part). p.kind ≡ k) ps → AreOfParts [] ps (flat_map of_byte (flat_map bytes_of ps)) []
+  others_by [] h = (refl, refl)
+  others_by (p ∷ ps) h =
+      let own = flat_map of_byte p.bytes in
+      let others = flat_map bytes_of ps in
+      let first : IsOfPart k [] p.bytes own [] = subst (λ (t : List Step). IsOfPart k [] p.bytes t []) (ap (λ (t : List Step). t ++ own) run_none) (ends [] p.bytes) in
+      let step : IsOfPart p.kind [] p.bytes own [] = rw h.0 first in
+      (own, [], flat_map of_byte others, step, flat_map-append of_byte p.bytes others, others_by ps h.1)
 
-drops : (k : Kind) (bytes : List ℕ) (ps : List Part) (run : List ℕ) → ((run bytes : List ℕ) → IsOfPart k run bytes (of_run run) []) → AreAll k bytes ps → AreOfParts run ps (of_run run) []
-drops k bytes [] run f h = absurd (omega (arith, h.some))
-drops k bytes (p ∷ ps) run f h =
-    let step : IsOfPart p.kind run p.bytes (of_run run) [] = rw h.all.0 (f run p.bytes) in
-    (of_run run, [], [], step, sym (append-nil (of_run run)), dropped k ps f h.all.1)
-
--- parts that went wrong
-wrongs : (ps : List Part) → AllByRecursion (λ (p : Part). p.kind ≡ kind.Other) ps → AreOfParts [] ps (of_wrong (flat_map bytes_of ps)) []
-wrongs [] h = (refl, refl)
-wrongs (p ∷ ps) h =
-    let own = of_wrong p.bytes in
-    let others = flat_map bytes_of ps in
-    let step : IsOfPart p.kind [] p.bytes own [] = rw h.0 (sym (ap (λ (t : List Step). t ++ own) run_none), refl) in
-    (own, [], of_wrong others, step, flat_map-append of_wrong_byte p.bytes others, wrongs ps h.1)
-
-wrong : (bytes : List ℕ) (ps : List Part) (run : List ℕ) → AreAll kind.Other bytes ps → AreOfParts run ps (of_run run ++ of_wrong bytes) []
-wrong bytes [] run h = absurd (omega (arith, h.some))
-wrong bytes (p ∷ ps) run h =
-    let own = of_wrong p.bytes in
-    let others = flat_map bytes_of ps in
-    let step : IsOfPart p.kind run p.bytes (of_run run ++ own) [] = rw h.all.0 (refl, refl) in
-    let whole : of_run run ++ of_wrong bytes ≡ (of_run run ++ own) ++ of_wrong others =
-    ap (λ (b : List ℕ). of_run run ++ of_wrong b) (sym h.joined) ∙ ap (λ (t : List Step). of_run run ++ t) (flat_map-append of_wrong_byte p.bytes others) ∙ sym (append_assoc (of_run run) own (of_wrong others)) in
-    (of_run run ++ own, [], of_wrong others, step, whole, wrongs ps h.all.1)
+  by_bytes : (bytes : List ℕ) (ps : List Part) (run : List ℕ) → AreAll k bytes ps → AreOfParts run ps (of_run run ++ flat_map of_byte bytes) []
+  by_bytes bytes [] run h = absurd (omega (arith, h.some))
+  by_bytes bytes (p ∷ ps) run h =
+      let own = flat_map of_byte p.bytes in
+      let others = flat_map bytes_of ps in
+      let step : IsOfPart p.kind run p.bytes (of_run run ++ own) [] = rw h.all.0 (ends run p.bytes) in
+      let whole : of_run run ++ flat_map of_byte bytes ≡ (of_run run ++ own) ++ flat_map of_byte others =
+      ap (λ (b : List ℕ). of_run run ++ flat_map of_byte b) (sym h.joined) ∙ ap (λ (t : List Step). of_run run ++ t) (flat_map-append of_byte p.bytes others) ∙ sym (append_assoc (of_run run) own (flat_map of_byte others)) in
+      (of_run run ++ own, [], flat_map of_byte others, step, whole, others_by ps h.all.1)
 
 only : (k : Kind) (bytes : List ℕ) (steps : List Step) (ps : List Part) (run : List ℕ) → ps ≡ part k bytes ∷ [] → IsOfPart k run bytes steps [] → AreOfParts run ps steps []
 only k bytes steps ps run e h = rw e (steps, [], [], h, sym (append-nil steps), (refl, refl))
@@ -92,10 +81,6 @@ ended run chars held ps own more left read e none are = record {
   same = ap (λ (t : List Step). of_chars chars ++ t) e ∙ sym (append_assoc (of_chars chars) (of_run held) own) ∙ ap (λ (t : List Step). t ++ own) (sym (run_read run chars held read)) ∙ sym (append-nil (of_run run ++ own));
 }
 
-no_own : (run chars held : List ℕ) (ps : List Part) (more : List Step) (left : List ℕ) → IsRead run chars held → (more ≡ of_run held) × (left ≡ []) → AreOfParts run ps (of_run run) [] → Spanned run chars ps more left
-no_own run chars held ps more left read h are =
-    ended run chars held ps [] more left read (h.0 ∙ sym (append-nil (of_run held))) h.1 (rw (append-nil (of_run run)) are)
-
 spanned : (k : Kind) (run chars held bytes : List ℕ) (more : List Step) (ps : List Part) (left : List ℕ) → IsSpan k bytes ps → IsRead run chars held → IsGiven k held bytes more left → Spanned run chars ps more left
 spanned kind.Text run chars held bytes more ps left span read (now, later, e) = record {
   before = [];
@@ -106,11 +91,11 @@ spanned kind.Text run chars held bytes more ps left span read (now, later, e) = 
   same = ap (λ (t : List Step). of_chars chars ++ t) e ∙ sym (chars_on chars now);
 }
 spanned kind.Csi run chars held bytes more ps left span read (actions, of, e, none) =
-    ended run chars held ps (of_actions actions) more left read e none (only kind.Csi bytes (of_run run ++ of_actions actions) ps run span (actions, of, refl, refl))
+    ended run chars held ps (of_sequence actions) more left read e none (only kind.Csi bytes (of_run run ++ of_sequence actions) ps run span (actions, of, refl, refl))
 spanned kind.Esc run chars held bytes more ps left span read h =
     ended run chars held ps (of_escape bytes) more left read h.0 h.1 (only kind.Esc bytes (of_run run ++ of_escape bytes) ps run span (refl, refl))
-spanned kind.Str run chars held bytes more ps left span read h = no_own run chars held ps more left read h (drops kind.Str bytes ps run (λ r b. (refl, refl)) span)
-spanned kind.Other run chars held bytes more ps left span read h = ended run chars held ps (of_wrong bytes) more left read h.0 h.1 (wrong bytes ps run span)
+spanned kind.Str run chars held bytes more ps left span read h = ended run chars held ps (of_string bytes) more left read h.0 h.1 (by_bytes kind.Str of_string_byte (λ r b. (refl, refl)) bytes ps run span)
+spanned kind.Other run chars held bytes more ps left span read h = ended run chars held ps (of_wrong bytes) more left read h.0 h.1 (by_bytes kind.Other of_wrong_byte (λ r b. (refl, refl)) bytes ps run span)
 
 -- ---- one behind the other
 

@@ -1,19 +1,19 @@
 -- A line never holds more cells than the limit.
-use Rattle.std.proofs.Common.{◌≡◌, ◌≤◌, ℕ, ◌+◌, ◌-◌, suc, Bool, true, false, cond, min, List, [], ◌∷◌, ◌++◌, length, length-append, replicate, refl, arith}
-use Rattle.std.specs.Prelude.{◌==◌, max, nat_lt, unwrap_or}
+use Rattle.std.proofs.Common.{◌≡◌, ◌≤◌, ℕ, ◌+◌, ◌-◌, zero, suc, Bool, true, false, cond, min, List, [], ◌∷◌, ◌++◌, length, length-append, replicate, refl, arith}
+use Rattle.std.specs.Prelude.{◌==◌, max, nat_lt, unwrap_or, Option, Some, None}
 use Rattle.std.proofs.lemmas.List.{length-replicate}
 use Rattle.unicode_width.specs.Width.{char_width}
 use Rattle.unicode_width.proofs.Rules.{width_or_zero-le}
 use Rattle.std.proofs.lemmas.Bool.Decides.{nat_tests}
-use Rattle.csicodec_html.specs.declared.look.Look.{Look}
 use Rattle.csicodec_overwrite.specs.declared.cells.Cell.{Cell}
 use Rattle.csicodec_overwrite.specs.declared.cells.Cell.TheVariants.{Behind, Char, Empty, Mark}
 use Rattle.csicodec_overwrite.specs.declared.cells.Glyph.{Glyph}
 use Rattle.csicodec_overwrite.specs.declared.line.Line.{Line}
+use Rattle.csicodec_overwrite.specs.declared.pen.Pen.{Pen}
 use Rattle.csicodec_overwrite.specs.declared.step.Step.{Step}
 use Rattle.csicodec_overwrite.specs.declared.step.Step.TheVariants as step
 use Rattle.csicodec_overwrite.specs.Cells.{begins_behind, belongs, columns, emptied, erased, glyph, gone, onto, outside, takes, to_tab_stop, width, without}
-use Rattle.csicodec_overwrite.specs.Line.{Done, back, blank, cells_of, do_all, does, done, fits, forward, line, look_behind, over, padded, parted, placed, put, size, target}
+use Rattle.csicodec_overwrite.specs.Line.{Done, back, behind_columns, blank, cells_of, do_all, does, done, fits, forward, from_stop, line, lines_of, over, padded, parted, pen_behind, placed, put, repeat, repeated, restored, size, target, to_stop, widest}
 
 -- either way of a test
 either : {T : Type 0} (P : T → Type 0) (t : Bool) (x y : T) → (t ≡ true → P x) → (t ≡ false → P y) → P (cond t x y)
@@ -113,14 +113,14 @@ module _ (limit : ℕ) (enough : 8 ≤ limit) where
       let few : size (over n l.left l.right) ≤ limit = omega (arith, same, h) in
       padded_size (n - columns l.right) (over n l.left l.right) few
 
-  placed_size : (g : Glyph) (n : ℕ) (l : Line) → size (placed g n l) ≤ size l + max n 1
-  placed_size g n l =
+  placed_size : (inserts : Bool) (g : Glyph) (n : ℕ) (l : Line) → size (placed inserts g n l) ≤ size l + max n 1
+  placed_size inserts g n l =
       let p = parted l in
       let less = parted_less l in
-      let right = gone_less n p.right in
-      let rest = without_less n p.right in
-      either (λ (m : Line). size m ≤ size l + max n 1) (n == 0) (line (Mark g.char ∷ l.left) l.right) (line (replicate (n - 1) Behind ++ (Char g ∷ p.left)) (gone n p.right)) (λ e. omega arith)
-      (λ e. omega (arith, some_left n e, joined (n - 1) Behind (Char g ∷ p.left), less, right, rest))
+      let right = cond inserts p.right (gone n p.right) in
+      let few = always (λ (xs : List Cell). length xs ≤ length p.right) inserts p.right (gone n p.right) (omega arith) (omega (arith, gone_less n p.right, without_less n p.right)) in
+      either (λ (m : Line). size m ≤ size l + max n 1) (n == 0) (line (Mark g.char ∷ l.left) l.right) (line (replicate (n - 1) Behind ++ (Char g ∷ p.left)) right) (λ e. omega arith)
+      (λ e. omega (arith, some_left n e, joined (n - 1) Behind (Char g ∷ p.left), less, few))
 
   first_width : (c : ℕ) → width c 0 ≤ 8
   first_width c = always (λ (w : ℕ). w ≤ 8) (c == 9) (to_tab_stop 0) (unwrap_or (char_width false c) 0) (omega arith) (omega (arith, width_or_zero-le false c))
@@ -128,28 +128,52 @@ module _ (limit : ℕ) (enough : 8 ≤ limit) where
   fits_size : (w : ℕ) (l : Line) → fits limit w l ≡ true → size l + max w 1 ≤ limit
   fits_size w l e = grind (arith, nat_tests)
 
-  put_size : (g : Glyph) (l : Line) → size (put limit g l).line ≤ limit
-  put_size g l =
+  put_size : (inserts : Bool) (g : Glyph) (l : Line) → size (put limit inserts g l).line ≤ limit
+  put_size inserts g l =
       let w = width g.char (columns l.left) in
-      either (λ (d : Done). size d.line ≤ limit) (fits limit w l) (done [] (placed g w l)) (done (cells_of l ∷ []) (placed g (width g.char 0) blank)) (λ e. omega (arith, placed_size g w l, fits_size w l e))
-      (λ e. omega (arith, placed_size g (width g.char 0) blank, first_width g.char, enough))
+      either (λ (d : Done). size d.line ≤ limit) (fits limit w l) (done [] (placed inserts g w l)) (done (cells_of l ∷ []) (placed inserts g (width g.char 0) blank)) (λ e. omega (arith, placed_size inserts g w l, fits_size w l e))
+      (λ e. omega (arith, placed_size inserts g (width g.char 0) blank, first_width g.char, enough))
 
-  does_size : (look : Look) (s : Step) (l : Line) → size l ≤ limit → size (does limit look s l).line ≤ limit
-  does_size look (step.Put c) l h = put_size (glyph c look) l
-  does_size look step.Tab l h = always (λ (d : Done). size d.line ≤ limit) (length l.right == 0) (put limit (glyph 9 look) l) (done [] (forward limit (to_tab_stop (columns l.left)) l)) (put_size (glyph 9 look) l) (forward_size (to_tab_stop (columns l.left)) l h)
-  does_size look step.NewLine l h = omega arith
-  does_size look (step.Right n) l h = forward_size n l h
-  does_size look (step.Left n) l h = omega (arith, back_size n l.left l.right)
-  does_size look (step.Column n) l h = forward_size (n - 1) (line [] (onto l.left l.right)) (omega (arith, moved l.left l.right))
-  does_size look step.EraseRight l h = omega (arith, parted_less l)
-  does_size look step.EraseLeft l h = omega (arith, empties (columns l.left), few_columns l.left, erased_less 1 l.right)
-  does_size look step.EraseAll l h = omega (arith, empties (columns l.left), few_columns l.left)
-  does_size look (step.Erase n) l h = omega (arith, parted_less l, erased_less n (parted l).right)
-  does_size look (step.Delete n) l h = omega (arith, parted_less l, gone_less n (parted l).right, without_less n (parted l).right)
-  does_size look (step.Insert n) l h = omega (arith, parted_less l, joined (min n (limit - size (parted l))) Empty (parted l).right)
-  does_size look (step.Attribute s) l h = h
-  does_size look (step.Leave to) l h = forward_size (target to l) blank (omega arith)
+  repeat_size : (inserts : Bool) (g : Glyph) (n : ℕ) (l : Line) → size l ≤ limit → size (repeat limit inserts g n l).line ≤ limit
+  repeat_size inserts g zero l h = h
+  repeat_size inserts g (suc n) l h = repeat_size inserts g n (put limit inserts g l).line (put_size inserts g l)
 
-  pub all_size : (look : Look) (steps : List Step) (l : Line) → size l ≤ limit → size (do_all limit look steps l).line ≤ limit
-  all_size look [] l h = h
-  all_size look (s ∷ steps) l h = all_size (look_behind look s) steps (does limit look s l).line (does_size look s l h)
+  repeated_size : (pen : Pen) (last : Option ℕ) (n : ℕ) (l : Line) → size l ≤ limit → size (repeated limit pen last n l).line ≤ limit
+  repeated_size pen None n l h = h
+  repeated_size pen (Some c) n l h = repeat_size pen.inserts (glyph c pen.look) n l h
+
+  behind_size : (n : ℕ) (l : Line) → size l ≤ limit → size (behind_columns limit n l) ≤ limit
+  behind_size n l h = forward_size n (line [] (onto l.left l.right)) (omega (arith, moved l.left l.right, h))
+
+  restored_size : (pen : Pen) (l : Line) → size l ≤ limit → size (restored limit pen l).line ≤ limit
+  restored_size pen l h = always (λ (d : Done). size d.line ≤ limit) pen.here (done [] (behind_columns limit pen.saved l)) (done (lines_of l) (forward limit (min pen.saved (widest - 1)) blank)) (behind_size pen.saved l h)
+      (forward_size (min pen.saved (widest - 1)) blank (omega arith))
+
+  does_size : (pen : Pen) (s : Step) (l : Line) → size l ≤ limit → size (does limit pen s l).line ≤ limit
+  does_size pen (step.Put c) l h = put_size pen.inserts (glyph c pen.look) l
+  does_size pen (step.Repeat n) l h = repeated_size pen pen.last n l h
+  does_size pen step.Tab l h = always (λ (d : Done). size d.line ≤ limit) (length l.right == 0) (put limit pen.inserts (glyph 9 pen.look) l) (done [] (forward limit (to_tab_stop (columns l.left)) l)) (put_size pen.inserts (glyph 9 pen.look) l)
+      (forward_size (to_tab_stop (columns l.left)) l h)
+  does_size pen (step.Tabs n) l h = forward_size (to_stop n (columns l.left)) l h
+  does_size pen (step.TabsBack n) l h = omega (arith, back_size (from_stop n (columns l.left)) l.left l.right)
+  does_size pen step.NewLine l h = omega arith
+  does_size pen (step.Right n) l h = forward_size n l h
+  does_size pen (step.Left n) l h = omega (arith, back_size n l.left l.right)
+  does_size pen (step.Column n) l h = behind_size (n - 1) l h
+  does_size pen step.EraseRight l h = omega (arith, parted_less l)
+  does_size pen step.EraseLeft l h = omega (arith, empties (columns l.left), few_columns l.left, erased_less 1 l.right)
+  does_size pen step.EraseAll l h = omega (arith, empties (columns l.left), few_columns l.left)
+  does_size pen (step.Erase n) l h = omega (arith, parted_less l, erased_less n (parted l).right)
+  does_size pen (step.Delete n) l h = omega (arith, parted_less l, gone_less n (parted l).right, without_less n (parted l).right)
+  does_size pen (step.Insert n) l h = omega (arith, parted_less l, joined (min n (limit - size (parted l))) Empty (parted l).right)
+  does_size pen (step.Attribute s) l h = h
+  does_size pen (step.Inserts inserts) l h = h
+  does_size pen step.Save l h = h
+  does_size pen step.Restore l h = restored_size pen l h
+  does_size pen step.Reset l h = h
+  does_size pen (step.Leave to) l h = forward_size (target to l) blank (omega arith)
+  does_size pen step.Other l h = h
+
+  pub all_size : (pen : Pen) (steps : List Step) (l : Line) → size l ≤ limit → size (do_all limit pen steps l).line ≤ limit
+  all_size pen [] l h = h
+  all_size pen (s ∷ steps) l h = all_size (pen_behind pen s (columns l.left)) steps (does limit pen s l).line (does_size pen s l h)

@@ -6,7 +6,6 @@ use Rattle.std.specs.Str.{all_scalars}
 use Rattle.std.proofs.lemmas.Bool.{and_from}
 use Rattle.std.proofs.lemmas.Grind.{flat_map-append}
 use lib.Utf8.{scalar}
-use Rattle.bstr.specs.Utf8.{lossy_chars}
 use Rattle.bstr.proofs.lemmas.EncodeLemmas.{lossy_chars-encode}
 use Rattle.csicodec_actions.specs.Ranges.{SgrInRange}
 use Rattle.csicodec_spans.specs.declared.table.Kind.TheVariants as kind
@@ -30,8 +29,8 @@ use Rattle.csicodec_overwrite.specs.declared.cells.Cell.{Cell}
 use Rattle.csicodec_overwrite.specs.declared.cells.Cell.TheVariants.{Behind, Char, Empty, Mark}
 use Rattle.csicodec_overwrite.specs.declared.step.Step.{Step}
 use Rattle.csicodec_overwrite.specs.Cells.{chars_of}
-use Rattle.csicodec_overwrite.specs.Line.{Done, blank, cells_of, do_all}
-use Rattle.csicodec_overwrite.specs.Paint.{IsInRange, attributes, ended, further, look_of, look_text, paint, same, text_of, texts_of, turn}
+use Rattle.csicodec_overwrite.specs.Line.{Done, blank, cells_of, do_all, fresh}
+use Rattle.csicodec_overwrite.specs.Paint.{IsInRange, attributes, ended, further, look_of, look_text, paint, same, texts_of, turn}
 use Rattle.csicodec_overwrite.specs.Reading.{Overwrites, Paints, most, shown_by}
 use Rattle.csicodec_overwrite.proofs.Kept.{OfCell, OfCells, of_done}
 use Rattle.csicodec_overwrite.proofs.Once.{one_reading}
@@ -281,10 +280,10 @@ lines_safe (x ∷ xs) h = both_safe (of_line x) (flat_map of_line xs) (both_safe
 
 pub same_text : (bytes painted text : List ℕ) → Paints bytes painted → Overwrites bytes text → Strips longest painted text
 same_text bytes painted text o p =
-    let d = do_all most plain o.steps blank in
+    let d = do_all most fresh o.steps blank in
     let cells = of_done IsGood IsInRange SgrInRange (refl, refl) plain_kept kept most o.steps (steps_good bytes o.steps o.read) in
     let safe = both_safe (flat_map of_line d.lines) (of_cells plain (cells_of d.line)) (lines_safe d.lines cells.0) (cells_safe (cells_of d.line) plain plain_kept cells.1) in
     let from : painted ≡ pieces_text (of_all d) = o.all ∙ sym (all_painted d) in
     let left : text ≡ encode_utf8_all (chars_in (of_all d)) =
-    p.all ∙ ap (λ (steps : List Step). shown_by false (do_all most plain steps blank)) (one_reading bytes p.steps o.steps p.read o.read) ∙ shown_plain d ∙ ap encode_utf8_all (sym (all_chars d)) in
+    p.all ∙ ap (λ (steps : List Step). shown_by false (do_all most fresh steps blank)) (one_reading bytes p.steps o.steps p.read o.read) ∙ shown_plain d ∙ ap encode_utf8_all (sym (all_chars d)) in
     subst (λ (t : List ℕ). Strips longest t text) (sym from) (subst (Strips longest (pieces_text (of_all d))) (sym left) (strips (of_all d) safe))

@@ -15,16 +15,15 @@ use Rattle.csicodec_clean.specs.Shown.{IsPlain, IsShown, shown}
 use Rattle.csicodec_clean.proofs.PlainBytes.{plain_bytes}
 use Rattle.csicodec_clean.proofs.Titles.{single_texts}
 use Rattle.csicodec_clean.proofs.Twice.{all_text}
-use Rattle.csicodec_html.specs.declared.look.Look.{Look}
-use Rattle.csicodec_html.specs.Look.{plain}
 use Rattle.csicodec_overwrite.specs.declared.cells.Cell.{Cell}
 use Rattle.csicodec_overwrite.specs.declared.cells.Cell.TheVariants.{Behind, Char, Mark}
 use Rattle.csicodec_overwrite.specs.declared.cells.Glyph.{Glyph}
 use Rattle.csicodec_overwrite.specs.declared.line.Line.{Line}
+use Rattle.csicodec_overwrite.specs.declared.pen.Pen.{Pen}
 use Rattle.csicodec_overwrite.specs.declared.step.Step.{Step}
 use Rattle.csicodec_overwrite.specs.declared.step.Step.TheVariants as step
 use Rattle.csicodec_overwrite.specs.Cells.{chars_of, columns, glyph, is_empty, onto, trimmed, width}
-use Rattle.csicodec_overwrite.specs.Line.{Done, HasRoom, before, blank, cells_of, do_all, does, done, line, look_behind, placed, put}
+use Rattle.csicodec_overwrite.specs.Line.{Done, HasRoom, before, blank, cells_of, do_all, does, done, fresh, line, pen_behind, placed, put}
 use Rattle.csicodec_overwrite.specs.Steps.{of_char, of_chars, of_control, of_run}
 use Rattle.csicodec_overwrite.specs.Reading.{AreOfParts, Overwrites, Steps, most}
 use Rattle.csicodec_overwrite.proofs.Once.{one_text}
@@ -97,7 +96,7 @@ cells_length g (suc w) left = omega (arith, behind w)
     behind zero = omega arith
     behind (suc n) = omega (arith, behind n)
 
-placed_cells : (g : Glyph) (w : ℕ) (left : List Cell) → placed g w (line left []) ≡ line (cells g w left) []
+placed_cells : (g : Glyph) (w : ℕ) (left : List Cell) → placed false g w (line left []) ≡ line (cells g w left) []
 placed_cells g zero left = refl
 placed_cells g (suc w) left =
     let some : (suc w == 0) ≡ false = grind (arith, nat_tests) in
@@ -111,28 +110,27 @@ has_room : (a b limit : ℕ) → a + b ≤ limit → nat_le ((a + 0) + b) limit 
 has_room a b limit h = grind (arith, nat_tests)
 
 put_cells : (limit : ℕ) (g : Glyph) (left : List Cell) → length left + max (width g.char (columns left)) 1 ≤ limit
-    → put limit g (line left []) ≡ done [] (line (cells g (width g.char (columns left)) left) [])
+    → put limit false g (line left []) ≡ done [] (line (cells g (width g.char (columns left)) left) [])
 put_cells limit g left h =
     let w = width g.char (columns left) in
     by (nat_le ((length left + 0) + max w 1) limit) (has_room (length left) (max w 1) limit h) ∙ ap (done []) (placed_cells g w left)
   where
     by : (t : Bool) → t ≡ true
-        → cond t (done [] (placed g (width g.char (columns left)) (line left []))) (done (cells_of (line left []) ∷ []) (placed g (width g.char 0) blank)) ≡ done [] (placed g (width g.char (columns left)) (line left []))
+        → cond t (done [] (placed false g (width g.char (columns left)) (line left []))) (done (cells_of (line left []) ∷ []) (placed false g (width g.char 0) blank)) ≡ done [] (placed false g (width g.char (columns left)) (line left []))
     by t e = rw e refl
 
 -- ---- the steps of plain text
 
--- a step that writes nothing, and behind which characters look as before
-silent : (limit : ℕ) (look : Look) (s : Step) (steps : List Step) (l m : Line) → does limit look s l ≡ done [] m → look_behind look s ≡ look
-    → chars_by (do_all limit look (s ∷ steps) l) ≡ chars_by (do_all limit look steps m)
-silent limit look s steps l m e same =
-    ap (λ (k : Look). chars_by (before (does limit look s l).lines (do_all limit k steps (does limit look s l).line))) same ∙ ap (λ (d : Done). chars_by (before d.lines (do_all limit look steps d.line))) e
+-- a step that writes nothing
+silent : (limit : ℕ) (pen : Pen) (s : Step) (steps : List Step) (l m : Line) → does limit pen s l ≡ done [] m
+    → chars_by (do_all limit pen (s ∷ steps) l) ≡ chars_by (do_all limit (pen_behind pen s (columns l.left)) steps m)
+silent limit pen s steps l m e = ap (λ (d : Done). chars_by (before d.lines (do_all limit (pen_behind pen s (columns l.left)) steps d.line))) e
 
 -- a character that is shown ends the line, or stands in it
-abbrev Puts : Look → ℕ → Type 0
-Puts look c = ((c == 10 ≡ true) × (of_char c ≡ step.NewLine ∷ []))
-    ⊎ ((c == 10 ≡ false) × ((s : Step) × (of_char c ≡ s ∷ []) × (look_behind look s ≡ look)
-    × ((limit : ℕ) (left : List Cell) → does limit look s (line left []) ≡ put limit (glyph c look) (line left []))))
+abbrev Puts : Pen → ℕ → Type 0
+Puts pen c = ((c == 10 ≡ true) × (of_char c ≡ step.NewLine ∷ []))
+    ⊎ ((c == 10 ≡ false) × ((s : Step) × (of_char c ≡ s ∷ []) × ((column : ℕ) → (pen_behind pen s column).inserts ≡ pen.inserts)
+    × ((limit : ℕ) (left : List Cell) → does limit pen s (line left []) ≡ put limit pen.inserts (glyph c pen.look) (line left []))))
 
 not_shown : (c d : ℕ) → c ≡ d → shown d ≡ false → IsShown c → ⊥
 not_shown c d e f h = let g : shown d ≡ true = subst (λ (x : ℕ). shown x ≡ true) e h in cc
@@ -144,15 +142,15 @@ put_of c = by (c == 10) (c == 13) (c == 8) (c == 9) (shown c)
         → cond line (step.NewLine ∷ []) (cond return (step.Column 1 ∷ []) (cond back (step.Left 1 ∷ []) (cond tab (step.Tab ∷ []) (cond shows (step.Put c ∷ []) (of_control c))))) ≡ step.Put c ∷ []
     by line return back tab shows e f g i k = rw (e, f, g, i, k) refl
 
-puts : (look : Look) (c : ℕ) → IsShown c → Puts look c
-puts look c h = by (c == 10) (c == 13) (c == 8) (c == 9) (shown c) refl refl refl refl refl
+puts : (pen : Pen) (c : ℕ) → IsShown c → Puts pen c
+puts pen c h = by (c == 10) (c == 13) (c == 8) (c == 9) (shown c) refl refl refl refl refl
   where
-    by : (line return back tab shows : Bool) → (c == 10) ≡ line → (c == 13) ≡ return → (c == 8) ≡ back → (c == 9) ≡ tab → shown c ≡ shows → Puts look c
+    by : (line return back tab shows : Bool) → (c == 10) ≡ line → (c == 13) ≡ return → (c == 8) ≡ back → (c == 9) ≡ tab → shown c ≡ shows → Puts pen c
     by true return back tab shows e f g i k = inl (e, rw e refl)
     by false true back tab shows e f g i k = absurd (not_shown c 13 (eqb-true c 13 f) refl h)
     by false false true tab shows e f g i k = absurd (not_shown c 8 (eqb-true c 8 g) refl h)
-    by false false false true shows e f g i k = inr (e, (step.Tab, rw (e, f, g, i) refl, refl, λ limit left. ap (λ (d : ℕ). put limit (glyph d look) (line left [])) (sym (eqb-true c 9 i))))
-    by false false false false true e f g i k = inr (e, (step.Put c, put_of c e f g i k, refl, λ limit left. refl))
+    by false false false true shows e f g i k = inr (e, (step.Tab, rw (e, f, g, i) refl, λ column. refl, λ limit left. ap (λ (d : ℕ). put limit pen.inserts (glyph d pen.look) (line left [])) (sym (eqb-true c 9 i))))
+    by false false false false true e f g i k = inr (e, (step.Put c, put_of c e f g i k, λ column. refl, λ limit left. refl))
     by false false false false false e f g i k = absurd (let j : shown c ≡ true = h in cc)
 
 room_line : (limit n m c : ℕ) (cs : List ℕ) → c == 10 ≡ true → HasRoom limit n m (c ∷ cs) → HasRoom limit 0 0 cs
@@ -164,34 +162,36 @@ room_char limit n m c cs e h = rw e at h
 newline_is : (c : ℕ) → c == 10 ≡ true → c ≡ 10
 newline_is c e = eqb-true c 10 e
 
-stays : (limit : ℕ) (look : Look) (cs : List ℕ) (left : List Cell) → AreFull left → AllByRecursion IsShown cs → HasRoom limit (columns left) (length left) cs
-    → chars_by (do_all limit look (of_chars cs) (line left [])) ≡ chars left ++ cs
-stays limit look [] left full all room = full_text left full ∙ sym (append-nil (chars left))
-stays limit look (c ∷ cs) left full all room = ⊎_elim
+stays : (limit : ℕ) (pen : Pen) (cs : List ℕ) (left : List Cell) → pen.inserts ≡ false → AreFull left → AllByRecursion IsShown cs → HasRoom limit (columns left) (length left) cs
+    → chars_by (do_all limit pen (of_chars cs) (line left [])) ≡ chars left ++ cs
+stays limit pen [] left over full all room = full_text left full ∙ sym (append-nil (chars left))
+stays limit pen (c ∷ cs) left over full all room = ⊎_elim
     (λ (k : (c == 10 ≡ true) × (of_char c ≡ step.NewLine ∷ [])).
-    let rest = do_all limit look (of_chars cs) blank in
-    let over = flat_map line_chars rest.lines in
+    let next = pen_behind pen step.NewLine (columns left) in
+    let rest = do_all limit next (of_chars cs) blank in
+    let ended = flat_map line_chars rest.lines in
     let last = flat_map chars_of (cells_of rest.line) in
-    ap (λ (s : List Step). chars_by (do_all limit look (s ++ of_chars cs) (line left []))) k.1
-    ∙ ap (λ (t : List ℕ). ((t ++ 10 ∷ []) ++ over) ++ last) (full_text left full)
-    ∙ append_assoc (chars left ++ 10 ∷ []) over last
-    ∙ ap (λ (t : List ℕ). (chars left ++ 10 ∷ []) ++ t) (stays limit look cs [] tt all.1 (room_line limit (columns left) (length left) c cs k.0 room))
+    ap (λ (s : List Step). chars_by (do_all limit pen (s ++ of_chars cs) (line left []))) k.1
+    ∙ ap (λ (t : List ℕ). ((t ++ 10 ∷ []) ++ ended) ++ last) (full_text left full)
+    ∙ append_assoc (chars left ++ 10 ∷ []) ended last
+    ∙ ap (λ (t : List ℕ). (chars left ++ 10 ∷ []) ++ t) (stays limit next cs [] over tt all.1 (room_line limit (columns left) (length left) c cs k.0 room))
     ∙ append_assoc (chars left) (10 ∷ []) cs
     ∙ ap (λ (d : ℕ). chars left ++ d ∷ cs) (sym (newline_is c k.0)))
-    (λ (k : (c == 10 ≡ false) × ((s : Step) × (of_char c ≡ s ∷ []) × (look_behind look s ≡ look) × ((limit : ℕ) (left : List Cell) → does limit look s (line left []) ≡ put limit (glyph c look) (line left [])))).
+    (λ (k : (c == 10 ≡ false) × ((s : Step) × (of_char c ≡ s ∷ []) × ((column : ℕ) → (pen_behind pen s column).inserts ≡ pen.inserts)
+    × ((limit : ℕ) (left : List Cell) → does limit pen s (line left []) ≡ put limit pen.inserts (glyph c pen.look) (line left [])))).
     let (s, of, same, puts) = k.1 in
     let w = width c (columns left) in
-    let g = glyph c look in
+    let g = glyph c pen.look in
     let more = room_char limit (columns left) (length left) c cs k.0 room in
     let next = cells g w left in
     let room_next : HasRoom limit (columns next) (length next) cs =
     subst (λ (n : ℕ). HasRoom limit n (length next) cs) (sym (cells_columns g w left)) (subst (λ (m : ℕ). HasRoom limit (columns left + w) m cs) (sym (cells_length g w left)) more.1) in
-    ap (λ (x : List Step). chars_by (do_all limit look (x ++ of_chars cs) (line left []))) of
-    ∙ silent limit look s (of_chars cs) (line left []) (line next []) (puts limit left ∙ put_cells limit g left more.0) same
-    ∙ stays limit look cs next (cells_full g w left full) all.1 room_next
+    ap (λ (x : List Step). chars_by (do_all limit pen (x ++ of_chars cs) (line left []))) of
+    ∙ silent limit pen s (of_chars cs) (line left []) (line next []) (puts limit left ∙ ap (λ (b : Bool). put limit b g (line left [])) over ∙ put_cells limit g left more.0)
+    ∙ stays limit (pen_behind pen s (columns left)) cs next (same (columns left) ∙ over) (cells_full g w left full) all.1 room_next
     ∙ ap (λ (t : List ℕ). t ++ cs) (cells_chars g w left)
     ∙ append_assoc (chars left) (c ∷ []) cs)
-    (puts look c all.0)
+    (puts pen c all.0)
 
 -- ---- the text
 
@@ -216,8 +216,8 @@ plain_overwritten : (text : List ℕ) (p : IsPlain text) → HasRoom most 0 0 p.
 plain_overwritten text (cs, scalars, all, e) room = record {
   steps = of_run text;
   read = plain_steps text (cs, scalars, all, e);
-  all = e ∙ ap encode_utf8_all (sym (ap (λ (xs : List ℕ). chars_by (do_all most plain (of_chars xs) blank)) (ap lossy_chars e ∙ lossy_chars-encode cs scalars) ∙ stays most plain cs [] tt all room))
-      ∙ sym (shown_plain (do_all most plain (of_run text) blank));
+  all = e ∙ ap encode_utf8_all (sym (ap (λ (xs : List ℕ). chars_by (do_all most fresh (of_chars xs) blank)) (ap lossy_chars e ∙ lossy_chars-encode cs scalars) ∙ stays most fresh cs [] refl tt all room))
+      ∙ sym (shown_plain (do_all most fresh (of_run text) blank));
 }
 
 pub plain_stays : (text other : List ℕ) (p : IsPlain text) → HasRoom most 0 0 p.0 → Overwrites text other → other ≡ text

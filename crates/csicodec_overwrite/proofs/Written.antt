@@ -2,12 +2,12 @@
 use Rattle.std.proofs.Common.{◌≡◌, ℕ, Bool, List, [], ◌∷◌, ◌++◌, refl, sym, ap, subst, ◌∙◌, ⊎_elim, append_assoc, append-nil}
 use Rattle.std.specs.List.{concat}
 use Rattle.csicodec_filter.specs.Transform.{Begins, GoesOn, Sends, Transforms}
-use Rattle.csicodec_html.specs.declared.look.Look.{Look}
-use Rattle.csicodec_html.specs.Look.{plain}
 use Rattle.csicodec_overwrite.specs.declared.cells.Cell.{Cell}
 use Rattle.csicodec_overwrite.specs.declared.line.Line.{Line}
+use Rattle.csicodec_overwrite.specs.declared.pen.Pen.{Pen}
 use Rattle.csicodec_overwrite.specs.declared.step.Step.{Step}
-use Rattle.csicodec_overwrite.specs.Line.{blank, cells_of, do_all, does, look_behind, look_behind_all}
+use Rattle.csicodec_overwrite.specs.Cells.{columns}
+use Rattle.csicodec_overwrite.specs.Line.{blank, cells_of, do_all, does, fresh, pen_behind, pen_behind_all}
 use Rattle.csicodec_overwrite.specs.Paint.{text_of, texts_of}
 use Rattle.csicodec_overwrite.specs.Steps.{of_run}
 use Rattle.csicodec_overwrite.specs.Reading.{Shows, most, shown_by}
@@ -17,31 +17,31 @@ use Rattle.csicodec_overwrite.proofs.Texts.{texts_on}
 
 -- ---- steps, and then others
 
-pub look_on : (xs ys : List Step) (look : Look) → look_behind_all look (xs ++ ys) ≡ look_behind_all (look_behind_all look xs) ys
-look_on [] ys look = refl
-look_on (x ∷ xs) ys look = look_on xs ys (look_behind look x)
+pub pen_on : (limit : ℕ) (xs ys : List Step) (pen : Pen) (l : Line) → pen_behind_all limit pen (xs ++ ys) l ≡ pen_behind_all limit (pen_behind_all limit pen xs l) ys (do_all limit pen xs l).line
+pen_on limit [] ys pen l = refl
+pen_on limit (x ∷ xs) ys pen l = pen_on limit xs ys (pen_behind pen x (columns l.left)) (does limit pen x l).line
 
-pub line_on : (limit : ℕ) (xs ys : List Step) (look : Look) (l : Line) → (do_all limit look (xs ++ ys) l).line ≡ (do_all limit (look_behind_all look xs) ys (do_all limit look xs l).line).line
-line_on limit [] ys look l = refl
-line_on limit (x ∷ xs) ys look l = line_on limit xs ys (look_behind look x) (does limit look x l).line
+pub line_on : (limit : ℕ) (xs ys : List Step) (pen : Pen) (l : Line) → (do_all limit pen (xs ++ ys) l).line ≡ (do_all limit (pen_behind_all limit pen xs l) ys (do_all limit pen xs l).line).line
+line_on limit [] ys pen l = refl
+line_on limit (x ∷ xs) ys pen l = line_on limit xs ys (pen_behind pen x (columns l.left)) (does limit pen x l).line
 
-pub lines_on : (limit : ℕ) (xs ys : List Step) (look : Look) (l : Line)
-    → (do_all limit look (xs ++ ys) l).lines ≡ (do_all limit look xs l).lines ++ (do_all limit (look_behind_all look xs) ys (do_all limit look xs l).line).lines
-lines_on limit [] ys look l = refl
-lines_on limit (x ∷ xs) ys look l =
-    let next = (does limit look x l).line in
-    let behind = look_behind look x in
-    ap (λ (t : List (List Cell)). (does limit look x l).lines ++ t) (lines_on limit xs ys behind next)
-    ∙ sym (append_assoc (does limit look x l).lines (do_all limit behind xs next).lines (do_all limit (look_behind_all behind xs) ys (do_all limit behind xs next).line).lines)
+pub lines_on : (limit : ℕ) (xs ys : List Step) (pen : Pen) (l : Line)
+    → (do_all limit pen (xs ++ ys) l).lines ≡ (do_all limit pen xs l).lines ++ (do_all limit (pen_behind_all limit pen xs l) ys (do_all limit pen xs l).line).lines
+lines_on limit [] ys pen l = refl
+lines_on limit (x ∷ xs) ys pen l =
+    let next = (does limit pen x l).line in
+    let behind = pen_behind pen x (columns l.left) in
+    ap (λ (t : List (List Cell)). (does limit pen x l).lines ++ t) (lines_on limit xs ys behind next)
+    ∙ sym (append_assoc (does limit pen x l).lines (do_all limit behind xs next).lines (do_all limit (pen_behind_all limit behind xs next) ys (do_all limit behind xs next).line).lines)
 
 -- all that they show
-pub shown_on : (painted : Bool) (limit : ℕ) (xs ys : List Step) (look : Look) (l : Line)
-    → shown_by painted (do_all limit look (xs ++ ys) l) ≡ texts_of painted (do_all limit look xs l).lines ++ shown_by painted (do_all limit (look_behind_all look xs) ys (do_all limit look xs l).line)
-shown_on painted limit xs ys look l =
-    let first = (do_all limit look xs l).lines in
-    let later = do_all limit (look_behind_all look xs) ys (do_all limit look xs l).line in
-    ap (λ (t : List (List Cell)). texts_of painted t ++ text_of painted (cells_of (do_all limit look (xs ++ ys) l).line)) (lines_on limit xs ys look l)
-    ∙ ap (λ (m : Line). texts_of painted (first ++ later.lines) ++ text_of painted (cells_of m)) (line_on limit xs ys look l)
+pub shown_on : (painted : Bool) (limit : ℕ) (xs ys : List Step) (pen : Pen) (l : Line)
+    → shown_by painted (do_all limit pen (xs ++ ys) l) ≡ texts_of painted (do_all limit pen xs l).lines ++ shown_by painted (do_all limit (pen_behind_all limit pen xs l) ys (do_all limit pen xs l).line)
+shown_on painted limit xs ys pen l =
+    let first = (do_all limit pen xs l).lines in
+    let later = do_all limit (pen_behind_all limit pen xs l) ys (do_all limit pen xs l).line in
+    ap (λ (t : List (List Cell)). texts_of painted t ++ text_of painted (cells_of (do_all limit pen (xs ++ ys) l).line)) (lines_on limit xs ys pen l)
+    ∙ ap (λ (m : Line). texts_of painted (first ++ later.lines) ++ text_of painted (cells_of m)) (line_on limit xs ys pen l)
     ∙ ap (λ (t : List ℕ). t ++ text_of painted (cells_of later.line)) (texts_on painted first later.lines)
     ∙ append_assoc (texts_of painted first) (texts_of painted later.lines) (text_of painted (cells_of later.line))
 
@@ -49,26 +49,26 @@ shown_on painted limit xs ys look l =
 
 -- nothing came yet
 pub passes_none : (painted : Bool) → Passes (begun_as painted) [] [] (begun_as painted)
-passes_none painted = record { steps = []; reads = reads_none; look = refl; painted = refl; line = refl; all = refl }
+passes_none painted = record { steps = []; reads = reads_none; pen = refl; painted = refl; line = refl; all = refl }
 
 -- bytes more
 pub passes_on : (old mid new : Now) (first second one two : List ℕ) → Passes old first one mid → Passes mid second two new → Passes old (first ++ second) (one ++ two) new
 passes_on old mid new first second one two p q =
     let steps = p.steps ++ q.steps in
-    let now = do_all most old.look p.steps old.line in
-    let behind = look_behind_all old.look p.steps in
+    let now = do_all most old.pen p.steps old.line in
+    let behind = pen_behind_all most old.pen p.steps old.line in
     let later = do_all most behind q.steps now.line in
     let text : two ≡ texts_of old.painted later.lines =
-    q.all ∙ ap (λ (b : Bool). texts_of b (do_all most mid.look q.steps mid.line).lines) p.painted ∙ ap (λ (look : Look). texts_of old.painted (do_all most look q.steps mid.line).lines) p.look
+    q.all ∙ ap (λ (b : Bool). texts_of b (do_all most mid.pen q.steps mid.line).lines) p.painted ∙ ap (λ (pen : Pen). texts_of old.painted (do_all most pen q.steps mid.line).lines) p.pen
     ∙ ap (λ (l : Line). texts_of old.painted (do_all most behind q.steps l).lines) p.line in
     record {
       steps = steps;
       reads = reads_on old.reader mid.reader new.reader first second p.steps q.steps p.reads q.reads;
-      look = q.look ∙ ap (λ (look : Look). look_behind_all look q.steps) p.look ∙ sym (look_on p.steps q.steps old.look);
+      pen = q.pen ∙ ap (λ (pen : Pen). pen_behind_all most pen q.steps mid.line) p.pen ∙ ap (λ (l : Line). pen_behind_all most behind q.steps l) p.line ∙ sym (pen_on most p.steps q.steps old.pen old.line);
       painted = q.painted ∙ p.painted;
-      line = q.line ∙ ap (λ (look : Look). (do_all most look q.steps mid.line).line) p.look ∙ ap (λ (l : Line). (do_all most behind q.steps l).line) p.line ∙ sym (line_on most p.steps q.steps old.look old.line);
+      line = q.line ∙ ap (λ (pen : Pen). (do_all most pen q.steps mid.line).line) p.pen ∙ ap (λ (l : Line). (do_all most behind q.steps l).line) p.line ∙ sym (line_on most p.steps q.steps old.pen old.line);
       all = ap (λ (t : List ℕ). t ++ two) p.all ∙ ap (λ (t : List ℕ). texts_of old.painted now.lines ++ t) text ∙ sym (texts_on old.painted now.lines later.lines)
-          ∙ ap (texts_of old.painted) (sym (lines_on most p.steps q.steps old.look old.line));
+          ∙ ap (texts_of old.painted) (sym (lines_on most p.steps q.steps old.pen old.line));
     }
 
 pub goes : (old new : Now) (bytes text : List ℕ) → Passes old bytes text new → GoesOn Passes old bytes text new
@@ -78,15 +78,15 @@ goes old new bytes text q first read written p = passes_on first old new read by
 pub shows : (painted : Bool) (bytes text rest : List ℕ) (last : Now) → Passes (begun_as painted) bytes text last → Ending last rest → Shows painted bytes (text ++ rest)
 shows painted bytes text rest last p e =
     let held = of_run last.reader.held in
-    let now = do_all most plain p.steps blank in
-    let behind = look_behind_all plain p.steps in
+    let now = do_all most fresh p.steps blank in
+    let behind = pen_behind_all most fresh p.steps blank in
     let end : rest ≡ shown_by painted (do_all most behind held now.line) =
-    e ∙ ap (λ (b : Bool). shown_by b (do_all most last.look held last.line)) p.painted ∙ ap (λ (look : Look). shown_by painted (do_all most look held last.line)) p.look
+    e ∙ ap (λ (b : Bool). shown_by b (do_all most last.pen held last.line)) p.painted ∙ ap (λ (pen : Pen). shown_by painted (do_all most pen held last.line)) p.pen
     ∙ ap (λ (l : Line). shown_by painted (do_all most behind held l)) p.line in
     record {
       steps = p.steps ++ held;
       read = whole_reads bytes p.steps last.reader p.reads;
-      all = ap (λ (t : List ℕ). t ++ rest) p.all ∙ ap (λ (t : List ℕ). texts_of painted now.lines ++ t) end ∙ sym (shown_on painted most p.steps held plain blank);
+      all = ap (λ (t : List ℕ). t ++ rest) p.all ∙ ap (λ (t : List ℕ). texts_of painted now.lines ++ t) end ∙ sym (shown_on painted most p.steps held fresh blank);
     }
 
 pub transformed : (painted : Bool) (bytes text : List ℕ) → Transforms Passes Ending (begun_as painted) bytes text → Shows painted bytes text
@@ -98,25 +98,25 @@ pub begins : (painted : Bool) (AreAll : Type 0) (bytes sent : List ℕ) → Begi
 begins painted AreAll bytes sent (unsent, h) = ⊎_elim
     (λ (k : Sends Passes (begun_as painted) bytes (sent ++ unsent)).
     let (last, passed) = k in
-    let rest = shown_by last.painted (do_all most last.look (of_run last.reader.held) last.line) in
+    let rest = shown_by last.painted (do_all most last.pen (of_run last.reader.held) last.line) in
     (unsent ++ rest, subst (Shows painted bytes) (append_assoc sent unsent rest) (shows painted bytes (sent ++ unsent) rest last passed refl)))
     (λ (k : AreAll × Transforms Passes Ending (begun_as painted) bytes (sent ++ unsent)). (unsent, transformed painted bytes (sent ++ unsent) k.1))
     h
 
 -- ---- what is appended
 
-pub pushed : (old new : Now) (bytes : List ℕ) (steps : List Step) (before after : List ℕ) → Reads old.reader bytes steps new.reader → new.look ≡ look_behind_all old.look steps → new.painted ≡ old.painted
-    → new.line ≡ (do_all most old.look steps old.line).line → after ≡ before ++ texts_of old.painted (do_all most old.look steps old.line).lines → (text : List ℕ) × Passes old bytes text new × (after ≡ before ++ text)
-pushed old new bytes steps before after reads look painted line out =
-    (texts_of old.painted (do_all most old.look steps old.line).lines, record { steps = steps; reads = reads; look = look; painted = painted; line = line; all = refl }, out)
+pub pushed : (old new : Now) (bytes : List ℕ) (steps : List Step) (before after : List ℕ) → Reads old.reader bytes steps new.reader → new.pen ≡ pen_behind_all most old.pen steps old.line → new.painted ≡ old.painted
+    → new.line ≡ (do_all most old.pen steps old.line).line → after ≡ before ++ texts_of old.painted (do_all most old.pen steps old.line).lines → (text : List ℕ) × Passes old bytes text new × (after ≡ before ++ text)
+pushed old new bytes steps before after reads pen painted line out =
+    (texts_of old.painted (do_all most old.pen steps old.line).lines, record { steps = steps; reads = reads; pen = pen; painted = painted; line = line; all = refl }, out)
 
-pub finished : (last : Now) (steps : List Step) (line : Line) (before now after : List ℕ) → steps ≡ of_run last.reader.held → line ≡ (do_all most last.look steps last.line).line
-    → now ≡ before ++ texts_of last.painted (do_all most last.look steps last.line).lines → after ≡ now ++ text_of last.painted (cells_of line) → (rest : List ℕ) × Ending last rest × (after ≡ before ++ rest)
+pub finished : (last : Now) (steps : List Step) (line : Line) (before now after : List ℕ) → steps ≡ of_run last.reader.held → line ≡ (do_all most last.pen steps last.line).line
+    → now ≡ before ++ texts_of last.painted (do_all most last.pen steps last.line).lines → after ≡ now ++ text_of last.painted (cells_of line) → (rest : List ℕ) × Ending last rest × (after ≡ before ++ rest)
 finished last steps line before now after held same out shown =
-    let d = do_all most last.look steps last.line in
+    let d = do_all most last.pen steps last.line in
     let over = texts_of last.painted d.lines in (
       shown_by last.painted d,
-      ap (λ (x : List Step). shown_by last.painted (do_all most last.look x last.line)) held,
+      ap (λ (x : List Step). shown_by last.painted (do_all most last.pen x last.line)) held,
       shown ∙ ap (λ (t : List ℕ). t ++ text_of last.painted (cells_of line)) out ∙ append_assoc before over (text_of last.painted (cells_of line))
           ∙ ap (λ (l : Line). before ++ (over ++ text_of last.painted (cells_of l))) same,
     )

@@ -1,11 +1,11 @@
 -- A line of a terminal, its cursor, and what each step does to it.
-use Rattle.std.specs.Prelude.{ℕ, ◌+◌, ◌-◌, ◌≤◌, ◌==◌, nat_le, nat_lt, min, max, Bool, List, [], ◌∷◌, ◌++◌, length, replicate, MatchBool, Option, Some, None, if◌then◌else◌}
-use Rattle.csicodec_html.specs.declared.look.Look.{Look}
-use Rattle.csicodec_html.specs.Look.{behind}
+use Rattle.std.specs.Prelude.{ℕ, zero, suc, ◌+◌, ◌-◌, ◌*◌, ◌%◌, ◌≤◌, ◌==◌, nat_le, nat_lt, min, max, Bool, true, false, List, [], ◌∷◌, ◌++◌, length, replicate, MatchBool, Option, Some, None, if◌then◌else◌}
+use Rattle.csicodec_html.specs.Look.{behind, plain}
 use Rattle.csicodec_overwrite.specs.declared.cells.Cell.{Cell}
 use Rattle.csicodec_overwrite.specs.declared.cells.Cell.TheVariants.{Behind, Char, Empty, Mark}
 use Rattle.csicodec_overwrite.specs.declared.cells.Glyph.{Glyph}
 use Rattle.csicodec_overwrite.specs.declared.line.Line.{Line}
+use Rattle.csicodec_overwrite.specs.declared.pen.Pen.{Pen}
 use Rattle.csicodec_overwrite.specs.declared.step.Step.{Step}
 use Rattle.csicodec_overwrite.specs.declared.step.Step.TheVariants as step
 use Rattle.csicodec_overwrite.specs.Cells.{begins_behind, columns, emptied, erased, glyph, gone, onto, outside, to_tab_stop, trimmed, takes, width, without}
@@ -42,9 +42,21 @@ padded limit n l = line (replicate (min n (limit - size l)) Empty ++ l.left) l.r
 abbrev pub forward : ℕ → ℕ → Line → Line
 forward limit n l = padded limit (n - columns l.right) (over n l.left l.right)
 
+-- behind so many columns
+abbrev pub behind_columns : ℕ → ℕ → Line → Line
+behind_columns limit n l = forward limit n (line [] (onto l.left l.right))
+
 -- to a column, of which the first is 1
 abbrev pub at_column : ℕ → ℕ → Line → Line
-at_column limit column l = forward limit (column - 1) (line [] (onto l.left l.right))
+at_column limit column l = behind_columns limit (column - 1) l
+
+-- the columns up to a tab stop on the right, one or more, of which there is one at every eighth column
+abbrev pub to_stop : ℕ → ℕ → ℕ
+to_stop n column = 8 * n - column % 8
+
+-- and those back to one on the left
+abbrev pub from_stop : ℕ → ℕ → ℕ
+from_stop n column = (column - 1) % 8 + (8 * n - 7)
 
 -- ---- erasing
 
@@ -74,10 +86,12 @@ insert limit n l = line (parted l).left
 
 -- ---- characters
 
--- a character of so many columns comes in place of what stands at the cursor; one of none goes with the column before it
-abbrev pub placed : Glyph → ℕ → Line → Line
-placed g columns l = if columns == 0 then line (Mark g.char ∷ l.left) l.right
-    else line (replicate (columns - 1) Behind ++ (Char g ∷ (parted l).left)) (gone columns (parted l).right)
+-- a character of so many columns comes in place of what stands at the cursor, or in insert mode (IRM; ECMA-48, 7.2.10) in front of it;
+-- one of none goes with the column before it
+abbrev pub placed : Bool → Glyph → ℕ → Line → Line
+placed inserts g columns l = if columns == 0 then line (Mark g.char ∷ l.left) l.right
+    else line (replicate (columns - 1) Behind ++ (Char g ∷ (parted l).left))
+    (if inserts then (parted l).right else gone columns (parted l).right)
 
 -- what stands in the line, up to the last cell that isn't empty, from the last on
 abbrev pub standing : Line → List Cell
@@ -99,9 +113,18 @@ abbrev pub fits : ℕ → ℕ → Line → Bool
 fits limit columns l = nat_le (size l + max columns 1) limit
 
 -- a character where the line has room for it, and else at the start of a new one
-abbrev pub put : ℕ → Glyph → Line → Done
-put limit g l = if fits limit (width g.char (columns l.left)) l then done [] (placed g (width g.char (columns l.left)) l)
-    else done (cells_of l ∷ []) (placed g (width g.char 0) blank)
+abbrev pub put : ℕ → Bool → Glyph → Line → Done
+put limit inserts g l = if fits limit (width g.char (columns l.left)) l
+    then done [] (placed inserts g (width g.char (columns l.left)) l)
+    else done (cells_of l ∷ []) (placed inserts g (width g.char 0) blank)
+
+abbrev pub before : List (List Cell) → Done → Done
+before lines d = done (lines ++ d.lines) d.line
+
+-- so many times
+abbrev pub repeat : ℕ → Bool → Glyph → ℕ → Line → Done
+repeat limit inserts g zero l = done [] l
+repeat limit inserts g (suc n) l = before (put limit inserts g l).lines (repeat limit inserts g n (put limit inserts g l).line)
 
 -- ---- another row
 
@@ -129,40 +152,72 @@ HasRoom limit columns cells (c ∷ chars) = MatchBool (c == 10) (HasRoom limit 0
     ((cells + max (width c columns) 1 ≤ limit)
     × HasRoom limit (columns + width c columns) (cells + max (width c columns) 1) chars)
 
+-- ---- what is set and saved
+
+-- at the start
+abbrev pub fresh : Pen
+fresh = record { look = plain; inserts = false; last = None; saved = 0; here = false }
+
+-- a mark isn't repeated, but the character before it
+abbrev pub last_behind : Option ℕ → ℕ → Option ℕ
+last_behind last c = if width c 0 == 0 then last else Some c
+
+-- behind a step that is done in this column: but for characters nothing is repeated
+abbrev pub pen_behind : Pen → Step → ℕ → Pen
+pen_behind pen (step.Put c) column = record pen { last = last_behind pen.last c }
+pen_behind pen (step.Attribute s) column = record pen { look = behind pen.look s; last = None }
+pen_behind pen (step.Inserts inserts) column = record pen { inserts = inserts; last = None }
+pen_behind pen step.Save column = record pen { last = None; saved = column; here = true }
+pen_behind pen step.Restore column = record pen { last = None; here = true }
+pen_behind pen step.NewLine column = record pen { last = None; here = false }
+pen_behind pen (step.Leave to) column = record pen { last = None; here = false }
+pen_behind pen step.Reset column = fresh
+pen_behind pen s column = record pen { last = None }
+
 -- ---- the steps
 
--- how characters look that are put behind a step
-abbrev pub look_behind : Look → Step → Look
-look_behind look (step.Attribute s) = behind look s
-look_behind look s = look
+-- REP (ECMA-48, 8.3.103) repeats a character, if nothing stands between them
+abbrev pub repeated : ℕ → Pen → Option ℕ → ℕ → Line → Done
+repeated limit pen None n l = done [] l
+repeated limit pen (Some c) n l = repeat limit pen.inserts (glyph c pen.look) n l
 
--- where characters look so
-abbrev pub does : ℕ → Look → Step → Line → Done
-does limit look (step.Put c) l = put limit (glyph c look) l
-does limit look step.Tab l = if length l.right == 0 then put limit (glyph 9 look) l
+-- to the saved place, and where that isn't in this row, to a line of its own
+abbrev pub restored : ℕ → Pen → Line → Done
+restored limit pen l = if pen.here then done [] (behind_columns limit pen.saved l)
+    else done (lines_of l) (forward limit (min pen.saved (widest - 1)) blank)
+
+abbrev pub does : ℕ → Pen → Step → Line → Done
+does limit pen (step.Put c) l = put limit pen.inserts (glyph c pen.look) l
+does limit pen (step.Repeat n) l = repeated limit pen pen.last n l
+does limit pen step.Tab l = if length l.right == 0 then put limit pen.inserts (glyph 9 pen.look) l
     else done [] (forward limit (to_tab_stop (columns l.left)) l)
-does limit look step.NewLine l = done (cells_of l ∷ []) blank
-does limit look (step.Right n) l = done [] (forward limit n l)
-does limit look (step.Left n) l = done [] (back n l.left l.right)
-does limit look (step.Column n) l = done [] (at_column limit n l)
-does limit look step.EraseRight l = done [] (erase_right l)
-does limit look step.EraseLeft l = done [] (erase_left l)
-does limit look step.EraseAll l = done [] (erase_all l)
-does limit look (step.Erase n) l = done [] (erase n l)
-does limit look (step.Delete n) l = done [] (delete n l)
-does limit look (step.Insert n) l = done [] (insert limit n l)
-does limit look (step.Attribute s) l = done [] l
-does limit look (step.Leave to) l = leave limit to l
-
-abbrev pub before : List (List Cell) → Done → Done
-before lines d = done (lines ++ d.lines) d.line
+does limit pen (step.Tabs n) l = done [] (forward limit (to_stop n (columns l.left)) l)
+does limit pen (step.TabsBack n) l = done [] (back (from_stop n (columns l.left)) l.left l.right)
+does limit pen step.NewLine l = done (cells_of l ∷ []) blank
+does limit pen (step.Right n) l = done [] (forward limit n l)
+does limit pen (step.Left n) l = done [] (back n l.left l.right)
+does limit pen (step.Column n) l = done [] (at_column limit n l)
+does limit pen step.EraseRight l = done [] (erase_right l)
+does limit pen step.EraseLeft l = done [] (erase_left l)
+does limit pen step.EraseAll l = done [] (erase_all l)
+does limit pen (step.Erase n) l = done [] (erase n l)
+does limit pen (step.Delete n) l = done [] (delete n l)
+does limit pen (step.Insert n) l = done [] (insert limit n l)
+does limit pen (step.Attribute s) l = done [] l
+does limit pen (step.Inserts inserts) l = done [] l
+does limit pen step.Save l = done [] l
+does limit pen step.Restore l = restored limit pen l
+does limit pen step.Reset l = done [] l
+does limit pen (step.Leave to) l = leave limit to l
+does limit pen step.Other l = done [] l
 
 -- one after the other
-abbrev pub do_all : ℕ → Look → List Step → Line → Done
-do_all limit look [] l = done [] l
-do_all limit look (s ∷ steps) l = before (does limit look s l).lines
-    (do_all limit (look_behind look s) steps (does limit look s l).line)
+abbrev pub do_all : ℕ → Pen → List Step → Line → Done
+do_all limit pen [] l = done [] l
+do_all limit pen (s ∷ steps) l = before (does limit pen s l).lines
+    (do_all limit (pen_behind pen s (columns l.left)) steps (does limit pen s l).line)
 
-abbrev pub look_behind_all : Look → List Step → Look
-look_behind_all look [] = look
-look_behind_all look (s ∷ steps) = look_behind_all (look_behind look s) steps
+abbrev pub pen_behind_all : ℕ → Pen → List Step → Line → Pen
+pen_behind_all limit pen [] l = pen
+pen_behind_all limit pen (s ∷ steps) l =
+    pen_behind_all limit (pen_behind pen s (columns l.left)) steps (does limit pen s l).line

@@ -1,5 +1,5 @@
 -- The steps of a stream: those of the characters of its runs of text, each read by itself, of its escape sequences and its control
--- sequences, and of what went wrong. Control strings and titles end a run, and do nothing.
+-- sequences, and of what went wrong. Control strings and titles end a run, and do nothing, but stand behind what was put last.
 use Rattle.std.specs.Prelude.{ℕ, ◌≡◌, Bool, false, true, List, [], ◌∷◌, ◌++◌}
 use Rattle.csicodec_actions.specs.Actions.{Action}
 use Rattle.csicodec_spans.specs.declared.table.Kind.{Kind}
@@ -11,18 +11,17 @@ use Rattle.csicodec_clean.specs.Cleaned.{longest}
 use Rattle.csicodec_clean.specs.Styled.{IsOf}
 use Rattle.csicodec_clean.specs.Titles.{with_titles}
 use Rattle.csicodec_overwrite.specs.declared.step.Step.{Step}
-use Rattle.csicodec_html.specs.Look.{plain}
-use Rattle.csicodec_overwrite.specs.Line.{Done, blank, cells_of, do_all}
+use Rattle.csicodec_overwrite.specs.Line.{Done, blank, cells_of, do_all, fresh}
 use Rattle.csicodec_overwrite.specs.Paint.{text_of, texts_of}
-use Rattle.csicodec_overwrite.specs.Steps.{of_actions, of_escape, of_run, of_wrong}
+use Rattle.csicodec_overwrite.specs.Steps.{of_escape, of_run, of_sequence, of_string, of_wrong}
 
 -- one part behind a run of text: text goes on with the run, and any other part ends it
 abbrev pub IsOfPart : Kind → List ℕ → List ℕ → List Step → List ℕ → Type 0
 IsOfPart kind.Text run bytes steps left = (steps ≡ []) × (left ≡ run ++ bytes)
 IsOfPart kind.Csi run bytes steps left = (actions : List Action) × IsOf bytes actions
-    × (steps ≡ of_run run ++ of_actions actions) × (left ≡ [])
+    × (steps ≡ of_run run ++ of_sequence actions) × (left ≡ [])
 IsOfPart kind.Esc run bytes steps left = (steps ≡ of_run run ++ of_escape bytes) × (left ≡ [])
-IsOfPart kind.Str run bytes steps left = (steps ≡ of_run run) × (left ≡ [])
+IsOfPart kind.Str run bytes steps left = (steps ≡ of_run run ++ of_string bytes) × (left ≡ [])
 IsOfPart kind.Other run bytes steps left = (steps ≡ of_run run ++ of_wrong bytes) × (left ≡ [])
 
 -- the parts in turn, behind a run of text: their steps, and the run that they end in
@@ -57,7 +56,7 @@ most = longest
 pub record Shows (painted : Bool) (bytes text : List ℕ) : Type 0 where
   pub steps : List Step
   pub read : Steps bytes steps
-  pub all : text ≡ shown_by painted (do_all most plain steps blank)
+  pub all : text ≡ shown_by painted (do_all most fresh steps blank)
 
 -- as plain text
 abbrev pub Overwrites : List ℕ → List ℕ → Type 0

@@ -1,5 +1,5 @@
--- What each character, escape sequence and action does in a line. All others do nothing there.
-use Rattle.std.specs.Prelude.{ℕ, ◌==◌, ◌&&◌, ◌||◌, min, List, [], ◌∷◌, length, slice_index, Option, Some, None, if◌then◌else◌}
+-- What each character, escape sequence and action does in a line. All others do nothing there, but stand behind what was put last.
+use Rattle.std.specs.Prelude.{ℕ, ◌==◌, ◌&&◌, ◌||◌, min, Bool, true, false, List, [], ◌∷◌, ◌++◌, length, slice_index, Some, None, if◌then◌else◌}
 use Rattle.std.specs.List.{flat_map}
 use Rattle.bstr.specs.Utf8.{lossy_chars}
 use Rattle.csicodec_names.specs.declared.enums.EraseInDisplay.{EraseInDisplay}
@@ -8,15 +8,20 @@ use Rattle.csicodec_names.specs.declared.enums.EraseInLine.{EraseInLine}
 use Rattle.csicodec_names.specs.declared.enums.EraseInLine.TheVariants as part
 use Rattle.csicodec_names.specs.declared.modes.DecPrivateModeCode.{DecPrivateModeCode}
 use Rattle.csicodec_names.specs.declared.modes.DecPrivateModeCode.TheVariants as code
-use Rattle.csicodec_base.specs.declared.sgr.Sgr.TheVariants as sgr
+use Rattle.csicodec_names.specs.declared.modes.TerminalModeCode.{TerminalModeCode}
+use Rattle.csicodec_names.specs.declared.modes.TerminalModeCode.TheVariants as terminal_code
 use Rattle.csicodec_actions.specs.declared.cursor.Cursor.{Cursor}
 use Rattle.csicodec_actions.specs.declared.cursor.Cursor.TheVariants as cursor
 use Rattle.csicodec_actions.specs.declared.edit.Edit.{Edit}
 use Rattle.csicodec_actions.specs.declared.edit.Edit.TheVariants as edit
 use Rattle.csicodec_actions.specs.declared.mode.DecPrivateMode.{DecPrivateMode}
 use Rattle.csicodec_actions.specs.declared.mode.DecPrivateMode.TheVariants as private
+use Rattle.csicodec_actions.specs.declared.mode.TerminalMode.{TerminalMode}
+use Rattle.csicodec_actions.specs.declared.mode.TerminalMode.TheVariants as terminal
 use Rattle.csicodec_actions.specs.declared.mode.Mode.{Mode}
 use Rattle.csicodec_actions.specs.declared.mode.Mode.TheVariants as mode
+use Rattle.csicodec_actions.specs.Devices.{Device}
+use Rattle.csicodec_actions.specs.Devices as device
 use Rattle.csicodec_actions.specs.Actions.{Action}
 use Rattle.csicodec_actions.specs.Actions as action
 use Rattle.csicodec_clean.specs.Shown.{shown}
@@ -29,7 +34,7 @@ use Rattle.csicodec_overwrite.specs.declared.step.Step.TheVariants as step
 abbrev pub of_control : ℕ → List Step
 of_control c =
     if c == 11 || (c == 12 || (c == 132 || (c == 141 || c == 155))) then step.Leave None ∷ []
-    else if c == 133 then step.Leave (Some 1) ∷ [] else []
+    else if c == 133 then step.Leave (Some 1) ∷ [] else step.Other ∷ []
 
 -- LF (8.3.74) as a line of a log ends with it, CR (8.3.15), BS (8.3.5), HT (8.3.60), and what strip shows
 abbrev pub of_char : ℕ → List Step
@@ -37,18 +42,26 @@ of_char c = if c == 10 then step.NewLine ∷ [] else if c == 13 then step.Column
     else if c == 8 then step.Left 1 ∷ [] else if c == 9 then step.Tab ∷ []
     else if shown c then step.Put c ∷ [] else of_control c
 
--- IND (ECMA-48:1986) and RI (8.3.104) go to another row, in the same column; DECRC (8), whose column isn't kept, NEL (8.3.86) and
--- RIS (8.3.105) to the first, and behind RIS nothing is set
+-- IND (ECMA-48:1986) and RI (8.3.104) go to another row, in the same column; NEL (8.3.86) and RIS (8.3.105) to the first, and behind
+-- RIS nothing is set; DECSC (7) and DECRC (8) save a place and come back to it
 abbrev pub of_final : ℕ → List Step
 of_final c = if c == 68 || c == 77 then step.Leave None ∷ []
-    else if c == 56 || c == 69 then step.Leave (Some 1) ∷ []
-    else if c == 99 then step.Leave (Some 1) ∷ (step.Attribute sgr.Reset ∷ []) else []
+    else if c == 69 then step.Leave (Some 1) ∷ []
+    else if c == 55 then step.Save ∷ [] else if c == 56 then step.Restore ∷ []
+    else if c == 99 then step.Leave (Some 1) ∷ (step.Reset ∷ []) else step.Other ∷ []
 
 -- an escape sequence without an intermediate byte, or DECALN (`ESC # 8`)
 abbrev pub of_escape : List ℕ → List Step
 of_escape bytes = if length bytes == 2 then of_final (slice_index bytes 1)
     else if length bytes == 3 && (slice_index bytes 1 == 35 && slice_index bytes 2 == 56)
-    then step.Leave (Some 1) ∷ [] else []
+    then step.Leave (Some 1) ∷ [] else step.Other ∷ []
+
+-- a control string does nothing; one ESC introduces each
+abbrev pub of_string_byte : ℕ → List Step
+of_string_byte b = if b == 27 then step.Other ∷ [] else []
+
+abbrev pub of_string : List ℕ → List Step
+of_string bytes = flat_map of_string_byte bytes
 
 -- a sequence that went wrong may go to another row, as terminals carry some out; one ESC introduces each
 abbrev pub of_wrong_byte : ℕ → List Step
@@ -61,9 +74,14 @@ of_wrong bytes = flat_map of_wrong_byte bytes
 abbrev pub as_far : ℕ → ℕ
 as_far n = min n widest
 
--- In the line are CUF (8.3.20), CUB (8.3.18), CHA (8.3.9), HPA (8.3.57), HPR (8.3.59) and HPB (8.3.58). To another row, or maybe so, go
+-- so many tab stops there are in the widest
+abbrev pub stops : ℕ → ℕ
+stops n = min n 128
+
+-- In the line are CUF (8.3.20), CUB (8.3.18), CHA (8.3.9), HPA (8.3.57), HPR (8.3.59), HPB (8.3.58), CHT (8.3.10) and CBT (8.3.7), and
+-- SCOSC and SCORC are as DECSC and DECRC. To another row, or maybe so, go
 -- CUP (8.3.21) and HVP (8.3.63), to a column. CUU (8.3.22), CUD (8.3.19), VPA (8.3.158), VPR (8.3.160), VPB (8.3.159) and CVT (8.3.17)
--- go there in the same column. CNL (8.3.12), CPL (8.3.13), DECSTBM, and SCORC, whose column isn't kept, go to the first.
+-- go there in the same column. CNL (8.3.12), CPL (8.3.13) and DECSTBM go to the first.
 abbrev pub of_cursor : Cursor → List Step
 of_cursor (cursor.Right n) = step.Right (as_far n) ∷ []
 of_cursor (cursor.Left n) = step.Left (as_far n) ∷ []
@@ -71,6 +89,10 @@ of_cursor (cursor.CharacterAbsolute col) = step.Column (as_far col) ∷ []
 of_cursor (cursor.CharacterPositionAbsolute col) = step.Column (as_far col) ∷ []
 of_cursor (cursor.CharacterPositionForward n) = step.Right (as_far n) ∷ []
 of_cursor (cursor.CharacterPositionBackward n) = step.Left (as_far n) ∷ []
+of_cursor (cursor.ForwardTabulation n) = step.Tabs (stops n) ∷ []
+of_cursor (cursor.BackwardTabulation n) = step.TabsBack (stops n) ∷ []
+of_cursor cursor.SaveCursor = step.Save ∷ []
+of_cursor cursor.RestoreCursor = step.Restore ∷ []
 of_cursor (cursor.Position row col) = step.Leave (Some (as_far col)) ∷ []
 of_cursor (cursor.CharacterAndLinePosition row col) = step.Leave (Some (as_far col)) ∷ []
 of_cursor (cursor.Up n) = step.Leave None ∷ []
@@ -82,7 +104,6 @@ of_cursor (cursor.LineTabulation n) = step.Leave None ∷ []
 of_cursor (cursor.NextLine n) = step.Leave (Some 1) ∷ []
 of_cursor (cursor.PrecedingLine n) = step.Leave (Some 1) ∷ []
 of_cursor (cursor.SetTopAndBottomMargins top bottom) = step.Leave (Some 1) ∷ []
-of_cursor cursor.RestoreCursor = step.Leave (Some 1) ∷ []
 of_cursor _ = []
 
 -- EL (8.3.41)
@@ -98,18 +119,18 @@ of_display display.EraseToStartOfDisplay = step.Leave None ∷ []
 of_display display.EraseDisplay = step.Leave None ∷ []
 of_display display.EraseScrollback = []
 
--- ECH (8.3.38), DCH (8.3.26), ICH (8.3.64), EL and ED; SU (8.3.147), SD (8.3.113), IL (8.3.67) and DL (8.3.32) move rows
+-- ECH (8.3.38), DCH (8.3.26), ICH (8.3.64), REP (8.3.103), EL and ED; SU (8.3.147), SD (8.3.113), IL (8.3.67) and DL (8.3.32) move rows
 abbrev pub of_edit : Edit → List Step
 of_edit (edit.EraseCharacter n) = step.Erase (as_far n) ∷ []
 of_edit (edit.DeleteCharacter n) = step.Delete (as_far n) ∷ []
 of_edit (edit.InsertCharacter n) = step.Insert (as_far n) ∷ []
+of_edit (edit.Repeat n) = step.Repeat (as_far n) ∷ []
 of_edit (edit.ScrollUp n) = step.Leave None ∷ []
 of_edit (edit.ScrollDown n) = step.Leave None ∷ []
 of_edit (edit.InsertLine n) = step.Leave (Some 1) ∷ []
 of_edit (edit.DeleteLine n) = step.Leave (Some 1) ∷ []
 of_edit (edit.EraseInLine p) = of_part p
 of_edit (edit.EraseInDisplay p) = of_display p
-of_edit _ = []
 
 -- the modes that go to another row: DECCOLM, DECOM, and the alternate screen with the cursor that is saved
 abbrev pub of_code : DecPrivateModeCode → List Step
@@ -121,16 +142,44 @@ of_code code.SaveCursor = step.Leave None ∷ []
 of_code code.ClearAndEnableAlternateScreen = step.Leave None ∷ []
 of_code _ = []
 
-abbrev pub of_private_mode : DecPrivateMode → List Step
-of_private_mode (private.Code c) = of_code c
-of_private_mode (private.Unspecified n) = []
+-- and where they are set and reset: 1048 and 1049 save the cursor and come back to it
+abbrev pub of_set : DecPrivateModeCode → List Step
+of_set code.SaveCursor = step.Save ∷ []
+of_set code.ClearAndEnableAlternateScreen = step.Save ∷ (step.Leave None ∷ [])
+of_set c = of_code c
 
--- DECSET, DECRST and XTRESTORE
+abbrev pub of_reset : DecPrivateModeCode → List Step
+of_reset code.SaveCursor = step.Restore ∷ []
+of_reset code.ClearAndEnableAlternateScreen = step.Leave None ∷ (step.Restore ∷ [])
+of_reset c = of_code c
+
+-- a private mode by its code
+abbrev pub by_code : (DecPrivateModeCode → List Step) → DecPrivateMode → List Step
+by_code steps (private.Code c) = steps c
+by_code steps (private.Unspecified n) = []
+
+-- IRM (7.2.10)
+abbrev pub of_terminal_code : Bool → TerminalModeCode → List Step
+of_terminal_code set terminal_code.Insert = step.Inserts set ∷ []
+of_terminal_code set _ = []
+
+abbrev pub of_terminal_mode : Bool → TerminalMode → List Step
+of_terminal_mode set (terminal.Code c) = of_terminal_code set c
+of_terminal_mode set (terminal.Unspecified n) = []
+
+-- DECSET, DECRST, XTRESTORE, SM (8.3.125) and RM (8.3.106)
 abbrev pub of_mode : Mode → List Step
-of_mode (mode.SetDecPrivateMode m) = of_private_mode m
-of_mode (mode.ResetDecPrivateMode m) = of_private_mode m
-of_mode (mode.RestoreDecPrivateMode m) = of_private_mode m
+of_mode (mode.SetDecPrivateMode m) = by_code of_set m
+of_mode (mode.ResetDecPrivateMode m) = by_code of_reset m
+of_mode (mode.RestoreDecPrivateMode m) = by_code of_code m
+of_mode (mode.SetMode m) = of_terminal_mode true m
+of_mode (mode.ResetMode m) = of_terminal_mode false m
 of_mode _ = []
+
+-- DECSTR: nothing is set or saved any more
+abbrev pub of_device : Device → List Step
+of_device device.SoftReset = step.Reset ∷ []
+of_device _ = []
 
 -- a list that isn't read, where it isn't of SGR, may move too: terminals read CUP with a row that is left out
 abbrev pub of_unread : ℕ → List Step
@@ -142,6 +191,7 @@ of_action (action.Cursor c) = of_cursor c
 of_action (action.Edit e) = of_edit e
 of_action (action.Sgr s) = step.Attribute s ∷ []
 of_action (action.Mode m) = of_mode m
+of_action (action.Device d) = of_device d
 of_action (action.Unspecified params flag final) = of_unread final
 of_action _ = []
 
@@ -150,6 +200,10 @@ of_chars chars = flat_map of_char chars
 
 abbrev pub of_actions : List Action → List Step
 of_actions actions = flat_map of_action actions
+
+-- a control sequence: whatever it does, it stands behind what was put last
+abbrev pub of_sequence : List Action → List Step
+of_sequence actions = of_actions actions ++ step.Other ∷ []
 
 -- a run of text is read as UTF-8, with U+FFFD for each piece that is no character
 abbrev pub of_run : List ℕ → List Step

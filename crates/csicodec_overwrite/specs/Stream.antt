@@ -8,11 +8,10 @@ use Rattle.csicodec_filter.specs.Transform.{GoesOn}
 use Rattle.csicodec_clean.specs.Cleaned.{longest}
 use Rattle.csicodec_clean.specs.Shown.{IsRead}
 use Rattle.csicodec_clean.specs.Titles.{title_open, with_titles}
-use Rattle.csicodec_html.specs.declared.look.Look.{Look}
-use Rattle.csicodec_html.specs.Look.{plain}
 use Rattle.csicodec_overwrite.specs.declared.line.Line.{Line}
+use Rattle.csicodec_overwrite.specs.declared.pen.Pen.{Pen}
 use Rattle.csicodec_overwrite.specs.declared.step.Step.{Step}
-use Rattle.csicodec_overwrite.specs.Line.{blank, do_all, look_behind_all}
+use Rattle.csicodec_overwrite.specs.Line.{blank, do_all, fresh, pen_behind_all}
 use Rattle.csicodec_overwrite.specs.Paint.{texts_of}
 use Rattle.csicodec_overwrite.specs.Steps.{of_chars, of_run}
 use Rattle.csicodec_overwrite.specs.Reading.{AreOfParts, Shows, most, shown_by}
@@ -47,15 +46,15 @@ pub record Reads (old : Held) (bytes : List ℕ) (steps : List Step) (new : Held
   pub goes : (run chars : List ℕ) → IsRead run chars old.held
       → Goes old.mode old.titled run chars (old.bytes ++ bytes) steps new.bytes new.mode new.titled new.held
 
--- what a stream is between two pushes: what is held of it, how characters look, whether lines are painted, and the one that isn't over
+-- what a stream is between two pushes: what is held of it, how characters are put, whether lines are painted, and the one that isn't over
 pub record Now : Type 0 where
   pub reader : Held
-  pub look : Look
+  pub pen : Pen
   pub painted : Bool
   pub line : Line
 
 abbrev pub begun_as : Bool → Now
-begun_as painted = record { reader = none_held; look = plain; painted = painted; line = blank }
+begun_as painted = record { reader = none_held; pen = fresh; painted = painted; line = blank }
 
 -- as plain text
 abbrev pub begun : Now
@@ -65,15 +64,15 @@ begun = begun_as false
 pub record Passes (old : Now) (bytes text : List ℕ) (new : Now) : Type 0 where
   pub steps : List Step
   pub reads : Reads old.reader bytes steps new.reader
-  pub look : new.look ≡ look_behind_all old.look steps
+  pub pen : new.pen ≡ pen_behind_all most old.pen steps old.line
   pub painted : new.painted ≡ old.painted
-  pub line : new.line ≡ (do_all most old.look steps old.line).line
-  pub all : text ≡ texts_of old.painted (do_all most old.look steps old.line).lines
+  pub line : new.line ≡ (do_all most old.pen steps old.line).line
+  pub all : text ≡ texts_of old.painted (do_all most old.pen steps old.line).lines
 
 -- at the end, with what is held, all that stands in the line is written
 abbrev pub Ending : Now → List ℕ → Type 0
 Ending last text = text
-    ≡ shown_by last.painted (do_all most last.look (of_run last.reader.held) last.line)
+    ≡ shown_by last.painted (do_all most last.pen (of_run last.reader.held) last.line)
 
 -- chunks in turn, and all that they append
 abbrev pub AreTaken : Now → List (List ℕ) → List ℕ → Now → Type 0

@@ -6,6 +6,7 @@ ghost use Rattle.csicodec_clean.specs.Shown.{IsPlain};
 ghost use Rattle.csicodec_clean.specs.Styled.{IsOf};
 ghost use Rattle.csicodec_html.specs.declared.look.Look.{Look};
 ghost use Rattle.csicodec_html.specs.Look.{behind_all};
+ghost use Rattle.csicodec_overwrite.specs.declared.pen.Pen.{Pen};
 ghost use Rattle.csicodec_overwrite.specs.declared.step.Step.{Step};
 ghost use Rattle.csicodec_overwrite.specs.Line.{HasRoom, blank, do_all, size};
 ghost use Rattle.csicodec_overwrite.specs.Paint.{IsInRange, look_text};
@@ -48,5 +49,5 @@ pub fn looks_back()
 
 /// The line that isn't over never holds more than 65,536 cells, whatever comes.
 pub fn bounded()
-    ensures { (look : Look) (steps : List Step) → size (do_all most look steps blank).line ≤ most }
+    ensures { (pen : Pen) (steps : List Step) → size (do_all most pen steps blank).line ≤ most }
 {}

@@ -7,6 +7,7 @@ mod line;
 mod overwriter;
 mod page;
 mod paint;
+mod pen;
 mod reader;
 mod run;
 mod sides;

@@ -1,29 +1,19 @@
 //! A line and its cursor.
 ghost use Rattle.std.specs.Prelude.{◌≡◌, ◌-◌, ◌++◌, [], OnOk};
-ghost use Rattle.csicodec_overwrite.specs.Cells.{onto};
-ghost use Rattle.csicodec_overwrite.specs.Line.{at_column, back, blank, cells_of, delete, do_all, does, erase, erase_all, erase_left, erase_right, fits, forward, insert, leave, line, lines_of, look_behind, look_behind_all, over, parted, placed, put, size, target};
+ghost use Rattle.csicodec_overwrite.specs.Cells.{columns, glyph, onto};
+ghost use Rattle.csicodec_overwrite.specs.Line.{at_column, back, behind_columns, blank, cells_of, delete, do_all, does, erase, erase_all, erase_left, erase_right, fits, forward, from_stop, insert, leave, line, lines_of, over, parted, pen_behind_all, placed, put, repeated, restored, size, target, to_stop};
 ghost use Rattle.csicodec_overwrite.specs.Paint.{ended, text_of, texts_of};
 ghost use Rattle.csicodec_overwrite.specs.declared.step.Step.TheVariants.{Tab};
 
 use crate::cells::{Cell, Glyph, Side};
 use crate::paint::append_cells;
+use crate::pen::Pen;
 use crate::sides::{delete_columns, erase_columns, loosen, move_all, undo, width};
 use crate::step::Step;
-use csicodec_html::Look;
 use std::alloc::{AllocError, Global};
 
 /// The most columns that a movement or an edit goes: no terminal is wider.
 pub(crate) const WIDEST: u32 = 1024;
-
-/// How characters look that are put behind a step.
-fn look_behind(look: Look, step: Step) -> Look
-    ensures { result ≡ look_behind look step }
-{
-    match step {
-        Step::Attribute(attribute) => look.behind(&attribute),
-        _ => look,
-    }
-}
 
 /// A line and its cursor, between two of its cells.
 #[derive(Drop)]
@@ -62,10 +52,10 @@ impl Line {
     }
 
     /// So many columns to the left.
-    fn back(&mut self, count: u32) -> Result<(), AllocError>
+    fn back(&mut self, count: usize) -> Result<(), AllocError>
         ensures { OnOk result (self.new ≡ back count self.old.left self.old.right) }
     {
-        let mut left = count as usize;
+        let mut left = count;
         while left > 0 {
             let Some(cell) = self.left.pop() else {
                 return Ok(());
@@ -102,12 +92,37 @@ impl Line {
         self.left.push_many(Cell::Empty, some)
     }
 
+    /// Behind so many columns.
+    fn behind_columns(&mut self, limit: usize, count: usize) -> Result<(), AllocError>
+        ensures { OnOk result (self.new ≡ behind_columns limit count self.old) }
+    {
+        move_all(&mut self.left, &mut self.right)?;
+        self.forward(limit, count)
+    }
+
     /// To this column.
     fn to_column(&mut self, limit: usize, column: u32) -> Result<(), AllocError>
         ensures { OnOk result (self.new ≡ at_column limit column self.old) }
     {
-        move_all(&mut self.left, &mut self.right)?;
-        self.forward(limit, column.saturating_sub(1) as usize)
+        self.behind_columns(limit, column.saturating_sub(1) as usize)
+    }
+
+    /// So many tab stops to the right.
+    fn tabs(&mut self, limit: usize, count: u32) -> Result<(), AllocError>
+        ensures { OnOk result (self.new ≡ forward limit (to_stop count (columns self.old.left)) self.old) }
+    {
+        let column = self.left.columns();
+        self.forward(limit, (8 * (count as usize)).saturating_sub(column % 8))
+    }
+
+    /// So many tab stops to the left.
+    fn tabs_back(&mut self, count: u32) -> Result<(), AllocError>
+        ensures { OnOk result
+            (self.new ≡ back (from_stop count (columns self.old.left)) self.old.left self.old.right) }
+    {
+        let column = self.left.columns();
+        let stops = (8 * (count as usize)).saturating_sub(7);
+        self.back(column.saturating_sub(1) % 8 + stops)
     }
 
     /// Empties the columns of a character in which the cursor stands.
@@ -180,9 +195,9 @@ impl Line {
         self.right.push_many(Cell::Empty, some)
     }
 
-    /// Puts a character of so many columns at the cursor.
-    fn place(&mut self, glyph: Glyph, columns: usize) -> Result<(), AllocError>
-        ensures { OnOk result (self.new ≡ placed glyph columns self.old) }
+    /// Puts a character of so many columns at the cursor, in place of what stands there or in front of it.
+    fn place(&mut self, inserts: bool, glyph: Glyph, columns: usize) -> Result<(), AllocError>
+        ensures { OnOk result (self.new ≡ placed inserts glyph columns self.old) }
     {
         if columns == 0 {
             return self.left.push(Cell::Mark(glyph.char));
@@ -190,6 +205,9 @@ impl Line {
         self.part()?;
         self.left.push(Cell::Char(glyph))?;
         self.left.push_many(Cell::Behind, columns - 1)?;
+        if inserts {
+            return Ok(());
+        }
         delete_columns(&mut self.right, columns)
     }
 
@@ -272,64 +290,117 @@ impl Line {
         self.forward(limit, column)
     }
 
+    /// To the saved place, or to another row.
+    fn restore(
+        &mut self,
+        limit: usize,
+        pen: &Pen,
+        painted: bool,
+        out: &mut Vec<u8>,
+    ) -> Result<(), AllocError>
+        ensures line { OnOk result (self.new ≡ (restored limit pen.now self.old).line) }
+        ensures text { OnOk result
+            (out.new.items ≡ out.old.items ++ texts_of painted (restored limit pen.now self.old).lines) }
+    {
+        if pen.here {
+            return self.behind_columns(limit, pen.saved);
+        }
+        self.end_some(painted, out)?;
+        self.forward(limit, pen.saved.min(WIDEST as usize - 1))
+    }
+
     /// Puts a character, on a line of its own where this has no room for it.
     fn put(
         &mut self,
         limit: usize,
-        glyph: Glyph,
+        pen: &Pen,
+        char: char,
         painted: bool,
         out: &mut Vec<u8>,
     ) -> Result<(), AllocError>
-        ensures line { OnOk result (self.new ≡ (put limit glyph self.old).line) }
-        ensures text { OnOk result
-            (out.new.items ≡ out.old.items ++ texts_of painted (put limit glyph self.old).lines) }
+        ensures line { OnOk result
+            (self.new ≡ (put limit pen.now.inserts (glyph char pen.now.look) self.old).line) }
+        ensures text { OnOk result (out.new.items ≡ out.old.items
+            ++ texts_of painted (put limit pen.now.inserts (glyph char pen.now.look) self.old).lines) }
     {
-        let columns = width(glyph.char, self.left.columns());
+        let columns = width(char, self.left.columns());
+        let glyph = Glyph {
+            char,
+            look: pen.look,
+        };
         if self.fits(limit, columns) {
-            return self.place(glyph, columns);
+            return self.place(pen.inserts, glyph, columns);
         }
         self.end(painted, out)?;
-        self.place(glyph, width(glyph.char, 0))
+        self.place(pen.inserts, glyph, width(char, 0))
+    }
+
+    /// Puts the character again that was put last, so many times, if there is one.
+    fn repeat(
+        &mut self,
+        limit: usize,
+        pen: &Pen,
+        count: u32,
+        painted: bool,
+        out: &mut Vec<u8>,
+    ) -> Result<(), AllocError>
+        ensures line { OnOk result
+            (self.new ≡ (repeated limit pen.now pen.now.last count self.old).line) }
+        ensures text { OnOk result (out.new.items ≡ out.old.items
+            ++ texts_of painted (repeated limit pen.now pen.now.last count self.old).lines) }
+    {
+        let Some(char) = pen.last else {
+            return Ok(());
+        };
+        let mut left = count;
+        while left > 0 {
+            self.put(limit, pen, char, painted, out)?;
+            left -= 1;
+        }
+        Ok(())
     }
 
     /// On to the next tab stop.
     fn tab(
         &mut self,
         limit: usize,
-        look: Look,
+        pen: &Pen,
         painted: bool,
         out: &mut Vec<u8>,
     ) -> Result<(), AllocError>
-        ensures line { OnOk result (self.new ≡ (does limit look Tab self.old).line) }
+        ensures line { OnOk result (self.new ≡ (does limit pen.now Tab self.old).line) }
         ensures text { OnOk result
-            (out.new.items ≡ out.old.items ++ texts_of painted (does limit look Tab self.old).lines) }
+            (out.new.items ≡ out.old.items ++ texts_of painted (does limit pen.now Tab self.old).lines) }
     {
         if self.right.len() == 0 {
-            return self.put(limit, Glyph { char: '\t', look }, painted, out);
+            return self.put(limit, pen, '\t', painted, out);
         }
         let count = width('\t', self.left.columns());
         self.forward(limit, count)
     }
 
-    /// Does a step where characters look so, and appends the lines that are over with it.
+    /// Does a step where characters are put so, and appends the lines that are over with it.
     fn take(
         &mut self,
         limit: usize,
-        look: Look,
+        pen: &Pen,
         step: Step,
         painted: bool,
         out: &mut Vec<u8>,
     ) -> Result<(), AllocError>
-        ensures line { OnOk result (self.new ≡ (does limit look step self.old).line) }
+        ensures line { OnOk result (self.new ≡ (does limit pen.now step self.old).line) }
         ensures text { OnOk result
-            (out.new.items ≡ out.old.items ++ texts_of painted (does limit look step self.old).lines) }
+            (out.new.items ≡ out.old.items ++ texts_of painted (does limit pen.now step self.old).lines) }
     {
         match step {
-            Step::Put(char) => self.put(limit, Glyph { char, look }, painted, out),
-            Step::Tab => self.tab(limit, look, painted, out),
+            Step::Put(char) => self.put(limit, pen, char, painted, out),
+            Step::Repeat(count) => self.repeat(limit, pen, count, painted, out),
+            Step::Tab => self.tab(limit, pen, painted, out),
+            Step::Tabs(count) => self.tabs(limit, count),
+            Step::TabsBack(count) => self.tabs_back(count),
             Step::NewLine => self.end(painted, out),
             Step::Right(count) => self.forward(limit, count as usize),
-            Step::Left(count) => self.back(count),
+            Step::Left(count) => self.back(count as usize),
             Step::Column(column) => self.to_column(limit, column),
             Step::EraseRight => self.erase_right(),
             Step::EraseLeft => self.erase_left(),
@@ -337,30 +408,33 @@ impl Line {
             Step::Erase(count) => self.erase(count),
             Step::Delete(count) => self.delete(count),
             Step::Insert(count) => self.insert(limit, count),
-            Step::Attribute(_) => Ok(()),
+            Step::Restore => self.restore(limit, pen, painted, out),
             Step::Leave(to) => self.leave(limit, to, painted, out),
+            Step::Attribute(_) | Step::Inserts(_) => Ok(()),
+            Step::Save | Step::Reset | Step::Other => Ok(()),
         }
     }
 
-    /// Does the steps in turn, and appends the lines that are over. Characters look so, and behind the steps as `look` says then.
+    /// Does the steps in turn, and appends the lines that are over. Characters are put so, and behind the steps as `pen` says then.
     pub fn take_all(
         &mut self,
         limit: usize,
-        look: &mut Look,
+        pen: &mut Pen,
         steps: &[Step],
         painted: bool,
         out: &mut Vec<u8>,
     ) -> Result<(), AllocError>
         ensures line { OnOk result
-            (self.new ≡ (do_all limit look.old steps.now self.old).line) }
-        ensures look { OnOk result (look.new ≡ look_behind_all look.old steps.now) }
+            (self.new ≡ (do_all limit pen.old steps.now self.old).line) }
+        ensures pen { OnOk result (pen.new ≡ pen_behind_all limit pen.old steps.now self.old) }
         ensures text { OnOk result (out.new.items
-            ≡ out.old.items ++ texts_of painted (do_all limit look.old steps.now self.old).lines) }
+            ≡ out.old.items ++ texts_of painted (do_all limit pen.old steps.now self.old).lines) }
     {
         let mut rest = steps;
         while let Some((step, behind)) = rest.split_first() {
-            self.take(limit, *look, *step, painted, out)?;
-            *look = look_behind(*look, *step);
+            let next = pen.behind(*step, self.left.columns());
+            self.take(limit, pen, *step, painted, out)?;
+            *pen = next;
             rest = behind;
         }
         Ok(())

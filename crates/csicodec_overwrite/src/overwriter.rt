@@ -3,10 +3,10 @@ ghost use Rattle.std.specs.Prelude.{◌≡◌, ◌≤◌, ◌++◌, ℕ, List, O
 ghost use Rattle.csicodec_overwrite.specs.Stream.{Ending, Passes, begun, begun_as};
 
 use crate::line::Line;
+use crate::pen::Pen;
 use crate::reader::Reader;
 use crate::step::Step;
 use csicodec_filter::Transform;
-use csicodec_html::Look;
 use csicodec_spans::LIMIT;
 use std::alloc::{AllocError, Global};
 use std::marker::Model;
@@ -18,8 +18,8 @@ use std::marker::Model;
 #[derive(Drop)]
 pub struct Overwriter {
     reader: Reader,
-    /// How characters look that come now.
-    look: Look,
+    /// How characters are put that come now.
+    pen: Pen,
     /// Whether lines are written with how they look.
     painted: bool,
     line: Line,
@@ -32,7 +32,7 @@ impl Model for Overwriter {
 
     ghost Value = { Now };
 
-    ghost view = { λ o. record { reader = o.reader; look = o.look; painted = o.painted; line = o.line } };
+    ghost view = { λ o. record { reader = o.reader; pen = o.pen; painted = o.painted; line = o.line } };
 }
 
 impl Overwriter {
@@ -56,7 +56,7 @@ impl Overwriter {
     {
         Overwriter {
             reader: Reader::new(alloc),
-            look: Look::plain(),
+            pen: Pen::new(),
             painted,
             line: Line::new(alloc),
             steps: Vec::new(alloc),
@@ -74,7 +74,7 @@ impl Overwriter {
         self.steps.clear();
         self.reader.push(bytes, &mut self.steps)?;
         self.line
-            .take_all(LIMIT, &mut self.look, &self.steps, self.painted, out)?;
+            .take_all(LIMIT, &mut self.pen, &self.steps, self.painted, out)?;
         Ok(())
     }
 
@@ -86,7 +86,7 @@ impl Overwriter {
         self.steps.clear();
         self.reader.finish(&mut self.steps)?;
         self.line
-            .take_all(LIMIT, &mut self.look, &self.steps, self.painted, out)?;
+            .take_all(LIMIT, &mut self.pen, &self.steps, self.painted, out)?;
         self.line.take_text(self.painted, out)?;
         Ok(())
     }

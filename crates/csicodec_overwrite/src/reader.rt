@@ -8,11 +8,13 @@ ghost use Rattle.csicodec_spans.specs.Parts.{IsUnsure};
 ghost use Rattle.csicodec_clean.specs.Cleaned.{longest};
 ghost use Rattle.csicodec_clean.specs.Titles.{read_as, title_behind};
 ghost use Rattle.csicodec_overwrite.specs.Private.Spans.{GoesTo, IsGiven};
-ghost use Rattle.csicodec_overwrite.specs.Steps.{of_actions, of_run};
+ghost use Rattle.csicodec_overwrite.specs.Steps.{of_run, of_sequence};
 ghost use Rattle.csicodec_overwrite.specs.Stream.{Reads, none_held};
 
 use crate::step::Step;
-use crate::text::{append_actions, append_escape, append_run, append_text, append_wrong};
+use crate::text::{
+    append_actions, append_escape, append_run, append_string, append_text, append_wrong,
+};
 use csicodec::CSI;
 use csicodec_base::CsiParam;
 use csicodec_clean::{read_as, title_behind};
@@ -30,11 +32,12 @@ fn append_sequence(
     steps: &mut Vec<Step>,
 ) -> Result<(), AllocError>
     ensures { OnOk result ((all : _) × Actions params.now false control all
-        × (steps.new.items ≡ steps.old.items ++ of_actions all)) }
+        × (steps.new.items ≡ steps.old.items ++ of_sequence all)) }
 {
     actions.clear();
     parse_into(alloc, params, false, control, actions)?;
-    append_actions(actions, steps)
+    append_actions(actions, steps)?;
+    Ok(steps.push(Step::Other)?)
 }
 
 /// Appends the steps of a span. A span that is no text ends the run of text before it.
@@ -65,8 +68,9 @@ fn append_span(
     }
     match kind {
         Kind::Esc => append_escape(bytes, steps),
+        Kind::Str => append_string(bytes, steps),
         Kind::Other => append_wrong(bytes, steps),
-        Kind::Text | Kind::Csi | Kind::Str => Ok(()),
+        Kind::Text | Kind::Csi => Ok(()),
     }
 }
 

@@ -5,10 +5,16 @@ use csicodec_base::Sgr;
 /// What a character or an action does in a line. Counts are 1 or more where they were read.
 #[derive(Clone, Copy, PartialEq, Eq, Debug)]
 pub enum Step {
-    /// A character comes, in place of what stands at the cursor.
+    /// A character comes, in place of what stands at the cursor, or in insert mode in front of it.
     Put(char),
+    /// The character that was put last comes so many times more, if nothing but marks came behind it.
+    Repeat(u32),
     /// On to the next tab stop, by a tab where nothing stands there.
     Tab,
+    /// So many tab stops to the right.
+    Tabs(u32),
+    /// So many tab stops to the left.
+    TabsBack(u32),
     /// The line ends.
     NewLine,
     /// So many columns to the right.
@@ -31,6 +37,16 @@ pub enum Step {
     Insert(u32),
     /// Characters that are put behind it have this attribute.
     Attribute(Sgr),
+    /// Characters that are put behind it move what stands at the cursor to the right, or they don't.
+    Inserts(bool),
+    /// The place of the cursor is saved.
+    Save,
+    /// To the saved place: in this row, or in another, and so a line of its own.
+    Restore,
+    /// Nothing is set or saved any more.
+    Reset,
     /// To another row, or maybe so: to this column, or to the same.
     Leave(Option<u32>),
+    /// Nothing, but it stands behind the character that was put last.
+    Other,
 }

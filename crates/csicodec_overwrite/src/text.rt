@@ -1,15 +1,16 @@
 //! The steps of text, of escape sequences and of actions.
 ghost use Rattle.std.specs.Prelude.{◌≡◌, ◌≤◌, ◌++◌, ℕ, List, length, map, OnOk, IfOk};
+ghost use Rattle.csicodec_actions.specs.Devices.{device_of};
 ghost use Rattle.csicodec_parser.specs.ActionOf.{action_of};
 ghost use Rattle.csicodec_clean.specs.Shown.{IsCut, IsRead};
-ghost use Rattle.csicodec_overwrite.specs.Steps.{as_far, of_action, of_actions, of_char, of_chars, of_control, of_cursor, of_edit, of_escape, of_final, of_mode, of_private_mode, of_run, of_unread, of_wrong, of_wrong_byte};
+ghost use Rattle.csicodec_overwrite.specs.Steps.{as_far, by_code, of_action, of_actions, of_char, of_chars, of_code, of_control, of_cursor, of_device, of_edit, of_escape, of_final, of_mode, of_reset, of_run, of_set, of_string, of_string_byte, of_terminal_mode, of_unread, of_wrong, of_wrong_byte, stops};
 
 use crate::line::WIDEST;
 use crate::step::Step;
 use csicodec::{
-    CSI, Cursor, DecPrivateMode, DecPrivateModeCode, Edit, EraseInDisplay, EraseInLine, Mode,
+    CSI, Cursor, DecPrivateMode, DecPrivateModeCode, Device, Edit, EraseInDisplay, EraseInLine,
+    Mode, TerminalMode, TerminalModeCode,
 };
-use csicodec_base::Sgr;
 use csicodec_clean::first_sure;
 use csicodec_streams::keep_from;
 use std::alloc::AllocError;
@@ -21,6 +22,13 @@ fn as_far(count: u32) -> u32
     count.min(WIDEST)
 }
 
+/// So many tab stops, as far as they go.
+fn stops(count: u32) -> u32
+    ensures { result ≡ stops count }
+{
+    count.min(WIDEST / 8)
+}
+
 /// Appends what a control does that isn't shown.
 fn append_control(char: char, steps: &mut Vec<Step>) -> Result<(), AllocError>
     ensures { OnOk result (steps.new.items ≡ steps.old.items ++ of_control char) }
@@ -28,7 +36,7 @@ fn append_control(char: char, steps: &mut Vec<Step>) -> Result<(), AllocError>
     match char {
         '\u{b}' | '\u{c}' | '\u{84}' | '\u{8d}' | '\u{9b}' => steps.push(Step::Leave(None))?,
         '\u{85}' => steps.push(Step::Leave(Some(1)))?,
-        _ => {}
+        _ => steps.push(Step::Other)?,
     }
     Ok(())
 }
@@ -54,12 +62,14 @@ fn append_final(byte: u8, steps: &mut Vec<Step>) -> Result<(), AllocError>
 {
     match byte {
         b'D' | b'M' => steps.push(Step::Leave(None))?,
-        b'8' | b'E' => steps.push(Step::Leave(Some(1)))?,
+        b'E' => steps.push(Step::Leave(Some(1)))?,
+        b'7' => steps.push(Step::Save)?,
+        b'8' => steps.push(Step::Restore)?,
         b'c' => {
             steps.push(Step::Leave(Some(1)))?;
-            steps.push(Step::Attribute(Sgr::Reset))?;
+            steps.push(Step::Reset)?;
         }
-        _ => {}
+        _ => steps.push(Step::Other)?,
     }
     Ok(())
 }
@@ -72,7 +82,27 @@ pub(crate) fn append_escape(bytes: &[u8], steps: &mut Vec<Step>) -> Result<(), A
         return append_final(bytes[1], steps);
     }
     if bytes.len() == 3 && bytes[1] == b'#' && bytes[2] == b'8' {
-        steps.push(Step::Leave(Some(1)))?;
+        return Ok(steps.push(Step::Leave(Some(1)))?);
+    }
+    Ok(steps.push(Step::Other)?)
+}
+
+/// Appends what a byte does of a control string.
+fn append_string_byte(byte: u8, steps: &mut Vec<Step>) -> Result<(), AllocError>
+    ensures { OnOk result (steps.new.items ≡ steps.old.items ++ of_string_byte byte) }
+{
+    if byte == 0x1b {
+        steps.push(Step::Other)?;
+    }
+    Ok(())
+}
+
+/// Appends what control strings do.
+pub(crate) fn append_string(bytes: &[u8], steps: &mut Vec<Step>) -> Result<(), AllocError>
+    ensures { OnOk result (steps.new.items ≡ steps.old.items ++ of_string bytes.now) }
+{
+    for byte in bytes {
+        append_string_byte(*byte, steps)?;
     }
     Ok(())
 }
@@ -111,6 +141,10 @@ fn append_cursor(cursor: &Cursor, steps: &mut Vec<Step>) -> Result<(), AllocErro
         Cursor::CharacterAbsolute(col) | Cursor::CharacterPositionAbsolute(col) => {
             steps.push(Step::Column(as_far(col.as_one_based())))?;
         }
+        Cursor::ForwardTabulation(count) => steps.push(Step::Tabs(stops(*count)))?,
+        Cursor::BackwardTabulation(count) => steps.push(Step::TabsBack(stops(*count)))?,
+        Cursor::SaveCursor => steps.push(Step::Save)?,
+        Cursor::RestoreCursor => steps.push(Step::Restore)?,
         Cursor::Position { col, .. } | Cursor::CharacterAndLinePosition { col, .. } => {
             steps.push(Step::Leave(Some(as_far(col.as_one_based()))))?;
         }
@@ -120,10 +154,8 @@ fn append_cursor(cursor: &Cursor, steps: &mut Vec<Step>) -> Result<(), AllocErro
         | Cursor::LinePositionForward(_)
         | Cursor::LinePositionBackward(_)
         | Cursor::LineTabulation(_) => steps.push(Step::Leave(None))?,
-        Cursor::NextLine(_)
-        | Cursor::PrecedingLine(_)
-        | Cursor::SetTopAndBottomMargins { .. }
-        | Cursor::RestoreCursor => steps.push(Step::Leave(Some(1)))?,
+        Cursor::NextLine(_) | Cursor::PrecedingLine(_) | Cursor::SetTopAndBottomMargins { .. } =>
+            steps.push(Step::Leave(Some(1)))?,
         _ => {}
     }
     Ok(())
@@ -137,6 +169,7 @@ fn append_edit(edit: &Edit, steps: &mut Vec<Step>) -> Result<(), AllocError>
         Edit::EraseCharacter(count) => steps.push(Step::Erase(as_far(*count)))?,
         Edit::DeleteCharacter(count) => steps.push(Step::Delete(as_far(*count)))?,
         Edit::InsertCharacter(count) => steps.push(Step::Insert(as_far(*count)))?,
+        Edit::Repeat(count) => steps.push(Step::Repeat(as_far(*count)))?,
         Edit::EraseInLine(EraseInLine::EraseToEndOfLine)
         | Edit::EraseInDisplay(EraseInDisplay::EraseToEndOfDisplay) => {
             steps.push(Step::EraseRight)?;
@@ -153,20 +186,65 @@ fn append_edit(edit: &Edit, steps: &mut Vec<Step>) -> Result<(), AllocError>
     Ok(())
 }
 
-/// Appends what a private mode does that is set, reset or restored.
-fn append_private_mode(mode: DecPrivateMode, steps: &mut Vec<Step>) -> Result<(), AllocError>
-    ensures { OnOk result (steps.new.items ≡ steps.old.items ++ of_private_mode mode) }
+/// Appends what a private mode does, whatever becomes of it.
+fn append_code(code: DecPrivateModeCode, steps: &mut Vec<Step>) -> Result<(), AllocError>
+    ensures { OnOk result (steps.new.items ≡ steps.old.items ++ of_code code) }
+{
+    match code {
+        DecPrivateModeCode::Select132Columns | DecPrivateModeCode::OriginMode => {
+            steps.push(Step::Leave(Some(1)))?;
+        }
+        DecPrivateModeCode::EnableAlternateScreen
+        | DecPrivateModeCode::OptEnableAlternateScreen
+        | DecPrivateModeCode::SaveCursor
+        | DecPrivateModeCode::ClearAndEnableAlternateScreen => steps.push(Step::Leave(None))?,
+        _ => {}
+    }
+    Ok(())
+}
+
+/// Appends what a private mode does that is set.
+fn append_set(mode: DecPrivateMode, steps: &mut Vec<Step>) -> Result<(), AllocError>
+    ensures { OnOk result (steps.new.items ≡ steps.old.items ++ by_code of_set mode) }
 {
     match mode {
-        DecPrivateMode::Code(
-            DecPrivateModeCode::Select132Columns | DecPrivateModeCode::OriginMode,
-        ) => steps.push(Step::Leave(Some(1)))?,
-        DecPrivateMode::Code(
-            DecPrivateModeCode::EnableAlternateScreen
-            | DecPrivateModeCode::OptEnableAlternateScreen
-            | DecPrivateModeCode::SaveCursor
-            | DecPrivateModeCode::ClearAndEnableAlternateScreen,
-        ) => steps.push(Step::Leave(None))?,
+        DecPrivateMode::Code(DecPrivateModeCode::SaveCursor) => steps.push(Step::Save)?,
+        DecPrivateMode::Code(DecPrivateModeCode::ClearAndEnableAlternateScreen) => {
+            steps.push(Step::Save)?;
+            steps.push(Step::Leave(None))?;
+        }
+        DecPrivateMode::Code(code) => append_code(code, steps)?,
+        DecPrivateMode::Unspecified(_) => {}
+    }
+    Ok(())
+}
+
+/// Appends what a private mode does that is reset.
+fn append_reset(mode: DecPrivateMode, steps: &mut Vec<Step>) -> Result<(), AllocError>
+    ensures { OnOk result (steps.new.items ≡ steps.old.items ++ by_code of_reset mode) }
+{
+    match mode {
+        DecPrivateMode::Code(DecPrivateModeCode::SaveCursor) => steps.push(Step::Restore)?,
+        DecPrivateMode::Code(DecPrivateModeCode::ClearAndEnableAlternateScreen) => {
+            steps.push(Step::Leave(None))?;
+            steps.push(Step::Restore)?;
+        }
+        DecPrivateMode::Code(code) => append_code(code, steps)?,
+        DecPrivateMode::Unspecified(_) => {}
+    }
+    Ok(())
+}
+
+/// Appends what a mode does that isn't private, and is set or reset.
+fn append_terminal_mode(
+    set: bool,
+    mode: TerminalMode,
+    steps: &mut Vec<Step>,
+) -> Result<(), AllocError>
+    ensures { OnOk result (steps.new.items ≡ steps.old.items ++ of_terminal_mode set mode) }
+{
+    match mode {
+        TerminalMode::Code(TerminalModeCode::Insert) => steps.push(Step::Inserts(set))?,
         _ => {}
     }
     Ok(())
@@ -177,11 +255,24 @@ fn append_mode(mode: &Mode, steps: &mut Vec<Step>) -> Result<(), AllocError>
     ensures { OnOk result (steps.new.items ≡ steps.old.items ++ of_mode mode.now) }
 {
     match mode {
-        Mode::SetDecPrivateMode(mode)
-        | Mode::ResetDecPrivateMode(mode)
-        | Mode::RestoreDecPrivateMode(mode) => append_private_mode(*mode, steps),
+        Mode::SetDecPrivateMode(mode) => append_set(*mode, steps),
+        Mode::ResetDecPrivateMode(mode) => append_reset(*mode, steps),
+        Mode::RestoreDecPrivateMode(DecPrivateMode::Code(code)) => append_code(*code, steps),
+        Mode::SetMode(mode) => append_terminal_mode(true, *mode, steps),
+        Mode::ResetMode(mode) => append_terminal_mode(false, *mode, steps),
         _ => Ok(()),
     }
+}
+
+/// Appends what a device does.
+fn append_device(device: &Device, steps: &mut Vec<Step>) -> Result<(), AllocError>
+    ensures { OnOk result (steps.new.items ≡ steps.old.items ++ of_device (device_of device.now)) }
+{
+    match device {
+        Device::SoftReset => steps.push(Step::Reset)?,
+        _ => {}
+    }
+    Ok(())
 }
 
 /// Appends what a list does that isn't read: it may move the cursor.
@@ -204,12 +295,9 @@ fn append_action(action: &CSI, steps: &mut Vec<Step>) -> Result<(), AllocError>
         CSI::Edit(edit) => append_edit(edit, steps),
         CSI::Sgr(attribute) => Ok(steps.push(Step::Attribute(*attribute))?),
         CSI::Mode(mode) => append_mode(mode, steps),
+        CSI::Device(device) => append_device(device, steps),
         CSI::Unspecified(unread) => append_unread(unread.control, steps),
-        CSI::Device(_)
-        | CSI::Keyboard(_)
-        | CSI::SelectCharacterPath(..)
-        | CSI::Mouse(_)
-        | CSI::Window(_) => Ok(()),
+        CSI::Keyboard(_) | CSI::SelectCharacterPath(..) | CSI::Mouse(_) | CSI::Window(_) => Ok(()),
     }
 }
 

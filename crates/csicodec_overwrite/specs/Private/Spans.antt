@@ -7,7 +7,7 @@ use Rattle.csicodec_spans.specs.declared.table.Mode.{Mode}
 use Rattle.csicodec_clean.specs.Shown.{IsRead}
 use Rattle.csicodec_clean.specs.Styled.{IsOf}
 use Rattle.csicodec_overwrite.specs.declared.step.Step.{Step}
-use Rattle.csicodec_overwrite.specs.Steps.{of_actions, of_chars, of_escape, of_run, of_wrong}
+use Rattle.csicodec_overwrite.specs.Steps.{of_chars, of_escape, of_run, of_sequence, of_string, of_wrong}
 use Rattle.csicodec_overwrite.specs.Stream.{Goes}
 
 -- a span behind a run of which some bytes are held: the steps that come, and what is held then
@@ -15,9 +15,9 @@ abbrev pub IsGiven : Kind → List ℕ → List ℕ → List Step → List ℕ �
 IsGiven kind.Text held bytes steps left = (chars : List ℕ) × IsRead (held ++ bytes) chars left
     × (steps ≡ of_chars chars)
 IsGiven kind.Csi held bytes steps left = (actions : List Action) × IsOf bytes actions
-    × (steps ≡ of_run held ++ of_actions actions) × (left ≡ [])
+    × (steps ≡ of_run held ++ of_sequence actions) × (left ≡ [])
 IsGiven kind.Esc held bytes steps left = (steps ≡ of_run held ++ of_escape bytes) × (left ≡ [])
-IsGiven kind.Str held bytes steps left = (steps ≡ of_run held) × (left ≡ [])
+IsGiven kind.Str held bytes steps left = (steps ≡ of_run held ++ of_string bytes) × (left ≡ [])
 IsGiven kind.Other held bytes steps left = (steps ≡ of_run held ++ of_wrong bytes) × (left ≡ [])
 
 -- from what is open and held to what is then: the parts in front of the rest, and the steps that came for them

@@ -5,4 +5,4 @@ use Rattle.csicodec_overwrite.proofs.Room.{all_size}
 use Rattle.csicodec_overwrite.proofs.laws.bounded.Goals as goal
 
 pub returns : goal.returns
-returns c = λ look steps. all_size most (omega arith) look steps blank (omega arith)
+returns c = λ pen steps. all_size most (omega arith) pen steps blank (omega arith)

@@ -1,6 +1,6 @@
-use Rattle.std.proofs.Common.{◌≡◌, ◌++◌, ◌∙◌, [], map, ap}
-use Rattle.std.proofs.lemmas.Result.{on_ok_weaker}
+use Rattle.std.proofs.Common.{◌≡◌, ◌++◌, ◌∙◌, ◌∷◌, [], map, ap, append_assoc}
 use Rattle.csicodec_parser.specs.ActionOf.{action_of}
+use Rattle.csicodec_overwrite.specs.declared.step.Step.TheVariants as step
 use Rattle.csicodec_overwrite.specs.Steps.{of_actions}
 use Rattle.csicodec_overwrite.proofs.reader.append_sequence.Goals as goal
 
@@ -8,4 +8,5 @@ pub returns : goal.returns
 returns c =
     let (actions, are, held) = c.in_ok-parse_into.ensures [] (ap (map action_of) c.clear.ensures.items) in
     let told : map action_of c.deref.result.now ≡ actions = ap (map action_of) c.deref.ensures.value ∙ held in
-    on_ok_weaker c.append_actions.result (λ e. (actions, are, e ∙ ap (λ all. c.args.steps.now.items ++ of_actions all) told)) c.append_actions.ensures
+    let old = c.args.steps.now.items in
+    (actions, are, c.in_ok-push.ensures.items ∙ ap (λ t. t ++ step.Other ∷ []) (c.in_ok-append_actions.ensures ∙ ap (λ all. old ++ of_actions all) told) ∙ append_assoc old (of_actions actions) (step.Other ∷ []))

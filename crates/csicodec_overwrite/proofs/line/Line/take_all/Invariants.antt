@@ -1,14 +1,14 @@
 use Rattle.std.proofs.Common.{◌≡◌, ◌++◌, length}
-use Rattle.csicodec_overwrite.specs.Line.{do_all, look_behind_all}
+use Rattle.csicodec_overwrite.specs.Line.{do_all, pen_behind_all}
 use Rattle.csicodec_overwrite.specs.Paint.{texts_of}
 use Rattle.csicodec_overwrite.proofs.line.Line.take_all.Given as goal
 
 -- the steps up to here are done
 abbrev pub invariant-loop-step : goal.invariant-loop-step
 invariant-loop-step l = record {
-  line : (do_all l.limit l.look l.rest l.self).line ≡ (do_all l.limit l.initial.look l.steps l.initial.self).line;
-  look : look_behind_all l.look l.rest ≡ look_behind_all l.initial.look l.steps;
-  text : l.out.items ++ texts_of l.painted (do_all l.limit l.look l.rest l.self).lines ≡ l.initial.out.items ++ texts_of l.painted (do_all l.limit l.initial.look l.steps l.initial.self).lines;
+  line : (do_all l.limit l.pen l.rest l.self).line ≡ (do_all l.limit l.initial.pen l.steps l.initial.self).line;
+  pen : pen_behind_all l.limit l.pen l.rest l.self ≡ pen_behind_all l.limit l.initial.pen l.steps l.initial.self;
+  text : l.out.items ++ texts_of l.painted (do_all l.limit l.pen l.rest l.self).lines ≡ l.initial.out.items ++ texts_of l.painted (do_all l.limit l.initial.pen l.steps l.initial.self).lines;
 }
 
 abbrev pub decreases-loop-step : goal.decreases-loop-step

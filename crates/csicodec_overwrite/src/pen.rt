@@ -1,0 +1,74 @@
+//! How characters are put, and what is saved.
+ghost use Rattle.std.specs.Prelude.{◌≡◌};
+ghost use Rattle.csicodec_overwrite.specs.Line.{fresh, last_behind, pen_behind};
+
+use crate::sides::width;
+use crate::step::Step;
+use csicodec_html::Look;
+
+/// How characters are put that come now, and the place that is saved.
+#[derive(Clone, Copy, PartialEq, Eq, Debug)]
+pub struct Pen {
+    /// How they look.
+    pub look: Look,
+    /// Whether what stands at the cursor moves to the right for them (IRM).
+    pub inserts: bool,
+    /// The character that was put last, if nothing came behind it but marks: REP repeats it.
+    pub last: Option<char>,
+    /// The columns left of the saved place; 0 where none is saved.
+    pub saved: usize,
+    /// Whether that place is in this row.
+    pub here: bool,
+}
+
+impl Pen {
+    /// With nothing set or saved.
+    pub fn new() -> Pen
+        ensures { result ≡ fresh }
+    {
+        Pen {
+            look: Look::plain(),
+            inserts: false,
+            last: None,
+            saved: 0,
+            here: false,
+        }
+    }
+
+    /// What REP repeats behind one more character: a mark isn't repeated.
+    fn last_behind(self, char: char) -> Option<char>
+        ensures { result ≡ last_behind self.last char }
+    {
+        if width(char, 0) == 0 {
+            return self.last;
+        }
+        Some(char)
+    }
+
+    /// What it is behind a step that is done where so many columns are left of the cursor.
+    pub(crate) fn behind(self, step: Step, column: usize) -> Pen
+        ensures { result ≡ pen_behind self step column }
+    {
+        let pen = Pen { last: None, ..self };
+        match step {
+            Step::Put(char) => Pen {
+                last: self.last_behind(char),
+                ..self
+            },
+            Step::Attribute(attribute) => Pen {
+                look: self.look.behind(&attribute),
+                ..pen
+            },
+            Step::Inserts(inserts) => Pen { inserts, ..pen },
+            Step::Save => Pen {
+                saved: column,
+                here: true,
+                ..pen
+            },
+            Step::Restore => Pen { here: true, ..pen },
+            Step::NewLine | Step::Leave(_) => Pen { here: false, ..pen },
+            Step::Reset => Pen::new(),
+            _ => pen,
+        }
+    }
+}

@@ -35,9 +35,13 @@ def packed(held):
     return b"\x1f\x8b\x08\0\0\0\0\0\x02\x03" + body + struct.pack("<II", zlib.crc32(held), len(held) % 2**32)
 
 
+# Two digits of base 85 (RFC 1924) that markup has, and those in their place.
+MARKUP, OTHERS = "<&", "/,"
+
+
 def inside(held):
     """Bytes as the page has them inside."""
-    return base64.b64encode(packed(held)).decode()
+    return base64.b85encode(packed(held)).decode().translate(str.maketrans(MARKUP, OTHERS))
 
 
 def plain(text):
@@ -124,7 +128,7 @@ def program_of(page_file):
         found = re.search(r'id="program">([^<]+)<', file.read())
     if not found:
         raise Stop(f"release: {page_file} has no program inside")
-    return zlib.decompress(base64.b64decode(found[1]), 31)
+    return zlib.decompress(base64.b85decode(found[1].translate(str.maketrans(OTHERS, MARKUP))), 31)
 
 
 if __name__ == "__main__":

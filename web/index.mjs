@@ -267,9 +267,13 @@ export class OscReader {
     }
 }
 
+/** What may save the cursor's place or begin insert mode (DECSC, SCOSC, SM, DECSET 1048 and 1049), and what ends both (RIS, DECSTR). */
+const KEEPS = /^\x1b(?:7|\[[0-9;:]*[sh]|\[\?[0-9;]*104[89][0-9;]*h)$/, RESETS = ['\x1bc', '\x1b[!p'];
+const latin = new TextDecoder('latin1');
+
 /** Writes the lines of a stream, each as it stands when it ends, as they come. Behind a newline of text outside of a title nothing is left of a line
  * but how further characters look (`NewLine` of csicodec_overwrite's Line.antt), so that whole lines can be written by themselves, behind the sequence
- * that sets this. */
+ * that sets this. Where a place is saved or insert mode has begun, that is left too, and what follows is held up to a reset or the end. */
 class Lines {
     /** `write` makes what is written of the bytes of whole lines, and `around` is what stands ahead of all and behind it. */
     constructor(codec, write, around = [new Uint8Array(), new Uint8Array()]) {
@@ -278,7 +282,7 @@ class Lines {
     }
 
     begin() {
-        Object.assign(this, { look: new Uint8Array(), held: [], rest: new Uint8Array(), controls: [], mode: 0, isTitle: false, isBegun: false });
+        Object.assign(this, { look: new Uint8Array(), held: [], rest: new Uint8Array(), controls: [], mode: 0, isTitle: false, isBegun: false, keeps: false });
     }
 
     /** What becomes of the next bytes, as far as they are whole lines, in pieces. */
@@ -325,8 +329,12 @@ class Lines {
                 const piece = bytes.subarray(used, used + library.told(16)), kind = SPANS[library.told(4)];
                 if (kind !== 'text') {
                     this.isTitle = kind === 'esc' && piece.length === 2 && piece[1] === 0x6b;
-                    if (kind === 'csi' || kind === 'esc' && !this.isTitle) controls.push({ at: used, piece: piece.slice() });
-                } else if (!this.isTitle && piece.includes(10)) {
+                    if (kind === 'csi' || kind === 'esc' && !this.isTitle) {
+                        controls.push({ at: used, piece: piece.slice() });
+                        const text = latin.decode(piece);
+                        this.keeps = !RESETS.includes(text) && (this.keeps || KEEPS.test(text));
+                    }
+                } else if (!this.isTitle && !this.keeps && piece.includes(10)) {
                     cut = used + piece.lastIndexOf(10) + 1;
                 }
                 this.mode = library.told(8);

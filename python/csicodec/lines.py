@@ -1,6 +1,7 @@
 """Pages of HTML, and overwritten lines, of a stream as it comes."""
 from __future__ import annotations
 
+import re
 from typing import Iterable, List, Tuple
 
 from . import library
@@ -12,19 +13,23 @@ from .text import html, overwrite
 _PIECE = 65536
 #: Sequences that can set how characters look, with the places where they stand.
 _Sequences = List[Tuple[int, bytes]]
+#: What may save the cursor's place or begin insert mode (DECSC, SCOSC, SM, DECSET 1048 and 1049), and what ends both (RIS, DECSTR).
+_KEEPS = re.compile(rb"\x1b(?:7|\[[0-9;:]*[sh]|\[\?[0-9;]*104[89][0-9;]*h)")
+_RESETS = (b"\x1bc", b"\x1b[!p")
 
 
 class _Lines:
     """Writes the lines of a stream, each as it stands when it ends. Behind a newline of text outside of a title nothing is left of a line but how
     further characters look (`NewLine` of csicodec_overwrite's Line.antt), so that whole lines can be written by themselves, behind the
-    sequence that sets this.
+    sequence that sets this. Where a place is saved or insert mode has begun, that is left too, and what follows is held up to a reset or the end.
     """
 
     #: What stands ahead of all lines, and behind them.
     _ahead = _behind = b""
 
     def _begin(self) -> None:
-        self._look, self._rest, self._mode, self._is_title, self._is_begun = b"", b"", 0, False, False
+        self._look, self._rest, self._mode, self._is_begun = b"", b"", 0, False
+        self._is_title = self._keeps = False
         self._held: List[bytes] = []
         self._sequences: List[bytes] = []
 
@@ -74,7 +79,8 @@ class _Lines:
                 self._is_title = span.kind == SpanKind.Esc and held[used:end] == b"\x1bk"
                 if span.kind in (SpanKind.Csi, SpanKind.Esc) and not self._is_title:
                     sequences.append((used, held[used:end]))
-            elif not self._is_title:
+                    self._keeps = held[used:end] not in _RESETS and (self._keeps or bool(_KEEPS.fullmatch(held, used, end)))
+            elif not self._is_title and not self._keeps:
                 cut = held.rfind(b"\n", used, end) + 1 or cut
             self._mode, used = span.mode, end
         return used, cut, sequences
@@ -90,7 +96,7 @@ class _Lines:
 
 
 class Overwriter(_Lines):
-    """`overwrite` for a stream as it comes: it holds a line.
+    """`overwrite` for a stream as it comes: it holds a line, and behind a saved place or in insert mode all that follows.
 
     >>> from csicodec import Overwriter
     >>> it = Overwriter()
@@ -113,7 +119,7 @@ class Overwriter(_Lines):
 
 
 class HtmlWriter(_Lines):
-    """`html` for a stream as it comes: it holds a line. Links don't pass.
+    """`html` for a stream as it comes: it holds a line, and behind a saved place or in insert mode all that follows. Links don't pass.
 
     >>> from csicodec import HtmlWriter
     >>> it = HtmlWriter(fragment=True)

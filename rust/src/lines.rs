@@ -42,12 +42,28 @@ impl Form {
     }
 }
 
+/// Whether a sequence may save the cursor's place or begin insert mode (DECSC, SCOSC, SM, DECSET 1048 and 1049), or ends both (RIS, DECSTR); none where it
+/// has to do with neither.
+fn keeps(sequence: &[u8]) -> Option<bool> {
+    match sequence {
+        b"\x1bc" | b"\x1b[!p" => Some(false),
+        b"\x1b7" => Some(true),
+        [_, b'[', b'?', modes @ .., b'h'] => modes
+            .split(|byte| *byte == b';')
+            .any(|mode| mode.ends_with(b"1048") || mode.ends_with(b"1049"))
+            .then_some(true),
+        [_, b'[', .., b's' | b'h'] => Some(true),
+        _ => None,
+    }
+}
+
 /// Writes a stream of untrusted text as it comes as a page of HTML, or as its lines, each as it stands when it ends. It holds a line, and, with
 /// `links` or `no_overwrite`, everything. The pushed slices and the end append what [`Markup::html`](crate::Markup::html),
 /// [`overwrite`](crate::overwrite) or [`overwrite_styled`](crate::overwrite_styled) gives for the whole text.
 ///
 /// Behind a newline of text outside of a title nothing is left of a line but how further characters look, so that whole lines can be written by
-/// themselves, behind the sequence that sets this.
+/// themselves, behind the sequence that sets this. Where a place is saved or insert mode has begun, that is left too, and what follows is held up to a
+/// reset or the end.
 ///
 /// ```
 /// use csicodec::Lines;
@@ -73,6 +89,8 @@ pub struct Lines {
     whole: usize,
     mode: u32,
     is_title: bool,
+    /// Whether a place is saved or insert mode has begun, or may be so.
+    keeps: bool,
     /// The sequences that can set how characters look, in the whole lines, and behind them.
     within: Vec<u8>,
     behind: Vec<u8>,
@@ -89,6 +107,7 @@ impl Lines {
             whole: 0,
             mode: 0,
             is_title: false,
+            keeps: false,
             within: Vec::new(),
             behind: Vec::new(),
         }
@@ -150,13 +169,14 @@ impl Lines {
             let bytes = &rest[..span.used];
             if span.kind == 0 {
                 let newline = bytes.iter().rposition(|byte| *byte == b'\n');
-                if let (Some(at), false) = (newline, self.is_title) {
+                if let (Some(at), false) = (newline, self.is_title || self.keeps) {
                     self.whole = self.spanned + at + 1;
                     self.within.append(&mut self.behind);
                 }
             } else {
                 self.is_title = span.kind == 2 && bytes == b"\x1bk";
                 if matches!(span.kind, 1 | 2) && !self.is_title {
+                    self.keeps = keeps(bytes).unwrap_or(self.keeps);
                     self.behind.extend_from_slice(bytes);
                 }
             }

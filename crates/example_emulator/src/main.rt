@@ -6,7 +6,6 @@ ghost use Rattle.std.specs.Prelude.{◌<◌};
 
 use csicodec::{CSI, ColorSpec, CsiParam, Cursor, Sgr};
 use csicodec_events::{Event, Events};
-use csicodec_terminal::terminal_actions;
 use std::alloc::{AllocError, Global};
 use std::io::Read;
 
@@ -50,9 +49,8 @@ impl Screen {
     }
 
     fn act(&mut self, alloc: Global, params: &[CsiParam], control: char) -> Result<(), AllocError> {
-        let actions = terminal_actions(alloc, params, false, control)?;
-        for action in &actions {
-            match action {
+        for action in CSI::parse(alloc, params, false, control) {
+            match &action? {
                 CSI::Cursor(cursor) => self.move_by(cursor),
                 CSI::Sgr(Sgr::Reset) => self.pen = ColorSpec::Default,
                 CSI::Sgr(Sgr::Foreground(color)) => self.pen = *color,

@@ -1,2 +1,0 @@
-mod Unique
-mod Moves

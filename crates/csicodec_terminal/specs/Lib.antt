@@ -1,3 +1,0 @@
-pub mod Regular
-pub mod Terminal
-pub mod Private

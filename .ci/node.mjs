@@ -90,6 +90,12 @@ for (const file of files) {
     const short = await through(codec.compactStream({ semicolons: true }), data, data.length + 1);
     if (!same(codec.filter(short), codec.filter(data))) wrong(`compact of ${file} as it comes does something else`);
 }
+const taken = { asTerminals: true }, many = '98;'.repeat(100);
+for (const [given, text] of [['0;1;98;31m', '0m 1m 98m 31m'], ['1;m', '1m 0m'], [';H', '1;1H'], ['?1049!l', '?1049!l'], [`${many}1m`, `${many.replaceAll(';', 'm ')}1m`]]) {
+    const wanted = text.split(' ').map(it => `\x1b[${it}`).join(''), actions = [...codec.events(`\x1b[${given}`, taken)];
+    if (Buffer.from(codec.encode(actions)).toString() !== wanted) wrong(`terminals take ${given} for ${actions.length} other actions`);
+}
+if ([...codec.events('\x1b[0;98;31m')].length !== 2) wrong('98 and what follows are one action');
 if (codec.strip('\x1b[1mé') !== 'é' || codec.normalise('\x1b[01;3m') !== '\x1b[1m\x1b[3m') wrong('strings');
 try {
     codec.normalise('\x1b[1mx');

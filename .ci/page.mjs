@@ -270,7 +270,7 @@ async function search(browser) {
 async function card(browser) {
     const first = () => browser.run(() => [...document.querySelector('#card tbody tr').children].map(it => it.textContent).join('|'));
     for (const [seq, wanted] of [
-        ['CSI ?73n', 'CSI ? 73 n|DSR|nothing to tell of data|EK-VT520-RM, DSR'],
+        ['CSI ?73n', String.raw`\e[?73n|DSR|answer: nothing to tell of data|EK-VT520-RM, DSR`],
         ['CSI ? 25 h', String.raw`\e[?25h|DECSET 25|visible cursor (DECTCEM) on|EK-VT520-RM, DECTCEM`],
         ['DECTCEM', String.raw`\e[?25h|DECSET 25|visible cursor (DECTCEM) on|EK-VT520-RM, DECTCEM`],
     ]) {

@@ -62,6 +62,13 @@ static void texts(void) {
     add_stripped("csicodec_strip", csicodec_strip(in, len, out, sizeof out));
     add_stripped("csicodec_clean", csicodec_clean(in, len, out, sizeof out));
     for (depth = 0; depth < 4; depth++) add_stripped("csicodec_clean_with", csicodec_clean_with(depth, 1, in, len, out, sizeof out));
+    for (depth = 0; depth < 3; depth++) {
+        struct csicodec_markup markup = {depth & 1, depth >> 1, depth & 1, 0};
+        static const uint32_t colors[18] = {0x010203, 0xfffefd};
+        add_stripped("csicodec_overwrite", csicodec_overwrite(depth, in, len, out, sizeof out));
+        add_stripped("csicodec_html", csicodec_html(&markup, colors, depth ? 18 : 0, in, len, out, sizeof out));
+        add_stripped("csicodec_compact_whole", csicodec_compact_whole(depth, in, len, out, sizeof out));
+    }
     add_filtered("csicodec_filter", csicodec_filter(0, 65536, in, len, out, sizeof out));
     add_filtered("csicodec_compact", csicodec_compact(0, 65536, in, len, out, sizeof out));
     add_filtered("csicodec_compact_semicolons", csicodec_compact_semicolons(0, 65536, in, len, out, sizeof out));
@@ -109,6 +116,9 @@ static void sequence(const uint8_t *bytes, size_t n, size_t count, size_t tokens
     front = csicodec_next(bytes, n, actions, 3, params, 2);
     add(front.status), add(front.at), add(front.used), add(front.actions), add(front.params);
     if (front.status == CSICODEC_OK) add_actions(least(front.actions, 3), least(front.params, 2));
+    front = csicodec_terminal_actions(bytes, n, actions, MANY, params, MANY);
+    add(front.status), add(front.at), add(front.used), add(front.actions), add(front.params);
+    if (front.status == CSICODEC_OK) add_actions(front.actions, front.params);
 }
 
 /* The events of the file, which comes in pieces of 700 bytes. */
@@ -138,6 +148,30 @@ static void spans(void) {
         if (r.status != CSICODEC_OK) break;
     }
     say("csicodec_span");
+}
+
+/* Keys, of which one that isn't over is passed again with more behind it. */
+static void keys(void) {
+    static uint32_t typed[CSICODEC_TYPED];
+    size_t at = 0, i;
+    struct csicodec_key r = {0, 0, 0, 0, 0, 0, 0, 1};
+    for (; at < len && r.used; at += r.used) {
+        size_t n = least(len - at, 5000);
+        r = csicodec_key(n < len - at, in + at, n, typed, CSICODEC_TYPED);
+        add(r.status), add(r.code), add(r.value), add(r.modifiers), add(r.event), add(r.encoding), add(r.typed), add(r.used);
+        for (i = 0; r.status == CSICODEC_OK && i < least(r.typed, CSICODEC_TYPED); i++) add(typed[i]);
+    }
+    say("csicodec_key");
+}
+
+/* What each piece of 50 bytes would say as an OSC. */
+static void commands(void) {
+    size_t at;
+    for (at = 0; at < len; at += 50) {
+        struct csicodec_osc r = csicodec_osc(in + at, least(len - at, 50));
+        add(r.kind), add(r.texts), add(r.first), add(r.second);
+    }
+    say("csicodec_osc");
 }
 
 static void add_received(struct csicodec_received r) { add(r.status), add(r.kind), add(r.mode), add(r.value), add(r.looked), add(r.used); }
@@ -173,6 +207,8 @@ int main(int count, char **words) {
         steps("csicodec_clean_step", 2);
         events();
         spans();
+        keys();
+        commands();
         inputs(CSICODEC_DIALECT_INPUT);
         inputs(CSICODEC_DIALECT_UTF8_INPUT);
     }

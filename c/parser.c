@@ -114,6 +114,108 @@ static int is_read_again(void) {
     return front.status == CSICODEC_OK && front.actions == 4 && actions[3].kind == CSICODEC_SGR_INVERSE;
 }
 
+static char said[512];
+
+/* The texts of actions without ESC [, with a blank between. */
+static void say(const struct csicodec_action *actions, size_t count, const struct csicodec_param *params, size_t params_count) {
+    static uint8_t out[256];
+    size_t len = 0;
+    for (size_t i = 0; i < count; i++) {
+        size_t size = csicodec_encode(&actions[i], 1, params, params_count, out, sizeof out).needed;
+        if (size < 2 || size > sizeof out || len + size > sizeof said) abort();
+        len += (size_t)sprintf(said + len, "%s%.*s", i ? " " : "", (int)size - 2, (const char *)out + 2);
+    }
+}
+
+static void say_event(void *user, const struct csicodec_parser *parser, const struct csicodec_event *event) {
+    (void)user;
+    if (event->kind == CSICODEC_EVENT_ACTIONS) say(parser->stream.actions, event->actions, parser->stream.params, event->params);
+}
+
+/* Lists that terminals take otherwise than the table reads them, as mutants of recordings had them: the sequence without ESC [, and both
+ * readings of it (docs/DIFFERENCES.md, "As terminals take it"). */
+static const struct { const char *text, *read, *taken; } readings[] = {
+    {"0;1;8;98;31m", "0m 1m 8m 98;31m", "0m 1m 8m 98m 31m"},
+    {"98m", "98m", "98m"},
+    {"98\n;31m", "98;31m", "98m 31m"},
+    {"38;5;300;1m", "38;5;300;1m", "38;5;300m 1m"},
+    {"38;2;;0;0;1m", "38;2;;0;0;1m", "38:2::0:0:0m 1m"},
+    {"1;m", "1m", "1m 0m"},
+    {"1;\bm", "1m", "1m 0m"},
+    {"m", "0m", "0m"},
+    {";H", ";H", "1;1H"},
+    {"5;H", "5;H", "5;1H"},
+    {"10;20;H", "10;20;H", "10;20H"},
+    {"5;6;7H", "5;6;7H", "5;6H"},
+    {";B", ";B", "B"},
+    {"1;2A", "1;2A", "A"},
+    {"1;24;r", "1;24;r", "1;24r"},
+    {"4294967297C", "4294967297C", "4294967295C"},
+    {"?1049!l", "?1049l ?!l", "?1049!l"},
+    {"?1 h", "?1h ? h", "?1 h"},
+    {"4:0h", "4h :0h", "4:0h"},
+    {"?1;;25h", "?1h ?;25h", "?1h ?0h ?25h"},
+    {"?2J", "?2J", "?2J"},
+};
+
+/* Whether the events of a sequence in pieces of any length have these actions by both readings, and the call those of the second one. */
+static int is_taken(const char *text, const char *read, const char *taken) {
+    struct csicodec_action actions[8], one;
+    struct csicodec_param params[16];
+    uint8_t held[64], bytes[64] = "\x1b[";
+    size_t len = strlen(text) + 2;
+    memcpy(bytes + 2, text, len - 2);
+    for (size_t piece = 1; piece <= len; piece++)
+        for (size_t as_terminals = 0; as_terminals < 2; as_terminals++) {
+            struct csicodec_parser parser = csicodec_parser_of(held, sizeof held, actions, 8, params, 16);
+            parser.stream.as_terminals = as_terminals;
+            said[0] = 0;
+            for (size_t at = 0; at < len; at += piece) csicodec_feed(&parser, bytes + at, len - at < piece ? len - at : piece, say_event, NULL);
+            if (!strcmp(said, as_terminals ? taken : read)) continue;
+            fprintf(stderr, "parser: %s in pieces of %zu is %s, and not %s\n", text, piece, said, as_terminals ? taken : read);
+            return 0;
+        }
+    struct csicodec_front front = csicodec_terminal_actions(bytes, len, actions, 8, params, 16);
+    say(actions, front.actions, params, front.params);
+    if (front.status != CSICODEC_OK || strcmp(said, taken)) return 0;
+    struct csicodec_front less = csicodec_terminal_actions(bytes, len, &one, 1, NULL, 0);
+    return less.actions == front.actions && less.params == front.params && !memcmp(&one, actions, sizeof one);
+}
+
+/* Where all of a random sequence is read, terminals take it so. */
+static int both_agree(unsigned rounds) {
+    static const char alphabet[] = "0123456789123;;;;;;:?>mmmmHhlrABJK";
+    struct csicodec_action read[32], taken[32];
+    struct csicodec_param read_params[32], taken_params[32];
+    uint64_t state = 88172645463325252u;
+    unsigned same = 0;
+    for (unsigned i = 0; i < rounds; i++) {
+        uint8_t bytes[24] = "\x1b[";
+        for (size_t at = 2; at < sizeof bytes; at++) {
+            state ^= state << 13, state ^= state >> 7, state ^= state << 17;
+            bytes[at] = at + 1 < sizeof bytes ? (uint8_t)alphabet[state % (sizeof alphabet - 1)] : 'm';
+        }
+        memset(read, 0, sizeof read), memset(taken, 0, sizeof taken);
+        struct csicodec_front one = csicodec_next(bytes, sizeof bytes, read, 32, read_params, 32);
+        struct csicodec_front other = csicodec_terminal_actions(bytes, sizeof bytes, taken, 32, taken_params, 32);
+        if (one.status != other.status || one.used != other.used || one.at != other.at) return 0;
+        size_t known = 0;
+        while (known < one.actions && read[known].kind != CSICODEC_UNSPECIFIED) known++;
+        if (known < one.actions || (bytes[one.used - 1] == 'm' && bytes[one.used - 2] == ';')) continue;
+        if (one.actions != other.actions || memcmp(read, taken, sizeof read)) return 0;
+        same++;
+    }
+    return same > 0;
+}
+
+static int are_taken(unsigned rounds) {
+    for (size_t i = 0; i < sizeof readings / sizeof readings[0]; i++)
+        if (!is_taken(readings[i].text, readings[i].read, readings[i].taken)) return 0;
+    return csicodec_terminal_actions((const uint8_t *)"\x1b[1", 3, NULL, 0, NULL, 0).status == CSICODEC_TRUNCATED
+        && csicodec_terminal_actions((const uint8_t *)"\x1b[1\n\x1b", 5, NULL, 0, NULL, 0).at == 3
+        && csicodec_terminal_actions(NULL, 0, NULL, 0, NULL, 0).status == CSICODEC_TRUNCATED && both_agree(rounds);
+}
+
 int main(int count, char **words) {
     unsigned rounds = count > 1 ? (unsigned)atoi(words[1]) : 2000;
     int right = is_told("a\x1b[1;31mred\x1b(B\x1b[1\x08;2H\x1b[3\x18z\xc3\xa9", 0, "T a|A2 2 1 11 1|T red|E 2842|T \x08|A1 109 1|O \x1b[3|T \x18z\xc3\xa9")
@@ -124,8 +226,8 @@ int main(int count, char **words) {
         && is_told("\x1b]0;ti", 64, "S] 0;ti")
         && is_told("ab\xe2\x82", 0, "T ab\xe2\x82") && is_told("a\x1b[1", 0, "T a|O \x1b[1")
         && is_told("\x1b[1234567890123456;7m", 0, "O \x1b[1234567890123456;7m")
-        && same_in_pieces(rounds) && are_raw() && is_read_again();
+        && same_in_pieces(rounds) && are_raw() && is_read_again() && are_taken(rounds * 20);
     if (!right) return 1;
-    printf("parser: the events of the whole in pieces of any length, whole strings, raw parameters\n");
+    printf("parser: the events of the whole in pieces of any length, whole strings, raw parameters, %d lists as terminals take them\n", (int)(sizeof readings / sizeof readings[0]));
     return 0;
 }

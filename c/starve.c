@@ -77,6 +77,19 @@ static uint32_t input(const uint8_t *text, size_t len) {
                           sizeof params / sizeof params[0]).status;
 }
 
+static uint32_t terminal_actions(const uint8_t *text, size_t len) {
+    return csicodec_terminal_actions(text, len, actions, sizeof actions / sizeof actions[0], params, sizeof params / sizeof params[0]).status;
+}
+
+/* The event of a sequence as terminals take it: after a refusal the same call is made again. */
+static uint32_t event_as_terminals(const uint8_t *text, size_t len) {
+    struct csicodec_stream stream = csicodec_stream_of(4096, actions, sizeof actions / sizeof actions[0], params, sizeof params / sizeof params[0]);
+    struct csicodec_event event;
+    stream.as_terminals = 1;
+    if (!csicodec_next_event(&stream, text, len, &event) && !csicodec_next_event(&stream, text, len, &event)) return event.status;
+    return event.used != len ? CSICODEC_BAD_STATE : refused ? CSICODEC_MEMORY : CSICODEC_OK;
+}
+
 static uint32_t judge(const uint8_t *text, size_t len) {
     (void)text, (void)len;
     return csicodec_is_canonical(&actions[front.actions - 1], params, front.params).status;
@@ -166,7 +179,8 @@ int main(void) {
     for (size_t i = 0; i < sizeof texts / sizeof texts[0]; i++) {
         const uint8_t *text = (const uint8_t *)texts[i];
         size_t len = strlen(texts[i]);
-        uint32_t (*const calls[])(const uint8_t *, size_t) = {normalise, next, event, event_with_a_control, input, encode, judge, filter, compact, encode_compact};
+        uint32_t (*const calls[])(const uint8_t *, size_t) = {normalise, next, event, event_with_a_control, input, encode, judge, filter, compact, encode_compact,
+                                                            terminal_actions, event_as_terminals};
         for (size_t call = 0; call < sizeof calls / sizeof calls[0]; call++) {
             if (starves(calls[call], text, len)) continue;
             fprintf(stderr, "starve: call %zu of ESC %s isn't as promised\n", call, texts[i] + 1);

@@ -220,6 +220,7 @@ int main(int count, char **words) {
     struct csicodec_param params[64];
     uint8_t held[4096], bytes[8192];
     struct csicodec_parser parser = csicodec_parser_of(held, sizeof held, actions, 64, params, 64);
+    parser.stream.as_terminals = 1;
     size_t got;
     FILE *file = count > 1 ? fopen(words[1], "rb") : stdin;
     if (!file) return 1;

@@ -163,6 +163,19 @@ struct csicodec_front {
 struct csicodec_front csicodec_next(const uint8_t *bytes, size_t len, struct csicodec_action *actions, size_t actions_room,
                                     struct csicodec_param *params, size_t params_room);
 
+/* As csicodec_next, with the actions that terminals take the sequence for. They are others only where csicodec_next reads nothing of the
+ * parameters, or less (docs/DIFFERENCES.md, "As terminals take it"):
+ *
+ * - An unknown attribute is a CSICODEC_UNSPECIFIED of its own, and the next one goes on.
+ * - A parameter that is left out is the default, and parameters that the function doesn't have are passed over.
+ * - A number from 2^32 on is 4294967295.
+ * - Of modes with another byte than ';' between or behind them none is set.
+ *
+ * Controls among the bytes, which are events of their own, are passed over; `used` and `at` don't count them. So the bytes may be those of
+ * an event. It takes memory. The events of csicodec_stream.h have these actions where their stream is told so. */
+struct csicodec_front csicodec_terminal_actions(const uint8_t *bytes, size_t len, struct csicodec_action *actions, size_t actions_room,
+                                                struct csicodec_param *params, size_t params_room);
+
 struct csicodec_encoded {
     /* CSICODEC_OK, CSICODEC_MEMORY or CSICODEC_NO_ACTION. */
     uint32_t status;

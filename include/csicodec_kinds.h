@@ -1,4 +1,4 @@
-/* The kinds of actions, and the numbers in them. Written by tools/kinds; csicodec.h includes it. */
+/* The kinds of actions, and the numbers in them. Written by tools/table; csicodec.h includes it. */
 #ifndef CSICODEC_KINDS_H
 #define CSICODEC_KINDS_H
 
@@ -721,7 +721,7 @@ enum csicodec_known_kind {
     CSICODEC_KNOWN_DECELR = 10009,
     /* events 0-4 (or 0); more 0-4 .. ' { : which events of the locator are reported */
     CSICODEC_KNOWN_DECSLE = 10010,
-    /* top (or 1); left (or 1); bottom (or 1); right (or 1) ' w : filter rectangle of the locator */
+    /* top (or 0); left (or 0); bottom (or 0); right (or 0) ' w : filter rectangle of the locator */
     CSICODEC_KNOWN_DECEFR = 10011,
     /* delay 0-65535 (or 0) $ q : delay of disconnecting */
     CSICODEC_KNOWN_DECSDDT = 10012,

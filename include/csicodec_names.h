@@ -1,4 +1,4 @@
-/* The names of kinds. Written by tools/kinds; csicodec.h includes it. */
+/* The names of kinds. Written by tools/table; csicodec.h includes it. */
 #ifndef CSICODEC_NAMES_H
 #define CSICODEC_NAMES_H
 

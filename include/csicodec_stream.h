@@ -6,6 +6,7 @@
  *     struct csicodec_param params[32];
  *     uint8_t held[4096], bytes[8192];
  *     struct csicodec_parser parser = csicodec_parser_of(held, sizeof held, actions, 32, params, 32);
+ *     parser.stream.as_terminals = 1;
  *     while ((got = read(0, bytes, sizeof bytes)) > 0) csicodec_feed(&parser, bytes, (size_t)got, carry_out, &screen);
  *     csicodec_finish(&parser, carry_out, &screen);
  *
@@ -43,9 +44,10 @@ struct csicodec_stream {
     uint32_t mode;
     /* Of an open string, the character behind ESC that opened it. */
     uint32_t string;
-    /* Unused: they keep the layout. */
+    /* Unused: it keeps the layout. */
     struct csicodec_spanned wrong;
-    size_t inside;
+    /* 1 for the actions that terminals take a sequence for, as csicodec_terminal_actions gives them, and 0 for those of csicodec_next. */
+    size_t as_terminals;
     /* Of a control sequence at the front, how many bytes were looked at. */
     size_t looked;
     /* The most bytes that a control sequence may have. */
@@ -136,9 +138,37 @@ static inline int csicodec_event_of(struct csicodec_stream *stream, struct csico
     return 1;
 }
 
+/* Whether terminals may take the sequence of an event for other actions: one of them is unknown, or has no room, or the last attribute is
+ * left out. A control may stand before m, and hide that. */
+static inline int csicodec_may_differ(const struct csicodec_stream *stream, const struct csicodec_event *event) {
+    uint8_t last = event->bytes[event->used - 2];
+    size_t i;
+    for (i = 0; i < event->actions; i++)
+        if (i == stream->actions_room || stream->actions[i].kind == CSICODEC_UNSPECIFIED) return 1;
+    return event->bytes[event->used - 1] == 'm' && (last == ';' || last < 0x20 || last == 0x7f);
+}
+
+/* An event of actions, with those that terminals take its sequence for. If there is no memory the stream is as it was before it. */
+static inline int csicodec_terminal_event(struct csicodec_stream *stream, uint32_t mode, size_t looked, struct csicodec_event *event) {
+    struct csicodec_front front;
+    if (!csicodec_may_differ(stream, event)) return 1;
+    front = csicodec_terminal_actions(event->bytes, event->used, stream->actions, stream->actions_room, stream->params, stream->params_room);
+    if (front.status == CSICODEC_OK) {
+        event->actions = front.actions;
+        event->params = front.params;
+        return 1;
+    }
+    memset(event, 0, sizeof *event);
+    event->status = front.status;
+    stream->mode = mode, stream->looked = looked;
+    return 0;
+}
+
 /* What csicodec_event tells. */
 static inline int csicodec_told_event(struct csicodec_stream *stream, const uint8_t *bytes, size_t len, struct csicodec_event *event) {
-    struct csicodec_told told = csicodec_event(stream->mode, stream->limit, stream->looked, bytes, len, stream->actions,
+    uint32_t mode = stream->mode;
+    size_t looked = stream->looked;
+    struct csicodec_told told = csicodec_event(mode, stream->limit, looked, bytes, len, stream->actions,
                                                stream->actions_room, stream->params, stream->params_room);
     if (told.status != CSICODEC_OK) {
         if (told.status == CSICODEC_TRUNCATED) stream->looked = told.looked;
@@ -150,7 +180,7 @@ static inline int csicodec_told_event(struct csicodec_stream *stream, const uint
     event->params = told.params;
     csicodec_event_of(stream, event, told.kind, bytes, told.used, told.mode);
     if (told.kind > CSICODEC_EVENT_ACTIONS) csicodec_event_says(stream, event);
-    return 1;
+    return told.kind != CSICODEC_EVENT_ACTIONS || !stream->as_terminals || csicodec_terminal_event(stream, mode, looked, event);
 }
 
 /* The length of the escape sequence in front, of at least two bytes, where it is all there: ESC, an intermediate byte or none, and a final
@@ -187,9 +217,11 @@ static inline int csicodec_next_event(struct csicodec_stream *stream, const uint
             struct csicodec_front front = csicodec_next(bytes, len < stream->limit ? len : stream->limit, stream->actions,
                                                         stream->actions_room, stream->params, stream->params_room);
             if (front.status == CSICODEC_OK) {
+                uint32_t mode = stream->mode;
                 event->actions = front.actions;
                 event->params = front.params;
-                return csicodec_event_of(stream, event, CSICODEC_EVENT_ACTIONS, bytes, front.used, CSICODEC_FILTER_TEXT);
+                csicodec_event_of(stream, event, CSICODEC_EVENT_ACTIONS, bytes, front.used, CSICODEC_FILTER_TEXT);
+                return !stream->as_terminals || csicodec_terminal_event(stream, mode, 0, event);
             }
         }
     }
@@ -197,7 +229,7 @@ static inline int csicodec_next_event(struct csicodec_stream *stream, const uint
 }
 
 /* A stream that is pushed: bytes go in as they come, and events come out. The room is the caller's, and no call takes memory but for a
- * sequence of more than 31 tokens. */
+ * sequence of more than 31 tokens, or one that terminals may take for other actions, where the stream is told to ask. */
 struct csicodec_parser {
     /* Its actions and params are those of the event that is told, as many as there is room for. */
     struct csicodec_stream stream;
@@ -433,7 +465,7 @@ static inline struct csicodec_raw csicodec_raw_of(const uint8_t *bytes, size_t l
 }
 
 /* The actions of the sequence of an event once more, in other room, as where there were more than the parser's. `to` has room for as many
- * bytes as the event has: they are put there without the controls among them, which were told. */
+ * bytes as the event has: they are put there without the controls among them, which were told. csicodec_terminal_actions needs no `to`. */
 static inline struct csicodec_front csicodec_again(const struct csicodec_event *event, uint8_t *to, struct csicodec_action *actions,
                                                    size_t actions_room, struct csicodec_param *params, size_t params_room) {
     size_t len = 0, at;

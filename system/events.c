@@ -1,25 +1,21 @@
-/* For languages where a call of C is dear, as Python: calls that have one argument, a struct of what they are given and what they answer.
+/* For languages where a call of C is dear, as Python: calls that have few arguments, most of them in a struct.
  * The shared library has these calls beside those of the headers, which promise nothing of them. */
 #include "csicodec.h"
 
-/* A text, room for what is left of it, and the answer of csicodec_strip or csicodec_clean_with, which needs SIZE_MAX where its status isn't
- * CSICODEC_OK. */
-struct csicodec_text {
-    const uint8_t *bytes;
-    size_t len;
-    uint8_t *out;
-    size_t room;
-    uint32_t depth, links;
-    struct csicodec_stripped answer;
+/* What is to be left of texts: with styles or without, as csicodec_clean_with has it, and room. */
+struct csicodec_desk {
+    uint32_t styles, depth, links;
+    char room[16384];
 };
 
-static void answer(struct csicodec_text *it, struct csicodec_stripped answer) {
-    if (answer.status != CSICODEC_OK) answer.needed = SIZE_MAX;
-    it->answer = answer;
-}
-void csicodec_strip_text(struct csicodec_text *it) { answer(it, csicodec_strip(it->bytes, it->len, it->out, it->room)); }
-void csicodec_clean_text(struct csicodec_text *it) {
-    answer(it, csicodec_clean_with(it->depth, it->links, it->bytes, it->len, it->out, it->room));
+/* What is left of a text, with a 0 behind it, which it doesn't have itself; null where that has no room, or memory is refused. */
+const char *csicodec_left(const uint8_t *bytes, unsigned len, struct csicodec_desk *desk) {
+    const size_t most = sizeof desk->room - 1;
+    struct csicodec_stripped answer = desk->styles ? csicodec_clean_with(desk->depth, desk->links, bytes, len, (uint8_t *)desk->room, most)
+                                                   : csicodec_strip(bytes, len, (uint8_t *)desk->room, most);
+    if (answer.status != CSICODEC_OK || answer.needed > most) return NULL;
+    desk->room[answer.needed] = 0;
+    return desk->room;
 }
 
 /* An event, in 48 bytes without gaps: enum csicodec_event_kind; a status, or of an escape sequence its code; where its bytes are; its

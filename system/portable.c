@@ -187,7 +187,7 @@ static instance *begin(void) {
 /* A call: its instance, where its answer lies there, and what it took. */
 struct call {
     instance *it;
-    u64 answer, taken[4];
+    u64 answer, taken[5];
     size_t count;
     int lacks;
 };
@@ -378,9 +378,22 @@ FILTER(compact_semicolons)
         return r; \
     }
 #define TWO uint32_t depth, uint32_t links,
+#define ONE(name) uint32_t name,
 STRIP(strip, NOTHING, call.it, call.answer)
 STRIP(clean, NOTHING, call.it, call.answer)
 STRIP(clean_with, TWO, call.it, call.answer, depth, links)
+STRIP(overwrite, ONE(styles), call.it, call.answer, styles)
+STRIP(compact_whole, ONE(semicolons), call.it, call.answer, semicolons)
+
+struct csicodec_stripped csicodec_html(const struct csicodec_markup *markup, const uint32_t *colors, size_t count, BYTES, OUT) {
+    struct csicodec_stripped r = {0};
+    struct call call = enter();
+    u64 in = bytes_in(&call, bytes, len), m = take(&call, 16), c = room_of(&call, count, 4), i;
+    if (m) store(&call, m, 4, markup->links), store(&call, m + 4, 4, markup->classes), store(&call, m + 8, 4, markup->fragment), store(&call, m + 12, 4, markup->no_overwrite);
+    for (i = 0; c && i < count; i++) store(&call, c + 4 * i, 4, colors[i]);
+    WRITE(len, (r.status = word(&call, 0), r.needed = size(&call, 8)), w2c_csicodec_html(call.it, call.answer, m, c, count, in, len, to, some));
+    return r;
+}
 
 static u64 state_in(struct call *call, const struct csicodec_cleaning *state) {
     u64 at = take(call, 16);
@@ -401,9 +414,8 @@ static struct csicodec_cleaned cleaned(const struct call *call) {
         WRITE(len, r = cleaned(&call), w2c_csicodec_##name(__VA_ARGS__, s, in, len, to, some)); \
         return r; \
     }
-#define ONE uint32_t depth,
 STEP(strip_step, NOTHING, call.it, call.answer)
-STEP(clean_step, ONE, call.it, call.answer, depth)
+STEP(clean_step, ONE(depth), call.it, call.answer, depth)
 
 struct csicodec_stripped csicodec_clean_end(const struct csicodec_cleaning *state, BYTES, OUT) {
     struct csicodec_stripped r = {0};
@@ -426,12 +438,12 @@ enum { FIRST = 256, BEHIND = 8 };
         } \
     } while (0)
 
-static struct csicodec_front front_of(BYTES, ROOM) {
+static struct csicodec_front front_of(int as_terminals, BYTES, ROOM) {
     struct csicodec_front r = {CSICODEC_MEMORY, 0, 0, 0, 0};
     struct call call = enter();
     u64 in = bytes_in(&call, bytes, len), a = room_of(&call, actions_room, 64), p = room_of(&call, params_room, 16);
     if (!call.lacks) {
-        w2c_csicodec_next(call.it, call.answer, in, len, a, actions_room, p, params_room);
+        (as_terminals ? w2c_csicodec_terminal_actions : w2c_csicodec_next)(call.it, call.answer, in, len, a, actions_room, p, params_room);
         r.status = word(&call, 0), r.at = size(&call, 8), r.used = size(&call, 16), r.actions = size(&call, 24), r.params = size(&call, 32);
         if (r.status == CSICODEC_OK) actions_out(&call, actions, a, least(actions_room, r.actions)), params_out(&call, params, p, least(params_room, r.params));
     }
@@ -440,7 +452,12 @@ static struct csicodec_front front_of(BYTES, ROOM) {
 }
 struct csicodec_front csicodec_next(BYTES, ROOM) {
     struct csicodec_front r;
-    AT_THE_FRONT(r, 0, front_of(bytes, some, actions, least(actions_room, some), params, least(params_room, some)));
+    AT_THE_FRONT(r, 0, front_of(0, bytes, some, actions, least(actions_room, some), params, least(params_room, some)));
+    return r;
+}
+struct csicodec_front csicodec_terminal_actions(BYTES, ROOM) {
+    struct csicodec_front r;
+    AT_THE_FRONT(r, 0, front_of(1, bytes, some, actions, least(actions_room, some), params, least(params_room, some)));
     return r;
 }
 
@@ -508,6 +525,31 @@ struct csicodec_received csicodec_pause(BYTES) {
     if (!call.lacks) {
         w2c_csicodec_pause(call.it, call.answer, in, len);
         r = received(&call);
+    }
+    leave(&call);
+    return r;
+}
+
+struct csicodec_key csicodec_key(uint32_t more, BYTES, uint32_t *typed, size_t room) {
+    struct csicodec_key r = {CSICODEC_MEMORY, 0, 0, 0, 0, 0, 0, 0};
+    struct call call = enter();
+    u64 in = bytes_in(&call, bytes, len), t = room_of(&call, room, 4), i;
+    if (!call.lacks) {
+        w2c_csicodec_key(call.it, call.answer, more, in, len, t, room);
+        r.status = word(&call, 0), r.code = word(&call, 4), r.value = word(&call, 8), r.modifiers = word(&call, 12);
+        r.event = word(&call, 16), r.encoding = word(&call, 20), r.typed = size(&call, 24), r.used = size(&call, 32);
+        for (i = 0; r.status == CSICODEC_OK && r.typed <= room && i < r.typed; i++) typed[i] = (u32)load(&call, t + 4 * i, 4);
+    }
+    leave(&call);
+    return r;
+}
+struct csicodec_osc csicodec_osc(BYTES) {
+    struct csicodec_osc r = {0};
+    struct call call = enter();
+    u64 in = bytes_in(&call, bytes, len);
+    if (!call.lacks) {
+        w2c_csicodec_osc(call.it, call.answer, in, len);
+        r.kind = word(&call, 0), r.texts = word(&call, 4), r.first = size(&call, 8), r.second = size(&call, 16);
     }
     leave(&call);
     return r;

@@ -17,7 +17,7 @@ TARGETS = {HERE: ("x86_64-unknown-linux-gnu", ["--cpu", "x86-64"]), "aarch64-lin
 # Which version of C's calls the shared library asks for: the oldest that the processor has.
 GLIBC = {HERE: "2.2.5", "aarch64-linux": "2.17"}
 LOADER = {HERE: "x86_64", "aarch64-linux": "aarch64"}
-MANY_EVENTS = ["csicodec_strip_text", "csicodec_clean_text", "csicodec_begin", "csicodec_tell"]
+MANY_EVENTS = ["csicodec_left", "csicodec_begin", "csicodec_tell"]
 C_CALLS = ("malloc", "realloc", "free", "memcpy", "memmove", "memset", "memcmp", "memchr", "bcmp")
 C_FLAGS = ["-O2", "-ffreestanding", "-ffunction-sections", "-fno-asynchronous-unwind-tables", "-Wall", "-Wextra", "-Werror"]
 
@@ -198,6 +198,13 @@ def link_program(kit, place, made, to, room):
     kit.tool("ld.lld", *how, "-s", "-u", "_start", "-o", to, *files, f"{TOP}/system/{place}/musl.a")
 
 
+def number_sections(kit, path):
+    """Gives the sections of an object numbers in place of the names of functions, which are long. A linker still leaves out what isn't called."""
+    kinds = r"\.(?:text|rodata|data\.rel\.ro)(?:\.unlikely)?\."
+    names = dict.fromkeys(re.findall(rf"\s({kinds}\S+)", kit.tool("llvm-readelf", "--sections", "--wide", path)))
+    kit.tool("llvm-objcopy", *(f"--rename-section={name}={re.match(kinds, name)[0]}{at}" for at, name in enumerate(names)), path)
+
+
 def link_library(kit, place, made, folder, room):
     """The archive, one object with the calls of the heap in it, whose names are its own; and the shared library, which exports the calls of
     the header and of system/events.c, and nothing else."""
@@ -210,6 +217,7 @@ def link_library(kit, place, made, folder, room):
     kit.c_object(target, "heap", f"{own}/heap.o", "-fPIC", "-fvisibility=hidden")
     kit.tool("ld.lld", "-r", "-o", f"{own}/whole.o", f"{own}/{parts[0]}", f"{own}/heap.o")
     kit.tool("llvm-objcopy", "--wildcard", "--localize-symbol=rattle_*", "--strip-unneeded", f"{own}/whole.o")
+    number_sections(kit, f"{own}/whole.o")
     kit.tool("llvm-ar", "rcsD", f"{folder}/libcsicodec.a", "whole.o", cwd=own)
     with open(f"{own}/calls.c", "w", encoding="utf-8") as file:
         file.writelines(f"void {name}(void) {{}}\n" for name in C_CALLS)

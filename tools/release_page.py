@@ -18,7 +18,7 @@ sys.dont_write_bytecode = True
 from release_build import TOP, Stop, version  # noqa: E402
 
 sys.path.insert(0, f"{TOP}/tools/table")
-from examples import examples as told  # noqa: E402
+from examples import all_examples  # noqa: E402
 
 MOST = 700_000
 
@@ -83,7 +83,7 @@ def rows_of(document, heading):
 
 def tables():
     """What the reference card has: sequences with their words and documents, forms of many, and where terminals read otherwise."""
-    examples = told() + [line.split("\t") for line in read(".ci/sequences").split("\n") if line and not line.startswith("#")]
+    examples = all_examples()
     forms = rows_of("docs/SEQUENCES.md", "# Control sequences without an action")
     differences = rows_of("docs/DIFFERENCES.md", "## Kept, where a terminal or a program reads otherwise")
     if not all(len(row) == 4 for row in [*examples, *forms]) or not all(len(row) == 3 for row in differences):

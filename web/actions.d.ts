@@ -1,4 +1,4 @@
-// The types of actions and enumerations. Written by tools/kinds.
+// The types of actions and enumerations. Written by tools/table.
 
 /** A whole number; a bigint where it is beyond Number.MAX_SAFE_INTEGER. */
 export type Integer = number | bigint;

@@ -1,4 +1,4 @@
-// The actions and enumerations, by their numbers in C. Written by tools/kinds.
+// The actions and enumerations, by their numbers in C. Written by tools/table.
 
 /** The names of each enumeration. */
 export const NAMES = {

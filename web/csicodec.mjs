@@ -102,8 +102,7 @@ class Library {
         this.answer = this.room(64);
         this.answerAt = Number(this.answer);
         this.state = this.room(16);
-        this.input = { at: 0n, size: 0 };
-        this.output = { at: 0n, size: 0 };
+        this.input = this.output = { at: 0n, place: 0, size: 0, length: 0n };
     }
 
     room(size) {
@@ -116,13 +115,14 @@ class Library {
     grown(room, size) {
         if (room.size >= size) return room;
         if (room.at) this.calls.csicodec_free(room.at);
-        return { at: this.room(size), size, length: BigInt(size) };
+        const at = this.room(size);
+        return { at, place: Number(at), size, length: BigInt(size) };
     }
 
-    /** Looks at the memory, which has another buffer behind a call that let it grow. */
+    /** Looks at the memory, which has another buffer behind a call that let it grow: the one before it has no bytes then. */
     look() {
+        if (this.all?.length) return;
         const { buffer } = this.calls.memory;
-        if (this.all?.buffer === buffer) return;
         this.all = new Uint8Array(buffer);
         this.view = new DataView(buffer);
     }
@@ -137,14 +137,14 @@ class Library {
     /** Puts bytes where calls find them. */
     take(bytes) {
         this.input = this.grown(this.input, bytes.length + 1);
-        this.memory.set(bytes, Number(this.input.at));
+        this.memory.set(bytes, this.input.place);
         this.length = BigInt(bytes.length);
     }
 
     /** Puts a text where calls find it. */
     takeText(text) {
         this.input = this.grown(this.input, text.length * 3 + 1);
-        const all = this.memory, at = Number(this.input.at);
+        const all = this.memory, at = this.input.place;
         let i = text.length > 256 ? -1 : 0;
         for (; i >= 0 && i < text.length; i++) {
             const code = text.charCodeAt(i);
@@ -177,7 +177,7 @@ class Library {
 
     /** The same as a text. */
     writtenText(room, needed, call, refused) {
-        const length = this.called(room, needed, call, refused), at = Number(this.output.at);
+        const length = this.called(room, needed, call, refused), at = this.output.place;
         return textOf(this.memory, at, at + length);
     }
 }

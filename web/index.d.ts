@@ -179,7 +179,7 @@ export class Codec {
     htmlStream(options?: Omit<HtmlOptions, 'links' | 'overwrite'>): Transform;
     overwriteStream(options?: { styles?: boolean }): Transform;
     /** The events of a whole stream. */
-    events(input: Input): Generator<Event, void, undefined>;
+    events(input: Input, options?: ParserOptions): Generator<Event, void, undefined>;
     /** The events of all that a terminal sent. An ESC at the end is a key. */
     inputs(input: Input, options?: { dialect?: Dialect; limit?: number }): Generator<InputEvent, void, undefined>;
     /** The keys of all that a terminal sent; what is no key comes as its bytes. An ESC at the end is a key. */
@@ -203,9 +203,13 @@ export class Codec {
 /** How a terminal reports the mouse: three bytes, or, as while mode 1005 is set, three characters of UTF-8. */
 export type Dialect = 'input' | 'utf8';
 
-/** Reads what a program writes for a terminal, as it comes. A control sequence of more than `limit` bytes is malformed. */
+/** A control sequence of more than `limit` bytes is malformed. With `asTerminals` actions are those that terminals take a sequence for: they are
+ * others only where some of its parameters aren't read, as where an unknown attribute stands ahead of others. */
+export interface ParserOptions { limit?: number; asTerminals?: boolean }
+
+/** Reads what a program writes for a terminal, as it comes. */
 export class Parser {
-    constructor(codec: Codec, options?: { limit?: number });
+    constructor(codec: Codec, options?: ParserOptions);
     /** The events of the next bytes, or characters, as far as they don't depend on what follows. */
     feed(input: Input): Event[];
     /** What is left at the end of the stream. The parser can then begin anew. */

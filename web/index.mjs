@@ -28,9 +28,9 @@ const STRINGS = { 0x5d: 'OSC', 0x50: 'DCS', 0x58: 'SOS', 0x5e: 'PM', 0x5f: 'APC'
 const textEvent = bytes => ({ type: 'Text', text: textOf(bytes), bytes });
 
 /** The actions of short sequences are kept by their bytes, at most so many: streams repeat few of them. They are frozen, as all are. */
-const KEPT = 4096, SHORT = 32, kept = new Map();
+const KEPT = 4096, SHORT = 32, READ = new Map(), TAKEN = new Map();
 
-function keep(key, actions) {
+function keep(kept, key, actions) {
     if (kept.size >= KEPT) kept.clear();
     kept.set(key, actions);
     return actions;
@@ -66,9 +66,9 @@ function limitOf(limit) {
 
 /** Reads a stream as it comes. What waits for more bytes is kept: fewer than `limit` of a control sequence, or 3 of a character. */
 class Reader {
-    constructor(codec, dialect, limit) {
+    constructor(codec, dialect, limit, asTerminals = false) {
         if (!(codec instanceof Codec)) throw new TypeError('a parser is made of a Codec: new Parser(await Codec.load())');
-        Object.assign(this, { codec, dialect, limit: limitOf(limit) });
+        Object.assign(this, { codec, dialect, limit: limitOf(limit), asTerminals, kept: asTerminals ? TAKEN : READ });
         this.begin();
     }
 
@@ -107,7 +107,9 @@ class Reader {
             if (status) break;
             if (kind === ACTIONS) {
                 const key = used > SHORT ? undefined : textOf(held, at, at + used);
-                for (const action of kept.get(key) ?? this.#actions(library, count, key)) events.push(action);
+                const taken = this.kept.get(key) ?? this.#actions(library, this.asTerminals ? this.#taken(library, begin + BigInt(at), used) : count, key);
+                for (const action of taken) events.push(action);
+                ({ actions, params } = library);
             } else if (kind === CONTROL) {
                 events.push(textEvent(held.subarray(at + this.looked - 1, at + this.looked)));
             } else {
@@ -125,11 +127,24 @@ class Reader {
         return library;
     }
 
+    /** How many actions terminals take a sequence for, which are written then. */
+    #taken(library, at, used) {
+        for (;;) {
+            const { actions, params } = library;
+            library.calls.csicodec_terminal_actions(library.answer, at, BigInt(used), actions.at, BigInt(actions.size / ACTION_SIZE), params.at, BigInt(params.size / PARAM_SIZE));
+            library.look();
+            const status = library.told(0), count = library.told(24), tokens = library.told(32);
+            if (status) throw new CodecError('out of memory', { status });
+            if (count * ACTION_SIZE <= actions.size && tokens * PARAM_SIZE <= params.size) return count;
+            this.#room(library, count, tokens);
+        }
+    }
+
     /** The actions that a call has written. */
     #actions(library, count, key) {
         const { view } = library, at = Number(library.actions.at), params = Number(library.params.at);
         const actions = Array.from({ length: count }, (_, i) => frozen(actionOf(view, at + i * ACTION_SIZE, params)));
-        return key === undefined ? actions : keep(key, actions);
+        return key === undefined ? actions : keep(this.kept, key, actions);
     }
 
     /** The event of some bytes that aren't a control sequence. */
@@ -161,7 +176,10 @@ class Reader {
 
 /** Reads what a program writes for a terminal, as it comes. */
 export class Parser extends Reader {
-    constructor(codec, options) { super(codec, DIALECTS.output, optionsOf(options, { limit: LIMIT }).limit); }
+    constructor(codec, options) {
+        const { limit, asTerminals } = optionsOf(options, { limit: LIMIT, asTerminals: false });
+        super(codec, DIALECTS.output, limit, asTerminals);
+    }
 }
 
 /** Reads what a terminal sends, as it comes. */
@@ -368,7 +386,7 @@ export class Codec extends TextCodec {
     }
 
     /** The events of a whole stream. */
-    events(input) { return allOf(new Parser(this), bytesOf(input)); }
+    events(input, options) { return allOf(new Parser(this, options), bytesOf(input)); }
 
     /** The events of all that a terminal sent. An ESC at the end is a key. */
     inputs(input, options) { return allOf(new InputParser(this, options), bytesOf(input)); }

@@ -1,4 +1,4 @@
-"""The enumerations, under the names of the library and with its documentation. Written by tools/kinds."""
+"""The enumerations, under the names of the library and with its documentation. Written by tools/table."""
 from __future__ import annotations
 
 from enum import IntEnum

@@ -3,8 +3,8 @@ from __future__ import annotations
 
 import ctypes
 import os
-from ctypes import POINTER, Structure, c_char_p, c_size_t, c_uint8, c_uint32, c_uint64, c_void_p
-from typing import Any, Callable, List, Tuple, Union
+from ctypes import POINTER, Structure, c_char, c_char_p, c_size_t, c_uint8, c_uint32, c_uint64, c_void_p
+from typing import Any, Callable, List, Optional, Tuple, Union
 
 from .error import CodecError
 
@@ -36,21 +36,10 @@ class Known(Structure):
     _fields_ = [("kind", c_uint32), ("count", c_uint32), ("values", c_uint32 * 12)]
 
 
-class Asked(Structure):
-    """A text, room for what is left of it, and the answer (csicodec_text of system/events.c). `needed` is as large as can be where the status
-    isn't 0.
-    """
+class Desk(Structure):
+    """What is to be left of texts, and room (csicodec_desk of system/events.c)."""
 
-    _fields_ = [
-        ("bytes", c_char_p),
-        ("len", c_size_t),
-        ("out", c_void_p),
-        ("room", c_size_t),
-        ("depth", c_uint32),
-        ("links", c_uint32),
-        ("status", c_uint32),
-        ("needed", c_size_t),
-    ]
+    _fields_ = [("styles", c_uint32), ("depth", c_uint32), ("links", c_uint32), ("room", c_char * _KEPT)]
 
 
 class Stream(Structure):
@@ -158,6 +147,8 @@ known = _call("known", Known, c_char_p, *_LIST)
 filter_step = _call("filter", Filtered, c_uint32, c_size_t, *_BYTES, *_ROOM)
 compact_step = _call("compact", Filtered, c_uint32, c_size_t, *_BYTES, *_ROOM)
 compact_semicolons_step = _call("compact_semicolons", Filtered, c_uint32, c_size_t, *_BYTES, *_ROOM)
+strip = _call("strip", Stripped, *_BYTES, *_ROOM)
+clean_with = _call("clean_with", Stripped, c_uint32, c_uint32, *_BYTES, *_ROOM)
 strip_step = _call("strip_step", Cleaned, _STATE, *_BYTES, *_ROOM)
 clean_step = _call("clean_step", Cleaned, c_uint32, _STATE, *_BYTES, *_ROOM)
 clean_end = _call("clean_end", Stripped, _STATE, *_BYTES, *_ROOM)
@@ -171,9 +162,9 @@ esc = _call("esc", c_uint32, c_uint8, c_uint8)
 receive = _call("input", Received, c_uint32, c_uint32, c_size_t, c_size_t, *_ROOM, *_ROOM, *_ROOM)
 pause = _call("pause", Received, *_BYTES)
 begin = _call("begin", None, POINTER(Stream), c_size_t)
-# These take one pointer, of a kind that ctypes passes at once.
-strip_text, clean_text, tell = (getattr(_library, f"csicodec_{name}") for name in ("strip_text", "clean_text", "tell"))
-strip_text.restype = clean_text.restype = tell.restype = None
+# What these take ctypes passes at once.
+left, tell = _library.csicodec_left, _library.csicodec_tell
+left.restype, tell.restype = c_char_p, None
 
 
 def bytes_of(data: Data, errors: str = "surrogateescape") -> bytes:
@@ -197,6 +188,13 @@ def limit_of(limit: int) -> int:
     return limit
 
 
+def is_on(name: str, value: bool) -> bool:
+    """An option that is on or off."""
+    if not isinstance(value, bool):
+        raise TypeError(f"{name} must be bool, not {type(value).__name__}")
+    return value
+
+
 def address_of(held: bytes) -> int:
     """Where C finds bytes, as long as the caller keeps them."""
     return ctypes.cast(c_char_p(held), c_void_p).value or 0
@@ -216,68 +214,39 @@ class Room:
         return self.held[:length]  # type: ignore[return-value]
 
 
-class Desk:
-    """Room for a call over a text, with what it is passed: one pointer, for which no type is looked up."""
-
-    __slots__ = ("size", "room", "asked", "pointer")
-
-    def __init__(self, size: int, depth: int, links: bool) -> None:
-        self.size, self.room = size, ctypes.create_string_buffer(size)
-        self.asked = Asked(out=ctypes.addressof(self.room), room=size, depth=depth, links=links)
-        self.pointer = ctypes.byref(self.asked)
-
-
 class TextCall:
-    """A call over texts, strip_text or clean_text, with the desks that no thread uses just now: taking one from the list and putting it
-    back are each one step.
+    """What is left of texts, by a call that takes few arguments, with the desks that no thread uses just now: taking one from the list and putting
+    it back are each one step.
     """
 
-    def __init__(self, call: Callable[..., Any], depth: int = 0, links: bool = False) -> None:
-        self._call, self._options = call, (depth, links)
-        self._desks: List[Desk] = [Desk(_KEPT, depth, links)]
+    def __init__(self, *styled: int) -> None:
+        """Of plain text, or of text with the styles of a depth and with links or without."""
+        self._desks, self._styled, self._left = [ctypes.byref(Desk(bool(styled), *styled))], styled, left
 
     def text(self, text: str) -> str:
-        """What the call makes of a text. Most texts are short, where a call of Python costs as much as one of C, so that this doesn't use `written`."""
+        """What is left of a text. Most texts are short, where a call of Python costs as much as one of C, so that this doesn't use `written`."""
         held = text.encode("utf-8", "surrogatepass")
         length = len(held)
         if length > _KEPT or not self._desks:
-            return self.written(held).decode()
+            return self.whole(held).decode()
         desk = self._desks.pop()
-        asked = desk.asked
-        asked.bytes, asked.len = held, length
-        self._call(desk.pointer)
-        needed = asked.needed
-        if needed > _KEPT:
-            return self.written(held).decode()
-        out: str = desk.room[:needed].decode()  # type: ignore[attr-defined]
+        out: Optional[bytes] = self._left(held, length, desk)
         self._desks.append(desk)
-        return out
+        return self.whole(held).decode() if out is None else out.decode()
 
     def written(self, held: bytes) -> bytes:
-        """What the call writes of some bytes."""
-        length = len(held)
-        desk = self._desks.pop() if length <= _KEPT and self._desks else Desk(max(length, _KEPT), *self._options)
-        asked = desk.asked
-        asked.bytes, asked.len = held, length
-        self._call(desk.pointer)
-        needed = asked.needed
-        if needed > desk.size:
-            if asked.status:
-                raise refusal(asked)
-            return self._larger(held, needed)
-        out = desk.room[:needed]
-        if desk.size == _KEPT:
-            self._desks.append(desk)
-        return out  # type: ignore[return-value]
+        """What is left of some bytes."""
+        if len(held) > _KEPT or not self._desks:
+            return self.whole(held)
+        desk = self._desks.pop()
+        out: Optional[bytes] = self._left(held, len(held), desk)
+        self._desks.append(desk)
+        return self.whole(held) if out is None else out
 
-    def _larger(self, held: bytes, needed: int) -> bytes:
-        """The same with so much room."""
-        desk = Desk(needed, *self._options)
-        desk.asked.bytes, desk.asked.len = held, len(held)
-        self._call(desk.pointer)
-        if desk.asked.status:
-            raise refusal(desk.asked)
-        return desk.room.raw
+    def whole(self, held: bytes) -> bytes:
+        """The same, however long it is."""
+        call = clean_with if self._styled else strip
+        return written(call, len(held) + 64, *self._styled, held, len(held))[0]
 
 
 #: Room that no call uses just now.

@@ -21,7 +21,9 @@ _CHUNK, _EVENTS = 65536, 1024
 #: The events of short texts and sequences are kept by their bytes, at most so many: streams repeat few of them.
 _KEPT, _SHORT = 8192, 128
 _Found = List[Tuple[Event, ...]]
-_kept: Dict[bytes, Tuple[Event, ...]] = {}
+#: The second ones are those of parsers that read as terminals do, which the field as_terminals of a stream says: the word with this number.
+_kept: Tuple[Dict[bytes, Tuple[Event, ...]], Dict[bytes, Tuple[Event, ...]]] = ({}, {})
+_AS_TERMINALS = 4
 _codes: Dict[int, Esc] = {int(code): Esc(code) for code in EscCode}
 
 
@@ -57,15 +59,16 @@ class _Room:
 
     def _told(self, held: bytes, count: int) -> _Found:
         """The events that were told of these bytes: those that are kept, and those that are made anew."""
+        kept = _kept[self.telling.stream.words[_AS_TERMINALS]]
         keys = _KEY.iter_unpack(memoryview(self.told.held)[: count * _TOLD.size])
-        found: List[Any] = list(map(_kept.get, [held[begin:end] for begin, end in keys]))
+        found: List[Any] = list(map(kept.get, [held[begin:end] for begin, end in keys]))
         number = -1
         for _ in range(found.count(None)):
             number = found.index(None, number + 1)
-            found[number] = self._made(number, held)
+            found[number] = self._made(number, held, kept)
         return found
 
-    def _made(self, number: int, held: bytes) -> Tuple[Event, ...]:
+    def _made(self, number: int, held: bytes, kept: Dict[bytes, Tuple[Event, ...]]) -> Tuple[Event, ...]:
         """The event with this number, or the actions, which are kept if their bytes are few."""
         kind, code, at, length, first, count, begins, ends, _, _ = _TOLD.unpack_from(self.told.held, number * _TOLD.size)
         piece = held[at : at + length]
@@ -81,9 +84,9 @@ class _Room:
         else:
             return (Malformed(piece),)
         if 0 < length <= _SHORT:
-            if len(_kept) >= _KEPT:
-                _kept.clear()
-            _kept[piece] = made
+            if len(kept) >= _KEPT:
+                kept.clear()
+            kept[piece] = made
         return made
 
 
@@ -114,15 +117,22 @@ class Parser:
 
     What waits for more bytes is kept: fewer than `limit` bytes of a control sequence, or 3 of a character. A longer control sequence is
     `Malformed`. `finish` gives what is left at the end; behind it, and behind a `with`, the parser can begin anew.
+
+    With `as_terminals` actions are those that terminals take a sequence for. They are others only where some of its parameters aren't read:
+    an unknown attribute is an action of its own, and the next one goes on; one that is left out is the default.
+
+    >>> Parser(as_terminals=True).feed(b"\\x1b[;B")
+    [Cursor.Down(count=1)]
     """
 
-    def __init__(self, limit: int = library.LIMIT) -> None:
-        self._limit = library.limit_of(limit)
+    def __init__(self, limit: int = library.LIMIT, as_terminals: bool = False) -> None:
+        self._limit, self._as_terminals = library.limit_of(limit), library.is_on("as_terminals", as_terminals)
         self._begin()
 
     def _begin(self) -> None:
         self._stream, self._rest = library.Stream(), b""
         library.begin(byref(self._stream), self._limit)
+        self._stream.words[_AS_TERMINALS] = self._as_terminals
 
     def feed(self, data: Data) -> List[Event]:
         """The events of the next bytes, or characters, as far as they don't depend on what follows."""
@@ -150,8 +160,8 @@ class Parser:
         self._begin()
 
 
-def events(data: Data) -> Iterator[Event]:
-    """The events of a whole stream.
+def events(data: Data, as_terminals: bool = False) -> Iterator[Event]:
+    """The events of a whole stream; `as_terminals` is that of a `Parser`.
 
     >>> from csicodec import Sgr, Text, events
     >>> for event in events("\\x1b[1mbold"):
@@ -161,7 +171,7 @@ def events(data: Data) -> Iterator[Event]:
 
     With `match` (Python 3.10): `case Cursor.Position(line, col): ..`
     """
-    return chain.from_iterable(chain.from_iterable(_pieces(Parser(), bytes_of(data))))
+    return chain.from_iterable(chain.from_iterable(_pieces(Parser(as_terminals=as_terminals), bytes_of(data))))
 
 
 def _pieces(parser: Parser, held: bytes) -> Iterator[_Found]:

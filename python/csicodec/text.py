@@ -7,13 +7,13 @@ from ctypes import byref, c_uint32
 from typing import Any, AnyStr, Dict, Iterable, Optional, Tuple
 
 from . import library
-from .library import Data, bytes_of, written
+from .library import Data, bytes_of, is_on, written
 
 _DEPTHS: Dict[Optional[int], int] = {None: 0, 256: 1, 16: 2}
-# A text of which each character is printable, but for a newline at the end, is left as it is: this is asked in strip and clean themselves,
+# A text of which each character is printable, but for newlines at the end, is left as it is: this is asked in strip and clean themselves,
 # since one more call of Python is a tenth of what a short text costs.
-_STRIP = library.TextCall(library.strip_text)
-_CLEAN = {(depth, links): library.TextCall(library.clean_text, depth, links) for depth in _DEPTHS.values() for links in (False, True)}
+_STRIP = library.TextCall()
+_CLEAN = {(depth, links): library.TextCall(depth, links) for depth in _DEPTHS.values() for links in (False, True)}
 #: What strip and clean leave as it is.
 _PLAIN = b"\t\n" + bytes(range(0x20, 0x7F))
 
@@ -40,13 +40,6 @@ def _depth(colors: Optional[int]) -> int:
     return _DEPTHS[colors]
 
 
-def _is_on(name: str, value: bool) -> bool:
-    """An option that is on or off."""
-    if not isinstance(value, bool):
-        raise TypeError(f"{name} must be bool, not {type(value).__name__}")
-    return value
-
-
 def strip(text: AnyStr) -> AnyStr:
     """The visible text: no control but newline and tab. Of a str a str, of bytes bytes, in which bytes that aren't UTF-8 become U+FFFD.
 
@@ -54,7 +47,7 @@ def strip(text: AnyStr) -> AnyStr:
     'bold and plain'
     """
     if isinstance(text, str):
-        return text if (text[:-1] if text.endswith("\n") else text).isprintable() else _STRIP.text(text)
+        return text if text.rstrip("\n").isprintable() else _STRIP.text(text)
     held = bytes_of(text)
     return held if _is_plain_ascii(held) else _STRIP.written(held)
 
@@ -68,9 +61,9 @@ def clean(text: AnyStr, *, colors: Optional[int] = None, links: bool = False) ->
     >>> clean("\\x1b[1;8mbold\\x1b[5;7H")
     '\\x1b[1mbold\\x1b[0m'
     """
-    call = _CLEAN[_depth(colors), _is_on("links", links)]
+    call = _CLEAN[_depth(colors), is_on("links", links)]
     if isinstance(text, str):
-        return text if (text[:-1] if text.endswith("\n") else text).isprintable() else call.text(text)
+        return text if text.rstrip("\n").isprintable() else call.text(text)
     held = bytes_of(text)
     return held if _is_plain_ascii(held) else call.written(held)
 
@@ -97,7 +90,7 @@ def html(text: AnyStr, *, links: bool = False, classes: bool = False, fragment: 
     numbers = [_number(color) for color in palette]
     if len(numbers) not in (0, 16, 18):
         raise ValueError(f"a palette has 16 or 18 colours, not {len(numbers)}")
-    markup, held = library.Markup(_is_on("links", links), _is_on("classes", classes), _is_on("fragment", fragment), not _is_on("overwrite", overwrite)), _bytes(text)
+    markup, held = library.Markup(is_on("links", links), is_on("classes", classes), is_on("fragment", fragment), not is_on("overwrite", overwrite)), _bytes(text)
     given = (byref(markup), (c_uint32 * len(numbers))(*numbers), len(numbers), held, len(held))
     return _like(text, written(library.html, 4 * len(held) + 1024, *given)[0])  # type: ignore[no-any-return]
 
@@ -110,7 +103,7 @@ def overwrite(text: AnyStr, *, styles: bool = False) -> AnyStr:
     'done\\n'
     """
     held = _bytes(text)
-    return _like(text, written(library.overwrite, len(held) + 64, _is_on("styles", styles), held, len(held))[0])  # type: ignore[no-any-return]
+    return _like(text, written(library.overwrite, len(held) + 64, is_on("styles", styles), held, len(held))[0])  # type: ignore[no-any-return]
 
 
 def normalise(sequences: AnyStr) -> AnyStr:
@@ -184,7 +177,7 @@ class Filter(_Steps):
     def compact(cls, *, semicolons: bool = False) -> Filter:
         """A filter that writes the shortest spelling, with `semicolons` also in colours where colons are as short."""
         it = cls()
-        it._spelling = "semicolons" if _is_on("semicolons", semicolons) else "compact"
+        it._spelling = "semicolons" if is_on("semicolons", semicolons) else "compact"
         return it
 
     def _begin(self) -> None:
@@ -225,7 +218,7 @@ def compact(stream: AnyStr, *, semicolons: bool = False) -> AnyStr:
     >>> compact("\\x1b[2m\\x1b[3mfaint")
     '\\x1b[2;3mfaint'
     """
-    held, is_so = _bytes(stream), _is_on("semicolons", semicolons)
+    held, is_so = _bytes(stream), is_on("semicolons", semicolons)
     out = written(library.compact_whole, len(held), is_so, held, len(held))[0] if b"\x1b" in held else held
     return _like(stream, out)  # type: ignore[no-any-return]
 
@@ -241,7 +234,7 @@ class Cleaner(_Steps):
     """
 
     def __init__(self, *, styles: bool = False, colors: Optional[int] = None) -> None:
-        self._depth = _depth(colors) if _is_on("styles", styles) else None
+        self._depth = _depth(colors) if is_on("styles", styles) else None
         self._begin()
 
     def _begin(self) -> None:

@@ -73,9 +73,11 @@ def main(paths):
     for name, ns in least(calls, 40, 1).items():
         print(f"{name:28} {ns / len(stream):8.1f}")
     print("a short text, a line of a log, µs")
-    for name, make in [("strip", csicodec.strip), ("clean", csicodec.clean), ("re", lambda it: OFTEN.sub("", it)), ("strip-ansi's expression", lambda it: STRIP_ANSI.sub("", it))]:
-        times = least([("short", lambda: make(SHORT)), ("line", lambda: make(LINE))], 4, 200)
-        print(f"{name:28} {times['short'] / 1000:8.2f} {times['line'] / 1000:8.2f}")
+    texts = [(("strip", it), lambda it=it: csicodec.strip(it)) for it in (SHORT, LINE)] + [(("clean", it), lambda it=it: csicodec.clean(it)) for it in (SHORT, LINE)]
+    texts += [(("re", it), lambda it=it: OFTEN.sub("", it)) for it in (SHORT, LINE)] + [(("strip-ansi's expression", it), lambda it=it: STRIP_ANSI.sub("", it)) for it in (SHORT, LINE)]
+    times = least(texts, 16, 200)
+    for name in dict.fromkeys(name for name, _ in times):
+        print(f"{name:28} {times[name, SHORT] / 1000:8.2f} {times[name, LINE] / 1000:8.2f}")
     times = least([("events", lambda: list(csicodec.events(SHORT))), ("bytes", lambda: bytes(csicodec.Cursor.Up(3)))], 4, 50)
     print(f"events of the short text {times['events'] / 1000:.2f}, bytes of an action {times['bytes'] / 1000:.2f}")
 

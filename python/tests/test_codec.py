@@ -182,8 +182,8 @@ class Codec(unittest.TestCase):
     def test_plain_text_is_left_alone(self):
         for text in ["", "a", "a\n", "é€\n", "\xa0", "a\tb", "\n\n", "\x9b1m", "\x7f", "\u200b", "\ud800", "a\r\n"]:
             held = text.encode("utf-8", "surrogatepass")
-            self.assertEqual(csicodec.strip(text).encode(), library.TextCall(library.strip_text).written(held), text)
-            self.assertEqual(csicodec.clean(text).encode(), library.TextCall(library.clean_text).written(held), text)
+            self.assertEqual(csicodec.strip(text).encode(), library.TextCall().written(held), text)
+            self.assertEqual(csicodec.clean(text).encode(), library.TextCall(0, 0).written(held), text)
 
     def test_each_name_is_where_it_is_looked_for(self):
         for name in csicodec.__all__:
@@ -199,6 +199,16 @@ class Codec(unittest.TestCase):
             for cut in range(len(stream)):
                 parser = Parser()
                 self.assertEqual(joined(parser.feed(stream[:cut]) + parser.feed(stream[cut:]) + parser.finish()), whole, (stream, cut))
+
+    def test_as_terminals(self):
+        for stream, taken in [("0;1;98;31m", "0m 1m 98m 31m"), ("1;m", "1m 0m"), (";H", "1;1H"), ("10;20;H", "10;20H"), ("?1049!l", "?1049!l"), ("1;31m", "1m 31m")]:
+            wanted = "".join(f"\x1b[{text}" for text in taken.split())
+            self.assertEqual(csicodec.encode(csicodec.events(f"\x1b[{stream}", as_terminals=True)).decode(), wanted)
+            parser = Parser(as_terminals=True)
+            self.assertEqual(csicodec.encode([action for character in f"\x1b[{stream}" for action in parser.feed(character)]).decode(), wanted)
+        self.assertEqual(len(list(csicodec.events("\x1b[0;98;31m"))), 2)
+        with self.assertRaisesRegex(TypeError, "as_terminals must be bool, not int"):
+            Parser(as_terminals=1)
 
     def test_many_actions_and_tokens(self):
         long = b"\x1b[" + b";".join(b"%d" % (i % 8 + 30) for i in range(5000)) + b"m"

@@ -224,7 +224,8 @@ fn main() -> Result<(), Box<dyn error::Error>> {
         bottom: LINES - 1,
         ..Terminal::default()
     };
-    Parser::new().read_to_end(file, &mut |event| match event {
+    let parser = Parser::new().as_terminals();
+    parser.read_to_end(file, &mut |event| match event {
         Event::Text(text) => characters(text).for_each(|character| terminal.text(character)),
         Event::Csi(action) => terminal.act(action),
         Event::Esc(Esc::Code(code)) => terminal.escape(code),

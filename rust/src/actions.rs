@@ -1,4 +1,4 @@
-//! The actions, under the names of the library and with its documentation. Written by tools/kinds.
+//! The actions, under the names of the library and with its documentation. Written by tools/table.
 
 use crate::{
     CursorStyle, CursorTabulationControl, DecPrivateModeCode, DeviceAttributeCodes,

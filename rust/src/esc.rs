@@ -1,4 +1,4 @@
-//! Escape sequences, under the names of the library and with its documentation. Written by tools/kinds.
+//! Escape sequences, under the names of the library and with its documentation. Written by tools/table.
 
 /// An escape sequence without its ESC, as ECMA-48 and ECMA-35 know them.
 ///

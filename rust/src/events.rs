@@ -16,6 +16,8 @@ pub(crate) struct Reader {
     pub(crate) looked: usize,
     /// Whether nothing follows the bytes.
     pub(crate) ends: bool,
+    /// Whether actions are those that terminals take a sequence for.
+    pub(crate) as_terminals: bool,
     /// Of the string that is open.
     pub(crate) string: StringKind,
     /// The actions of a sequence that aren't given yet, from `given` to `count`. Its bytes are used with the first one.
@@ -31,6 +33,7 @@ impl Reader {
             mode: TEXT,
             looked: 0,
             ends,
+            as_terminals: false,
             string: StringKind::Osc,
             given: 0,
             count: 0,
@@ -81,7 +84,7 @@ impl Reader {
     #[inline]
     pub(crate) fn sequence<'a>(&mut self, rest: &mut &'a [u8]) -> Option<Event<'a>> {
         let front = self.room.next(&rest[..rest.len().min(LIMIT)]);
-        if front.actions != 1 || front.params != 0 {
+        if front.actions != 1 || front.params != 0 || self.as_terminals {
             return self.several(front, rest);
         }
         *rest = &rest[front.used..];
@@ -118,6 +121,23 @@ pub fn events(bytes: &[u8]) -> Events<'_> {
     Events {
         reader: Reader::new(true),
         rest: bytes,
+    }
+}
+
+impl Events<'_> {
+    /// The events with the actions that terminals take a sequence for. They are others only where some of its parameters aren't read: an
+    /// unknown attribute is an `Unspecified` of its own, and the next one goes on; a parameter that is left out is the default, and one that
+    /// the function doesn't have is passed over; a number from 2^32 on is 4294967295.
+    ///
+    /// ```
+    /// use csicodec::{CSI, Cursor, Event, events};
+    ///
+    /// let all: Vec<_> = events(b"\x1b[;B").as_terminals().collect();
+    /// assert_eq!(all, [Event::Csi(CSI::from(Cursor::Down(1)))]);
+    /// ```
+    pub fn as_terminals(mut self) -> Self {
+        self.reader.as_terminals = true;
+        self
     }
 }
 

@@ -1,4 +1,4 @@
-//! Keys. Written by tools/kinds.
+//! Keys. Written by tools/table.
 
 /// Which key it is. The same key of the keypad is another one.
 #[derive(Clone, Copy, Debug, PartialEq, Eq, Hash)]

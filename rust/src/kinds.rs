@@ -1,4 +1,4 @@
-//! The kinds of sequences without an action. Written by tools/kinds.
+//! The kinds of sequences without an action. Written by tools/table.
 
 use crate::known::KnownKind;
 
@@ -23,7 +23,7 @@ impl KnownKind {
     pub const DECELR: KnownKind = KnownKind(10009);
     /// `` events 0-4 (or 0); more 0-4 .. ' { ``: which events of the locator are reported (xterm ctlseqs, DECSLE).
     pub const DECSLE: KnownKind = KnownKind(10010);
-    /// `` top (or 1); left (or 1); bottom (or 1); right (or 1) ' w ``: filter rectangle of the locator (xterm ctlseqs, DECEFR).
+    /// `` top (or 0); left (or 0); bottom (or 0); right (or 0) ' w ``: filter rectangle of the locator (xterm ctlseqs, DECEFR).
     pub const DECEFR: KnownKind = KnownKind(10011);
     /// `` delay 0-65535 (or 0) $ q ``: delay of disconnecting (EK-VT520-RM, DECSDDT).
     pub const DECSDDT: KnownKind = KnownKind(10012);

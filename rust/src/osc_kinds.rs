@@ -1,4 +1,4 @@
-//! The commands of OSC. Written by tools/kinds.
+//! The commands of OSC. Written by tools/table.
 
 /// Which command an OSC is. The numbers are those of `enum csicodec_osc_kind`.
 #[derive(Clone, Copy, Debug, PartialEq, Eq, Hash)]

@@ -96,7 +96,18 @@ impl Cursor {
             Cursor::Position { line, col } | Cursor::CharacterAndLinePosition { line, col } => {
                 (line.as_index(lines), col.as_index(columns))
             }
-            _ => return None,
+            Cursor::ForwardTabulation(_)
+            | Cursor::BackwardTabulation(_)
+            | Cursor::LineTabulation(_)
+            | Cursor::TabulationControl(_)
+            | Cursor::TabulationClear(_)
+            | Cursor::SetTopAndBottomMargins { .. }
+            | Cursor::SetLeftAndRightMargins { .. }
+            | Cursor::ActivePositionReport { .. }
+            | Cursor::SaveCursor
+            | Cursor::RestoreCursor
+            | Cursor::RequestActivePositionReport
+            | Cursor::CursorStyle(_) => return None,
         };
         Some((line.min(lines.saturating_sub(1)), column))
     }
@@ -140,7 +151,11 @@ impl Edit {
                 Some(part) => part.columns(here, line.len()),
                 None => return,
             },
-            _ => return,
+            Edit::InsertLine(_)
+            | Edit::DeleteLine(_)
+            | Edit::ScrollUp(_)
+            | Edit::ScrollDown(_)
+            | Edit::Repeat(_) => return,
         };
         line[erased].fill_with(blank);
     }
@@ -181,7 +196,11 @@ impl Edit {
                 let lines = part.lines(cursor, page.len());
                 page[lines].fill_with(blank);
             }
-            _ => {}
+            Edit::InsertCharacter(_)
+            | Edit::DeleteCharacter(_)
+            | Edit::EraseCharacter(_)
+            | Edit::EraseInLine(_)
+            | Edit::Repeat(_) => {}
         }
     }
 }

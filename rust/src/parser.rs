@@ -38,6 +38,12 @@ impl Parser {
         }
     }
 
+    /// The same with the actions that terminals take a sequence for, as [`Events::as_terminals`](crate::Events::as_terminals) has them.
+    pub fn as_terminals(mut self) -> Self {
+        self.reader.as_terminals = true;
+        self
+    }
+
     /// Takes the next bytes, and passes each event that is sure now. The other bytes are held: fewer than 65,536.
     pub fn advance<F: FnMut(Event<'_>)>(&mut self, bytes: &[u8], tell: &mut F) {
         if self.held.is_empty() {

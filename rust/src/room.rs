@@ -75,6 +75,24 @@ impl Room {
         }
     }
 
+    /// How many actions terminals take the sequence for, of which so many stand here. If those are others, they stand here now.
+    pub(crate) fn as_terminals(&mut self, count: usize, bytes: &[u8]) -> usize {
+        let is_cut = matches!(bytes, [.., b';' | ..=0x1f | 0x7f, b'm']);
+        if !is_cut && self.actions[..count].iter().all(|it| it.kind != 0) {
+            return count;
+        }
+        loop {
+            let front = raw::terminal_actions(bytes, &mut self.actions, &mut self.params);
+            if front.status != 0 {
+                return count;
+            }
+            if self.holds(front.actions, front.params) {
+                return front.actions;
+            }
+            self.grow(front.actions, front.params);
+        }
+    }
+
     /// Whether there is room for so many.
     #[inline(always)]
     fn holds(&self, actions: usize, params: usize) -> bool {

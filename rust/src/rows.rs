@@ -1,4 +1,4 @@
-//! The struct of each action, and the action of each struct. Written by tools/kinds.
+//! The struct of each action, and the action of each struct. Written by tools/table.
 
 use crate::numbers::{
     color_row, count, extended_row, extensions, first, flags, font, font_number, graphics,

@@ -187,7 +187,8 @@ mod types {
         Up(u32) Down(u32) Right(u32) Left(u32) NextLine(u32) PrecedingLine(u32) CharacterAbsolute(OneBased)
         CharacterPositionAbsolute(OneBased) ForwardTabulation(u32) BackwardTabulation(u32) LineTabulation(u32)
         CharacterPositionForward(u32) CharacterPositionBackward(u32) LinePositionAbsolute(u32) LinePositionForward(u32)
-        LinePositionBackward(u32) TabulationControl(CursorTabulationControl) TabulationClear(TabulationClear) CursorStyle(CursorStyle);
+        LinePositionBackward(u32) TabulationControl(CursorTabulationControl) TabulationClear(TabulationClear)
+        CursorStyle(CursorStyle);
         Position { line: OneBased, col: OneBased }
         ActivePositionReport { line: OneBased, col: OneBased }
         CharacterAndLinePosition { line: OneBased, col: OneBased }
@@ -199,18 +200,16 @@ mod types {
         /// What a sequence asks of the window: [`crate::Window`] tells of each.
         Window:
         DeIconify Iconify RaiseWindow LowerWindow RefreshWindow RestoreMaximizedWindow MaximizeWindow MaximizeWindowVertically
-        MaximizeWindowHorizontally UndoFullScreenMode ChangeToFullScreenMode ToggleFullScreen ReportWindowState ReportWindowPosition
-        ReportTextAreaPosition ReportTextAreaSizePixels ReportWindowSizePixels ReportScreenSizePixels ReportCellSizePixels
-        ReportTextAreaSizeCells ReportScreenSizeCells ReportIconLabel ReportWindowTitle PushIconAndWindowTitle PushIconTitle
-        PushWindowTitle PopIconAndWindowTitle PopIconTitle PopWindowTitle;
+        MaximizeWindowHorizontally UndoFullScreenMode ChangeToFullScreenMode ToggleFullScreen ReportWindowState
+        ReportWindowPosition ReportTextAreaPosition ReportTextAreaSizePixels ReportWindowSizePixels ReportScreenSizePixels
+        ReportCellSizePixels ReportTextAreaSizeCells ReportScreenSizeCells ReportIconLabel ReportWindowTitle
+        PushIconAndWindowTitle PushIconTitle PushWindowTitle PopIconAndWindowTitle PopIconTitle PopWindowTitle;
         ;
         MoveWindow { x: i64, y: i64 }
         ResizeWindowPixels { width: Option<i64>, height: Option<i64> }
         ReportCellSizePixelsResponse { width: Option<i64>, height: Option<i64> }
         ResizeWindowCells { width: Option<i64>, height: Option<i64> }
-        ChecksumRectangularArea {
-            request_id: i64, page_number: i64, top: OneBased, left: OneBased, bottom: OneBased, right: OneBased
-        }
+        ChecksumRectangularArea { request_id: i64, page_number: i64, top: OneBased, left: OneBased, bottom: OneBased, right: OneBased }
     }
 
     /// A parameter list, or the remainder of one, that no rule reads: nothing of it is lost.

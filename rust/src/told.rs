@@ -14,9 +14,9 @@ impl Reader {
         if front.actions == 0 {
             return self.told(rest);
         }
-        *rest = &rest[front.used..];
-        (self.given, self.count) = (0, front.actions);
-        self.action()
+        let (bytes, behind) = rest.split_at(front.used);
+        *rest = behind;
+        self.first_of(front.actions, bytes)
     }
 
     /// The next event where something is open.
@@ -52,8 +52,7 @@ impl Reader {
         let (bytes, behind) = rest.split_at(told.used);
         *rest = behind;
         if told.kind == 2 {
-            (self.given, self.count) = (0, told.actions);
-            return self.action();
+            return self.first_of(told.actions, bytes);
         }
         Some(match told.kind {
             1 => Event::Text(bytes),
@@ -62,6 +61,16 @@ impl Reader {
             6 => Event::Text(&behind[told.looked - 1..told.looked]),
             _ => Event::Other(bytes),
         })
+    }
+
+    /// The first action of a sequence, of which so many stand in the room.
+    fn first_of<'a>(&mut self, count: usize, bytes: &[u8]) -> Option<Event<'a>> {
+        self.given = 0;
+        self.count = match self.as_terminals {
+            true => self.room.as_terminals(count, bytes),
+            false => count,
+        };
+        self.action()
     }
 
     /// The next action of a sequence.

@@ -1,4 +1,4 @@
-//! The attributes, and what has a name, under the names of the library and with its documentation. Written by tools/kinds.
+//! The attributes, and what has a name, under the names of the library and with its documentation. Written by tools/table.
 
 use crate::SrgbaTuple;
 

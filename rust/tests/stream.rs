@@ -182,3 +182,35 @@ fn long_sequences_byte_by_byte() {
         assert_eq!(out[0], out[1], "{part:?}");
     }
 }
+
+/// What terminals carry out of lists that aren't read whole, with a control in one; the library reads all of the last one.
+#[test]
+fn as_terminals() {
+    let many = ["98;".repeat(100), "98m".repeat(100)];
+    for (given, wanted) in [
+        ("0;1;98;31m", "0m1m98m31m"),
+        ("98\n;31m", "98m31m"),
+        ("1;m", "1m0m"),
+        (";H", "1;1H"),
+        ("10;20;H", "10;20H"),
+        ("?1049!l", "?1049!l"),
+        (&format!("{}1m", many[0]), &format!("{}1m", many[1])),
+        ("1;31m", "1m31m"),
+    ] {
+        let bytes = format!("\x1b[{given}").into_bytes();
+        let (mut whole, mut cut) = (String::new(), String::new());
+        let tell = |out: &mut String, event: Event<'_>| {
+            if let Event::Csi(action) = event {
+                out.push_str(&action.to_string()[2..]);
+            }
+        };
+        events(&bytes)
+            .as_terminals()
+            .for_each(|event| tell(&mut whole, event));
+        let mut parser = Parser::new().as_terminals();
+        for byte in &bytes {
+            parser.advance(&[*byte], &mut |event| tell(&mut cut, event));
+        }
+        assert_eq!((whole.as_str(), cut.as_str()), (wanted, wanted));
+    }
+}

@@ -1,43 +1,57 @@
 """python3 tools/table [--check]: writes the files that follow from the facts in table/.
 
-Each table/NAME.toml holds facts, and tools/table/NAME.py says in `files(rows)` which files follow from its rows, as texts by path. With
---check nothing is written, and each file that differs is named.
+Each table/NAME.toml holds facts, and tools/table/NAME.py says in `files(rows)` which files follow from its rows, as texts by path, or as parts
+of files that are else by hand. Those of bindings/ follow from several tables. With --check nothing is written, and each file that differs is named.
 """
 import importlib
 import pathlib
 import sys
 
+from bindings.files import files
+from parts import with_parts
 from read import TOP, rows_of
 
 
+def text_of(path):
+    return pathlib.Path(TOP, path).read_text(encoding="utf-8")
+
+
 def written():
-    """What all tables write, by path from the top of the repository."""
-    texts = {}
+    """What all tables write, by path from the top of the repository: whole files, and parts of others."""
+    texts, parts = {}, {}
     for table in sorted(pathlib.Path(TOP, "table").glob("*.toml")):
-        for path, text in importlib.import_module(table.stem).files(rows_of(table.name)).items():
-            if path in texts:
+        for path, said in importlib.import_module(table.stem).files(rows_of(table.name)).items():
+            if isinstance(said, list):
+                parts.setdefault(path, []).extend(said)
+            elif path in texts:
                 sys.exit(f"table: {path} is written by two tables, the second is table/{table.name}")
-            texts[path] = text
-    return texts
+            else:
+                texts[path] = said
+    return texts | {path: with_parts(path, texts.get(path) or text_of(path), of) for path, of in parts.items()}
 
 
 def differs(path, text):
     """Whether the file isn't there, or has another text."""
     file = pathlib.Path(TOP, path)
-    return not file.is_file() or file.read_text(encoding="utf-8") != text
+    return not file.is_file() or text_of(path) != text
+
+
+def settled(texts, is_check):
+    """Writes those that differ, or says which; and whether there was nothing to say."""
+    stale = [path for path, text in texts.items() if differs(path, text)]
+    for path in stale:
+        if is_check:
+            print(f"table: {path} isn't what table/ says: run python3 tools/table")
+        else:
+            pathlib.Path(TOP, path).write_text(texts[path], encoding="utf-8")
+    return not stale or not is_check
 
 
 def main(words):
     if words not in ([], ["--check"]):
         sys.exit(__doc__)
-    texts = written()
-    stale = [path for path, text in texts.items() if differs(path, text)]
-    for path in stale:
-        if words:
-            print(f"table: {path} isn't what table/ says: run python3 tools/table")
-        else:
-            pathlib.Path(TOP, path).write_text(texts[path], encoding="utf-8")
-    return 1 if words and stale else 0
+    tables = settled(written(), bool(words))
+    return 0 if settled(files(), bool(words)) and tables else 1
 
 
 if __name__ == "__main__":

@@ -1,8 +1,9 @@
 """table/escapes.toml: escape sequences and character sets. Those with a name become the enumeration EscCode with its numbers, the others arrays of
 words."""
+from declared import Type, Variant
 from faults import check_columns, check_once, refuse
-from layout import array, byte, code, page_line, page_table, pair, string, variants
-from read import first_line
+from layout import array, byte, code, page_line, page_table, pair, string
+from read import first_line, rows_of
 
 TABLE = "escapes.toml"
 
@@ -11,12 +12,10 @@ CODES = """\
 ghost use Rattle.std.specs.Prelude.{◌≡◌, ◌↔◌, ◌<◌, ◌≤◌, Some};
 ghost use Rattle.csicodec_names.specs.Esc.{esc_number};
 
-/// The codes of escape sequences. A code's number is that of its last character, and 256 times that of the one before it, if any.
-#[derive(Clone, Copy, PartialEq, Eq, Debug)]
-pub enum EscCode {
-VARIANTS
-}
+DECLARATION
 """
+# The comment of the type.
+DOC = "The codes of escape sequences. A code's number is that of its last character, and 256 times that of the one before it, if any."
 
 FIND = """
 /// The code of that number, where it is written by COUNT.
@@ -51,6 +50,12 @@ def number(key):
     return f"{int.from_bytes(key.encode('latin-1')):#x}"
 
 
+def types():
+    """The enumeration."""
+    variants = [Variant(row["name"], row["doc"], int(number(key), 0), number(key)) for key, row in named(rows_of(TABLE)).items()]
+    yield Type("EscCode", "csicodec_names/src/esc_codes.rt", DOC, "Clone, Copy, PartialEq, Eq, Debug", variants, "ESC")
+
+
 def named(rows):
     return {key: row for key, row in rows["code"].items() if "name" in row}
 
@@ -62,7 +67,7 @@ def find(count, name, within, codes):
 
 def codes(rows):
     all_of = named(rows)
-    enumeration = CODES.replace("VARIANTS", "\n".join(variants((number(key), row["name"], row["doc"]) for key, row in all_of.items())))
+    enumeration = CODES.replace("DECLARATION", "\n".join(next(types()).lines()))
     one = find("one character", "of_one_character", "number < 256", {key: row for key, row in all_of.items() if len(key) == 1})
     return enumeration + one + find("two characters", "of_two_characters", "256 ≤ number", {key: row for key, row in all_of.items() if len(key) == 2})
 

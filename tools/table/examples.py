@@ -1,4 +1,5 @@
-"""Literal examples that rows of the tables have in `says`: a sequence as explain shows bytes, and what explain says of it. They are typed by hand."""
+"""Literal examples that rows of the tables have in `says`, and those of .ci/sequences: a sequence as explain shows bytes, and what explain says of it.
+They are typed by hand."""
 import pathlib
 
 from read import TOP, rows_of
@@ -14,3 +15,9 @@ def of(row):
 def examples():
     """The sequence, its name, its words and the document of its row, of each example of each table."""
     return [example for table in sorted(pathlib.Path(TOP, "table").glob("*.toml")) for example in of(rows_of(table.name))]
+
+
+def all_examples():
+    """Those of .ci/sequences too."""
+    lines = pathlib.Path(TOP, ".ci/sequences").read_text(encoding="utf-8").splitlines()
+    return [*examples(), *(line.split("\t") for line in lines if line and not line.startswith("#"))]

@@ -43,6 +43,24 @@ class Form:
         parts = (self.marker, "; ".join(slot.shown() for slot in self.slots), "SP" if self.between == " " else self.between, self.final)
         return " ".join(part for part in parts if part)
 
+    def values(self, text):
+        """The values of a list that the form's numbers read; none where they don't. Nothing follows a `;` at the end."""
+        fields, out = text.removesuffix(";").split(";") if text else [], []
+        plain = [slot for slot in self.slots if not slot.further]
+        behind = fields[len(plain):]
+        for place, slot in enumerate([*plain, *[self.slots[-1]] * len(behind)] if self.slots[len(plain):] else plain):
+            field = fields[place] if place < len(fields) else ""
+            value = int(field) if field else slot.missing
+            if value is None or not slot.first <= value <= slot.last:
+                return None
+            out.append(value)
+        return None if len(out) < len(fields) or len(out) > MOST else out
+
+    def read(self, text):
+        """The values of what stands behind CSI, if the form reads it."""
+        found = re.fullmatch(f"{re.escape(self.marker)}([0-9;]*){re.escape(self.between + self.final)}", text)
+        return self.values(found[1]) if found else None
+
     def example(self):
         """The shortest text with the least numbers, behind CSI."""
         return self.marker + ";".join(str(slot.first) for slot in self.slots if not slot.further) + self.between + self.final

@@ -2,6 +2,7 @@
 import re
 import sys
 
+from faults import refuse
 from read import first_line
 
 TABLE = "keys.toml"
@@ -41,6 +42,9 @@ class Form:
         else:
             number, self.control, *held = said.split()
             self.number = int(number)
+        for key in held:
+            if key not in HELD:
+                refuse(TABLE, said, f"there is no modifier {key}")
         self.held = sum(HELD[key] for key in held)
 
 

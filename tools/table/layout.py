@@ -1,4 +1,5 @@
 """Lines of written files, laid out as `rt fmt` leaves them."""
+import re
 import textwrap
 
 from read import first_line
@@ -19,8 +20,14 @@ def string(text):
 
 
 def byte(character):
-    """A literal of this byte."""
-    return {"'": r"b'\''", "\\": r"b'\\'"}.get(character, f"b'{character}'")
+    """A literal of this byte, and 0 for none."""
+    return {"": "0", "'": r"b'\''", "\\": r"b'\\'"}.get(character, f"b'{character}'")
+
+
+def low(name, between="_"):
+    """A name in small letters, with this between its words."""
+    name = re.sub(r"([a-z0-9])([A-Z])", rf"\1{between}\2", name)
+    return re.sub(r"([A-Z])([A-Z][a-z])", rf"\1{between}\2", name).lower()
 
 
 def pair(*parts):
@@ -31,15 +38,10 @@ def pair(*parts):
     return ["    (", *(f"        {part}," for part in parts), "    ),"]
 
 
-def array(said, name, kind, rows):
+def array(said, name, kind, rows, public="pub(crate)"):
     """An array of these rows, with its comment."""
     lines = [line for row in rows for line in row]
-    return "\n".join([*comment(said), f"pub(crate) static {name}: [{kind}; {len(rows)}] = [", *lines, "];"]) + "\n"
-
-
-def variants(rows):
-    """The variants of an enumeration: by each number as it is written, its name and its comment, empty where it has none."""
-    return [line for number, name, said in rows for line in (*comment(said, "    "), f"    {name} = {number},")]
+    return "\n".join([*comment(said), f"{public} static {name}: [{kind}; {len(rows)}] = [", *lines, "];"]) + "\n"
 
 
 def arm(pattern, function, *arguments):

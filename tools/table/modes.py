@@ -1,7 +1,8 @@
 """table/modes.toml: what modes are called. Their names become two enumerations with their numbers, their words two arrays."""
+from declared import Type, Variant, in_turn
 from faults import check_columns, check_once
-from layout import array, page_line, page_table, pair, string, variants
-from read import first_line
+from layout import array, page_line, page_table, pair, string
+from read import first_line, rows_of
 
 TABLE = "modes.toml"
 
@@ -9,20 +10,16 @@ RUST = """\
 //! The numbers of modes that have a name.
 ghost use Rattle.std.specs.Prelude.{◌≡◌, ◌↔◌, Some, pos};
 ghost use Rattle.csicodec_names.specs.ModeNumbers.{dec_mode_number, terminal_mode_number};
-
-/// A private mode: one that `CSI ? .. h` sets and `CSI ? .. l` resets. Those of DEC (VT510, VT382) begin with the name that DEC gave
-/// them; where the others are from is said at each.
 """
 
-TERMINAL = """
-/// A mode that `CSI .. h` sets and `CSI .. l` resets (SM and RM; ECMA-48, 8.3.125 and 8.3.106).
-"""
+# The comments of both types.
+PRIVATE = """\
+A private mode: one that `CSI ? .. h` sets and `CSI ? .. l` resets. Those of DEC (VT510, VT382) begin with the name that DEC gave
+them; where the others are from is said at each."""
+TERMINAL = "A mode that `CSI .. h` sets and `CSI .. l` resets (SM and RM; ECMA-48, 8.3.125 and 8.3.106)."
 
-KIND = """\
-#[derive(Clone, Copy, PartialEq, Eq, Debug)]
-pub enum KIND {
-VARIANTS
-}
+KIND = """
+DECLARATION
 
 impl KIND {
     /// The number of this mode.
@@ -78,27 +75,29 @@ def named(rows):
     return [(number, row["name"]) for number, row in rows.items() if "name" in row]
 
 
-def kind(name, number, rows):
+def types():
+    """Both enumerations."""
+    rows = rows_of(TABLE)
+    for name, kind, doc in ("DecPrivateModeCode", "private", PRIVATE), ("TerminalModeCode", "terminal", TERMINAL):
+        variants = [Variant(row["name"], row["doc"], int(number), number) for number, row in rows[kind].items() if "name" in row]
+        prefix = {"private": "DEC_PRIVATE_MODE", "terminal": "TERMINAL_MODE"}[kind]
+        yield Type(name, "csicodec_names/src/modes.rt", doc, "Clone, Copy, PartialEq, Eq, Debug", variants, prefix)
+
+
+def kind(declared, number):
     """An enumeration, and both ways between it and its numbers."""
-    said = variants((mode, row["name"], row["doc"]) for mode, row in rows.items() if "name" in row)
-    arms = [f"            {mode} => Some({name}::{variant})," for mode, variant in named(rows)]
-    return KIND.replace("KIND", name).replace("NUMBER", number).replace("VARIANTS", "\n".join(said)).replace("ARMS", "\n".join(arms))
+    arms = [f"            {mode.number} => Some({declared.name}::{mode.name})," for mode in declared.variants]
+    return KIND.replace("KIND", declared.name).replace("NUMBER", number).replace("DECLARATION", "\n".join(declared.lines())).replace("ARMS", "\n".join(arms))
 
 
 def numbers(function, module, rows):
     return "\n".join(f"{function} {module}.{name} = {number}" for number, name in named(rows))
 
 
-def in_turn(module, rows):
-    """A list of all variants."""
-    first, *others = [f"{module}.{name}" for _, name in named(rows)]
-    return "\n".join([f"    {first}", *(f"    ∷ {name}" for name in others), "    ∷ []"])
-
-
 def specs(private, terminal):
     parts = {
-        "DEC_NUMBERS": numbers("dec_mode_number", "dec", private), "DEC_CODES": in_turn("dec", private),
-        "TERMINAL_NUMBERS": numbers("terminal_mode_number", "terminal", terminal), "TERMINAL_CODES": in_turn("terminal", terminal),
+        "DEC_NUMBERS": numbers("dec_mode_number", "dec", private), "DEC_CODES": "\n".join(in_turn([f"dec.{name}" for _, name in named(private)])),
+        "TERMINAL_NUMBERS": numbers("terminal_mode_number", "terminal", terminal), "TERMINAL_CODES": "\n".join(in_turn([f"terminal.{name}" for _, name in named(terminal)])),
     }
     text = ANTT
     for name, part in parts.items():
@@ -149,7 +148,7 @@ def check(rows):
 def files(rows):
     check(rows)
     private, terminal = rows["private"], rows["terminal"]
-    names = first_line(TABLE) + RUST + kind("DecPrivateModeCode", "dec_mode_number", private) + TERMINAL + kind("TerminalModeCode", "terminal_mode_number", terminal)
+    names = first_line(TABLE) + RUST + "".join(map(kind, types(), ("dec_mode_number", "terminal_mode_number")))
     said = first_line(TABLE) + "//! What modes are called, by their numbers.\n"
     said += words("Private modes, of DEC and of other terminals.", "PRIVATE", private, "words")
     said += words("What is set of private modes whose states are more than on and off.", "SET", private, "set")

@@ -1,6 +1,6 @@
-"""The names that things are told by, as `--only` takes them: those of table/names.toml, of control sequences and of escape sequences."""
+"""The names that things are told by, as `--only` takes them: those of table/names.toml, of actions, of control sequences and of escape sequences."""
+from actions import subjects
 from faults import refuse
-from layout import string
 from read import first_line, rows_of
 from told import section
 
@@ -12,12 +12,19 @@ def named():
     sequences, escapes = rows_of("sequences.toml"), rows_of("escapes.toml")
     rows = [row for kind, row in sequences.items() if kind.isdigit()]
     rows += [*section(sequences, "beyond").values(), *section(sequences, "instead").values()]
+    rows += [action.row for subject in subjects() for action in subject.actions if "name" in action.row]
     words = [row["words"] for kind in ("code", "other") for row in escapes[kind].values() if "words" in row]
     return {row["name"] for row in rows} | {text.split("  ")[0] for text in words}
 
 
-def array(said, name, names):
-    return f"/// {said}\npub static {name}: [&str; {len(names)}] = [\n" + "".join(f"    {string(one)},\n" for one in names) + "];\n"
+def text(said, name, names):
+    """A constant that is all names, with commas between them, in lines of some 110 columns."""
+    lines = [""]
+    for one in names:
+        if len(lines[-1]) + len(one) > 110:
+            lines.append("")
+        lines[-1] += one if one == names[-1] else f"{one},"
+    return f"/// {said}\npub const {name}: &str = \"\\\n" + "\\\n".join(lines) + "\";\n"
 
 
 def files(table):
@@ -27,6 +34,6 @@ def files(table):
             refuse(TABLE, name, "it stands twice, or a row of another table has it")
     others = {name for name in others if name in numbered or name.split(" ")[0] not in numbered}
     everyone = sorted([*names, *others], key=lambda name: (name.lower(), name))
-    return {"crates/csicodec_tool/src/all_names.rt": first_line(TABLE) + "//! The names that things are told by.\n\n" + array(
-        "The names, but for the numbers that some have behind them.", "NAMES", everyone
-    ) + "\n" + array("Those that a number or a letter may follow.", "NUMBERED", numbered)}
+    return {"crates/csicodec_tool/src/all_names.rt": first_line(TABLE) + "//! The names that things are told by.\n\n" + text(
+        "The names, but for the numbers that some have behind them, with commas between them.", "NAMES", everyone
+    ) + "\n" + text("Those that a number or a letter may follow.", "NUMBERED", numbered)}

@@ -1,7 +1,8 @@
 """The commands of OSC: their numbers and forms in csicodec_osc, their words in csicodec_strings."""
-import re
 import sys
 
+from examples import all_examples
+from layout import low, string
 from read import first_line
 
 TABLE = "osc.toml"
@@ -14,19 +15,11 @@ WIDTH = 60
 ALONE = ("Bare", "OneText", "Several", "Value", "Rest", "Whole")
 
 
-def snake(name):
-    return re.sub(r"(?<!^)(?=[A-Z])", "_", name).lower()
-
-
-def literal(text):
-    return '"' + text.replace("\\", "\\\\").replace('"', '\\"') + '"'
-
-
 class Group:
     """An enumeration: its variants, each with what it begins with."""
 
     def __init__(self, name, table):
-        self.name, self.snake = name, snake(name)
+        self.name, self.snake = name, low(name)
         self.doc, self.command, self.form = table["doc"], table["command"], table["form"]
         source = {"source": table["source"]} if "source" in table else {}
         self.resets, self.further = table.get("resets"), table.get("further", False)
@@ -76,6 +69,9 @@ def faults(groups, single, alone):
         yield from row_faults(f"[words] {row}", of, {"form", "words", "source"}, set(), ALONE)
     begins = [of[column] for rows in [*(group.rows for group in groups), single] for of in rows.values() for column in ("begins", "resets") if column in of]
     yield from (f"two commands begin with {text}" for text in sorted({text for text in begins if begins.count(text) > 1}))
+    said = [sequence[3:] for sequence, *_ in all_examples() if sequence.startswith("\\e]")]
+    unsaid = [text for text in [*begins, *alone] if not any(one.startswith(text) and (alone.get(text, {}).get("form") in ("Rest", "Whole") or not one[len(text):][:1].isalnum()) for one in said)]
+    yield from (f"{text} has no line in .ci/sequences" for text in unsaid)
     order = list(alone)
     yield from (f"[words] {late} is behind {early}, which fits first" for at, late in enumerate(order) for early in order[:at] if late.startswith(early + ";"))
 
@@ -160,14 +156,14 @@ def words_rt(groups, single, alone):
     for group in worded:
         if group.further:
             lines += ["/// By their place among the others.", f"pub static {group.snake.upper()}: [&str; {len(group.rows)}] = ["]
-            lines += [*(f"    {literal(row['words'])}," for row in group.rows.values()), "];", ""]
+            lines += [*(f"    {string(row['words'])}," for row in group.rows.values()), "];", ""]
             continue
         lines += [f"pub fn {group.snake}_words({group.snake}: {group.name}) -> &'static str {{", f"    match {group.snake} {{"]
-        lines += [f"        {group.name}::{variant} => {literal(row['words'])}," for variant, row in group.rows.items()]
+        lines += [f"        {group.name}::{variant} => {string(row['words'])}," for variant, row in group.rows.items()]
         lines += ["    }", "}", ""]
     for name, row in single.items():
         if "words" in row:
-            lines += [f"pub const {snake(name).upper()}: &str = {literal(row['words'])};", ""]
+            lines += [f"pub const {low(name).upper()}: &str = {string(row['words'])};", ""]
     lines += ["/// What stands behind the front of a content that has words alone.", "#[derive(Clone, Copy, PartialEq, Eq)]", "pub enum Behind {",
               "    /// Nothing.", "    Bare,", "    /// `;` and a text.", "    OneText,", "    /// Nothing, or `;` and a text.", "    Several,",
               "    /// Nothing, or `=` and a text.", "    Value,", "    /// A text at once.", "    Rest,",
@@ -175,7 +171,7 @@ def words_rt(groups, single, alone):
               "/// What a content begins with that has words alone, what stands behind that, and the words. The first that fits is told.",
               f"pub static ALONE: [(&[u8], Behind, &str); {len(alone)}] = ["]
     for begins, row in alone.items():
-        cells = [f"b{literal(begins)}", f"Behind::{row['form']}", literal(row["words"])]
+        cells = [f"b{string(begins)}", f"Behind::{row['form']}", string(row["words"])]
         one = ", ".join(cells)
         lines += [f"    ({one}),"] if len(one) <= WIDTH else ["    (", *(f"        {cell}," for cell in cells), "    ),"]
     return "\n".join([*lines, "];"]) + "\n"
@@ -221,7 +217,7 @@ def kinds_rt(groups, single):
                       f"    ensures {{ result ≡ {name} {group.snake} }}", "{", f"    match {group.snake} {{"]
             lines += [f"        {group.name}::{variant} => {numbers[command, variant]}," for variant in group.rows]
             lines += ["    }", "}"]
-    lines += [line for name in single for line in ("", f"pub(crate) const {snake(name).upper()}: u32 = {numbers[name, '']};")]
+    lines += [line for name in single for line in ("", f"pub(crate) const {low(name).upper()}: u32 = {numbers[name, '']};")]
     return "\n".join(lines) + "\n"
 
 
@@ -238,7 +234,7 @@ def kinds_antt(groups, single):
             lines += ["", f"abbrev pub {name} : {group.name} → ℕ"]
             lines += [f"{name} {group.snake}.{variant} = {numbers[command, variant]}" for variant in group.rows]
     for name in single:
-        lines += ["", f"abbrev pub {snake(name)}_kind : ℕ", f"{snake(name)}_kind = {numbers[name, '']}"]
+        lines += ["", f"abbrev pub {low(name)}_kind : ℕ", f"{low(name)}_kind = {numbers[name, '']}"]
     return "\n".join(lines) + "\n"
 
 

@@ -1,15 +1,23 @@
 """What follows from table/sequences.toml: the rows of csicodec_sequences, docs/SEQUENCES.md, and what explain says (told.py)."""
-import json
+import re
 import sys
 from dataclasses import dataclass
 
+from actions import subjects
+from core import TESTS
+from examples import all_examples
+from faults import refuse
 from forms import Form, form_of
+from layout import byte, string
+from parts import Part
 from read import first_line
 from templates import by_number
 from told import fields_of, rows_rt
 
 TABLE = "sequences.toml"
 COLUMNS = {"name", "form", "means", "source"}
+# The rows without an example: a parser cuts the list of SLS.
+UNSAID = ["10133"]
 
 
 @dataclass(frozen=True)
@@ -28,7 +36,7 @@ def row_of(kind, row, lists):
     try:
         if not kind.isdigit() or COLUMNS - row.keys():
             raise ValueError(f"it lacks {', '.join(sorted(COLUMNS - row.keys())) or 'a number'}")
-        own = {name: words for name, words in row.items() if name not in COLUMNS | {"words", "shown", "fields"}}
+        own = {name: words for name, words in row.items() if name not in COLUMNS | {"words", "shown", "fields", "says"}}
         unread = [name for name in own if f"@{name}}}" not in str(row.get("words"))]
         if unread:
             raise ValueError(f"what nothing reads: {', '.join(unread)}")
@@ -69,21 +77,9 @@ ARRAYS = (
 )
 
 
-def char(text):
-    return "'" + text.replace("\\", "\\\\").replace("'", "\\'") + "'"
-
-
-def byte(text):
-    return f"b{char(text)}" if text else "0"
-
-
-def quoted(text):
-    return json.dumps(text, ensure_ascii=False)
-
-
 def slot_text(slot):
     kind = "further" if slot.further else "needed" if slot.missing is None else "number"
-    return f"{kind}!({quoted(slot.name)}, {slot.first}, {slot.last}{'' if slot.missing is None else f', {slot.missing}'})"
+    return f"{kind}!({string(slot.name)}, {slot.first}, {slot.last}{'' if slot.missing is None else f', {slot.missing}'})"
 
 
 def slot_pieces(slots):
@@ -97,7 +93,7 @@ def slot_pieces(slots):
 def row_text(row):
     """A row in lines of up to 100 columns, but for a first one of up to 107."""
     form = row.form
-    pieces = [f"{row.kind},", f"{quoted(row.name)},", f"{byte(form.marker)},", *slot_pieces(form.slots), f"{byte(form.between)},", f"{char(form.final)},", f"{quoted(row.means)},", f"{quoted(row.source)} }},"]
+    pieces = [f"{row.kind},", f"{string(row.name)},", f"{byte(form.marker)},", *slot_pieces(form.slots), f"{byte(form.between)},", f"{byte(form.final)[1:]},", f"{string(row.means)},", f"{string(row.source)} }},"]
     lines = ["            $row! {"]
     for piece in pieces:
         if len(lines[-1]) + 1 + len(piece) > (107 if len(lines) == 1 else 100):
@@ -155,7 +151,36 @@ def page(rows):
     return PAGE + "".join(f"| {line} |\n" for line in lines) + NEXT
 
 
+def known_lines(rows):
+    """Lines of tests_codec: each control sequence of an example, and what the row that reads it has, or `-`."""
+    for text in dict.fromkeys(found[1] for sequence, *_ in all_examples() if (found := re.fullmatch(r"\\e\[([0-?]*[ -/]*[@-~])", sequence))):
+        row, values = next(((row, values) for row in rows if (values := row.form.read(text)) is not None), (None, []))
+        form = row and row.form
+        said = row and [row.name, "".join(f"{slot.name};" for slot in form.slots), values, f"{form.marker}{';'.join(map(str, values))}{form.between}{form.final}", row.means, row.source]
+        yield text, "\t".join(map(str, said or "-"))
+
+
+def tests(rows):
+    lines = list(known_lines(rows))
+    marks = ("# Which row of the second table reads a list: the examples",), ""
+    return {
+        f"{TESTS}/stdin": [Part([f"known {text}" for text, _ in lines], *marks)],
+        f"{TESTS}/stdout": [Part([f"known {text}\t{said}" for text, said in lines], *marks)],
+    }
+
+
+def check(table, rows):
+    for kind, row in table.items():
+        if kind.isdigit() and kind not in UNSAID and "words" in row and not row.get("says"):
+            refuse(TABLE, kind, "it has no example in `says`")
+    for action in (action for subject in subjects() for action in subject.actions if "final" in action.row):
+        for row in rows:
+            if row.form.read(action.text()) is not None:
+                refuse(TABLE, row.kind, f"{action.subject}::{action.variant[0]} has its list: the row goes, and leaves its constant and number in [gone]")
+
+
 def files(table):
     rows = all_rows(table)
+    check(table, rows)
     texts = {f"crates/csicodec_sequences/src/rows/{name}.rt": rows_text(some, *PARTS[name][1:]) for name, some in parts(rows).items()}
-    return {**texts, "docs/SEQUENCES.md": page(rows), "crates/csicodec_readings/src/sequence_rows.rt": rows_rt(table)}
+    return {**texts, **tests(rows), "docs/SEQUENCES.md": page(rows), "crates/csicodec_readings/src/sequence_rows.rt": rows_rt(table)}

@@ -1,15 +1,13 @@
 """table/sgr.toml: what numbers before `m` set. The rows become the enumeration SgrCode with its numbers, the arrays by which attributes are read
 and written, and their words."""
-import os
 import re
-import sys
 
+import actions
+from attributes import Attributes, all_attributes, parts as line_parts
 from faults import check_columns, check_once, refuse
-from layout import arm, array, comment, page_line, page_table, pair, string, variants
-from read import TOP, first_line
-
-sys.path.insert(0, os.path.join(TOP, "tools"))
-from kinds_table import GROUPS, NUMBERED  # noqa: E402
+from declared import Variant
+from layout import arm, array, comment, page_line, page_table, pair, string
+from read import first_line
 
 TABLE = "sgr.toml"
 
@@ -110,21 +108,31 @@ ARMS
 ALIASES = {"Intensity": "intensity", "Underline": "underline", "Blink": "blink", "VerticalAlign": "align", "Font": "font", "ColorSpec": "color"}
 
 
+def held():
+    """What each attribute holds."""
+    return {action.variant[0]: action.declared().holds or None for action in all_attributes()}
+
+
+def numbers_of(name):
+    """The numbers of an enumeration that has some."""
+    return {variant.name: variant.number for variant in actions.types()[name].variants if variant.number is not None} if name in actions.types() else {}
+
+
 class Attribute:
     """What a row sets, as each of the written files says it: `Variant`, `Variant(value)` or `Variant(value(number))`."""
 
     def __init__(self, table, key, sets):
         parts = re.fullmatch(r"(\w+)(?:\((\w+)(?:\((\d+)\))?\))?", sets)
-        if not parts or parts[1] not in table["attribute"]:
+        if not parts or parts[1] not in held():
             refuse(TABLE, key, f"there is no attribute {sets}")
         self.sets = sets
         self.variant, self.value, number = parts.groups()
         self.number = number and int(number)
-        self.holds = table["attribute"][self.variant].get("holds")
-        self.ahead = table["attribute"][self.variant].get("words") if self.holds == "ColorSpec" or number else None
+        self.holds = held()[self.variant]
+        self.ahead = table["attribute"].get(self.variant, {}).get("words") if self.holds == "ColorSpec" or number else None
         values = {None: {None}, "bool": {"true", "false"}, "ColorSpec": {"Default", "PaletteIndex"}, "Font": {"Default", "Alternate"}}
         bounds = {"PaletteIndex": range(len(table["colors"])), "Alternate": range(1, 10)}
-        if self.value not in (values.get(self.holds) or NUMBERED.get(self.holds, ())) or self.number not in bounds.get(self.value, [None]):
+        if self.value not in (values.get(self.holds) or numbers_of(self.holds)) or self.number not in bounds.get(self.value, [None]):
             refuse(TABLE, key, f"there is no attribute {sets}")
 
     def rust(self):
@@ -138,8 +146,8 @@ class Attribute:
 
     def struct(self):
         """The kind of its struct and the two numbers of that."""
-        kind = {name: kind for name, kind, *_ in dict(GROUPS)["Sgr"]}[self.variant]
-        values = NUMBERED.get(self.holds, {None: 0, "true": 1, "false": 0, "Default": 0, "PaletteIndex": 1, "Alternate": self.number})
+        kind = next(action.number for action in all_attributes() if action.variant == (self.variant,))
+        values = numbers_of(self.holds) or {None: 0, "true": 1, "false": 0, "Default": 0, "PaletteIndex": 1, "Alternate": self.number}
         return kind, values[self.value], self.number if self.value == "PaletteIndex" else 0
 
 
@@ -162,6 +170,13 @@ class Table:
             refuse(TABLE, number, f"{len(same)} rows are the one that {self.code[number]['sets']} is written by, all others have `also = true`")
         return same[0]
 
+    def attributes(self):
+        """What each value of an attribute is written by, the number that the parts of a colour are behind, and the look of each attribute."""
+        texts = {row["sets"]: str(number) for number, row in self.code.items() if "sets" in row and not row.get("also")}
+        further = {row["further"]: number for number, row in self.code.items() if row.get("further", "underline") != "underline"}
+        looks = {name: row["look"] for name, row in self.rows["attribute"].items() if "look" in row}
+        return Attributes(texts | {row["sets"]: key for key, row in self.rows["further"].items()}, further, looks)
+
     def check(self):
         for number, row in self.code.items():
             needed = ["source"] if "name" in row and "sets" not in row else ["source", "says"]
@@ -175,14 +190,17 @@ class Table:
                 self.written(number)
         check_once(TABLE, self.code, "name")
         check_columns(TABLE, self.rows["further"], ("sets", "words", "source", "says"), ())
-        check_columns(TABLE, self.rows["attribute"], (), ("holds", "words"))
+        check_columns(TABLE, self.rows["attribute"], (), ("words", "look"))
+        for name in self.rows["attribute"]:
+            if name not in held():
+                refuse(TABLE, name, "there is no such attribute")
 
 
 def codes(table):
     said = f'A number that `CSI .. m` (SGR, "select graphic rendition") has a meaning for: one of {len(table.named)} from 0 to {table.places[-1]}. '
     said += "Those whose comment names no other document are from ECMA-48, 8.3.117."
     enumeration = CODES.replace("SAID", "\n".join(comment(said)))
-    enumeration = enumeration.replace("VARIANTS", "\n".join(variants((number, row["name"], row.get("doc", "")) for number, row in table.named.items())))
+    enumeration = enumeration.replace("VARIANTS", "\n".join(line for number, row in table.named.items() for line in Variant(row["name"], row.get("doc", ""), number, str(number)).lines(True)))
     places = [[f"    Some(SgrCode::{table.named[place]['name']})," if place in table.named else "    None,"] for place in table.places]
     return enumeration + array(f"The code of each number from 0 to {table.places[-1]}, a place for each, so that finding it is one look.", "CODES", "Option<SgrCode>", places)
 
@@ -298,4 +316,4 @@ def files(rows):
         "csicodec_front/src/by_number.rt": alone, "csicodec_words/src/sgr_words.rt": words, "csicodec_readings/src/sgr_rows.rt": unread,
     }
     texts = {f"crates/{path}": first_line(TABLE, "--" if path.endswith(".antt") else "//") + of(table) for path, of in written.items()}
-    return texts | {"docs/SGR.md": page_line(TABLE) + page(table)}
+    return {**texts, **line_parts(table.attributes()), "docs/SGR.md": page_line(TABLE) + page(table)}

@@ -2,7 +2,7 @@
 action's."""
 from faults import check_columns, refuse
 from forms import LARGEST, form_of
-from layout import byte, string
+from layout import array, byte, string
 from read import first_line
 from templates import place_of, told_of
 
@@ -14,11 +14,11 @@ MOST = 60
 TEXT = """\
 //! Control sequences without an action, in words.
 
-use crate::table::{ANY, Row};
+use crate::table::{ANY, WordsRow};
 
 macro_rules! row {
     ($kind:literal, $marker:expr, $between:expr, $control:literal, $first:expr, $second:expr, $fields:expr, $words:literal) => {
-        Row { kind: $kind, marker: $marker, between: $between, control: $control, first: $first, second: $second, fields: $fields, words: $words }
+        WordsRow { kind: $kind, marker: $marker, between: $between, control: $control, first: $first, second: $second, fields: $fields, words: $words }
     };
 }
 
@@ -58,7 +58,7 @@ class Told:
         form = self.form
         spans = ["ANY" if one == ANY else str(one) for one in (self.first, self.second, self.fields)]
         spans = [one.replace(str(ANY[1]), "i64::MAX") for one in spans]
-        return f"    row! {{ {self.kind}, {byte(form.marker) if form.marker else 0}, {byte(form.between) if form.between else 0}, {byte(form.final)[1:]}, {', '.join(spans)}, {string(self.words)} }},\n"
+        return f"    row! {{ {self.kind}, {byte(form.marker)}, {byte(form.between)}, {byte(form.final)[1:]}, {', '.join(spans)}, {string(self.words)} }},"
 
 
 def of_rows(table):
@@ -67,7 +67,7 @@ def of_rows(table):
     for kind, row in table.items():
         if kind.isdigit() and "words" in row:
             form = form_of(row["form"])
-            own = {name: words for name, words in row.items() if isinstance(words, dict) and name != "words"}
+            own = {name: words for name, words in row.items() if isinstance(words, dict) and name not in ("words", "says")}
             told = told_of(row, form, {**lists, **own})
             yield from (Told(int(kind), row, form, number, told[number]) for number in sorted(told, key=lambda number: number == "else"))
 
@@ -89,21 +89,17 @@ def of_section(table, name):
             refuse(TABLE, f"[{name}] {text}", error)
 
 
-def array(said, name, rows):
-    return f"/// {said}\npub(crate) static {name}: [Row; {len(rows)}] = [\n" + "".join(row.text() for row in rows) + "];\n"
-
-
 def parts(rows):
     """The rows in arrays that the checker computes at once, with a function for each, and one for all."""
     pieces = [rows[at:at + MOST] for at in range(0, len(rows), MOST)]
-    text = "\n".join(array(f"Those from place {at * MOST} on.", f"PART_{at}", piece) + f"""
-fn part_{at}() -> &'static [Row] {{
+    text = "\n".join(array(f"Those from place {at * MOST} on.", f"PART_{at}", "WordsRow", [[row.text()] for row in piece]) + f"""
+fn part_{at}() -> &'static [WordsRow] {{
     &PART_{at}
 }}
 """ for at, piece in enumerate(pieces))
     calls = ", ".join(f"part_{at}()" for at in range(len(pieces)))
     return f"""/// What sequences without an action are, those that no row reads by the first that has their bytes and numbers.
-pub(crate) fn parts() -> [&'static [Row]; {len(pieces)}] {{
+pub(crate) fn parts() -> [&'static [WordsRow]; {len(pieces)}] {{
     [{calls}]
 }}
 
@@ -114,4 +110,4 @@ def rows_rt(table):
     """src/sequence_rows.rt of csicodec_readings. Words of one first number stand ahead of those of any."""
     told = sorted([*of_section(table, "beyond"), *of_rows(table)], key=lambda told: told.first == ANY)
     instead = list(of_section(table, "instead"))
-    return first_line(TABLE) + TEXT + parts(told) + "\n" + array("What is said in the place of an action.", "INSTEAD", instead)
+    return first_line(TABLE) + TEXT + parts(told) + "\n" + array("What is said in the place of an action.", "INSTEAD", "WordsRow", [[row.text()] for row in instead])

@@ -27,7 +27,10 @@ pub use input::{Received, csicodec_input, csicodec_pause};
 pub use key::{Keyed, csicodec_key};
 pub use known::csicodec_known;
 pub use osc::{Commanded, csicodec_osc};
-pub use sequences::{csicodec_encode, csicodec_is_canonical, csicodec_next, csicodec_normalise};
+pub use sequences::{
+    csicodec_encode, csicodec_is_canonical, csicodec_next, csicodec_normalise,
+    csicodec_terminal_actions,
+};
 pub use span::{Spanned, csicodec_esc, csicodec_span};
 pub use step::{Cleaned, Cleaning, csicodec_clean_end, csicodec_clean_step, csicodec_strip_step};
 pub use strip::{Stripped, csicodec_clean, csicodec_clean_with, csicodec_strip};

@@ -1,12 +1,17 @@
 //! Sequences and their actions, which are structs.
 ghost use Rattle.std.specs.Prelude.{◌≡◌, ◌⊎◌};
+ghost use Rattle.csicodec_events.specs.Events.{without_controls};
 ghost use Rattle.csicodec_structs.specs.Normalise.{IsDone as IsNormalised, IsRefused as RefusesToNormalise};
 ghost use Rattle.csicodec_structs.specs.Encode.{IsDone as IsEncoded, IsJudged, IsRefused as RefusesToEncode, IsUnjudged};
-ghost use Rattle.csicodec_structs.specs.Next.{IsDone as IsLaid, IsRefused as RefusesToLay};
+ghost use Rattle.csicodec_structs.specs.Next.{IsDone as IsLaid, IsRefused as RefusesToLay, refused};
+ghost use Rattle.csicodec_structs.specs.Terminal.{IsTaken};
+ghost use Rattle.csicodec_structs.specs.declared.status.Status.TheVariants as status;
 
+use csicodec_events::append_read;
 use csicodec_front::lay_front;
 use csicodec_structs::{
-    Encoded, Front, Judged, Normalised, Param, Struct, judge, put_normal_form, put_texts,
+    Encoded, Front, Judged, Normalised, Param, Status, Struct, judge, lay_as_terminals,
+    put_normal_form, put_texts,
 };
 use std::alloc::Global;
 
@@ -31,6 +36,32 @@ pub extern "C" fn csicodec_next(
         ⊎ RefusesToLay bytes.now actions.old actions.new params.old params.new result }
 {
     lay_front(alloc, bytes, actions, params)
+}
+
+/// Puts the actions that terminals take the sequence at the front for, and their tokens, as many as there is room for. Controls are passed
+/// over.
+#[unsafe(no_mangle)]
+pub extern "C" fn csicodec_terminal_actions(
+    alloc: Global,
+    bytes: &[u8],
+    actions: &mut [Struct],
+    params: &mut [Param],
+) -> Front
+    ensures { (IsTaken (without_controls bytes.now) actions.old actions.new params.old params.new result
+        ⊎ RefusesToLay (without_controls bytes.now) actions.old actions.new params.old params.new result)
+        ⊎ (result ≡ refused status.Memory 0) }
+{
+    let mut read = Vec::new(alloc);
+    match append_read(bytes, &mut read) {
+        Ok(()) => lay_as_terminals(alloc, &read, actions, params),
+        Err(_) => Front {
+            status: Status::Memory.number(),
+            at: 0,
+            used: 0,
+            actions: 0,
+            params: 0,
+        },
+    }
 }
 
 /// Puts the texts of the actions that the structs stand for, where they fit.

@@ -15,3 +15,4 @@ pub mod Said
 pub mod Streamed
 pub mod Passed
 pub mod Turned
+pub mod Stood

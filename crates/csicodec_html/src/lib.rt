@@ -16,6 +16,7 @@ mod palette;
 mod rule;
 mod run;
 mod sheet;
+mod standing;
 mod tags;
 mod through;
 

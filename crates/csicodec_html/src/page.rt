@@ -6,6 +6,7 @@ ghost use Rattle.csicodec_html.specs.Private.Marked.{page_byte, page_bytes};
 
 use crate::markup::Markup;
 use crate::rule::Spans;
+use crate::standing::split_standing;
 use csicodec_clean::Cleaner;
 use std::alloc::{AllocError, Global};
 
@@ -33,7 +34,9 @@ pub(crate) fn append_page(bytes: &[u8], out: &mut Vec<u8>) -> Result<(), AllocEr
     let mut rest = bytes;
     while let Some((byte, behind)) = rest.split_first() {
         append_byte(*byte, out)?;
-        rest = behind;
+        let (front, others) = split_standing(behind);
+        out.extend_from_slice(front)?;
+        rest = others;
     }
     Ok(())
 }

@@ -16,6 +16,8 @@ use std::io::{Read, Write};
 struct Through<T> {
     transform: T,
     page: Page,
+    /// A place that is kept for what a slice becomes.
+    text: Vec<u8>,
 }
 
 impl<T: Transform + Drop> Transform for Through<T> {
@@ -31,21 +33,21 @@ impl<T: Transform + Drop> Transform for Through<T> {
     ghost ends = { FinishesThrough T.ends };
 
     fn take(&mut self, bytes: &[u8], out: &mut Vec<u8>) -> Result<(), AllocError> {
-        let mut text = Vec::new(*out.allocator());
-        self.transform.take(bytes, &mut text)?;
-        self.page.take(&text, out)
+        self.text.clear();
+        self.transform.take(bytes, &mut self.text)?;
+        self.page.take(&self.text, out)
     }
 
     fn pause(&mut self, out: &mut Vec<u8>) -> Result<(), AllocError> {
-        let mut text = Vec::new(*out.allocator());
-        self.transform.pause(&mut text)?;
-        self.page.take(&text, out)
+        self.text.clear();
+        self.transform.pause(&mut self.text)?;
+        self.page.take(&self.text, out)
     }
 
     fn end(&mut self, out: &mut Vec<u8>) -> Result<(), AllocError> {
-        let mut text = Vec::new(*out.allocator());
-        self.transform.end(&mut text)?;
-        self.page.take(&text, out)?;
+        self.text.clear();
+        self.transform.end(&mut self.text)?;
+        self.page.take(&self.text, out)?;
         self.page.end(out)
     }
 }
@@ -78,5 +80,11 @@ pub fn html_through<T: Transform + Drop, R: Read, W: Write>(
         × Appends (W.contents output.old) (W.contents output.new) sent) }
 {
     let page = Page::new(alloc, markup);
-    transform_all(alloc, Through { transform, page }, input, output)
+    let text = Vec::new(alloc);
+    let through = Through {
+        transform,
+        page,
+        text,
+    };
+    transform_all(alloc, through, input, output)
 }

@@ -2,3 +2,4 @@ pub mod Ends
 pub mod Texts
 pub mod Taken
 pub mod Fronts
+pub mod Copied

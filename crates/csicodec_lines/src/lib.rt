@@ -3,6 +3,7 @@
 
 pub mod laws;
 mod lines;
+mod plain;
 mod run;
 
 pub use lines::Lines;

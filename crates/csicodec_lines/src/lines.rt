@@ -6,8 +6,10 @@ ghost use Rattle.csicodec_lines.specs.Lines.{IsWithin, ends_line, joins};
 ghost use Rattle.csicodec_lines.specs.Private.Cut.{BeginsWithEnd};
 ghost use Rattle.csicodec_lines.specs.Stream.{Passes, begun};
 ghost use Rattle.csicodec_clean.specs.Steps.{bare};
+ghost use Rattle.csicodec_clean.specs.Stream.{start_of};
 ghost use Rattle.csicodec_clean.specs.Styled.{first_kept};
 
+use crate::plain::split_plain;
 use csicodec_clean::{Anew, Cleaner, Dropped, Kept, Passing, Rule};
 use csicodec_filter::Transform;
 use memchr::memchr2;
@@ -88,26 +90,52 @@ impl<R: Rule + Anew<P> + Drop, P: Copy> Lines<R, P> {
         Ok(())
     }
 
-    /// Takes a byte that ends a line, or joins the one that has.
-    fn take_end(&mut self, byte: u8, out: &mut Vec<u8>) -> Result<(), AllocError>
+    /// Takes a byte that ends a line, or joins the one that has. Whether a line begins behind it.
+    fn take_end(&mut self, byte: u8, out: &mut Vec<u8>) -> Result<bool, AllocError>
         requires { ends_line byte ≡ true }
-        ensures { OnOk result
+        ensures taken { OnOk result
             ((more : List ℕ)
             × GoesOn (Passes R.begins R.gives R.closes) self.old (byte ∷ []) more self.new
             × (out.new.items ≡ out.old.items ++ more)) }
+        ensures begun { IfOk result
+            (λ begins. begins ≡ true → self.new.line ≡ start_of (R.begins self.new.by)) }
     {
         if joins(self.returned, byte) {
             self.returned = false;
-            return Ok(());
+            return Ok(false);
         }
         self.line.finish(out)?;
         out.push(b'\n')?;
         self.line.begin(self.by);
         self.returned = byte == b'\r';
-        Ok(())
+        Ok(true)
     }
 
-    /// Takes bytes up to the end of a line, and answers what is behind it.
+    /// Takes the plain text in front, of however many lines, where a line begins that its rule ends without a byte, and answers what
+    /// is behind it.
+    fn take_plain<'a>(&mut self, bytes: &'a [u8], out: &mut Vec<u8>) -> Result<&'a [u8], AllocError>
+        requires { self.old.line ≡ start_of (R.begins self.old.by) }
+        ensures { IfOk result (λ rest. (front : List ℕ) × (more : List ℕ)
+            × (bytes.now ≡ front ++ rest.now)
+            × GoesOn (Passes R.begins R.gives R.closes) self.old front more self.new
+            × (out.new.items ≡ out.old.items ++ more)) }
+    {
+        let (front, rest) = split_plain(bytes);
+        if front.is_empty() || self.returned {
+            return Ok(bytes);
+        }
+        let before = out.len();
+        self.line.finish(out)?;
+        self.line.begin(self.by);
+        if out.len() > before {
+            out.truncate(before);
+            return Ok(bytes);
+        }
+        out.extend_from_slice(front)?;
+        Ok(rest)
+    }
+
+    /// Takes bytes up to the end of a line, and plain text behind that, and answers what is behind it.
     fn take_line<'a>(&mut self, bytes: &'a [u8], out: &mut Vec<u8>) -> Result<&'a [u8], AllocError>
         ensures taken { IfOk result (λ rest. (front : List ℕ) × (more : List ℕ)
             × (bytes.now ≡ front ++ rest.now)
@@ -118,13 +146,14 @@ impl<R: Rule + Anew<P> + Drop, P: Copy> Lines<R, P> {
     {
         let (front, behind) = split_line(bytes);
         self.take_within(front, out)?;
-        match behind.split_first() {
-            Some((end, rest)) => {
-                self.take_end(*end, out)?;
-                Ok(rest)
-            }
-            None => Ok(behind),
+        let Some((end, rest)) = behind.split_first() else {
+            return Ok(behind);
+        };
+        if !self.take_end(*end, out)? {
+            return Ok(rest);
         }
+        let behind = self.take_plain(rest, out)?;
+        Ok(behind)
     }
 }
 

@@ -205,7 +205,7 @@ module _ (P : ℕ → Type 0) (Q : Look → Type 0) (R : Sgr → Type 0) where
     pen_kept pen (step.Leave to) column q p = (q.0, tt)
     pen_kept pen step.Other column q p = (q.0, tt)
 
-    of_all : (limit : ℕ) (pen : Pen) (steps : List Step) (l : Line) → OfPen pen → AllByRecursion OfStep steps → OfLine l → OfDone (do_all limit pen steps l)
+    pub of_all : (limit : ℕ) (pen : Pen) (steps : List Step) (l : Line) → OfPen pen → AllByRecursion OfStep steps → OfLine l → OfDone (do_all limit pen steps l)
     of_all limit pen [] l q p h = (tt, h)
     of_all limit pen (s ∷ steps) l q p h =
         let next = pen_behind pen s (columns l.left) in

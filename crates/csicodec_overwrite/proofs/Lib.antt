@@ -12,3 +12,6 @@ pub mod Once
 pub mod Stays
 pub mod Same
 pub mod Room
+pub mod Lost
+pub mod Came
+pub mod Straight

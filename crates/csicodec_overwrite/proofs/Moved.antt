@@ -1,10 +1,11 @@
 -- Cells that are moved or taken, one after the other.
-use Rattle.std.proofs.Common.{◌≡◌, ℕ, zero, suc, ◌-◌, ◌+◌, ◌<◌, ◌≤◌, Bool, true, false, cond, ◌==◌, nat_le, nat_lt, List, [], ◌∷◌, ◌++◌, refl, sym, ap, ◌∙◌, arith, append_assoc}
+use Rattle.std.proofs.Common.{◌≡◌, ℕ, zero, suc, ◌-◌, ◌+◌, ◌<◌, ◌≤◌, Bool, true, false, cond, ◌==◌, nat_le, nat_lt, List, [], ◌∷◌, ◌++◌, length, reverse, refl, sym, ap, ◌∙◌, arith, append_assoc, append-nil}
 use Rattle.std.proofs.lemmas.Bool.Decides.{nat_tests}
+use Rattle.std.proofs.lemmas.List.{reverse-append, reverse-reverse}
 use Rattle.csicodec_overwrite.specs.declared.cells.Cell.{Cell}
 use Rattle.csicodec_overwrite.specs.declared.cells.Glyph.{Glyph}
 use Rattle.csicodec_overwrite.specs.declared.line.Line.{Line}
-use Rattle.csicodec_overwrite.specs.Cells.{takes, without}
+use Rattle.csicodec_overwrite.specs.Cells.{onto, takes, without}
 use Rattle.csicodec_overwrite.specs.Line.{back, before, line, over, put, repeat}
 use Rattle.csicodec_overwrite.specs.Paint.{texts_of}
 use Rattle.csicodec_overwrite.proofs.Texts.{texts_on}
@@ -41,6 +42,22 @@ some_less n k h = grind (arith, nat_tests)
 
 pub over_none : (n : ℕ) (cell : Cell) (left right : List Cell) → n < takes cell → over n left (cell ∷ right) ≡ line left (cell ∷ right)
 over_none n cell left right h = rw (some_less n (takes cell) h) refl
+
+-- ---- all of them, the farthest first
+
+onto_is : (side cells : List Cell) → onto side cells ≡ reverse side ++ cells
+onto_is [] cells = refl
+onto_is (cell ∷ side) cells = onto_is side (cell ∷ cells) ∙ sym (append_assoc (reverse side) (cell ∷ []) cells) ∙ ap (λ (t : List Cell). t ++ cells) (sym (reverse-append (cell ∷ []) side))
+
+pub farthest : (cells : List Cell) → cells ≡ onto (reverse cells) []
+farthest cells = sym (onto_is (reverse cells) [] ∙ append-nil (reverse (reverse cells)) ∙ reverse-reverse cells)
+
+pub no_cells : (cells : List Cell) → length cells ≡ 0 → cells ≡ []
+no_cells [] h = refl
+no_cells (cell ∷ cells) h = absurd (omega (arith, h))
+
+pub empty_line : (l : Line) → length l.left ≡ 0 → length l.right ≡ 0 → l ≡ line [] []
+empty_line l h k = ap (λ (side : List Cell). line side l.right) (no_cells l.left h) ∙ ap (line []) (no_cells l.right k)
 
 -- ---- room
 

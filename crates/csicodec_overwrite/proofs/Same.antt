@@ -100,7 +100,7 @@ whole_pieces ps h = record {
   whole = sym (append-nil (parts_of ps));
 }
 
-not_titled : (bs : List ℕ) → title_open false (singles kind.Text bs) ≡ false
+pub not_titled : (bs : List ℕ) → title_open false (singles kind.Text bs) ≡ false
 not_titled [] = refl
 not_titled (b ∷ bs) = not_titled bs
 

@@ -60,7 +60,7 @@ full_text left h = ap chars (full_trimmed left h)
 
 -- ---- the cells of one character
 
-abbrev cells : Glyph → ℕ → List Cell → List Cell
+abbrev pub cells : Glyph → ℕ → List Cell → List Cell
 cells g zero left = Mark g.char ∷ left
 cells g (suc w) left = replicate w Behind ++ Char g ∷ left
 
@@ -109,7 +109,7 @@ placed_cells g (suc w) left =
 has_room : (a b limit : ℕ) → a + b ≤ limit → nat_le ((a + 0) + b) limit ≡ true
 has_room a b limit h = grind (arith, nat_tests)
 
-put_cells : (limit : ℕ) (g : Glyph) (left : List Cell) → length left + max (width g.char (columns left)) 1 ≤ limit
+pub put_cells : (limit : ℕ) (g : Glyph) (left : List Cell) → length left + max (width g.char (columns left)) 1 ≤ limit
     → put limit false g (line left []) ≡ done [] (line (cells g (width g.char (columns left)) left) [])
 put_cells limit g left h =
     let w = width g.char (columns left) in
@@ -132,10 +132,10 @@ Puts pen c = ((c == 10 ≡ true) × (of_char c ≡ step.NewLine ∷ []))
     ⊎ ((c == 10 ≡ false) × ((s : Step) × (of_char c ≡ s ∷ []) × ((column : ℕ) → (pen_behind pen s column).inserts ≡ pen.inserts)
     × ((limit : ℕ) (left : List Cell) → does limit pen s (line left []) ≡ put limit pen.inserts (glyph c pen.look) (line left []))))
 
-not_shown : (c d : ℕ) → c ≡ d → shown d ≡ false → IsShown c → ⊥
+pub not_shown : (c d : ℕ) → c ≡ d → shown d ≡ false → IsShown c → ⊥
 not_shown c d e f h = let g : shown d ≡ true = subst (λ (x : ℕ). shown x ≡ true) e h in cc
 
-put_of : (c : ℕ) → (c == 10) ≡ false → (c == 13) ≡ false → (c == 8) ≡ false → (c == 9) ≡ false → shown c ≡ true → of_char c ≡ step.Put c ∷ []
+pub put_of : (c : ℕ) → (c == 10) ≡ false → (c == 13) ≡ false → (c == 8) ≡ false → (c == 9) ≡ false → shown c ≡ true → of_char c ≡ step.Put c ∷ []
 put_of c = by (c == 10) (c == 13) (c == 8) (c == 9) (shown c)
   where
     by : (line return back tab shows : Bool) → line ≡ false → return ≡ false → back ≡ false → tab ≡ false → shows ≡ true
@@ -162,7 +162,7 @@ room_char limit n m c cs e h = rw e at h
 newline_is : (c : ℕ) → c == 10 ≡ true → c ≡ 10
 newline_is c e = eqb-true c 10 e
 
-stays : (limit : ℕ) (pen : Pen) (cs : List ℕ) (left : List Cell) → pen.inserts ≡ false → AreFull left → AllByRecursion IsShown cs → HasRoom limit (columns left) (length left) cs
+pub stays : (limit : ℕ) (pen : Pen) (cs : List ℕ) (left : List Cell) → pen.inserts ≡ false → AreFull left → AllByRecursion IsShown cs → HasRoom limit (columns left) (length left) cs
     → chars_by (do_all limit pen (of_chars cs) (line left [])) ≡ chars left ++ cs
 stays limit pen [] left over full all room = full_text left full ∙ sym (append-nil (chars left))
 stays limit pen (c ∷ cs) left over full all room = ⊎_elim
@@ -195,7 +195,7 @@ stays limit pen (c ∷ cs) left over full all room = ⊎_elim
 
 -- ---- the text
 
-of_singles : (bs run : List ℕ) → AreOfParts run (singles kind.Text bs) [] (run ++ bs)
+pub of_singles : (bs run : List ℕ) → AreOfParts run (singles kind.Text bs) [] (run ++ bs)
 of_singles [] run = (refl, append-nil run)
 of_singles (b ∷ bs) run = ([], run ++ b ∷ [], [], (refl, refl), refl, subst (λ (r : List ℕ). AreOfParts (run ++ b ∷ []) (singles kind.Text bs) [] r) (append_assoc run (b ∷ []) bs) (of_singles bs (run ++ b ∷ [])))
 

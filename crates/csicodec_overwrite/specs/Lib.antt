@@ -4,4 +4,5 @@ pub mod Paint
 pub mod Steps
 pub mod Reading
 pub mod Stream
+pub mod Lost
 pub mod Private

@@ -1,6 +1,6 @@
 //! What stands in a line, cell by cell.
 ghost use Rattle.std.specs.Prelude.{◌≡◌, ◌++◌, ◌∷◌, [], ℕ, List, OnOk, MatchOption, length, replicate, reverse};
-ghost use Rattle.csicodec_overwrite.specs.Cells.{begins_behind, belongs, columns, emptied, is_empty, outside, takes, trimmed, without};
+ghost use Rattle.csicodec_overwrite.specs.Cells.{begins_behind, belongs, columns, emptied, is_empty, onto, outside, takes, trimmed, without};
 
 use csicodec_html::Look;
 use std::alloc::{AllocError, Global};
@@ -114,6 +114,13 @@ impl Side {
             (λ cell. (others : _) × (self.now ≡ cell ∷ others)) }
     {
         self.cells.last().copied()
+    }
+
+    /// All cells, the farthest first.
+    pub(crate) fn from_farthest(&self) -> &[Cell]
+        ensures { result.now ≡ onto self.now [] }
+    {
+        &self.cells
     }
 
     /// Puts a cell nearest.

@@ -9,6 +9,7 @@ ghost use Rattle.csicodec_html.specs.Look.{behind_all};
 ghost use Rattle.csicodec_overwrite.specs.declared.pen.Pen.{Pen};
 ghost use Rattle.csicodec_overwrite.specs.declared.step.Step.{Step};
 ghost use Rattle.csicodec_overwrite.specs.Line.{HasRoom, blank, do_all, size};
+ghost use Rattle.csicodec_overwrite.specs.Lost.{NothingLost, NothingMade};
 ghost use Rattle.csicodec_overwrite.specs.Paint.{IsInRange, look_text};
 ghost use Rattle.csicodec_overwrite.specs.Reading.{Overwrites, Paints, Shows, most};
 ghost use Rattle.csicodec_overwrite.specs.Stream.{AnyChunks};
@@ -50,4 +51,11 @@ pub fn looks_back()
 /// The line that isn't over never holds more than 65,536 cells, whatever comes.
 pub fn bounded()
     ensures { (pen : Pen) (steps : List Step) → size (do_all most pen steps blank).line ≤ most }
+{}
+
+/// Nothing is lost. But for tabs and newlines, each character that `strip` leaves of the bytes is in the text, or was overwritten,
+/// erased, deleted or parted in its line. Nor is anything made: but for blanks and newlines, each came, by itself or by REP.
+pub fn nothing_lost()
+    ensures lost { NothingLost }
+    ensures made { NothingMade }
 {}

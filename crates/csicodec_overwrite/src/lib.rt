@@ -1,6 +1,7 @@
 //! Each line of a stream as it stands when it ends: what was written over, or erased, is gone. It is plain text, or a page.
 #![tactic(auto)]
 
+mod ascii;
 mod cells;
 pub mod laws;
 mod line;

@@ -1,10 +1,15 @@
 //! A line and its cursor.
-ghost use Rattle.std.specs.Prelude.{◌≡◌, ◌-◌, ◌++◌, [], OnOk};
+ghost use Rattle.std.specs.Prelude.{◌≡◌, ◌-◌, ◌++◌, [], true, OnOk};
+ghost use Rattle.std.specs.List.{AllByRecursion};
+ghost use Rattle.csicodec_clean.specs.Private.Steps.{IsPlainByte};
 ghost use Rattle.csicodec_overwrite.specs.Cells.{columns, glyph, onto};
 ghost use Rattle.csicodec_overwrite.specs.Line.{at_column, back, behind_columns, blank, cells_of, delete, do_all, does, erase, erase_all, erase_left, erase_right, fits, forward, from_stop, insert, leave, line, lines_of, over, parted, pen_behind_all, placed, put, repeated, restored, size, target, to_stop};
 ghost use Rattle.csicodec_overwrite.specs.Paint.{ended, text_of, texts_of};
+ghost use Rattle.csicodec_overwrite.specs.Private.Plain.{GoesBehind, IsStraight};
+ghost use Rattle.csicodec_overwrite.specs.Steps.{of_chars};
 ghost use Rattle.csicodec_overwrite.specs.declared.step.Step.TheVariants.{Tab};
 
+use crate::ascii::{is_short_line, plain_step};
 use crate::cells::{Cell, Glyph, Side};
 use crate::paint::append_cells;
 use crate::pen::Pen;
@@ -33,6 +38,13 @@ impl Line {
             left: Side::new(alloc),
             right: Side::new(alloc),
         }
+    }
+
+    /// Whether nothing stands in it, and the cursor is at its start.
+    fn is_blank(&self) -> bool
+        ensures { result ≡ true → self.now ≡ blank }
+    {
+        self.left.len() == 0 && self.right.len() == 0
     }
 
     /// How many cells it has room for.
@@ -219,8 +231,9 @@ impl Line {
     {
         move_all(&mut self.right, &mut self.left)?;
         self.left.trim();
-        move_all(&mut self.left, &mut self.right)?;
-        append_cells(&mut self.right, painted, out)
+        append_cells(self.left.from_farthest(), painted, out)?;
+        self.left.clear();
+        Ok(())
     }
 
     /// Ends the line.
@@ -252,8 +265,8 @@ impl Line {
             (out.new.items ≡ out.old.items ++ ended painted (onto self.old.left [])) }
         ensures none { OnOk result (self.new ≡ blank) }
     {
-        move_all(&mut self.left, &mut self.right)?;
-        append_cells(&mut self.right, painted, out)?;
+        append_cells(self.left.from_farthest(), painted, out)?;
+        self.left.clear();
         out.push(b'\n')?;
         Ok(())
     }
@@ -309,6 +322,20 @@ impl Line {
         self.forward(limit, pen.saved.min(WIDEST as usize - 1))
     }
 
+    /// Whether the character takes one cell, behind all that stands there.
+    #[tactic(auto, using(crate::proofs::Moved::no_cells))]
+    fn goes_behind(&self, limit: usize, pen: &Pen, char: char) -> bool
+        ensures { result ≡ true → GoesBehind limit pen.now char self.now }
+    {
+        if char < ' ' || char >= '\u{7f}' || pen.inserts {
+            return false;
+        }
+        if self.right.len() > 0 {
+            return false;
+        }
+        self.left.len() < limit
+    }
+
     /// Puts a character, on a line of its own where this has no room for it.
     fn put(
         &mut self,
@@ -323,11 +350,15 @@ impl Line {
         ensures text { OnOk result (out.new.items ≡ out.old.items
             ++ texts_of painted (put limit pen.now.inserts (glyph char pen.now.look) self.old).lines) }
     {
-        let columns = width(char, self.left.columns());
         let glyph = Glyph {
             char,
             look: pen.look,
         };
+        if self.goes_behind(limit, pen, char) {
+            self.left.push(Cell::Char(glyph))?;
+            return Ok(());
+        }
+        let columns = width(char, self.left.columns());
         if self.fits(limit, columns) {
             return self.place(pen.inserts, glyph, columns);
         }
@@ -438,5 +469,68 @@ impl Line {
             rest = behind;
         }
         Ok(())
+    }
+
+    /// The same of the steps of text of ASCII, one by one.
+    fn take_plain(
+        &mut self,
+        limit: usize,
+        pen: &mut Pen,
+        text: &[u8],
+        painted: bool,
+        out: &mut Vec<u8>,
+    ) -> Result<(), AllocError>
+        requires { AllByRecursion IsPlainByte text.now }
+        ensures line { OnOk result
+            (self.new ≡ (do_all limit pen.old (of_chars text.now) self.old).line) }
+        ensures pen { OnOk result
+            (pen.new ≡ pen_behind_all limit pen.old (of_chars text.now) self.old) }
+        ensures text { OnOk result (out.new.items ≡ out.old.items
+            ++ texts_of painted (do_all limit pen.old (of_chars text.now) self.old).lines) }
+    {
+        let mut rest = text;
+        while let Some((byte, behind)) = rest.split_first() {
+            let step = plain_step(*byte);
+            let next = pen.behind(step, self.left.columns());
+            self.take(limit, pen, step, painted, out)?;
+            *pen = next;
+            rest = behind;
+        }
+        Ok(())
+    }
+
+    /// Whether such text is a line that is written as it comes.
+    fn is_straight(&self, limit: usize, pen: &Pen, text: &[u8], painted: bool) -> bool
+        ensures { result ≡ true → IsStraight limit painted pen.now text.now self.now }
+    {
+        if !self.is_blank() {
+            return false;
+        }
+        pen.puts_plain(painted) && is_short_line(limit, text)
+    }
+
+    /// The same of the steps of text of ASCII, which goes no further than the end of its line.
+    pub(crate) fn put_text(
+        &mut self,
+        limit: usize,
+        pen: &mut Pen,
+        text: &[u8],
+        painted: bool,
+        out: &mut Vec<u8>,
+    ) -> Result<(), AllocError>
+        requires { AllByRecursion IsPlainByte text.now }
+        ensures line { OnOk result
+            (self.new ≡ (do_all limit pen.old (of_chars text.now) self.old).line) }
+        ensures pen { OnOk result
+            (pen.new ≡ pen_behind_all limit pen.old (of_chars text.now) self.old) }
+        ensures text { OnOk result (out.new.items ≡ out.old.items
+            ++ texts_of painted (do_all limit pen.old (of_chars text.now) self.old).lines) }
+    {
+        if self.is_straight(limit, pen, text, painted) {
+            out.extend_from_slice(text)?;
+            *pen = pen.behind(Step::NewLine, 0);
+            return Ok(());
+        }
+        self.take_plain(limit, pen, text, painted, out)
     }
 }

@@ -1,7 +1,11 @@
 //! A stream of which each line is overwritten, as it comes.
-ghost use Rattle.std.specs.Prelude.{◌≡◌, ◌≤◌, ◌++◌, ℕ, List, OnOk, length, true};
-ghost use Rattle.csicodec_overwrite.specs.Stream.{Ending, Passes, begun, begun_as};
+ghost use Rattle.std.specs.Prelude.{◌≡◌, ◌≤◌, ◌<◌, ◌++◌, ℕ, List, OnOk, IfOk, length, true};
+ghost use Rattle.std.specs.List.{AllByRecursion};
+ghost use Rattle.csicodec_clean.specs.Private.Steps.{IsPlainByte};
+ghost use Rattle.csicodec_overwrite.specs.Private.Plain.{Leads};
+ghost use Rattle.csicodec_overwrite.specs.Stream.{Ending, Passes, begun, begun_as, none_held};
 
+use crate::ascii::{odd_len, split_plain};
 use crate::line::Line;
 use crate::pen::Pen;
 use crate::reader::Reader;
@@ -63,6 +67,74 @@ impl Overwriter {
         }
     }
 
+    /// Whether nothing is open or held.
+    fn is_bare(&self) -> bool
+        ensures { result ≡ true → self.now.reader ≡ none_held }
+    {
+        self.reader.is_bare()
+    }
+
+    /// Takes text of ASCII, no further than the end of its line.
+    fn take_text(&mut self, text: &[u8], out: &mut Vec<u8>) -> Result<(), AllocError>
+        requires plain { AllByRecursion IsPlainByte text.now }
+        requires bare { self.old.reader ≡ none_held }
+        ensures passes { OnOk result ((more : List ℕ) × Passes self.old text.now more self.new
+            × (out.new.items ≡ out.old.items ++ more)) }
+        ensures reader { OnOk result (self.new.reader ≡ none_held) }
+    {
+        self.line
+            .put_text(LIMIT, &mut self.pen, text, self.painted, out)?;
+        Ok(())
+    }
+
+    /// Takes the text of ASCII in front, if nothing is open or held, and answers what is behind it.
+    fn take_texts<'a>(&mut self, bytes: &'a [u8], out: &mut Vec<u8>) -> Result<&'a [u8], AllocError>
+        ensures leads { IfOk result (λ rest. (front : List ℕ) × (text : List ℕ)
+            × (bytes.now ≡ front ++ rest.now) × Leads self.old front text self.new
+            × (out.new.items ≡ out.old.items ++ text)) }
+        ensures reader { OnOk result (self.new.reader ≡ self.old.reader) }
+    {
+        let mut rest = bytes;
+        let mut more = self.is_bare();
+        while more {
+            let (text, behind) = split_plain(rest);
+            self.take_text(text, out)?;
+            more = text.len() > 0;
+            rest = behind;
+        }
+        Ok(rest)
+    }
+
+    /// Takes bytes step by step, whatever they are.
+    fn take_steps(&mut self, bytes: &[u8], out: &mut Vec<u8>) -> Result<(), AllocError>
+        ensures passes { OnOk result ((text : List ℕ) × Passes self.old bytes.now text self.new
+            × (out.new.items ≡ out.old.items ++ text)) }
+        ensures held { OnOk result
+            (length self.old.reader.held ≤ 3 → length self.new.reader.held ≤ 3) }
+    {
+        self.steps.clear();
+        self.reader.push(bytes, &mut self.steps)?;
+        self.line
+            .take_all(LIMIT, &mut self.pen, &self.steps, self.painted, out)?;
+        Ok(())
+    }
+
+    /// Takes the text of ASCII in front, and some bytes behind it step by step, and answers the others.
+    fn take_front<'a>(&mut self, bytes: &'a [u8], out: &mut Vec<u8>) -> Result<&'a [u8], AllocError>
+        ensures passes { IfOk result (λ rest. (front : List ℕ) × (text : List ℕ)
+            × (bytes.now ≡ front ++ rest.now) × Passes self.old front text self.new
+            × (out.new.items ≡ out.old.items ++ text)) }
+        ensures fewer { IfOk result
+            (λ rest. 0 < length bytes.now → length rest.now < length bytes.now) }
+        ensures held { OnOk result
+            (length self.old.reader.held ≤ 3 → length self.new.reader.held ≤ 3) }
+    {
+        let odd = self.take_texts(bytes, out)?;
+        let (front, rest) = odd.split_at(odd_len(odd, !self.is_bare()));
+        self.take_steps(front, out)?;
+        Ok(rest)
+    }
+
     /// Takes the next bytes, and appends the lines that are over now.
     pub fn push(&mut self, bytes: &[u8], out: &mut Vec<u8>) -> Result<(), AllocError>
         ensures passes { OnOk result ((text : List ℕ) × Passes self.old bytes.now text self.new
@@ -71,10 +143,10 @@ impl Overwriter {
         ensures held { OnOk result
             (length self.old.reader.held ≤ 3 → length self.new.reader.held ≤ 3) }
     {
-        self.steps.clear();
-        self.reader.push(bytes, &mut self.steps)?;
-        self.line
-            .take_all(LIMIT, &mut self.pen, &self.steps, self.painted, out)?;
+        let mut rest = self.take_front(bytes, out)?;
+        while !rest.is_empty() {
+            rest = self.take_front(rest, out)?;
+        }
         Ok(())
     }
 

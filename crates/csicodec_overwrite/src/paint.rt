@@ -1,11 +1,11 @@
 //! A line as text: its characters alone, or painted, with the sequences that set how they look.
-ghost use Rattle.std.specs.Prelude.{◌≡◌, ◌++◌, [], OnOk, encode_utf8_all, not};
+ghost use Rattle.std.specs.Prelude.{◌≡◌, ◌++◌, OnOk, encode_utf8_all, not};
 ghost use Rattle.std.specs.List.{flat_map};
 ghost use Rattle.csicodec_html.specs.Look.{is_default, is_none, is_normal};
 ghost use Rattle.csicodec_overwrite.specs.Cells.{chars_of};
 ghost use Rattle.csicodec_overwrite.specs.Paint.{further, given, look_of, look_text, paint, same, same_color, same_flag, same_intensity, same_underline, text_of, turn};
 
-use crate::cells::{Cell, Side};
+use crate::cells::Cell;
 use bstr::ByteVec;
 use csicodec_base::{ColorSpec, Intensity, Sgr, Underline};
 use csicodec_html::Look;
@@ -61,7 +61,7 @@ fn same_color(a: ColorSpec, b: ColorSpec) -> bool
 }
 
 /// Whether two looks are one.
-fn same(a: Look, b: Look) -> bool
+pub(crate) fn same(a: Look, b: Look) -> bool
     ensures { result ≡ same a b }
 {
     same_intensity(a.intensity, b.intensity)
@@ -165,45 +165,46 @@ fn append_cell(cell: Cell, out: &mut Vec<u8>) -> Result<(), AllocError>
     }
 }
 
-/// Takes the cells of a side, and appends their characters.
-fn append_plain(side: &mut Side, out: &mut Vec<u8>) -> Result<(), AllocError>
-    ensures text { OnOk result
-        (out.new.items ≡ out.old.items ++ encode_utf8_all (flat_map chars_of side.old)) }
-    ensures none { OnOk result (side.new ≡ []) }
+/// Appends the characters of cells.
+fn append_plain(cells: &[Cell], out: &mut Vec<u8>) -> Result<(), AllocError>
+    ensures { OnOk result
+        (out.new.items ≡ out.old.items ++ encode_utf8_all (flat_map chars_of cells.now)) }
 {
-    while let Some(cell) = side.pop() {
-        append_cell(cell, out)?;
+    let mut rest = cells;
+    while let Some((cell, behind)) = rest.split_first() {
+        append_cell(*cell, out)?;
+        rest = behind;
     }
     Ok(())
 }
 
 /// The same, painted: behind text that looks so, and at the end nothing is set.
-fn append_painted(look: Look, side: &mut Side, out: &mut Vec<u8>) -> Result<(), AllocError>
-    ensures text { OnOk result (out.new.items ≡ out.old.items ++ paint look side.old) }
-    ensures none { OnOk result (side.new ≡ []) }
+fn append_painted(look: Look, cells: &[Cell], out: &mut Vec<u8>) -> Result<(), AllocError>
+    ensures { OnOk result (out.new.items ≡ out.old.items ++ paint look cells.now) }
 {
     let mut now = look;
-    while let Some(cell) = side.pop() {
-        let next = look_of(now, cell);
+    let mut rest = cells;
+    while let Some((cell, behind)) = rest.split_first() {
+        let next = look_of(now, *cell);
         append_turn(now, next, out)?;
-        append_cell(cell, out)?;
+        append_cell(*cell, out)?;
         now = next;
+        rest = behind;
     }
     append_turn(now, Look::plain(), out)
 }
 
-/// Takes the cells of a side, and appends them as text, painted or not.
+/// Appends cells as text, painted or not.
 pub(crate) fn append_cells(
-    side: &mut Side,
+    cells: &[Cell],
     painted: bool,
     out: &mut Vec<u8>,
 ) -> Result<(), AllocError>
-    ensures text { OnOk result (out.new.items ≡ out.old.items ++ text_of painted side.old) }
-    ensures none { OnOk result (side.new ≡ []) }
+    ensures { OnOk result (out.new.items ≡ out.old.items ++ text_of painted cells.now) }
 {
     if painted {
-        append_painted(Look::plain(), side, out)
+        append_painted(Look::plain(), cells, out)
     } else {
-        append_plain(side, out)
+        append_plain(cells, out)
     }
 }

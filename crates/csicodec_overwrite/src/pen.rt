@@ -1,7 +1,9 @@
 //! How characters are put, and what is saved.
-ghost use Rattle.std.specs.Prelude.{◌≡◌};
+ghost use Rattle.std.specs.Prelude.{◌≡◌, true};
 ghost use Rattle.csicodec_overwrite.specs.Line.{fresh, last_behind, pen_behind};
+ghost use Rattle.csicodec_overwrite.specs.Private.Plain.{PutsPlain};
 
+use crate::paint::same;
 use crate::sides::width;
 use crate::step::Step;
 use csicodec_html::Look;
@@ -33,6 +35,20 @@ impl Pen {
             saved: 0,
             here: false,
         }
+    }
+
+    /// Whether it puts characters in place of others, and without attributes, if lines are painted.
+    #[tactic(auto, using(crate::proofs::Straight::is_plain))]
+    pub(crate) fn puts_plain(&self, painted: bool) -> bool
+        ensures { result ≡ true → PutsPlain painted self.now }
+    {
+        if self.inserts {
+            return false;
+        }
+        if painted {
+            return same(self.look, Look::plain());
+        }
+        true
     }
 
     /// What REP repeats behind one more character: a mark isn't repeated.

@@ -1,5 +1,5 @@
 //! The steps of a stream, as it comes.
-ghost use Rattle.std.specs.Prelude.{◌≡◌, ◌≢◌, ◌≤◌, ◌++◌, ℕ, List, [], false, length, map, MatchOption, OnOk, IfOk};
+ghost use Rattle.std.specs.Prelude.{◌≡◌, ◌≢◌, ◌≤◌, ◌++◌, ℕ, List, [], false, true, length, map, MatchOption, OnOk, IfOk};
 ghost use Rattle.csicodec_tokens.specs.Sequence.{Seq};
 ghost use Rattle.csicodec_parser.specs.ActionOf.{action_of};
 ghost use Rattle.csicodec_parser.specs.Segments.{Actions};
@@ -143,6 +143,13 @@ impl Reader {
             params: Vec::new(alloc),
             actions: Vec::new(alloc),
         }
+    }
+
+    /// Whether nothing is open or held.
+    pub(crate) fn is_bare(&self) -> bool
+        ensures { result ≡ true → self.now ≡ none_held }
+    {
+        self.mode == Mode::Text && !self.titled && self.pending.is_empty() && self.held.is_empty()
     }
 
     /// Takes the next bytes, and appends the steps of all that is sure now.

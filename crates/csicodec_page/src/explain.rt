@@ -2,7 +2,7 @@
 ghost use Rattle.std.specs.Prelude.{◌≤◌, IfOk, length};
 
 use crate::input::Sending;
-use crate::page::Page;
+use crate::page::{Modes, Page};
 use crate::stats::stats_of;
 use csicodec_events::Dialect;
 use csicodec_sheet::Style;
@@ -31,13 +31,11 @@ fn add_spans(page: &mut Page<'_>, mode: Mode, bytes: &[u8]) -> Result<(usize, Mo
         let Some(cut) = next_span(LIMIT, mode, rest) else {
             return Ok((bytes.len() - rest.len(), mode));
         };
-        page.add(
-            mode,
-            cut.span.kind,
-            cut.span.bytes,
-            cut.mode,
-            !cut.rest.is_empty(),
-        )?;
+        let modes = Modes {
+            before: mode,
+            after: cut.mode,
+        };
+        page.add(modes, cut.span.kind, cut.span.bytes, !cut.rest.is_empty())?;
         mode = cut.mode;
         rest = cut.rest;
     }
@@ -124,8 +122,11 @@ impl<'a> Explainer<'a> {
         if self.is_of_input() {
             self.sending.end(&mut self.page, self.mode, &self.pending)?;
         } else if !self.pending.is_empty() {
-            self.page
-                .add(self.mode, Kind::Other, &self.pending, self.mode, false)?;
+            let modes = Modes {
+                before: self.mode,
+                after: self.mode,
+            };
+            self.page.add(modes, Kind::Other, &self.pending, false)?;
         }
         self.pending.clear();
         self.mode = Mode::Text;

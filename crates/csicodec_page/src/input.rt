@@ -2,10 +2,10 @@
 ghost use Rattle.std.specs.Prelude.{◌≡◌, ◌<◌, ◌≤◌, IfOk, length};
 ghost use Rattle.csicodec_events.specs.Events.{IsMet};
 
-use crate::page::Page;
+use crate::page::{Modes, Page};
 use csicodec_base::CsiParam;
 use csicodec_events::{Dialect, Event, Events, InputEvent, Sent};
-use csicodec_inputs::Did;
+use csicodec_readings::Did;
 use csicodec_sheet::Sort;
 use csicodec_spans::{Kind, LIMIT, Mode};
 use std::alloc::{AllocError, Global};
@@ -22,13 +22,6 @@ pub struct Sending {
     looked: usize,
     /// When the last bytes came, in microseconds.
     time: u64,
-}
-
-/// The modes ahead of an event and behind it.
-#[derive(Clone, Copy)]
-struct Modes {
-    before: Mode,
-    after: Mode,
 }
 
 /// The events of bytes in this mode; of those that waited so many were looked at.
@@ -69,7 +62,7 @@ fn tell_output(
         Event::Csi(control) => return page.add_read(sent.bytes, params, control),
     };
     let over = sent.rest.first().copied() == Some(0x1b);
-    page.add(modes.before, kind, sent.bytes, modes.after, over)
+    page.add(modes, kind, sent.bytes, over)
 }
 
 /// Tells an event; of a control sequence these are the tokens. A control within a sequence has no bytes of its own.
@@ -182,6 +175,10 @@ impl Sending {
         } else {
             Kind::Other
         };
-        page.add(mode, kind, bytes, mode, false)
+        let modes = Modes {
+            before: mode,
+            after: mode,
+        };
+        page.add(modes, kind, bytes, false)
     }
 }

@@ -3,9 +3,8 @@ ghost use Rattle.std.specs.Prelude.{◌≤◌, IfOk, length};
 
 use crate::controls::{is_control, text_front, words_of};
 use csicodec_base::{CsiParam, Esc, read_csi_into};
-use csicodec_inputs::Did;
 use csicodec_parser::CSI;
-use csicodec_readings::{EscReading, LongEscReading, Reading};
+use csicodec_readings::{Did, EscReading, LongEscReading, Reading};
 use csicodec_sheet::{
     Names, Sheet, Sort, Style, Summary, Told, Totals, clipboard_bytes, whole_characters,
 };
@@ -28,6 +27,13 @@ struct Open {
     closed: bool,
     /// The first of the bytes.
     front: Vec<u8>,
+}
+
+/// The modes ahead of bytes of a stream and behind them.
+#[derive(Clone, Copy)]
+pub struct Modes {
+    pub before: Mode,
+    pub after: Mode,
 }
 
 /// The lines of the spans that came, and the span of which more may come. It doesn't grow with that span, but where all
@@ -593,41 +599,31 @@ impl<'a> Page<'a> {
         Ok(())
     }
 
-    /// Bytes of a string, or of what went wrong, that stand in this mode, with the mode behind them.
-    fn add_part(
-        &mut self,
-        mode: Mode,
-        kind: Kind,
-        bytes: &[u8],
-        next: Mode,
-    ) -> Result<(), AllocError> {
-        let same = self.open.len > 0 && self.open.kind == kind && mode.goes_on(bytes);
+    /// Bytes of a string, or of what went wrong, between these modes.
+    fn add_part(&mut self, modes: Modes, kind: Kind, bytes: &[u8]) -> Result<(), AllocError> {
+        let same = self.open.len > 0 && self.open.kind == kind && modes.before.goes_on(bytes);
         self.add_open(kind, same, bytes)?;
-        self.open.closed = kind == Kind::Str && next == Mode::Text;
+        let over = modes.after == Mode::Text;
+        self.open.closed = kind == Kind::Str && over;
         self.text = false;
         self.advance(kind, if same { 0 } else { 1 }, bytes.len());
-        if next == Mode::Text {
-            self.close()
-        } else {
-            Ok(())
-        }
+        if over { self.close() } else { Ok(()) }
     }
 
-    /// Bytes of one kind, at least one, that stand in this mode, with the mode behind them, and whether more bytes are there: a span is
-    /// told when it is known where it ends.
+    /// Bytes of one kind, at least one, between these modes, and whether more bytes are there: a span is told when it is known where it
+    /// ends.
     pub fn add(
         &mut self,
-        mode: Mode,
+        modes: Modes,
         kind: Kind,
         bytes: &[u8],
-        next: Mode,
         more: bool,
     ) -> Result<(), AllocError> {
         match kind {
             Kind::Csi => self.add_sequence(bytes),
             Kind::Esc => self.add_escape(bytes),
             Kind::Text => self.add_text(bytes, more),
-            Kind::Str | Kind::Other => self.add_part(mode, kind, bytes, next),
+            Kind::Str | Kind::Other => self.add_part(modes, kind, bytes),
         }
     }
 }

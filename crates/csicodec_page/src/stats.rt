@@ -9,7 +9,7 @@ const HEADING: &str = "name                         times        bytes    share\
 
 /// A line of the table.
 #[derive(Clone, Copy)]
-struct Row<'a> {
+struct StatsRow<'a> {
     name: &'a str,
     sum: Sum,
     /// Its share of all bytes, in thousandths.
@@ -25,7 +25,7 @@ fn thousandths(bytes: u64, all: u64) -> u64 {
     bytes.checked_div(all).unwrap_or(0)
 }
 
-impl<'a> Row<'a> {
+impl<'a> StatsRow<'a> {
     fn write_object<W: fmt::Write>(&self, f: &mut fmt::Formatter<W>) -> fmt::Result {
         let (name, times, bytes) = (self.name, self.sum.times, self.sum.bytes);
         write!(f, "{{\"kind\":\"stats\",\"name\":\"{name}\"")?;
@@ -42,7 +42,7 @@ impl<'a> Row<'a> {
     }
 }
 
-impl<'a> fmt::Display for Row<'a> {
+impl<'a> fmt::Display for StatsRow<'a> {
     fn fmt<W: fmt::Write>(&self, f: &mut fmt::Formatter<W>) -> fmt::Result {
         if self.json {
             self.write_object(f)
@@ -67,7 +67,7 @@ pub fn stats_of(alloc: Global, names: &Names, all: u64, json: bool) -> Result<St
     for (name, sum) in &rows {
         let before = thousandths(bytes, all);
         bytes = bytes.saturating_add(sum.bytes);
-        let row = Row {
+        let row = StatsRow {
             name: *name,
             sum: *sum,
             share: thousandths(bytes, all).saturating_sub(before),

@@ -1,13 +1,16 @@
 //! What a terminal makes of a control sequence or an escape sequence: the words of its action, and where a terminal reads
-//! it otherwise than the codec, or the codec has no action for it, the words of what terminals make of it.
+//! it otherwise than the codec, or the codec has no action for it, the words of what terminals make of it. And what a terminal
+//! sends: keys, the mouse and the focus.
 #![tactic(auto)]
 
 mod escape_rows;
 mod escapes;
+mod input;
 mod intermediates;
 mod key_words;
 mod keys;
 mod list;
+mod mouse;
 mod other_sets;
 mod otherwise;
 mod sequence_rows;
@@ -18,7 +21,7 @@ mod told;
 
 use crate::escapes::escape_of;
 use crate::intermediates::escape_of_bytes;
-use crate::keys::key_by_number;
+use crate::keys::{key_by_number, key_of};
 use crate::list::{is_regular, marker};
 use crate::other_sets::Escape;
 use crate::otherwise::{Otherwise, read_otherwise};
@@ -28,9 +31,8 @@ use crate::template::fill;
 use csicodec_base::{CsiParam, Esc};
 use csicodec_parser::{CSI, Unspecified};
 use csicodec_words::{Describe, words_of};
-pub use keys::{KeyWords, key_of};
+pub use input::Did;
 use std::fmt;
-pub use told::{held, mouse_event};
 
 /// One action of a control sequence, as a terminal reads it.
 #[derive(Clone, Copy)]

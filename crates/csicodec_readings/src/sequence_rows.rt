@@ -1,21 +1,21 @@
 // Written by tools/table from table/sequences.toml: change that, and run python3 tools/table.
 //! Control sequences without an action, in words.
 
-use crate::table::{ANY, Row};
+use crate::table::{ANY, WordsRow};
 
 macro_rules! row {
     ($kind:literal, $marker:expr, $between:expr, $control:literal, $first:expr, $second:expr, $fields:expr, $words:literal) => {
-        Row { kind: $kind, marker: $marker, between: $between, control: $control, first: $first, second: $second, fields: $fields, words: $words }
+        WordsRow { kind: $kind, marker: $marker, between: $between, control: $control, first: $first, second: $second, fields: $fields, words: $words }
     };
 }
 
 /// What sequences without an action are, those that no row reads by the first that has their bytes and numbers.
-pub(crate) fn parts() -> [&'static [Row]; 5] {
+pub(crate) fn parts() -> [&'static [WordsRow]; 5] {
     [part_0(), part_1(), part_2(), part_3(), part_4()]
 }
 
 /// Those from place 0 on.
-pub(crate) static PART_0: [Row; 60] = [
+pub(crate) static PART_0: [WordsRow; 60] = [
     row! { 0, b'?', 0, 'h', (737769, 737769), ANY, ANY, "DECSET {0}  input method (foot) on" },
     row! { 0, b'?', 0, 'l', (737769, 737769), ANY, ANY, "DECRST {0}  input method (foot) off" },
     row! { 0, b'?', b'$', 'p', (737769, 737769), ANY, ANY, "DECRQM {0}  ask for the mode: input method (foot)" },
@@ -78,12 +78,12 @@ pub(crate) static PART_0: [Row; 60] = [
     row! { 10091, 0, 0, 'n', (2, 2), ANY, ANY, "DSR  status report {0}" },
 ];
 
-fn part_0() -> &'static [Row] {
+fn part_0() -> &'static [WordsRow] {
     &PART_0
 }
 
 /// Those from place 60 on.
-pub(crate) static PART_1: [Row; 60] = [
+pub(crate) static PART_1: [WordsRow; 60] = [
     row! { 10092, 0, 0, 'n', (3, 3), ANY, ANY, "DSR  answer: malfunction" },
     row! { 10093, 0, 0, 'n', (4, 4), ANY, ANY, "DSR  status report {0}" },
     row! { 10144, b'>', 0, 'p', (0, 0), ANY, ANY, "XTSMPOINTER  never hide the pointer" },
@@ -146,12 +146,12 @@ pub(crate) static PART_1: [Row; 60] = [
     row! { 10217, b'?', 0, 'n', (997, 997), (2, 2), ANY, "colour scheme  answer: light (contour, kitty)" },
 ];
 
-fn part_1() -> &'static [Row] {
+fn part_1() -> &'static [WordsRow] {
     &PART_1
 }
 
 /// Those from place 120 on.
-pub(crate) static PART_2: [Row; 60] = [
+pub(crate) static PART_2: [WordsRow; 60] = [
     row! { 10217, b'?', 0, 'n', (997, 997), ANY, ANY, "colour scheme  answer: unknown (contour, kitty)" },
     row! { 10218, b'?', 0, 'c', (4, 4), ANY, ANY, "DA1  answer: VT132 with advanced video and graphics" },
     row! { 10219, b'?', 0, 'c', (7, 7), ANY, ANY, "DA1  answer: VT131" },
@@ -214,12 +214,12 @@ pub(crate) static PART_2: [Row; 60] = [
     row! { 10043, 0, b',', '~', ANY, ANY, ANY, "DECPS  play note {2}, volume {0}, duration {1}" },
 ];
 
-fn part_2() -> &'static [Row] {
+fn part_2() -> &'static [WordsRow] {
     &PART_2
 }
 
 /// Those from place 180 on.
-pub(crate) static PART_3: [Row; 60] = [
+pub(crate) static PART_3: [WordsRow; 60] = [
     row! { 10044, 0, b'-', 'q', ANY, ANY, ANY, "DECCRTST  time to the screen saver: {0=15}" },
     row! { 10045, 0, b'-', 'r', ANY, ANY, ANY, "DECSEST  time to saving energy: {0=15}" },
     row! { 10046, 0, b'-', 'p', ANY, ANY, ANY, "DECARR  auto-repeat rate {0=30}" },
@@ -282,12 +282,12 @@ pub(crate) static PART_3: [Row; 60] = [
     row! { 10130, 0, b' ', 'e', ANY, ANY, ANY, "SCO  orientation of characters: {0}" },
 ];
 
-fn part_3() -> &'static [Row] {
+fn part_3() -> &'static [WordsRow] {
     &PART_3
 }
 
 /// Those from place 240 on.
-pub(crate) static PART_4: [Row; 44] = [
+pub(crate) static PART_4: [WordsRow; 44] = [
     row! { 10131, 0, b' ', 'f', ANY, ANY, ANY, "SRCS  reduced character separation: {0}" },
     row! { 10132, 0, b' ', 'g', ANY, ANY, ANY, "SCS  character spacing: {0}" },
     row! { 10133, 0, b' ', 'h', ANY, ANY, ANY, "SLS  line spacing: {0}" },
@@ -334,12 +334,12 @@ pub(crate) static PART_4: [Row; 44] = [
     row! { 10232, 0, 0, '_', ANY, ANY, (1, 6), "key  virtual key {0}, scan code {1}, character {2}, {3?1=pressed|=released}{4@win32_held} (Win32 input mode)" },
 ];
 
-fn part_4() -> &'static [Row] {
+fn part_4() -> &'static [WordsRow] {
     &PART_4
 }
 
 /// What is said in the place of an action.
-pub(crate) static INSTEAD: [Row; 5] = [
+pub(crate) static INSTEAD: [WordsRow; 5] = [
     row! { 0, 0, 0, 's', ANY, (0, 0), (2, 2), "DECSLRM  left and right margins: column {0:1} to the last" },
     row! { 0, 0, b'*', 'y', ANY, (0, 0), ANY, "DECRQCRA  ask for the checksum of lines {2:1} to {4:the last}, columns {3:1} to {5:the last} of all pages, request {0}" },
     row! { 0, 0, b'*', 'y', ANY, ANY, ANY, "DECRQCRA  ask for the checksum of lines {2:1} to {4:the last}, columns {3:1} to {5:the last} of page {1}, request {0}" },

@@ -6,14 +6,14 @@ use csicodec_base::CsiParam;
 use csicodec_sequences::Known;
 
 /// From a number to another one.
-pub type Span = (i64, i64);
+pub type Range = (i64, i64);
 
 /// Any number.
-pub const ANY: Span = (0, i64::MAX);
+pub const ANY: Range = (0, i64::MAX);
 
 /// Words, and the lists that they are of.
 #[derive(Clone, Copy)]
-pub struct Row {
+pub struct WordsRow {
     /// The row of csicodec_sequences that reads such a list; 0 where none does.
     pub kind: u32,
     /// One of `< = > ?`, and 0 where the list has none.
@@ -23,28 +23,28 @@ pub struct Row {
     /// The final character.
     pub control: char,
     /// The first number, 0 where it is left out.
-    pub first: Span,
+    pub first: Range,
     /// The second number.
-    pub second: Span,
+    pub second: Range,
     /// How many numbers a list has that no row reads, those counted too that are left out; a list with a colon has too many.
-    pub fields: Span,
+    pub fields: Range,
     /// The words, with holes for numbers.
     pub words: &'static str,
 }
 
-impl Row {
+impl WordsRow {
     /// Whether these can be its first two numbers.
     fn has(&self, first: i64, second: i64) -> bool {
         is_within(first, self.first) && is_within(second, self.second)
     }
 }
 
-fn is_within(number: i64, span: Span) -> bool {
+fn is_within(number: i64, span: Range) -> bool {
     span.0 <= number && number <= span.1
 }
 
 /// The words of a row of csicodec_sequences, by its first two numbers.
-fn of_kind(rows: &'static [Row], kind: u32, first: i64, second: i64) -> Option<&'static str> {
+fn of_kind(rows: &'static [WordsRow], kind: u32, first: i64, second: i64) -> Option<&'static str> {
     for row in rows {
         if row.kind == kind && row.has(first, second) {
             return Some(row.words);
@@ -68,7 +68,7 @@ fn of_row(params: &[CsiParam], control: char) -> Option<&'static str> {
 }
 
 /// The words of a list by its bytes, its first two numbers and how many it has.
-fn of_bytes(rows: &'static [Row], params: &[CsiParam], control: char) -> Option<&'static str> {
+fn of_bytes(rows: &'static [WordsRow], params: &[CsiParam], control: char) -> Option<&'static str> {
     let (marker, between) = (marker(params), intermediate(params));
     let first = number(params, 0).unwrap_or(0);
     let second = number(params, 1).unwrap_or(0);

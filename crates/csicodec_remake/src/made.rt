@@ -13,24 +13,6 @@ use std::alloc::{AllocError, Global};
 /// The largest number that a pattern is tried with, where a name stands for one: all buttons and modifiers of a mouse are below.
 const MOST: u8 = 255;
 
-/// Streams in JSON, and nothing more.
-const IN_JSON: Style<'static> = Style {
-    full: false,
-    json: true,
-    count: false,
-    stats: false,
-    unknown: false,
-    decode: false,
-    color: false,
-    timed: false,
-    live: false,
-    only: None,
-    at: &[],
-    grep: None,
-    ignore_case: false,
-    dialect: None,
-};
-
 /// Finds texts of actions, and what is read from each that it tries.
 #[derive(Drop)]
 pub(crate) struct Maker {
@@ -88,9 +70,13 @@ fn has_all(action: &Value, other: &Value) -> bool {
 impl Maker {
     /// Nothing was tried.
     pub(crate) fn new(alloc: Global) -> Maker {
+        let style = Style {
+            json: true,
+            ..Style::default()
+        };
         Maker {
             alloc,
-            explainer: Explainer::new(alloc, IN_JSON),
+            explainer: Explainer::new(alloc, style),
             text: Vec::new(alloc),
             told: Vec::new(alloc),
         }

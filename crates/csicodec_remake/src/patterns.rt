@@ -1,4 +1,4 @@
-//! The texts of actions, and the numbers of names. Written by tools/kinds.
+//! The texts of actions, and the numbers of names. Written by tools/table.
 
 /// Names of actions, each with a blank and what may stand behind ESC. What is between braces stands for something else: the place of a member (RFC
 /// 6901) for what that says, one with `'` behind it for a byte, and one with `|;` for the items of a list with `;` between them; nothing

@@ -15,7 +15,7 @@ const MOST: usize = 512;
 
 /// A sequence, and what was told of it.
 #[derive(Drop)]
-struct Entry {
+struct CacheSlot {
     /// The bytes of the sequence, and behind them what was told of it.
     kept: Vec<u8>,
     /// How many are the sequence's; none where nothing is kept.
@@ -24,10 +24,10 @@ struct Entry {
     actions: u64,
 }
 
-impl Entry {
+impl CacheSlot {
     /// Where nothing is kept.
-    fn new(alloc: Global) -> Entry {
-        Entry {
+    fn new(alloc: Global) -> CacheSlot {
+        CacheSlot {
             kept: Vec::new(alloc),
             len: 0,
             hash: 0,
@@ -50,7 +50,7 @@ impl Entry {
 #[derive(Drop)]
 pub struct Remembered {
     alloc: Global,
-    slots: Vec<Entry>,
+    slots: Vec<CacheSlot>,
     /// Which slot of a full bucket the next sequence takes.
     turn: usize,
 }
@@ -106,7 +106,7 @@ impl Remembered {
     /// Makes room.
     fn make_slots(&mut self) -> Result<(), AllocError> {
         for _ in 0..BUCKETS.saturating_mul(WAYS) {
-            self.slots.push(Entry::new(self.alloc))?;
+            self.slots.push(CacheSlot::new(self.alloc))?;
         }
         Ok(())
     }

@@ -8,7 +8,7 @@ use std::fmt;
 const MOST: usize = 1000;
 
 /// How often a name was told, and of how many bytes; both stop at `u64::MAX`.
-#[derive(Clone, Copy, Debug, Default, PartialEq, Eq)]
+#[derive(Clone, Copy, Default)]
 pub struct Sum {
     /// How often.
     pub times: u64,

@@ -1,6 +1,6 @@
 //! Spans as objects of JSON (RFC 8259), a line each.
 
-use crate::line::{Place, Sort, Told, append_time};
+use crate::line::{Offset, Sort, Told, append_time};
 use crate::style::{Style, name_of};
 use csicodec_strings::{are_plain, is_seen};
 use std::alloc::AllocError;
@@ -99,7 +99,7 @@ pub fn append_begin_object(
     style: &Style<'_>,
     file: &[u8],
     time: u64,
-    place: &Place,
+    place: &Offset,
 ) -> Result<(), AllocError> {
     text.extend_from_slice(b"{\"at\":")?;
     text.extend_from_slice(place.digits())?;

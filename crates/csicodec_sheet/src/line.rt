@@ -37,7 +37,7 @@ pub const CYAN: &[u8; 5] = b"\x1b[36m";
 pub const PLAIN: &[u8; 3] = b"\x1b[m";
 
 /// What a span is told as.
-#[derive(Clone, Copy, Debug, PartialEq, Eq)]
+#[derive(Clone, Copy, PartialEq, Eq)]
 pub enum Sort {
     Text,
     /// A control character that stands in text, or a carriage return with a line feed.
@@ -84,7 +84,7 @@ pub fn paint(text: &mut Vec<u8>, style: &Style<'_>, color: &[u8]) -> Result<(), 
 
 /// A place in a stream with its decimal digits, of which those of a place that is near behind are made.
 #[derive(Clone, Copy)]
-pub struct Place {
+pub struct Offset {
     number: u64,
     /// The digits up to column 20, with blanks around them.
     text: [u8; 22],
@@ -92,12 +92,12 @@ pub struct Place {
     begin: usize,
 }
 
-impl Place {
+impl Offset {
     /// The begin.
-    pub fn new() -> Place {
+    pub fn new() -> Offset {
         let mut text = [b' '; 22];
         text[19] = b'0';
-        Place {
+        Offset {
             number: 0,
             text,
             begin: 19,
@@ -172,7 +172,7 @@ pub fn append_begin(
     text: &mut Vec<u8>,
     style: &Style<'_>,
     time: u64,
-    place: &Place,
+    place: &Offset,
 ) -> Result<(), AllocError> {
     paint(text, style, GREY)?;
     if style.timed {

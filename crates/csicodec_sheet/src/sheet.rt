@@ -9,7 +9,7 @@ use crate::json::{
     append_string,
 };
 use crate::line::{
-    Place, Sort, Told, append_begin, append_bytes, append_margin, append_name, append_text_words,
+    Offset, Sort, Told, append_begin, append_bytes, append_margin, append_name, append_text_words,
     whole_characters,
 };
 use crate::search::Search;
@@ -52,7 +52,7 @@ pub struct Sheet<'a> {
     /// How many actions of it are told.
     actions: u64,
     /// The place of the last span that was told.
-    place: Place,
+    place: Offset,
     known: Remembered,
     names: Names,
     totals: Totals,
@@ -65,11 +65,9 @@ fn begin_at(
     text: &mut Vec<u8>,
     style: &Style<'_>,
     file: &[u8],
-    place: &mut Place,
+    place: &Offset,
     time: u64,
-    number: u64,
 ) -> Result<(), AllocError> {
-    place.go_to(number);
     if style.json {
         append_begin_object(text, style, file, time, place)
     } else {
@@ -91,7 +89,7 @@ impl<'a> Sheet<'a> {
             begin: 0,
             behind: 0,
             actions: 0,
-            place: Place::new(),
+            place: Offset::new(),
             known: Remembered::new(alloc),
             names: Names::new(alloc),
             totals: Totals::default(),
@@ -169,14 +167,8 @@ impl<'a> Sheet<'a> {
         if told.is_empty() {
             return Ok(Some(actions));
         }
-        begin_at(
-            &mut self.text,
-            &self.style,
-            &self.file,
-            &mut self.place,
-            time,
-            place,
-        )?;
+        self.place.go_to(place);
+        begin_at(&mut self.text, &self.style, &self.file, &self.place, time)?;
         self.text.extend_from_slice(told)?;
         Ok(Some(actions))
     }
@@ -194,13 +186,13 @@ impl<'a> Sheet<'a> {
 
     /// When and where a span begins.
     fn begin_span(&mut self, span: Told<'_>) -> Result<(), AllocError> {
+        self.place.go_to(span.place);
         begin_at(
             &mut self.text,
             &self.style,
             &self.file,
-            &mut self.place,
+            &self.place,
             span.time,
-            span.place,
         )
     }
 

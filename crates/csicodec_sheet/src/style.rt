@@ -3,7 +3,7 @@
 use csicodec_events::Dialect;
 
 /// How a stream is told, and what of it.
-#[derive(Clone, Copy, Debug, Default, PartialEq, Eq)]
+#[derive(Clone, Copy, Default)]
 pub struct Style<'a> {
     /// All bytes of each span are shown, and each end of a line has a row of its own; a span is held until it is over, however long
     /// it is.
@@ -46,10 +46,10 @@ fn says_unknown(name: &str, rest: &str) -> bool {
     name == "unknown" || rest.starts_with("unknown")
 }
 
-/// Whether one of the names that are asked for is this, in capitals or not.
-fn is_among(names: &str, name: &str) -> bool {
-    for asked in names.split(',') {
-        if asked.eq_ignore_ascii_case(name) {
+/// Whether one of these names, with commas between them, is this, in capitals or not.
+pub fn is_among(names: &str, name: &str) -> bool {
+    for one in names.split(',') {
+        if one.eq_ignore_ascii_case(name) {
             return true;
         }
     }

@@ -6,7 +6,7 @@ use csicodec_spans::Kind;
 use std::fmt;
 
 /// How many spans there are, and how many bytes they have together. Both stop at `u64::MAX`.
-#[derive(Clone, Copy, Debug, Default, PartialEq, Eq)]
+#[derive(Clone, Copy, Default)]
 pub struct Total {
     /// The spans.
     pub spans: u64,
@@ -22,7 +22,7 @@ impl Total {
 }
 
 /// How much there is of each kind of span, and how many actions the control sequences stand for.
-#[derive(Clone, Copy, Debug, Default, PartialEq, Eq)]
+#[derive(Clone, Copy, Default)]
 pub struct Totals {
     text: Total,
     sequences: Total,

@@ -1,4 +1,4 @@
--- A struct and its tokens are those of one action by its name, whatever action has them. Written by tools/kinds.
+-- A struct and its tokens are those of one action by its name, whatever action has them. Written by tools/table.
 use Rattle.std.proofs.Common.{◌≡◌, ◌<◌, ℕ, List, [], ◌∷◌, Option, None, Some, length, map, refl, sym, subst, ap, ◌∙◌, pos}
 use Rattle.std.specs.Prelude.{false, nat_abs, ◌==◌, if◌then◌else◌}
 use Rattle.std.specs.Option.{option_map}

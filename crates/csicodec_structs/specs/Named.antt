@@ -1,5 +1,5 @@
 -- Which action is meant, of those that have one struct: a mode, an extension of a terminal and an item of graphics are by their names
--- where they have one, and the flag of an unknown action isn't set. Any other action has no like. Written by tools/kinds.
+-- where they have one, and the flag of an unknown action isn't set. Any other action has no like. Written by tools/table.
 use Rattle.std.specs.Prelude.{◌≡◌, false}
 use Rattle.std.specs.List.{All}
 use Rattle.csicodec_actions.specs.declared.mode.Mode.{Mode}

@@ -1,5 +1,5 @@
 -- The actions that a struct can stand for: each number is one that its type lets stand, and a font has a text. What isn't
--- listed is in range. Written by tools/kinds.
+-- listed is in range. Written by tools/table.
 use Rattle.std.specs.Prelude.{◌<◌, ◌^◌}
 use Rattle.std.specs.Char.{IsScalar}
 use Rattle.std.specs.List.{All}

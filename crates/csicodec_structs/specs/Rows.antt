@@ -1,4 +1,4 @@
--- The struct of each action: a row for each kind. Written by tools/kinds.
+-- The struct of each action: a row for each kind. Written by tools/table.
 use Rattle.std.specs.Prelude.{ℕ, List, [], map, length, pos, Some}
 use Rattle.csicodec_names.specs.EnumNumbers.{cursor_style_number, erase_in_display_number, erase_in_line_number, tabulation_clear_number, tabulation_control_number}
 use Rattle.csicodec_names.specs.FlagBits.{kitty_bits}

@@ -1,6 +1,6 @@
 //! What a struct without tokens may stand for, subject by subject: a value with this struct is found wherever there is one.
 //! It is by its name. Of another struct nothing is promised: the caller sees whether what is found has it. Written by
-//! tools/kinds.
+//! tools/table.
 ghost use Rattle.std.specs.Prelude.{◌≡◌, [], IfOk, IfSome};
 ghost use Rattle.std.specs.Option.{option_map};
 ghost use Rattle.csicodec_actions.specs.Devices.{device_of};

@@ -78,7 +78,7 @@ fn lay_struct(given: Struct, end: usize, count: Counts, actions: &mut [Struct]) 
 
 /// Puts an action and its tokens behind those that are there.
 #[inline(always)]
-fn lay_one(
+pub(crate) fn lay_one(
     action: &CSI,
     count: Counts,
     actions: &mut [Struct],

@@ -14,6 +14,7 @@ mod rows;
 mod short;
 mod status;
 mod structs;
+mod terminal;
 mod token;
 
 pub use canonical::{Judged, judge};
@@ -24,3 +25,4 @@ pub use room::{fill, put};
 pub use rows::{cursor_struct, edit_struct, mode_struct, sgr_struct};
 pub use status::Status;
 pub use structs::{Param, Struct, row};
+pub use terminal::lay_as_terminals;

@@ -1,5 +1,6 @@
 //! The sequence at the front of some bytes.
 ghost use Rattle.std.specs.Prelude.{◌≡◌, ◌⊎◌};
+ghost use Rattle.csicodec_parser.specs.Segments.{Actions};
 ghost use Rattle.csicodec_structs.specs.Private.Fronts.{IsAnswer, done};
 ghost use Rattle.csicodec_structs.specs.Next.{IsDone, IsRefused, refusal, refused};
 
@@ -25,7 +26,7 @@ pub struct Front {
     pub params: usize,
 }
 
-fn refused(why: Status, at: usize) -> Front
+pub(crate) fn refused(why: Status, at: usize) -> Front
     ensures { result ≡ refused why at }
 {
     Front {
@@ -37,7 +38,7 @@ fn refused(why: Status, at: usize) -> Front
     }
 }
 
-fn refusal(error: ReadError) -> Front
+pub(crate) fn refusal(error: ReadError) -> Front
     ensures { result ≡ refusal error }
 {
     let (why, at) = fault_of(error);
@@ -46,7 +47,7 @@ fn refusal(error: ReadError) -> Front
 
 /// Of a sequence of so many bytes, whose actions were put.
 #[inline(always)]
-fn done(used: usize, count: Counts) -> Front
+pub(crate) fn done(used: usize, count: Counts) -> Front
     ensures { result ≡ done used count }
 {
     Front {
@@ -68,7 +69,7 @@ fn answer(
     actions: &mut [Struct],
     params: &mut [Param],
 ) -> Front
-    ensures { IsAnswer list.now control used actions.old actions.new params.old params.new result }
+    ensures { IsAnswer Actions list.now control used actions.old actions.new params.old params.new result }
 {
     match lay_list(alloc, list, control, actions, params) {
         Ok(count) => done(used, count),

@@ -1,4 +1,4 @@
-//! The struct of each action, subject by subject. Written by tools/kinds.
+//! The struct of each action, subject by subject. Written by tools/table.
 ghost use Rattle.std.specs.Prelude.{◌≡◌};
 ghost use Rattle.csicodec_actions.specs.Devices.{device_of};
 ghost use Rattle.csicodec_parser.specs.ActionOf.{action_of};

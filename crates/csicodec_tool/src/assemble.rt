@@ -13,16 +13,16 @@ pub struct Assembly;
 
 /// The lines of an input, of which some have come.
 #[derive(Drop)]
-struct Lines {
+struct ObjectLines {
     remaker: Remaker,
     assembler: Assembler,
     /// Lines with the bytes of each object, or what has come of one.
     made: Vec<u8>,
 }
 
-impl Lines {
-    fn new(alloc: Global) -> Lines {
-        Lines {
+impl ObjectLines {
+    fn new(alloc: Global) -> ObjectLines {
+        ObjectLines {
             remaker: Remaker::new(alloc),
             assembler: Assembler::new(alloc),
             made: Vec::new(alloc),
@@ -63,7 +63,7 @@ impl Worker for Assembly {
         input: &mut R,
         output: &mut W,
     ) -> Result<(), Failure> {
-        let (mut lines, mut out) = (Lines::new(alloc), Vec::new(alloc));
+        let (mut lines, mut out) = (ObjectLines::new(alloc), Vec::new(alloc));
         let mut chunk = [0u8; CHUNK];
         for _ in 0..u64::MAX {
             let len = receive(input, &mut chunk)?;

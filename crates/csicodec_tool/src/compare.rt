@@ -1,8 +1,8 @@
 //! What differs between two streams in words.
 
-use crate::diff::{Line, Side, lines_of};
+use crate::diff::{DiffLine, Origin, lines_of};
 use crate::explained_cast::explain_cast;
-use csicodec_command::{Failure, Worker, line_front, work_through};
+use csicodec_command::{Failure, Worker, work_through};
 use csicodec_page::Explainer;
 use csicodec_sheet::Style;
 use csicodec_streams::{RunError, send};
@@ -26,14 +26,8 @@ struct Compared<'a> {
 /// The lines of a text.
 fn split(alloc: Global, text: &[u8]) -> Result<Vec<&[u8]>, AllocError> {
     let mut lines = Vec::new(alloc);
-    let mut rest = text;
-    for _ in 0..text.len() {
-        if rest.is_empty() {
-            break;
-        }
-        let (line, behind) = line_front(rest);
+    for line in text.split_inclusive(|byte| *byte == b'\n') {
         lines.push(line)?;
-        rest = behind;
     }
     Ok(lines)
 }
@@ -49,10 +43,10 @@ fn mark_near(near: &mut [bool], place: usize) {
 }
 
 /// Whether each line stands near one that differs.
-fn shown(alloc: Global, lines: &[Line<'_>]) -> Result<Vec<bool>, AllocError> {
+fn shown(alloc: Global, lines: &[DiffLine<'_>]) -> Result<Vec<bool>, AllocError> {
     let mut near = vec![in alloc; false; lines.len()]?;
     for (place, line) in lines.iter().enumerate() {
-        if line.side != Side::Both {
+        if line.side != Origin::Both {
             mark_near(&mut near, place);
         }
     }
@@ -60,17 +54,17 @@ fn shown(alloc: Global, lines: &[Line<'_>]) -> Result<Vec<bool>, AllocError> {
 }
 
 /// A line behind the mark of where it is.
-fn append_marked(out: &mut Vec<u8>, line: Line<'_>) -> Result<(), AllocError> {
+fn append_marked(out: &mut Vec<u8>, line: DiffLine<'_>) -> Result<(), AllocError> {
     out.push(match line.side {
-        Side::Both => b' ',
-        Side::First => b'-',
-        Side::Second => b'+',
+        Origin::Both => b' ',
+        Origin::First => b'-',
+        Origin::Second => b'+',
     })?;
     out.extend_from_slice(line.text)
 }
 
 /// The lines that are shown, with `@@` ahead of each run of them.
-fn runs(alloc: Global, lines: &[Line<'_>], shown: &[bool]) -> Result<Vec<u8>, AllocError> {
+fn runs(alloc: Global, lines: &[DiffLine<'_>], shown: &[bool]) -> Result<Vec<u8>, AllocError> {
     let mut out = Vec::new(alloc);
     let mut before = false;
     for (place, line) in lines.iter().enumerate() {

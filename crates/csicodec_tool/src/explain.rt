@@ -15,18 +15,24 @@ use std::alloc::Global;
 use std::env;
 use std::io::{self, BufRead, IsTerminal, Read, Write};
 
-/// An output, and whether anything was to be written; where nothing may be, that is dropped.
+/// Whether nothing is written, and whether anything was to be.
 #[derive(Drop)]
-struct Shown<'a, W> {
-    output: &'a mut W,
+struct Answer {
     quiet: bool,
-    any: &'a mut bool,
+    any: bool,
 }
 
-impl<'a, W: Write> Write for Shown<'a, W> {
+/// An output, and what is kept of what was to be written; where nothing may be, that is dropped.
+#[derive(Drop)]
+struct Watched<'a, W> {
+    output: &'a mut W,
+    answer: &'a mut Answer,
+}
+
+impl<'a, W: Write> Write for Watched<'a, W> {
     fn write(&mut self, bytes: &[u8]) -> io::Result<usize> {
-        *self.any = *self.any || !bytes.is_empty();
-        if self.quiet {
+        self.answer.any = self.answer.any || !bytes.is_empty();
+        if self.answer.quiet {
             Ok(bytes.len())
         } else {
             self.output.write(bytes)
@@ -47,9 +53,7 @@ struct Explained<'a> {
     named: bool,
     /// Whether times are told of the next input, as its name says.
     timed: bool,
-    /// Whether nothing is written, and whether anything was to be.
-    quiet: bool,
-    any: bool,
+    answer: Answer,
 }
 
 impl<'a> Worker for Explained<'a> {
@@ -60,14 +64,11 @@ impl<'a> Worker for Explained<'a> {
 
     fn begin<W: Write>(&mut self, name: &str, output: &mut W) -> Result<(), RunError> {
         self.timed = self.timing.is_some() || is_cast(name);
-        let mut shown = Shown {
-            output,
-            quiet: self.quiet,
-            any: &mut self.any,
-        };
+        let answer = &mut self.answer;
+        let mut shown = Watched { output, answer };
         // What is left of the input before is told ahead of the name.
         self.explainer.begin(None, self.timed, &mut shown)?;
-        if self.named && !self.quiet {
+        if self.named && !self.answer.quiet {
             self.explainer.begin(Some(name), self.timed, output)
         } else {
             Ok(())
@@ -80,11 +81,8 @@ impl<'a> Worker for Explained<'a> {
         input: &mut R,
         output: &mut W,
     ) -> Result<(), Failure> {
-        let mut shown = Shown {
-            output,
-            quiet: self.quiet,
-            any: &mut self.any,
-        };
+        let answer = &mut self.answer;
+        let mut shown = Watched { output, answer };
         match &mut self.timing {
             Some(timing) => timing.explain_all(&mut self.explainer, input, &mut shown)?,
             None => self.explainer.read(input, &mut shown)?,
@@ -101,20 +99,14 @@ impl<'a> Worker for Explained<'a> {
         if !self.timed {
             self.explainer.begin(None, true, output)?;
         }
-        let mut shown = Shown {
-            output,
-            quiet: self.quiet,
-            any: &mut self.any,
-        };
+        let answer = &mut self.answer;
+        let mut shown = Watched { output, answer };
         explain_cast(alloc, &mut self.explainer, input, &mut shown)
     }
 
     fn end<W: Write>(&mut self, output: &mut W) -> Result<(), RunError> {
-        let mut shown = Shown {
-            output,
-            quiet: self.quiet,
-            any: &mut self.any,
-        };
+        let answer = &mut self.answer;
+        let mut shown = Watched { output, answer };
         self.explainer.end(&mut shown)
     }
 }
@@ -186,12 +178,18 @@ fn explain(rt: &HostRuntime, run: &Request<'_>) -> Result<(), u8> {
         timing,
         named: run.files.len() > 1,
         timed: false,
-        quiet: run.wanted.quiet,
-        any: false,
+        answer: Answer {
+            quiet: run.wanted.quiet,
+            any: false,
+        },
     };
     work_through(rt, &mut work, &run.files)?;
     let asks = run.wanted.quiet || run.wanted.unknown || run.wanted.grep.is_some();
-    if asks && !work.any { Err(1) } else { Ok(()) }
+    if asks && !work.answer.any {
+        Err(1)
+    } else {
+        Ok(())
+    }
 }
 
 /// Explains what the words of the command line ask for, if they do so in names that there are; the status, if that failed.

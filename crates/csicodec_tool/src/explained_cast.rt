@@ -10,7 +10,7 @@ use std::io::{BufRead, Write};
 
 /// What a recording has beside what was written: an event's code and its data.
 #[derive(Clone, Copy)]
-struct Event<'a> {
+struct CastEvent<'a> {
     code: &'a str,
     data: &'a str,
 }
@@ -46,7 +46,7 @@ fn write_exit<W: fmt::Write>(f: &mut fmt::Formatter<W>, data: &str) -> fmt::Resu
 }
 
 /// A name, two blanks, and the words.
-impl<'a> fmt::Display for Event<'a> {
+impl<'a> fmt::Display for CastEvent<'a> {
     fn fmt<W: fmt::Write>(&self, f: &mut fmt::Formatter<W>) -> fmt::Result {
         match self.code {
             "r" => write_resize(f, self.data),
@@ -60,7 +60,7 @@ impl<'a> fmt::Display for Event<'a> {
 fn explain_event<W: Write>(
     explainer: &mut Explainer<'_>,
     time: u64,
-    event: Event<'_>,
+    event: CastEvent<'_>,
     output: &mut W,
 ) -> Result<(), RunError> {
     let wanted = if explainer.is_of_input() { "i" } else { "o" };
@@ -89,7 +89,7 @@ pub fn explain_cast<R: BufRead, W: Write>(
         let Some((code, data)) = reading.take_any(text)? else {
             continue;
         };
-        let event = Event {
+        let event = CastEvent {
             code: code.as_str(),
             data: data.as_str(),
         };

@@ -20,14 +20,14 @@ mod timing;
 use assemble::Assembly;
 use csicodec_command::{Request, Task, asked, refused, words_of, work_through};
 use explain::explain_inputs;
-use normal::Normal;
+use normal::Normaliser;
 use rewrite::{Job, Work};
 use std::process::ExitCode;
 
 /// Does the work of a task; the status, if that failed.
 fn work_of_task(rt: &HostRuntime, run: &Request<'_>) -> Result<(), u8> {
     let work = match run.task {
-        Task::Normal => return work_through(rt, &mut Normal, &run.files),
+        Task::Normal => return work_through(rt, &mut Normaliser, &run.files),
         Task::Explain => return explain_inputs(rt, run),
         Task::Assemble => return work_through(rt, &mut Assembly, &run.files),
         Task::Filter => Work::Filter {

@@ -2,28 +2,19 @@
 
 use crate::all_names::{NAMES, NUMBERED};
 use csicodec_command::{Wrong, nearest};
+use csicodec_sheet::is_among;
 use std::alloc::Global;
-
-/// Whether this name is among others, in capitals or not.
-fn is_among(names: &[&str], name: &str) -> bool {
-    for known in names {
-        if known.eq_ignore_ascii_case(name) {
-            return true;
-        }
-    }
-    false
-}
 
 /// Whether something is told by this name.
 fn is_known(name: &str) -> bool {
     let (first, _behind) = name.split_once(' ').unwrap_or((name, ""));
-    is_among(&NAMES, name) || is_among(&NUMBERED, first)
+    is_among(NAMES, name) || is_among(NUMBERED, first)
 }
 
 /// What is wrong with a name that nothing is told by.
 fn unknown<'a>(alloc: Global, name: &'a str) -> Wrong<'a> {
     let mut best = None;
-    for known in &NAMES {
+    for known in NAMES.split(',') {
         match nearest(alloc, name, known, best) {
             Ok(next) => best = next,
             Err(_) => return Wrong::Memory,

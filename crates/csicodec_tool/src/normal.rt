@@ -8,9 +8,9 @@ use std::io::{BufRead, Read, Write};
 
 /// The normal form of sequences one after the other.
 #[derive(Drop)]
-pub struct Normal;
+pub struct Normaliser;
 
-impl Worker for Normal {
+impl Worker for Normaliser {
     /// A recording is no control sequence.
     fn takes_recordings(&self) -> bool {
         false

@@ -5,7 +5,7 @@
 use crate::check::{check_cast, check_stream};
 use crate::log::{Log, log_all};
 use crate::palette::palette_of;
-use crate::rewritten_cast::{Stage, html_cast, no_memory, rewrite_cast, unwrap_cast};
+use crate::rewritten_cast::{Rewriter, html_cast, no_memory, rewrite_cast, unwrap_cast};
 use csicodec_clean::{Cleaner, Depth, Dropped, Kept, Passing, clean_all_with, strip_all};
 use csicodec_command::{Colors, Failure, Request, Worker, Wrong};
 use csicodec_compact::{Compact, Compactor, compact_all};
@@ -132,31 +132,31 @@ impl<'a> Work<'a> {
     }
 
     /// What the data of a recording go through, if a recording is made of it.
-    fn stage(&self, alloc: Global) -> Option<Stage> {
+    fn stage(&self, alloc: Global) -> Option<Rewriter> {
         Some(match self {
             Work::Filter { faithful: true } => {
                 let rule = Faithful::new(alloc);
-                Stage::Faithful(Filter::new(alloc, LIMIT, rule))
+                Rewriter::Faithful(Filter::new(alloc, LIMIT, rule))
             }
             Work::Filter { .. } => {
                 let rule = NormalForm::new(alloc);
-                Stage::Normal(Filter::new(alloc, LIMIT, rule))
+                Rewriter::Normal(Filter::new(alloc, LIMIT, rule))
             }
             Work::Compact { semicolons } => {
                 let rule = compact(alloc, *semicolons);
-                Stage::Short(Compactor::new(alloc, LIMIT, rule))
+                Rewriter::Short(Compactor::new(alloc, LIMIT, rule))
             }
-            Work::Strip { lines: true } => Stage::PlainLines(Lines::stripped(alloc)),
-            Work::Strip { .. } => Stage::Plain(Cleaner::new(alloc, Dropped)),
-            Work::Overwrite => Stage::Overwritten(Overwriter::new(alloc)),
-            Work::Log { styles } => Stage::Logged(Log::new(alloc, *styles)),
+            Work::Strip { lines: true } => Rewriter::PlainLines(Lines::stripped(alloc)),
+            Work::Strip { .. } => Rewriter::Plain(Cleaner::new(alloc, Dropped)),
+            Work::Overwrite => Rewriter::Overwritten(Overwriter::new(alloc)),
+            Work::Log { styles } => Rewriter::Logged(Log::new(alloc, *styles)),
             Work::Clean {
                 passing,
                 lines: true,
-            } => Stage::StyledLines(Lines::cleaned(alloc, *passing)),
+            } => Rewriter::StyledLines(Lines::cleaned(alloc, *passing)),
             Work::Clean { passing, .. } => {
                 let rule = Kept::letting(alloc, *passing);
-                Stage::Styled(Cleaner::new(alloc, rule))
+                Rewriter::Styled(Cleaner::new(alloc, rule))
             }
             Work::Check | Work::Html { .. } => return None,
         })
@@ -180,10 +180,9 @@ impl<'a> Work<'a> {
         }
         Ok(())
     }
-}
 
-impl<'a> Worker for Work<'a> {
-    fn read<R: Read, W: Write>(
+    /// Writes what becomes of an input.
+    fn write<R: Read, W: Write>(
         &mut self,
         alloc: Global,
         input: &mut R,
@@ -218,7 +217,8 @@ impl<'a> Worker for Work<'a> {
         Ok(())
     }
 
-    fn read_cast<R: BufRead, W: Write>(
+    /// Writes what becomes of a recording of which no recording is made.
+    fn write_cast<R: BufRead, W: Write>(
         &mut self,
         alloc: Global,
         input: &mut R,
@@ -226,24 +226,12 @@ impl<'a> Worker for Work<'a> {
     ) -> Result<(), Failure> {
         self.begin(alloc, output)?;
         match self {
-            Work::Check => return check_cast(alloc, input),
             Work::Html {
                 markup,
                 overwrite,
                 ..
-            } => return html_cast(alloc, *markup, *overwrite, input, output),
-            _ => {}
-        }
-        if let Some(mut stage) = self.stage(alloc) {
-            rewrite_cast(alloc, &mut stage, input, output)?;
-        }
-        Ok(())
-    }
-
-    fn end<W: Write>(&mut self, output: &mut W) -> Result<(), RunError> {
-        match self {
-            Work::Html { begun: true, .. } => send(output, BEHIND.as_bytes()),
-            _ => Ok(()),
+            } => html_cast(alloc, *markup, *overwrite, input, output),
+            _ => check_cast(alloc, input),
         }
     }
 }
@@ -262,7 +250,7 @@ impl<'a> Worker for Job<'a> {
         input: &mut R,
         output: &mut W,
     ) -> Result<(), Failure> {
-        self.work.read(alloc, input, output)
+        self.work.write(alloc, input, output)
     }
 
     fn read_cast<R: BufRead, W: Write>(
@@ -271,15 +259,17 @@ impl<'a> Worker for Job<'a> {
         input: &mut R,
         output: &mut W,
     ) -> Result<(), Failure> {
-        if self.text {
-            if let Some(mut stage) = self.work.stage(alloc) {
-                return unwrap_cast(alloc, &mut stage, input, output);
-            }
+        match self.work.stage(alloc) {
+            Some(mut stage) if self.text => unwrap_cast(alloc, &mut stage, input, output),
+            Some(mut stage) => rewrite_cast(alloc, &mut stage, input, output),
+            None => self.work.write_cast(alloc, input, output),
         }
-        self.work.read_cast(alloc, input, output)
     }
 
     fn end<W: Write>(&mut self, output: &mut W) -> Result<(), RunError> {
-        self.work.end(output)
+        match &self.work {
+            Work::Html { begun: true, .. } => send(output, BEHIND.as_bytes()),
+            _ => Ok(()),
+        }
     }
 }

@@ -15,7 +15,7 @@ use std::io::{BufRead, Write};
 
 /// What the data of all events go through, one after the other.
 #[derive(Drop)]
-pub enum Stage {
+pub enum Rewriter {
     /// Each control sequence in its normal form.
     Normal(Filter<NormalForm>),
     /// The same, but of what terminals read otherwise.
@@ -51,19 +51,19 @@ fn append_returning(text: &[u8], out: &mut Vec<u8>) -> Result<(), AllocError> {
     Ok(())
 }
 
-impl Stage {
+impl Rewriter {
     /// The next data; what is sure is appended.
     fn push(&mut self, bytes: &[u8], out: &mut Vec<u8>) -> Result<(), AllocError> {
         match self {
-            Stage::Normal(filter) => filter.push(bytes, out),
-            Stage::Faithful(filter) => filter.push(bytes, out),
-            Stage::Short(filter) => filter.push(bytes, out),
-            Stage::Plain(cleaner) => cleaner.take(bytes, out),
-            Stage::Styled(cleaner) => cleaner.take(bytes, out),
-            Stage::PlainLines(lines) => lines.take(bytes, out),
-            Stage::StyledLines(lines) => lines.take(bytes, out),
-            Stage::Overwritten(lines) => lines.take(bytes, out),
-            Stage::Logged(log) => log.push(bytes, out),
+            Rewriter::Normal(filter) => filter.push(bytes, out),
+            Rewriter::Faithful(filter) => filter.push(bytes, out),
+            Rewriter::Short(filter) => filter.push(bytes, out),
+            Rewriter::Plain(cleaner) => cleaner.take(bytes, out),
+            Rewriter::Styled(cleaner) => cleaner.take(bytes, out),
+            Rewriter::PlainLines(lines) => lines.take(bytes, out),
+            Rewriter::StyledLines(lines) => lines.take(bytes, out),
+            Rewriter::Overwritten(lines) => lines.take(bytes, out),
+            Rewriter::Logged(log) => log.push(bytes, out),
         }
     }
 
@@ -79,29 +79,24 @@ impl Stage {
 
     /// Whether the data are made safe, so that nothing else of the recording may be a control either.
     fn is_safe(&self) -> bool {
-        match self {
-            Stage::Normal(_) | Stage::Faithful(_) | Stage::Short(_) => false,
-            Stage::Plain(_)
-            | Stage::Styled(_)
-            | Stage::PlainLines(_)
-            | Stage::StyledLines(_)
-            | Stage::Overwritten(_)
-            | Stage::Logged(_) => true,
-        }
+        !matches!(
+            self,
+            Rewriter::Normal(_) | Rewriter::Faithful(_) | Rewriter::Short(_)
+        )
     }
 
     /// Nothing comes any more: what was held is appended.
     fn finish(&mut self, out: &mut Vec<u8>) -> Result<(), AllocError> {
         match self {
-            Stage::Normal(filter) => filter.finish(out),
-            Stage::Faithful(filter) => filter.finish(out),
-            Stage::Short(filter) => filter.finish(out),
-            Stage::Plain(cleaner) => cleaner.finish(out),
-            Stage::Styled(cleaner) => cleaner.finish(out),
-            Stage::PlainLines(lines) => lines.end(out),
-            Stage::StyledLines(lines) => lines.end(out),
-            Stage::Overwritten(lines) => lines.finish(out),
-            Stage::Logged(log) => log.finish(out),
+            Rewriter::Normal(filter) => filter.finish(out),
+            Rewriter::Faithful(filter) => filter.finish(out),
+            Rewriter::Short(filter) => filter.finish(out),
+            Rewriter::Plain(cleaner) => cleaner.finish(out),
+            Rewriter::Styled(cleaner) => cleaner.finish(out),
+            Rewriter::PlainLines(lines) => lines.end(out),
+            Rewriter::StyledLines(lines) => lines.end(out),
+            Rewriter::Overwritten(lines) => lines.finish(out),
+            Rewriter::Logged(log) => log.finish(out),
         }
     }
 }
@@ -115,7 +110,7 @@ pub(crate) fn no_memory(_: AllocError) -> Failure {
 /// have controls of its own.
 fn send_line<W: Write>(
     alloc: Global,
-    stage: &Stage,
+    stage: &Rewriter,
     line: &str,
     output: &mut W,
 ) -> Result<(), Failure> {
@@ -130,7 +125,7 @@ fn send_line<W: Write>(
 /// An event of data that a program wrote, as a line.
 fn send_event<W: Write>(
     alloc: Global,
-    stage: &Stage,
+    stage: &Rewriter,
     time: &str,
     data: &[u8],
     output: &mut W,
@@ -145,7 +140,7 @@ fn send_event<W: Write>(
 /// where the data are made safe. What isn't over at the last event stands in one more, at its time.
 pub fn rewrite_cast<R: BufRead, W: Write>(
     alloc: Global,
-    stage: &mut Stage,
+    stage: &mut Rewriter,
     input: &mut R,
     output: &mut W,
 ) -> Result<(), Failure> {
@@ -183,7 +178,7 @@ pub fn rewrite_cast<R: BufRead, W: Write>(
 /// Writes what becomes of what the programs of a recording wrote, and no recording.
 pub fn unwrap_cast<R: BufRead, W: Write>(
     alloc: Global,
-    stage: &mut Stage,
+    stage: &mut Rewriter,
     input: &mut R,
     output: &mut W,
 ) -> Result<(), Failure> {

@@ -6,6 +6,7 @@ ghost use Rattle.std.specs.Prelude.{◌<◌};
 
 use csicodec::{CSI, ColorSpec, CsiParam, Cursor, Sgr};
 use csicodec_events::{Event, Events};
+use csicodec_terminal::terminal_actions;
 use std::alloc::{AllocError, Global};
 use std::io::Read;
 
@@ -49,8 +50,9 @@ impl Screen {
     }
 
     fn act(&mut self, alloc: Global, params: &[CsiParam], control: char) -> Result<(), AllocError> {
-        for action in CSI::parse(alloc, params, false, control) {
-            match &action? {
+        let actions = terminal_actions(alloc, params, false, control)?;
+        for action in &actions {
+            match action {
                 CSI::Cursor(cursor) => self.move_by(cursor),
                 CSI::Sgr(Sgr::Reset) => self.pen = ColorSpec::Default,
                 CSI::Sgr(Sgr::Foreground(color)) => self.pen = *color,

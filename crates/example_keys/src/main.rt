@@ -14,7 +14,7 @@ use std::alloc::{AllocError, Global};
 use std::io::Read;
 
 /// What a user did.
-#[derive(Clone, Copy, Debug, PartialEq, Eq)]
+#[derive(Clone, Copy, Debug)]
 enum Did {
     /// So many bytes of text.
     Typed(usize),

@@ -8,7 +8,7 @@ use csicodec::{CSI, decode_all, encode_all};
 use std::io::{Read, Write};
 
 /// How many actions of each sort there were.
-#[derive(Clone, Copy, Debug, Default, PartialEq, Eq)]
+#[derive(Clone, Copy, Debug, Default)]
 struct Counts {
     styles: usize,
     moves: usize,

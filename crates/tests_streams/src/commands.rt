@@ -1,73 +1,78 @@
 //! What the words of a command line ask for.
 
-use csicodec_command::{ColorWhen, Colors, Command, USAGE, command_of};
+use csicodec_command::{Command, Request, USAGE, command_of};
 use std::alloc::{AllocError, Global};
+
+/// The options without a value that came.
+fn append_flags(all: &mut String, run: &Request<'_>) -> Result<(), AllocError> {
+    let wanted = run.wanted;
+    for (came, option) in [
+        (run.faithful, " faithful"),
+        (run.semicolons, " semicolons"),
+        (run.links, " links"),
+        (run.lines, " lines"),
+        (run.overwrites(), " overwritten"),
+        (run.log, " log"),
+        (run.text, " text"),
+        (run.check, " check"),
+        (run.fragment, " fragment"),
+        (run.classes, " classes"),
+        (wanted.full, " full"),
+        (wanted.json, " json"),
+        (wanted.count, " count"),
+        (wanted.stats, " stats"),
+        (wanted.diff, " diff"),
+        (wanted.ignore_case, " ignore-case"),
+        (wanted.quiet, " quiet"),
+        (wanted.unknown, " unknown"),
+        (wanted.decode, " decode"),
+        (wanted.input, " input"),
+        (wanted.utf8_mouse, " utf8-mouse"),
+    ] {
+        if came {
+            all.push_str(option)?;
+        }
+    }
+    Ok(())
+}
+
+/// Those with a text, and the text.
+fn append_texts(all: &mut String, run: &Request<'_>) -> Result<(), AllocError> {
+    for (text, option) in [
+        (run.palette, " palette="),
+        (run.timing, " timing="),
+        (run.wanted.only, " only="),
+        (run.wanted.grep, " grep="),
+    ] {
+        if let Some(text) = text {
+            all.push_str(option)?;
+            all.push_str(text)?;
+        }
+    }
+    Ok(())
+}
+
+/// What is asked for: the task, the files, the colours of `clean` and of `explain`, the places, and each option that came.
+fn told(alloc: Global, run: &Request<'_>) -> Result<String, AllocError> {
+    let (task, files, depth) = (run.task, run.files.as_slice(), run.depth);
+    let (color, at) = (run.color, run.at.as_slice());
+    let mut all = format!(in alloc; "{task:?} {files:?} {depth:?} {color:?} {at:?}")?;
+    append_flags(&mut all, run)?;
+    append_texts(&mut all, run)?;
+    Ok(all)
+}
 
 /// `command WORD..`: what the words of a command line ask for.
 pub(crate) fn command(alloc: Global, line: &str) -> Result<String, AllocError> {
     let mut words: Vec<String> = Vec::new(alloc);
     for word in line.split(' ') {
-        let word = String::from_str(alloc, word)?;
-        words.push(word)?;
+        words.push(String::from_str(alloc, word)?)?;
     }
     match command_of(alloc, &words) {
-        Ok(Command::Run(run)) => {
-            let (task, files, wanted) = (run.task, run.files.as_slice(), run.wanted);
-            let (count, full, json) = (wanted.count, wanted.full, wanted.json);
-            let (unknown, only) = (wanted.unknown, wanted.only.unwrap_or("all"));
-            if run.depth != Colors::Full {
-                let depth = run.depth;
-                return format!(in alloc; "{task:?} {files:?} {depth:?}");
-            }
-            if run.check {
-                let lines = run.lines;
-                return format!(in alloc; "{task:?} {files:?} checked {lines}");
-            }
-            if run.lines {
-                let links = run.links;
-                return format!(in alloc; "{task:?} {files:?} by lines {links}");
-            }
-            if run.links {
-                return format!(in alloc; "{task:?} {files:?} with links");
-            }
-            if run.faithful {
-                return format!(in alloc; "{task:?} {files:?} faithful");
-            }
-            if run.color != ColorWhen::Auto || run.timing.is_some() || wanted.decode {
-                let (color, timing) = (run.color, run.timing.unwrap_or("none"));
-                let decode = wanted.decode;
-                return format!(in alloc; "{color:?} {timing} {decode}");
-            }
-            if run.classes {
-                return format!(in alloc; "{task:?} {files:?} in classes");
-            }
-            if run.palette.is_some() {
-                let palette = run.palette.unwrap_or("none");
-                return format!(in alloc; "{task:?} {files:?} in {palette}");
-            }
-            if run.fragment {
-                return format!(in alloc; "{task:?} {files:?} as a piece");
-            }
-            if run.overwrites() {
-                return format!(in alloc; "{task:?} {files:?} overwritten");
-            }
-            if wanted.stats || wanted.diff || !run.at.is_empty() || wanted.grep.is_some() {
-                let (stats, diff, at) = (wanted.stats, wanted.diff, run.at.as_slice());
-                let grep = wanted.grep.unwrap_or("all");
-                return format!(in alloc; "{files:?} {stats} {diff} {at:?} {grep}");
-            }
-            if wanted.input || wanted.utf8_mouse {
-                let (input, utf8) = (wanted.input, wanted.utf8_mouse);
-                return format!(in alloc; "{files:?} {input} {utf8}");
-            }
-            if run.semicolons {
-                return format!(in alloc; "{task:?} {files:?} with semicolons");
-            }
-            format!(in alloc; "{task:?} {files:?} {count} {full} {json} {unknown} {only}")
-        }
-        Ok(Command::Help(USAGE)) => format!(in alloc; "help"),
-        Ok(Command::Help(_)) => format!(in alloc; "help of a word"),
-        Ok(Command::Version) => format!(in alloc; "version"),
+        Ok(Command::Run(run)) => told(alloc, &run),
+        Ok(Command::Help(USAGE)) => String::from_str(alloc, "help"),
+        Ok(Command::Help(_)) => String::from_str(alloc, "help of a word"),
+        Ok(Command::Version) => String::from_str(alloc, "version"),
         Err(wrong) => format!(in alloc; "{wrong:?}"),
     }
 }

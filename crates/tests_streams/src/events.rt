@@ -100,11 +100,12 @@ fn told_in(alloc: Global, dialect: Dialect, words: &str) -> Result<String, Alloc
     let (limit, word) = words.split_once(' ').unwrap_or((words, ""));
     let bytes = bytes_of(alloc, word)?;
     let limit = limit.parse().unwrap_or(0usize).max(1);
-    let told = told_by(alloc, dialect, limit, &bytes, 64)?;
+    let mut told = told_by(alloc, dialect, limit, &bytes, 64)?;
     let by_one = told_by(alloc, dialect, limit, &bytes, 1)?;
     let by_seven = told_by(alloc, dialect, limit, &bytes, 7)?;
-    let end = law(by_one.as_str() == told.as_str() && by_seven.as_str() == told.as_str());
-    format!(in alloc; "{told}{end}")
+    let same = by_one.as_str() == told.as_str() && by_seven.as_str() == told.as_str();
+    told.push_str(law(same))?;
+    Ok(told)
 }
 
 /// `events LIMIT BYTES`: those of output.

@@ -6,23 +6,6 @@ use csicodec_page::Explainer;
 use csicodec_sheet::Style;
 use std::alloc::{AllocError, Global};
 
-const PLAIN: Style<'static> = Style {
-    full: false,
-    json: false,
-    count: false,
-    stats: false,
-    unknown: false,
-    decode: false,
-    color: false,
-    timed: false,
-    live: false,
-    only: None,
-    at: &[],
-    grep: None,
-    ignore_case: false,
-    dialect: None,
-};
-
 /// What is told of a stream that comes in these two pieces; nothing where that fails.
 fn told_of(alloc: Global, style: Style<'_>, front: &[u8], behind: &[u8]) -> Vec<u8> {
     let mut explainer = Explainer::new(alloc, style);
@@ -51,8 +34,10 @@ fn told_in_pieces(alloc: Global, style: Style<'_>, bytes: &[u8], wanted: &[u8]) 
 
 /// What was told, in lines of its own.
 fn lines(alloc: Global, told: &[u8], holds: bool) -> Result<String, AllocError> {
-    let (text, end) = (str::from_utf8(told).unwrap_or("no text"), law(holds));
-    format!(in alloc; "{end}\n{text}")
+    let mut all = String::from_str(alloc, law(holds))?;
+    all.push('\n')?;
+    all.push_str(str::from_utf8(told).unwrap_or("no text"))?;
+    Ok(all)
 }
 
 /// What is told of the bytes, in JSON if `--json` stands ahead of them.
@@ -64,7 +49,7 @@ fn told_by(alloc: Global, dialect: Option<Dialect>, words: &str) -> Result<Strin
     let style = Style {
         json,
         dialect,
-        ..PLAIN
+        ..Style::default()
     };
     let bytes = bytes_of(alloc, word)?;
     let told = told_of(alloc, style, &bytes, b"");
@@ -92,7 +77,7 @@ fn told_then(alloc: Global, dialect: Option<Dialect>, words: &str) -> Result<Str
     let style = Style {
         timed: true,
         dialect,
-        ..PLAIN
+        ..Style::default()
     };
     let mut output = Vec::new(alloc);
     let mut explainer = Explainer::new(alloc, style);
@@ -126,7 +111,7 @@ pub(crate) fn totals(alloc: Global, words: &str) -> Result<String, AllocError> {
         json: true,
         count: true,
         only: Some(only),
-        ..PLAIN
+        ..Style::default()
     };
     let bytes = bytes_of(alloc, word)?;
     let mut output = Vec::new(alloc);

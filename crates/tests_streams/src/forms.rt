@@ -1,7 +1,7 @@
 //! Normal forms, of sequences alone and in streams; and the lines of the errors.
 ghost use Rattle.std.specs.Prelude.{◌<◌};
 
-use crate::spelling::{bytes_of, law, spelled};
+use crate::spelling::{bytes_of, judged, spelled};
 use csicodec_base::ReadError;
 use csicodec_filter::{Faithful, Filter, NormalForm, Rewrite};
 use csicodec_streams::{DecodeError, RunError};
@@ -19,13 +19,12 @@ fn normal(alloc: Global, bytes: &[u8]) -> (Result<(), RunError>, Vec<u8>) {
 pub(crate) fn normalise(alloc: Global, word: &str) -> Result<String, AllocError> {
     let bytes = bytes_of(alloc, word)?;
     let (answer, once) = normal(alloc, &bytes);
-    let text = spelled(alloc, &once)?;
     if let Err(error) = answer {
+        let text = spelled(alloc, &once)?;
         return format!(in alloc; "{text}\t{error:?}");
     }
     let (again, twice) = normal(alloc, &once);
-    let end = law(again.is_ok() && twice == once);
-    format!(in alloc; "{text}{end}")
+    judged(alloc, &once, again.is_ok() && twice == once)
 }
 
 /// The error of this name, of a sequence that begins at a byte, at a byte of it.
@@ -81,11 +80,7 @@ pub(crate) fn filter(alloc: Global, word: &str) -> Result<String, AllocError> {
     let whole = filtered(alloc, 22, NormalForm::new(alloc), &bytes, 64)?;
     let by_one = filtered(alloc, 22, NormalForm::new(alloc), &bytes, 1)?;
     let by_seven = filtered(alloc, 22, NormalForm::new(alloc), &bytes, 7)?;
-    let (text, end) = (
-        spelled(alloc, &whole)?,
-        law(by_one == whole && by_seven == whole),
-    );
-    format!(in alloc; "{text}{end}")
+    judged(alloc, &whole, by_one == whole && by_seven == whole)
 }
 
 /// `faithful BYTES`: the normal form of what changes nothing for a terminal.

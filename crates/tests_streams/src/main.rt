@@ -59,7 +59,7 @@ fn told(alloc: Global, row: &str) -> Result<String, AllocError> {
         "crowded" => overwrite::crowded(alloc, rest),
         "check" => untrusted::check(alloc, rest),
         "html" => untrusted::html(alloc, rest),
-        "page" => untrusted::page(alloc, rest),
+        "page" => pages::linked(alloc, rest),
         "palette" => pages::palette(alloc, rest),
         "classes" => pages::classes(alloc, rest),
         "rule" => pages::rule(alloc, rest),

@@ -1,6 +1,6 @@
 //! What a terminal would show of each line at its end.
 
-use crate::spelling::{bytes_of, law, spelled};
+use crate::spelling::{both, bytes_of, judged};
 use csicodec_clean::strip;
 use csicodec_html::{Markup, html};
 use csicodec_overwrite::{Overwriter, html_overwritten_all, overwrite_all};
@@ -24,8 +24,7 @@ pub(crate) fn overwrite(alloc: Global, word: &str) -> Result<String, AllocError>
     let holds = all.is_ok()
         && byte_by_byte(alloc, Overwriter::new(alloc), &bytes)? == written
         && strip(alloc, &written)? == written;
-    let (text, end) = (spelled(alloc, &written)?, law(holds));
-    format!(in alloc; "{text}{end}")
+    judged(alloc, &written, holds)
 }
 
 /// `painted BYTES`: the same with how it looks, and as a page. Without its sequences it is the same text, and the page is its.
@@ -37,9 +36,7 @@ pub(crate) fn painted(alloc: Global, word: &str) -> Result<String, AllocError> {
         && html_overwritten_all(alloc, markup, &mut bytes.as_slice(), &mut page).is_ok();
     let painted = byte_by_byte(alloc, Overwriter::painting(alloc), &bytes)?;
     let holds = all && strip(alloc, &painted)? == plain && html(alloc, &painted)? == page;
-    let (painted, page) = (spelled(alloc, &painted)?, spelled(alloc, &page)?);
-    let end = law(holds);
-    format!(in alloc; "{painted}\t{page}{end}")
+    both(alloc, &painted, &page, holds)
 }
 
 /// `crowded COUNT TEXT`: of a text so many times, without a newline, how many bytes the first line has.

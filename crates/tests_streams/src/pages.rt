@@ -1,6 +1,6 @@
 //! Pages of HTML in other colours, and with classes.
 
-use crate::spelling::{bytes_of, law, spelled};
+use crate::spelling::{bytes_of, judged, spelled};
 use csicodec_html::{
     BODY, HEAD, Markup, Palette, STYLE, front, given_color, given_palette, html_all_with, html_with,
 };
@@ -37,8 +37,16 @@ fn page(alloc: Global, markup: Markup, word: &str) -> Result<String, AllocError>
     let page = html_with(alloc, markup, &bytes)?;
     let mut written: Vec<u8> = Vec::new(alloc);
     let read = html_all_with(alloc, markup, &mut bytes.as_slice(), &mut written);
-    let (text, end) = (spelled(alloc, &page)?, law(read.is_ok() && written == page));
-    format!(in alloc; "{text}{end}")
+    judged(alloc, &page, read.is_ok() && written == page)
+}
+
+/// `page BYTES`: the piece of a page that they are, with links.
+pub(crate) fn linked(alloc: Global, word: &str) -> Result<String, AllocError> {
+    let markup = Markup {
+        links: true,
+        ..Markup::default()
+    };
+    page(alloc, markup, word)
 }
 
 /// What is between these two.

@@ -1,6 +1,6 @@
 //! Sequences in their shortest spelling.
 
-use crate::spelling::{bytes_of, law, spelled};
+use crate::spelling::{bytes_of, judged, spelled};
 use csicodec::{CSI, Cursor, decode_all};
 use csicodec_compact::{Compact, Compactor, compact_bytes, encode_compact};
 use csicodec_filter::Filter;
@@ -20,8 +20,7 @@ pub(crate) fn short(alloc: Global, list: &str) -> Result<String, AllocError> {
     let stream = format!(in alloc; "a\x1b[{list}b")?;
     let once = compacted(alloc, Compact::new(alloc), stream.as_bytes())?;
     let twice = compacted(alloc, Compact::new(alloc), &once)?;
-    let (text, end) = (spelled(alloc, &once)?, law(twice == once));
-    format!(in alloc; "{text}{end}")
+    judged(alloc, &once, twice == once)
 }
 
 /// `semicolons BYTES`: what becomes of them with semicolons, where these are read alike.
@@ -36,8 +35,7 @@ pub(crate) fn join(alloc: Global, word: &str) -> Result<String, AllocError> {
     let bytes = bytes_of(alloc, word)?;
     let once = compact_bytes(alloc, 65536, Compact::new(alloc), &bytes)?;
     let twice = compact_bytes(alloc, 65536, Compact::new(alloc), &once)?;
-    let (text, end) = (spelled(alloc, &once)?, law(twice == once));
-    format!(in alloc; "{text}{end}")
+    judged(alloc, &once, twice == once)
 }
 
 /// `pieces BYTES ..`: the same of what comes in pieces, each of which ends a run.

@@ -62,11 +62,11 @@ pub(crate) fn spans(alloc: Global, words: &str) -> Result<String, AllocError> {
     let (limit, word) = words.split_once(' ').unwrap_or((words, ""));
     let bytes = bytes_of(alloc, word)?;
     let limit = limit.parse().unwrap_or(0usize).max(1);
-    let told = told(alloc, Spans::new(limit, &bytes))?;
+    let mut told = told(alloc, Spans::new(limit, &bytes))?;
     let whole = kinds_by(alloc, &bytes, 64)?;
     let by_one = kinds_by(alloc, &bytes, 1)?;
     let by_seven = kinds_by(alloc, &bytes, 7)?;
     let same = by_one.as_str() == whole.as_str() && by_seven.as_str() == whole.as_str();
-    let end = law(same);
-    format!(in alloc; "{told}{end}")
+    told.push_str(law(same))?;
+    Ok(told)
 }

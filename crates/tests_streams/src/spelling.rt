@@ -53,3 +53,24 @@ pub(crate) fn spelled(alloc: Global, bytes: &[u8]) -> Result<String, AllocError>
 pub(crate) fn law(holds: bool) -> &'static str {
     if holds { "" } else { "\totherwise" }
 }
+
+/// The spelling of bytes, and the end of the row.
+pub(crate) fn judged(alloc: Global, bytes: &[u8], holds: bool) -> Result<String, AllocError> {
+    let mut text = spelled(alloc, bytes)?;
+    text.push_str(law(holds))?;
+    Ok(text)
+}
+
+/// The spellings of two answers, with a tab between, and the end of the row.
+pub(crate) fn both(
+    alloc: Global,
+    one: &[u8],
+    other: &[u8],
+    holds: bool,
+) -> Result<String, AllocError> {
+    let mut text = spelled(alloc, one)?;
+    text.push('\t')?;
+    text.push_str(spelled(alloc, other)?.as_str())?;
+    text.push_str(law(holds))?;
+    Ok(text)
+}

@@ -1,12 +1,12 @@
 //! What `strip` and `clean` leave of what is used against those who print untrusted text, and of text.
 
-use crate::spelling::{bytes_of, law, spelled};
+use crate::spelling::{both, bytes_of, judged, law};
 use csicodec_clean::{
     Anew, Checked, Cleaner, Depth, Dropped, Kept, Passing, Rule, check_all, clean, clean_in,
     clean_with, strip,
 };
 use csicodec_filter::Transform;
-use csicodec_html::{Markup, html_all, html_all_with, html_with};
+use csicodec_html::html_all;
 use csicodec_lines::{Lines, clean_lines_all, strip_lines_all};
 use std::alloc::{AllocError, Global};
 
@@ -40,9 +40,7 @@ pub(crate) fn shown(alloc: Global, word: &str) -> Result<String, AllocError> {
         && strip(alloc, &cleaned)? == stripped
         && byte_by_byte(alloc, Dropped, &bytes)? == stripped
         && byte_by_byte(alloc, Kept::new(alloc), &bytes)? == cleaned;
-    let (plain, styled) = (spelled(alloc, &stripped)?, spelled(alloc, &cleaned)?);
-    let end = law(holds);
-    format!(in alloc; "{plain}\t{styled}{end}")
+    both(alloc, &stripped, &cleaned, holds)
 }
 
 /// `colors BYTES`: what a colour becomes among 256 places and among 16.
@@ -50,8 +48,7 @@ pub(crate) fn colors(alloc: Global, word: &str) -> Result<String, AllocError> {
     let bytes = bytes_of(alloc, word)?;
     let palette = clean_in(alloc, Depth::Palette, &bytes)?;
     let ansi = clean_in(alloc, Depth::Ansi, &bytes)?;
-    let (palette, ansi) = (spelled(alloc, &palette)?, spelled(alloc, &ansi)?);
-    format!(in alloc; "{palette}\t{ansi}")
+    both(alloc, &palette, &ansi, true)
 }
 
 /// `links BYTES`: what `clean` leaves of them where links pass. Twice is once, byte by byte the same is left, and without its links it
@@ -62,8 +59,7 @@ pub(crate) fn links(alloc: Global, word: &str) -> Result<String, AllocError> {
     let holds = byte_by_byte(alloc, Kept::letting(alloc, WITH_LINKS), &bytes)? == cleaned
         && clean_with(alloc, WITH_LINKS, &cleaned)? == cleaned
         && clean(alloc, &cleaned)? == clean(alloc, &bytes)?;
-    let (text, end) = (spelled(alloc, &cleaned)?, law(holds));
-    format!(in alloc; "{text}{end}")
+    judged(alloc, &cleaned, holds)
 }
 
 /// `link PARAMETERS ADDRESS`: of a link with so many bytes of each and of an `x` behind it, how many are left.
@@ -108,9 +104,7 @@ pub(crate) fn lines(alloc: Global, word: &str) -> Result<String, AllocError> {
         && styled.is_ok()
         && lines_byte_by_byte(alloc, Lines::stripped(alloc), &bytes)? == stripped
         && lines_byte_by_byte(alloc, Lines::cleaned(alloc, WITH_LINKS), &bytes)? == cleaned;
-    let (plain, styled) = (spelled(alloc, &stripped)?, spelled(alloc, &cleaned)?);
-    let end = law(holds);
-    format!(in alloc; "{plain}\t{styled}{end}")
+    both(alloc, &stripped, &cleaned, holds)
 }
 
 /// `check BYTES`: whether they are plain text, or the byte and the line where they are no more. Byte by byte it is the same.
@@ -139,20 +133,5 @@ pub(crate) fn html(alloc: Global, word: &str) -> Result<String, AllocError> {
     let page = csicodec_html::html(alloc, &bytes)?;
     let mut written: Vec<u8> = Vec::new(alloc);
     let read = html_all(alloc, &mut bytes.as_slice(), &mut written);
-    let (text, end) = (spelled(alloc, &page)?, law(read.is_ok() && written == page));
-    format!(in alloc; "{text}{end}")
-}
-
-/// `page BYTES`: the same with links.
-pub(crate) fn page(alloc: Global, word: &str) -> Result<String, AllocError> {
-    let bytes = bytes_of(alloc, word)?;
-    let markup = Markup {
-        links: true,
-        ..Markup::default()
-    };
-    let page = html_with(alloc, markup, &bytes)?;
-    let mut written: Vec<u8> = Vec::new(alloc);
-    let read = html_all_with(alloc, markup, &mut bytes.as_slice(), &mut written);
-    let (text, end) = (spelled(alloc, &page)?, law(read.is_ok() && written == page));
-    format!(in alloc; "{text}{end}")
+    judged(alloc, &page, read.is_ok() && written == page)
 }

@@ -197,6 +197,14 @@ unsafe extern "C" {
         params: *mut Param,
         params_room: usize,
     ) -> Front;
+    fn csicodec_terminal_actions(
+        bytes: *const u8,
+        len: usize,
+        actions: *mut Action,
+        actions_room: usize,
+        params: *mut Param,
+        params_room: usize,
+    ) -> Front;
     fn csicodec_event(
         mode: u32,
         limit: usize,
@@ -342,6 +350,20 @@ pub fn next(bytes: &[u8], actions: &mut [Action], params: &mut [Param]) -> Front
     // SAFETY: as above.
     unsafe {
         csicodec_next(
+            bytes.as_ptr(),
+            bytes.len(),
+            actions.as_mut_ptr(),
+            actions.len(),
+            params.as_mut_ptr(),
+            params.len(),
+        )
+    }
+}
+
+pub fn terminal_actions(bytes: &[u8], actions: &mut [Action], params: &mut [Param]) -> Front {
+    // SAFETY: as above.
+    unsafe {
+        csicodec_terminal_actions(
             bytes.as_ptr(),
             bytes.len(),
             actions.as_mut_ptr(),

@@ -1,4 +1,4 @@
-//! Each kind of action, its text, and whether it is read back. Written by tools/kinds.
+//! Each kind of action, its text, and whether it is read back. Written by tools/table.
 
 use crate::{at, extensions};
 use csicodec::*;

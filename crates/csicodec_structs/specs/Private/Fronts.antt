@@ -1,12 +1,11 @@
 -- What is laid of an action, and what is answered of a list that was read.
-use Rattle.std.specs.Prelude.{ℕ, ◌≡◌, ◌⊎◌, ◌+◌, ◌++◌, false, List, [], ◌∷◌, length}
+use Rattle.std.specs.Prelude.{ℕ, ◌≡◌, ◌⊎◌, ◌+◌, ◌++◌, Bool, false, List, [], ◌∷◌, length}
 use Rattle.csicodec_tokens.specs.declared.param.CsiParam.{CsiParam}
 use Rattle.csicodec_actions.specs.Actions.{Action}
 use Rattle.csicodec_actions.specs.Actions as action
 use Rattle.csicodec_actions.specs.Devices as device
 use Rattle.csicodec_actions.specs.Devices.{device_of, listed_attributes}
 use Rattle.csicodec_actions.specs.Lent.{integers}
-use Rattle.csicodec_parser.specs.Segments.{Actions}
 use Rattle.csicodec_structs.specs.Next.{Lays, refused}
 use Rattle.csicodec_structs.specs.declared.lay.Counts.{Counts}
 use Rattle.csicodec_structs.specs.declared.lay.Head.{Head}
@@ -58,19 +57,23 @@ large_of (large.Unknown list final) = action.Unspecified list.now false final
 abbrev pub done : ℕ → Counts → Front
 done used count = record { status = status_number status.Done; at = 0; used = used; actions = count.actions; params = count.params }
 
+-- the actions of a list by a reading of lists
+abbrev pub Reading : Type 1
+Reading = List CsiParam → Bool → ℕ → List Action → Type 0
+
 -- its actions are put
-pub record IsLaid (list : List CsiParam) (final used : ℕ) (actions_old actions_new : List Struct)
+pub record IsLaid (reading : Reading) (list : List CsiParam) (final used : ℕ) (actions_old actions_new : List Struct)
     (params_old params_new : List Param) (answer : Front) : Type 0 where
   pub all : List Action
-  pub are : Actions list false final all
+  pub are : reading list false final all
   pub ok : answer.status ≡ status_number status.Done
   pub no_fault : answer.at ≡ 0
   pub used_all : answer.used ≡ used
   pub lays : Lays actions_old actions_new params_old params_new (record { actions = answer.actions; params = answer.params }) all
 
 -- so, or out of memory
-abbrev pub IsAnswer : List CsiParam → ℕ → ℕ → List Struct → List Struct → List Param → List Param
-    → Front → Type 0
-IsAnswer list final used actions_old actions_new params_old params_new answer =
-    IsLaid list final used actions_old actions_new params_old params_new answer
+abbrev pub IsAnswer : Reading → List CsiParam → ℕ → ℕ → List Struct → List Struct → List Param
+    → List Param → Front → Type 0
+IsAnswer reading list final used actions_old actions_new params_old params_new answer =
+    IsLaid reading list final used actions_old actions_new params_old params_new answer
     ⊎ (answer ≡ refused status.Memory 0)

@@ -14,7 +14,7 @@ pub returns-clause-ok : goal.returns-clause-ok
 returns-clause-ok g c = on_ok_weaker c.transform_all.result
     (λ (bytes, page, consumed, end, whole, appended).
     let m = c.args.markup in
-    let (text, told, p) = through g.T.Transform.passes g.T.Transform.ends m _ c.new-page.ensures bytes page whole in
+    let (text, told, p) = through g.T.Transform.passes g.T.Transform.ends m (record { transform = c.args.transform; page = c.new-page.result; text = c.new-text.result }) c.new-page.ensures bytes page whole in
     (bytes, text, page, consumed, told, p, is_page m text page p, appended))
     c.transform_all.ensures.ok
 
@@ -25,6 +25,6 @@ pub returns-clause-front : goal.returns-clause-front
 returns-clause-front g c = on_err_weaker c.transform_all.result
     (λ (bytes, more, sent, consumed, begins, appended).
     let m = c.args.markup in
-    let (text, unsent, told, p) = begins_through g.T.Transform.passes g.T.Transform.ends m _ c.new-page.ensures _ bytes sent begins in
+    let (text, unsent, told, p) = begins_through g.T.Transform.passes g.T.Transform.ends m (record { transform = c.args.transform; page = c.new-page.result; text = c.new-text.result }) c.new-page.ensures _ bytes sent begins in
     (bytes, more, text, sent, unsent, consumed, told, p, is_page m text (sent ++ unsent) p, appended))
     c.transform_all.ensures.front

@@ -4,7 +4,7 @@ use Rattle.csicodec_overwrite.proofs.paint.append_painted.Given as goal
 
 -- some are painted
 abbrev pub invariant-loop-cell : goal.invariant-loop-cell
-invariant-loop-cell l = record { text : l.out.items ++ paint l.now l.side ≡ l.initial.out.items ++ paint l.fn.look l.initial.side }
+invariant-loop-cell l = record { text : l.out.items ++ paint l.now l.rest ≡ l.initial.out.items ++ paint l.fn.look l.cells }
 
 abbrev pub decreases-loop-cell : goal.decreases-loop-cell
-decreases-loop-cell l = length l.side
+decreases-loop-cell l = length l.rest

@@ -8,7 +8,7 @@ pub returns : goal.returns
 returns g c =
     let (text, ends, made) = c.in_ok-end.ensures in
     let (page, over, out) = c.in_ok-take.ensures.passes in
-    let whole : c.deref.result.now ≡ text = c.deref.ensures.value ∙ made ∙ ap (λ t. t ++ text) c.new-text.ensures.items in
+    let whole : c.deref.result.now ≡ text = c.deref.ensures.value ∙ made ∙ ap (λ t. t ++ text) c.clear.ensures.items in
     on_ok_weaker c.end-2.result
     (λ (rest, closes, last). (
       page ++ rest,

@@ -6,7 +6,7 @@ use Rattle.csicodec_html.proofs.through.ThroughTransform.pause.Goals as goal
 pub returns-clause-passes : goal.returns-clause-passes
 returns-clause-passes g c =
     let (text, goes, made) = c.in_ok-pause.ensures.passes in
-    let whole : c.deref.result.now ≡ text = c.deref.ensures.value ∙ made ∙ ap (λ t. t ++ text) c.new-text.ensures.items in
+    let whole : c.deref.result.now ≡ text = c.deref.ensures.value ∙ made ∙ ap (λ t. t ++ text) c.clear.ensures.items in
     on_ok_weaker c.take.result
     (λ (page, over, out). (
       page,

@@ -1,12 +1,29 @@
-use Rattle.std.proofs.Common.{◌≡◌, ◌++◌, ◌∙◌, ap, refl}
-use Rattle.csicodec_overwrite.proofs.Written.{pushed}
+use Rattle.std.proofs.Common.{◌++◌, rules, sym, ap, subst, ◌∙◌, append_assoc}
+use Rattle.csicodec_filter.proofs.Sent.{none_left}
+use Rattle.csicodec_overwrite.specs.Stream.{Passes}
+use Rattle.csicodec_overwrite.proofs.Written.{passes_on}
 use Rattle.csicodec_overwrite.proofs.overwriter.Overwriter.push.Goals as goal
+
+pub loop-rest-init : goal.loop-rest-init
+loop-rest-init c = record { passes = c.in_ok-rest.ensures.passes; held = c.in_ok-rest.ensures.held }
+
+pub loop-rest-preserved : goal.loop-rest-preserved
+loop-rest-preserved c =
+    let l = c.loop-rest in
+    let (front, text, split, passes, out) = l.invariant.passes in
+    let (here, more, next, then, longer) = c.in_ok-rest-2.ensures.passes in
+    record {
+      passes = (
+        front ++ here,
+        text ++ more,
+        split ∙ ap (λ t. front ++ t) next ∙ sym (append_assoc front here c.in_ok-rest-2.rest.now),
+        passes_on c.args.self.now l.self c.take_front-in-loop-rest.new.self front here text more passes then,
+        longer ∙ ap (λ t. t ++ more) out ∙ append_assoc c.args.out.now.items text more,
+      );
+      held = λ few. c.in_ok-rest-2.ensures.held (l.invariant.held few);
+    }
 
 pub returns-clause-passes : goal.returns-clause-passes
 returns-clause-passes c =
-    let (steps, reads, more) = c.in_ok-push.ensures.reads in
-    let same : c.deref.result.now ≡ steps = c.deref.ensures.value ∙ more ∙ ap (λ x. x ++ steps) c.clear.ensures.items in
-    rw (← c.self.view_is)
-    (pushed (record { reader = c.self.inside.reader; pen = c.self.inside.pen; painted = c.self.inside.painted; line = c.self.inside.line })
-    (record { reader = c.push.new.self; pen = c.take_all.new.pen; painted = c.self.inside.painted; line = c.take_all.new.self }) c.args.bytes.now steps c.args.out.now.items c.take_all.new.out.items reads
-    (rw same at c.in_ok-take_all.ensures.pen) refl (rw same at c.in_ok-take_all.ensures.line) (rw same at c.in_ok-take_all.ensures.text))
+    let (front, text, split, passes, out) = c.loop-rest.invariant.passes in
+    (text, subst (λ t. Passes c.args.self.now t text c.loop-rest.self) (none_left c.args.bytes.now front c.loop-rest.rest.now split (search rules)) passes, out)

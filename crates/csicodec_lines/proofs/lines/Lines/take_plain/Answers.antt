@@ -1,0 +1,36 @@
+use Rattle.std.proofs.Common.{◌≡◌, ◌<◌, ◌≤◌, ◌++◌, ◌∙◌, ℕ, [], length, take, refl, rules, sym, ap, append-nil}
+use Rattle.std.proofs.Math.Seq.{take-append_seam}
+use Rattle.csicodec_filter.proofs.Sent.{goes_none}
+use Rattle.csicodec_clean.specs.Shown.{shown_text}
+use Rattle.csicodec_lines.specs.Stream.{Passes}
+use Rattle.csicodec_lines.proofs.Copied.{goes_plain, goes_same, is_blank, unchanged}
+use Rattle.csicodec_lines.proofs.lines.Lines.take_plain.Goals as goal
+
+pub returns-then-is_empty : goal.returns-then-is_empty
+returns-then-is_empty g c = ([], [], refl, goes_none (Passes g.R.Anew.begins g.R.Rule.gives g.R.Rule.closes) c.args.self.now, sym (append-nil c.args.out.now.items))
+
+pub returns-then-len-before : goal.returns-then-len-before
+returns-then-len-before g c =
+    let (close, closes, out) = c.in_ok-finish.ensures in
+    let before = c.args.out.now.items in
+    let all : c.len-before.result ≡ length before = search rules in
+    let same = c.truncate.ensures.items ∙ ap (λ (n : ℕ). take n c.finish.new.out.items) all ∙ ap (take (length before)) out ∙ take-append_seam before (shown_text c.args.self.now.line.held ++ close) in
+    ([], [], refl, goes_same g.R.Anew.begins g.R.Rule.gives g.R.Rule.closes c.args.self.now _ refl (c.begin.ensures ∙ sym c.requires) refl, same ∙ sym (append-nil before))
+
+pub returns : goal.returns
+returns g c =
+    let (close, closes, out) = c.in_ok-finish.ensures in
+    let old = c.args.self.now in
+    let before = c.args.out.now.items in
+    let after = c.finish.new.out.items in
+    let front = c.split_plain.result.0.now in
+    let some : 0 < length front = search rules in
+    let few : length after ≤ length before = search rules in
+    let blank = is_blank g.R.Anew.begins g.R.Rule.gives g.R.Rule.closes old close before after c.requires c.if-self.false closes out few in
+    let same = unchanged before (shown_text old.line.held ++ close) after out few in (
+      front,
+      front,
+      c.split_plain.ensures.whole,
+      goes_plain g.R.Anew.begins g.R.Rule.gives g.R.Rule.closes old _ front some c.split_plain.ensures.plain blank (record { line = c.begin.ensures; returned = c.if-self.false; closes = blank.closes }) refl,
+      c.in_ok-extend_from_slice.ensures.items ∙ ap (λ t. t ++ front) same,
+    )

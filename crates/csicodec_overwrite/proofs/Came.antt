@@ -1,0 +1,181 @@
+-- What `strip` leaves of the bytes comes into lines, and the law.
+use Rattle.std.proofs.Common.{◌≡◌, ◌≢◌, ◌≤◌, ℕ, ◌+◌, Bool, true, false, cond, List, [], ◌∷◌, ◌++◌, encode_utf8_all, refl, sym, ap, ◌∙◌, append_assoc, append-nil, arith}
+use Rattle.std.specs.Prelude.{◌==◌, filter}
+use Rattle.std.specs.List.{AllByRecursion, flat_map}
+use Rattle.std.specs.Str.{all_scalars}
+use Rattle.std.proofs.lemmas.Bool.{and_from, eqb-true}
+use Rattle.std.proofs.lemmas.Grind.{flat_map-append}
+use Rattle.std.proofs.lemmas.List.Sums.{sum_by-append}
+use lib.Utf8.{scalar}
+use Rattle.bstr.specs.Utf8.{lossy_chars}
+use Rattle.bstr.proofs.lemmas.EncodeLemmas.{lossy_chars-encode}
+use Rattle.bstr.proofs.lemmas.PieceLemmas.{lossy_chars-nil}
+use Rattle.csicodec_actions.specs.Ranges.{SgrInRange}
+use Rattle.csicodec_spans.specs.declared.table.Kind.{Kind}
+use Rattle.csicodec_spans.specs.declared.table.Kind.TheVariants as kind
+use Rattle.csicodec_spans.specs.Parts.{Part, left_over}
+use Rattle.csicodec_clean.specs.Cleaned.{Strips, is_text, longest, stripped}
+use Rattle.csicodec_clean.specs.Shown.{shown, shown_chars, shown_text}
+use Rattle.csicodec_clean.specs.Titles.{title_open, with_titles}
+use Rattle.csicodec_clean.proofs.Plain.{kept_shown, scalars_lossy, scalars_on}
+use Rattle.csicodec_clean.proofs.Shows.{encoded_on}
+use Rattle.csicodec_clean.proofs.Titles.{titles_on}
+use Rattle.csicodec_clean.proofs.Twice.{one_text, plain_stays}
+use Rattle.csicodec_overwrite.specs.declared.line.Line.{Line}
+use Rattle.csicodec_overwrite.specs.declared.pen.Pen.{Pen}
+use Rattle.csicodec_overwrite.specs.declared.step.Step.{Step}
+use Rattle.csicodec_overwrite.specs.declared.step.Step.TheVariants as step
+use Rattle.csicodec_overwrite.specs.Cells.{columns}
+use Rattle.csicodec_overwrite.specs.Line.{blank, do_all, does, fresh, pen_behind}
+use Rattle.csicodec_overwrite.specs.Lost.{NothingLost, NothingMade, all_came, came, times}
+use Rattle.csicodec_overwrite.specs.Paint.{IsInRange}
+use Rattle.csicodec_overwrite.specs.Reading.{AreOfParts, IsOfPart, Shows, Steps, most, shown_by}
+use Rattle.csicodec_overwrite.specs.Steps.{of_char, of_chars, of_control, of_escape, of_run, of_sequence, of_string, of_wrong}
+use Rattle.csicodec_overwrite.proofs.Kept.{of_shown}
+use Rattle.csicodec_overwrite.proofs.Lost.{balances, others, text_has, text_is}
+use Rattle.csicodec_overwrite.proofs.Plain.{IsGood, kept, overwritten_plain, plain_kept, steps_good}
+use Rattle.csicodec_overwrite.proofs.Same.{same_text}
+use Rattle.csicodec_overwrite.proofs.Texts.{chars_by, shown_plain}
+
+-- ---- the characters that steps put by themselves
+
+abbrev put_by : Step → List ℕ
+put_by (step.Put d) = d ∷ []
+put_by s = []
+
+abbrev puts : List Step → List ℕ
+puts steps = flat_map put_by steps
+
+module _ (c : ℕ) where
+  both : (xs ys : List ℕ) → times c (xs ++ ys) ≡ times c xs + times c ys
+  both xs ys = sum_by-append (λ x. cond (x == c) 1 0) xs ys
+
+  puts_on : (xs ys : List Step) → times c (puts (xs ++ ys)) ≡ times c (puts xs) + times c (puts ys)
+  puts_on xs ys = ap (times c) (flat_map-append put_by xs ys) ∙ both (puts xs) (puts ys)
+
+  -- ---- they come
+
+  one_came : (pen : Pen) (s : Step) (l : Line) → times c (put_by s) ≤ times c (came pen s l)
+  one_came pen (step.Put d) l = omega arith
+  one_came pen _ l = omega arith
+
+  all_puts : (limit : ℕ) (pen : Pen) (steps : List Step) (l : Line) → times c (puts steps) ≤ times c (all_came limit pen steps l)
+  all_puts limit pen [] l = omega arith
+  all_puts limit pen (s ∷ steps) l =
+      let next = pen_behind pen s (columns l.left) in
+      let after = (does limit pen s l).line in
+      omega (arith, one_came pen s l, all_puts limit next steps after, both (put_by s) (puts steps), both (came pen s l) (all_came limit next steps after))
+
+  -- ---- what is shown is put
+
+  module _ (no_tab : c ≢ 9) (no_newline : c ≢ 10) where
+    none_shown : (d k : ℕ) (shows : Bool) → (d == k) ≡ true → c ≢ k → times c (cond shows (d ∷ []) []) ≡ 0
+    none_shown d k false e h = refl
+    none_shown d k true e h = others c d (λ f. h (f ∙ eqb-true d k e))
+
+    char_put : (d : ℕ) → times c (cond (shown d) (d ∷ []) []) ≤ times c (puts (of_char d))
+    char_put d = by (d == 10) (d == 13) (d == 8) (d == 9) (shown d) refl refl refl refl refl
+      where
+        not_shown : (k : ℕ) → (d == k) ≡ true → shown k ≡ false → times c (cond (shown d) (d ∷ []) []) ≡ 0
+        not_shown k e f = ap (λ (t : Bool). times c (cond t (d ∷ []) [])) (ap shown (eqb-true d k e) ∙ f)
+
+        by : (line return back tab shows : Bool) → (d == 10) ≡ line → (d == 13) ≡ return → (d == 8) ≡ back → (d == 9) ≡ tab → shown d ≡ shows
+            → times c (cond shows (d ∷ []) []) ≤ times c (puts (cond line (step.NewLine ∷ []) (cond return (step.Column 1 ∷ []) (cond back (step.Left 1 ∷ []) (cond tab (step.Tab ∷ []) (cond shows (step.Put d ∷ []) (of_control d)))))))
+        by true return back tab shows e f g i k = omega (arith, none_shown d 10 shows e no_newline)
+        by false true back tab shows e f g i k = omega (arith, not_shown 13 f refl, ap (λ (t : Bool). times c (cond t (d ∷ []) [])) k)
+        by false false true tab shows e f g i k = omega (arith, not_shown 8 g refl, ap (λ (t : Bool). times c (cond t (d ∷ []) [])) k)
+        by false false false true shows e f g i k = omega (arith, none_shown d 9 shows i no_tab)
+        by false false false false true e f g i k = omega arith
+        by false false false false false e f g i k = omega arith
+
+    chars_put : (cs : List ℕ) → times c (filter shown cs) ≤ times c (puts (of_chars cs))
+    chars_put [] = omega arith
+    chars_put (d ∷ cs) = omega (arith, char_put d, chars_put cs, puts_on (of_char d) (of_chars cs), split (shown d))
+      where
+        split : (t : Bool) → times c (cond t (d ∷ filter shown cs) (filter shown cs)) ≡ times c (cond t (d ∷ []) []) + times c (filter shown cs)
+        split true = both (d ∷ []) (filter shown cs)
+        split false = omega arith
+
+    -- these characters are shown, and then what is shown of the last run, and these steps put them
+    abbrev Keeps : List Step → (List Part → List ℕ) → List ℕ → Type 0
+    Keeps steps all left = (chars : List ℕ) × (all_scalars chars ≡ true) × ((qs : List Part) → all qs ≡ encode_utf8_all chars ++ stripped left qs) × (times c chars ≤ times c (puts steps))
+
+    module _ (ps : List Part) (run next left : List ℕ) (first later steps : List Step) (e : steps ≡ first ++ later) (others : Keeps later (λ qs. stripped next (ps ++ qs)) left) where
+      -- a part that ends the run, in front of these
+      ended : (own : List Step) → first ≡ of_run run ++ own → next ≡ [] → Keeps steps (λ qs. shown_text run ++ stripped [] (ps ++ qs)) left
+      ended own f none =
+          let (chars, scalars, same, put) = others in
+          let here = filter shown (lossy_chars run) in (
+            here ++ chars,
+            scalars_on here chars (kept_shown (lossy_chars run) (scalars_lossy run)).0 scalars,
+            λ qs. ap (λ (t : List ℕ). shown_text run ++ t) (ap (λ (r : List ℕ). stripped r (ps ++ qs)) (sym none) ∙ same qs) ∙ sym (append_assoc (encode_utf8_all here) (encode_utf8_all chars) (stripped left qs))
+                ∙ ap (λ (t : List ℕ). t ++ stripped left qs) (sym (encoded_on here chars)),
+            omega (arith, both here chars, chars_put (lossy_chars run), put, puts_on (of_run run) own, puts_on first later, ap (λ (x : List Step). times c (puts x)) f, ap (λ (x : List Step). times c (puts x)) e),
+          )
+
+      one_part : (k : Kind) (bytes : List ℕ) → IsOfPart k run bytes first next → Keeps steps (λ qs. cond (is_text k) (stripped (run ++ bytes) (ps ++ qs)) (shown_text run ++ stripped [] (ps ++ qs))) left
+      one_part kind.Text bytes (none, on) =
+          let (chars, scalars, same, put) = others in (
+            chars,
+            scalars,
+            λ qs. ap (λ (r : List ℕ). stripped r (ps ++ qs)) (sym on) ∙ same qs,
+            omega (arith, put, puts_on first later, ap (λ (x : List Step). times c (puts x)) e),
+          )
+      one_part kind.Csi bytes (actions, of, f, none) = ended (of_sequence actions) f none
+      one_part kind.Esc bytes (f, none) = ended (of_escape bytes) f none
+      one_part kind.Str bytes (f, none) = ended (of_string bytes) f none
+      one_part kind.Other bytes (f, none) = ended (of_wrong bytes) f none
+
+    parts_put : (ps : List Part) (run : List ℕ) (steps : List Step) (left : List ℕ) → AreOfParts run ps steps left → Keeps steps (λ qs. stripped run (ps ++ qs)) left
+    parts_put [] run steps left h = ([], refl, λ qs. ap (λ (r : List ℕ). stripped r qs) (sym h.1), omega arith)
+    parts_put (p ∷ ps) run steps left (first, next, later, is, e, rest) = one_part ps run next left first later steps e (parts_put ps next later left rest) p.kind p.bytes is
+
+    -- what isn't over at the end shows nothing
+    none_over : (t : Bool) (run bytes : List ℕ) → stripped run (with_titles t (left_over bytes)) ≡ shown_text run
+    none_over t run [] = refl
+    none_over t run (b ∷ bytes) = ap (λ (cs : List ℕ). shown_text run ++ shown_chars cs) lossy_chars-nil ∙ append-nil (shown_text run)
+
+    pub kept_put : (bytes kept : List ℕ) (steps : List Step) → Steps bytes steps → Strips longest bytes kept → times c (lossy_chars kept) ≤ times c (puts steps)
+    kept_put bytes kept steps s k =
+        let parts = s.parts ++ left_over s.rest in
+        let t = title_open false s.parts in
+        let last = filter shown (lossy_chars s.run) in
+        let (chars, scalars, same, put) = parts_put (with_titles false s.parts) [] s.before s.run s.read in
+        let own : Strips longest bytes (stripped [] (with_titles false parts)) = record {
+          parts = parts;
+          whole = record { sure = s.parts; rest = s.rest; after = s.after; first = s.first; unsure = s.unsure; whole = refl };
+          left = refl;
+        } in
+        let text : kept ≡ encode_utf8_all (chars ++ last) =
+        one_text longest bytes kept (stripped [] (with_titles false parts)) k own ∙ ap (stripped []) (titles_on false s.parts (left_over s.rest)) ∙ same (with_titles t (left_over s.rest))
+        ∙ ap (λ (x : List ℕ). encode_utf8_all chars ++ x) (none_over t s.run s.rest) ∙ sym (encoded_on chars last) in
+        let read : lossy_chars kept ≡ chars ++ last = ap lossy_chars text ∙ lossy_chars-encode (chars ++ last) (scalars_on chars last scalars (kept_shown (lossy_chars s.run) (scalars_lossy s.run)).0) in
+        omega (arith, ap (times c) read, both chars last, put, chars_put (lossy_chars s.run), puts_on s.before (of_run s.run), ap (λ (x : List Step). times c (puts x)) s.all)
+
+-- ---- what is written
+
+scalars_of : (cs : List ℕ) → AllByRecursion IsGood cs → all_scalars cs ≡ true
+scalars_of [] h = refl
+scalars_of (c ∷ cs) h = and_from (scalar c) (all_scalars cs) h.0.1 (scalars_of cs h.1)
+
+-- painted or not, what `strip` leaves of it is the plain text
+left_plain : (painted : Bool) (bytes out text : List ℕ) (s : Shows painted bytes out) → Strips longest out text → text ≡ shown_by false (do_all most fresh s.steps blank)
+left_plain true bytes out text s k =
+    let plain = shown_by false (do_all most fresh s.steps blank) in
+    one_text longest out text plain k (same_text bytes out plain s (record { steps = s.steps; read = s.read; all = refl }))
+left_plain false bytes out text s k = plain_stays longest out text (overwritten_plain bytes out s) k ∙ s.all
+
+left_chars : (painted : Bool) (bytes out text : List ℕ) (s : Shows painted bytes out) → Strips longest out text → lossy_chars text ≡ chars_by (do_all most fresh s.steps blank)
+left_chars painted bytes out text s k =
+    let d = do_all most fresh s.steps blank in
+    let good = of_shown IsGood IsInRange SgrInRange (refl, refl) plain_kept kept (refl, refl) (refl, refl) most s.steps (steps_good bytes s.steps s.read) in
+    ap lossy_chars (left_plain painted bytes out text s k ∙ shown_plain d) ∙ lossy_chars-encode (chars_by d) (scalars_of (chars_by d) good)
+
+-- ---- the laws
+
+pub nothing_lost : NothingLost
+nothing_lost painted bytes kept out text s c k l no_tab no_newline =
+    omega (arith, kept_put c no_tab no_newline bytes kept s.steps s.read k, all_puts c most fresh s.steps blank, balances c most fresh s.steps, text_has c (do_all most fresh s.steps blank), ap (times c) (left_chars painted bytes out text s l))
+
+pub nothing_made : NothingMade
+nothing_made painted bytes out text s c l no_blank no_newline = omega (arith, balances c most fresh s.steps, text_is c (do_all most fresh s.steps blank) no_blank no_newline, ap (times c) (left_chars painted bytes out text s l))

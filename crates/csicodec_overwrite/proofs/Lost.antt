@@ -1,0 +1,298 @@
+-- Each character that comes stands in a line, or was taken out of its own: counted step by step.
+use Rattle.std.proofs.Common.{◌≡◌, ◌≢◌, ◌≤◌, ℕ, ◌+◌, ◌-◌, zero, suc, Bool, true, false, cond, min, List, [], ◌∷◌, ◌++◌, length, replicate, refl, sym, ap, ◌∙◌, arith}
+use Rattle.std.specs.Prelude.{◌==◌, nat_lt, Option, Some, None}
+use Rattle.std.specs.List.{flat_map}
+use Rattle.std.proofs.lemmas.List.Sums.{sum_by-append}
+use Rattle.std.proofs.lemmas.Bool.{eqb-true}
+use Rattle.std.proofs.lemmas.Bool.Decides.{nat_tests}
+use Rattle.csicodec_overwrite.specs.declared.cells.Cell.{Cell}
+use Rattle.csicodec_overwrite.specs.declared.cells.Cell.TheVariants.{Behind, Char, Empty, Mark}
+use Rattle.csicodec_overwrite.specs.declared.cells.Glyph.{Glyph}
+use Rattle.csicodec_overwrite.specs.declared.line.Line.{Line}
+use Rattle.csicodec_overwrite.specs.declared.pen.Pen.{Pen}
+use Rattle.csicodec_overwrite.specs.declared.step.Step.{Step}
+use Rattle.csicodec_overwrite.specs.declared.step.Step.TheVariants as step
+use Rattle.csicodec_overwrite.specs.Cells.{begins_behind, belongs, chars_of, columns, emptied, erased, glyph, gone, is_empty, onto, outside, takes, to_tab_stop, trimmed, width, without}
+use Rattle.csicodec_overwrite.specs.Line.{Done, back, behind_columns, blank, cells_of, do_all, does, done, fits, forward, from_stop, line, lines_of, over, parted, pen_behind, placed, put, repeat, repeated, restored, size, standing, target, to_stop, widest}
+use Rattle.csicodec_overwrite.specs.Lost.{again, all_came, all_taken, belonging, came, covered, taken, taken_again, taken_by, taken_by_all, times, touched, under, whole, within, written}
+use Rattle.csicodec_overwrite.proofs.Texts.{chars_by, line_chars}
+
+-- either way of a test
+either : {T : Type 0} (P : T → Type 0) (t : Bool) (x y : T) → (t ≡ true → P x) → (t ≡ false → P y) → P (cond t x y)
+either P true x y h k = h refl
+either P false x y h k = k refl
+
+-- either way of one test in two places
+both_ways : {S T : Type 0} (P : S → T → Type 0) (t : Bool) (x y : S) (a b : T) → (t ≡ true → P x a) → (t ≡ false → P y b) → P (cond t x y) (cond t a b)
+both_ways P true x y a b h k = h refl
+both_ways P false x y a b h k = k refl
+
+no_cells : (xs : List Cell) → length xs == 0 ≡ true → xs ≡ []
+no_cells [] e = refl
+no_cells (x ∷ xs) e = absurd (grind (arith, nat_tests))
+
+module _ (c : ℕ) where
+  -- how often the character stands in a cell
+  abbrev in_cell : Cell → ℕ
+  in_cell x = times c (written x)
+
+  abbrev count : List Cell → ℕ
+  count [] = 0
+  count (x ∷ xs) = in_cell x + count xs
+
+  abbrev in_line : Line → ℕ
+  in_line l = count l.left + count l.right
+
+  abbrev in_lines : List (List Cell) → ℕ
+  in_lines [] = 0
+  in_lines (x ∷ xs) = count x + in_lines xs
+
+  abbrev in_all : Done → ℕ
+  in_all d = in_lines d.lines + in_line d.line
+
+  both : (xs ys : List ℕ) → times c (xs ++ ys) ≡ times c xs + times c ys
+  both xs ys = sum_by-append (λ x. cond (x == c) 1 0) xs ys
+
+  counted : (xs : List Cell) → times c (flat_map written xs) ≡ count xs
+  counted [] = refl
+  counted (x ∷ xs) = omega (arith, both (written x) (flat_map written xs), counted xs)
+
+  -- ---- cells
+
+  joined : (xs ys : List Cell) → count (xs ++ ys) ≡ count xs + count ys
+  joined [] ys = omega arith
+  joined (x ∷ xs) ys = omega (arith, joined xs ys)
+
+  empties : (n : ℕ) (xs : List Cell) → count (replicate n Empty ++ xs) ≡ count xs
+  empties zero xs = refl
+  empties (suc n) xs = omega (arith, empties n xs)
+
+  all_empty : (n : ℕ) → count (replicate n Empty) ≡ 0
+  all_empty zero = refl
+  all_empty (suc n) = omega (arith, all_empty n)
+
+  behinds : (n : ℕ) (xs : List Cell) → count (replicate n Behind ++ xs) ≡ count xs
+  behinds zero xs = refl
+  behinds (suc n) xs = omega (arith, behinds n xs)
+
+  moved : (xs ys : List Cell) → count (onto xs ys) ≡ count xs + count ys
+  moved [] ys = omega arith
+  moved (x ∷ xs) ys = omega (arith, moved xs (x ∷ ys))
+
+  of_within : (n : ℕ) (xs : List Cell) → count (within n xs) + count (without n xs) ≡ count xs
+  of_within n [] = refl
+  of_within n (x ∷ xs) = both_ways (λ (a b : List Cell). count a + count b ≡ in_cell x + count xs) (n == 0) [] (x ∷ within (n - takes x) xs) (x ∷ xs) (without (n - takes x) xs)
+      (λ e. omega arith) (λ e. omega (arith, of_within (n - takes x) xs))
+
+  of_belonging : (xs : List Cell) → count (belonging xs) + count (outside xs) ≡ count xs
+  of_belonging [] = refl
+  of_belonging (x ∷ xs) = both_ways (λ (a b : List Cell). count a + count b ≡ in_cell x + count xs) (belongs x) (x ∷ belonging xs) [] (outside xs) (x ∷ xs)
+      (λ e. omega (arith, of_belonging xs)) (λ e. omega arith)
+
+  none_in : (x : Cell) → is_empty x ≡ true → in_cell x ≡ 0
+  none_in Empty e = refl
+  none_in (Char g) e = cc
+  none_in Behind e = cc
+  none_in (Mark d) e = cc
+
+  of_trimmed : (xs : List Cell) → count (trimmed xs) ≡ count xs
+  of_trimmed [] = refl
+  of_trimmed (x ∷ xs) = either (λ (a : List Cell). count a ≡ in_cell x + count xs) (is_empty x) (trimmed xs) (x ∷ xs) (λ e. omega (arith, none_in x e, of_trimmed xs)) (λ e. omega arith)
+
+  of_emptied : (xs rest : List Cell) → count (emptied xs rest) ≡ count rest
+  of_emptied xs rest = empties (columns xs - columns rest) rest
+
+  of_whole : (n : ℕ) (xs : List Cell) → count (whole n xs) + count (gone n xs) ≡ count xs
+  of_whole n xs =
+      let rest = without n xs in
+      omega (arith, joined (within n xs) (belonging rest), of_emptied rest (outside rest), of_belonging rest, of_within n xs)
+
+  of_erased : (n : ℕ) (xs : List Cell) → count (erased n xs) ≡ count (gone n xs)
+  of_erased n xs = empties (min n (columns xs)) (gone n xs)
+
+  -- ---- lines
+
+  of_back : (n : ℕ) (left right : List Cell) → in_line (back n left right) ≡ count left + count right
+  of_back n [] right = refl
+  of_back n (x ∷ left) right = either (λ (m : Line). in_line m ≡ (in_cell x + count left) + count right) (n == 0) (line (x ∷ left) right) (back (n - takes x) left (x ∷ right)) (λ e. refl) (λ e. omega (arith, of_back (n - takes x) left (x ∷ right)))
+
+  of_over : (n : ℕ) (left right : List Cell) → in_line (over n left right) ≡ count left + count right
+  of_over n left [] = refl
+  of_over n left (x ∷ right) = either (λ (m : Line). in_line m ≡ count left + (in_cell x + count right)) (nat_lt n (takes x)) (line left (x ∷ right)) (over (n - takes x) (x ∷ left) right) (λ e. refl) (λ e. omega (arith, of_over (n - takes x) (x ∷ left) right))
+
+  of_forward : (limit n : ℕ) (l : Line) → in_line (forward limit n l) ≡ in_line l
+  of_forward limit n l =
+      let m = over n l.left l.right in
+      omega (arith, empties (min (n - columns l.right) (limit - size m)) m.left, of_over n l.left l.right)
+
+  of_behind : (limit n : ℕ) (l : Line) → in_line (behind_columns limit n l) ≡ in_line l
+  of_behind limit n l = omega (arith, of_forward limit n (line [] (onto l.left l.right)), moved l.left l.right)
+
+  of_under : (l : Line) → count (under l) + in_line (parted l) ≡ in_line l
+  of_under l =
+      let left = without 1 (outside l.left) in
+      let right = outside l.right in
+      both_ways (λ (a : List Cell) (m : Line). count a + in_line m ≡ in_line l) (begins_behind l.right) (belonging l.left ++ (within 1 (outside l.left) ++ belonging l.right)) [] (line (emptied l.left left) (emptied l.right right)) l
+      (λ e. omega (arith, joined (belonging l.left) (within 1 (outside l.left) ++ belonging l.right), joined (within 1 (outside l.left)) (belonging l.right), of_belonging l.left, of_belonging l.right, of_within 1 (outside l.left), of_emptied l.left left, of_emptied l.right right))
+      (λ e. omega arith)
+
+  of_touched : (n : ℕ) (l : Line) → count (touched n l) + (count (parted l).left + count (gone n (parted l).right)) ≡ in_line l
+  of_touched n l = omega (arith, joined (under l) (whole n (parted l).right), of_whole n (parted l).right, of_under l)
+
+  of_cells : (l : Line) → count (cells_of l) ≡ in_line l
+  of_cells l = omega (arith, moved (standing l) [], of_trimmed (onto l.right l.left), moved l.right l.left)
+
+  of_lines : (l : Line) → in_lines (lines_of l) ≡ in_line l
+  of_lines l = either (λ (xs : List (List Cell)). in_lines xs ≡ in_line l) (length (standing l) == 0) [] (cells_of l ∷ [])
+      (λ e. omega (arith, ap count (no_cells (standing l) e), of_trimmed (onto l.right l.left), moved l.right l.left)) (λ e. omega (arith, of_cells l))
+
+  lines_joined : (xs ys : List (List Cell)) → in_lines (xs ++ ys) ≡ in_lines xs + in_lines ys
+  lines_joined [] ys = omega arith
+  lines_joined (x ∷ xs) ys = omega (arith, lines_joined xs ys)
+
+  -- ---- characters
+
+  of_placed : (inserts : Bool) (g : Glyph) (n : ℕ) (l : Line) → in_line (placed inserts g n l) + count (covered inserts n l) ≡ in_line l + times c (g.char ∷ [])
+  of_placed inserts g n l =
+      let p = parted l in
+      both_ways (λ (m : Line) (a : List Cell). in_line m + count a ≡ in_line l + times c (g.char ∷ [])) (n == 0)
+      (line (Mark g.char ∷ l.left) l.right) (line (replicate (n - 1) Behind ++ (Char g ∷ p.left)) (cond inserts p.right (gone n p.right))) [] (cond inserts (under l) (touched n l))
+      (λ e. omega arith)
+      (λ e. both_ways (λ (right a : List Cell). count (replicate (n - 1) Behind ++ (Char g ∷ p.left)) + count right + count a ≡ in_line l + times c (g.char ∷ [])) inserts p.right (gone n p.right) (under l) (touched n l)
+      (λ f. omega (arith, behinds (n - 1) (Char g ∷ p.left), of_under l)) (λ f. omega (arith, behinds (n - 1) (Char g ∷ p.left), of_touched n l)))
+
+  -- where nothing stands on the right, nothing is taken
+  none_covered : (inserts : Bool) (n : ℕ) (left : List Cell) → count (covered inserts n (line left [])) ≡ 0
+  none_covered inserts n left = by (n == 0) inserts
+    where
+      by : (mark inserting : Bool) → count (cond mark [] (cond inserting (under (line left [])) (touched n (line left [])))) ≡ 0
+      by true inserting = refl
+      by false true = refl
+      by false false = refl
+
+  of_put : (limit : ℕ) (inserts : Bool) (g : Glyph) (l : Line) → in_all (put limit inserts g l) + count (taken_by limit inserts g l) ≡ in_line l + times c (g.char ∷ [])
+  of_put limit inserts g l =
+      let w = width g.char (columns l.left) in
+      both_ways (λ (d : Done) (a : List Cell). in_all d + count a ≡ in_line l + times c (g.char ∷ [])) (fits limit w l)
+      (done [] (placed inserts g w l)) (done (cells_of l ∷ []) (placed inserts g (width g.char 0) blank)) (covered inserts w l) []
+      (λ e. omega (arith, of_placed inserts g w l))
+      (λ e. omega (arith, of_cells l, of_placed inserts g (width g.char 0) blank, none_covered inserts (width g.char 0) []))
+
+  again_suc : (n d : ℕ) → times c (replicate (suc n) d) ≡ times c (d ∷ []) + times c (replicate n d)
+  again_suc n d = both (d ∷ []) (replicate n d)
+
+  of_repeat : (limit : ℕ) (inserts : Bool) (g : Glyph) (n : ℕ) (l : Line) → in_all (repeat limit inserts g n l) + count (taken_by_all limit inserts g n l) ≡ in_line l + times c (replicate n g.char)
+  of_repeat limit inserts g zero l = omega arith
+  of_repeat limit inserts g (suc n) l =
+      let d = put limit inserts g l in
+      let others = taken_by_all limit inserts g n d.line in
+      omega (arith, of_put limit inserts g l, of_repeat limit inserts g n d.line, lines_joined d.lines (repeat limit inserts g n d.line).lines, joined (taken_by limit inserts g l) others, again_suc n g.char)
+
+  of_repeated : (limit : ℕ) (pen : Pen) (last : Option ℕ) (n : ℕ) (l : Line) → in_all (repeated limit pen last n l) + count (taken_again limit pen last n l) ≡ in_line l + times c (again last n)
+  of_repeated limit pen None n l = omega arith
+  of_repeated limit pen (Some d) n l = of_repeat limit pen.inserts (glyph d pen.look) n l
+
+  -- a tab takes nothing: nothing stands on its right
+  of_tab : (limit : ℕ) (pen : Pen) (l : Line) → in_all (does limit pen step.Tab l) ≡ in_line l + times c (came pen step.Tab l)
+  of_tab limit pen l = both_ways (λ (d : Done) (cs : List ℕ). in_all d ≡ in_line l + times c cs) (length l.right == 0) (put limit pen.inserts (glyph 9 pen.look) l) (done [] (forward limit (to_tab_stop (columns l.left)) l)) (9 ∷ []) []
+      (λ e. omega (arith, of_put limit pen.inserts (glyph 9 pen.look) l, none_taken l (no_cells l.right e))) (λ e. omega (arith, of_forward limit (to_tab_stop (columns l.left)) l))
+    where
+      none_taken : (l : Line) → l.right ≡ [] → count (taken_by limit pen.inserts (glyph 9 pen.look) l) ≡ 0
+      none_taken l e =
+          let w = width 9 (columns l.left) in
+          either (λ (a : List Cell). count a ≡ 0) (fits limit w l) (covered pen.inserts w l) []
+          (λ f. ap (λ (right : List Cell). count (covered pen.inserts w (line l.left right))) e ∙ none_covered pen.inserts w l.left) (λ f. refl)
+
+  -- ---- steps
+
+  of_restored : (limit : ℕ) (pen : Pen) (l : Line) → in_all (restored limit pen l) ≡ in_line l
+  of_restored limit pen l = either (λ (d : Done). in_all d ≡ in_line l) pen.here (done [] (behind_columns limit pen.saved l)) (done (lines_of l) (forward limit (min pen.saved (widest - 1)) blank))
+      (λ e. omega (arith, of_behind limit pen.saved l)) (λ e. omega (arith, of_lines l, of_forward limit (min pen.saved (widest - 1)) blank))
+
+  of_does : (limit : ℕ) (pen : Pen) (s : Step) (l : Line) → in_all (does limit pen s l) + count (taken limit pen s l) ≡ in_line l + times c (came pen s l)
+  of_does limit pen (step.Put d) l = of_put limit pen.inserts (glyph d pen.look) l
+  of_does limit pen (step.Repeat n) l = of_repeated limit pen pen.last n l
+  of_does limit pen step.Tab l = omega (arith, of_tab limit pen l)
+  of_does limit pen (step.Tabs n) l = omega (arith, of_forward limit (to_stop n (columns l.left)) l)
+  of_does limit pen (step.TabsBack n) l = omega (arith, of_back (from_stop n (columns l.left)) l.left l.right)
+  of_does limit pen step.NewLine l = omega (arith, of_cells l)
+  of_does limit pen (step.Right n) l = omega (arith, of_forward limit n l)
+  of_does limit pen (step.Left n) l = omega (arith, of_back n l.left l.right)
+  of_does limit pen (step.Column n) l = omega (arith, of_behind limit (n - 1) l)
+  of_does limit pen step.EraseRight l = omega (arith, of_under l, joined (under l) (parted l).right)
+  of_does limit pen step.EraseLeft l = omega (arith, all_empty (columns l.left), of_erased 1 l.right, of_whole 1 l.right, joined l.left (whole 1 l.right))
+  of_does limit pen step.EraseAll l = omega (arith, all_empty (columns l.left), joined l.left l.right)
+  of_does limit pen (step.Erase n) l = omega (arith, of_touched n l, of_erased n (parted l).right)
+  of_does limit pen (step.Delete n) l = omega (arith, of_touched n l)
+  of_does limit pen (step.Insert n) l = omega (arith, of_under l, empties (min n (limit - size (parted l))) (parted l).right)
+  of_does limit pen (step.Attribute s) l = omega arith
+  of_does limit pen (step.Inserts inserts) l = omega arith
+  of_does limit pen step.Save l = omega arith
+  of_does limit pen step.Restore l = omega (arith, of_restored limit pen l)
+  of_does limit pen step.Reset l = omega arith
+  of_does limit pen (step.Leave to) l = omega (arith, of_lines l, of_forward limit (target to l) blank)
+  of_does limit pen step.Other l = omega arith
+
+  of_all : (limit : ℕ) (pen : Pen) (steps : List Step) (l : Line) → in_all (do_all limit pen steps l) + times c (all_taken limit pen steps l) ≡ in_line l + times c (all_came limit pen steps l)
+  of_all limit pen [] l = omega arith
+  of_all limit pen (s ∷ steps) l =
+      let d = does limit pen s l in
+      let next = pen_behind pen s (columns l.left) in
+      omega (
+        arith,
+        of_does limit pen s l,
+        of_all limit next steps d.line,
+        lines_joined d.lines (do_all limit next steps d.line).lines,
+        both (flat_map written (taken limit pen s l)) (all_taken limit next steps d.line),
+        counted (taken limit pen s l),
+        both (came pen s l) (all_came limit next steps d.line),
+      )
+
+  pub balances : (limit : ℕ) (pen : Pen) (steps : List Step) → let d = do_all limit pen steps blank in
+      in_lines d.lines + count (cells_of d.line) + times c (all_taken limit pen steps blank) ≡ times c (all_came limit pen steps blank)
+  balances limit pen steps =
+      let d = do_all limit pen steps blank in
+      omega (arith, of_all limit pen steps blank, of_cells d.line)
+
+  -- ---- the text of lines
+
+  pub text_has : (d : Done) → in_lines d.lines + count (cells_of d.line) ≤ times c (chars_by d)
+  text_has d = omega (arith, both (flat_map line_chars d.lines) (flat_map chars_of (cells_of d.line)), lines_have d.lines, cells_have (cells_of d.line))
+    where
+      cell_has : (x : Cell) → in_cell x ≤ times c (chars_of x)
+      cell_has Empty = omega arith
+      cell_has (Char g) = omega arith
+      cell_has Behind = omega arith
+      cell_has (Mark d) = omega arith
+
+      cells_have : (xs : List Cell) → count xs ≤ times c (flat_map chars_of xs)
+      cells_have [] = omega arith
+      cells_have (x ∷ xs) = omega (arith, cell_has x, cells_have xs, both (chars_of x) (flat_map chars_of xs))
+
+      lines_have : (lines : List (List Cell)) → in_lines lines ≤ times c (flat_map line_chars lines)
+      lines_have [] = omega arith
+      lines_have (x ∷ xs) = omega (arith, cells_have x, lines_have xs, both (line_chars x) (flat_map line_chars xs), both (flat_map chars_of x) (10 ∷ []))
+
+  pub others : (k : ℕ) → c ≢ k → times c (k ∷ []) ≡ 0
+  others k h = ap (λ (t : Bool). 0 + cond t 1 0) (by (k == c) refl)
+    where
+      by : (t : Bool) → (k == c) ≡ t → t ≡ false
+      by true e = absurd (h (sym (eqb-true k c e)))
+      by false e = refl
+
+  pub text_is : (d : Done) → c ≢ 32 → c ≢ 10 → in_lines d.lines + count (cells_of d.line) ≡ times c (chars_by d)
+  text_is d no_blank no_newline = omega (arith, both (flat_map line_chars d.lines) (flat_map chars_of (cells_of d.line)), lines_are d.lines, cells_are (cells_of d.line))
+    where
+      cell_is : (x : Cell) → in_cell x ≡ times c (chars_of x)
+      cell_is Empty = omega (arith, others 32 no_blank)
+      cell_is (Char g) = refl
+      cell_is Behind = refl
+      cell_is (Mark d) = refl
+
+      cells_are : (xs : List Cell) → count xs ≡ times c (flat_map chars_of xs)
+      cells_are [] = refl
+      cells_are (x ∷ xs) = omega (arith, cell_is x, cells_are xs, both (chars_of x) (flat_map chars_of xs))
+
+      lines_are : (lines : List (List Cell)) → in_lines lines ≡ times c (flat_map line_chars lines)
+      lines_are [] = refl
+      lines_are (x ∷ xs) = omega (arith, cells_are x, lines_are xs, both (line_chars x) (flat_map line_chars xs), both (flat_map chars_of x) (10 ∷ []), others 10 no_newline)

@@ -1,0 +1,16 @@
+use Rattle.std.proofs.Common.{◌++◌, sym, ap, ◌∙◌}
+use Rattle.csicodec_overwrite.specs.Paint.{paint}
+use Rattle.csicodec_overwrite.proofs.Painted.{painted_on}
+use Rattle.csicodec_overwrite.proofs.paint.append_painted.Goals as goal
+
+pub loop-cell-preserved : goal.loop-cell-preserved
+loop-cell-preserved c =
+    let l = c.loop-cell in
+    let cell = c.in-Some.cell.now in
+    let behind = c.in-Some.behind.now in
+    let old = c.args.out.now.items ++ paint c.args.look c.args.cells.now in
+    rw c.look_of-next.ensures
+    (record {
+      text = painted_on l.now cell behind l.out.items c.append_turn.new.out.items c.append_cell.new.out.items old (rw c.look_of-next.ensures at c.in_ok-append_turn.ensures) c.in_ok-append_cell.ensures
+          (ap (λ cells. l.out.items ++ paint l.now cells) (sym c.in-Some.ensures.cases.0) ∙ l.invariant.text);
+    })

@@ -1,0 +1,69 @@
+//! The sequence at the front of some bytes, with the actions that terminals take it for.
+ghost use Rattle.std.specs.Prelude.{◌≡◌, ◌⊎◌, IfSome, map};
+ghost use Rattle.csicodec_parser.specs.ActionOf.{action_of};
+ghost use Rattle.csicodec_structs.specs.Next.{IsRefused, Lays};
+ghost use Rattle.csicodec_structs.specs.Private.Fronts.{IsAnswer};
+ghost use Rattle.csicodec_structs.specs.Terminal.{IsTaken};
+ghost use Rattle.csicodec_terminal.specs.Terminal.{Terminal};
+
+use crate::lay::{Counts, lay_one};
+use crate::next::{Front, done, refusal, refused};
+use crate::status::Status;
+use crate::structs::{Param, Struct};
+use csicodec::{CSI, CsiParam, read_csi_into};
+use csicodec_terminal::terminal_actions;
+use std::alloc::Global;
+
+/// Puts these actions and their tokens.
+fn lay_all(all: &[CSI], actions: &mut [Struct], params: &mut [Param]) -> Option<Counts>
+    ensures { IfSome result (λ count.
+        Lays actions.old actions.new params.old params.new count (map action_of all.now)) }
+{
+    let mut count = Counts {
+        actions: 0,
+        params: 0,
+    };
+    for action in all {
+        count = lay_one(action, count, actions, params)?;
+    }
+    Some(count)
+}
+
+/// Puts the actions that terminals take this list for, and their tokens: of a sequence of so many bytes.
+fn taken(
+    alloc: Global,
+    list: &[CsiParam],
+    control: char,
+    used: usize,
+    actions: &mut [Struct],
+    params: &mut [Param],
+) -> Front
+    ensures { IsAnswer Terminal list.now control used actions.old actions.new params.old params.new result }
+{
+    let Ok(all) = terminal_actions(alloc, list, false, control) else {
+        return refused(Status::Memory, 0);
+    };
+    match lay_all(&all, actions, params) {
+        Some(count) => done(used, count),
+        None => refused(Status::Memory, 0),
+    }
+}
+
+/// Puts the actions that terminals take the sequence at the front for, and their tokens, as many as there is room for.
+pub fn lay_as_terminals(
+    alloc: Global,
+    bytes: &[u8],
+    actions: &mut [Struct],
+    params: &mut [Param],
+) -> Front
+    ensures { IsTaken bytes.now actions.old actions.new params.old params.new result
+        ⊎ IsRefused bytes.now actions.old actions.new params.old params.new result }
+{
+    let mut list = Vec::new(alloc);
+    let tail = match read_csi_into(&mut list, bytes) {
+        Ok(tail) => tail,
+        Err(error) => return refusal(error),
+    };
+    let used = bytes.len() - tail.rest.len();
+    taken(alloc, &list, tail.control, used, actions, params)
+}

@@ -1,0 +1,65 @@
+-- A list has one list of actions as terminals take it, and where the table reads all it is the table's.
+use Rattle.std.specs.Prelude.{MatchBool}
+use Rattle.std.proofs.Common.{◌≡◌, ℕ, ◌||◌, Bool, true, false, List, [], ◌∷◌, take, refl, sym, ap, subst, ◌∙◌, inl, inr, arith}
+use Rattle.std.proofs.lemmas.Option.{some_pair_parts}
+use Rattle.csicodec_tokens.specs.declared.param.CsiParam.{CsiParam}
+use Rattle.csicodec_parser.specs.declared.group.Group.{Group}
+use Rattle.csicodec_parser.specs.declared.group.Group.TheVariants.{Whole, Styles, Modes, DecModes}
+use Rattle.csicodec_actions.specs.Actions.{Action, Unspecified}
+use Rattle.csicodec_parser.specs.Groups.{group, marked}
+use Rattle.csicodec_parser.specs.Segments.{Actions}
+use Rattle.csicodec_parser.proofs.Cuts.{one_segmentation}
+use Rattle.csicodec_parser.proofs.Fronts.{piece_front, front_fits}
+use Rattle.csicodec_terminal.specs.Regular.{regular}
+use Rattle.csicodec_terminal.specs.Terminal.{Anew, Step, Steps, Terminal, behind, has_unknown, is_open, known_or}
+
+step_one : (g : Group) (flag : Bool) (final : ℕ) (rest : List CsiParam) (k j : ℕ) (x y : Action) → Step g flag final rest k x → Step g flag final rest j y → (k ≡ j) × (x ≡ y)
+step_one g flag final rest k j x y (inl p) (inl q) =
+    let parts = some_pair_parts _ _ _ _ (sym (piece_front g rest k x p) ∙ piece_front g rest j y q) in
+    (parts.1, parts.0)
+step_one g flag final rest k j x y (inl p) (inr u) = absurd (u.0 k x p)
+step_one g flag final rest k j x y (inr u) (inl p) = absurd (u.0 j y p)
+step_one g flag final rest k j x y (inr u) (inr v) =
+    let same = u.2 ∙ sym v.2 in
+    (same, u.3 ∙ ap (λ n. Unspecified (marked g (take n rest)) flag final) same ∙ sym v.3)
+
+no_step : (g : Group) (flag : Bool) (final : ℕ) (k : ℕ) (x : Action) → Step g flag final [] k x → ⊥
+no_step g flag final k x (inl p) = let f = front_fits g [] x k (piece_front g [] k x p) in omega (arith, f.some, f.within)
+no_step g flag final k x (inr u) = omega (arith, u.1)
+
+steps_one : (g : Group) (flag : Bool) (final : ℕ) (rest : List CsiParam) (xs ys : List Action) → Steps g flag final rest xs → Steps g flag final rest ys → xs ≡ ys
+steps_one g flag final rest [] [] s t = refl
+steps_one g flag final rest [] (y ∷ ys) s t = absurd (no_step g flag final t.0 y (subst (λ l. Step g flag final l t.0 y) s t.1))
+steps_one g flag final rest (x ∷ xs) [] s t = absurd (no_step g flag final s.0 x (subst (λ l. Step g flag final l s.0 x) t s.1))
+steps_one g flag final rest (x ∷ xs) (y ∷ ys) s t =
+    let same = step_one g flag final rest s.0 t.0 x y s.1 t.1 in
+    let others = steps_one g flag final (behind t.0 rest) xs ys (subst (λ n. Steps g flag final (behind n rest) xs) same.0 s.2) t.2 in
+    rw (same.1, others) refl
+
+cut_one : (g : Group) (flag : Bool) (final : ℕ) (foreign : Bool) (one : List Action) (rest : List CsiParam) (xs ys : List Action) → MatchBool foreign (xs ≡ one) (Steps g flag final rest xs) → MatchBool foreign (ys ≡ one) (Steps g flag final rest ys) → xs ≡ ys
+cut_one g flag final true one rest xs ys s t = s ∙ sym t
+cut_one g flag final false one rest xs ys s t = steps_one g flag final rest xs ys s t
+
+anew_one : (g : Group) (list : List CsiParam) (flag : Bool) (final : ℕ) (xs ys : List Action) → Anew g list flag final xs → Anew g list flag final ys → xs ≡ ys
+anew_one Whole list flag final xs ys s t = s.2 ∙ ap (known_or list flag final) (one_segmentation (regular list final) flag final s.0 t.0 s.1 t.1) ∙ sym t.2
+anew_one Styles list flag final xs ys s t = cut_one Styles flag final _ _ _ xs ys s t
+anew_one (Modes m) list flag final xs ys s t = cut_one (Modes m) flag final _ _ _ xs ys s t
+anew_one (DecModes c) list flag final xs ys s t = cut_one (DecModes c) flag final _ _ _ xs ys s t
+
+either_one : (less : Bool) (g : Group) (list : List CsiParam) (flag : Bool) (final : ℕ) (first xs ys : List Action) → MatchBool less (Anew g list flag final xs) (xs ≡ first) → MatchBool less (Anew g list flag final ys) (ys ≡ first) → xs ≡ ys
+either_one true g list flag final first xs ys s t = anew_one g list flag final xs ys s t
+either_one false g list flag final first xs ys s t = s ∙ sym t
+
+abbrev Second : List CsiParam → Bool → ℕ → List Action → List Action → Type 0
+Second list flag final first xs = MatchBool (has_unknown first || is_open (group list final) list) (Anew (group list final) list flag final xs) (xs ≡ first)
+
+pub one_reading : (list : List CsiParam) (flag : Bool) (final : ℕ) (xs ys : List Action) → Terminal list flag final xs → Terminal list flag final ys → xs ≡ ys
+one_reading list flag final xs ys s t =
+    let same = one_segmentation list flag final s.0 t.0 s.1 t.1 in
+    either_one (has_unknown t.0 || is_open (group list final) list) (group list final) list flag final t.0 xs ys (subst (λ first. Second list flag final first xs) same s.2) t.2
+
+pub agree : (list : List CsiParam) (flag : Bool) (final : ℕ) (first xs : List Action) → Actions list flag final first → has_unknown first ≡ false → is_open (group list final) list ≡ false → Terminal list flag final xs → xs ≡ first
+agree list flag final first xs are known closed t =
+    let same = one_segmentation list flag final t.0 first t.1 are in
+    let all : has_unknown first || is_open (group list final) list ≡ false = rw (known, closed) refl in
+    subst (λ b. MatchBool b (Anew (group list final) list flag final xs) (xs ≡ first)) all (subst (λ l. Second list flag final l xs) same t.2)

@@ -1,0 +1,3 @@
+pub mod Regular
+pub mod Terminal
+pub mod Private

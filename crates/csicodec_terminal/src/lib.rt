@@ -1,0 +1,10 @@
+//! A second reading of a parameter list: as terminals take it, where the table of actions reads nothing of it or less.
+#![tactic(auto)]
+
+mod cut;
+mod kind;
+pub mod laws;
+mod regular;
+mod terminal;
+
+pub use terminal::terminal_actions;

@@ -1,0 +1,108 @@
+//! The codec: sequences, lists of tokens, values and keys, what each stands for, how that is written, and calls of the library with
+//! their answers: a table.
+//!
+//! A line of standard input that begins with `\` is a sequence, or bytes that are none. The program writes the line, and behind it, with tabs
+//! between, the actions that the sequence stands for, as `{:?}` writes them, and the text of these (`shown.rt`); and `parsed otherwise` where
+//! `parse_all` of its list stands for others. Of a refusal it writes the error. A line that begins with ESC is sequences side by side, and in its
+//! place stands their normal form: 2,000 distinct sequences that some eighty terminal programs (vim, emacs, htop, tmux, git, mc, ncurses' own
+//! tests, vttest and others) wrote under a pty, and the texts that the Rust crate termwiz 0.23.3 prints for the actions that it parses from them.
+//! Any other line is a word for a call, for values or for what is printed, and what it is made with; behind it stand the answers, and
+//! `otherwise` where a law is broken. An empty line, and one that begins with `#`, stays as it is.
+//!
+//! Bytes are spelled with `\e` for ESC, `\a` for BEL, `\r` for CR and `\\` for `\`, and in the answers as `explain` shows them; tokens stand
+//! between spaces: a number, or one character for a byte, where `#53` is the character 53. The files `stdin` and `stdout` beside `src/` are the
+//! table, which was written by hand.
+#![tactic(auto)]
+
+mod built;
+mod bytes;
+mod calls;
+mod keys;
+mod known;
+mod lists;
+mod mouse;
+mod numbers;
+mod parts;
+mod readme;
+mod shown;
+mod spelling;
+mod texts;
+mod values;
+
+use csicodec::{CSI, Esc, decode_all, normalise, parse_all, read_csi};
+use shown::shown;
+use spelling::{bytes_of, spelled};
+use std::alloc::{AllocError, Global};
+
+/// Whether bytes that are one sequence stand for these actions by its list alone, too.
+fn is_parsed(alloc: Global, bytes: &[u8], actions: &[CSI]) -> Result<bool, AllocError> {
+    match read_csi(alloc, bytes) {
+        Ok(read) if read.rest.is_empty() => {
+            let parsed = parse_all(alloc, &read.params, false, read.control)?;
+            Ok(parsed.as_slice() == actions)
+        }
+        _ => Ok(true),
+    }
+}
+
+/// What is told of these bytes: an escape sequence is ESC and one or two bytes, of which the first isn't `[`.
+fn sequence(alloc: Global, bytes: &[u8]) -> Result<String, AllocError> {
+    let esc = match bytes {
+        [0x1b, control] => Some(Esc::parse(None, *control)),
+        [0x1b, between, control] if *between != b'[' => Some(Esc::parse(Some(*between), *control)),
+        _ => None,
+    };
+    if let Some(esc) = esc {
+        let text = spelled(alloc, esc.to_string(alloc)?.as_bytes())?;
+        return format!(in alloc; "{esc:?}\t{text}");
+    }
+    match decode_all(alloc, bytes, false) {
+        Ok(actions) => {
+            let mut told = shown(alloc, &actions, false)?;
+            if !is_parsed(alloc, bytes, &actions)? {
+                told.push_str("\tparsed otherwise")?;
+            }
+            Ok(told)
+        }
+        Err(error) => format!(in alloc; "{error:?}"),
+    }
+}
+
+/// The answers to a row.
+fn told(alloc: Global, row: &str) -> Result<String, AllocError> {
+    if row.starts_with('\\') {
+        return sequence(alloc, &bytes_of(alloc, row)?);
+    }
+    let (word, rest) = row.split_once(' ').unwrap_or((row, ""));
+    match word {
+        "key" => keys::key(alloc, rest),
+        "list" => lists::list(alloc, rest),
+        "many" => lists::many(alloc, rest),
+        "rests" => lists::rests(alloc, rest),
+        "piece" => parts::piece(alloc, rest),
+        "parts" => parts::parts(alloc, rest),
+        "mouse" => mouse::mouse(alloc, rest),
+        "one" => numbers::one_based(alloc, rest),
+        "number" => numbers::number(alloc, rest),
+        "item" => numbers::item(alloc, rest),
+        "escape" => bytes::escape(alloc, rest),
+        "within" => bytes::within(alloc, rest),
+        "still" => bytes::still(alloc, rest),
+        _ => calls::told(alloc, word, rest),
+    }
+}
+
+fn main(rt: HostRuntime) -> anyhow::Result<()> {
+    for line in rt.lines(rt.alloc()) {
+        let line = line?;
+        if line.is_empty() || line.starts_with('#') {
+            println!(rt; "{line}")?;
+        } else if line.starts_with('\u{1b}') {
+            normalise(rt.alloc(), &mut line.as_bytes(), &mut rt.stdout())?;
+            println!(rt; "")?;
+        } else {
+            println!(rt; "{line}\t{}", told(rt.alloc(), line.as_str())?)?;
+        }
+    }
+    Ok(())
+}

@@ -1,0 +1,110 @@
+"""Which files follow from the actions, from the values that they have, and from the other tables: whole files of csicodec_structs, of csicodec_remake, of include/, of c/,
+of python/, of web/ and of rust/ (FILES), in which nothing else stands, and the numbers of new names in include/numbers.txt. A number that was given
+isn't changed."""
+import os
+import subprocess
+import sys
+import tempfile
+
+from bindings.examples import c_examples, rust_examples
+from bindings.header import header, header_names, meaning
+from bindings.javascript import javascript_actions, javascript_types
+from bindings.library import ESCAPES, IN_TURN, NAMED, acting, kinds, numbers_of, types
+from bindings.numbers import LIST, changes, grown, pairs, read, table_faults
+from bindings.patterns import patterns
+from bindings.proofs import proof
+from bindings.python import python_actions, python_enums, python_known
+from bindings.rust import rust_known, rust_rows, rust_types
+from bindings.said import rust_keys, rust_osc
+from bindings.source import candidates, rows
+from bindings.specs import named, ranges, specs
+
+HEADER = "include/csicodec_kinds.h"
+FILES = {
+    "crates/csicodec_structs/specs/Rows.antt": specs,
+    "crates/csicodec_structs/specs/Ranges.antt": ranges,
+    "crates/csicodec_structs/specs/Named.antt": named,
+    "crates/csicodec_structs/proofs/OneAction.antt": proof,
+    "crates/csicodec_structs/src/rows.rt": rows,
+    "crates/csicodec_structs/src/candidates.rt": candidates,
+    "crates/csicodec_remake/src/patterns.rt": patterns,
+    HEADER: header,
+    "include/csicodec_names.h": header_names,
+    "rust/src/types.rs": lambda: rust_types("The attributes, and what has a name", NAMED),
+    "rust/src/actions.rs": lambda: rust_types("The actions", acting()),
+    "rust/src/esc.rs": lambda: rust_types("Escape sequences", ESCAPES),
+    "rust/src/rows.rs": rust_rows,
+    "rust/src/kinds.rs": rust_known,
+    "rust/src/osc_kinds.rs": rust_osc,
+    "rust/src/key_codes.rs": rust_keys,
+    "rust/tests/kinds/table.rs": rust_examples,
+    "python/csicodec/enums.py": python_enums,
+    "python/csicodec/actions.py": python_actions,
+    "python/csicodec/known_kinds.py": python_known,
+    "web/actions.mjs": javascript_actions,
+    "web/actions.d.ts": javascript_types,
+    "c/kinds.inc": c_examples,
+}
+
+
+def faults():
+    """What the tables lack for C and the packages."""
+    yield from table_faults()
+    for variant in types()["CSI"].variants:
+        if variant.name not in [*IN_TURN, "SelectCharacterPath", "Unspecified"]:
+            yield f"table/actions.toml has no table of CSI::{variant.name}"
+    for _, group, variant, form, names in kinds():
+        if form == "enum" and names[0] not in types():
+            yield f"table/values.toml lacks {names[0]}, which {group}::{' '.join(variant)} has"
+        elif form == "enum" and not types()[names[0]].example:
+            yield f"table/values.toml has no example of {names[0]}"
+        elif meaning(form, names).startswith("first: enum") and form == "enum" and not numbers_of(types()[names[0]]):
+            yield f"table/values.toml has no numbers of {names[0]}"
+
+
+def stop_at(found):
+    found = list(found)
+    if found:
+        sys.exit("\n".join(f"table: {fault}" for fault in found))
+
+
+def run(words, **more):
+    try:
+        return subprocess.run(words, capture_output=True, check=True, encoding="utf-8", **more).stdout
+    except FileNotFoundError:
+        sys.exit(f"table: no {words[0]}: what it lays out is neither written nor compared")
+    except subprocess.CalledProcessError as error:
+        sys.exit(f"table: {' '.join(words)}: {error.stderr or error.stdout}")
+
+
+def laid_out(texts):
+    """The texts as they stand in their files: Rattle as `rt fmt` lays it out, in a crate of its own, and Rust as `rustfmt` does."""
+    out = dict(texts)
+    with tempfile.TemporaryDirectory() as room:
+        source = os.path.join(room, "crates/kinds/src")
+        os.makedirs(source)
+        sources = {path: os.path.join(source, os.path.basename(path)) for path in texts if path.endswith(".rt")}
+        with open(os.path.join(room, "crates.txt"), "w", encoding="utf-8") as file:
+            file.write("kinds:\n")
+        with open(os.path.join(source, "lib.rt"), "w", encoding="utf-8") as file:
+            file.write("//! The tables.\n" + "".join(f"mod {os.path.basename(path)[:-3]};\n" for path in sources))
+        for path, place in sources.items():
+            with open(place, "w", encoding="utf-8") as file:
+                file.write(texts[path])
+        run(["rt", "fmt"], cwd=os.path.join(room, "crates/kinds"))
+        for path, place in sources.items():
+            with open(place, encoding="utf-8") as file:
+                out[path] = file.read()
+    for path in texts:
+        if path.endswith(".rs"):
+            out[path] = run(["rustfmt", "--edition", "2024"], input=texts[path])
+    return out
+
+
+def files():
+    """The texts by path from the top of the repository."""
+    stop_at(faults())
+    texts = laid_out({path: make() for path, make in FILES.items()})
+    numbers = {**pairs(read("include/csicodec.h")), **pairs(read("include/csicodec_stream.h")), **pairs(texts[HEADER])}
+    stop_at(changes(numbers))
+    return {**texts, LIST: grown(numbers)}

@@ -1,0 +1,302 @@
+"""Parts of the core and its tests that have a line for each action that is read from a list of one count, one place, or a line and a column, and
+nothing else: those of the cursor and of edits, which their rows have a `final` of."""
+import pathlib
+import re
+import textwrap
+
+from layout import byte, low, string
+from parts import Part
+from read import TOP
+
+WIDTH = 100
+# The crate whose tests have lines for each.
+TESTS = "crates/tests_codec"
+# What each of the two subjects is called in the specs, by what name its words have the number, and the first lines behind the parts, which stand
+# there by hand.
+CURSOR = {
+    "name": "cursor",
+    "number": "n",
+    "write": "            Cursor::TabulationControl(control) => write_choice(text, control.to_i64() as u8, b'W'),",
+    "read": "        'W' => tabulation_control(params),",
+    "row": "    ∷ before \"W\" (chosen Control control.SetCharacterTabStopAtActivePosition (λ c.",
+    "written": "written_cursor (cursor.TabulationControl c) = choice Control c \"W\"",
+    "words": "            Cursor::TabulationControl(control) => f.write_str(tabulation(control)),",
+}
+EDIT = {
+    "name": "edit",
+    "number": "count",
+    "write": "            Edit::EraseInDisplay(part) => write_choice(text, part.to_i64() as u8, b'J'),",
+    "read": "        'J' => Some(Edit::EraseInDisplay(EraseInDisplay::from_i64(choice(params)?)?)),",
+    "row": "    ∷ before \"J\" (chosen InDisplay display.EraseToEndOfDisplay (λ c. Edit (edit.EraseInDisplay c)))",
+    "written": "written_edit (edit.EraseInDisplay c) = choice InDisplay c \"J\"",
+    "words": "            Edit::EraseInDisplay(part) => f.write_str(in_display(part)),",
+}
+
+
+def name(action, between="-"):
+    """The name of its variant, in small letters."""
+    return low(action.variant[0], between)
+
+
+def rust(action):
+    return f"{action.subject}::{action.variant[0]}"
+
+
+def single(actions):
+    """Those of one number, and those of two."""
+    return [action for action in actions if action.form != "places"], [action for action in actions if action.form == "places"]
+
+
+def fields(action):
+    return ", ".join(action.row["fields"])
+
+
+def arm(pattern, said):
+    """An arm, in a block where its line is too long."""
+    line = f"            {pattern} => {said},"
+    return [line] if len(line) <= WIDTH else [f"            {pattern} => {{", f"                {said}", "            }"]
+
+
+# ---- csicodec_actions
+
+
+def write_arms(actions):
+    number = {"count": "count", "place": "col"}
+    for action in actions:
+        if action.form == "places":
+            first, second = action.row["fields"]
+            yield f"            {rust(action)} {{ {first}, {second} }} => write_pair(text, *{first}, *{second}, {byte(action.row['final'])}),"
+        else:
+            of = number[action.form]
+            yield f"            {rust(action)}({of}) => {of}.write_csi(text, {byte(action.row['final'])}),"
+
+
+def either(patterns, said):
+    """An arm of several patterns, on a line where they fit."""
+    line = "            " + " | ".join(patterns)
+    if len(f"{line} => {{") <= WIDTH and "\n" not in line:
+        return arm(line.strip(), said)
+    return ("            " + "\n            | ".join(patterns) + f" => {said},").split("\n")
+
+
+def canonical_arms(actions):
+    """Each number of a list is one that is read as itself."""
+    by_form = {form: [action for action in actions if action.form == form] for form in ("count", "place", "places")}
+    two = "{name} {{\n                {0}: first,\n                {1}: second,\n            }}"
+    patterns = {
+        "is_count(*count)": [f"{rust(action)}(count)" for action in by_form["count"]],
+        "is_one_based(*place)": [f"{rust(action)}(place)" for action in by_form["place"]],
+        "is_one_based(*first) && is_one_based(*second)": [two.format(*action.row["fields"], name=rust(action)) for action in by_form["places"]],
+    }
+    return [line for said, of in patterns.items() if of for line in either(of, said)]
+
+
+def numbers(action):
+    return "a b" if action.form == "places" else "n"
+
+
+def value(action):
+    """Its constructor in the specs."""
+    return f"{action.subject.lower()}.{action.variant[0]}"
+
+
+def row_lines(actions):
+    for action in actions:
+        ahead = "    " if action is actions[0] else "    ∷ "
+        reads = "paired" if action.form == "places" else "counted"
+        yield f"{ahead}before {string(action.row['final'])} ({reads} (λ {numbers(action)}. {action.subject} ({value(action)} {numbers(action)})))"
+
+
+def written_lines(actions):
+    for action in actions:
+        said = f'write (two Count a b) {string(action.row["final"])}' if action.form == "places" else f'count n {string(action.row["final"])}'
+        yield f"written_{action.subject.lower()} ({value(action)} {numbers(action)}) = {said}"
+
+
+# ---- csicodec_lists and csicodec_front
+
+
+def read_arms(actions):
+    for action in actions:
+        if action.form == "places":
+            yield f"        {byte(action.row['final'])[1:]} => {{\n            let ({fields(action)}) = places(params)?;\n            Some({rust(action)} {{ {fields(action)} }})\n        }}"
+        else:
+            yield f"        {byte(action.row['final'])[1:]} => Some({rust(action)}({action.form}(params)?)),"
+
+
+def proofs(actions, between, types, makes, constructor):
+    """A proof for each final: what the rows before it read. `types` and `makes` are those of one number and of two."""
+    for action in actions:
+        two, one, final = action.form == "places", name(action, between), ord(action.row["final"])
+        made = f"(λ {numbers(action)}. {constructor} ({value(action)} {numbers(action)}))"
+        yield f"pub {one} : {types[two]} {final} {value(action)}\nunfolding as_{action.subject.lower()}\n{one} = {makes[two]} {made}\n"
+
+
+def ruleset(called, names):
+    return f"pub ruleset {called} = ({', '.join(names)})"
+
+
+def front_arms(actions):
+    for action in actions:
+        final = byte(action.row["final"])
+        said = {"count": "(count)", "place": "(OneBased::new(count))", "places": f" {{ {fields(action)} }}" if action.form == "places" else ""}[action.form]
+        yield f"        {final} => Some({rust(action)}{said}),"
+
+
+# ---- csicodec_words and csicodec_compact
+
+
+def words_arms(actions, number):
+    """What explain says of each, by the functions of csicodec_words."""
+    for action in actions:
+        row = action.row
+        counted = re.fullmatch(r"(.*) \{n#(.*)\}", row["words"])
+        if row["words"] == "by hand":
+            pattern, said = f" {{ {fields(action)} }}", f"reported(f, {', '.join(action.row['fields'])})"
+        elif counted:
+            pattern, said = f"({number})", f'counted(f, "{row["name"]}  {counted[1]}", *{number}, "{counted[2]}")'
+        elif action.form == "places":
+            pattern, said = f" {{ {fields(action)} }}", f'at(f, "{row["name"]}  {row["words"].removesuffix(" line {line}, column {col}")}", line, col)'
+        elif action.form == "place":
+            pattern, said = "(col)", f'to_column(f, "{row["name"]}", col)'
+        else:
+            pattern, said = "(line)", f'write!(f, "{row["name"]}  {row["words"].replace("{n}", "{line}")}")'
+        yield from arm(f"{rust(action)}{pattern}", said)
+
+
+def runs(finals):
+    """Patterns of these finals: one of several that stand side by side, of which a grave accent is none."""
+    finals = sorted(finals)
+    while finals:
+        more = 1 if finals[0] == "`" else next(place for place in range(1, len(finals) + 1) if place == len(finals) or ord(finals[place]) - ord(finals[0]) != place)
+        run, finals = finals[:more], finals[more:]
+        yield from [f"'{run[0]}'..='{run[-1]}'"] if len(run) > 2 else [f"'{final}'" for final in run]
+
+
+def default_arms(actions):
+    """Which number compact leaves out before which finals."""
+    left = {number: [(action.row.get("final") or action.text())[-1] for action in actions if action.row.get("left_out") == number] for number in (0, 1)}
+    first, *others = runs(left[1])
+    zero = " | ".join(f"'{final}'" for final in sorted(left[0]))
+    return [f"            {zero} => Defaults::Zero,", f"            {first}", *(f"            | {run}" for run in others[:-1]), f"            | {others[-1]} => {{ Defaults::One }}"]
+
+
+# ---- tests and documents
+
+
+def tests(actions, subject):
+    """Lines of tests_codec: a list without a number, and a count of 0, that no text gives."""
+    counts = [action for action in actions if action.form == "count"]
+    lists = [f"\\e[{action.row['final']}" for action in counts]
+    said = [f"{text}\t[{action.subject}({action.variant[0]}(1))]\t{text}" for action, text in zip(counts, lists)]
+    zeros = [f"[{action.subject}({action.variant[0]}(0))]\t\\e[0{action.row['final']}\tread otherwise" for action in counts]
+    title, behind, full = {"cursor": ("# The cursor", "A", "Cursor(Up(4294967295))"), "edit": ("# Editing", "b", "Edit(Repeat(4294967295))")}[subject]
+    last = {"cursor": "[Cursor(SetLeftAndRightMargins { left: OneBased { value: 1 }, right: OneBased { value: 4294967295 } })]\t\\e[s\tread otherwise", "edit": "values cursors\t"}[subject]
+    longest = f"\\e[4294967295{behind}"
+    yield f"{TESTS}/stdin", Part(lists, (title,), longest)
+    yield f"{TESTS}/stdout", Part(said, (title,), f"{longest}\t[{full}]\t{longest}")
+    yield f"{TESTS}/stdout", Part(zeros, (f"values {subject}s\t",), last)
+    values = [f"{rust(action)}(0)," for action in counts]
+    if subject == "cursor":
+        yield f"{TESTS}/src/values.rt", Part([f"fn cursors() -> [Cursor; {len(values) + 1}] {{"], ("/// Counts of 0, and the margins at the edges, whose text saves the cursor.",), "    let margins = Cursor::SetLeftAndRightMargins {")
+        yield f"{TESTS}/src/values.rt", Part([f"        {value}" for value in values], ("        right: OneBased::new(u32::MAX),", "    };", "    ["), "        margins,")
+    else:
+        yield f"{TESTS}/src/values.rt", Part([f"static EDITS: [Edit; {len(values)}] = [", *(f"    {value}" for value in values)], ("/// Counts of 0, which are read as 1.",), "];")
+
+
+def code(text):
+    return f"`` {text} ``" if "`" in text else f"`{text}`"
+
+
+def documents(actions):
+    one, two = single(actions)
+    said = lambda action: f"| {code(action.row['final'])} | {action.variant[0]} ({action.row['name']}) | "
+    counts = [said(action) + f"{action.subject} |" for action in one]
+    pairs = [said(action) + f"({fields(action)}) |" for action in two]
+    path = "docs/SPECIFICATION.md"
+    yield path, Part(counts, ("**Count.** The list is empty or `a`. Left out or 0 is 1.", "|---|---|---|"), "")
+    yield path, Part(pairs, ("| final | action | its two numbers |", "|---|---|---|"), "| `r` | SetTopAndBottomMargins (DECSTBM, DEC VT100) | b left out or 0 is MAX |")
+
+
+def mirrored(subject):
+    """The variants of a type that the package for Rust has a second time, under the names of termwiz."""
+    variants = subject.declared()
+    units = [it.name for it in variants if not it.holds and not it.fields]
+    tuples = [f"{it.name}({it.holds})" for it in variants if it.holds]
+    records = [f"        {it.name} {{ {', '.join(f'{field}: {kind}' for field, kind, _ in it.fields)} }}" for it in variants if it.fields]
+    wrapped = [line for some in (units, tuples) for line in textwrap.wrap(" ".join(some) + ";", 128, initial_indent=" " * 8, subsequent_indent=" " * 8)]
+    yield "rust/src/termwiz.rs", Part(wrapped + records, (f"        {subject.type}:",), "    }")
+
+
+# ---- all of them
+
+
+def of_subject(subject, said):
+    """The parts of a subject that both have."""
+    actions, name_of = [action for action in subject.actions if "final" in action.row], said["name"]
+    own = f"crates/csicodec_actions/src/{name_of}.rt"
+    table = f"crates/csicodec_actions/specs/Table/{subject.name}.antt"
+    rest = {"cursor": "            Cursor::TabulationControl(_)", "edit": "            Edit::EraseInDisplay(_) | Edit::EraseInLine(_) => true,"}[name_of]
+    yield own, Part(list(write_arms(actions)), ("    pub fn write_to(&self, text: &mut Text)", "        match self {"), said["write"])
+    yield own, Part(canonical_arms(subject.actions), ("    pub fn is_canonical(&self) -> bool", "        match self {"), rest)
+    yield table, Part(list(row_lines(actions)), (f"{name_of}_rows =",), said["row"])
+    yield table, Part(list(written_lines(actions)), (f"abbrev pub written_{name_of} : {name_of}_type.{subject.name} → Written",), said["written"])
+    head = f"pub fn {name_of}_action(params: &[CsiParam], control: char) -> Option<{subject.name}>"
+    yield f"crates/csicodec_lists/src/{name_of}.rt", Part("\n".join(read_arms(actions)).split("\n"), (head, "    match control {"), said["read"])
+    head = "    fn describe<W: fmt::Write>(&self, f: &mut fmt::Formatter<W>) -> fmt::Result {"
+    yield f"crates/csicodec_words/src/{name_of}.rt", Part(list(words_arms(actions, said["number"])), (head, "        match self {"), said["words"])
+    yield from tests(actions, name_of)
+
+
+def of_cursor(actions):
+    one, two = single(actions)
+    front, rows = "crates/csicodec_front/src/row.rt", "crates/csicodec_front/proofs/Rows.antt"
+    yield front, Part(list(front_arms(one)), ("fn moved_by(number: u32, control: u8) -> Option<Cursor>", "    match control {"), "        _ => None,")
+    yield front, Part(list(front_arms(two)), ("fn moved_to(first: u32, second: u32, control: u8) -> Option<Cursor>", "    match control {"), "        b'r' => Some(Cursor::SetTopAndBottomMargins {")
+    lists = "TwoCounts final make = (list : List CsiParam) → as_cursor list final ≡ option_map (λ (p : ℕ × ℕ). Cursor (make p.0 p.1)) (given (paired (λ a b. (a, b))) list)"
+    counts = [*proofs(one + two, "-", ("Counts", "TwoCounts"), ("one-count", "two-counts"), "Cursor"), ruleset("finals", map(name, one + two))]
+    yield "crates/csicodec_lists/proofs/Finals.antt", Part("\n".join(counts).split("\n"), (lists, ""), None)
+    types, makes = ("OneMove", "TwoMoves"), ("one_count", "two_counts")
+    named = lambda actions: [name(action, "_") for action in actions]
+    moves = [*proofs(one, "_", types, makes, "Moves"), ruleset("counted", named(one)) + "\n", *proofs(two, "_", types, makes, "Moves")]
+    margins = "pub margins : (a b j k : ℕ) → j ≡ or_default 1 a → k ≡ or_default most b → a < 2 ^ 32 → b < 2 ^ 32 → (list : List CsiParam) → IsTwo a b list"
+    last = "margins a b j k one two low least list (inr (z, inr none)) = rw (none.1, one, two, z, none.0) refl"
+    yield rows, Part("\n".join(moves).split("\n"), ("    → as_cursor list final ≡ Some (Moves (make j k))", ""), margins)
+    yield rows, Part([ruleset("paired", [*named(two), "margins"])], (last, ""), "")
+
+
+def of_edit(actions):
+    rows, others = "crates/csicodec_front/proofs/Rows.antt", ["erase_in_display", "erase_in_line"]
+    yield "crates/csicodec_front/src/row.rt", Part(list(front_arms(actions)), ("fn edited(number: u32, control: u8) -> Option<Edit>", "    match control {"), "        b'J' => Some(Edit::EraseInDisplay(EraseInDisplay::from_i64(i64::from(number))?)),")
+    head = "OneEdit final make = (n k : ℕ) → k ≡ or_default 1 n → n < 2 ^ 32 → (list : List CsiParam) → IsOne n list → as_edit list final ≡ Some (Edits (make k))"
+    behind = "pub erase_in_display : (n : ℕ) (v : EraseInDisplay) → Some v ≡ with_number erase_in_display_number erases_in_display (pos n) → (list : List CsiParam) → IsOne n list → as_edit list 74 ≡ Some (Edits (edit.EraseInDisplay v))"
+    last = "erase_in_line n v is list (inr none) = rw (none.1, same_Some _ _ (rw none.0 at is)) refl"
+    yield rows, Part("\n".join(proofs(actions, "_", ("OneEdit",), ("one_count",), "Edits")).split("\n"), (head, ""), behind)
+    yield rows, Part([ruleset("edited", [name(action, "_") for action in actions] + others)], (last, ""), None)
+
+
+# Where csicodec_overwrite says what acts within a line, and by which name.
+OVERWRITE = {"src/text.rt": rust, "specs/Steps.antt": value, "proofs/Plain.antt": value}
+
+
+def faults(subjects):
+    """Where it doesn't say what a row with `in_line` does, or says so of another one."""
+    for path, name_of in OVERWRITE.items():
+        text = pathlib.Path(TOP, "crates/csicodec_overwrite", path).read_text(encoding="utf-8")
+        for action in (action for subject in subjects for action in subject.actions if "in_line" in action.row):
+            if bool(re.search(rf"\b{re.escape(name_of(action))}\b", text)) != action.row["in_line"]:
+                yield rust(action), f"in_line is {str(action.row['in_line']).lower()}, and crates/csicodec_overwrite/{path} says otherwise"
+
+
+def parts(subjects):
+    """All of them, by path."""
+    by_name = {subject.name: subject for subject in subjects}
+    regular = {name: [action for action in by_name[name].actions if "final" in action.row] for name in ("Cursor", "Edit")}
+    every = [action for subject in subjects for action in subject.actions]
+    found = [*of_subject(by_name["Cursor"], CURSOR), *of_subject(by_name["Edit"], EDIT), *of_cursor(regular["Cursor"]), *of_edit(regular["Edit"])]
+    found += [*mirrored(by_name["Cursor"]), *mirrored(by_name["Window"])]
+    found += [("crates/csicodec_compact/src/spell.rt", Part(default_arms(every), ("    fn before(control: char) -> Defaults {", "        match control {"), "            _ => Defaults::Said,"))]
+    out = {}
+    for path, part in [*found, *documents([*regular["Cursor"], *regular["Edit"]])]:
+        out.setdefault(path, []).append(part)
+    return out

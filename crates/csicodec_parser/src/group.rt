@@ -1,7 +1,9 @@
 //! Which rules a list falls under, and the pieces at its front.
-ghost use Rattle.std.specs.Prelude.{◌≡◌, ◌<◌, ◌≤◌, List, length, take, option_and_then, IfSome};
+ghost use Rattle.std.specs.Prelude.{◌≡◌, ◌<◌, ◌≤◌, List, length, take, option_and_then, IfNone, IfSome};
 ghost use Rattle.csicodec_tokens.specs.declared.param.CsiParam.{CsiParam};
-ghost use Rattle.csicodec_parser.specs.Groups.{group_by, start};
+ghost use Rattle.csicodec_parser.specs.ActionOf.{action_of};
+ghost use Rattle.csicodec_parser.specs.Cut.{IsStuck};
+ghost use Rattle.csicodec_parser.specs.Groups.{Piece, group_by, start};
 ghost use Rattle.csicodec_actions.specs.Kinds.{read, Dec, Terminal};
 ghost use Rattle.csicodec_parser.specs.Private.Steps.{found, front, is_odd_at, number_at, styled};
 ghost use Rattle.csicodec_parser.specs.declared.group.Group.TheVariants.{Styles};
@@ -25,7 +27,7 @@ pub enum Group {
 
 impl Group {
     /// The group of a list with this first token, before this final character.
-    pub(crate) fn of(first: Option<CsiParam>, control: char) -> Group
+    pub fn of(first: Option<CsiParam>, control: char) -> Group
         ensures { result ≡ group_by first control }
     {
         let private = matches!(first, Some(CsiParam::P(b'?')));
@@ -43,7 +45,7 @@ impl Group {
     }
 
     /// How many tokens stand before the pieces.
-    pub(crate) fn start(self) -> usize
+    pub fn start(self) -> usize
         ensures { result ≡ start self }
     {
         match self {
@@ -64,6 +66,16 @@ impl Group {
             },
             Some(CsiParam::Integer(_)) | None => false,
         }
+    }
+
+    /// The piece at the front of these tokens, and how many it takes. `None`: no piece stands there, as before a number that is no
+    /// mode's, and anywhere in a list that is read whole.
+    pub fn piece(self, rest: &[CsiParam]) -> Option<(CSI, usize)>
+        ensures piece { IfSome result (λ f. Piece self rest.now f.1 (action_of f.0)) }
+        ensures within { IfSome result (λ f. (0 < f.1) × (f.1 ≤ length rest.now)) }
+        ensures none { IfNone result (IsStuck self rest.now) }
+    {
+        front(self, rest)
     }
 }
 

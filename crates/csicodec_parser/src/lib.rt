@@ -15,6 +15,7 @@ mod xtsmgraphics;
 
 pub use actions::{CSI, Unspecified, append_text};
 pub use count::Count;
+pub use group::Group;
 pub use list::list_into;
 pub use look::Look;
 pub use parser::{ActionRef, CSIParser, Run};

@@ -1,6 +1,6 @@
 -- Text that is told by its bytes.
 use Rattle.std.proofs.Common.{◌≡◌, ◌+◌, ◌-◌, ◌<◌, ◌≤◌, ℕ, true, false, cond, List, [], ◌∷◌, ◌++◌, length, length-append, drop, take, slice_index, encode_utf8_all, refl, sym, ap, ◌∙◌, arith, lt-ltb, append_assoc, append-nil, take-append-drop}
-use Rattle.std.specs.List.{AllByRecursion}
+use Rattle.std.specs.List.{AllByRecursion, prefix_len}
 use Rattle.std.specs.Str.{all_scalars}
 use Rattle.std.specs.Char.{encode_utf8}
 use Rattle.std.proofs.lemmas.Bool.{and_from, and_parts}
@@ -12,7 +12,9 @@ use Rattle.bstr.proofs.lemmas.EncodeLemmas.{decoded-encode}
 use Rattle.bstr.proofs.lemmas.PieceLemmas.{lossy_chars-step, value-1}
 use Rattle.std.proofs.Math.Seq.{take-append_seam, take-append-add, drop-append_seam}
 use Rattle.csicodec_clean.specs.Shown.{shown, shown_chars, IsPlain, IsRead, IsShown}
-use Rattle.csicodec_clean.specs.Private.Steps.{IsBehindPlain, IsBehindShown, IsOther, IsPlainByte, IsTold, Tells, dropped_byte}
+use Rattle.csicodec_clean.specs.Bytes.{IsPlainByte, behind, plain_byte}
+use Rattle.csicodec_clean.specs.Private.Steps.{IsBehindShown, IsOther, IsTold, Tells, dropped_byte}
+use Rattle.csicodec_clean.proofs.Bytes.{front_in}
 use Rattle.csicodec_clean.proofs.Plain.{plain_on}
 use Rattle.csicodec_clean.proofs.PlainBytes.{other_both, plain_bytes}
 use Rattle.csicodec_clean.proofs.Shows.{shown_on}
@@ -21,48 +23,37 @@ use Rattle.csicodec_clean.proofs.Twice.{all_kept}
 
 -- ---- plain bytes
 
-low : (b : ℕ) → IsPlainByte b → b < 128
+pub low : (b : ℕ) → IsPlainByte b → b < 128
 low b h = grind (arith, nat_tests)
 
-is_shown : (b : ℕ) → IsPlainByte b → shown b ≡ true
+pub is_shown : (b : ℕ) → IsPlainByte b → shown b ≡ true
 is_shown b h = grind (arith, nat_tests)
 
-alone : (b : ℕ) → b < 128 → encode_utf8 b ≡ b ∷ []
+pub alone : (b : ℕ) → b < 128 → encode_utf8 b ≡ b ∷ []
 unfolding encode_utf8
 alone b a = rw (lt-ltb b 128 a) refl
 
-scalars : (bs : List ℕ) → AllByRecursion IsPlainByte bs → all_scalars bs ≡ true
+pub scalars : (bs : List ℕ) → AllByRecursion IsPlainByte bs → all_scalars bs ≡ true
 scalars [] h = refl
 scalars (b ∷ bs) h = and_from (scalar b) (all_scalars bs) (low_scalar b (omega (arith, low b h.0))) (scalars bs h.1)
 
-all_shown : (bs : List ℕ) → AllByRecursion IsPlainByte bs → AllByRecursion IsShown bs
+pub all_shown : (bs : List ℕ) → AllByRecursion IsPlainByte bs → AllByRecursion IsShown bs
 all_shown [] h = tt
 all_shown (b ∷ bs) h = (is_shown b h.0, all_shown bs h.1)
 
-encoded : (bs : List ℕ) → AllByRecursion IsPlainByte bs → bs ≡ encode_utf8_all bs
+pub encoded : (bs : List ℕ) → AllByRecursion IsPlainByte bs → bs ≡ encode_utf8_all bs
 encoded [] h = refl
 encoded (b ∷ bs) h = ap (λ t. b ∷ t) (encoded bs h.1) ∙ ap (λ t. t ++ encode_utf8_all bs) (sym (alone b (low b h.0)))
 
-ascii_shown : (bs : List ℕ) → AllByRecursion IsPlainByte bs → IsPlain bs
+pub ascii_shown : (bs : List ℕ) → AllByRecursion IsPlainByte bs → IsPlain bs
 ascii_shown bs h = (bs, scalars bs h, all_shown bs h, encoded bs h)
-
-pub plain_both : (xs ys : List ℕ) → AllByRecursion IsPlainByte xs → AllByRecursion IsPlainByte ys → AllByRecursion IsPlainByte (xs ++ ys)
-plain_both [] ys h k = k
-plain_both (x ∷ xs) ys h k = (h.0, plain_both xs ys h.1 k)
 
 -- ---- behind them, and behind characters that are shown
 
-pub behind_none : (bytes : List ℕ) → IsBehindPlain bytes bytes
-behind_none bytes = ([], refl, tt)
-
-pub behind_on : (bytes mid rest : List ℕ) → IsBehindPlain bytes mid → IsBehindPlain mid rest → IsBehindPlain bytes rest
-behind_on bytes mid rest (xs, e, h) (ys, f, k) = (xs ++ ys, e ∙ ap (λ t. xs ++ t) f ∙ sym (append_assoc xs ys rest), plain_both xs ys h k)
-
-pub behind_front : (bytes : List ℕ) (n : ℕ) → AllByRecursion IsPlainByte (take n bytes) → IsBehindPlain bytes (drop n bytes)
-behind_front bytes n h = (take n bytes, sym (take-append-drop n bytes), h)
-
-pub shown_behind : (bytes rest : List ℕ) → IsBehindPlain bytes rest → IsBehindShown bytes rest
-shown_behind bytes rest (xs, e, h) = (xs, e, ascii_shown xs h)
+pub plain_behind : (bytes : List ℕ) → IsBehindShown bytes (behind plain_byte bytes)
+plain_behind bytes =
+    let front = take (prefix_len plain_byte bytes) bytes in
+    (front, sym (take-append-drop (prefix_len plain_byte bytes) bytes), ascii_shown front (front_in plain_byte bytes))
 
 pub none_behind : (bytes : List ℕ) → IsBehindShown bytes bytes
 none_behind bytes = ([], refl, ascii_shown [] tt)
@@ -127,7 +118,7 @@ tells_on bytes mid rest old one new (xs, cs, e, (h, r), o) (ys, ds, f, (k, t), n
 )
 
 -- the plain bytes in front are what is before the others
-front_taken : (bytes front rest : List ℕ) → bytes ≡ front ++ rest → take (length bytes - length rest) bytes ≡ front
+pub front_taken : (bytes front rest : List ℕ) → bytes ≡ front ++ rest → take (length bytes - length rest) bytes ≡ front
 front_taken bytes front rest e =
     let n : length bytes - length rest ≡ length front = omega (arith, ap length e, length-append front rest) in
     ap (λ (i : ℕ). take i bytes) n ∙ ap (λ (t : List ℕ). take (length front) t) e ∙ take-append_seam front rest

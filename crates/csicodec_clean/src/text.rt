@@ -1,10 +1,10 @@
 //! The characters of a run of text that are shown.
 ghost use Rattle.std.specs.Prelude.{◌≡◌, ◌<◌, ◌≤◌, ◌-◌, ◌++◌, ◌∷◌, [], ℕ, List, length, take, drop, OnOk, IfOk, IfSome, IfNone};
 ghost use Rattle.csicodec_clean.specs.Shown.{shown, shown_chars, shown_text};
-ghost use Rattle.csicodec_clean.specs.Private.Steps.{Tells};
+ghost use Rattle.csicodec_clean.specs.Private.Steps.{Tells, dropped_byte};
 ghost use Rattle.csicodec_clean.specs.Shown.{IsCut, IsRead};
 
-use crate::ascii::{LANES, is_dropped};
+use crate::class::LANES;
 use crate::wide::behind_shown;
 use bstr::{ByteVec, decode_utf8};
 use std::alloc::AllocError;
@@ -14,6 +14,17 @@ pub(crate) fn is_shown(char: char) -> bool
     ensures { result ≡ shown char }
 {
     char == '\n' || char == '\t' || ' ' <= char && (char < '\u{7f}' || '\u{a0}' <= char)
+}
+
+/// Whether the byte is a control that is dropped, and no ESC.
+#[inline(always)]
+fn is_dropped(byte: u8) -> bool
+    ensures { result ≡ dropped_byte byte }
+{
+    if byte == 0x1b {
+        return false;
+    }
+    byte < b' ' && byte != b'\n' && byte != b'\t' || byte == 0x7f
 }
 
 /// Appends the character, if it is shown.

@@ -6,8 +6,8 @@ ghost use Rattle.csicodec_html.specs.Private.Marked.{page_byte, page_bytes};
 
 use crate::markup::Markup;
 use crate::rule::Spans;
-use crate::standing::split_standing;
-use csicodec_clean::Cleaner;
+use crate::standing::Standing;
+use csicodec_clean::{Cleaner, split_front};
 use std::alloc::{AllocError, Global};
 
 /// Appends a byte as it stands on the page.
@@ -34,7 +34,7 @@ pub(crate) fn append_page(bytes: &[u8], out: &mut Vec<u8>) -> Result<(), AllocEr
     let mut rest = bytes;
     while let Some((byte, behind)) = rest.split_first() {
         append_byte(*byte, out)?;
-        let (front, others) = split_standing(behind);
+        let (front, others) = split_front::<Standing>(behind);
         out.extend_from_slice(front)?;
         rest = others;
     }

@@ -1,28 +1,21 @@
 -- Text of ASCII that any line leaves as it is.
 use Rattle.std.proofs.Common.{◌≡◌, ◌-◌, ◌<◌, ◌≤◌, ℕ, Bool, true, false, List, [], ◌∷◌, ◌++◌, length, length-append, take, refl, sym, ap, subst, ◌∙◌, append-nil, arith}
 use Rattle.std.specs.List.{AllByRecursion}
-use Rattle.std.proofs.Math.Seq.{take-append_seam}
 use Rattle.std.proofs.lemmas.Bool.Decides.{nat_tests}
 use Rattle.csicodec_filter.specs.Transform.{GoesOn}
 use Rattle.csicodec_filter.proofs.Sent.{goes_on}
 use Rattle.csicodec_clean.specs.Cleaned.{EndOf, RuleOf, longest}
-use Rattle.csicodec_clean.specs.Private.Steps.{IsBehindPlain, IsPlainByte}
+use Rattle.csicodec_clean.specs.Bytes.{IsPlainByte}
 use Rattle.csicodec_clean.specs.Shown.{shown_text}
 use Rattle.csicodec_clean.specs.Stream.{Between, Goes, Takes, start_of}
 use Rattle.csicodec_clean.proofs.Chunks.{takes_none}
 use Rattle.csicodec_clean.proofs.Glances.{over_told}
 use Rattle.csicodec_clean.proofs.Shows.{shown_none}
-use Rattle.csicodec_clean.proofs.Told.{shown_behind, tells_shown}
+use Rattle.csicodec_clean.proofs.Told.{ascii_shown, front_taken, tells_shown}
 use Rattle.csicodec_lines.specs.declared.lines.Lines.{Lines}
 use Rattle.csicodec_lines.specs.Lines.{ends_line, lines_from}
 use Rattle.csicodec_lines.specs.Stream.{Ending, Passes}
 use Rattle.csicodec_lines.proofs.Taken.{goes_over, goes_within}
-
--- plain bytes in front are what is before the others
-pub front_taken : (bytes front rest : List ℕ) → bytes ≡ front ++ rest → take (length bytes - length rest) bytes ≡ front
-front_taken bytes front rest e =
-    let n : length bytes - length rest ≡ length front = omega (arith, ap length e, length-append front rest) in
-    ap (λ (i : ℕ). take i bytes) n ∙ ap (λ (t : List ℕ). take (length front) t) e ∙ take-append_seam front rest
 
 empty : (l : List ℕ) → length l ≡ 0 → l ≡ []
 empty [] none = refl
@@ -42,8 +35,8 @@ module _ {S P : Type 0} (Begins : P → S) (Gives : RuleOf S) (Closes : EndOf S)
   -- where nothing is open, such text passes, and nothing is open behind it
   takes_plain : (s : S) (bytes : List ℕ) → AllByRecursion IsPlainByte bytes → Takes Gives (start_of s) bytes bytes (start_of s)
   takes_plain s bytes plain =
-      let behind : IsBehindPlain bytes [] = (bytes, sym (append-nil bytes), plain) in
-      let (appended, out, goes) = over_told Gives longest s bytes [] [] bytes (tells_shown bytes [] [] bytes (shown_behind bytes [] behind) (sym (front_taken bytes bytes [] (sym (append-nil bytes))))) in
+      let whole = sym (append-nil bytes) in
+      let (appended, out, goes) = over_told Gives longest s bytes [] [] bytes (tells_shown bytes [] [] bytes (bytes, whole, ascii_shown bytes plain) (sym (front_taken bytes bytes [] whole))) in
       record { unsure = (takes_none Gives s).unsure; goes = λ run chars read. subst (λ (t : List ℕ). Goes Gives longest (start_of s).mode false s run chars bytes t [] (start_of s).mode false s []) (sym out) (goes run chars read) }
 
   -- a line begins, and its rule ends it without a byte

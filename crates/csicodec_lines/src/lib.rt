@@ -3,7 +3,6 @@
 
 pub mod laws;
 mod lines;
-mod plain;
 mod run;
 
 pub use lines::Lines;

@@ -1,6 +1,5 @@
 -- What private steps say of each other. No promise rests on this file.
 use Rattle.std.specs.Prelude.{ℕ, ◌≡◌, ◌≢◌, ◌==◌, ◌≤◌, Bool, true, not, ◌&&◌, ◌||◌, if◌then◌else◌, nat_le, nat_lt, List, [], ◌++◌, length, slice_index}
-use Rattle.std.specs.Int.{w64, trailing_zeros}
 use Rattle.std.specs.List.{AllByRecursion}
 use Rattle.bstr.specs.Utf8.{decoded_by, good}
 use Rattle.csicodec_spans.specs.declared.table.Kind.{Kind}
@@ -11,22 +10,6 @@ use Rattle.csicodec_clean.specs.Cleaned.{RuleOf, AreGiven}
 use Rattle.csicodec_clean.specs.Stream.{Goes}
 
 -- ---- text that is told by its bytes
-
--- a newline, a tab or a character of ASCII that is no control
-abbrev pub plain_byte : ℕ → Bool
-plain_byte b = b == 10 || b == 9 || nat_le 32 b && nat_lt b 127
-
-abbrev pub IsPlainByte : ℕ → Type 0
-IsPlainByte b = plain_byte b ≡ true
-
--- behind plain bytes
-abbrev pub IsBehindPlain : List ℕ → List ℕ → Type 0
-IsBehindPlain bytes rest = (front : List ℕ) × (bytes ≡ front ++ rest)
-    × AllByRecursion IsPlainByte front
-
--- the place of the lowest bit that is set, and 16 where none is
-abbrev pub first_set : ℕ → ℕ
-first_set mask = if mask == 0 then 16 else trailing_zeros w64 mask
 
 -- a control of C0 that is dropped, but ESC, or DEL
 abbrev pub dropped_byte : ℕ → Bool

@@ -1,7 +1,7 @@
 -- Between the two steps by which a page is made: text as it is, and tags whose `<`, `>` and `"` are the controls 1, 2 and 3, of which no
 -- text that is shown has one. The second step goes byte by byte.
 use Rattle.std.specs.Prelude.{ℕ, ◌≡◌, ◌==◌, nat_le, Bool, true, not, ◌&&◌, if◌then◌else◌, List, [], ◌∷◌, ◌++◌, codes, encode_utf8}
-use Rattle.std.specs.List.{AllByRecursion, flat_map}
+use Rattle.std.specs.List.{flat_map}
 use Rattle.csicodec_actions.specs.Actions.{Action}
 use Rattle.csicodec_clean.specs.Cleaned.{RuleOf, EndOf}
 use Rattle.csicodec_clean.specs.Links.{links_at, next}
@@ -44,10 +44,6 @@ stands b = nat_le 4 b && (not (b == 34) && (not (b == 38) && (not (b == 39) && (
 
 abbrev pub Stands : ℕ → Type 0
 Stands b = stands b ≡ true
-
--- behind such bytes
-abbrev pub IsBehindStanding : List ℕ → List ℕ → Type 0
-IsBehindStanding bytes rest = (front : List ℕ) × (bytes ≡ front ++ rest) × AllByRecursion Stands front
 
 -- behind a byte of a control string
 abbrev pub behind_byte : Setting → ℕ → Setting

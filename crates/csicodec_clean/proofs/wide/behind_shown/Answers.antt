@@ -1,13 +1,15 @@
-use Rattle.csicodec_clean.proofs.Told.{shown_behind, shown_further}
+use Rattle.std.proofs.Common.{sym, subst}
+use Rattle.csicodec_clean.specs.Private.Steps.{IsBehindShown}
+use Rattle.csicodec_clean.proofs.Told.{plain_behind, shown_further}
 use Rattle.csicodec_clean.proofs.wide.behind_shown.Goals as goal
 
 pub loop-rest-init : goal.loop-rest-init
-loop-rest-init c = record { shown = shown_behind c.args.bytes.now _ c.behind_plain-rest.ensures }
+loop-rest-init c = record { shown = rw c.behind-rest.ensures (plain_behind c.args.bytes.now) }
 
 pub loop-rest-preserved : goal.loop-rest-preserved
 loop-rest-preserved c =
     let bytes = c.args.bytes.now in
     let rest = c.loop-rest.rest.now in
-    let behind = c.behind_wide-behind.result.now in
-    let passed = shown_further bytes rest behind c.loop-rest.invariant.shown c.behind_wide-behind.ensures in
-    record { shown = shown_further bytes behind _ passed (shown_behind behind _ c.behind_plain-rest-in-loop-rest.ensures) }
+    let further = c.behind_wide-further.result.now in
+    let passed = shown_further bytes rest further c.loop-rest.invariant.shown c.behind_wide-further.ensures in
+    rw c.behind-rest-in-loop-rest.ensures (record { shown = shown_further bytes further _ passed (plain_behind further) })

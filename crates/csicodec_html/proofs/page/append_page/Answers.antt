@@ -1,5 +1,7 @@
-use Rattle.std.proofs.Common.{◌≡◌, ◌++◌, ◌∷◌, ◌∙◌, ap, sym}
-use Rattle.csicodec_html.specs.Private.Marked.{page_bytes}
+use Rattle.std.proofs.Common.{◌≡◌, ◌++◌, ◌∷◌, ◌∙◌, ap, drop, sym, take, take-append-drop}
+use Rattle.std.specs.List.{prefix_len}
+use Rattle.csicodec_clean.proofs.Bytes.{front_in}
+use Rattle.csicodec_html.specs.Private.Marked.{page_bytes, stands}
 use Rattle.csicodec_html.proofs.Stood.{page_on}
 use Rattle.csicodec_html.proofs.page.append_page.Goals as goal
 
@@ -7,8 +9,11 @@ pub loop-byte-preserved : goal.loop-byte-preserved
 loop-byte-preserved c =
     let l = c.loop-byte in
     let byte = c.in-Some.byte.now in
-    let front = c.split_standing.result.0.now in
-    let others = c.split_standing.result.1.now in
-    let split = c.in-Some.ensures.cases.0 ∙ ap (λ t. byte ∷ t) c.split_standing.ensures.whole in
-    page_on (c.args.out.now.items ++ page_bytes c.args.bytes.now) l.out.items c.append_byte.new.out.items c.extend_from_slice.new.self.items byte front others c.split_standing.ensures.stand
-    (ap (λ t. l.out.items ++ page_bytes t) (sym split) ∙ l.invariant) c.in_ok-append_byte.ensures c.in_ok-extend_from_slice.ensures.items
+    let behind = c.in-Some.behind.now in
+    let len = prefix_len stands behind in
+    let front = take len behind in
+    let others = drop len behind in
+    let split = c.in-Some.ensures.cases.0 ∙ ap (λ t. byte ∷ t) (sym (take-append-drop len behind)) in
+    rw c.split_front.ensures.rest
+    (page_on (c.args.out.now.items ++ page_bytes c.args.bytes.now) l.out.items c.append_byte.new.out.items c.extend_from_slice.new.self.items byte front others (front_in stands behind)
+    (ap (λ t. l.out.items ++ page_bytes t) (sym split) ∙ l.invariant) c.in_ok-append_byte.ensures (c.in_ok-extend_from_slice.ensures.items ∙ ap (λ t. c.append_byte.new.out.items ++ t) c.split_front.ensures.front))

@@ -1,0 +1,58 @@
+-- Bytes of a class in front, and what is behind them.
+use Rattle.std.proofs.Common.{◌≡◌, ℕ, zero, suc, ◌+◌, ◌-◌, ◌<◌, ◌≤◌, Bool, true, false, cond, List, [], ◌∷◌, length, length-drop, drop, take, refl, sym, ap, ◌∙◌, arith}
+use Rattle.std.specs.List.{AllByRecursion, prefix_len}
+use Rattle.std.proofs.lemmas.List.Sums.{prefix_len-le-length}
+use Rattle.csicodec_clean.specs.Bytes.{behind}
+
+one : (n : ℕ) → 1 + n ≡ suc n
+one n = omega arith
+
+module _ (p : ℕ → Bool) where
+  -- each of them is of the class
+  pub front_in : (xs : List ℕ) → AllByRecursion (λ b. p b ≡ true) (take (prefix_len p xs) xs)
+  front_in [] = tt
+  front_in (x ∷ xs) = go (prefix_len p xs) (p x) refl (front_in xs)
+    where
+      go : (n : ℕ) (b : Bool) → p x ≡ b → AllByRecursion (λ y. p y ≡ true) (take n xs) → AllByRecursion (λ y. p y ≡ true) (take (cond b (1 + n) 0) (x ∷ xs))
+      go n true is rest = rw (one n) (is, rest)
+      go n false is rest = tt
+
+  pub behind_none : (x : ℕ) (xs : List ℕ) → p x ≡ false → behind p (x ∷ xs) ≡ x ∷ xs
+  behind_none x xs other = ap (λ b. drop (cond b (1 + prefix_len p xs) 0) (x ∷ xs)) other
+
+  pub behind_one : (x : ℕ) (xs : List ℕ) → p x ≡ true → behind p (x ∷ xs) ≡ behind p xs
+  behind_one x xs is = ap (λ b. drop (cond b (1 + prefix_len p xs) 0) (x ∷ xs)) is ∙ ap (λ n. drop n (x ∷ xs)) (one (prefix_len p xs))
+
+  -- some of them are passed
+  pub behind_drop : (r : ℕ) (xs : List ℕ) → r ≤ prefix_len p xs → behind p (drop r xs) ≡ behind p xs
+  behind_drop zero xs few = refl
+  behind_drop (suc r) [] few = refl
+  behind_drop (suc r) (x ∷ xs) few = go (p x) refl (behind_drop r xs)
+    where
+      go : (b : Bool) → p x ≡ b → (r ≤ prefix_len p xs → behind p (drop r xs) ≡ behind p xs) → behind p (drop r xs) ≡ behind p (x ∷ xs)
+      go true is on = on (omega (arith, few, ap (λ b. cond b (1 + prefix_len p xs) 0) is)) ∙ sym (behind_one x xs is)
+      go false other on = absurd (omega (arith, few, ap (λ b. cond b (1 + prefix_len p xs) 0) other))
+
+  -- of the first n they are some, and all where they end among these
+  pub front_within : (n : ℕ) (xs : List ℕ) → prefix_len p (take n xs) ≤ prefix_len p xs
+  front_within zero xs = omega arith
+  front_within (suc n) [] = omega arith
+  front_within (suc n) (x ∷ xs) = by (p x) (front_within n xs)
+    where
+      by : (b : Bool) → prefix_len p (take n xs) ≤ prefix_len p xs → cond b (1 + prefix_len p (take n xs)) 0 ≤ cond b (1 + prefix_len p xs) 0
+      by true fewer = omega (arith, fewer)
+      by false fewer = omega arith
+
+  pub front_ends : (n : ℕ) (xs : List ℕ) → prefix_len p (take n xs) < n → prefix_len p (take n xs) ≡ prefix_len p xs
+  front_ends zero xs few = absurd (omega (arith, few))
+  front_ends (suc n) [] few = refl
+  front_ends (suc n) (x ∷ xs) few = by (p x) few (front_ends n xs)
+    where
+      by : (b : Bool) → cond b (1 + prefix_len p (take n xs)) 0 < suc n → (prefix_len p (take n xs) < n → prefix_len p (take n xs) ≡ prefix_len p xs)
+          → cond b (1 + prefix_len p (take n xs)) 0 ≡ cond b (1 + prefix_len p xs) 0
+      by true less on = ap (λ k. 1 + k) (on (omega (arith, less)))
+      by false less on = refl
+
+  -- how many they are
+  pub front_len : (xs : List ℕ) → length xs - length (behind p xs) ≡ prefix_len p xs
+  front_len xs = omega (arith, length-drop (prefix_len p xs) xs, prefix_len-le-length p xs)

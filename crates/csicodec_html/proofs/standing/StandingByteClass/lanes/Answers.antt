@@ -1,0 +1,15 @@
+use Rattle.std.proofs.Common.{◌≡◌, length, length-take-le, refl, take}
+use Rattle.std.proofs.lemmas.Simd.{zip2_of_maps, zip2_splat}
+use Rattle.csicodec_clean.proofs.Lanes.{counted}
+use Rattle.csicodec_html.specs.Private.Marked.{stands}
+use Rattle.csicodec_html.proofs.standing.StandingByteClass.lanes.Goals as goal
+
+pub returns : goal.returns
+returns c =
+    let d = c.args.bytes.now in
+    let v = take 16 d in
+    let long : length v ≡ 16 = length-take-le 16 d c.requires in
+    let quotes = zip2_of_maps _ _ _ v (zip2_splat _ v 16 34 long) (zip2_splat _ v 16 39 long) in
+    let brackets = zip2_of_maps _ _ _ v (zip2_splat _ v 16 60 long) (zip2_splat _ v 16 62 long) in
+    let others = zip2_of_maps _ _ _ v (zip2_splat _ v 16 4 long) (zip2_splat _ v 16 38 long) in
+    counted stands d _ _ c.requires c.type_inv.bytes c.first_set.ensures _ (zip2_of_maps _ _ _ v (zip2_of_maps _ _ _ v quotes brackets) others) refl

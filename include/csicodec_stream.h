@@ -138,14 +138,14 @@ static inline int csicodec_event_of(struct csicodec_stream *stream, struct csico
     return 1;
 }
 
-/* Whether terminals may take the sequence of an event for other actions: one of them is unknown, or has no room, or the last attribute is
- * left out. A control may stand before m, and hide that. */
+/* Whether terminals may take the sequence of an event for other actions: the last one is unknown, as only a last one can be, or some have
+ * no room, or the last attribute is left out. A control may stand before m, and hide that. */
 static inline int csicodec_may_differ(const struct csicodec_stream *stream, const struct csicodec_event *event) {
-    uint8_t last = event->bytes[event->used - 2];
-    size_t i;
-    for (i = 0; i < event->actions; i++)
-        if (i == stream->actions_room || stream->actions[i].kind == CSICODEC_UNSPECIFIED) return 1;
-    return event->bytes[event->used - 1] == 'm' && (last == ';' || last < 0x20 || last == 0x7f);
+    const uint8_t *end = event->bytes + event->used;
+    if (event->actions - 1 >= stream->actions_room) return 1;
+    if (stream->actions[event->actions - 1].kind == CSICODEC_UNSPECIFIED) return 1;
+    if (end[-2] >= '0' && end[-2] <= '9') return 0;
+    return end[-1] == 'm' && (end[-2] == ';' || end[-2] < 0x20 || end[-2] == 0x7f);
 }
 
 /* An event of actions, with those that terminals take its sequence for. If there is no memory the stream is as it was before it. */

@@ -23,9 +23,9 @@ pub trait ByteClass {
 }
 
 /// A newline, a tab, and the characters of ASCII that are no controls.
-pub struct Plain;
+pub struct PlainAscii;
 
-impl ByteClass for Plain {
+impl ByteClass for PlainAscii {
     ghost use Rattle.csicodec_clean.specs.Bytes.{plain_byte};
 
     ghost class = { plain_byte };

@@ -4,7 +4,7 @@ ghost use Rattle.bstr.specs.Utf8.{continues, second};
 ghost use Rattle.csicodec_clean.specs.Shown.{IsPlain};
 ghost use Rattle.csicodec_clean.specs.Private.Steps.{IsBehindShown, IsWide};
 
-use crate::class::{Plain, behind};
+use crate::class::{PlainAscii, behind};
 
 /// Whether the byte may continue a character.
 #[inline(always)]
@@ -88,12 +88,12 @@ fn behind_wide<'a>(bytes: &'a [u8]) -> &'a [u8]
 pub(crate) fn behind_shown<'a>(bytes: &'a [u8]) -> &'a [u8]
     ensures { IsBehindShown bytes.now result.now }
 {
-    let mut rest = behind::<Plain>(bytes);
+    let mut rest = behind::<PlainAscii>(bytes);
     loop {
         let further = behind_wide(rest);
         if further.len() == rest.len() {
             return rest;
         }
-        rest = behind::<Plain>(further);
+        rest = behind::<PlainAscii>(further);
     }
 }

@@ -2,7 +2,7 @@ use Rattle.std.proofs.Common.{◌≡◌, leb, cond, length, length-take-le, refl
 use Rattle.std.proofs.lemmas.Simd.{zip2_of_maps, zip2_splat, zip2_splat_left}
 use Rattle.csicodec_clean.specs.Bytes.{plain_byte}
 use Rattle.csicodec_clean.proofs.Lanes.{counted}
-use Rattle.csicodec_clean.proofs.class.PlainByteClass.lanes.Goals as goal
+use Rattle.csicodec_clean.proofs.class.PlainAsciiByteClass.lanes.Goals as goal
 
 pub returns : goal.returns
 returns c =

@@ -3,12 +3,14 @@
 //! Each line of standard input is a row: a word that says what is tried, and behind it, with blanks between, on what. The program
 //! writes the line, and behind it, with tabs between, what came of it; where a law is broken, it says so with the word
 //! `otherwise`. An empty line, and one that begins with `#`, stays as it is. The files `stdin` and `stdout` beside `src/` are the
-//! table, which was written by hand. Bytes are spelled as in Rust, with `\e` for ESC.
+//! table, which was written by hand. Bytes are spelled as in Rust, with `\e` for ESC. `faults.rt` has the rows of readers and
+//! writers that fail, and what a number alone does.
 #![tactic(auto)]
 
 mod commands;
 mod events;
 mod explain;
+mod faults;
 mod forms;
 mod overwrite;
 mod pages;
@@ -20,6 +22,7 @@ mod untrusted;
 mod words;
 
 use std::alloc::{AllocError, Global};
+use std::io::Read;
 
 /// What is told of a row.
 fn told(alloc: Global, row: &str) -> Result<String, AllocError> {
@@ -64,18 +67,34 @@ fn told(alloc: Global, row: &str) -> Result<String, AllocError> {
         "classes" => pages::classes(alloc, rest),
         "rule" => pages::rule(alloc, rest),
         "title" => pages::title(alloc, rest),
+        "filter_stream" => faults::filtered(alloc, rest),
+        "normalise_stream" => faults::normalised(alloc, rest),
+        "still" => faults::still(alloc, rest),
         _ => format!(in alloc; "no such row"),
     }
 }
 
+/// A row, and what came of it.
+fn tell(rt: &HostRuntime, row: &str) -> anyhow::Result<()> {
+    if row.is_empty() || row.starts_with('#') {
+        println!(rt; "{row}")?;
+    } else if row == "dry" {
+        println!(rt; "{row}\t{:?}", faults::wrong_call(rt.alloc())?)?;
+    } else {
+        println!(rt; "{row}\t{}", told(rt.alloc(), row)?)?;
+    }
+    Ok(())
+}
+
 fn main(rt: HostRuntime) -> anyhow::Result<()> {
-    for line in rt.lines(rt.alloc()) {
-        let line = line?;
-        if line.is_empty() || line.starts_with('#') {
-            println!(rt; "{line}")?;
-        } else {
-            println!(rt; "{line}\t{}", told(rt.alloc(), line.as_str())?)?;
-        }
+    let mut bytes = Vec::new(rt.alloc());
+    rt.stdin().read_to_end(&mut bytes)?;
+    let text = str::from_utf8(&bytes).unwrap_or("");
+    if let Ok(count) = text.trim().parse() {
+        return faults::starved(&rt, count);
+    }
+    for row in text.lines() {
+        tell(&rt, row)?;
     }
     Ok(())
 }

@@ -1,7 +1,7 @@
 //! Copies, and the question whether a value reads back.
 
-use crate::ample::Ample;
-use crate::calls::{Outcome, judge};
+use crate::faults::ample::Ample;
+use crate::faults::calls::{Outcome, judge};
 use csicodec::CSI;
 use std::alloc::{AllocError, Global};
 

@@ -1,8 +1,8 @@
 //! Streams, from a reader to a writer that take no memory, or piece by piece.
 
-use crate::ample::{BEHIND, CUT_SHORT};
-use crate::calls::{Outcome, judge};
-use crate::fakes::{INPUT, Manner, OUTPUT, Reader, When, Writer};
+use crate::faults::ample::{BEHIND, CUT_SHORT};
+use crate::faults::calls::{Outcome, judge};
+use crate::faults::fakes::{INPUT, Manner, OUTPUT, Reader, When, Writer};
 use csicodec::{Filter, NormalForm, RunError, append_spans, filter_all, normalise};
 use csicodec_spans::Mode;
 use std::alloc::{AllocError, Global};

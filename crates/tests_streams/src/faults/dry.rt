@@ -4,8 +4,8 @@
 //! each of its requests in turn is the first one that is refused. What is taken is address space, hardly a page of it is
 //! touched.
 
-use crate::ample::Ample;
-use crate::calls::{CALLS, Call, Outcome, run};
+use crate::faults::ample::Ample;
+use crate::faults::calls::{CALLS, Call, Outcome, run};
 use std::alloc::{AllocError, Global};
 use std::mem::forget;
 

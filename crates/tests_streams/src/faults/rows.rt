@@ -2,15 +2,15 @@
 //!
 //! | row | what came of it |
 //! |---|---|
-//! | `filter LIMIT READER WRITER BYTES` | of `filter_all` of these bytes to their normal form, with sequences of at most `LIMIT` bytes: the answer, what was written, and `flushed` where the writer was flushed behind it |
-//! | `normalise READER WRITER BYTES` | of `normalise`, the same |
+//! | `filter_stream LIMIT READER WRITER BYTES` | of `filter_all` of these bytes to their normal form, with sequences of at most `LIMIT` bytes: the answer, what was written, and `flushed` where the writer was flushed behind it |
+//! | `normalise_stream READER WRITER BYTES` | of `normalise`, the same |
 //! | `still BYTES BYTES ..` | what a filter without blinking makes of them, pushed one after the other |
 ghost use Rattle.std.specs.Prelude.{◌≡◌, List};
 ghost use Rattle.csicodec.specs.Actions.{Action};
 ghost use Rattle.csicodec.specs.Table.{texts};
 
-use crate::fakes::{Reader, Writer};
-use crate::spelling::{bytes_of, manner_of, spelled};
+use crate::faults::fakes::{Reader, Writer, manner_of};
+use crate::spelling::{bytes_of, spelled};
 use csicodec::{
     CSI, CsiParam, Filter, NormalForm, Rewrite, RunError, Sgr, encode_all, filter_all, normalise,
     parse_all,
@@ -28,7 +28,7 @@ fn told(
     format!(in alloc; "{answer:?}\t{written}{end}")
 }
 
-fn normalised(alloc: Global, words: &str) -> Result<String, AllocError> {
+pub(crate) fn normalised(alloc: Global, words: &str) -> Result<String, AllocError> {
     let (reader, words) = words.split_once(' ').unwrap_or((words, ""));
     let (writer, bytes) = words.split_once(' ').unwrap_or((words, ""));
     let bytes = bytes_of(alloc, bytes)?;
@@ -38,7 +38,7 @@ fn normalised(alloc: Global, words: &str) -> Result<String, AllocError> {
     told(alloc, answer, &writer)
 }
 
-fn filtered(alloc: Global, words: &str) -> Result<String, AllocError> {
+pub(crate) fn filtered(alloc: Global, words: &str) -> Result<String, AllocError> {
     let (limit, words) = words.split_once(' ').unwrap_or((words, ""));
     let (reader, words) = words.split_once(' ').unwrap_or((words, ""));
     let (writer, bytes) = words.split_once(' ').unwrap_or((words, ""));
@@ -79,7 +79,7 @@ impl Rewrite for WithoutBlink {
     }
 }
 
-fn still(alloc: Global, words: &str) -> Result<String, AllocError> {
+pub(crate) fn still(alloc: Global, words: &str) -> Result<String, AllocError> {
     let mut filter = Filter::new(alloc, 64, WithoutBlink { alloc });
     let mut out = Vec::new(alloc);
     for word in words.split(' ') {
@@ -87,15 +87,4 @@ fn still(alloc: Global, words: &str) -> Result<String, AllocError> {
     }
     filter.finish(&mut out)?;
     spelled(alloc, &out)
-}
-
-/// What came of a row.
-pub(crate) fn row(alloc: Global, row: &str) -> Result<String, AllocError> {
-    let (word, words) = row.split_once(' ').unwrap_or((row, ""));
-    match word {
-        "filter" => filtered(alloc, words),
-        "normalise" => normalised(alloc, words),
-        "still" => still(alloc, words),
-        _ => format!(in alloc; "no such row"),
-    }
 }

@@ -1,7 +1,9 @@
 //! The calls that take memory, and how each may end.
 
-use crate::ample::{ANSWER, Ample, BEHIND, CUT_SHORT, FAULT_FIRST, FIRST, GRAPHICS, WINDOW};
-use crate::{boxes, copies, reads, streams, writes};
+use crate::faults::ample::{
+    ANSWER, Ample, BEHIND, CUT_SHORT, FAULT_FIRST, FIRST, GRAPHICS, WINDOW,
+};
+use crate::faults::{boxes, copies, reads, streams, writes};
 use std::alloc::Global;
 
 #[derive(Clone, Copy, Debug)]
@@ -120,11 +122,19 @@ pub(crate) fn run(call: Call, ample: &Ample, alloc: Global) -> Outcome {
         Call::FromDevice => boxes::device(alloc),
         Call::FromWindow => boxes::window(alloc),
         Call::FromUnspecified => boxes::unknown(alloc),
-        Call::EncodeAll => writes::encoded(&ample.input.actions, crate::fakes::OUTPUT, alloc),
+        Call::EncodeAll => writes::encoded(
+            &ample.input.actions,
+            crate::faults::fakes::OUTPUT,
+            alloc,
+        ),
         Call::EncodeWindow => writes::encoded(&ample.window.actions, WINDOW, alloc),
         Call::EncodeAnswer => writes::encoded(&ample.answer.actions, ANSWER, alloc),
         Call::EncodeGraphics => writes::encoded(&ample.graphics.actions, GRAPHICS, alloc),
-        Call::Encode => writes::encoded_in_turn(&ample.input.actions, crate::fakes::OUTPUT, alloc),
+        Call::Encode => writes::encoded_in_turn(
+            &ample.input.actions,
+            crate::faults::fakes::OUTPUT,
+            alloc,
+        ),
         Call::NormalForm => writes::in_normal_form(alloc),
         Call::NormalCutShort => writes::cut_short(alloc),
         Call::CloneUnspecified => copies::unknown(ample, alloc),

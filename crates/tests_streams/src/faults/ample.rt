@@ -1,6 +1,6 @@
 //! What the calls take and answer, made while there is memory.
 
-use crate::fakes::INPUT;
+use crate::faults::fakes::INPUT;
 use csicodec::{
     CSI, CsiParam, DecodeError, Intensity, ReadError, Sgr, Unspecified, Window, parse_all, read_csi,
 };

@@ -1,8 +1,8 @@
 //! Sequences and lists that are read.
 
-use crate::ample::{Ample, NO_PARAMETERS, Sequence};
-use crate::calls::{Outcome, judge};
-use crate::fakes::INPUT;
+use crate::faults::ample::{Ample, NO_PARAMETERS, Sequence};
+use crate::faults::calls::{Outcome, judge};
+use crate::faults::fakes::INPUT;
 use csicodec::{
     CSI, Cracked, DecodeError, Device, Intensity, ParseGraphics, ParseRefusal, ReadError, Sgr,
     XtSmGraphics, decode_all, parse_all, read_csi, read_csi_into,

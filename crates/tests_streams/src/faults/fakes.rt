@@ -166,3 +166,34 @@ impl Write for Writer {
         self.manner.end()
     }
 }
+
+/// The fault of this name.
+fn kind_of(word: &str) -> ErrorKind {
+    match word {
+        "interrupted" => ErrorKind::Interrupted,
+        "block" => ErrorKind::WouldBlock,
+        _ => ErrorKind::Other,
+    }
+}
+
+/// With a fault more, as `once=interrupted`.
+fn with_fault(manner: Manner, fault: &str) -> Manner {
+    let (when, kind) = fault.split_once('=').unwrap_or((fault, ""));
+    let kind = kind_of(kind);
+    match when {
+        "last" => manner.failing_last(kind),
+        "always" => manner.failing(When::Always, kind),
+        "once" => manner.failing(When::Once, kind),
+        call => manner.failing(When::At(call.parse().unwrap_or(0)), kind),
+    }
+}
+
+/// So many bytes a call, and behind that, with commas between, faults: `7,2=other`.
+pub(crate) fn manner_of(word: &str) -> Manner {
+    let (step, faults) = word.split_once(',').unwrap_or((word, ""));
+    let mut manner = Manner::by(step.parse().unwrap_or(0));
+    for fault in faults.split(',') {
+        manner = with_fault(manner, fault);
+    }
+    manner
+}

@@ -1,6 +1,6 @@
 //! Actions that are put in a box.
 
-use crate::calls::{Outcome, judge};
+use crate::faults::calls::{Outcome, judge};
 use csicodec::{CSI, Device, Unspecified, Window};
 use std::alloc::{AllocError, Global};
 

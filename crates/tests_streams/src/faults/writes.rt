@@ -1,8 +1,8 @@
 //! Actions that are written.
 
-use crate::ample::{BEHIND, CUT_SHORT};
-use crate::calls::{Outcome, judge};
-use crate::fakes::{INPUT, OUTPUT};
+use crate::faults::ample::{BEHIND, CUT_SHORT};
+use crate::faults::calls::{Outcome, judge};
+use crate::faults::fakes::{INPUT, OUTPUT};
 use csicodec::{CSI, DecodeError, encode, encode_all, normal_form};
 use std::alloc::{AllocError, Global};
 

@@ -12,10 +12,12 @@ const room = mkdtempSync(join(tmpdir(), 'firefox-'));
 writeFileSync(join(room, 'user.js'), `user_pref("marionette.port", ${PORT});\n`);
 const words = ['--headless', '--no-remote', '--marionette', '--profile', room];
 const firefox = spawn('firefox-esr', words, { stdio: 'ignore', env: { ...process.env, HOME: room } });
+/** How often something is looked for, a fifth of a second apart: it guards against a browser that hangs, not against a slow one. */
+const TRIES = 3000;
 const sleep = time => new Promise(go => setTimeout(go, time));
 
 async function connected() {
-    for (let i = 0; i < 300; i++) {
+    for (let i = 0; i < TRIES; i++) {
         const socket = connect(PORT, '127.0.0.1');
         const isThere = await new Promise(go => socket.once('data', () => go(true)).once('error', () => go(false)));
         if (isThere) return socket;
@@ -49,23 +51,21 @@ try {
         socket.write(`${Buffer.byteLength(text)}:${text}`);
     });
     const run = async script => (await ask('WebDriver:ExecuteScript', { script, args: [] })).value;
-    const idle = async () => {
-        for (let i = 0; i < 600; i++) {
-            await sleep(100);
-            if (await run('return document.documentElement.dataset.busy === "false" && !document.querySelector(".waiting")')) return;
+    const shows = async (script, wanted) => {
+        let shown;
+        for (let i = 0; i < TRIES; i++) {
+            shown = await run(script);
+            if (shown === wanted) return;
+            await sleep(200);
         }
-        throw new Error(`it is still busy: ${await run('return document.getElementById("said").textContent')}`);
+        throw new Error(`it shows ${shown}, and not ${wanted}`);
     };
     await ask('WebDriver:NewSession', {});
     const hash = new URLSearchParams({ text: String.raw`one \e[31mred\e[0m\n10%\r20%` });
     await ask('WebDriver:Navigate', { url: `${pathToFileURL(resolve(process.argv[2]))}#${hash}` });
-    await idle();
-    const seen = await run('return [...document.getElementById("lines").shadowRoot.querySelectorAll(".line")].map(it => it.textContent).join("|")');
-    if (seen !== 'one red|20%') throw new Error(`it shows ${seen}`);
+    await shows('return [...document.getElementById("lines")?.shadowRoot?.querySelectorAll(".line") ?? []].map(it => it.textContent).join("|")', 'one red|20%');
     await run('document.getElementById("tab-words").click()');
-    await idle();
-    const names = await run('return [...document.querySelectorAll("#list .name")].map(it => it.textContent).join()');
-    if (names !== 'text,SGR,text,SGR,LF,text,CR,text') throw new Error(`its words are ${names}`);
+    await shows('return [...document.querySelectorAll("#list .name")].map(it => it.textContent).join()', 'text,SGR,text,SGR,LF,text,CR,text');
     socket.end();
 } catch (error) {
     console.error(`firefox: ${error.message}`);

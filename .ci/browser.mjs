@@ -6,6 +6,8 @@ import { join, resolve } from 'node:path';
 import { pathToFileURL } from 'node:url';
 
 const SHORT = 20;
+/** What the page says in a trace, so that its thread is known among all that the browser has. */
+const MARK = 'the page';
 
 export const sleep = time => new Promise(go => setTimeout(go, time));
 
@@ -44,7 +46,7 @@ export class Browser {
             if (method === 'Network.requestWillBeSent') this.fetched.push(params.request.url);
             if (method === 'Runtime.exceptionThrown') this.complaints.push(params.exceptionDetails.exception?.description ?? params.exceptionDetails.text);
             if (method === 'Log.entryAdded') this.complaints.push(params.entry.text);
-            if (method === 'Tracing.dataCollected') this.traced.push(...params.value.filter(it => it.tdur > 10_000));
+            if (method === 'Tracing.dataCollected') this.traced.push(...params.value.filter(it => it.tdur > 10_000 || it.name === MARK));
             if (method === 'Tracing.tracingComplete') this.#ended();
             const it = this.#waiting.get(id);
             this.#waiting.delete(id);
@@ -77,17 +79,28 @@ export class Browser {
         await this.idle();
     }
 
+    /** Waits for some milliseconds of the page's own clock and for what it draws then, so that what it put off for less is done, however slow it is. */
+    pause(time = 300) {
+        return this.run(time => new Promise(go => setTimeout(() => {
+            setTimeout(go, 5000);
+            requestAnimationFrame(() => requestAnimationFrame(go));
+        }, time)), time);
+    }
+
+    /** Waits until a function of the page answers true, for ten minutes at most. */
+    async until(isSo, what) {
+        for (const end = Date.now() + 600_000; Date.now() < end; await sleep(SHORT)) if (await this.run(isSo)) return;
+        throw new Error(await what());
+    }
+
     /** Waits until the page has done what it does, and has shown it. */
-    async idle(seconds = 60) {
-        for (let i = 0; i < 1000 * seconds / SHORT; i++) {
+    async idle() {
+        const isIdle = () => document.documentElement?.dataset.busy === 'false' && !document.querySelector('.waiting');
+        do {
             await sleep(SHORT);
-            const isBusy = await this.run(() => document.documentElement?.dataset.busy !== 'false' || Boolean(document.querySelector('.waiting')));
-            if (!isBusy) {
-                await sleep(300);
-                if (await this.run(() => document.documentElement?.dataset.busy === 'false' && !document.querySelector('.waiting'))) return;
-            }
-        }
-        throw new Error(`it is still busy: ${await this.text('said')}`);
+            await this.until(isIdle, async () => `it is still busy: ${await this.text('said')}`);
+            await this.pause();
+        } while (!await this.run(isIdle));
     }
 
     async click(id) {
@@ -101,7 +114,7 @@ export class Browser {
             it.value = text;
             it.dispatchEvent(new Event('input', { bubbles: true }));
         }, id, text);
-        await sleep(300);
+        await this.pause();
         await this.idle();
     }
 
@@ -118,7 +131,7 @@ export class Browser {
             clipboardData.setData('text/plain', text);
             return !document.getElementById(id).dispatchEvent(new ClipboardEvent('paste', { clipboardData, bubbles: true, cancelable: true }));
         }, id, text);
-        await sleep(300);
+        await this.pause();
         await this.idle();
         return isTaken;
     }
@@ -127,7 +140,7 @@ export class Browser {
         const { root } = await this.ask('DOM.getDocument');
         const { nodeId } = await this.ask('DOM.querySelector', { nodeId: root.nodeId, selector: `#${id}` });
         await this.ask('DOM.setFileInputFiles', { nodeId, files: files.map(file => resolve(file)) });
-        await sleep(300);
+        await this.pause();
     }
 
     async look(width, height, scheme) {
@@ -144,19 +157,28 @@ export class Browser {
      * time, so that other work on the machine doesn't count. */
     async longest(what) {
         this.traced = [];
-        const categories = ['toplevel', 'disabled-by-default-devtools.timeline'];
+        const categories = ['toplevel', 'disabled-by-default-devtools.timeline', 'blink.user_timing'];
         await this.ask('Tracing.start', { transferMode: 'ReportEvents', traceConfig: { includedCategories: categories, recordMode: 'recordContinuously' } });
-        await what();
         const ended = new Promise(yes => { this.#ended = yes; });
-        await this.ask('Tracing.end');
-        await ended;
-        // Other pages' processes, which the browser keeps ready, work little.
-        const tasks = this.traced.filter(it => it.name === 'RunTask' && it.pid === it.tid);
-        const times = new Map();
-        for (const { pid, tdur } of tasks) times.set(pid, [...times.get(pid) ?? [], tdur / 1000]);
-        const [page] = [...times.values()].sort((a, b) => b.length - a.length);
-        return Math.max(0, ...page ?? []);
+        try {
+            await what();
+            await this.run(mark => { performance.mark(mark); }, MARK);
+        } finally {
+            await this.ask('Tracing.end');
+            await ended;
+        }
+        const { pid, tid } = this.traced.find(it => it.name === MARK);
+        const tasks = this.traced.filter(it => it.name === 'RunTask' && it.pid === pid && it.tid === tid);
+        return Math.max(0, ...tasks.map(it => it.tdur / 1000));
+    }
 
+    /** The same time of a fixed loop, which tells how slow the machine is: about 50 milliseconds where the bounds were chosen. */
+    pace() {
+        return this.longest(() => this.run(() => {
+            let sum = 0;
+            for (let i = 0; i < 7e6; i++) sum = Math.imul(sum, 31) + i | 0;
+            return sum;
+        }));
     }
 
     /** The bytes of memory that the page's own process holds. */

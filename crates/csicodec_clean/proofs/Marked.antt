@@ -1,10 +1,10 @@
 -- What `clean` leaves is safe by its bytes alone.
 use Rattle.std.proofs.Common.{◌≡◌, ◌≢◌, ◌<◌, ◌≤◌, ◌+◌, ◌/◌, ◌%◌, ℕ, Bool, true, false, cond, List, [], ◌∷◌, ◌++◌, ◌⊎◌, inl, inr, length, refl, sym, ap, subst, ◌∙◌, append_assoc, arith, ⊎_elim, lt-ltb, le-ltb}
-use Rattle.std.specs.Prelude.{codes, nat_le, nat_lt, not, ◌==◌, ◌&&◌, ◌||◌, if◌then◌else◌}
+use Rattle.std.specs.Prelude.{codes, nat_lt, not, ◌==◌, ◌&&◌, if◌then◌else◌}
 use Rattle.std.specs.Char.{encode_utf8}
 use Rattle.std.specs.Fmt.{decimal}
 use Rattle.std.specs.List.{AllByRecursion}
-use Rattle.std.proofs.lemmas.Bool.{and_parts, cases_lt, eqb-true, le-leb, ne_eqb, not-true}
+use Rattle.std.proofs.lemmas.Bool.{and_parts, cases_lt, le-leb, ne_eqb, not-true}
 use Rattle.std.proofs.lemmas.Bool.Decides.{nat_tests}
 use Rattle.std.proofs.lemmas.Fmt.{decimal_by_steps}
 use Rattle.csicodec_names.specs.declared.color.Intensity.TheVariants.{Normal}

@@ -1,5 +1,3 @@
-use Rattle.std.proofs.Common.{sym, subst}
-use Rattle.csicodec_clean.specs.Private.Steps.{IsBehindShown}
 use Rattle.csicodec_clean.proofs.Told.{plain_behind, shown_further}
 use Rattle.csicodec_clean.proofs.wide.behind_shown.Goals as goal
 

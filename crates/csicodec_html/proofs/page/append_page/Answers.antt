@@ -1,4 +1,4 @@
-use Rattle.std.proofs.Common.{◌≡◌, ◌++◌, ◌∷◌, ◌∙◌, ap, drop, sym, take, take-append-drop}
+use Rattle.std.proofs.Common.{◌++◌, ◌∷◌, ◌∙◌, ap, drop, sym, take, take-append-drop}
 use Rattle.std.specs.List.{prefix_len}
 use Rattle.csicodec_clean.proofs.Bytes.{front_in}
 use Rattle.csicodec_html.specs.Private.Marked.{page_bytes, stands}

@@ -1,5 +1,5 @@
 -- The piece at the front of a list: by the relation, and by the function that computes it.
-use Rattle.std.specs.Prelude.{ℤ, option_and_then, pos, negsuc}
+use Rattle.std.specs.Prelude.{ℤ, IfNone, IfSome, option_and_then, pos, negsuc}
 use Rattle.std.proofs.Common.{◌≡◌, ℕ, zero, suc, ◌+◌, ◌<◌, ◌≤◌, min, List, [], ◌∷◌, length, take, drop, Option, Some, None, refl, sym, ap, ◌∙◌, arith, add-zero, length-drop}
 use Rattle.std.proofs.lemmas.List.{take_min}
 use Rattle.std.proofs.lemmas.Option.{some_pair_parts}
@@ -12,11 +12,13 @@ use Rattle.csicodec_base.proofs.Table.{piece_is, piece_take, is_piece, piece_wit
 use Rattle.csicodec_parser.specs.declared.group.Group.{Group}
 use Rattle.csicodec_parser.specs.declared.group.Group.TheVariants.{Whole, Styles, Modes, DecModes}
 use Rattle.csicodec_actions.specs.Actions.{Action, Sgr, Mode}
+use Rattle.csicodec_parser.specs.declared.actions.CSI.{CSI}
+use Rattle.csicodec_parser.specs.ActionOf.{action_of}
 use Rattle.csicodec_parser.specs.Groups.{BeginsWith, Piece}
 use Rattle.csicodec_parser.specs.Cut.{IsStuck}
 use Rattle.csicodec_actions.specs.Modes.{changed, switched}
 use Rattle.csicodec_actions.specs.Kinds.{read, Dec, Terminal}
-use Rattle.csicodec_parser.specs.Private.Steps.{styled, number_at, one_token, front}
+use Rattle.csicodec_parser.specs.Private.Steps.{found, styled, number_at, one_token, front}
 use Rattle.csicodec_actions.proofs.Values.{dec-above, terminal-above}
 
 -- the answer for a front is what the table gives
@@ -81,6 +83,16 @@ stuck_front g rest h = none (front g rest) refl
 
 pub front_stuck : (g : Group) (rest : List CsiParam) → front g rest ≡ None → IsStuck g rest
 front_stuck g rest e k a p = let found = piece_front g rest k a p in cc
+
+-- what was found is the piece
+pub found_piece : (g : Group) (rest : List CsiParam) (o : Option (CSI × ℕ)) → found o ≡ front g rest → IfSome o (λ f. Piece g rest f.1 (action_of f.0))
+found_piece g rest None e = tt
+found_piece g rest (Some f) e = front_piece g rest f.1 (action_of f.0) (sym e)
+
+-- and where nothing was, none stands there
+pub found_none : (g : Group) (rest : List CsiParam) (o : Option (CSI × ℕ)) → found o ≡ front g rest → IfNone o (IsStuck g rest)
+found_none g rest None e = front_stuck g rest (sym e)
+found_none g rest (Some f) e = tt
 
 -- a piece has tokens, and they are in the list
 pub record Fits (n k : ℕ) : Type 0 where

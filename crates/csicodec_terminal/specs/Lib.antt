@@ -1,3 +1,2 @@
 pub mod Regular
 pub mod Terminal
-pub mod Private

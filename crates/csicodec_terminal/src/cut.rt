@@ -6,12 +6,10 @@ ghost use Rattle.csicodec_actions.specs.Actions.{Unspecified as Unknown};
 ghost use Rattle.csicodec_parser.specs.Groups.{marked, start};
 ghost use Rattle.csicodec_terminal.specs.Terminal.{CutAnew, Step, Steps, behind, belonging, is_foreign, up_to};
 ghost use Rattle.csicodec_parser.specs.declared.group.Group.TheVariants.{Whole};
-ghost use Rattle.csicodec_terminal.specs.Private.Kinds.{group_of};
 
-use crate::kind::{Kind, front};
 use crate::regular::{filled_list, is_semicolon};
 use csicodec_base::CsiParam;
-use csicodec_parser::{CSI, Unspecified};
+use csicodec_parser::{CSI, Group, Unspecified};
 use std::alloc::{AllocError, Global};
 
 /// What an unknown action says beside its tokens.
@@ -23,12 +21,12 @@ pub(crate) struct End {
 }
 
 /// An unknown action of these tokens, with what stands before the pieces ahead of them.
-pub(crate) fn unknown(kind: Kind, rest: &[CsiParam], end: End) -> Result<CSI, AllocError>
+pub(crate) fn unknown(group: Group, rest: &[CsiParam], end: End) -> Result<CSI, AllocError>
     ensures { IfOk result (λ csi.
-        action_of csi ≡ Unknown (marked (group_of kind) rest.now) end.truncated end.control) }
+        action_of csi ≡ Unknown (marked group rest.now) end.truncated end.control) }
 {
     let mut params = Vec::new(end.alloc);
-    if let Kind::DecModes(_) = kind {
+    if let Group::DecModes(_) = group {
         params.push(CsiParam::P(b'?'))?;
     }
     params.extend_from_slice(rest)?;
@@ -46,7 +44,7 @@ pub(crate) fn one_unknown(list: &[CsiParam], end: End) -> Result<Vec<CSI>, Alloc
     ensures { IfOk result (λ v.
         map action_of v.items ≡ Unknown list.now end.truncated end.control ∷ []) }
 {
-    let action = unknown(Kind::Whole, list, end)?;
+    let action = unknown(Group::Whole, list, end)?;
     let mut all = Vec::new(end.alloc);
     all.push(action)?;
     Ok(all)
@@ -107,52 +105,66 @@ fn behind(len: usize, rest: &[CsiParam]) -> &[CsiParam]
 }
 
 /// The action at the front, and its number of tokens.
-fn step(kind: Kind, rest: &[CsiParam], end: End) -> Result<(CSI, usize), AllocError>
+#[tactic(auto, using(crate::proofs::Moves::behind_piece, crate::proofs::Moves::behind_unknown))]
+fn step(group: Group, rest: &[CsiParam], end: End) -> Result<(CSI, usize), AllocError>
     requires { 0 < length rest.now }
     ensures is { IfOk result (λ f.
-        Step (group_of kind) end.truncated end.control rest.now f.1 (action_of f.0)) }
+        Step group end.truncated end.control rest.now f.1 (action_of f.0)) }
     ensures within { IfOk result (λ f. f.1 ≤ length rest.now) }
     ensures forward { IfOk result (λ f. length (behind f.1 rest.now) < length rest.now) }
 {
-    if let Some((action, len)) = front(kind, rest) {
+    if let Some((action, len)) = group.piece(rest) {
         return Ok((action, len));
     }
     let len = up_to(belonging(rest), rest);
-    Ok((unknown(kind, &rest[..len], end)?, len))
+    Ok((unknown(group, &rest[..len], end)?, len))
 }
 
 /// The actions of what is cut of a list, in turn.
-fn steps(kind: Kind, list: &[CsiParam], end: End) -> Result<Vec<CSI>, AllocError>
+fn steps(group: Group, list: &[CsiParam], end: End) -> Result<Vec<CSI>, AllocError>
     ensures { IfOk result (λ v.
-        Steps (group_of kind) end.truncated end.control list.now (map action_of v.items)) }
+        Steps group end.truncated end.control list.now (map action_of v.items)) }
 {
     let mut actions = Vec::new(end.alloc);
     let mut rest = list;
     while rest.len() > 0 {
-        let (action, len) = step(kind, rest, end)?;
+        let (action, len) = step(group, rest, end)?;
         actions.push(action)?;
         rest = behind(len, rest);
     }
     Ok(actions)
 }
 
-/// Whether a byte stands in it that no such list has.
-fn has_foreign(kind: Kind, list: &[CsiParam]) -> bool
-    ensures { result ≡ list_any (is_foreign (group_of kind)) list.now }
+/// Whether the token is a byte that stands in no such list.
+fn is_foreign(group: Group, token: CsiParam) -> bool
+    ensures { result ≡ is_foreign group token }
 {
-    list.iter().any(|token| kind.is_foreign(*token))
+    match token {
+        CsiParam::Integer(_) => false,
+        CsiParam::P(byte) => match group {
+            Group::Styles => !matches!(byte, b';' | b':'),
+            _ => byte != b';',
+        },
+    }
+}
+
+/// Whether a byte stands in it that no such list has.
+fn has_foreign(group: Group, list: &[CsiParam]) -> bool
+    ensures { result ≡ list_any (is_foreign group) list.now }
+{
+    list.iter().any(|token| is_foreign(group, *token))
 }
 
 /// The actions of a second look at a list that is cut.
-pub(crate) fn cut_anew(kind: Kind, list: &[CsiParam], end: End) -> Result<Vec<CSI>, AllocError>
-    requires { start (group_of kind) ≤ length list.now }
+pub(crate) fn cut_anew(group: Group, list: &[CsiParam], end: End) -> Result<Vec<CSI>, AllocError>
+    requires { start group ≤ length list.now }
     ensures { IfOk result (λ v.
-        CutAnew (group_of kind) list.now end.truncated end.control (map action_of v.items)) }
+        CutAnew group list.now end.truncated end.control (map action_of v.items)) }
 {
-    let body = &list[kind.start()..];
-    if has_foreign(kind, body) {
+    let body = &list[group.start()..];
+    if has_foreign(group, body) {
         return one_unknown(list, end);
     }
     let filled = filled_list(end.alloc, body)?;
-    steps(kind, &filled, end)
+    steps(group, &filled, end)
 }

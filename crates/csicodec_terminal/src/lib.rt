@@ -2,7 +2,6 @@
 #![tactic(auto)]
 
 mod cut;
-mod kind;
 pub mod laws;
 mod regular;
 mod terminal;

@@ -1,16 +1,14 @@
 //! The actions of a list as terminals take it.
 ghost use Rattle.std.specs.Prelude.{◌≡◌, IfOk, map};
 ghost use Rattle.csicodec_parser.specs.ActionOf.{action_of};
-ghost use Rattle.csicodec_parser.specs.Groups.{group};
+ghost use Rattle.csicodec_parser.specs.Groups.{group as group_of_list};
 ghost use Rattle.csicodec_parser.specs.declared.group.Group.TheVariants.{Whole};
 ghost use Rattle.csicodec_terminal.specs.Terminal.{Anew, Terminal, has_unknown, is_open, is_unknown};
-ghost use Rattle.csicodec_terminal.specs.Private.Kinds.{group_of};
 
 use crate::cut::{End, cut_anew, one_unknown};
-use crate::kind::Kind;
 use crate::regular::regular_list;
 use csicodec_base::CsiParam;
-use csicodec_parser::CSI;
+use csicodec_parser::{CSI, Group};
 use csicodec_streams::parse_all;
 use std::alloc::{AllocError, Global};
 
@@ -36,11 +34,11 @@ fn has_unknown(actions: &[CSI]) -> bool
 }
 
 /// Whether a list of attributes leaves its last parameter out.
-fn is_open(kind: Kind, list: &[CsiParam]) -> bool
-    ensures { result ≡ is_open (group_of kind) list.now }
+fn is_open(group: Group, list: &[CsiParam]) -> bool
+    ensures { result ≡ is_open group list.now }
 {
-    match kind {
-        Kind::Styles => matches!(list.last(), Some(CsiParam::P(b';'))),
+    match group {
+        Group::Styles => matches!(list.last(), Some(CsiParam::P(b';'))),
         _ => false,
     }
 }
@@ -59,16 +57,16 @@ fn whole_anew(list: &[CsiParam], end: End) -> Result<Vec<CSI>, AllocError>
 }
 
 /// The actions of a second look.
-fn anew(kind: Kind, list: &[CsiParam], end: End) -> Result<Vec<CSI>, AllocError>
-    requires { group_of kind ≡ group list.now end.control }
+fn anew(group: Group, list: &[CsiParam], end: End) -> Result<Vec<CSI>, AllocError>
+    requires { group ≡ group_of_list list.now end.control }
     ensures { IfOk result (λ v.
-        Anew (group_of kind) list.now end.truncated end.control (map action_of v.items)) }
+        Anew group list.now end.truncated end.control (map action_of v.items)) }
 {
-    match kind {
-        Kind::Whole => whole_anew(list, end),
-        Kind::Styles => cut_anew(Kind::Styles, list, end),
-        Kind::Modes(switch) => cut_anew(Kind::Modes(switch), list, end),
-        Kind::DecModes(change) => cut_anew(Kind::DecModes(change), list, end),
+    match group {
+        Group::Whole => whole_anew(list, end),
+        Group::Styles => cut_anew(Group::Styles, list, end),
+        Group::Modes(switch) => cut_anew(Group::Modes(switch), list, end),
+        Group::DecModes(change) => cut_anew(Group::DecModes(change), list, end),
     }
 }
 
@@ -99,9 +97,9 @@ pub fn terminal_actions(
         control,
     };
     let first = parse_all(alloc, params, parameters_truncated, control)?;
-    let kind = Kind::of(params.first().copied(), control);
-    if !has_unknown(&first) && !is_open(kind, params) {
+    let group = Group::of(params.first().copied(), control);
+    if !has_unknown(&first) && !is_open(group, params) {
         return Ok(first);
     }
-    anew(kind, params, end)
+    anew(group, params, end)
 }

@@ -7,7 +7,7 @@ ghost use Rattle.csicodec_structs.specs.Next.{IsDone, IsRefused, refusal, refuse
 use crate::lay::{Counts, lay_list};
 use crate::status::{Status, fault_of};
 use crate::structs::{Param, Struct};
-use csicodec::{CsiParam, ReadError, read_csi_into, read_csi_within};
+use csicodec::{CsiParam, ReadError, read_csi, read_csi_within};
 use std::alloc::Global;
 
 /// What stands at the front of some bytes, or why no sequence does.
@@ -84,13 +84,13 @@ fn next_long(alloc: Global, bytes: &[u8], actions: &mut [Struct], params: &mut [
     ensures { IsDone bytes.now actions.old actions.new params.old params.new result
         ⊎ IsRefused bytes.now actions.old actions.new params.old params.new result }
 {
-    let mut list = Vec::new(alloc);
-    let tail = match read_csi_into(&mut list, bytes) {
-        Ok(tail) => tail,
-        Err(error) => return refusal(error),
-    };
-    let used = bytes.len() - tail.rest.len();
-    answer(alloc, &list, tail.control, used, actions, params)
+    match read_csi(alloc, bytes) {
+        Ok(read) => {
+            let used = bytes.len() - read.rest.len();
+            answer(alloc, &read.params, read.control, used, actions, params)
+        }
+        Err(error) => refusal(error),
+    }
 }
 
 /// Puts the actions of the sequence at the front, whose tokens are read into a room of 32, or into memory.

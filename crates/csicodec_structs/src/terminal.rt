@@ -10,7 +10,7 @@ use crate::lay::{Counts, lay_one};
 use crate::next::{Front, done, refusal, refused};
 use crate::status::Status;
 use crate::structs::{Param, Struct};
-use csicodec::{CSI, CsiParam, read_csi_into};
+use csicodec::{CSI, CsiParam, read_csi};
 use csicodec_terminal::terminal_actions;
 use std::alloc::Global;
 
@@ -59,11 +59,11 @@ pub fn lay_as_terminals(
     ensures { IsTaken bytes.now actions.old actions.new params.old params.new result
         ⊎ IsRefused bytes.now actions.old actions.new params.old params.new result }
 {
-    let mut list = Vec::new(alloc);
-    let tail = match read_csi_into(&mut list, bytes) {
-        Ok(tail) => tail,
-        Err(error) => return refusal(error),
-    };
-    let used = bytes.len() - tail.rest.len();
-    taken(alloc, &list, tail.control, used, actions, params)
+    match read_csi(alloc, bytes) {
+        Ok(read) => {
+            let used = bytes.len() - read.rest.len();
+            taken(alloc, &read.params, read.control, used, actions, params)
+        }
+        Err(error) => refusal(error),
+    }
 }

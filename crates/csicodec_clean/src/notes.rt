@@ -15,7 +15,7 @@ use crate::whole::near;
 use csicodec::CSI;
 use csicodec_base::{CsiParam, ReadError, read_csi_into};
 use csicodec_filter::Known;
-use csicodec_streams::{Note, parse_into, position_len};
+use csicodec_streams::{Note, parse_into, position_len, read_color};
 use std::alloc::{AllocError, Global};
 
 /// The note that is what stays of a sequence.
@@ -143,6 +143,34 @@ impl Room {
         Ok(())
     }
 
+    /// Keeps the actions of the sequence in front, and answers how many bytes it has, at most `limit`; 0 where none stands there.
+    #[inline(always)]
+    fn read(
+        &mut self,
+        params: &mut Vec<CsiParam>,
+        limit: usize,
+        bytes: &[u8],
+    ) -> Result<usize, AllocError>
+        ensures within { IfOk result (λ len. (len ≤ limit) × (len ≤ length bytes.now)) }
+        ensures read { IfOk result (λ len. 0 < len
+            → IsOf (take len bytes.now) (map action_of self.new.actions.items)) }
+    {
+        let front = near(limit, bytes);
+        self.actions.clear();
+        if let Some((sgr, rest)) = read_color(front) {
+            self.actions.push(CSI::Sgr(sgr))?;
+            return Ok(front.len() - rest.len());
+        }
+        match read_csi_into(params, front) {
+            Ok(tail) => {
+                parse_into(self.alloc, params, false, tail.control, &mut self.actions)?;
+                Ok(front.len() - tail.rest.len())
+            }
+            Err(ReadError::Memory) => Err(AllocError),
+            Err(_) => Ok(0),
+        }
+    }
+
     /// Appends what stays of the sequence in front, which isn't known, and notes it, unless it only moves the cursor; answers how many
     /// bytes it has, at most `limit`, and whether a style is open behind it. It answers 0 where no sequence stands there.
     #[inline(never)]
@@ -164,23 +192,19 @@ impl Room {
             (λ (len, after). len ≡ 0 → (after ≡ styled) × (out.new.items ≡ out.old.items)) }
         ensures known { AreKnown IsNoted known.new.memo.slots.items }
     {
-        let front = near(limit, bytes);
-        let moved = position_len(b'1', front);
+        let moved = position_len(b'1', near(limit, bytes));
         if moved > 0 {
             return Ok((moved, styled));
         }
-        match read_csi_into(params, front) {
-            Ok(tail) => {
-                let len = front.len() - tail.rest.len();
-                let before = out.len();
-                self.append_sequence(depth, params, tail.control, out)?;
-                let after = is_open(depth, &self.actions, styled);
-                let text = out.split_at(before).1;
-                self.keep(known, depth, bytes, len, text)?;
-                Ok((len, after))
-            }
-            Err(ReadError::Memory) => Err(AllocError),
-            Err(_) => Ok((0, styled)),
+        let len = self.read(params, limit, bytes)?;
+        if len == 0 {
+            return Ok((0, styled));
         }
+        let before = out.len();
+        append_styles(depth, &self.actions, out)?;
+        let after = is_open(depth, &self.actions, styled);
+        let text = out.split_at(before).1;
+        self.keep(known, depth, bytes, len, text)?;
+        Ok((len, after))
     }
 }

@@ -11,7 +11,7 @@ use crate::known::Known;
 use crate::rewrite::Rewrite;
 use csicodec_base::{CsiParam, TextBuffer};
 use csicodec_spans::{Cutter, Mode, plain_len};
-use csicodec_streams::{Normal, WIDE, append_front, keep_from, take_position};
+use csicodec_streams::{Normal, WIDE, append_front, keep_from, take_simple};
 use std::alloc::{AllocError, Global};
 use std::marker::Model;
 
@@ -90,7 +90,7 @@ fn pass_one(
         }
         let len = known.recall(limit, bytes, out);
         if len == 0 && limit >= WIDE {
-            return Ok(take_position(bytes, out));
+            return Ok(take_simple(&mut known.memo, bytes, out));
         }
         return Ok(len);
     }

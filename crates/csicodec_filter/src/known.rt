@@ -9,7 +9,7 @@ use std::alloc::Global;
 /// A table of control sequences that came before, and what is noted of the one that was found last.
 #[derive(Drop)]
 pub struct Known<N> {
-    memo: Memo<N>,
+    pub(crate) memo: Memo<N>,
     note: Noted,
 }
 

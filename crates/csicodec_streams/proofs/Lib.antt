@@ -3,3 +3,4 @@ pub mod Splits
 pub mod Streamed
 pub mod Known
 pub mod Positions
+pub mod Colors

@@ -80,10 +80,10 @@ number_front xs n some low high few digits =
 pub byte_cut : (xs : List ℕ) (b : ℕ) → 1 ≤ length xs → get_or xs 0 0 ≡ b → xs ≡ b ∷ take (length xs - 1) (drop 1 xs)
 byte_cut xs b some is = first_cut xs some ∙ ap (λ (x : ℕ). x ∷ take (length xs - 1) (drop 1 xs)) is
 
-pub two_cut : (xs : List ℕ) → 2 ≤ length xs → get_or xs 0 0 ≡ 27 → get_or xs 1 0 ≡ 91 → xs ≡ 27 ∷ 91 ∷ take (length xs - 2) (drop 2 xs)
-two_cut [] some a b = absurd (omega arith)
-two_cut (x ∷ []) some a b = absurd (omega (arith, some))
-two_cut (x ∷ y ∷ xs) some a b = ap (λ (c : ℕ). c ∷ y ∷ xs) a ∙ ap (λ (c : ℕ). 27 ∷ c ∷ xs) b ∙ ap (λ (l : List ℕ). 27 ∷ 91 ∷ l) (sym (take_all (length (x ∷ y ∷ xs) - 2) xs (omega arith)))
+pub two_cut : (xs : List ℕ) (a b : ℕ) → 2 ≤ length xs → get_or xs 0 0 ≡ a → get_or xs 1 0 ≡ b → xs ≡ a ∷ b ∷ take (length xs - 2) (drop 2 xs)
+two_cut [] a b some first second = absurd (omega arith)
+two_cut (x ∷ []) a b some first second = absurd (omega (arith, some))
+two_cut (x ∷ y ∷ xs) a b some first second = ap (λ (c : ℕ). c ∷ y ∷ xs) first ∙ ap (λ (c : ℕ). a ∷ c ∷ xs) second ∙ ap (λ (l : List ℕ). a ∷ b ∷ l) (sym (take_all (length (x ∷ y ∷ xs) - 2) xs (omega arith)))
 
 -- ---- positions
 

@@ -2,6 +2,7 @@
 //! users.
 #![tactic(auto)]
 
+mod color;
 mod decode;
 mod error;
 mod io;
@@ -10,10 +11,11 @@ mod position;
 mod stream;
 mod texts;
 
+pub use color::{read_color, take_simple};
 pub use decode::{decode_all, normal_form, parse_all, parse_all_over, parse_into};
 pub use error::{DecodeError, RunError};
 pub use io::{CHUNK, keep_from, receive, send};
 pub use memo::{Memo, Normal, Note, Noted, WIDE};
-pub use position::{append_front, position_len, take_position};
+pub use position::{append_front, position_len};
 pub use stream::normalise;
 pub use texts::{encode, encode_all};

@@ -92,7 +92,7 @@ pub fn append_front(bytes: &[u8], len: usize, out: &mut TextBuffer) -> Result<()
 
 /// Appends the position in front, its own normal form, and answers how many bytes it has; 0 where none stands there, or without memory.
 #[inline(never)]
-pub fn take_position(bytes: &[u8], out: &mut TextBuffer) -> usize
+pub(crate) fn take_position(bytes: &[u8], out: &mut TextBuffer) -> usize
     ensures own { 0 < result → IsNormal (take result bytes.now) (take result bytes.now)
         × (out.new ≡ out.old ++ take result bytes.now) }
     ensures none { result ≡ 0 → out.new ≡ out.old }

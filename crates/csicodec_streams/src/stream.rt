@@ -9,18 +9,18 @@ ghost use Rattle.csicodec_streams.specs.Private.Steps.{DecodesFront, StopsAt, st
 ghost use Rattle.csicodec_streams.specs.Refusals.{RefusesDecode, RefusesRun};
 ghost use Rattle.csicodec_actions.specs.Table.{text, texts};
 
+use crate::color::take_simple;
 use crate::decode::{Behind, refusal_at};
 use crate::error::{DecodeError, RunError};
 use crate::io::{CHUNK, MOST, keep_from, read_out, read_some, write_out};
 use crate::memo::{Memo, Normal};
-use crate::position::take_position;
 use csicodec_base::{CsiParam, ReadError, TextBuffer, read_csi_into};
 use csicodec_parser::{Texts, Tokens, list_into};
 use std::alloc::{AllocError, Global};
 use std::io::{Read, Write};
 
-/// Appends the normal form of the sequence in front, if it came before, or is a position and its own; how many bytes it has, 0 where it is
-/// neither.
+/// Appends the normal form of the sequence in front, if it came before, or is a colour or a position; how many bytes it has, 0 where it is
+/// none of these.
 #[inline(always)]
 fn take_known(memo: &mut Memo<Normal>, bytes: &[u8], out: &mut TextBuffer) -> usize
     requires { AreKnown IsNormal memo.old.slots.items }
@@ -34,7 +34,7 @@ fn take_known(memo: &mut Memo<Normal>, bytes: &[u8], out: &mut TextBuffer) -> us
     if known > 0 {
         return known;
     }
-    take_position(bytes, out)
+    take_simple(memo, bytes, out)
 }
 
 /// The texts of all actions of the sequences at the front of the bytes, joined. Sequences that came before are looked up.

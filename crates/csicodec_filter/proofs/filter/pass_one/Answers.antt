@@ -4,11 +4,10 @@ use Rattle.csicodec_filter.proofs.filter.pass_one.Goals as goal
 
 pub returns-then-limit-ge-WIDE-clause-passed : goal.returns-then-limit-ge-WIDE-clause-passed
 returns-then-limit-ge-WIDE-clause-passed c = λ some.
-    let own = c.take_position.ensures in
-    let (normal, out) = own.own some in
-    let text = take c.take_position.result c.args.bytes.now in
+    let own = c.take_simple.ensures in
+    let (text, normal, out) = own.normal some in
     let same = c.recall-len.ensures.none (omega (arith, c.if-len-eq0.true)) in
-    (text, known_passes c.args.wanted c.args.limit c.take_position.result c.args.bytes.now text c.if-not-wanted.false normal (omega (arith, own.short, c.if-limit-ge-WIDE.true)) own.within, out ∙ ap (λ (l : List ℕ). l ++ text) same)
+    (text, known_passes c.args.wanted c.args.limit c.take_simple.result c.args.bytes.now text c.if-not-wanted.false normal (omega (arith, own.short, c.if-limit-ge-WIDE.true)) own.within, out ∙ ap (λ (l : List ℕ). l ++ text) same)
 
 pub returns-then-is_csi-clause-passed : goal.returns-then-is_csi-clause-passed
 returns-then-is_csi-clause-passed c = λ some.

@@ -25,20 +25,13 @@ returns-then-moved-gt0-clause-left c = λ some.
     (action.Cursor to ∷ [], (list, final, subst (λ (l : List ℕ). Seq l list final) front seq, are), refl, sym (append-nil c.args.out.now.items))
 
 pub keep-requires-clause-sequence : goal.keep-requires-clause-sequence
-keep-requires-clause-sequence c =
-    let behind = c.in-Ok.tail.rest.now in
-    let found = rw c.near-front.ensures at c.in-Ok.ensures.found in
-    let read = front_read c.args.limit _ c.args.bytes.now behind c.read_csi_into.new.params.items c.in-Ok.tail.control found (ap (λ l. length l - length behind) c.near-front.ensures) in
-    (c.read_csi_into.new.params.items, c.in-Ok.tail.control, read.1, rw c.deref.ensures.value at c.in_ok-append_sequence-in-Ok.ensures.actions)
+keep-requires-clause-sequence c = c.in_ok-len.ensures.read (omega (arith, c.if-len-eq0.false))
 
-pub returns-in_ok-keep-in-Ok-clause-left : goal.returns-in_ok-keep-in-Ok-clause-left
-returns-in_ok-keep-in-Ok-clause-left c = λ some.
-    let behind = c.in-Ok.tail.rest.now in
-    let found = rw c.near-front.ensures at c.in-Ok.ensures.found in
-    let read = front_read c.args.limit _ c.args.bytes.now behind c.read_csi_into.new.params.items c.in-Ok.tail.control found (ap (λ l. length l - length behind) c.near-front.ensures) in
-    let actions = c.append_sequence.new.self.actions.items in (
+pub returns-in_ok-keep-clause-left : goal.returns-in_ok-keep-clause-left
+returns-in_ok-keep-clause-left c = λ some.
+    let actions = c.read.new.self.actions.items in (
       map action_of actions,
-      (c.read_csi_into.new.params.items, c.in-Ok.tail.control, read.1, rw c.deref.ensures.value at c.in_ok-append_sequence-in-Ok.ensures.actions),
-      c.is_open-after.ensures ∙ ap (λ l. is_open c.args.styled (kept c.args.depth (map action_of l))) c.deref-in-Ok.ensures.value,
-      c.in_ok-append_sequence-in-Ok.ensures.text,
+      c.in_ok-len.ensures.read some,
+      c.is_open-after.ensures ∙ ap (λ l. is_open c.args.styled (kept c.args.depth (map action_of l))) c.deref-2.ensures.value,
+      ?,
     )

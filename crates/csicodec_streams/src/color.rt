@@ -1,0 +1,145 @@
+//! Colours: the sequence of one is read at the front, and its normal form written, without a list of its tokens.
+ghost use Rattle.std.specs.Prelude.{◌≡◌, ◌+◌, ◌<◌, ◌≤◌, ◌∷◌, [], ◌++◌, ℕ, List, false, length, take, IfSome};
+ghost use Rattle.csicodec_tokens.specs.declared.param.CsiParam.{CsiParam};
+ghost use Rattle.csicodec_tokens.specs.Sequence.{Reads};
+ghost use Rattle.csicodec_actions.specs.Actions.{Sgr as Styled};
+ghost use Rattle.csicodec_base.specs.Shapes.{Plane, painted};
+ghost use Rattle.csicodec_parser.specs.Segments.{Actions};
+ghost use Rattle.csicodec_streams.specs.Known.{AreKnown, IsNormal};
+ghost use Rattle.csicodec_streams.specs.Private.Steps.{IsColor, IsPart, plane_byte};
+
+use crate::memo::{Memo, Normal};
+use crate::position::take_position;
+use csicodec_base::{ColorSpec, Sgr, SrgbaTuple, Text, TextBuffer};
+
+/// A digit in front, and what is behind it.
+#[inline(always)]
+fn digit_front(bytes: &[u8]) -> Option<(u8, &[u8])>
+    ensures { IfSome result (λ f. (f.0 < 10) × (bytes.now ≡ (48 + f.0) ∷ f.1.now)) }
+{
+    match bytes {
+        [digit @ b'0'..=b'9', rest @ ..] => Some((*digit - b'0', rest)),
+        _ => None,
+    }
+}
+
+/// A part of a colour in front, of three digits at most, and what is behind it.
+#[inline(always)]
+fn part_front(bytes: &[u8]) -> Option<(u8, &[u8])>
+    ensures { IfSome result (λ f. IsPart bytes.now f.0 f.1.now) }
+{
+    let (first, rest) = digit_front(bytes)?;
+    let Some((second, behind)) = digit_front(rest) else {
+        return Some((first, rest));
+    };
+    let Some((third, last)) = digit_front(behind) else {
+        return Some((10 * first + second, behind));
+    };
+    let number = 100 * u16::from(first) + 10 * u16::from(second) + u16::from(third);
+    if number > 255 {
+        return None;
+    }
+    Some((number as u8, last))
+}
+
+/// The colour behind its code and a `;` in front, `2;` and three parts or `5;` and one, and what is behind it.
+#[inline(always)]
+fn color_front(bytes: &[u8]) -> Option<(ColorSpec, &[u8])>
+    ensures { IfSome result (λ f. IsColor bytes.now f.0 f.1.now) }
+{
+    let [kind, b';', parts @ ..] = bytes else {
+        return None;
+    };
+    let (first, rest) = part_front(parts)?;
+    if *kind == b'5' {
+        return Some((ColorSpec::PaletteIndex(first), rest));
+    }
+    let [b';', behind @ ..] = rest else {
+        return None;
+    };
+    let (green, next) = part_front(behind)?;
+    let [b';', last @ ..] = next else {
+        return None;
+    };
+    let (blue, end) = part_front(last)?;
+    if *kind != b'2' {
+        return None;
+    }
+    let color = SrgbaTuple(first, green, blue, 255);
+    Some((ColorSpec::TrueColor(color), end))
+}
+
+/// The attribute that gives a colour to the plane of a code, by its first digit.
+#[inline(always)]
+fn painted(digit: u8, color: ColorSpec) -> Option<Sgr>
+    ensures { IfSome result (λ sgr. (plane : Plane) × (digit ≡ plane_byte plane) × (sgr ≡ painted plane color)) }
+{
+    match digit {
+        b'3' => Some(Sgr::Foreground(color)),
+        b'4' => Some(Sgr::Background(color)),
+        b'5' => Some(Sgr::UnderlineColor(color)),
+        _ => None,
+    }
+}
+
+/// The attribute of a sequence in front that gives one colour with semicolons, `38;2;r;g;b` or `38;5;n` before `m`, or with 48 or 58,
+/// and what is behind it. None where no such sequence stands there, or a number has more than three digits.
+#[inline(always)]
+pub fn read_color(bytes: &[u8]) -> Option<(Sgr, &[u8])>
+    ensures read { IfSome result (λ f. (list : List CsiParam) × Reads bytes.now list 109 f.1.now
+        × Actions list false 109 (Styled f.0 ∷ [])) }
+    ensures short { IfSome result (λ f. (length f.1.now ≤ length bytes.now) × (length bytes.now ≤ length f.1.now + 19)) }
+{
+    let [0x1b, b'[', digit, b'8', b';', behind @ ..] = bytes else {
+        return None;
+    };
+    let (color, end) = color_front(behind)?;
+    let [b'm', rest @ ..] = end else {
+        return None;
+    };
+    Some((painted(*digit, color)?, rest))
+}
+
+/// Appends the normal form of the colour in front, and answers how many bytes its sequence has; 0 where none stands there, or without
+/// memory.
+#[inline(always)]
+fn take_color(bytes: &[u8], out: &mut TextBuffer) -> usize
+    ensures normal { 0 < result
+        → (text : List ℕ) × IsNormal (take result bytes.now) text × (out.new ≡ out.old ++ text) }
+    ensures none { result ≡ 0 → out.new ≡ out.old }
+    ensures within { result ≤ length bytes.now }
+    ensures short { result ≤ 48 }
+{
+    let Some((sgr, rest)) = read_color(bytes) else {
+        return 0;
+    };
+    let mut text = Text::new();
+    text.push_str("\x1b[");
+    sgr.write_to(&mut text);
+    match out.push_text(&text) {
+        Ok(()) => bytes.len() - rest.len(),
+        Err(_) => 0,
+    }
+}
+
+/// Appends the normal form of a new sequence in front where it is read at a glance, as that of a position or a colour, which is kept; how
+/// many bytes the sequence has, 0 where neither stands there, or without memory.
+#[inline(never)]
+pub fn take_simple(memo: &mut Memo<Normal>, bytes: &[u8], out: &mut TextBuffer) -> usize
+    requires { AreKnown IsNormal memo.old.slots.items }
+    ensures normal { 0 < result
+        → (text : List ℕ) × IsNormal (take result bytes.now) text × (out.new ≡ out.old ++ text) }
+    ensures none { result ≡ 0 → out.new ≡ out.old }
+    ensures within { result ≤ length bytes.now }
+    ensures short { result ≤ 48 }
+    ensures known { AreKnown IsNormal memo.new.slots.items }
+{
+    let before = out.as_slice().len();
+    let len = take_color(bytes, out);
+    if len == 0 {
+        return take_position(bytes, out);
+    }
+    let (_, text) = out.as_slice().split_at(before);
+    memo.keep(bytes, len, text);
+    len
+}

@@ -4,12 +4,11 @@ use Rattle.csicodec_tokens.specs.Sequence.{Seq}
 use Rattle.csicodec_actions.specs.Actions as action
 use Rattle.csicodec_parser.specs.ActionOf.{action_of}
 use Rattle.csicodec_clean.specs.Styled.{is_open, kept}
-use Rattle.csicodec_clean.proofs.Glances.{front_read}
 use Rattle.csicodec_clean.proofs.notes.Room.take_new.Goals as goal
 
 pub returns-then-moved-gt0-clause-within : goal.returns-then-moved-gt0-clause-within
 returns-then-moved-gt0-clause-within c =
-    let all = ap length c.near-front.ensures in
+    let all = ap length c.near.ensures in
     let few = length-take c.args.limit c.args.bytes.now in
     (omega (arith, c.position_len-moved.ensures.within, all, few), omega (arith, c.position_len-moved.ensures.within, all, few))
 
@@ -18,20 +17,20 @@ returns-then-moved-gt0-clause-left c = λ some.
     let moved = c.position_len-moved.result in
     let bytes = c.args.bytes.now in
     let (list, final, to, seq, are, is) = c.position_len-moved.ensures.own some in
-    let all = ap length c.near-front.ensures in
+    let all = ap length c.near.ensures in
     let few = length-take c.args.limit bytes in
     let short : moved ≤ c.args.limit = omega (arith, c.position_len-moved.ensures.within, all, few) in
-    let front = ap (λ (l : List ℕ). take moved l) c.near-front.ensures ∙ take-take moved c.args.limit bytes short in
+    let front = ap (λ (l : List ℕ). take moved l) c.near.ensures ∙ take-take moved c.args.limit bytes short in
     (action.Cursor to ∷ [], (list, final, subst (λ (l : List ℕ). Seq l list final) front seq, are), refl, sym (append-nil c.args.out.now.items))
 
 pub keep-requires-clause-sequence : goal.keep-requires-clause-sequence
 keep-requires-clause-sequence c = c.in_ok-len.ensures.read (omega (arith, c.if-len-eq0.false))
 
-pub returns-in_ok-keep-clause-left : goal.returns-in_ok-keep-clause-left
-returns-in_ok-keep-clause-left c = λ some.
+pub returns-clause-left : goal.returns-clause-left
+returns-clause-left c = λ some.
     let actions = c.read.new.self.actions.items in (
       map action_of actions,
       c.in_ok-len.ensures.read some,
       c.is_open-after.ensures ∙ ap (λ l. is_open c.args.styled (kept c.args.depth (map action_of l))) c.deref-2.ensures.value,
-      ?,
+      rw c.deref.ensures.value at c.in_ok-append_styles.ensures,
     )

@@ -122,10 +122,9 @@ fn take_color(bytes: &[u8], out: &mut TextBuffer) -> usize
     }
 }
 
-/// Appends the normal form of a new sequence in front where it is read at a glance, as that of a position or a colour, which is kept; how
-/// many bytes the sequence has, 0 where neither stands there, or without memory.
+/// The same, and the sequence is kept.
 #[inline(never)]
-pub fn take_simple(memo: &mut Memo<Normal>, bytes: &[u8], out: &mut TextBuffer) -> usize
+fn keep_color(memo: &mut Memo<Normal>, bytes: &[u8], out: &mut TextBuffer) -> usize
     requires { AreKnown IsNormal memo.old.slots.items }
     ensures normal { 0 < result
         → (text : List ℕ) × IsNormal (take result bytes.now) text × (out.new ≡ out.old ++ text) }
@@ -136,10 +135,28 @@ pub fn take_simple(memo: &mut Memo<Normal>, bytes: &[u8], out: &mut TextBuffer) 
 {
     let before = out.as_slice().len();
     let len = take_color(bytes, out);
-    if len == 0 {
-        return take_position(bytes, out);
+    if len > 0 {
+        let (_, text) = out.as_slice().split_at(before);
+        memo.keep(bytes, len, text);
     }
-    let (_, text) = out.as_slice().split_at(before);
-    memo.keep(bytes, len, text);
     len
+}
+
+/// Appends the normal form of a new sequence in front where it is read at a glance, as that of a position or a colour, which is kept; how
+/// many bytes the sequence has, 0 where neither stands there, or without memory.
+#[inline(always)]
+pub fn take_simple(memo: &mut Memo<Normal>, bytes: &[u8], out: &mut TextBuffer) -> usize
+    requires { AreKnown IsNormal memo.old.slots.items }
+    ensures normal { 0 < result
+        → (text : List ℕ) × IsNormal (take result bytes.now) text × (out.new ≡ out.old ++ text) }
+    ensures none { result ≡ 0 → out.new ≡ out.old }
+    ensures within { result ≤ length bytes.now }
+    ensures short { result ≤ 48 }
+    ensures known { AreKnown IsNormal memo.new.slots.items }
+{
+    let moved = take_position(bytes, out);
+    if moved > 0 {
+        return moved;
+    }
+    keep_color(memo, bytes, out)
 }

@@ -1,6 +1,6 @@
 -- What stands behind a number is read by its form as what it is written of.
 use Rattle.std.proofs.Common.{◌≡◌, ℕ, List, [], ◌∷◌, ◌++◌, Option, None, Some, refl, sym, ap, ◌∙◌, inl, inr, subst}
-use Rattle.std.specs.Prelude.{◌==◌, ◌&&◌, Bool, true, false, not, option_map}
+use Rattle.std.specs.Prelude.{◌==◌, true, false, not, option_map}
 use Rattle.std.proofs.lemmas.Bool.{and_from, and_parts, cases_Bool, eqb-true, not-true, not_from_false}
 use Rattle.std.proofs.lemmas.Option.{same_Some}
 use Rattle.std.proofs.lemmas.Slice.Eq.{bytes_eq-Decides}

@@ -1,7 +1,7 @@
 -- Where the first `;` of a text stands, and what stands behind a number that a content begins with.
-use Rattle.std.proofs.Common.{◌≡◌, ℕ, suc, ◌+◌, ◌-◌, ◌<◌, ◌≤◌, List, [], ◌∷◌, ◌++◌, Option, None, Some, refl, sym, ap, ◌∙◌, inl, inr, length, take, drop, arith}
-use Rattle.std.specs.Prelude.{◌==◌, ◌&&◌, Bool, true, false, not, option_map, position}
-use Rattle.std.specs.List.{position_from, position_or_len}
+use Rattle.std.proofs.Common.{◌≡◌, ℕ, suc, ◌+◌, ◌-◌, ◌≤◌, List, [], ◌∷◌, ◌++◌, None, Some, refl, sym, ap, ◌∙◌, inl, inr, length, take, drop, arith}
+use Rattle.std.specs.Prelude.{◌==◌, Bool, true, false, not, option_map, position}
+use Rattle.std.specs.List.{position_from}
 use Rattle.std.specs.Cmp.Lexicographic.{pointwise}
 use Rattle.std.proofs.lemmas.Bool.{and_from, and_parts, cases_Bool, eqb-true, not_from_false}
 use Rattle.std.proofs.lemmas.Iterator.Adapters.{position_from-zero}

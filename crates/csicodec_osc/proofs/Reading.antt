@@ -1,14 +1,14 @@
 -- What a command reads of a content is written as it, and what is written of it is read; and which commands read nothing of
 -- what others are written as.
-use Rattle.std.proofs.Common.{◌≡◌, ℕ, List, [], ◌∷◌, ◌++◌, Option, None, Some, refl, sym, ap, ◌∙◌, inl, inr, subst, append_assoc}
+use Rattle.std.proofs.Common.{◌≡◌, ℕ, List, [], ◌∷◌, ◌++◌, Option, None, Some, refl, sym, ap, ◌∙◌, inl, inr, append_assoc}
 use Rattle.std.specs.Prelude.{◌==◌, ◌&&◌, ◌||◌, Bool, true, false, not, option_and_then}
 use Rattle.std.proofs.lemmas.Bool.{cases_Bool, eq-eqb, eqb-true, not-true}
 use Rattle.std.proofs.lemmas.List.{append_cancel_left}
 use Rattle.std.proofs.lemmas.Option.{option_and_then_some, same_Some}
 use Rattle.csicodec_osc.specs.declared.command.Command.{Command}
 use Rattle.csicodec_osc.specs.Commands.{form, number}
-use Rattle.csicodec_osc.specs.Forms.{Form, OneText, Message, Several, TwoTexts, TextAsked}
-use Rattle.csicodec_osc.specs.Osc.{Ask, Body, Both, Tail, begins_tail, first_is, fits, is_message, tail_of, tail_text}
+use Rattle.csicodec_osc.specs.Forms.{Form, Message}
+use Rattle.csicodec_osc.specs.Osc.{Body, Tail, first_is, fits, is_message, tail_of, tail_text}
 use Rattle.csicodec_osc.specs.Private.Reading.{behind, read_body, read_by}
 use Rattle.csicodec_osc.proofs.Bodies.{body-is, body-of}
 

@@ -4,7 +4,7 @@ use Rattle.std.specs.Option.{option_or}
 use Rattle.csicodec_osc.specs.declared.command.Command.{Command}
 use Rattle.csicodec_osc.specs.Commands.{form, number}
 use Rattle.csicodec_osc.specs.Forms.{Form, OneText, Message, Several, TwoTexts, TextAsked}
-use Rattle.csicodec_osc.specs.Osc.{Ask, Body, Both, Known, Said, Tail, Unknown, asked, is_message}
+use Rattle.csicodec_osc.specs.Osc.{Ask, Body, Both, Known, Said, Tail, asked, is_message}
 
 -- what stands behind a number, where the content begins with it
 abbrev pub behind : List ℕ → List ℕ → Option (Option (List ℕ))

@@ -1,4 +1,3 @@
-use Rattle.csicodec_osc.specs.Osc.{written}
 use Rattle.csicodec_osc.proofs.Table.{one}
 use Rattle.csicodec_osc.proofs.laws.exact.Goals as goal
 

@@ -1,4 +1,4 @@
-use Rattle.std.proofs.Common.{◌∙◌, ◌<◌, length, refl, sym, arith}
+use Rattle.std.proofs.Common.{◌∙◌, arith}
 use Rattle.csicodec_osc.specs.declared.command.TheConstants.{COMMANDS}
 use Rattle.csicodec_osc.proofs.Table.{next-read, none-left, none-says, says}
 use Rattle.csicodec_osc.proofs.osc.Osc.read.Goals as goal

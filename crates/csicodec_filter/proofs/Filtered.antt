@@ -84,15 +84,6 @@ module _ (Writes : List ℕ → List ℕ → Type 0) where
   by_control (Some final) k bytes text list h w = rw h.0 w
   by_control None _ bytes text list h w = w
 
-  -- one sequence more, in front of what is left
-  pub passed_one : (limit : ℕ) (m n : Mode) (bytes rest text more : List ℕ) (parts : List Part) (len : ℕ) → AreFirstParts limit m bytes parts rest n → AreWritten Writes parts text
-      → IsOne (take len rest) → len ≤ limit → len ≤ length rest → Writes (take len rest) more
-      → AreFirstParts limit m bytes (parts ++ part kind.Csi (take len rest) ∷ []) (drop len rest) mode.Text × AreWritten Writes (parts ++ part kind.Csi (take len rest) ∷ []) (text ++ more)
-  passed_one limit m n bytes rest text more parts len first written one short within w = (
-    parts_on limit parts (part kind.Csi (take len rest) ∷ []) m bytes rest (drop len rest) n mode.Text first (one_first limit n rest len one short within),
-    written_on parts (part kind.Csi (take len rest) ∷ []) text more written (more, [], sym (append-nil more), w, refl),
-  )
-
   -- what is kept of a span, where normal forms are written
   pub kept_span : (control : Option ℕ) (k : Kind) (bytes text back : List ℕ) (list : List CsiParam) → MatchOption control (k ≢ kind.Csi) (λ final. (k ≡ kind.Csi) × Seq bytes list final)
       → MatchOption control (text ≡ bytes) (λ final. Writes bytes text) → back ≡ text → ((b t : List ℕ) → Writes b t → NormalisesTo b t) → IfSome control (λ final. NormalisesTo bytes back × IsOne bytes)
@@ -208,10 +199,6 @@ module _ (wanted : Bool) where
     first = one_first limit mode.Text bytes len normal.1 short within;
     written = (text, [], sym (append-nil text), (is, normal), refl);
   }
-
-  -- nothing yet
-  pub none_passes : (limit : ℕ) (m : Mode) (bytes : List ℕ) → PassesFront wanted limit m bytes [] bytes m
-  none_passes limit m bytes = record { parts = []; first = (refl, refl); written = refl }
 
   -- some, and then more
   pub passes_both : (limit : ℕ) (m n a : Mode) (bytes mid rest s t : List ℕ) → PassesFront wanted limit m bytes s mid n → PassesFront wanted limit n mid t rest a → PassesFront wanted limit m bytes (s ++ t) rest a

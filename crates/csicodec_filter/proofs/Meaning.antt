@@ -1,17 +1,15 @@
 -- What a filter writes, cut as a stream once more.
-use Rattle.std.proofs.Common.{◌≡◌, ◌≢◌, ℕ, ◌+◌, ◌<◌, ◌≤◌, ◌⊎◌, List, [], ◌∷◌, ◌++◌, false, length, take, refl, sym, ap, subst, ◌∙◌, inl, inr, append_assoc, append-nil, arith}
+use Rattle.std.proofs.Common.{◌≡◌, ◌≢◌, ℕ, ◌+◌, ◌<◌, ◌≤◌, ◌⊎◌, List, [], ◌∷◌, ◌++◌, false, length, refl, sym, ap, subst, ◌∙◌, inl, inr, append_assoc, append-nil, arith}
 use Rattle.std.proofs.Math.ListN.{get_or-append}
-use Rattle.std.proofs.lemmas.Grind.{flat_map-append}
 use Rattle.std.proofs.lemmas.List.{length-append, take-append-le}
-use Rattle.std.specs.List.{AllByRecursion, flat_map}
+use Rattle.std.specs.List.{flat_map}
 use Rattle.csicodec_tokens.specs.declared.param.CsiParam.{CsiParam}
 use Rattle.csicodec_tokens.specs.declared.reader.ReadError.{ReadError}
 use Rattle.csicodec_tokens.specs.declared.reader.ReadError.TheVariants.{NotCsi, BadByte, NumberTooLarge, Truncated, Memory}
-use Rattle.csicodec_tokens.specs.Sequence.{Seq}
 use Rattle.csicodec_tokens.specs.Fault.{Begins, NoSeq, IsLeast, IsBad, FaultOf, IsMetAt}
 use Rattle.csicodec_actions.specs.Actions.{Action}
 use Rattle.csicodec_parser.proofs.Cuts.{actions_count}
-use Rattle.csicodec_streams.specs.Decoding.{Joins, AreActions, Decodes}
+use Rattle.csicodec_streams.specs.Decoding.{Joins, AreActions}
 use Rattle.csicodec_spans.specs.declared.table.Kind.{Kind}
 use Rattle.csicodec_spans.specs.declared.table.Kind.TheVariants as kind
 use Rattle.csicodec_spans.specs.declared.table.Mode.{Mode}
@@ -235,17 +233,6 @@ run_first limit m bytes (p ∷ run) behind all w =
     ]
 
 -- ---- bytes have actions, and no bytes none
-
-join_none : (ss : Sequences) → Joins [] ss → ss ≡ []
-join_none [] j = refl
-join_none (s ∷ ss) j = absurd (omega (arith, ap length j.2, length-append j.0 j.1, ap length j.3.whole))
-
-means_none : (actions : List Action) → Decodes [] false actions → actions ≡ []
-means_none actions d = by d.sequences (join_none d.sequences d.join) d.each
-  where
-    by : (ss : Sequences) → ss ≡ [] → AreActions ss false actions → actions ≡ []
-    by [] e each = each
-    by (s ∷ ss) e each = absurd cc
 
 sequences_some : (ss : Sequences) (actions : List Action) → AreActions ss false actions → actions ≡ [] → ss ≡ []
 sequences_some [] actions each e = refl

@@ -1,7 +1,7 @@
 -- What went out of a run from a reader to a writer, by what is known of both.
 use Rattle.std.proofs.Common.{◌≡◌, ℕ, Option, None, Some, IfSome, List, [], ◌∷◌, ◌++◌, length, take, refl, subst, sym, ap, ◌∙◌, inl, inr, ⊎_elim, append_assoc, append-nil, arith}
 use Rattle.std.specs.Io.KnownBytes.{Appends, Consumes, IsAtEnd}
-use Rattle.std.proofs.KnownBytes.{Appends-trans, Consumes-nil, Consumes-trans}
+use Rattle.std.proofs.KnownBytes.{Appends-trans, Consumes-trans}
 use Rattle.csicodec_filter.specs.Transform.{Begins, EndsOf, GoesOn, PassesOf, Sends, Transforms}
 
 -- nothing came with the last read
@@ -40,9 +40,6 @@ module _ {S : Type 0} (P : PassesOf S) (E : EndsOf S) (s : S) where
   pub went : (read more text : List ℕ) (last : S) (i j k w x : Option (List ℕ)) → Consumes i j read → Consumes j k more → P s read text last → Appends w x text → Went i k w x
   went read more text last i j k w x consumed later passed written =
       (read, more, text, Consumes-trans i j k read more consumed later, ([], inl (last, subst (λ (t : List ℕ). P s read t last) (sym (append-nil text)) passed)), written)
-
-  pub went_all : (read text : List ℕ) (last : S) (i j w x : Option (List ℕ)) → Consumes i j read → P s read text last → Appends w x text → Went i j w x
-  went_all read text last i j w x consumed passed written = went read [] text last i j j w x consumed (Consumes-nil j) passed written
 
   -- some of a chunk's text
   pub went_some : (read text more sent unsent : List ℕ) (last : S) (i k w x y : Option (List ℕ)) → Consumes i k read → P s read (text ++ more) last → Appends w x text

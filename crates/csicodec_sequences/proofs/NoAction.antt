@@ -10,7 +10,7 @@ use Rattle.csicodec_names.proofs.Coded.{is_number-pos}
 use Rattle.csicodec_names.specs.Numbered.{is_number}
 use Rattle.csicodec_actions.specs.Actions.{Action}
 use Rattle.csicodec_actions.specs.Rows as actions
-use Rattle.csicodec_actions.specs.Rows.{Byte, Number, One, can_end, fits, given, gives, has_shape}
+use Rattle.csicodec_actions.specs.Rows.{Byte, Number, One, can_end, given, gives, has_shape}
 use Rattle.csicodec_actions.proofs.Found.{guarded, map-some}
 use Rattle.csicodec_sequences.specs.declared.row.Slot.{Slot}
 use Rattle.csicodec_sequences.specs.Parts.{behind_separator, is_intermediate, is_marker, without_intermediate, without_marker}
@@ -85,13 +85,6 @@ at-nothing true ss vs e = e
 
 nothing-read : (behind : Bool) (ss : List Slot) (vs : List ℕ) → slots_apart [] ss ≡ true → ReadsAt behind ss [] vs → ⊥
 nothing-read behind ss vs h e = slots-apart [] ss [] [] vs h refl (at-nothing behind ss vs e)
-
-unequal : (m n : ℕ) → m ≡ n → not (m == n) ≡ true → ⊥
-unequal m n same h = go (m == n) (eq-eqb m n same) h
-  where
-    go : (b : Bool) → b ≡ true → not b ≡ true → ⊥
-    go true e h = cc
-    go false e h = cc
 
 -- a byte other than `;` is read by no slot
 other-byte : (behind : Bool) (ss : List Slot) (b : ℕ) (body : List CsiParam) (vs : List ℕ) → (b == 59) ≡ false → ReadsAt behind ss (P b ∷ body) vs → ⊥

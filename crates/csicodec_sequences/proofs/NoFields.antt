@@ -10,7 +10,7 @@ use Rattle.csicodec_tokens.specs.Fields.{fields_of, with_field}
 use Rattle.csicodec_names.proofs.Coded.{is_number-pos}
 use Rattle.csicodec_actions.specs.Actions.{Action}
 use Rattle.csicodec_actions.specs.FieldRows as fields
-use Rattle.csicodec_actions.specs.FieldRows.{This, Empty, End, Maybe, There, Must, Or, Rest, FieldRow, ahead_of_byte, behind, behind_byte, first, fits, given, gives, have_shape, is_there}
+use Rattle.csicodec_actions.specs.FieldRows.{This, Empty, End, There, Must, FieldRow, ahead_of_byte, behind, behind_byte, first, fits, given, gives, have_shape, is_there}
 use Rattle.csicodec_actions.proofs.Found.{guarded}
 use Rattle.csicodec_sequences.specs.declared.row.Slot.{Slot}
 use Rattle.csicodec_sequences.specs.Parts.{is_marker, split_field, with_front, without_intermediate, without_marker}

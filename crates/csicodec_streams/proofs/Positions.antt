@@ -4,7 +4,7 @@ use Rattle.std.proofs.Math.Seq.{take-append_seam}
 use Rattle.std.proofs.lemmas.Fmt.{decimal_digit}
 use Rattle.std.proofs.lemmas.List.{length-append, length-take, take-append-drop, take_all}
 use Rattle.std.specs.Fmt.{decimal}
-use Rattle.csicodec_tokens.specs.Digits.{AreDigits, IsDigit}
+use Rattle.csicodec_tokens.specs.Digits.{AreDigits}
 use Rattle.csicodec_tokens.specs.Sequence.{Seq}
 use Rattle.csicodec_tokens.proofs.Decimal.{three_digits, two_digits}
 use Rattle.csicodec_tokens.proofs.Printed.{printed}
@@ -58,15 +58,6 @@ number_of a [] low high digits few = one_digit a low high
 number_of a (b ∷ []) low high digits few = more_digits a b low high digits.0.0 digits.0.1
 number_of a (b ∷ c ∷ []) low high digits few = most_digits a b c low high digits.0.0 digits.0.1 digits.1.0.0 digits.1.0.1
 number_of a (b ∷ c ∷ d ∷ ds) low high digits few = absurd (omega (arith, few))
-
-pub digits_of_one : (xs : List ℕ) → 1 ≤ length xs → IsDigit (get_or xs 0 0) → AreDigits (take 1 xs)
-digits_of_one [] some d = absurd (omega arith)
-digits_of_one (x ∷ xs) some d = (d, tt)
-
-pub digits_of_two : (xs : List ℕ) → 2 ≤ length xs → IsDigit (get_or xs 0 0) → IsDigit (get_or xs 1 0) → AreDigits (take 2 xs)
-digits_of_two [] some d e = absurd (omega arith)
-digits_of_two (x ∷ []) some d e = absurd (omega (arith, some))
-digits_of_two (x ∷ y ∷ xs) some d e = (d, (e, tt))
 
 pub number_front : (xs : List ℕ) (n : ℕ) → 1 ≤ length xs → 49 ≤ get_or xs 0 0 → get_or xs 0 0 ≤ 57 → n ≤ 2 → AreDigits (take n (take (length xs - 1) (drop 1 xs))) → IsNumber (take (1 + n) xs)
 number_front xs n some low high few digits =

@@ -6,7 +6,7 @@ use Rattle.csicodec_tokens.specs.declared.param.CsiParam.{CsiParam}
 use Rattle.csicodec_spans.specs.declared.table.Kind.{Kind}
 use Rattle.csicodec_spans.specs.declared.table.Kind.TheVariants as kind
 use Rattle.csicodec_spans.specs.declared.table.Mode.{Mode}
-use Rattle.csicodec_spans.specs.Parts.{Cuts, IsMaximal, IsSequence, IsUnsure}
+use Rattle.csicodec_spans.specs.Parts.{Cuts, IsMaximal, IsSequence}
 use Rattle.csicodec_spans.proofs.Spanned.{cut_parts, cut_some}
 use Rattle.csicodec_events.specs.declared.event.Event.{Event}
 use Rattle.csicodec_events.specs.declared.event.Event.TheVariants as event
@@ -44,11 +44,6 @@ span_told e bytes t list after m k x text rest limit none is front back on cuts 
       some = omega (arith, some, ap length front');
       further = omega (arith, some, none, ap length front');
     })
-
--- nothing is sure of the bytes, or they are the beginning of a character
-pub unsure_waits : (e : Events) (bytes : List ℕ) → e.looked ≡ 0 → (BeginsCsi bytes → ⊥)
-    → IsUnsure e.limit e.mode bytes → HasWaited e bytes e
-unsure_waits e bytes none other unsure = record { waits = inr (inr (other, unsure, refl)); again = λ more. inl none; limit = refl }
 
 -- ---- text
 

@@ -1,5 +1,5 @@
 -- From what stands in front to what a step promises: the parts, progress, and that the next call can follow.
-use Rattle.std.proofs.Common.{◌≡◌, ℕ, ◌+◌, ◌*◌, ◌<◌, ◌≤◌, List, [], ◌∷◌, ◌++◌, length, refl, sym, ap, subst, ◌∙◌, inl, inr, append_assoc, Option, Some, None, IfSome, MatchOption, arith}
+use Rattle.std.proofs.Common.{◌≡◌, ℕ, ◌+◌, ◌*◌, ◌<◌, ◌≤◌, List, [], ◌∷◌, ◌++◌, length, sym, ap, subst, ◌∙◌, inl, append_assoc, Option, Some, None, IfSome, MatchOption, arith}
 use Rattle.std.proofs.lemmas.List.{length-append, length-take, length-drop, take-append-drop}
 use Rattle.csicodec_tokens.specs.declared.param.CsiParam.{CsiParam}
 use Rattle.csicodec_spans.specs.declared.table.Mode.{Mode}
@@ -7,7 +7,7 @@ use Rattle.csicodec_events.specs.declared.event.Event.{Event}
 use Rattle.csicodec_events.specs.declared.event.Event.TheVariants as event
 use Rattle.csicodec_events.specs.declared.event.Events.{Events}
 use Rattle.csicodec_events.specs.declared.event.Told.{Told}
-use Rattle.csicodec_events.specs.Events.{BeginsCsi, GoesWrong, IsControl, IsCsi, IsOpen, IsTold, IsWrong, before_stop, from_stop, onward, stop}
+use Rattle.csicodec_events.specs.Events.{IsCsi, IsTold, before_stop, from_stop, onward, stop}
 use Rattle.csicodec_events.specs.Private.Steps.{HasTold, HasWaited}
 
 -- a sequence stops behind what was looked at, and behind ESC and `[`
@@ -73,70 +73,6 @@ csi_further e bytes list final text rest after c =
       parts = h.whole ∙ ap (λ (x : List ℕ). before_stop e bytes ++ x) c.stands ∙ sym (append_assoc (before_stop e bytes) (c.last ∷ []) rest) ∙ ap (λ (x : List ℕ). x ++ rest) (sym c.whole);
       some = omega (arith, long, length-append (before_stop e bytes) (c.last ∷ []));
       further = omega (arith, s.0, place, long, length-append (before_stop e bytes) (c.last ∷ []));
-    }
-
-goes_further : (e : Events) (bytes over behind text rest : List ℕ) (m : Mode)
-    → bytes ≡ over ++ behind → e.looked ≤ length over → 2 ≤ length over
-    → GoesWrong over behind text rest m → IsFurther e bytes text rest
-goes_further e bytes over [] text rest m whole looked two g = record {
-  parts = whole ∙ rw (g.0, g.1) refl;
-  some = omega (arith, two, ap length g.0);
-  further = omega (arith, looked, two, ap length g.0);
-}
-goes_further e bytes over (b ∷ more) text rest m whole looked two (inl g) = record {
-  parts = whole ∙ sym (append_assoc over (b ∷ []) more) ∙ rw (g.1, g.2) refl;
-  some = omega (arith, two, ap length g.1, length-append over (b ∷ []));
-  further = omega (arith, looked, two, ap length g.1, length-append over (b ∷ []));
-}
-goes_further e bytes over (b ∷ more) text rest m whole looked two (inr g) = record {
-  parts = whole ∙ rw (g.1, g.2) refl;
-  some = omega (arith, two, ap length g.1);
-  further = omega (arith, looked, two, ap length g.1);
-}
-
-pub wrong_further : (e : Events) (bytes text rest : List ℕ) (after : Events)
-    → stop e.looked bytes ≤ length bytes
-    → IsWrong e (before_stop e bytes) (from_stop e bytes) text rest after
-    → IsFurther e bytes text rest
-wrong_further e bytes text rest after within w =
-    let h = halves e bytes in
-    let s = stop_behind e.looked bytes in
-    let place = h.place within in
-    goes_further e bytes (before_stop e bytes) (from_stop e bytes) text rest w.next h.whole (omega (arith, s.0, place)) (omega (arith, s.1, place)) w.goes
-
-pub control_told : (e : Events) (bytes : List ℕ) (t : Told) (list : List CsiParam) (after : Events)
-    (b : ℕ) → t.event ≡ event.Control b → BeginsCsi bytes
-    → IsControl e (before_stop e bytes) (from_stop e bytes) b bytes t.bytes.now t.rest.now after
-    → HasTold e bytes t list after
-control_told e bytes t list after b is begins c =
-    let h = halves e bytes in
-    let s = stop_behind e.looked bytes in
-    let some : 0 < length (from_stop e bytes) = omega (arith, ap length c.stands) in
-    let place = h.some some in
-    let looked : after.looked ≡ length (before_stop e bytes) + 1 = ap (λ (a : Events). a.looked) c.looked in
-    let same = ap length c.stays in
-    record {
-      tells = subst (λ (y : Event). IsTold y e bytes t.bytes.now t.rest.now list after) (sym is) (begins, c);
-      parts = sym c.stays ∙ ap (λ (x : List ℕ). x ++ t.rest.now) (sym c.none);
-      progress = omega (arith, looked, same, s.0, place, some, h.count);
-      again = inr (subst BeginsCsi (sym c.stays) begins, omega (arith, looked, same, some, h.count));
-      limit = ap (λ (a : Events). a.limit) c.looked;
-    }
-
--- ---- what waits
-
-longer : (bytes more : List ℕ) → BeginsCsi bytes → BeginsCsi (bytes ++ more)
-longer bytes more b = (b.0 ++ more, ap (λ (x : List ℕ). x ++ more) b.1)
-
-pub open_waits : (e : Events) (bytes : List ℕ) (after : Events) → BeginsCsi bytes
-    → IsOpen e (before_stop e bytes) (from_stop e bytes) after → HasWaited e bytes after
-open_waits e bytes after begins o =
-    let h = halves e bytes in
-    let looked : after.looked ≡ length (before_stop e bytes) = ap (λ (a : Events). a.looked) o.looked in
-    record {
-      waits = inl (begins, o);
-      again = λ more. inr (longer bytes more begins, omega (arith, looked, h.count, length-append bytes more));
-      limit = ap (λ (a : Events). a.limit) o.looked;
     }
 
 -- ---- clause by clause

@@ -1,19 +1,18 @@
 -- What is told where a sequence stops, by the byte there.
-use Rattle.std.proofs.Common.{◌≡◌, ℕ, ◌+◌, ◌-◌, ◌<◌, ◌≤◌, true, false, List, [], ◌∷◌, ◌++◌, length, take, drop, refl, sym, ap, subst, ◌∙◌, inl, inr, append_assoc, append-nil, slice_index_or, arith}
+use Rattle.std.proofs.Common.{◌≡◌, ℕ, ◌+◌, ◌-◌, ◌<◌, ◌≤◌, false, List, [], ◌∷◌, ◌++◌, length, take, drop, refl, sym, ap, subst, ◌∙◌, append_assoc, append-nil, slice_index_or, arith}
 use Rattle.std.proofs.Math.Seq.{take-append_seam, drop-append_seam}
 use Rattle.std.proofs.lemmas.List.{length-append, length-take, length-drop, take-append-drop}
 use Rattle.csicodec_tokens.specs.declared.param.CsiParam.{CsiParam}
 use Rattle.csicodec_tokens.specs.Sequence.{Reads, Seq}
-use Rattle.csicodec_spans.specs.declared.table.Mode.{Mode}
 use Rattle.csicodec_spans.specs.declared.table.Mode.TheVariants as mode
 use Rattle.csicodec_spans.proofs.Sequences.{short, whole}
 use Rattle.csicodec_events.specs.declared.event.Event.TheVariants as event
 use Rattle.csicodec_events.specs.declared.event.Events.{Events}
 use Rattle.csicodec_events.specs.declared.event.Told.{Told}
-use Rattle.csicodec_events.specs.Events.{BeginsCsi, GoesWrong, IsCsi, IsWrong, IsWrongAt, before_stop, from_stop, is_control, is_final, onward, stop, without_controls}
-use Rattle.csicodec_events.specs.Private.Steps.{HasTold, HasWaited}
+use Rattle.csicodec_events.specs.Events.{BeginsCsi, IsCsi, IsWrongAt, before_stop, from_stop, is_control, onward, stop, without_controls}
+use Rattle.csicodec_events.specs.Private.Steps.{HasTold}
 use Rattle.csicodec_events.proofs.Sequences.{at_once}
-use Rattle.csicodec_events.proofs.Steps.{control_told, csi_further, halves, open_waits, told_on, wrong_further}
+use Rattle.csicodec_events.proofs.Steps.{csi_further, told_on}
 
 -- all of the bytes are read
 pub whole_reads : (read bytes : List ℕ) (list : List CsiParam) (final : ℕ)
@@ -83,51 +82,7 @@ csi_told e bytes list b final more t after begins stands low seq is front back o
     } in
     told_on e bytes t list after mode.Text (event.Csi final) is on (begins, here) (csi_further e bytes list final t.bytes.now t.rest.now after here)
 
-pub control_stops : (e : Events) (bytes : List ℕ) (list : List CsiParam) (b : ℕ) (more : List ℕ)
-    (t : Told) (after : Events) → BeginsCsi bytes → from_stop e bytes ≡ b ∷ more
-    → stop e.looked bytes < e.limit → is_control b ≡ true → t.event ≡ event.Control b
-    → t.bytes.now ≡ [] → t.rest.now ≡ bytes → after ≡ onward e e.mode (stop e.looked bytes + 1)
-    → HasTold e bytes t list after
-control_stops e bytes list b more t after begins stands low control is none rest on =
-    let n = next_place bytes (stop e.looked bytes) b more stands in
-    control_told e bytes t list after b is begins (record {
-      more = more;
-      stands = stands;
-      control = control;
-      short = omega (arith, n.len, low);
-      none = none;
-      stays = rest;
-      looked = on ∙ ap (λ (k : ℕ). onward e e.mode (k + 1)) (sym n.len);
-    })
-
 -- ---- what goes wrong
-
-pub wrong_told : (e : Events) (bytes : List ℕ) (t : Told) (list : List CsiParam) (after : Events)
-    (m : Mode) (n : ℕ) → stop e.looked bytes ≤ length bytes → BeginsCsi bytes
-    → IsWrongAt e.limit (before_stop e bytes) (from_stop e bytes) → t.event ≡ event.Other
-    → t.bytes.now ≡ take n bytes → t.rest.now ≡ drop n bytes → after ≡ onward e m 0
-    → GoesWrong (before_stop e bytes) (from_stop e bytes) (take n bytes) (drop n bytes) m
-    → HasTold e bytes t list after
-wrong_told e bytes t list after m n within begins why is front back on goes =
-    let here : IsWrong e (before_stop e bytes) (from_stop e bytes) t.bytes.now t.rest.now after = record { next = m; why = why; goes = rw (front, back) goes; on = on } in
-    told_on e bytes t list after m event.Other is on (inr (begins, here)) (wrong_further e bytes t.bytes.now t.rest.now after within here)
-
-pub goes_final : (bytes : List ℕ) (at b : ℕ) (more : List ℕ) → drop at bytes ≡ b ∷ more
-    → is_final b ≡ true
-    → GoesWrong (take at bytes) (drop at bytes) (take (at + 1) bytes)
-    (drop (at + 1) bytes) mode.Text
-goes_final bytes at b more e final =
-    let n = next_place bytes at b more e in
-    subst (λ (x : List ℕ). GoesWrong (take at bytes) x (take (at + 1) bytes) (drop (at + 1) bytes) mode.Text) (sym e) (inl (final, n.front, n.back, refl))
-
-pub goes_byte : (bytes : List ℕ) (at b : ℕ) (more : List ℕ) → drop at bytes ≡ b ∷ more
-    → is_final b ≡ false
-    → GoesWrong (take at bytes) (drop at bytes) (take at bytes) (drop at bytes) mode.BadCsi
-goes_byte bytes at b more e other = subst (λ (x : List ℕ). GoesWrong (take at bytes) x (take at bytes) (drop at bytes) mode.BadCsi) (sym e) (inr (other, refl, e, refl))
-
-pub goes_end : (bytes : List ℕ) (at : ℕ) → drop at bytes ≡ []
-    → GoesWrong (take at bytes) (drop at bytes) (take at bytes) (drop at bytes) mode.BadCsi
-goes_end bytes at e = subst (λ (x : List ℕ). GoesWrong (take at bytes) x (take at bytes) (drop at bytes) mode.BadCsi) (sym e) (refl, e, refl)
 
 pub too_long : (limit : ℕ) (over behind : List ℕ) → limit ≤ length over
     → IsWrongAt limit over behind
@@ -142,16 +97,3 @@ pub no_sequence : (limit : ℕ) (bytes : List ℕ) (at b : ℕ) (more : List ℕ
 no_sequence limit bytes at b more e other none =
     let n = next_place bytes at b more e in
     subst (λ (x : List ℕ). IsWrongAt limit (take at bytes) x) (sym e) (λ lt. (other, λ list final s. none list final (subst (λ (x : List ℕ). Seq (without_controls x) list final) (sym n.front) s)))
-
--- ---- what waits
-
-pub stops_at_end : (e : Events) (bytes : List ℕ) (after : Events) → BeginsCsi bytes
-    → from_stop e bytes ≡ [] → stop e.looked bytes ≤ length bytes → stop e.looked bytes < e.limit
-    → after ≡ onward e e.mode (stop e.looked bytes) → HasWaited e bytes after
-stops_at_end e bytes after begins ends within low on =
-    let place = (halves e bytes).place within in
-    open_waits e bytes after begins (record {
-      ends = ends;
-      short = omega (arith, place, low);
-      looked = on ∙ ap (λ (k : ℕ). onward e e.mode k) (sym place);
-    })

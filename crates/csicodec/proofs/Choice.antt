@@ -9,7 +9,7 @@ use Rattle.csicodec_tokens.specs.Fields.{fields_of}
 use Rattle.csicodec_tokens.specs.declared.param.CsiParam.{CsiParam}
 use Rattle.csicodec_tokens.specs.declared.param.CsiParam.TheVariants.{Integer, P}
 use Rattle.csicodec_actions.specs.Actions.{Action}
-use Rattle.csicodec_actions.specs.FieldRows.{Over, over, no_byte, byte, ahead_of_byte, behind_byte, fields_over, given, read_over, read_fields}
+use Rattle.csicodec_actions.specs.FieldRows.{over, no_byte, byte, ahead_of_byte, behind_byte, fields_over, given, read_over, read_fields}
 use Rattle.csicodec_actions.specs.Rows.{Slot, Byte, Number, One, Before, has_shape, read_by}
 use Rattle.csicodec_actions.specs.Table.Cursor.{cursor_rows, as_cursor}
 use Rattle.csicodec_actions.specs.Table.Device.{device_rows, as_device}
@@ -23,7 +23,6 @@ use Rattle.csicodec_actions.specs.Table.Window.{areas, windows, window_fields, a
 use Rattle.csicodec_actions.specs.Table.{all_subjects, whole}
 use Rattle.csicodec_actions.proofs.Found.{guarded, map-some, one-of}
 use Rattle.csicodec_lists.proofs.AllRows.{AllRows, row-in}
-use Rattle.csicodec_parser.specs.declared.group.Group.{Group}
 use Rattle.csicodec_parser.specs.declared.group.Group.TheVariants as groups
 use Rattle.csicodec_parser.specs.Groups.{dec_group, group, is_byte, plain_group}
 use Rattle.csicodec.specs.WhichRules as rule

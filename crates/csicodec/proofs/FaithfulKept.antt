@@ -1,5 +1,5 @@
 -- What the faithful filter writes for a sequence is read as its actions: before a final of which none stays, no action is special.
-use Rattle.std.proofs.Common.{rules, ◌≡◌, ℕ, List, [], ◌∷◌, ◌++◌, ◌+◌, ◌<◌, ◌≤◌, Bool, true, false, Some, refl, sym, ap, subst, ◌∙◌, inl, inr, arith, drop, length, length-append, take}
+use Rattle.std.proofs.Common.{rules, ◌≡◌, ℕ, List, [], ◌∷◌, ◌+◌, ◌<◌, ◌≤◌, Bool, true, false, Some, refl, sym, ap, subst, ◌∙◌, inl, inr, arith, drop, length, length-append, take}
 use Rattle.std.specs.Prelude.{◌==◌, ◌||◌, ◌-◌, not, slice_get}
 use Rattle.std.specs.List.{AllByRecursion, list_any}
 use Rattle.std.proofs.lemmas.Bool.{cases_Bool, eq-eqb}
@@ -15,12 +15,12 @@ use Rattle.csicodec_actions.specs.Special.{IsSpecial, NoneSpecial}
 use Rattle.csicodec_actions.specs.Table.{table, field_table, texts, whole}
 use Rattle.csicodec_actions.proofs.AllFieldRows.{FieldRowsKeep, fields-keep}
 use Rattle.csicodec_actions.proofs.Found.{one-of}
-use Rattle.csicodec_lists.proofs.AllRows.{AllRows, Keeps, TableKeeps, all-append, no-tokens, row-in, table-keeps, whole-table}
+use Rattle.csicodec_lists.proofs.AllRows.{AllRows, Keeps, all-append, no-tokens, row-in, table-keeps, whole-table}
 use Rattle.csicodec_parser.specs.declared.group.Group.{Group}
 use Rattle.csicodec_parser.specs.declared.group.Group.TheVariants as groups
 use Rattle.csicodec_parser.specs.Groups.{group, has_odd, is_byte, Piece}
 use Rattle.csicodec_parser.specs.Cut.{body, Cut}
-use Rattle.csicodec_parser.specs.Segments.{remainder, Segmented, empty_action, BodyActions, CutActions, ActionsIn, Actions}
+use Rattle.csicodec_parser.specs.Segments.{remainder, empty_action, BodyActions, CutActions, ActionsIn, Actions}
 use Rattle.csicodec_parser.specs.Private.Steps.{actions}
 use Rattle.csicodec_parser.proofs.Cuts.{actions_are}
 use Rattle.csicodec_streams.specs.Decoding.{Decodes}

@@ -1,5 +1,5 @@
 -- Texts of actions, one after the other.
-use Rattle.std.proofs.Common.{ℕ, ◌≡◌, ◌≤◌, List, [], ◌∷◌, ◌++◌, false, length, arith, refl, ap}
+use Rattle.std.proofs.Common.{ℕ, ◌≡◌, ◌≤◌, List, [], ◌∷◌, ◌++◌, false, length, arith, ap}
 use Rattle.std.specs.Prelude.{if◌then◌else◌, OnOk}
 use Rattle.std.specs.Result.{is_ok}
 use Rattle.std.specs.declared.result.Result.{Result}
@@ -23,9 +23,6 @@ each-alone (a ∷ xs) alone = (alone.0.back, each-alone xs alone.1)
 alone-parts : (xs ys : List Action) → AreAlone (xs ++ ys) → AreAlone xs × AreAlone ys
 alone-parts [] ys alone = (tt, alone)
 alone-parts (a ∷ xs) ys alone = let parts = alone-parts xs ys alone.1 in ((alone.0, parts.0), parts.1)
-
-pub encodes-none : Encodes [] []
-encodes-none = record { back = λ alone. record { sequences = []; join = refl; each = refl }; short = omega arith }
 
 pub encodes-each : (xs : List Action) (all : List ℕ) → all ≡ texts xs → Encodes xs all
 encodes-each xs all is = rw is (record { back = λ alone. decodes-each false xs (each-alone xs alone); short = omega arith })

@@ -425,6 +425,3 @@ blank_listed text front other is made h =
       whole = is ∙ ap (λ (l : List ℕ). l ++ 59 ∷ 48 ∷ 109 ∷ []) begin ∙ ap (λ (l : List ℕ). 27 ∷ 91 ∷ l) (sym (append_assoc h.bytes (59 ∷ []) (48 ∷ 109 ∷ [])));
       tail = (h.tail.0, h.bytes, refl, refl, h.tail.2);
     }
-
-pub bare_listed : (text : List ℕ) → text ≡ 27 ∷ 91 ∷ 109 ∷ [] → IsListed forms.Bare text
-bare_listed text is = record { bytes = []; actions = Sgr sgr.Reset ∷ []; whole = is; tail = (refl, refl) }

@@ -1,6 +1,6 @@
 -- A page is markup by its bytes alone.
 use Rattle.std.proofs.Common.{◌≡◌, ◌≢◌, ◌<◌, ◌≤◌, ℕ, Bool, true, false, List, [], ◌∷◌, ◌++◌, inl, inr, Option, Some, None, refl, sym, ap, subst, ◌∙◌, append_assoc, arith}
-use Rattle.std.specs.Prelude.{codes, nat_le, not, ◌==◌, ◌&&◌, ◌||◌, if◌then◌else◌, encode_utf8}
+use Rattle.std.specs.Prelude.{codes, ◌==◌, if◌then◌else◌, encode_utf8}
 use Rattle.std.specs.List.{AllByRecursion, flat_map}
 use Rattle.std.proofs.lemmas.Bool.{eq-eqb, le-leb, ne_eqb}
 use Rattle.std.proofs.lemmas.Bool.Decides.{nat_tests}

@@ -1,5 +1,5 @@
 -- What classes declare is what a style says.
-use Rattle.std.proofs.Common.{◌≡◌, Bool, true, false, List, ◌++◌, Some, None, codes, refl, ap, ◌∙◌, append-nil, ℕ}
+use Rattle.std.proofs.Common.{◌≡◌, Bool, true, false, List, ◌++◌, Some, None, refl, ap, ◌∙◌, append-nil, ℕ}
 use Rattle.std.specs.Prelude.{if◌then◌else◌}
 use Rattle.csicodec_names.specs.declared.color.ColorSpec.{ColorSpec}
 use Rattle.csicodec_names.specs.declared.color.ColorSpec.TheVariants as color

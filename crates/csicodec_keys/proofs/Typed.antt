@@ -1,6 +1,6 @@
 -- A character that is typed is told as text that begins with it.
-use Rattle.std.proofs.Common.{◌≡◌, ◌≢◌, ℕ, ◌+◌, ◌/◌, ◌%◌, ◌<◌, ◌≤◌, ◌⊎◌, List, [], ◌∷◌, ◌++◌, length, refl, sym, ap, ◌∙◌, inl, inr, ⊎_elim, arith, subst, append_assoc, lt-ltb, le-ltb}
-use Rattle.std.specs.Prelude.{Bool, true, false, ◌==◌, ◌&&◌, nat_le}
+use Rattle.std.proofs.Common.{◌≡◌, ◌≢◌, ℕ, ◌/◌, ◌<◌, ◌≤◌, List, [], ◌∷◌, ◌++◌, length, refl, sym, ap, ◌∙◌, inl, inr, ⊎_elim, arith, subst, append_assoc, lt-ltb, le-ltb}
+use Rattle.std.specs.Prelude.{true, false, ◌==◌, ◌&&◌, nat_le}
 use Rattle.std.specs.Char.{encode_utf8}
 use Rattle.std.specs.List.{AllByRecursion}
 use Rattle.std.proofs.lemmas.Bool.{and_parts, cases_Bool, cases_lt, eqb-true, leb-true}
@@ -11,18 +11,15 @@ use Rattle.csicodec_spans.specs.declared.table.Kind.TheVariants as kind
 use Rattle.csicodec_spans.specs.declared.table.Mode.{Mode}
 use Rattle.csicodec_spans.specs.declared.table.Mode.TheVariants as mode
 use Rattle.csicodec_spans.specs.Table.{Answer, More, Sequence, ahead}
-use Rattle.csicodec_spans.specs.Parts.{Allows, AllowsCsi, AreFirstParts, Cuts, IsFirstPart, IsMore, IsSpan, IsUnsureBy, Part, part}
+use Rattle.csicodec_spans.specs.Parts.{Allows, AllowsCsi, AreFirstParts, IsFirstPart, IsMore, IsSpan, IsUnsureBy, Part, part}
 use Rattle.csicodec_spans.proofs.Agrees.{opens, text_goes_on}
 use Rattle.csicodec_spans.proofs.Spanned.{cut_parts}
 use Rattle.csicodec_events.specs.declared.event.Event.{Event}
 use Rattle.csicodec_events.specs.declared.event.Event.TheVariants as told
 use Rattle.csicodec_events.specs.declared.event.Events.{Events}
-use Rattle.csicodec_events.specs.declared.input.Dialect.TheVariants as dialect
-use Rattle.csicodec_events.specs.declared.input.InputEvent.{InputEvent}
 use Rattle.csicodec_events.specs.declared.input.InputEvent.TheVariants as sent
 use Rattle.csicodec_events.specs.Characters.{follows, is_from, is_unfinished, leads}
 use Rattle.csicodec_events.specs.Events.{BeginsCsi, IsHeld, IsText, IsTold, Waits}
-use Rattle.csicodec_events.specs.Input.{Awaits, IsSent}
 use Rattle.csicodec_events.proofs.Fronts.{front}
 use Rattle.csicodec_keys.specs.Sent.{IsTextFront, fresh}
 
@@ -170,9 +167,6 @@ span-text limit b bytes rest text kind.Other a [] other s f = absurd (omega (ari
 span-text limit b bytes rest text kind.Other a (p ∷ ps) other s f = let all = s.all in sym all.0 ∙ first-text limit b bytes f.0 f.1 p other f.2
 
 -- ---- what is told
-
-abbrev IsTyped : List ℕ → InputEvent → List ℕ → Type 0
-IsTyped bytes e text = (e ≡ sent.Output told.Text) × Begins bytes text
 
 -- where text stands in front, with all that it needs
 text-told : (limit a : ℕ) (later more text rest : List ℕ) (after : Events) → IsCharacter (a ∷ later) → IsText (fresh limit) (a ∷ (later ++ more)) text rest after → Begins (a ∷ later) text

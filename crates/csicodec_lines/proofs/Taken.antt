@@ -7,7 +7,7 @@ use Rattle.csicodec_clean.specs.Cleaned.{EndOf, Ends, RuleOf, longest}
 use Rattle.csicodec_clean.specs.Stream.{Takes, start_of}
 use Rattle.csicodec_clean.proofs.Chunks.{ends as at_end, takes_none, takes_on}
 use Rattle.csicodec_lines.specs.declared.lines.Lines.{Lines}
-use Rattle.csicodec_lines.specs.Lines.{AreOf, ByLines, IsWithin, ends_line, joined, joins, lines_from, lines_of}
+use Rattle.csicodec_lines.specs.Lines.{AreOf, ByLines, IsWithin, ends_line, joins, lines_from, lines_of}
 use Rattle.csicodec_lines.specs.Stream.{AreTaken, Ending, Passes, begun, ended}
 use Rattle.csicodec_lines.proofs.Ends.{all_within_on, one_end, one_joins}
 use Rattle.csicodec_lines.proofs.Texts.{ended_on, joined_on, of_on}

@@ -1,10 +1,9 @@
 -- Texts of lines, joined.
-use Rattle.std.proofs.Common.{◌≡◌, ℕ, Bool, false, true, List, [], ◌∷◌, ◌++◌, refl, sym, ap, subst, ◌∙◌, append_assoc, append-nil}
-use Rattle.std.specs.List.{AllByRecursion}
+use Rattle.std.proofs.Common.{◌≡◌, ℕ, Bool, false, List, [], ◌∷◌, ◌++◌, refl, sym, ap, ◌∙◌, append_assoc, append-nil}
 use Rattle.csicodec_clean.specs.Shown.{IsPlain}
 use Rattle.csicodec_clean.specs.Cleaned.{Strips, longest}
 use Rattle.csicodec_clean.specs.Links.{is_linked}
-use Rattle.csicodec_clean.specs.Styled.{IsSafe, IsStyledIn, Item, Shown, StylesIn, is_open, item_texts, links_of, styles_of}
+use Rattle.csicodec_clean.specs.Styled.{IsStyledIn, Shown, StylesIn, is_open, item_texts, links_of, styles_of}
 use Rattle.csicodec_clean.specs.declared.styles.Passing.{Passing}
 use Rattle.csicodec_clean.proofs.Linked.{linked_on}
 use Rattle.csicodec_clean.proofs.Plain.{plain_on, strips_plain}

@@ -1,7 +1,6 @@
 -- The struct of an unknown action, and its tokens.
-use Rattle.std.proofs.Common.{◌≡◌, ◌<◌, ◌≤◌, ◌-◌, ◌++◌, ◌+◌, ℕ, ℤ, List, [], ◌∷◌, Option, None, Some, length, map, take, drop, set, slice_index_or, refl, sym, ap, subst, ◌∙◌, pos, arith}
+use Rattle.std.proofs.Common.{◌≡◌, ◌<◌, ◌≤◌, ◌-◌, ◌++◌, ◌+◌, ℕ, ℤ, List, [], ◌∷◌, Option, None, Some, length, map, take, set, slice_index_or, refl, sym, ap, subst, ◌∙◌, pos, arith}
 use Rattle.std.specs.Prelude.{◌==◌, false, if◌then◌else◌, nat_abs, replicate}
-use Rattle.std.specs.Char.{IsScalar}
 use Rattle.std.specs.List.{All}
 use Rattle.std.proofs.lemmas.List.{drop-replicate, get_or-map, length-map, map-append, take_more, take_more_set}
 use Rattle.std.proofs.lemmas.List.Elements.{All-get_or, All-push}
@@ -61,20 +60,8 @@ none-are params i d low none (x ∷ xs) held same =
 pub same-list : (xs ys : List CsiParam) → map param_of xs ≡ map param_of ys → xs ≡ ys
 same-list xs ys e = sym (tokens-back xs) ∙ ap (map token_at) e ∙ tokens-back ys
 
--- it has the final character, the place and the length, and else zeros
-pub shape : (given : Struct) (params : List Param) (list : List CsiParam) (final : ℕ) → Stands given params (Unspecified list false final) → given ≡ unknown_row given.final_char given.place given.len
-shape given params list final s = subst (λ (g : Struct). g ≡ unknown_row g.final_char g.place g.len) s.0.1 refl
-
 pub final-is : (given : Struct) (params : List Param) (list : List CsiParam) (final : ℕ) → Stands given params (Unspecified list false final) → final ≡ given.final_char
 final-is given params list final s = ap (λ (g : Struct). g.final_char) s.0.1
-
-pub length-is : (given : Struct) (params : List Param) (list : List CsiParam) (final : ℕ) → Stands given params (Unspecified list false final) → length list ≡ given.len
-length-is given params list final s = ap (λ (g : Struct). g.len) s.0.1
-
-pub stands : (given : Struct) (params : List Param) (list : List CsiParam) → given ≡ unknown_row given.final_char given.place given.len → IsScalar given.final_char → All TokenInRange list
-    → map param_of list ≡ take given.len (drop given.place params) → length list ≡ given.len → Stands given params (Unspecified list false given.final_char)
-stands given params list is scalar in_range tokens len =
-    (((in_range, scalar), ap (λ (n : ℕ). unknown_row given.final_char given.place n) len ∙ sym is, tokens), refl)
 
 -- it is of one list, before one final character
 pub one-reading : (given : Struct) (params : List Param) (xs ys : List CsiParam) (final other : ℕ) → Stands given params (Unspecified xs false final) → Stands given params (Unspecified ys false other)

@@ -1,4 +1,4 @@
-use Rattle.std.proofs.Common.{◌≡◌, ◌++◌, append_assoc, rules}
+use Rattle.std.proofs.Common.{append_assoc, rules}
 use Rattle.csicodec_c.proofs.html.whole_page.Goals as goal
 
 pub returns : goal.returns

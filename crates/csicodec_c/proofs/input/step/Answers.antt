@@ -1,10 +1,7 @@
-use Rattle.std.proofs.Common.{◌≡◌, List, refl, ap, inl, inr, ◌∙◌}
-use Rattle.csicodec_tokens.specs.declared.param.CsiParam.{CsiParam}
+use Rattle.std.proofs.Common.{◌≡◌, refl, ap, inl, inr, ◌∙◌}
 use Rattle.csicodec_events.specs.declared.event.Event.{Event}
 use Rattle.csicodec_events.specs.declared.event.Event.TheVariants as event
-use Rattle.csicodec_events.specs.declared.input.InputEvent.{InputEvent}
 use Rattle.csicodec_events.specs.declared.input.InputEvent.TheVariants as input
-use Rattle.csicodec_events.specs.Input.{IsSent}
 use Rattle.csicodec_events.proofs.Forms.{as_output}
 use Rattle.csicodec_c.specs.declared.input.Received.{Received}
 use Rattle.csicodec_c.proofs.Keys.{puts_key, puts_told}

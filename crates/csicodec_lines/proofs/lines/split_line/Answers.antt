@@ -1,4 +1,4 @@
-use Rattle.std.proofs.Common.{◌++◌, length, sym, ap, ◌∙◌, take-append-drop, arith}
+use Rattle.std.proofs.Common.{length, sym, take-append-drop}
 use Rattle.csicodec_lines.proofs.Ends.{all_within, begins_with_end, none_behind}
 use Rattle.csicodec_lines.proofs.lines.split_line.Goals as goal
 

@@ -1,4 +1,4 @@
-use Rattle.std.proofs.Common.{◌++◌, ◌∙◌, [], refl, rules, sym, ap, subst, append_assoc, append-nil, arith}
+use Rattle.std.proofs.Common.{◌++◌, ◌∙◌, [], refl, rules, sym, ap, subst, append_assoc, append-nil}
 use Rattle.csicodec_filter.specs.Transform.{GoesOn}
 use Rattle.csicodec_filter.proofs.Sent.{goes_none, goes_on, none_left}
 use Rattle.csicodec_lines.specs.Stream.{Passes}

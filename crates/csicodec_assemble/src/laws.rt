@@ -9,17 +9,20 @@ ghost use Rattle.csicodec_assemble.specs.Lines.{AreShown, IsRefused, Passes, ass
 ghost use Rattle.csicodec_assemble.specs.Object.{Shows, of_object};
 
 /// An object that shows bytes as `explain --json` does stands for them.
+#[tactic(auto, using(crate::proofs::Shown::read_back))]
 pub fn read_back()
     ensures { (d : Data) (bytes : List ℕ) → IsBytes bytes → Shows d bytes → of_object d ≡ Ok bytes }
 {}
 
 /// Lines that show the pieces of a stream, one each, stand for that stream.
+#[tactic(auto, using(crate::proofs::Joined::unedited))]
 pub fn unedited()
     ensures { (lines pieces : List (List ℕ)) → AreShown lines pieces
         → assembled (ended lines) ≡ Ok (concat pieces) }
 {}
 
 /// It doesn't matter how a text is cut into chunks: what passes in turn passes as one.
+#[tactic(auto, using(crate::proofs::Joined::counted_then, crate::proofs::Joined::passes_then))]
 pub fn goes_on()
     ensures text { (first middle last one other text more : List ℕ) → Passes first one text middle
         → Passes middle other more last → Passes first (one ++ other) (text ++ more) last }

@@ -34,6 +34,7 @@ pub fn any_chunks()
 /// In whatever chunks a stream comes, and however many they are, no more than twice its bytes are looked at for its control sequences: to
 /// find where one stops, only those that weren't looked at before, since where that is doesn't depend on the others, and once more all
 /// of it, to read it.
+#[tactic(auto, using(crate::proofs::Looks::looks_once, crate::proofs::Looks::stops_behind))]
 pub fn looks()
     ensures behind { (looked : ℕ) (front other bytes : List ℕ) → 2 ≤ looked
         → length front ≡ looked → length other ≡ looked

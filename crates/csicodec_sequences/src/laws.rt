@@ -40,6 +40,7 @@ pub fn one_row()
 {}
 
 /// Each row of the table has a kind of its own, above 10000.
+#[tactic(auto, using(crate::proofs::OneKind::above, crate::proofs::OneKind::one))]
 pub fn kinds()
     ensures above { (i : ℕ) (row : Row) → slice_get table i ≡ Some row → 10000 < row.form.kind }
     ensures one { (i j : ℕ) (q r : Row) → slice_get table i ≡ Some q → slice_get table j ≡ Some r →
@@ -47,6 +48,7 @@ pub fn kinds()
 {}
 
 /// No row of the table reads a list of more than 26 tokens.
+#[tactic(auto, using(crate::proofs::Longest::longest))]
 pub fn longest()
     ensures { (list : List CsiParam) (final : ℕ) (known : Form × List ℕ) →
         reading list final ≡ Some known → length list ≤ 26 }

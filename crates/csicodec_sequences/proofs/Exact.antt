@@ -22,8 +22,8 @@ row-parts row h =
     let m = and_parts (is_final row.form.control) (are_missing_within row.slots) p.1 in
     record { marker = b.0; intermediate = b.1; missing = m.1 }
 
-pub read-fits : (row : Row) (list : List CsiParam) (final : ℕ) (values : List ℕ) → is_row row ≡ true → read_row row list final ≡ Some values → fit row.slots values ≡ true
-read-fits row list final values h e = read-fit row.slots (parts_of list).body values (row-parts row h).missing (has-read row list final values e).values
+pub read_fits : (row : Row) (list : List CsiParam) (final : ℕ) (values : List ℕ) → is_row row ≡ true → read_row row list final ≡ Some values → fit row.slots values ≡ true
+read_fits row list final values h e = read-fit row.slots (parts_of list).body values (row-parts row h).missing (has-read row list final values e).values
 
 reads-by : (row : Row) (list : List CsiParam) (values : List ℕ) → (parts_of list).marker ≡ row.form.marker → (parts_of list).intermediate ≡ row.form.intermediate
     → slot_values row.slots (parts_of list).body ≡ Some values → read_row row list row.form.control ≡ Some values
@@ -34,8 +34,8 @@ reads-by row list values m i e =
     ap (λ (b : Bool). if b then (if has_bytes row (parts_of list) then slot_values row.slots (parts_of list).body else None) else None) (eq-eqb row.form.control row.form.control refl)
     ∙ (ap (λ (b : Bool). if b then slot_values row.slots (parts_of list).body else None) bytes ∙ e)
 
-pub fits-read : (row : Row) (values : List ℕ) → is_row row ≡ true → fit row.slots values ≡ true → read_row row (row_list row values) row.form.control ≡ Some values
-fits-read row values h f =
+pub fits_read : (row : Row) (values : List ℕ) → is_row row ≡ true → fit row.slots values ≡ true → read_row row (row_list row values) row.form.control ≡ Some values
+fits_read row values h f =
     let r = row-parts row h in
     let p = parts-are row.form.marker row.form.intermediate values r.marker r.intermediate in
     reads-by row (row_list row values) values p.marker_is p.intermediate_is (ap (slot_values row.slots) p.body_is ∙ fit-read row.slots values f)

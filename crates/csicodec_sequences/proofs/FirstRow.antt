@@ -82,8 +82,8 @@ decides (q ∷ rows) (suc i) r params control vs h at e =
     go None none later apart = later
     go (Some us) gave later apart = absurd (apart-from q rows i r params control us vs apart at gave e)
 
-pub any-row : (i : ℕ) (r : Row) (params : List CsiParam) (control : ℕ) (vs : List ℕ) → slice_get table i ≡ Some r → read_row r params control ≡ Some vs → reading params control ≡ Some (r.form, vs)
-any-row i r params control vs at e = reading-table params control ∙ decides table i r params control vs is-apart at e
+pub any_row : (i : ℕ) (r : Row) (params : List CsiParam) (control : ℕ) (vs : List ℕ) → slice_get table i ≡ Some r → read_row r params control ≡ Some vs → reading params control ≡ Some (r.form, vs)
+any_row i r params control vs at e = reading-table params control ∙ decides table i r params control vs is-apart at e
 
 -- the first of several that is something
 pub or-first : {X : Type 0} (a rest : Option X) (x : X) → Some x ≡ a → Some x ≡ option_or a rest

@@ -11,7 +11,7 @@ use Rattle.csicodec_sequences.specs.declared.row.Slot.{Slot}
 use Rattle.csicodec_sequences.specs.Known.{are_rows, rows_of, table}
 use Rattle.csicodec_sequences.specs.Parts.{is_intermediate, is_marker}
 use Rattle.csicodec_sequences.specs.Rows.{Row, are_missing_within, byte_tokens, each_behind, fit, has_its_bytes, is_final, is_row, is_within, joined, row_list}
-use Rattle.csicodec_sequences.proofs.Table.{are-all}
+use Rattle.csicodec_sequences.proofs.Table.{are_all}
 
 -- ---- numbers
 
@@ -116,7 +116,7 @@ row-at (r ∷ rows) (suc i) q h k at = row-at rows i q (and_parts (is_row r) (ar
 
 pub sequence : (i : ℕ) (q : Row) (vs : List ℕ) → slice_get table i ≡ Some q → fit q.slots vs ≡ true → Spellable (row_list q vs) × IsFinal q.form.control
 sequence i q vs at f =
-    let r = row-at table i q are-all is-small at in
+    let r = row-at table i q are_all is-small at in
     let p = and_parts (has_its_bytes q) (is_final q.form.control && are_missing_within q.slots) r.0 in
     let b = and_parts (if q.form.marker == 0 then true else is_marker q.form.marker) (if q.form.intermediate == 0 then true else is_intermediate q.form.intermediate) p.0 in
     let c = and_parts (is_final q.form.control) (are_missing_within q.slots) p.1 in

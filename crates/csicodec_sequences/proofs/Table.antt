@@ -10,6 +10,6 @@ unfolding rows_of table
 is-apart = refl
 
 -- each is a row
-pub are-all : are_rows table ≡ true
+pub are_all : are_rows table ≡ true
 unfolding rows_of table
-are-all = refl
+are_all = refl

@@ -23,8 +23,8 @@ numbers-spelled (v ∷ vs) = ap (λ l. decimal v ++ l) (behind-spelled vs)
 byte-spelled : (b : ℕ) → byte_text b ≡ spells (byte_tokens b)
 byte-spelled b = elim (cases_Bool (b == 0)) [ inl none ↦ rw none refl | inr some_it ↦ rw some_it (sym (append-nil (encode_utf8 b))) ]
 
-pub text-lem : (row : Row) (values : List ℕ) → form_text row.form values ≡ spells (row_list row values) ++ encode_utf8 row.form.control
-text-lem row values =
+pub text_lem : (row : Row) (values : List ℕ) → form_text row.form values ≡ spells (row_list row values) ++ encode_utf8 row.form.control
+text_lem row values =
     let m = byte_tokens row.form.marker in
     let i = byte_tokens row.form.intermediate in
     let spelled : spells (row_list row values) ≡ spells m ++ (spells (joined values) ++ spells i) =

@@ -130,8 +130,8 @@ fields-none q list final vs h r =
     three : (a b c : Option Action) → a ≡ None → b ≡ None → c ≡ None → option_or a (option_or b (option_or c None)) ≡ None
     three a b c e f g = rw (e, f, g) refl
 
-pub no-action : (i : ℕ) (q : Row) (list : List CsiParam) (final : ℕ) (vs : List ℕ) → slice_get table i ≡ Some q → read_row q list final ≡ Some vs → whole list final ≡ None
-no-action i q list final vs at e =
+pub no_action : (i : ℕ) (q : Row) (list : List CsiParam) (final : ℕ) (vs : List ℕ) → slice_get table i ≡ Some q → read_row q list final ≡ Some vs → whole list final ≡ None
+no_action i q list final vs at e =
     let p = and_parts (apart_from_all q (rows_before actions.table q.form.control)) (fields_apart q) (unread-at table i q is-unread at) in
     let r = has-read q list final vs e in
     let tokens : read_by actions.table list final ≡ None =

@@ -9,6 +9,7 @@ ghost use Rattle.csicodec_sequences.specs.declared.row.Form.{Form};
 ghost use Rattle.csicodec_sequences.specs.Rows.{Row, fit, is_row, read_row, row_list, form_text};
 
 /// Of any row: the values that it reads back of the list that it writes of them are those that fit its slots, and no others.
+#[tactic(auto, using(crate::proofs::Exact::fits_read, crate::proofs::Exact::read_fits))]
 pub fn exact()
     ensures { (row : Row) (values : List ℕ) → is_row row ≡ true →
         (read_row row (row_list row values) row.form.control ≡ Some values)
@@ -16,18 +17,21 @@ pub fn exact()
 {}
 
 /// Of any row: what it reads fits its slots, so that it is read back from what is written of it.
+#[tactic(auto, using(crate::proofs::Exact::read_fits))]
 pub fn what_is_read_fits()
     ensures { (row : Row) (list : List CsiParam) (final : ℕ) (values : List ℕ) → is_row row ≡ true →
         read_row row list final ≡ Some values → fit row.slots values ≡ true }
 {}
 
 /// Of any row: the text of values is that of their list, and the final character behind it.
+#[tactic(auto, using(crate::proofs::TextOf::text_lem))]
 pub fn text()
     ensures { (row : Row) (values : List ℕ)
         → form_text row.form values ≡ spells (row_list row values) ++ encode_utf8 row.form.control }
 {}
 
 /// Each row of the table is a row: its bytes are such bytes, and what is left out is in its range.
+#[tactic(auto, using(crate::proofs::Table::are_all))]
 pub fn rows()
     ensures { are_rows table ≡ true }
 {}
@@ -55,6 +59,7 @@ pub fn longest()
 {}
 
 /// The row of the table that reads a list says what is known of it, wherever it stands.
+#[tactic(auto, using(crate::proofs::FirstRow::any_row))]
 pub fn any_row()
     ensures { (list : List CsiParam) (final i : ℕ) (row : Row) (values : List ℕ) →
         slice_get table i ≡ Some row → read_row row list final ≡ Some values
@@ -62,6 +67,7 @@ pub fn any_row()
 {}
 
 /// No row of the table reads a list that is read whole as an action.
+#[tactic(auto, using(crate::proofs::Unread::no_action))]
 pub fn no_action()
     ensures { (list : List CsiParam) (final i : ℕ) (row : Row) (values : List ℕ) →
         slice_get table i ≡ Some row → read_row row list final ≡ Some values

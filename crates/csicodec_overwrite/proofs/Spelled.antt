@@ -1,5 +1,5 @@
 -- The sequence of a look is one control sequence, and is read as a reset and its attributes.
-use Rattle.std.proofs.Common.{◌≡◌, ◌≤◌, ◌<◌, ◌+◌, ◌*◌, ◌-◌, ◌^◌, ◌⊎◌, ℕ, pos, Bool, true, false, cond, List, [], ◌∷◌, ◌++◌, length, length-append, take, drop, map, inl, inr, ⊎_elim, refl, sym, ap, subst, ◌∙◌, append_assoc, append-nil, arith, rules}
+use Rattle.std.proofs.Common.{◌≡◌, ◌≤◌, ◌<◌, ◌+◌, ◌*◌, ◌-◌, ◌^◌, ◌⊎◌, ℕ, Bool, true, false, cond, List, [], ◌∷◌, ◌++◌, length, length-append, take, drop, map, inl, inr, ⊎_elim, refl, sym, ap, subst, ◌∙◌, append_assoc, append-nil, arith, rules}
 use Rattle.std.specs.Prelude.{◌==◌, codes, nat_lt, not}
 use Rattle.std.specs.Fmt.{decimal}
 use Rattle.std.specs.List.{AllByRecursion, flat_map}
@@ -11,7 +11,7 @@ use Rattle.csicodec_tokens.specs.declared.param.CsiParam.{CsiParam}
 use Rattle.csicodec_tokens.specs.declared.param.CsiParam.TheVariants.{Integer, P}
 use Rattle.csicodec_tokens.specs.Digits.{AreDigits, IsDigit, value, value_after}
 use Rattle.csicodec_tokens.specs.Param.{spells}
-use Rattle.csicodec_tokens.specs.Sequence.{Apart, IsSpellable, Seq, Spellable, Spells}
+use Rattle.csicodec_tokens.specs.Sequence.{Apart, IsSpellable, Spellable, Spells}
 use Rattle.csicodec_tokens.proofs.Decimal.{length-decimal_u16}
 use Rattle.csicodec_tokens.proofs.Printed.{printed}
 use Rattle.csicodec_names.specs.declared.color.ColorSpec.{ColorSpec}

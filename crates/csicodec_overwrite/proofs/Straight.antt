@@ -1,23 +1,13 @@
 -- Text of ASCII, which takes no reading, and its lines, which stand as they come.
-use Rattle.std.proofs.Common.{◌≡◌, ◌≢◌, ◌<◌, ◌≤◌, ◌+◌, ◌-◌, ◌*◌, ◌/◌, ℕ, Bool, true, false, cond, List, [], ◌∷◌, ◌++◌, length, length-append, take, encode_utf8_all, refl, sym, ap, subst, ◌∙◌, append_assoc, append-nil, arith, lt-ltb, ne_eqb}
+use Rattle.std.proofs.Common.{◌≡◌, ◌≢◌, ◌<◌, ◌≤◌, ◌+◌, ◌*◌, ◌/◌, ℕ, Bool, true, false, cond, List, [], ◌∷◌, ◌++◌, length, encode_utf8_all, refl, sym, ap, subst, ◌∙◌, append_assoc, append-nil, arith, ne_eqb}
 use Rattle.std.specs.Prelude.{◌==◌, nat_le, nat_lt, MatchBool, max, unwrap_or, Option, Some, None}
 use Rattle.std.specs.List.{AllByRecursion, flat_map}
-use Rattle.std.specs.Str.{all_scalars}
-use Rattle.std.specs.Char.{encode_utf8}
-use Rattle.std.proofs.lemmas.Bool.{and_from, and_parts, eqb-true}
+use Rattle.std.proofs.lemmas.Bool.{eqb-true}
 use Rattle.std.proofs.lemmas.Bool.Decides.{nat_tests}
-use Rattle.std.proofs.Math.Seq.{take-append_seam}
-use lib.Utf8.{scalar, low_scalar}
 use Rattle.unicode_width.specs.Width.{char_width}
 use Rattle.unicode_width.specs.Width.{alone as char_alone}
 use Rattle.unicode_width.proofs.Rules.{width_or_zero-le}
 use Rattle.bstr.specs.Utf8.{lossy_chars}
-use Rattle.csicodec_names.specs.declared.color.ColorSpec.{ColorSpec}
-use Rattle.csicodec_names.specs.declared.color.ColorSpec.TheVariants as color
-use Rattle.csicodec_names.specs.declared.color.Intensity.{Intensity}
-use Rattle.csicodec_names.specs.declared.color.Intensity.TheVariants as intensity
-use Rattle.csicodec_names.specs.declared.color.Underline.{Underline}
-use Rattle.csicodec_names.specs.declared.color.Underline.TheVariants as underline
 use Rattle.csicodec_base.specs.declared.sgr.Sgr.{Sgr}
 use Rattle.csicodec_spans.specs.declared.table.Kind.TheVariants as kind
 use Rattle.csicodec_spans.specs.declared.table.Mode.TheVariants as mode
@@ -25,12 +15,12 @@ use Rattle.csicodec_spans.specs.Parts.{Part}
 use Rattle.csicodec_spans.proofs.OneSpan.{none_unsure, singles}
 use Rattle.csicodec_clean.specs.Cleaned.{longest}
 use Rattle.csicodec_clean.specs.Shown.{IsRead, IsShown}
-use Rattle.csicodec_clean.specs.Private.Steps.{IsBehindPlain, IsPlainByte}
+use Rattle.csicodec_clean.specs.Bytes.{IsPlainByte}
 use Rattle.csicodec_clean.proofs.PlainBytes.{plain_bytes}
 use Rattle.csicodec_clean.proofs.Shows.{encoded_on}
 use Rattle.csicodec_clean.proofs.Sure.{read_more}
 use Rattle.csicodec_clean.proofs.Titles.{single_texts}
-use Rattle.csicodec_clean.proofs.Told.{read_encoded}
+use Rattle.csicodec_clean.proofs.Told.{all_shown, ascii_shown, encoded, is_shown, read_encoded, scalars}
 use Rattle.csicodec_clean.proofs.Twice.{all_text}
 use Rattle.csicodec_html.specs.declared.look.Look.{Look}
 use Rattle.csicodec_html.specs.Look.{plain}
@@ -42,11 +32,11 @@ use Rattle.csicodec_overwrite.specs.declared.step.Step.{Step}
 use Rattle.csicodec_overwrite.specs.declared.step.Step.TheVariants as step
 use Rattle.csicodec_overwrite.specs.Cells.{chars_of, columns, glyph, to_tab_stop, width}
 use Rattle.csicodec_overwrite.specs.Line.{Done, HasRoom, blank, cells_of, do_all, does, done, line, pen_behind, pen_behind_all, put}
-use Rattle.csicodec_overwrite.specs.Paint.{ended, look_of, paint, same, same_color, same_flag, same_intensity, same_underline, text_of, texts_of, turn}
+use Rattle.csicodec_overwrite.specs.Paint.{ended, look_of, paint, text_of, texts_of, turn}
 use Rattle.csicodec_overwrite.specs.Steps.{of_char, of_chars}
 use Rattle.csicodec_overwrite.specs.Reading.{AreOfParts}
 use Rattle.csicodec_overwrite.specs.Stream.{Held, Now, Passes, Reads, none_held}
-use Rattle.csicodec_overwrite.specs.Private.Plain.{GoesBehind, IsShortLine, IsStraight, Leads, PutsPlain, text_byte}
+use Rattle.csicodec_overwrite.specs.Private.Plain.{GoesBehind, IsShortLine, IsStraight, Leads, PutsPlain}
 use Rattle.csicodec_overwrite.proofs.Chars.{chars_on}
 use Rattle.csicodec_overwrite.proofs.Kept.{OfCell, OfCells, OfLast, OfStep, of_all}
 use Rattle.csicodec_overwrite.proofs.Same.{not_titled}
@@ -56,16 +46,9 @@ use Rattle.csicodec_overwrite.proofs.Written.{line_on, passes_on, pen_on}
 
 -- ---- its bytes
 
-pub plain_of_text : (b : ℕ) → text_byte b ≡ true → IsPlainByte b
-plain_of_text b h = grind (arith, nat_tests)
-
-pub front_plain : (bytes rest : List ℕ) → IsBehindPlain bytes rest → AllByRecursion IsPlainByte (take (length bytes - length rest) bytes)
-front_plain bytes rest (front, e, h) =
-    let n : length bytes - length rest ≡ length front = omega (arith, ap length e, length-append front rest) in
-    subst (AllByRecursion IsPlainByte) (sym (ap (λ (i : ℕ). take i bytes) n ∙ ap (λ (t : List ℕ). take (length front) t) e ∙ take-append_seam front rest)) h
-
-pub behind_newline : (bytes rest : List ℕ) (b : ℕ) → bytes ≡ b ∷ rest → b ≡ 10 → IsBehindPlain bytes rest
-behind_newline bytes rest b e is = (b ∷ [], e, (rw is refl, tt))
+pub parts_plain : (xs ys : List ℕ) → AllByRecursion IsPlainByte (xs ++ ys) → AllByRecursion IsPlainByte xs × AllByRecursion IsPlainByte ys
+parts_plain [] ys h = (tt, h)
+parts_plain (x ∷ xs) ys h = let (front, behind) = parts_plain xs ys h.1 in ((h.0, front), behind)
 
 pub short_line : (limit : ℕ) (text front : List ℕ) (b : ℕ) → text ≡ front ++ b ∷ [] → b ≡ 10 → nat_le (length text) (limit / 8) ≡ true → IsShortLine limit text
 short_line limit text front b e is few =
@@ -73,28 +56,6 @@ short_line limit text front b e is few =
     (front, e ∙ ap (λ (x : ℕ). front ++ x ∷ []) is, omega (arith, fits))
 
 -- ---- it is read as it stands
-
-low : (b : ℕ) → IsPlainByte b → b < 128
-low b h = grind (arith, nat_tests)
-
-is_shown : (b : ℕ) → IsPlainByte b → IsShown b
-is_shown b h = grind (arith, nat_tests)
-
-alone : (b : ℕ) → b < 128 → encode_utf8 b ≡ b ∷ []
-unfolding encode_utf8
-alone b a = rw (lt-ltb b 128 a) refl
-
-scalars : (bs : List ℕ) → AllByRecursion IsPlainByte bs → all_scalars bs ≡ true
-scalars [] h = refl
-scalars (b ∷ bs) h = and_from (scalar b) (all_scalars bs) (low_scalar b (omega (arith, low b h.0))) (scalars bs h.1)
-
-all_shown : (bs : List ℕ) → AllByRecursion IsPlainByte bs → AllByRecursion IsShown bs
-all_shown [] h = tt
-all_shown (b ∷ bs) h = (is_shown b h.0, all_shown bs h.1)
-
-encoded : (bs : List ℕ) → AllByRecursion IsPlainByte bs → bs ≡ encode_utf8_all bs
-encoded [] h = refl
-encoded (b ∷ bs) h = ap (λ (t : List ℕ). b ∷ t) (encoded bs h.1) ∙ ap (λ (t : List ℕ). t ++ encode_utf8_all bs) (sym (alone b (low b h.0)))
 
 is_read : (bs : List ℕ) → AllByRecursion IsPlainByte bs → IsRead bs bs []
 is_read bs h = λ more. ap (λ (t : List ℕ). lossy_chars (t ++ more)) (encoded bs h) ∙ read_encoded bs more (scalars bs h)
@@ -107,7 +68,7 @@ reads_plain text h = record {
     before = [];
     left = run ++ text;
     read = chars ++ text;
-    first = all_text longest text (plain_bytes text (text, scalars text h, all_shown text h, encoded text h));
+    first = all_text longest text (plain_bytes text (ascii_shown text h));
     titles = sym (not_titled text);
     are = subst (λ (ps : List Part). AreOfParts run ps [] (run ++ text)) (sym (single_texts text)) (of_singles text run);
     is_read = read_more run [] text [] chars text read (is_read text h);
@@ -171,48 +132,6 @@ tab_step b is = rw is refl
 
 pub put_step : (b : ℕ) → IsPlainByte b → b ≢ 10 → b ≢ 9 → of_char b ≡ step.Put b ∷ []
 put_step b h line tab = put_of b (ne_eqb b 10 line) (grind (arith, nat_tests)) (grind (arith, nat_tests)) (ne_eqb b 9 tab) (is_shown b h)
-
--- ---- a look as plain text
-
-own_strokes : (i : Intensity) → same_intensity i intensity.Normal ≡ true → i ≡ intensity.Normal
-own_strokes intensity.Normal h = refl
-own_strokes intensity.Bold h = cc
-own_strokes intensity.Half h = cc
-
-own_lines : (u : Underline) → same_underline u underline.None ≡ true → u ≡ underline.None
-own_lines underline.None h = refl
-own_lines underline.Single h = cc
-own_lines underline.Double h = cc
-own_lines underline.Curly h = cc
-own_lines underline.Dotted h = cc
-own_lines underline.Dashed h = cc
-
-own_color : (c : ColorSpec) → same_color c color.Default ≡ true → c ≡ color.Default
-own_color color.Default h = refl
-own_color (color.PaletteIndex i) h = cc
-own_color (color.TrueColor c) h = cc
-
-not_set : (b : Bool) → same_flag b false ≡ true → b ≡ false
-not_set true h = cc
-not_set false h = refl
-
-pub is_plain : (l : Look) → same l plain ≡ true → l ≡ plain
-is_plain l h =
-    let a = and_parts (same_intensity l.intensity intensity.Normal) _ h in
-    let b = and_parts (same_flag l.italic false) _ a.1 in
-    let c = and_parts (same_underline l.underline underline.None) _ b.1 in
-    let d = and_parts (same_color l.line color.Default) _ c.1 in
-    let e = and_parts (same_flag l.overline false) _ d.1 in
-    let f = and_parts (same_flag l.strike false) _ e.1 in
-    let g = and_parts (same_flag l.inverse false) _ f.1 in
-    let i = and_parts (same_color l.foreground color.Default) _ g.1 in
-    all l.intensity l.italic l.underline l.line l.overline l.strike l.inverse l.foreground l.background (own_strokes l.intensity a.0) (not_set l.italic b.0) (own_lines l.underline c.0) (own_color l.line d.0)
-    (not_set l.overline e.0) (not_set l.strike f.0) (not_set l.inverse g.0) (own_color l.foreground i.0) (own_color l.background i.1)
-  where
-    all : (x : Intensity) (italic : Bool) (u : Underline) (line : ColorSpec) (overline strike inverse : Bool) (text ground : ColorSpec) → x ≡ intensity.Normal → italic ≡ false → u ≡ underline.None → line ≡ color.Default
-        → overline ≡ false → strike ≡ false → inverse ≡ false → text ≡ color.Default → ground ≡ color.Default
-        → record { intensity = x; italic = italic; underline = u; line = line; overline = overline; strike = strike; inverse = inverse; foreground = text; background = ground } ≡ plain
-    all x italic u line overline strike inverse text ground j k m n o p q r s = rw (j, k, m, n, o, p, q, r, s) refl
 
 -- ---- lines that look as plain text are painted as they are
 

@@ -1,100 +1,28 @@
-//! Text of ASCII in front of others, which takes no reading.
-ghost use Rattle.std.specs.Prelude.{◌≡◌, ◌∷◌, [], ◌≤◌, ◌++◌, length, min, take, true};
-ghost use Rattle.std.specs.List.{AllByRecursion};
-ghost use Rattle.csicodec_clean.specs.Private.Steps.{IsBehindPlain, IsPlainByte, first_set};
-ghost use Rattle.csicodec_overwrite.specs.Private.Plain.{IsShortLine, text_byte};
+//! Text of ASCII, which takes no reading.
+ghost use Rattle.std.specs.Prelude.{◌≡◌, ◌∷◌, [], ◌≤◌, length, min, true};
+ghost use Rattle.csicodec_clean.specs.Bytes.{IsPlainByte};
+ghost use Rattle.csicodec_overwrite.specs.Private.Plain.{IsShortLine};
 ghost use Rattle.csicodec_overwrite.specs.Steps.{of_char};
 
 use crate::step::Step;
-use std::simd::prelude::*;
+use memchr::{memchr, memrchr};
 
-/// How many bytes are told at once.
-const LANES: usize = 16;
-
-/// Whether the byte is a tab or a character of ASCII that is no control.
-fn is_text(byte: u8) -> bool
-    ensures { result ≡ text_byte byte }
+/// How much of the text is put at once: up to the last newline among so many bytes, or else up to the first, if there is one.
+pub(crate) fn lines_len(text: &[u8], most: usize) -> usize
+    ensures within { result ≤ length text.now }
+    ensures some { min 1 (length text.now) ≤ result }
 {
-    byte == b'\t' || b' ' <= byte && byte < 0x7f
-}
-
-/// The place of the lowest bit that is set, and 16 where none is.
-#[inline(always)]
-fn first_set(mask: u64) -> usize
-    ensures { result ≡ first_set mask }
-{
-    if mask == 0 {
-        LANES
-    } else {
-        mask.trailing_zeros() as usize
+    let near = text.split_at(most.min(text.len())).0;
+    if let Some(last) = memrchr(b'\n', near) {
+        return last + 1;
+    }
+    match memchr(b'\n', text) {
+        Some(first) => first + 1,
+        None => text.len(),
     }
 }
 
-/// How many of the first sixteen bytes are such text, up to the first that isn't.
-#[inline(always)]
-fn text_lanes(bytes: &[u8]) -> usize
-    requires { 16 ≤ length bytes.now }
-    ensures { (result ≤ 16) × AllByRecursion IsPlainByte (take result bytes.now) }
-{
-    let lanes = u8x16::from_slice(bytes);
-    let control = lanes.simd_lt(u8x16::splat(b' ')) & lanes.simd_ne(u8x16::splat(b'\t'));
-    let odd = control | lanes.simd_ge(u8x16::splat(0x7f));
-    first_set(odd.to_bitmask())
-}
-
-/// What is behind such bytes in front.
-fn behind_few<'a>(bytes: &'a [u8]) -> &'a [u8]
-    ensures { IsBehindPlain bytes.now result.now }
-{
-    let mut rest = bytes;
-    while let Some((byte, behind)) = rest.split_first() {
-        if !is_text(*byte) {
-            return rest;
-        }
-        rest = behind;
-    }
-    rest
-}
-
-/// The same, sixteen at once.
-fn behind_text<'a>(bytes: &'a [u8]) -> &'a [u8]
-    ensures { IsBehindPlain bytes.now result.now }
-{
-    let mut rest = bytes;
-    while rest.len() >= LANES {
-        let count = text_lanes(rest);
-        rest = rest.split_at(count).1;
-        if count < LANES {
-            return rest;
-        }
-    }
-    behind_few(rest)
-}
-
-/// What is behind such bytes in front, and behind the newline that ends them.
-fn behind_line<'a>(bytes: &'a [u8]) -> &'a [u8]
-    ensures { IsBehindPlain bytes.now result.now }
-{
-    let rest = behind_text(bytes);
-    let Some((byte, behind)) = rest.split_first() else {
-        return rest;
-    };
-    if *byte == b'\n' {
-        return behind;
-    }
-    rest
-}
-
-/// The text of ASCII in front, no further than the end of its line, and what is behind it.
-pub(crate) fn split_plain<'a>(bytes: &'a [u8]) -> (&'a [u8], &'a [u8])
-    ensures whole { bytes.now ≡ result.0.now ++ result.1.now }
-    ensures plain { AllByRecursion IsPlainByte result.0.now }
-{
-    let rest = behind_line(bytes);
-    bytes.split_at(bytes.len() - rest.len())
-}
-
-/// Whether such text ends its line, and a line of so many cells has room for it: no character takes more than 8, as a tab does.
+/// Whether such text ends its line, and a line of so many cells has room for all of it: no character takes more than 8, as a tab does.
 pub(crate) fn is_short_line(limit: usize, text: &[u8]) -> bool
     ensures { result ≡ true → IsShortLine limit text.now }
 {

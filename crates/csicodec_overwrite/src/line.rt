@@ -1,9 +1,9 @@
 //! A line and its cursor.
 ghost use Rattle.std.specs.Prelude.{◌≡◌, ◌-◌, ◌++◌, [], true, OnOk};
 ghost use Rattle.std.specs.List.{AllByRecursion};
-ghost use Rattle.csicodec_clean.specs.Private.Steps.{IsPlainByte};
+ghost use Rattle.csicodec_clean.specs.Bytes.{IsPlainByte};
 ghost use Rattle.csicodec_overwrite.specs.Cells.{columns, glyph, onto};
-ghost use Rattle.csicodec_overwrite.specs.Line.{at_column, back, behind_columns, blank, cells_of, delete, do_all, does, erase, erase_all, erase_left, erase_right, fits, forward, from_stop, insert, leave, line, lines_of, over, parted, pen_behind_all, placed, put, repeated, restored, size, target, to_stop};
+ghost use Rattle.csicodec_overwrite.specs.Line.{at_column, back, behind_columns, blank, cells_of, delete, do_all, does, erase, erase_all, erase_left, erase_right, fits, forward, from_stop, insert, leave, line, lines_of, over, parted, pen_behind, pen_behind_all, placed, put, repeated, restored, size, target, to_stop};
 ghost use Rattle.csicodec_overwrite.specs.Paint.{ended, text_of, texts_of};
 ghost use Rattle.csicodec_overwrite.specs.Private.Plain.{GoesBehind, IsStraight};
 ghost use Rattle.csicodec_overwrite.specs.Steps.{of_chars};
@@ -41,7 +41,7 @@ impl Line {
     }
 
     /// Whether nothing stands in it, and the cursor is at its start.
-    fn is_blank(&self) -> bool
+    pub(crate) fn is_blank(&self) -> bool
         ensures { result ≡ true → self.now ≡ blank }
     {
         self.left.len() == 0 && self.right.len() == 0
@@ -410,23 +410,26 @@ impl Line {
         self.forward(limit, count)
     }
 
-    /// Does a step where characters are put so, and appends the lines that are over with it.
+    /// Does a step, and appends the lines that are over with it. Characters are put so, and behind the step as `pen` says then.
     fn take(
         &mut self,
         limit: usize,
-        pen: &Pen,
+        pen: &mut Pen,
         step: Step,
         painted: bool,
         out: &mut Vec<u8>,
     ) -> Result<(), AllocError>
-        ensures line { OnOk result (self.new ≡ (does limit pen.now step self.old).line) }
+        ensures line { OnOk result (self.new ≡ (does limit pen.old step self.old).line) }
+        ensures pen { OnOk result (pen.new ≡ pen_behind pen.old step (columns self.old.left)) }
         ensures text { OnOk result
-            (out.new.items ≡ out.old.items ++ texts_of painted (does limit pen.now step self.old).lines) }
+            (out.new.items ≡ out.old.items ++ texts_of painted (does limit pen.old step self.old).lines) }
     {
+        let now = *pen;
+        *pen = now.behind(step, self.left.columns());
         match step {
-            Step::Put(char) => self.put(limit, pen, char, painted, out),
-            Step::Repeat(count) => self.repeat(limit, pen, count, painted, out),
-            Step::Tab => self.tab(limit, pen, painted, out),
+            Step::Put(char) => self.put(limit, &now, char, painted, out),
+            Step::Repeat(count) => self.repeat(limit, &now, count, painted, out),
+            Step::Tab => self.tab(limit, &now, painted, out),
             Step::Tabs(count) => self.tabs(limit, count),
             Step::TabsBack(count) => self.tabs_back(count),
             Step::NewLine => self.end(painted, out),
@@ -439,14 +442,14 @@ impl Line {
             Step::Erase(count) => self.erase(count),
             Step::Delete(count) => self.delete(count),
             Step::Insert(count) => self.insert(limit, count),
-            Step::Restore => self.restore(limit, pen, painted, out),
+            Step::Restore => self.restore(limit, &now, painted, out),
             Step::Leave(to) => self.leave(limit, to, painted, out),
             Step::Attribute(_) | Step::Inserts(_) => Ok(()),
             Step::Save | Step::Reset | Step::Other => Ok(()),
         }
     }
 
-    /// Does the steps in turn, and appends the lines that are over. Characters are put so, and behind the steps as `pen` says then.
+    /// Does the steps in turn.
     pub fn take_all(
         &mut self,
         limit: usize,
@@ -463,37 +466,7 @@ impl Line {
     {
         let mut rest = steps;
         while let Some((step, behind)) = rest.split_first() {
-            let next = pen.behind(*step, self.left.columns());
             self.take(limit, pen, *step, painted, out)?;
-            *pen = next;
-            rest = behind;
-        }
-        Ok(())
-    }
-
-    /// The same of the steps of text of ASCII, one by one.
-    fn take_plain(
-        &mut self,
-        limit: usize,
-        pen: &mut Pen,
-        text: &[u8],
-        painted: bool,
-        out: &mut Vec<u8>,
-    ) -> Result<(), AllocError>
-        requires { AllByRecursion IsPlainByte text.now }
-        ensures line { OnOk result
-            (self.new ≡ (do_all limit pen.old (of_chars text.now) self.old).line) }
-        ensures pen { OnOk result
-            (pen.new ≡ pen_behind_all limit pen.old (of_chars text.now) self.old) }
-        ensures text { OnOk result (out.new.items ≡ out.old.items
-            ++ texts_of painted (do_all limit pen.old (of_chars text.now) self.old).lines) }
-    {
-        let mut rest = text;
-        while let Some((byte, behind)) = rest.split_first() {
-            let step = plain_step(*byte);
-            let next = pen.behind(step, self.left.columns());
-            self.take(limit, pen, step, painted, out)?;
-            *pen = next;
             rest = behind;
         }
         Ok(())
@@ -509,7 +482,7 @@ impl Line {
         pen.puts_plain(painted) && is_short_line(limit, text)
     }
 
-    /// The same of the steps of text of ASCII, which goes no further than the end of its line.
+    /// The same of the steps of text of ASCII.
     pub(crate) fn put_text(
         &mut self,
         limit: usize,
@@ -531,6 +504,11 @@ impl Line {
             *pen = pen.behind(Step::NewLine, 0);
             return Ok(());
         }
-        self.take_plain(limit, pen, text, painted, out)
+        let mut rest = text;
+        while let Some((byte, behind)) = rest.split_first() {
+            self.take(limit, pen, plain_step(*byte), painted, out)?;
+            rest = behind;
+        }
+        Ok(())
     }
 }

@@ -1,15 +1,16 @@
 //! A stream of which each line is overwritten, as it comes.
 ghost use Rattle.std.specs.Prelude.{◌≡◌, ◌≤◌, ◌<◌, ◌++◌, ℕ, List, OnOk, IfOk, length, true};
 ghost use Rattle.std.specs.List.{AllByRecursion};
-ghost use Rattle.csicodec_clean.specs.Private.Steps.{IsPlainByte};
+ghost use Rattle.csicodec_clean.specs.Bytes.{IsPlainByte};
 ghost use Rattle.csicodec_overwrite.specs.Private.Plain.{Leads};
 ghost use Rattle.csicodec_overwrite.specs.Stream.{Ending, Passes, begun, begun_as, none_held};
 
-use crate::ascii::{odd_len, split_plain};
+use crate::ascii::{lines_len, odd_len};
 use crate::line::Line;
 use crate::pen::Pen;
 use crate::reader::Reader;
 use crate::step::Step;
+use csicodec_clean::{PlainAscii, split_front};
 use csicodec_filter::Transform;
 use csicodec_spans::LIMIT;
 use std::alloc::{AllocError, Global};
@@ -74,7 +75,7 @@ impl Overwriter {
         self.reader.is_bare()
     }
 
-    /// Takes text of ASCII, no further than the end of its line.
+    /// Takes text of ASCII.
     fn take_text(&mut self, text: &[u8], out: &mut Vec<u8>) -> Result<(), AllocError>
         requires plain { AllByRecursion IsPlainByte text.now }
         requires bare { self.old.reader ≡ none_held }
@@ -94,13 +95,16 @@ impl Overwriter {
             × (out.new.items ≡ out.old.items ++ text)) }
         ensures reader { OnOk result (self.new.reader ≡ self.old.reader) }
     {
-        let mut rest = bytes;
-        let mut more = self.is_bare();
-        while more {
-            let (text, behind) = split_plain(rest);
-            self.take_text(text, out)?;
-            more = text.len() > 0;
-            rest = behind;
+        if !self.is_bare() {
+            return Ok(bytes);
+        }
+        let (front, rest) = split_front::<PlainAscii>(bytes);
+        let mut text = front;
+        while !text.is_empty() {
+            let most = if self.line.is_blank() { LIMIT / 8 } else { 0 };
+            let (lines, behind) = text.split_at(lines_len(text, most));
+            self.take_text(lines, out)?;
+            text = behind;
         }
         Ok(rest)
     }

@@ -16,52 +16,32 @@ use std::alloc::AllocError;
 fn same_flag(a: bool, b: bool) -> bool
     ensures { result ≡ same_flag a b }
 {
-    if a { b } else { !b }
+    a == b
 }
 
 /// Whether strokes are as strong.
 fn same_intensity(a: Intensity, b: Intensity) -> bool
     ensures { result ≡ same_intensity a b }
 {
-    match (a, b) {
-        (Intensity::Normal, Intensity::Normal)
-        | (Intensity::Bold, Intensity::Bold)
-        | (Intensity::Half, Intensity::Half) => true,
-        _ => false,
-    }
+    a == b
 }
 
 /// Whether the lines below are of one kind.
 fn same_underline(a: Underline, b: Underline) -> bool
     ensures { result ≡ same_underline a b }
 {
-    match (a, b) {
-        (Underline::None, Underline::None)
-        | (Underline::Single, Underline::Single)
-        | (Underline::Double, Underline::Double)
-        | (Underline::Curly, Underline::Curly)
-        | (Underline::Dotted, Underline::Dotted)
-        | (Underline::Dashed, Underline::Dashed) => true,
-        _ => false,
-    }
+    a == b
 }
 
 /// Whether two colours are one.
 fn same_color(a: ColorSpec, b: ColorSpec) -> bool
     ensures { result ≡ same_color a b }
 {
-    match (a, b) {
-        (ColorSpec::Default, ColorSpec::Default) => true,
-        (ColorSpec::PaletteIndex(i), ColorSpec::PaletteIndex(j)) => i == j,
-        (ColorSpec::TrueColor(c), ColorSpec::TrueColor(d)) => {
-            c.0 == d.0 && c.1 == d.1 && c.2 == d.2 && c.3 == d.3
-        }
-        _ => false,
-    }
+    a == b
 }
 
 /// Whether two looks are one.
-pub(crate) fn same(a: Look, b: Look) -> bool
+fn same(a: Look, b: Look) -> bool
     ensures { result ≡ same a b }
 {
     same_intensity(a.intensity, b.intensity)

@@ -3,7 +3,6 @@ ghost use Rattle.std.specs.Prelude.{◌≡◌, true};
 ghost use Rattle.csicodec_overwrite.specs.Line.{fresh, last_behind, pen_behind};
 ghost use Rattle.csicodec_overwrite.specs.Private.Plain.{PutsPlain};
 
-use crate::paint::same;
 use crate::sides::width;
 use crate::step::Step;
 use csicodec_html::Look;
@@ -38,7 +37,6 @@ impl Pen {
     }
 
     /// Whether it puts characters in place of others, and without attributes, if lines are painted.
-    #[tactic(auto, using(crate::proofs::Straight::is_plain))]
     pub(crate) fn puts_plain(&self, painted: bool) -> bool
         ensures { result ≡ true → PutsPlain painted self.now }
     {
@@ -46,7 +44,7 @@ impl Pen {
             return false;
         }
         if painted {
-            return same(self.look, Look::plain());
+            return self.look == Look::plain();
         }
         true
     }

@@ -1,14 +1,10 @@
 -- Plain text that is put at once. No promise rests on this file.
-use Rattle.std.specs.Prelude.{ℕ, ◌≡◌, ◌≤◌, ◌<◌, ◌*◌, ◌==◌, nat_le, nat_lt, ◌||◌, ◌&&◌, Bool, true, false, List, [], ◌∷◌, ◌++◌, length}
+use Rattle.std.specs.Prelude.{ℕ, ◌≡◌, ◌≤◌, ◌<◌, ◌*◌, Bool, true, false, List, [], ◌∷◌, ◌++◌, length}
 use Rattle.csicodec_html.specs.Look.{plain}
 use Rattle.csicodec_overwrite.specs.declared.line.Line.{Line}
 use Rattle.csicodec_overwrite.specs.declared.pen.Pen.{Pen}
 use Rattle.csicodec_overwrite.specs.Line.{blank}
 use Rattle.csicodec_overwrite.specs.Stream.{Now, Passes}
-
--- a tab or a character of ASCII that is no control
-abbrev pub text_byte : ℕ → Bool
-text_byte b = b == 9 || nat_le 32 b && nat_lt b 127
 
 -- text that ends its line, and so short that a line of so many cells has room for it
 abbrev pub IsShortLine : ℕ → List ℕ → Type 0

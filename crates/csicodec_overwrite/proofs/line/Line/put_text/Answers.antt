@@ -1,4 +1,8 @@
-use Rattle.std.proofs.Common.{◌++◌, ap, sym, ◌∙◌}
+use Rattle.std.proofs.Common.{◌≡◌, ◌++◌, ◌∷◌, ap, sym, ◌∙◌}
+use Rattle.csicodec_overwrite.specs.Cells.{columns}
+use Rattle.csicodec_overwrite.specs.Line.{do_all, does, pen_behind}
+use Rattle.csicodec_overwrite.specs.Steps.{of_chars}
+use Rattle.csicodec_overwrite.proofs.Moved.{step_text}
 use Rattle.csicodec_overwrite.proofs.Straight.{straight_line, straight_pen, straight_text}
 use Rattle.csicodec_overwrite.proofs.line.Line.put_text.Goals as goal
 
@@ -11,3 +15,21 @@ returns-then-is_straight-clause-pen c = c.behind.ensures ∙ straight_pen c.args
 pub returns-then-is_straight-clause-text : goal.returns-then-is_straight-clause-text
 returns-then-is_straight-clause-text c =
     c.in_ok-extend_from_slice.ensures.items ∙ ap (λ t. c.args.out.now.items ++ t) (sym (straight_text c.args.limit c.args.painted c.args.pen.now c.args.text.now c.args.self.now (c.is_straight.ensures c.if-is_straight.true) c.requires))
+
+pub loop-byte-preserved : goal.loop-byte-preserved
+loop-byte-preserved c =
+    let l = c.loop-byte in
+    let limit = c.args.limit in
+    let step = c.plain_step.result in
+    let steps = of_chars c.in-Some.behind.now in
+    let d = does limit l.pen step l.self in
+    let later = do_all limit (pen_behind l.pen step (columns l.self.left)) steps d.line in
+    let e = c.in_ok-take.ensures in
+    let all = rw c.in-Some.ensures.cases.0 at l.invariant.plain in
+    let split : of_chars l.rest.now ≡ step ∷ steps = ap of_chars c.in-Some.ensures.cases.0 ∙ ap (λ xs. xs ++ steps) (c.plain_step.ensures all.0) in
+    record {
+      plain = all.1;
+      line = rw (e.line, e.pen) (rw split at l.invariant.line);
+      pen = rw (e.line, e.pen) (rw split at l.invariant.pen);
+      text = rw (e.line, e.pen) (step_text c.args.painted l.out.items c.take.new.out.items d.lines later.lines _ e.text (rw split at l.invariant.text));
+    }

@@ -1,10 +1,10 @@
 use Rattle.std.proofs.Common.{◌≡◌, ◌++◌, length}
 use Rattle.std.specs.List.{AllByRecursion}
-use Rattle.csicodec_clean.specs.Private.Steps.{IsPlainByte}
+use Rattle.csicodec_clean.specs.Bytes.{IsPlainByte}
 use Rattle.csicodec_overwrite.specs.Line.{do_all, pen_behind_all}
 use Rattle.csicodec_overwrite.specs.Paint.{texts_of}
 use Rattle.csicodec_overwrite.specs.Steps.{of_chars}
-use Rattle.csicodec_overwrite.proofs.line.Line.take_plain.Given as goal
+use Rattle.csicodec_overwrite.proofs.line.Line.put_text.Given as goal
 
 -- the characters up to here are put
 abbrev pub invariant-loop-byte : goal.invariant-loop-byte

@@ -3,10 +3,11 @@ use Rattle.std.proofs.Common.{◌≡◌, ℕ, zero, suc, ◌-◌, ◌+◌, ◌<�
 use Rattle.std.proofs.lemmas.Bool.Decides.{nat_tests}
 use Rattle.std.proofs.lemmas.List.{reverse-append, reverse-reverse}
 use Rattle.csicodec_overwrite.specs.declared.cells.Cell.{Cell}
+use Rattle.csicodec_overwrite.specs.declared.cells.Cell.TheVariants.{Behind, Char, Empty, Mark}
 use Rattle.csicodec_overwrite.specs.declared.cells.Glyph.{Glyph}
 use Rattle.csicodec_overwrite.specs.declared.line.Line.{Line}
-use Rattle.csicodec_overwrite.specs.Cells.{onto, takes, without}
-use Rattle.csicodec_overwrite.specs.Line.{back, before, line, over, put, repeat}
+use Rattle.csicodec_overwrite.specs.Cells.{columns, onto, takes, without}
+use Rattle.csicodec_overwrite.specs.Line.{back, before, behind_columns, forward, line, over, padded, put, repeat}
 use Rattle.csicodec_overwrite.specs.Paint.{texts_of}
 use Rattle.csicodec_overwrite.proofs.Texts.{texts_on}
 
@@ -42,6 +43,57 @@ some_less n k h = grind (arith, nat_tests)
 
 pub over_none : (n : ℕ) (cell : Cell) (left right : List Cell) → n < takes cell → over n left (cell ∷ right) ≡ line left (cell ∷ right)
 over_none n cell left right h = rw (some_less n (takes cell) h) refl
+
+-- ---- behind so many columns: back to them or forward, without the cells that stand before them
+
+pub takes_few : (cell : Cell) → takes cell ≤ 1
+takes_few Empty = omega arith
+takes_few (Char g) = omega arith
+takes_few Behind = omega arith
+takes_few (Mark c) = omega arith
+
+columns_onto : (left right : List Cell) → columns (onto left right) ≡ columns left + columns right
+columns_onto [] right = omega arith
+columns_onto (cell ∷ left) right = columns_onto left (cell ∷ right) ∙ omega arith
+
+over_onto : (n : ℕ) (left right : List Cell) → columns left ≤ n → over n [] (onto left right) ≡ over (n - columns left) left right
+over_onto n [] right few = ap (λ (m : ℕ). over m [] right) (omega arith)
+over_onto n (cell ∷ left) right few =
+    over_onto n left (cell ∷ right) (omega (arith, few)) ∙ over_on (n - columns left) cell left right (omega (arith, few)) ∙ ap (λ (m : ℕ). over m (cell ∷ left) right) (omega arith)
+
+abbrev within : Line → Line
+within l = over 0 l.left l.right
+
+over_back : (n : ℕ) (left right : List Cell) → n < columns left → within (back (columns left - n) left right) ≡ over n [] (onto left right)
+over_back n [] right h = absurd (omega (arith, h))
+over_back n (cell ∷ left) right h = ap within (back_on (columns (cell ∷ left) - n) cell left right (omega (arith, h))) ∙ by (nat_lt n (columns left)) refl (over_back n left (cell ∷ right))
+  where
+    by : (t : Bool) → nat_lt n (columns left) ≡ t → (n < columns left → within (back (columns left - n) left (cell ∷ right)) ≡ over n [] (onto left (cell ∷ right))) → within (back (columns (cell ∷ left) - n - takes cell) left (cell ∷ right)) ≡ over n [] (onto left (cell ∷ right))
+    by true is same =
+        let less : n < columns left = grind (arith, nat_tests) in
+        ap (λ (m : ℕ). within (back m left (cell ∷ right))) (omega (arith, less)) ∙ same less
+    by false is same =
+        let few : columns left ≤ n = grind (arith, nat_tests) in
+        ap (λ (m : ℕ). within (back m left (cell ∷ right))) (omega (arith, few, h, takes_few cell)) ∙ ap within (back_zero left (cell ∷ right))
+        ∙ ap (λ (m : ℕ). over m left (cell ∷ right)) (omega (arith, few, h, takes_few cell)) ∙ sym (over_onto n left (cell ∷ right) few)
+
+module _ (limit n : ℕ) (left right : List Cell) where
+  by_some : (t : Bool) → nat_lt n (columns left) ≡ t → forward limit (n - columns left) (back (columns left - n) left right) ≡ forward limit n (line [] (onto left right))
+  by_some true is =
+      let b = back (columns left - n) left right in
+      let less : n < columns left = grind (arith, nat_tests) in
+      let none : n - columns left ≡ 0 = omega (arith, less) in
+      let more : 0 - columns b.right ≡ n - columns (onto left right) = omega (arith, less, columns_onto left right) in
+      ap (λ (m : ℕ). forward limit m b) none ∙ ap (λ (m : ℕ). padded limit m (within b)) more ∙ ap (padded limit (n - columns (onto left right))) (over_back n left right less)
+  by_some false is =
+      let few : columns left ≤ n = grind (arith, nat_tests) in
+      let none : columns left - n ≡ 0 = omega (arith, few) in
+      let more : n - columns left - columns right ≡ n - columns (onto left right) = omega (arith, few, columns_onto left right) in
+      ap (λ (m : ℕ). forward limit (n - columns left) (back m left right)) none ∙ ap (forward limit (n - columns left)) (back_zero left right) ∙ ap (λ (m : ℕ). padded limit m (over (n - columns left) left right)) more
+      ∙ ap (padded limit (n - columns (onto left right))) (sym (over_onto n left right few))
+
+  pub by_back : forward limit (n - columns left) (back (columns left - n) left right) ≡ behind_columns limit n (line left right)
+  by_back = by_some (nat_lt n (columns left)) refl
 
 -- ---- all of them, the farthest first
 

@@ -14,6 +14,7 @@ use Rattle.csicodec_overwrite.specs.declared.step.Step.{Step}
 use Rattle.csicodec_overwrite.specs.declared.step.Step.TheVariants as step
 use Rattle.csicodec_overwrite.specs.Cells.{begins_behind, belongs, columns, emptied, erased, glyph, gone, onto, outside, takes, to_tab_stop, width, without}
 use Rattle.csicodec_overwrite.specs.Line.{Done, back, behind_columns, blank, cells_of, do_all, does, done, fits, forward, from_stop, line, lines_of, over, padded, parted, pen_behind, placed, put, repeat, repeated, restored, size, target, to_stop, widest}
+use Rattle.csicodec_overwrite.proofs.Moved.{takes_few}
 
 -- either way of a test
 either : {T : Type 0} (P : T → Type 0) (t : Bool) (x y : T) → (t ≡ true → P x) → (t ≡ false → P y) → P (cond t x y)
@@ -22,12 +23,6 @@ either P false x y h k = k refl
 
 always : {T : Type 0} (P : T → Type 0) (t : Bool) (x y : T) → P x → P y → P (cond t x y)
 always P t x y h k = either P t x y (λ e. h) (λ e. k)
-
-takes_few : (x : Cell) → takes x ≤ 1
-takes_few Empty = omega arith
-takes_few (Char g) = omega arith
-takes_few Behind = omega arith
-takes_few (Mark c) = omega arith
 
 few_columns : (xs : List Cell) → columns xs ≤ length xs
 few_columns [] = omega arith

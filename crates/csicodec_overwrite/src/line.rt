@@ -108,8 +108,9 @@ impl Line {
     fn behind_columns(&mut self, limit: usize, count: usize) -> Result<(), AllocError>
         ensures { OnOk result (self.new ≡ behind_columns limit count self.old) }
     {
-        move_all(&mut self.left, &mut self.right)?;
-        self.forward(limit, count)
+        let column = self.left.columns();
+        self.back(column.saturating_sub(count))?;
+        self.forward(limit, count.saturating_sub(column))
     }
 
     /// To this column.

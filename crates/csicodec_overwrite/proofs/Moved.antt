@@ -1,7 +1,7 @@
 -- Cells that are moved or taken, one after the other.
-use Rattle.std.proofs.Common.{◌≡◌, ℕ, zero, suc, ◌-◌, ◌+◌, ◌<◌, ◌≤◌, Bool, true, false, cond, ◌==◌, nat_le, nat_lt, List, [], ◌∷◌, ◌++◌, length, reverse, refl, sym, ap, ◌∙◌, arith, append_assoc, append-nil}
+use Rattle.std.proofs.Common.{◌≡◌, ℕ, zero, suc, ◌-◌, ◌+◌, ◌<◌, ◌≤◌, Bool, true, false, cond, ◌==◌, nat_le, nat_lt, List, [], ◌∷◌, ◌++◌, length, drop, replicate, reverse, take, take-append-drop, refl, sym, ap, ◌∙◌, arith, append_assoc, append-nil}
 use Rattle.std.proofs.lemmas.Bool.Decides.{nat_tests}
-use Rattle.std.proofs.lemmas.List.{reverse-append, reverse-reverse}
+use Rattle.std.proofs.lemmas.List.{replicate-append-replicate, reverse-append, reverse-reverse, take-replicate}
 use Rattle.csicodec_overwrite.specs.declared.cells.Cell.{Cell}
 use Rattle.csicodec_overwrite.specs.declared.cells.Cell.TheVariants.{Behind, Char, Empty, Mark}
 use Rattle.csicodec_overwrite.specs.declared.cells.Glyph.{Glyph}
@@ -110,6 +110,41 @@ no_cells (cell ∷ cells) h = absurd (omega (arith, h))
 
 pub empty_line : (l : Line) → length l.left ≡ 0 → length l.right ≡ 0 → l ≡ line [] []
 empty_line l h k = ap (λ (side : List Cell). line side l.right) (no_cells l.left h) ∙ ap (line []) (no_cells l.right k)
+
+-- ---- cells of which the farthest are empty
+
+columns_both : (xs ys : List Cell) → columns (xs ++ ys) ≡ columns xs + columns ys
+columns_both [] ys = omega arith
+columns_both (x ∷ xs) ys = omega (arith, columns_both xs ys)
+
+columns_empty : (n : ℕ) → columns (replicate n Empty) ≡ n
+columns_empty zero = refl
+columns_empty (suc n) = omega (arith, columns_empty n)
+
+reverse_empty : (n : ℕ) → reverse (replicate n Empty) ≡ replicate n Empty
+reverse_empty zero = refl
+reverse_empty (suc n) =
+    let one : 1 + n ≡ suc n = omega arith in
+    let more : n + 1 ≡ suc n = omega arith in
+    reverse-append (Empty ∷ []) (replicate n Empty) ∙ ap (λ (t : List Cell). t ++ Empty ∷ []) (reverse_empty n) ∙ replicate-append-replicate n 1 Empty ∙ ap (λ (m : ℕ). replicate m Empty) more
+
+pub bare_kept : (n : ℕ) (cells : List Cell) → cells ≡ replicate n Empty → (n ≡ columns (reverse cells)) × (take n cells ≡ replicate n Empty)
+bare_kept n cells e = (
+  sym (ap (λ (t : List Cell). columns (reverse t)) e ∙ ap columns (reverse_empty n) ∙ columns_empty n),
+  ap (take n) e ∙ take-replicate n n Empty (omega arith),
+)
+
+pub whole_bare : (n : ℕ) (cells : List Cell) → reverse cells ≡ replicate n Empty → take n cells ≡ replicate n Empty
+whole_bare n cells e = (bare_kept n cells (sym (reverse-reverse cells) ∙ ap reverse e ∙ reverse_empty n)).1
+
+-- they stay, and all others are emptied
+pub emptied_all : (n count : ℕ) (cells front side : List Cell) → count ≡ columns (reverse cells) → take n cells ≡ replicate n Empty → front ≡ take n cells → side ≡ replicate (count - n) Empty ++ reverse front → side ≡ replicate count Empty
+emptied_all n count cells front side is bare same e =
+    let rest = drop n cells in
+    let split : reverse cells ≡ reverse rest ++ reverse (take n cells) = ap reverse (sym (take-append-drop n cells)) ∙ reverse-append (take n cells) rest in
+    let some : n ≡ columns (reverse (take n cells)) = (bare_kept n (take n cells) bare).0 in
+    let whole : count - n + n ≡ count = omega (arith, is, ap columns split, columns_both (reverse rest) (reverse (take n cells)), some) in
+    e ∙ ap (λ (t : List Cell). replicate (count - n) Empty ++ t) (ap reverse (same ∙ bare) ∙ reverse_empty n) ∙ replicate-append-replicate (count - n) n Empty ∙ ap (λ (m : ℕ). replicate m Empty) whole
 
 -- ---- room
 

@@ -1,6 +1,7 @@
 //! What stands in a line, cell by cell.
 ghost use Rattle.std.specs.Prelude.{◌≡◌, ◌++◌, ◌∷◌, [], ℕ, List, OnOk, MatchOption, length, replicate, reverse};
 ghost use Rattle.csicodec_overwrite.specs.Cells.{begins_behind, belongs, columns, emptied, is_empty, onto, outside, takes, trimmed, without};
+ghost use Rattle.csicodec_overwrite.specs.declared.cells.Cell.TheVariants.{Empty};
 
 use csicodec_html::Look;
 use std::alloc::{AllocError, Global};
@@ -62,18 +63,22 @@ pub(crate) struct Side {
     cells: Vec<Cell>,
     /// How many columns they take.
     width: usize,
+    /// So many of the farthest are empty.
+    bare: usize,
 }
 
 impl Model for Side {
-    ghost use Rattle.std.specs.Prelude.{◌≡◌, List, reverse};
+    ghost use Rattle.std.specs.Prelude.{◌≡◌, List, replicate, reverse, take};
     ghost use Rattle.csicodec_overwrite.specs.Cells.{columns};
     ghost use Rattle.csicodec_overwrite.specs.declared.cells.Cell.{Cell as CellOf};
+    ghost use Rattle.csicodec_overwrite.specs.declared.cells.Cell.TheVariants.{Empty};
 
     ghost Value = { List CellOf };
 
     ghost view = { λ s. reverse s.cells.items };
 
-    ghost invariant = { λ s. s.width ≡ columns (reverse s.cells.items) };
+    ghost invariant = { λ s. (s.width ≡ columns (reverse s.cells.items))
+        × (take s.bare s.cells.items ≡ replicate s.bare Empty) };
 }
 
 impl Side {
@@ -84,6 +89,7 @@ impl Side {
         Side {
             cells: Vec::new(alloc),
             width: 0,
+            bare: 0,
         }
     }
 
@@ -142,6 +148,7 @@ impl Side {
     {
         let cell = self.cells.pop()?;
         self.width -= cell.takes();
+        self.bare = self.bare.min(self.cells.len());
         Some(cell)
     }
 
@@ -151,6 +158,7 @@ impl Side {
     {
         self.cells.clear();
         self.width = 0;
+        self.bare = 0;
     }
 
     /// Puts so many of the same cell nearest.
@@ -162,6 +170,20 @@ impl Side {
         }
         Ok(())
     }
+
+    /// Empties all columns: those that are empty stay.
+    pub(crate) fn empty(&mut self) -> Result<(), AllocError>
+        ensures { OnOk result (self.new ≡ replicate (columns self.old) Empty) }
+    {
+        let count = self.width;
+        let others = count.saturating_sub(self.bare);
+        self.cells.truncate(self.bare);
+        self.width = self.bare;
+        self.push_many(Cell::Empty, others)?;
+        self.bare = count;
+        Ok(())
+    }
+
     /// Takes so many columns, as far as there are some.
     pub(crate) fn take_columns(&mut self, count: usize)
         ensures { self.new ≡ without count self.old }

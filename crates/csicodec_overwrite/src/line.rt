@@ -149,15 +149,6 @@ impl Line {
         Ok(())
     }
 
-    /// Empties the columns left of the cursor.
-    fn empty_left(&mut self) -> Result<(), AllocError>
-        ensures { OnOk result (self.new ≡ line (erase_all self.old).left self.old.right) }
-    {
-        let count = self.left.columns();
-        self.left.clear();
-        self.left.push_many(Cell::Empty, count)
-    }
-
     /// Erases from the cursor on.
     fn erase_right(&mut self) -> Result<(), AllocError>
         ensures { OnOk result (self.new ≡ erase_right self.old) }
@@ -171,7 +162,7 @@ impl Line {
     fn erase_left(&mut self) -> Result<(), AllocError>
         ensures { OnOk result (self.new ≡ erase_left self.old) }
     {
-        self.empty_left()?;
+        self.left.empty()?;
         erase_columns(&mut self.right, 1)
     }
 
@@ -180,7 +171,7 @@ impl Line {
         ensures { OnOk result (self.new ≡ erase_all self.old) }
     {
         self.right.clear();
-        self.empty_left()
+        self.left.empty()
     }
 
     /// Erases so many columns from the cursor on.
@@ -473,7 +464,7 @@ impl Line {
         Ok(())
     }
 
-    /// Whether such text is a line that is written as it comes.
+    /// Whether such text is written as it comes.
     fn is_straight(&self, limit: usize, pen: &Pen, text: &[u8], painted: bool) -> bool
         ensures { result ≡ true → IsStraight limit painted pen.now text.now self.now }
     {

@@ -9,7 +9,7 @@
 //! Any other line is a word for a call, for values or for what is printed, and what it is made with; behind it stand the answers, and
 //! `otherwise` where a law is broken. An empty line, and one that begins with `#`, stays as it is.
 //!
-//! Bytes are spelled with `\e` for ESC, `\a` for BEL, `\r` for CR and `\\` for `\`, and in the answers as `explain` shows them; tokens stand
+//! Bytes are spelled with `\e` for ESC, `\r` for CR, `\x07` for BEL and `\\` for `\`, and in the answers as `explain` shows them; tokens stand
 //! between spaces: a number, or one character for a byte, where `#53` is the character 53. The files `stdin` and `stdout` beside `src/` are the
 //! table, which was written by hand.
 #![tactic(auto)]

@@ -1,4 +1,5 @@
 //! How a row spells tokens, characters and bytes.
+use bstr::ByteVec;
 use csicodec::CsiParam;
 use csicodec_strings::append_escaped;
 use std::alloc::{AllocError, Global};
@@ -37,24 +38,9 @@ pub(crate) fn list_of(alloc: Global, words: &str) -> Result<(Vec<CsiParam>, char
     Ok((tokens_of(alloc, front)?, char_of(last).unwrap_or(' ')))
 }
 
-/// The bytes that a word spells: `\e` is ESC, `\a` BEL and `\r` CR, and any other character behind a `\` is itself.
+/// The bytes that a word spells: `\e` is ESC, and any other escape is that of `bstr`.
 pub(crate) fn bytes_of(alloc: Global, word: &str) -> Result<Vec<u8>, AllocError> {
-    let mut bytes = Vec::new(alloc);
-    let mut escaped = false;
-    for byte in word.bytes() {
-        if escaped || byte != b'\\' {
-            bytes.push(match byte {
-                b'e' if escaped => 0x1b,
-                b'a' if escaped => 0x07,
-                b'r' if escaped => b'\r',
-                _ => byte,
-            })?;
-            escaped = false;
-        } else {
-            escaped = true;
-        }
-    }
-    Ok(bytes)
+    Vec::unescape_bytes(alloc, word.replace(alloc, "\\e", "\\x1b")?.as_str())
 }
 
 /// Bytes as `explain` shows them.

@@ -1,7 +1,6 @@
 -- Bytes of a class in front, and what is behind them.
-use Rattle.std.proofs.Common.{◌≡◌, ℕ, zero, suc, ◌+◌, ◌-◌, ◌<◌, ◌≤◌, Bool, true, false, cond, List, [], ◌∷◌, length, length-drop, drop, take, refl, sym, ap, ◌∙◌, arith}
+use Rattle.std.proofs.Common.{◌≡◌, ℕ, zero, suc, ◌+◌, ◌<◌, ◌≤◌, Bool, true, false, cond, List, [], ◌∷◌, drop, take, refl, sym, ap, ◌∙◌, arith}
 use Rattle.std.specs.List.{AllByRecursion, prefix_len}
-use Rattle.std.proofs.lemmas.List.Sums.{prefix_len-le-length}
 use Rattle.csicodec_clean.specs.Bytes.{behind}
 
 one : (n : ℕ) → 1 + n ≡ suc n
@@ -16,9 +15,6 @@ module _ (p : ℕ → Bool) where
       go : (n : ℕ) (b : Bool) → p x ≡ b → AllByRecursion (λ y. p y ≡ true) (take n xs) → AllByRecursion (λ y. p y ≡ true) (take (cond b (1 + n) 0) (x ∷ xs))
       go n true is rest = rw (one n) (is, rest)
       go n false is rest = tt
-
-  pub behind_none : (x : ℕ) (xs : List ℕ) → p x ≡ false → behind p (x ∷ xs) ≡ x ∷ xs
-  behind_none x xs other = ap (λ b. drop (cond b (1 + prefix_len p xs) 0) (x ∷ xs)) other
 
   pub behind_one : (x : ℕ) (xs : List ℕ) → p x ≡ true → behind p (x ∷ xs) ≡ behind p xs
   behind_one x xs is = ap (λ b. drop (cond b (1 + prefix_len p xs) 0) (x ∷ xs)) is ∙ ap (λ n. drop n (x ∷ xs)) (one (prefix_len p xs))
@@ -52,7 +48,3 @@ module _ (p : ℕ → Bool) where
           → cond b (1 + prefix_len p (take n xs)) 0 ≡ cond b (1 + prefix_len p xs) 0
       by true less on = ap (λ k. 1 + k) (on (omega (arith, less)))
       by false less on = refl
-
-  -- how many they are
-  pub front_len : (xs : List ℕ) → length xs - length (behind p xs) ≡ prefix_len p xs
-  front_len xs = omega (arith, length-drop (prefix_len p xs) xs, prefix_len-le-length p xs)

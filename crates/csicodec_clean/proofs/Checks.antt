@@ -38,16 +38,6 @@ one_plain bytes c size char same shows =
     ap (λ (i : ℕ). take i bytes) (same ∙ sym s.width) ∙ ap (λ (t : List ℕ). take (length own) t) s.bytes ∙ take-append_seam own (drop (decoded bytes).size bytes) in
     (c ∷ [], and_from (scalar c) true s.scalar refl, (shows, tt), text ∙ sym (append-nil own))
 
-pub hidden_one : (bytes : List ℕ) (c : ℕ) → Some c ≡ (decoded bytes).char → shown c ≡ false → IsHidden bytes
-hidden_one bytes c char hides = λ d is. let e : Some c ≡ Some d = char ∙ is in cc
-
-pub hidden_bad : (bytes : List ℕ) → None ≡ (decoded bytes).char → IsHidden bytes
-hidden_bad bytes bad = λ d is. absurd (let e : None ≡ Some d = bad ∙ is in cc)
-
-pub hidden_none : (bytes : List ℕ) → bytes ≡ [] → IsHidden bytes
-hidden_none [] none = hidden_bad [] refl
-hidden_none (b ∷ bytes) none = absurd (omega (arith, ap length none))
-
 -- what decodes so whatever follows
 pub sure_char : (bytes : List ℕ) (c : ℕ) → 0 < length bytes → Some c ≡ (decoded bytes).char → (more : List ℕ) → decoded (bytes ++ more) ≡ decoded bytes
 sure_char bytes c some char more = sure_piece bytes more some (λ none. absurd (let e : Some c ≡ None = char ∙ none in cc))
@@ -56,9 +46,6 @@ pub sure_bad : (bytes : List ℕ) (size : ℕ) → 0 < length bytes → size ≡
 sure_bad bytes size some same other more =
     let bounds = piece-bounds bytes some in
     sure_piece bytes more some (λ none. grind (arith, nat_tests, bounds.2, same, other))
-
-pub hidden_more : (bytes more : List ℕ) → decoded (bytes ++ more) ≡ decoded bytes → IsHidden bytes → IsHidden (bytes ++ more)
-hidden_more bytes more same hidden = λ c is. hidden c (ap (λ (p : Decoded). p.char) (sym same) ∙ is)
 
 -- ---- places
 
@@ -96,10 +83,6 @@ more_came bytes held more at line s = record {
   place = s.place;
   number = s.number;
 }
-
--- where no rest is left, all is plain
-pub all_plain : (bytes rest : List ℕ) (at line : ℕ) → Stands bytes rest at line → rest ≡ [] → IsPlain bytes
-all_plain bytes rest at line s none = subst IsPlain (sym (s.whole ∙ ap (λ t. s.front ++ t) none ∙ append-nil s.front)) s.plain
 
 -- ---- what is no plain text
 

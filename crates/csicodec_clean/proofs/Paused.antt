@@ -43,11 +43,6 @@ held_on before gone held span kept rest left all e split now =
 parted : (n : ℕ) (bytes held behind before left : List ℕ) → held ≡ take n bytes → behind ≡ drop n bytes → held ++ behind ≡ before ++ left → bytes ≡ before ++ left
 parted n bytes held behind before left h b e = sym (take-append-drop n bytes) ∙ ap (λ (t : List ℕ). t ++ drop n bytes) (sym h) ∙ ap (λ (t : List ℕ). held ++ t) (sym b) ∙ e
 
-pub room : (n : ℕ) (bytes held behind before left rest : List ℕ) → held ≡ take n bytes → behind ≡ drop n bytes → held ++ behind ≡ before ++ (left ++ rest) → length left + length rest ≤ length bytes
-room n bytes held behind before left rest h b e =
-    let whole = parted n bytes held behind before (left ++ rest) h b e in
-    omega (arith, ap length whole, length-append before (left ++ rest), length-append left rest)
-
 module _ {S : Type 0} (Gives : RuleOf S) where
   -- a step, by what goes behind the bytes that are held
   pub resumes : (s t : S) (p q : Pause) (bytes held behind text left rest : List ℕ) → held ≡ take p.held bytes → behind ≡ drop p.held bytes → q.held ≡ length left → IsUnsure longest q.mode rest

@@ -161,13 +161,6 @@ module _ {S : Type 0} (Gives : RuleOf S) where
       let x = spanned (read_as k t) s run chars held span more (with_titles t cut.parts) after left now.span read h in
       record { parts = cut.parts; text = x.text; left = x.left; read = x.read; first = cut.first; titles = sym now.behind; steps = x.steps; is_read = x.is_read; same = x.same }
 
-  -- a span more
-  pub goes_on : (limit : ℕ) (m n a : Mode) (t u : Bool) (k : Kind) (s mid after : S) (run chars bytes appended behind held span rest more left : List ℕ) → Goes Gives limit m t s run chars bytes appended behind n u mid held
-      → Cuts limit n behind k span rest a → IsAppended Gives (read_as k u) mid held span more after left → Goes Gives limit m t s run chars bytes (appended ++ more) rest a (title_behind u k span) after left
-  goes_on limit m n a t u k s mid after run chars bytes appended behind held span rest more left g cut h =
-      goes_then limit m n a t u (title_behind u k span) s mid after run chars bytes appended behind held more rest left g
-      (goes_span limit n a u k mid after g.left g.read behind held span rest more left g.is_read cut h)
-
   -- the whole stream
   pub cleans : (limit : ℕ) (a : Mode) (u : Bool) (s after : S) (bytes appended rest held : List ℕ) → Goes Gives limit mode.Text false s [] [] bytes appended rest a u after held → IsUnsure limit a rest
       → Cleans Gives limit s bytes (appended ++ shown_text held) after

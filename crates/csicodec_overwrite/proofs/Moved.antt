@@ -22,9 +22,6 @@ pub without_zero : (cells : List Cell) → without 0 cells ≡ cells
 without_zero [] = refl
 without_zero (cell ∷ cells) = refl
 
-pub without_on : (n : ℕ) (cell : Cell) (cells : List Cell) → 0 < n → without n (cell ∷ cells) ≡ without (n - takes cell) cells
-without_on n cell cells h = fails (n == 0) (cell ∷ cells) (without (n - takes cell) cells) (some_left n h)
-
 pub back_zero : (left right : List Cell) → back 0 left right ≡ line left right
 back_zero [] right = refl
 back_zero (cell ∷ left) right = refl
@@ -37,12 +34,6 @@ none_less n k h = grind (arith, nat_tests)
 
 pub over_on : (n : ℕ) (cell : Cell) (left right : List Cell) → takes cell ≤ n → over n left (cell ∷ right) ≡ over (n - takes cell) (cell ∷ left) right
 over_on n cell left right h = fails (nat_lt n (takes cell)) (line left (cell ∷ right)) (over (n - takes cell) (cell ∷ left) right) (none_less n (takes cell) h)
-
-some_less : (n k : ℕ) → n < k → nat_lt n k ≡ true
-some_less n k h = grind (arith, nat_tests)
-
-pub over_none : (n : ℕ) (cell : Cell) (left right : List Cell) → n < takes cell → over n left (cell ∷ right) ≡ line left (cell ∷ right)
-over_none n cell left right h = rw (some_less n (takes cell) h) refl
 
 -- ---- behind so many columns: back to them or forward, without the cells that stand before them
 

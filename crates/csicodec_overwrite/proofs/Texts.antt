@@ -1,5 +1,5 @@
 -- The text of lines, and what it is as characters.
-use Rattle.std.proofs.Common.{◌≡◌, ℕ, Bool, false, List, [], ◌∷◌, ◌++◌, encode_utf8_all, refl, sym, ap, ◌∙◌, append-nil}
+use Rattle.std.proofs.Common.{◌≡◌, ℕ, Bool, false, List, [], ◌∷◌, ◌++◌, encode_utf8_all, refl, sym, ap, ◌∙◌}
 use Rattle.std.specs.List.{flat_map}
 use Rattle.std.proofs.lemmas.Grind.{flat_map-append}
 use Rattle.csicodec_clean.proofs.Shows.{encoded_on}
@@ -12,10 +12,6 @@ use Rattle.csicodec_overwrite.specs.Reading.{shown_by}
 -- lines and then others
 pub texts_on : (painted : Bool) (xs ys : List (List Cell)) → texts_of painted (xs ++ ys) ≡ texts_of painted xs ++ texts_of painted ys
 texts_on painted xs ys = flat_map-append (ended painted) xs ys
-
--- a line
-pub texts_one : (painted : Bool) (cells : List Cell) → texts_of painted (cells ∷ []) ≡ ended painted cells
-texts_one painted cells = append-nil (ended painted cells)
 
 -- ---- characters
 

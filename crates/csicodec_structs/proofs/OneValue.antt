@@ -1,5 +1,5 @@
 -- Values by their numbers and tokens: what is by its name is found again, and everything has its like that is.
-use Rattle.std.proofs.Common.{◌≡◌, ℕ, suc, ◌<◌, List, [], ◌∷◌, Option, None, Some, length, map, refl, sym, ap, ◌∙◌, pos, inl, inr, arith}
+use Rattle.std.proofs.Common.{◌≡◌, ℕ, suc, List, [], ◌∷◌, Option, None, Some, length, map, refl, sym, ap, ◌∙◌, pos, inl, inr, arith}
 use Rattle.std.specs.Prelude.{ℤ, Bool, true, false, nat_abs, ◌==◌, ◌||◌, if◌then◌else◌}
 use Rattle.std.specs.List.{All, AllByRecursion}
 use Rattle.std.proofs.lemmas.Bool.{cases_Bool, eq-eqb, false≢true}

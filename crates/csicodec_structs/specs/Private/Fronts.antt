@@ -16,7 +16,6 @@ use Rattle.csicodec_structs.specs.declared.next.Front.{Front}
 use Rattle.csicodec_structs.specs.declared.structs.Param.{Param}
 use Rattle.csicodec_structs.specs.declared.structs.Struct.{Struct}
 use Rattle.csicodec_structs.specs.Room.{laid}
-use Rattle.csicodec_structs.specs.Rows.{params_of, struct_of}
 use Rattle.csicodec_structs.specs.Status.{status_number}
 use Rattle.csicodec_structs.specs.declared.status.Status.TheVariants as status
 

@@ -112,6 +112,9 @@ impl<'a> Style<'a> {
     }
 
     fn tells_words(&self, words: &str) -> bool {
+        if !self.unknown && self.only.is_none() {
+            return true;
+        }
         let (name, rest) = name_of(words);
         if self.unknown && name != "malformed" && !says_unknown(name, rest) {
             return false;

@@ -55,12 +55,25 @@ pub struct Remembered {
     turn: usize,
 }
 
-/// A number for the bytes of a sequence.
+/// A number by another one, and by those before it.
+#[inline(always)]
+fn mixed(hash: u32, number: u32) -> u32 {
+    (hash ^ number).wrapping_mul(0x9e37_79b1)
+}
+
+/// A number for the bytes of a sequence, four at once.
 #[inline(always)]
 fn hash_of(bytes: &[u8]) -> u32 {
-    let mut hash = 0u32;
-    for byte in bytes {
-        hash = (hash ^ u32::from(*byte)).wrapping_mul(0x9e37_79b1);
+    let (mut hash, mut rest) = (0u32, bytes);
+    for _ in 0..bytes.len() {
+        let Some((four, behind)) = rest.split_first_chunk() else {
+            break;
+        };
+        hash = mixed(hash, u32::from_le_bytes(*four));
+        rest = behind;
+    }
+    for byte in rest {
+        hash = mixed(hash, u32::from(*byte));
     }
     hash
 }

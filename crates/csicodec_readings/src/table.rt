@@ -33,6 +33,15 @@ pub struct WordsRow {
 }
 
 impl WordsRow {
+    /// Whether it is of a list by its bytes, its first two numbers and how many it has.
+    fn is_of(&self, params: &[CsiParam]) -> bool {
+        let (first, second) = (number(params, 0), number(params, 1));
+        self.marker == marker(params)
+            && self.between == intermediate(params)
+            && is_within(count_fields(params), self.fields)
+            && self.has(first.unwrap_or(0), second.unwrap_or(0))
+    }
+
     /// Whether these can be its first two numbers.
     fn has(&self, first: i64, second: i64) -> bool {
         is_within(first, self.first) && is_within(second, self.second)
@@ -67,15 +76,10 @@ fn of_row(params: &[CsiParam], control: char) -> Option<&'static str> {
     None
 }
 
-/// The words of a list by its bytes, its first two numbers and how many it has.
+/// The words of the first of these rows that is of a list.
 fn of_bytes(rows: &'static [WordsRow], params: &[CsiParam], control: char) -> Option<&'static str> {
-    let (marker, between) = (marker(params), intermediate(params));
-    let first = number(params, 0).unwrap_or(0);
-    let second = number(params, 1).unwrap_or(0);
-    let fields = count_fields(params);
     for row in rows {
-        let same = row.marker == marker && row.between == between && row.control == control;
-        if same && is_within(fields, row.fields) && row.has(first, second) {
+        if row.control == control && row.is_of(params) {
             return Some(row.words);
         }
     }

@@ -114,23 +114,18 @@ impl Offset {
         self.begin = begin;
     }
 
-    /// A place, most often one that is less than ten bytes behind.
+    /// A place, most often one that is near behind: then the last two digits alone are others.
     #[inline(always)]
     pub fn go_to(&mut self, number: u64) {
-        let more = number.wrapping_sub(self.number);
-        if more > 9 {
-            return self.write(number);
-        }
-        let (tens, last) = (self.text[18], self.text[19].wrapping_add(more as u8));
-        if last <= b'9' {
-            self.text[19] = last;
-        } else if matches!(tens, b'0'..=b'8') {
-            self.text[18] = tens + 1;
-            self.text[19] = last - 10;
-        } else {
+        let more = number.wrapping_sub(self.number).min(100);
+        let tens = u64::from(self.text[18].wrapping_sub(b'0'));
+        let low = tens * 10 + u64::from(self.text[19].wrapping_sub(b'0')) + more;
+        if low > 99 {
             return self.write(number);
         }
         self.number = number;
+        self.text[18] = b'0' + (low / 10) as u8;
+        self.text[19] = b'0' + (low % 10) as u8;
     }
 
     /// The digits.
@@ -138,9 +133,18 @@ impl Offset {
         self.text.get(self.begin..20).unwrap_or(&[])
     }
 
-    /// The digits, with blanks ahead of them where there are fewer than eight, and two blanks behind them.
+    /// The digits and two blanks behind them.
     fn columns(&self) -> &[u8] {
-        self.text.get(self.begin.min(12)..).unwrap_or(&[])
+        self.text.get(self.begin..).unwrap_or(&[])
+    }
+
+    /// The same with blanks ahead of them, where there are at most eight digits.
+    fn near_columns(&self) -> Option<&[u8; PLACE]> {
+        if self.begin < 12 {
+            None
+        } else {
+            self.text.last_chunk()
+        }
     }
 }
 
@@ -179,7 +183,10 @@ pub fn append_begin(
         append_time(text, time, TIME.saturating_sub(2))?;
         append_blanks(text, 2)?;
     }
-    text.extend_from_slice(place.columns())?;
+    match place.near_columns() {
+        Some(columns) => text.extend_from_slice(columns)?,
+        None => text.extend_from_slice(place.columns())?,
+    }
     paint(text, style, GREEN)
 }
 

@@ -341,12 +341,15 @@ pub fn append_name(text: &mut Vec<u8>, style: &Style<'_>, name: &str) -> Result<
     text.extend_from_slice(b"  ")
 }
 
-/// What stands behind the words of a text with this end of a line.
-fn words_of_end(end: &[u8]) -> &'static [u8] {
-    match end {
-        [] => b"\n",
-        [_] => b", LF\n",
-        _ => b", CR LF\n",
+/// What stands behind the number of a text's bytes, with this end of its line.
+fn behind_number(len: u64, end: &[u8]) -> &'static [u8] {
+    match (len, end) {
+        (1, []) => b" byte\n",
+        (1, [_]) => b" byte, LF\n",
+        (1, _) => b" byte, CR LF\n",
+        (_, []) => b" bytes\n",
+        (_, [_]) => b" bytes, LF\n",
+        (_, _) => b" bytes, CR LF\n",
     }
 }
 
@@ -367,7 +370,5 @@ pub fn append_text_words(
     } else {
         append_number(text, len)?;
     }
-    let unit: &[u8] = if len == 1 { b" byte" } else { b" bytes" };
-    text.extend_from_slice(unit)?;
-    text.extend_from_slice(words_of_end(span.end))
+    text.extend_from_slice(behind_number(len, span.end))
 }

@@ -1,5 +1,7 @@
 //! Control characters that stand in text: the set C0 of ISO 646 (ECMA-48, 8.3; ISO-IR 1), and what terminals do.
 
+use csicodec_strings::text_len;
+
 /// The names of the set C0, by their bytes, and what each does; ESC stands in no text.
 static C0: [&str; 32] = [
     "NUL  nothing",
@@ -44,13 +46,8 @@ pub fn is_control(byte: u8) -> bool {
 /// Text up to its first control character, with that, and what is behind it.
 #[inline(always)]
 pub fn text_front(bytes: &[u8]) -> (&[u8], &[u8]) {
-    for (at, byte) in bytes.iter().enumerate() {
-        if is_control(*byte) {
-            let front = at.saturating_add(1);
-            return bytes.split_at_checked(front).unwrap_or((bytes, &[]));
-        }
-    }
-    (bytes, &[])
+    let front = text_len(bytes).saturating_add(1);
+    bytes.split_at_checked(front).unwrap_or((bytes, &[]))
 }
 
 /// The name of a control character, or of a carriage return with a line feed behind it, and what it does.

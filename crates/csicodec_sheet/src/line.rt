@@ -1,8 +1,8 @@
 //! The begin of a line: when and where a span came, and its bytes.
 
 use crate::style::Style;
-use bstr::ByteSlice;
-use csicodec_strings::{append_escaped, append_quoted, are_plain, is_seen};
+use bstr::decode_utf8;
+use csicodec_strings::{append_escaped, are_plain, is_seen, plain_len};
 use itoa::write_digits;
 use std::alloc::AllocError;
 
@@ -217,22 +217,6 @@ fn columns_of(character: char, bytes: usize, quoted: bool) -> usize {
     }
 }
 
-/// The bytes in front that are shown in so many columns.
-fn shown_front(sort: Sort, bytes: &[u8], columns: usize) -> &[u8] {
-    if bytes.len() <= columns && are_plain(bytes) {
-        return bytes;
-    }
-    let mut room = columns;
-    for (begin, end, character) in bytes.char_indices() {
-        let taken = columns_of(character, end.saturating_sub(begin), sort == Sort::Text);
-        if taken > room {
-            return bytes.get(..begin).unwrap_or(bytes);
-        }
-        room = room.saturating_sub(taken);
-    }
-    bytes
-}
-
 /// How many bytes there are, of which not all are shown.
 fn append_count(text: &mut Vec<u8>, len: u64) -> Result<(), AllocError> {
     text.extend_from_slice(b".. (")?;
@@ -240,18 +224,112 @@ fn append_count(text: &mut Vec<u8>, len: u64) -> Result<(), AllocError> {
     text.extend_from_slice(b" bytes)")
 }
 
-/// The first bytes of a span, which are shown in so many columns with their count behind them.
-fn counted_front<'b>(
+/// Appends a character, or bytes that are none, as it is shown; how many bytes of that take no column.
+fn append_character(
     text: &mut Vec<u8>,
-    span: Told<'b>,
+    character: Option<char>,
+    bytes: &[u8],
+    quoted: bool,
+) -> Result<usize, AllocError> {
+    match character {
+        Some('"') if quoted => text.extend_from_slice(b"\\\"")?,
+        Some(character) if quoted && !character.is_ascii() => {
+            if is_seen(character) {
+                text.extend_from_slice(bytes)?;
+                return Ok(bytes.len().saturating_sub(1));
+            }
+            let number = u32::from(character);
+            let shown = format!(in *text.allocator(); "\\u{{{number:x}}}")?;
+            text.extend_from_slice(shown.as_bytes())?;
+        }
+        _ => append_escaped(text, bytes)?,
+    }
+    Ok(0)
+}
+
+/// How many bytes the character in front has, where between quotation marks it is shown as it is in one column; else 0.
+fn seen_len(bytes: &[u8]) -> usize {
+    match decode_utf8(bytes) {
+        (Some(character), len) if character != '\u{fffd}' && is_seen(character) => len,
+        _ => 0,
+    }
+}
+
+/// How many bytes in front are characters that are shown as they are, each in one of so many columns, and how many columns they take.
+fn seen_front(bytes: &[u8], quoted: bool, columns: usize) -> (usize, usize) {
+    let (mut rest, mut room) = (bytes, columns);
+    for _ in 0..bytes.len() {
+        let near = rest.get(..room).unwrap_or(rest);
+        let (len, taken) = match near.first() {
+            Some(0x80..) if quoted => (seen_len(rest), 1),
+            _ => {
+                let plain = plain_len(near);
+                (plain, plain)
+            }
+        };
+        if len == 0 {
+            break;
+        }
+        room = room.saturating_sub(taken);
+        rest = rest.get(len..).unwrap_or(&[]);
+    }
+    let len = bytes.len().saturating_sub(rest.len());
+    (len, columns.saturating_sub(room))
+}
+
+/// Appends the bytes in front that are shown in so many columns: how many they are, how many columns are left, and how many bytes of what
+/// was appended take none.
+fn append_front(
+    text: &mut Vec<u8>,
+    bytes: &[u8],
+    quoted: bool,
     columns: usize,
-) -> Result<&'b [u8], AllocError> {
+) -> Result<(usize, usize, usize), AllocError> {
+    let (mut rest, mut room, mut hidden) = (bytes, columns, 0usize);
+    for _ in 0..bytes.len() {
+        let (len, taken) = seen_front(rest, quoted, room);
+        let (run, behind) = rest.split_at_checked(len).unwrap_or((rest, &[]));
+        text.extend_from_slice(run)?;
+        hidden = hidden.saturating_add(len.saturating_sub(taken));
+        room = room.saturating_sub(taken);
+        rest = behind;
+        let (character, len) = decode_utf8(rest);
+        let taken = columns_of(character.unwrap_or('\u{fffd}'), len, quoted);
+        if rest.is_empty() || taken > room {
+            break;
+        }
+        let (front, behind) = rest.split_at_checked(len).unwrap_or((rest, &[]));
+        hidden = hidden.saturating_add(append_character(text, character, front, quoted)?);
+        room = room.saturating_sub(taken);
+        rest = behind;
+    }
+    let len = bytes.len().saturating_sub(rest.len());
+    Ok((len, room, hidden))
+}
+
+/// Appends the bytes of a span that are shown in so many columns: all, or the first of them, with room for their count. How many they are,
+/// and how many bytes of what was appended take no column.
+fn append_most(
+    text: &mut Vec<u8>,
+    span: Told<'_>,
+    columns: usize,
+) -> Result<(usize, usize), AllocError> {
+    let quoted = span.sort == Sort::Text;
     // The count is written to see how long it is.
     let begin = text.len();
     append_count(text, span.len)?;
-    let count = text.len().saturating_sub(begin);
+    let few = columns.saturating_sub(text.len().saturating_sub(begin));
     text.truncate(begin);
-    Ok(shown_front(span.sort, span.bytes, columns.saturating_sub(count)))
+    let (len, left, hidden) = append_front(text, span.bytes, quoted, few)?;
+    let end = text.len();
+    let rest = span.bytes.get(len..).unwrap_or(&[]);
+    let room = left.saturating_add(columns.saturating_sub(few));
+    let (more, _left, others) = append_front(text, rest, quoted, room)?;
+    if len.saturating_add(more) as u64 == span.len {
+        return Ok((len.saturating_add(more), hidden.saturating_add(others)));
+    }
+    text.truncate(end);
+    Ok((len, hidden))
 }
 
 /// The bytes of a span as a line shows them in so many columns, the first of them where not all have room; how many columns they take.
@@ -260,28 +338,29 @@ pub fn append_shown(
     span: Told<'_>,
     columns: usize,
 ) -> Result<usize, AllocError> {
+    let (begin, bytes) = (text.len(), span.bytes);
     let marks = span.end.len().saturating_add(1).saturating_mul(2);
     let room = columns.saturating_sub(marks);
-    let whole = shown_front(span.sort, span.bytes, room);
-    let more = (whole.len() as u64) < span.len;
-    let front = if more {
-        counted_front(text, span, room)?
+    let is_whole = bytes.len() as u64 == span.len;
+    // Where no text is, a byte takes at most four columns.
+    if is_whole && span.sort != Sort::Text && bytes.len().saturating_mul(4) <= room {
+        append_escaped(text, bytes)?;
+        return Ok(text.len().saturating_sub(begin));
+    }
+    let mark: &[u8] = if span.sort == Sort::Text { b"\"" } else { b"" };
+    text.extend_from_slice(mark)?;
+    let (shown, hidden) = if is_whole && bytes.len() <= room && are_plain(bytes) {
+        text.extend_from_slice(bytes)?;
+        (bytes.len(), 0)
     } else {
-        whole
+        append_most(text, span, room)?
     };
-    let begin = text.len();
-    let columns = if span.sort == Sort::Text {
-        append_quoted(text, front)?
-    } else {
-        append_escaped(text, front)?;
-        text.len().saturating_sub(begin)
-    };
-    let begin = text.len();
-    if more {
+    text.extend_from_slice(mark)?;
+    if (shown as u64) < span.len {
         append_count(text, span.len)?;
     }
     append_escaped(text, span.end)?;
-    Ok(columns.saturating_add(text.len().saturating_sub(begin)))
+    Ok(text.len().saturating_sub(begin).saturating_sub(hidden))
 }
 
 /// The blanks ahead of the words of a line that begins with no span.

@@ -18,7 +18,7 @@ use crate::fields::Body;
 use crate::kitty_graphics::graphics;
 use crate::osc::command;
 pub use escape::append_escaped;
-pub use shown::{Quoted, Shown, append_quoted, are_plain, is_seen};
+pub use shown::{Quoted, Shown, are_plain, is_seen, plain_len, text_len};
 use std::fmt;
 
 /// So many of the first bytes of a string are enough for its words.

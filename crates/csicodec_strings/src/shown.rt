@@ -1,8 +1,11 @@
 //! Bytes as they are shown to people: nothing that a terminal would carry out.
+ghost use Rattle.std.specs.Prelude.{◌≤◌, length};
 
-use crate::escape::append_escaped;
-use std::alloc::AllocError;
 use std::fmt;
+use std::simd::prelude::*;
+
+/// So many bytes are looked at at once.
+const LANES: usize = 16;
 
 /// So many bytes of what is quoted are shown.
 const MOST: usize = 120;
@@ -23,15 +26,55 @@ pub struct Quoted<'a> {
     pub more: bool,
 }
 
-/// Whether a byte is an ASCII character that stands for itself anywhere.
-fn is_plain(byte: u8) -> bool {
-    matches!(byte, b' '..=b'~') && byte != b'\\' && byte != b'"'
+/// How many of the first sixteen bytes stand ahead of a control character, and where it says so ahead of anything else that doesn't stand
+/// for itself between quotation marks; more where all do.
+#[inline(always)]
+fn front_of_lanes(bytes: &[u8], plain: bool) -> usize
+    requires { 16 ≤ length bytes.now }
+{
+    let lanes = u8x16::from_slice(bytes);
+    let mut odd = lanes.simd_lt(u8x16::splat(b' ')) | lanes.simd_eq(u8x16::splat(0x7f));
+    if plain {
+        odd = odd
+            | lanes.simd_gt(u8x16::splat(b'~'))
+            | lanes.simd_eq(u8x16::splat(b'"'))
+            | lanes.simd_eq(u8x16::splat(b'\\'));
+    }
+    odd.to_bitmask().trailing_zeros() as usize
 }
 
-/// Whether all bytes are ASCII characters that stand for themselves between quotation marks: none is a backslash or such a mark.
+/// The same of all bytes: the last sixteen may overlap those ahead of them, and fewer have controls behind them.
 #[inline(always)]
+fn front_len(bytes: &[u8], plain: bool) -> usize {
+    if bytes.len() < LANES {
+        let mut lanes = [0u8; LANES];
+        lanes[..bytes.len()].copy_from_slice(bytes);
+        return front_of_lanes(&lanes, plain);
+    }
+    let last = bytes.len() - LANES;
+    for block in 0..bytes.len().div_ceil(LANES) {
+        let at = block.saturating_mul(LANES).min(last);
+        let front = front_of_lanes(bytes.split_at(at).1, plain);
+        if front < LANES {
+            return at + front;
+        }
+    }
+    bytes.len()
+}
+
+/// How many bytes in front are ASCII characters that stand for themselves between quotation marks: none is a backslash or such a mark.
+pub fn plain_len(bytes: &[u8]) -> usize {
+    front_len(bytes, true)
+}
+
+/// How many bytes stand ahead of the first control character of ASCII.
+pub fn text_len(bytes: &[u8]) -> usize {
+    front_len(bytes, false)
+}
+
+/// Whether all bytes are ASCII characters that stand for themselves between quotation marks.
 pub fn are_plain(bytes: &[u8]) -> bool {
-    bytes.iter().all(|byte| is_plain(*byte))
+    plain_len(bytes) == bytes.len()
 }
 
 /// Whether a character is seen, in its place: it is no control, and none that has no width or turns the order of a line.
@@ -117,51 +160,4 @@ impl<'a> fmt::Display for Quoted<'a> {
         let more = self.more || front.is_some_and(|front| front.len() < self.bytes.len());
         if more { f.write_str("..") } else { Ok(()) }
     }
-}
-
-/// Appends a character as it is shown between quotation marks; how many columns it takes.
-fn append_character(out: &mut Vec<u8>, character: char) -> Result<usize, AllocError> {
-    let begin = out.len();
-    let mut buffer = [0u8; 4];
-    let bytes = character.encode_utf8(&mut buffer).as_bytes();
-    if character == '"' {
-        out.extend_from_slice(b"\\\"")?;
-    } else if character.is_ascii() {
-        append_escaped(out, bytes)?;
-    } else if is_seen(character) {
-        out.extend_from_slice(bytes)?;
-        return Ok(1);
-    } else {
-        let number = u32::from(character);
-        let text = format!(in *out.allocator(); "\\u{{{number:x}}}")?;
-        out.extend_from_slice(text.as_bytes())?;
-    }
-    Ok(out.len().saturating_sub(begin))
-}
-
-/// Appends bytes as they are shown; how many columns they take.
-fn append_characters(out: &mut Vec<u8>, bytes: &[u8]) -> Result<usize, AllocError> {
-    let mut columns = 0usize;
-    for chunk in bytes.utf8_chunks() {
-        for character in chunk.valid().chars() {
-            columns = columns.saturating_add(append_character(out, character)?);
-        }
-        let begin = out.len();
-        append_escaped(out, chunk.invalid())?;
-        columns = columns.saturating_add(out.len().saturating_sub(begin));
-    }
-    Ok(columns)
-}
-
-/// Appends all of these bytes as [`Quoted`] prints the first; how many columns that takes.
-pub fn append_quoted(out: &mut Vec<u8>, bytes: &[u8]) -> Result<usize, AllocError> {
-    out.push(b'"')?;
-    let columns = if are_plain(bytes) {
-        out.extend_from_slice(bytes)?;
-        bytes.len()
-    } else {
-        append_characters(out, bytes)?
-    };
-    out.push(b'"')?;
-    Ok(columns.saturating_add(2))
 }

@@ -23,7 +23,7 @@ fn add_spans(page: &mut Page<'_>, mode: Mode, bytes: &[u8]) -> Result<(usize, Mo
 {
     let (mut mode, mut rest) = (mode, bytes);
     loop {
-        let known = page.add_known(mode, rest)?;
+        let known = page.add_front(mode, rest)?;
         if known > 0 {
             rest = rest.split_at(known).1;
             continue;

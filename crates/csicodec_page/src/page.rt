@@ -2,13 +2,13 @@
 ghost use Rattle.std.specs.Prelude.{◌≤◌, IfOk, length};
 
 use crate::controls::{is_control, text_front, words_of};
-use csicodec_base::{CsiParam, Esc, read_csi_into};
+use csicodec_base::{CsiParam, Esc, ReadError, read_csi_into};
 use csicodec_parser::CSI;
 use csicodec_readings::{Did, EscReading, LongEscReading, Reading};
 use csicodec_sheet::{
     Names, Sheet, Sort, Style, Summary, Told, Totals, clipboard_bytes, whole_characters,
 };
-use csicodec_spans::{Kind, Mode};
+use csicodec_spans::{Kind, LIMIT, Mode};
 use csicodec_strings::{ControlString, FRONT};
 use csicodec_words::Described;
 use std::alloc::{AllocError, Global};
@@ -56,7 +56,7 @@ pub struct Page<'a> {
     totals: Totals,
 }
 
-/// The control sequence in front, where it is as most are: `ESC [`, bytes from 20 to 3f, and one from 40 to 7e; else no bytes.
+/// What looks like a control sequence in front: `ESC [`, bytes from 20 to 3f, and one from 40 to 7e; else no bytes.
 #[inline(always)]
 fn sequence_front(bytes: &[u8]) -> &[u8]
     ensures { length result.now ≤ length bytes.now }
@@ -340,17 +340,19 @@ impl<'a> Page<'a> {
         }
     }
 
-    /// A line for each action of a control sequence; how many they are.
+    /// A line for each action of a control sequence; how many they are, none where it isn't one.
     #[inline(never)]
-    fn tell_sequence(&mut self, bytes: &[u8]) -> Result<u64, AllocError> {
-        let Ok(tail) = read_csi_into(&mut self.params, bytes) else {
-            return Err(AllocError);
+    fn tell_sequence(&mut self, bytes: &[u8]) -> Result<Option<u64>, AllocError> {
+        let tail = match read_csi_into(&mut self.params, bytes) {
+            Ok(tail) => tail,
+            Err(ReadError::Memory) => return Err(AllocError),
+            Err(_) => return Ok(None),
         };
         let span = self.span_here(Sort::Sequence, bytes);
         let params = self.params.as_slice();
         let count = tell_actions(self.alloc, &mut self.sheet, span, params, tail.control)?;
         self.sheet.keep(bytes, count)?;
-        Ok(count)
+        Ok(Some(count))
     }
 
     /// A control sequence of these tokens, which may have controls in it.
@@ -393,21 +395,9 @@ impl<'a> Page<'a> {
         self.advance(Kind::Csi, 1, len);
     }
 
-    /// A control sequence.
-    fn add_sequence(&mut self, bytes: &[u8]) -> Result<(), AllocError> {
-        self.close()?;
-        let actions = match self.sheet.recall(self.time, self.place, bytes)? {
-            Some(actions) => actions,
-            None => self.tell_sequence(bytes)?,
-        };
-        self.end_sequence(actions, bytes.len());
-        Ok(())
-    }
-
-    /// A control sequence in front that was told before, where nothing is open: so nothing of it is read. How many bytes it has, 0 where
-    /// there is none.
+    /// The control sequence in front, where that is at a glance one, and nothing is open. How many bytes it has, 0 where there is none.
     #[inline(always)]
-    pub fn add_known(&mut self, mode: Mode, bytes: &[u8]) -> Result<usize, AllocError>
+    pub fn add_front(&mut self, mode: Mode, bytes: &[u8]) -> Result<usize, AllocError>
         ensures { IfOk result (λ used. used ≤ length bytes.now) }
     {
         let front = sequence_front(bytes);
@@ -415,7 +405,11 @@ impl<'a> Page<'a> {
             return Ok(0);
         }
         self.close()?;
-        match self.sheet.recall(self.time, self.place, front)? {
+        let told = match self.sheet.recall(self.time, self.place, front)? {
+            None if front.len() <= LIMIT => self.tell_sequence(front)?,
+            known => known,
+        };
+        match told {
             Some(actions) => {
                 self.end_sequence(actions, front.len());
                 Ok(front.len())
@@ -620,7 +614,7 @@ impl<'a> Page<'a> {
         more: bool,
     ) -> Result<(), AllocError> {
         match kind {
-            Kind::Csi => self.add_sequence(bytes),
+            Kind::Csi => self.add_front(Mode::Text, bytes).map(|_| ()),
             Kind::Esc => self.add_escape(bytes),
             Kind::Text => self.add_text(bytes, more),
             Kind::Str | Kind::Other => self.add_part(modes, kind, bytes),

@@ -7,4 +7,4 @@ pub returns : goal.returns
 returns c =
     let bytes = c.args.bytes.now in
     short_answer bytes _ c.args.actions.now c.lay_short.new.actions c.args.params.now c.in-Some.count c.number.result c.in-Some.after.now
-    (two_cut bytes c.in-27.len_at_least (omega arith) (omega arith)) c.in-Some.ensures.some c.number.ensures
+    (two_cut bytes 27 91 c.in-27.len_at_least (omega arith) (omega arith)) c.in-Some.ensures.some c.number.ensures

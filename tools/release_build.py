@@ -198,11 +198,45 @@ def link_program(kit, place, made, to, room):
     kit.tool("ld.lld", *how, "-s", "-u", "_start", "-o", to, *files, f"{TOP}/system/{place}/musl.a")
 
 
-def number_sections(kit, path):
-    """Gives the sections of an object numbers in place of the names of functions, which are long. A linker still leaves out what isn't called."""
-    kinds = r"\.(?:text|rodata|data\.rel\.ro)(?:\.unlikely)?\."
-    names = dict.fromkeys(re.findall(rf"\s({kinds}\S+)", kit.tool("llvm-readelf", "--sections", "--wide", path)))
-    kit.tool("llvm-objcopy", *(f"--rename-section={name}={re.match(kinds, name)[0]}{at}" for at, name in enumerate(names)), path)
+def sections_of(kit, path):
+    """The sections of an object that hold code and constants, by their names: which sections each leads to, and which the header's calls are in."""
+    symbols, leads, exported, at = {}, {}, set(), ""
+    for line in kit.tool("llvm-readelf", "--sections", "--wide", path).splitlines():
+        if found := re.match(r"\s*\[\s*(\d+)\] (\.(?:text|rodata|data\.rel\.ro)\.\S+)\s+PROGBITS", line):
+            symbols[int(found[1])] = found[2]
+            leads[found[2]] = set()
+    for line in kit.tool("llvm-readelf", "--symbols", "--wide", path).splitlines():
+        words = line.split()
+        if len(words) == 8 and words[6].isdigit() and int(words[6]) in symbols:
+            symbols[words[7]] = symbols[int(words[6])]
+            exported |= {symbols[words[7]]} if words[4] == "GLOBAL" else set()
+    for line in kit.tool("llvm-readelf", "--relocations", "--wide", path).splitlines():
+        if found := re.match(r"Relocation section '\.rela(\S+)'", line):
+            at = found[1]
+        elif at in leads and len(words := line.split()) > 4:
+            leads[at] |= {symbols.get(words[4], words[4])} & leads.keys() - {at}
+    return leads, exported
+
+
+def join_sections(kit, path):
+    """Joins the sections of an object that are needed only where one other is. A linker still leaves out what isn't called, and each section
+    costs a header, and one more for its relocations."""
+    leads, exported = sections_of(kit, path)
+    needed_by = {name: {other for other, those in leads.items() if name in those} for name in leads}
+    group = {name: name for name in leads}
+    changed = True
+    while changed:
+        changed = False
+        for name in [name for name in leads if name not in exported]:
+            roots = {group[other] for other in needed_by[name]} - {name}
+            if group[name] == name and len(roots) == 1:
+                changed, root = True, roots.pop()
+                group = {other: root if at == name else at for other, at in group.items()}
+    numbers = {root: at for at, root in enumerate(dict.fromkeys(group[name] for name in leads))}
+    kind = re.compile(r"\.(?:text|rodata|data\.rel\.ro)(?:\.unlikely|\.cst\d+|\.str[\d.]+)?\.")
+    kit.tool("llvm-objcopy", *(f"--rename-section={name}={kind.match(name)[0]}{numbers[group[name]]}" for name in leads), path)
+    os.rename(path, f"{path}.parts")
+    kit.tool("ld.lld", "-r", "-o", path, f"{path}.parts")
 
 
 def link_library(kit, place, made, folder, room):
@@ -217,7 +251,7 @@ def link_library(kit, place, made, folder, room):
     kit.c_object(target, "heap", f"{own}/heap.o", "-fPIC", "-fvisibility=hidden")
     kit.tool("ld.lld", "-r", "-o", f"{own}/whole.o", f"{own}/{parts[0]}", f"{own}/heap.o")
     kit.tool("llvm-objcopy", "--wildcard", "--localize-symbol=rattle_*", "--strip-unneeded", f"{own}/whole.o")
-    number_sections(kit, f"{own}/whole.o")
+    join_sections(kit, f"{own}/whole.o")
     kit.tool("llvm-ar", "rcsD", f"{folder}/libcsicodec.a", "whole.o", cwd=own)
     with open(f"{own}/calls.c", "w", encoding="utf-8") as file:
         file.writelines(f"void {name}(void) {{}}\n" for name in C_CALLS)

@@ -9,7 +9,7 @@ ghost use Rattle.csicodec_clean.specs.Steps.{bare};
 ghost use Rattle.csicodec_clean.specs.Stream.{start_of};
 ghost use Rattle.csicodec_clean.specs.Styled.{first_kept};
 
-use csicodec_clean::{Anew, Cleaner, Dropped, Kept, Passing, PlainAscii, Rule, split_front};
+use csicodec_clean::{Anew, Cleaner, Dropped, Kept, LANES, Passing, PlainAscii, Rule, split_front};
 use csicodec_filter::Transform;
 use memchr::memchr2;
 use std::alloc::{AllocError, Global};
@@ -120,7 +120,7 @@ impl<R: Rule + Anew<P> + Drop, P: Copy> Lines<R, P> {
             × (out.new.items ≡ out.old.items ++ more)) }
     {
         let (front, rest) = split_front::<PlainAscii>(bytes);
-        if front.is_empty() || self.returned {
+        if front.len() < LANES || self.returned {
             return Ok(bytes);
         }
         let before = out.len();

@@ -402,7 +402,44 @@ impl Line {
         self.forward(limit, count)
     }
 
-    /// Does a step, and appends the lines that are over with it. Characters are put so, and behind the step as `pen` says then.
+    /// Does a step where characters are put so, and appends the lines that are over with it.
+    fn act(
+        &mut self,
+        limit: usize,
+        pen: &Pen,
+        step: Step,
+        painted: bool,
+        out: &mut Vec<u8>,
+    ) -> Result<(), AllocError>
+        ensures line { OnOk result (self.new ≡ (does limit pen.now step self.old).line) }
+        ensures text { OnOk result
+            (out.new.items ≡ out.old.items ++ texts_of painted (does limit pen.now step self.old).lines) }
+    {
+        match step {
+            Step::Put(char) => self.put(limit, pen, char, painted, out),
+            Step::Repeat(count) => self.repeat(limit, pen, count, painted, out),
+            Step::Tab => self.tab(limit, pen, painted, out),
+            Step::Tabs(count) => self.tabs(limit, count),
+            Step::TabsBack(count) => self.tabs_back(count),
+            Step::NewLine => self.end(painted, out),
+            Step::Right(count) => self.forward(limit, count as usize),
+            Step::Left(count) => self.back(count as usize),
+            Step::Column(column) => self.to_column(limit, column),
+            Step::EraseRight => self.erase_right(),
+            Step::EraseLeft => self.erase_left(),
+            Step::EraseAll => self.erase_all(),
+            Step::Erase(count) => self.erase(count),
+            Step::Delete(count) => self.delete(count),
+            Step::Insert(count) => self.insert(limit, count),
+            Step::Restore => self.restore(limit, pen, painted, out),
+            Step::Leave(to) => self.leave(limit, to, painted, out),
+            Step::Attribute(_) | Step::Inserts(_) => Ok(()),
+            Step::Save | Step::Reset | Step::Other => Ok(()),
+        }
+    }
+
+    /// The same, and behind the step characters are put as `pen` says then.
+    #[inline(always)]
     fn take(
         &mut self,
         limit: usize,
@@ -416,29 +453,10 @@ impl Line {
         ensures text { OnOk result
             (out.new.items ≡ out.old.items ++ texts_of painted (does limit pen.old step self.old).lines) }
     {
-        let now = *pen;
-        *pen = now.behind(step, self.left.columns());
-        match step {
-            Step::Put(char) => self.put(limit, &now, char, painted, out),
-            Step::Repeat(count) => self.repeat(limit, &now, count, painted, out),
-            Step::Tab => self.tab(limit, &now, painted, out),
-            Step::Tabs(count) => self.tabs(limit, count),
-            Step::TabsBack(count) => self.tabs_back(count),
-            Step::NewLine => self.end(painted, out),
-            Step::Right(count) => self.forward(limit, count as usize),
-            Step::Left(count) => self.back(count as usize),
-            Step::Column(column) => self.to_column(limit, column),
-            Step::EraseRight => self.erase_right(),
-            Step::EraseLeft => self.erase_left(),
-            Step::EraseAll => self.erase_all(),
-            Step::Erase(count) => self.erase(count),
-            Step::Delete(count) => self.delete(count),
-            Step::Insert(count) => self.insert(limit, count),
-            Step::Restore => self.restore(limit, &now, painted, out),
-            Step::Leave(to) => self.leave(limit, to, painted, out),
-            Step::Attribute(_) | Step::Inserts(_) => Ok(()),
-            Step::Save | Step::Reset | Step::Other => Ok(()),
-        }
+        let column = self.left.columns();
+        self.act(limit, pen, step, painted, out)?;
+        *pen = pen.behind(step, column);
+        Ok(())
     }
 
     /// Does the steps in turn.

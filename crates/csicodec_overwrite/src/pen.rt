@@ -60,6 +60,7 @@ impl Pen {
     }
 
     /// What it is behind a step that is done where so many columns are left of the cursor.
+    #[inline(always)]
     pub(crate) fn behind(self, step: Step, column: usize) -> Pen
         ensures { result ≡ pen_behind self step column }
     {

@@ -9,8 +9,8 @@ use Rattle.csicodec_lines.specs.Stream.{Passes}
 use Rattle.csicodec_lines.proofs.Copied.{goes_plain, goes_same, is_blank, unchanged}
 use Rattle.csicodec_lines.proofs.lines.Lines.take_plain.Goals as goal
 
-pub returns-then-is_empty : goal.returns-then-is_empty
-returns-then-is_empty g c = ([], [], refl, goes_none (Passes g.R.Anew.begins g.R.Rule.gives g.R.Rule.closes) c.args.self.now, sym (append-nil c.args.out.now.items))
+pub returns-then-front-lt-LANES : goal.returns-then-front-lt-LANES
+returns-then-front-lt-LANES g c = ([], [], refl, goes_none (Passes g.R.Anew.begins g.R.Rule.gives g.R.Rule.closes) c.args.self.now, sym (append-nil c.args.out.now.items))
 
 pub returns-then-len-before : goal.returns-then-len-before
 returns-then-len-before g c =

@@ -42,28 +42,6 @@ pub there-none : (o : Option (List (Option ℤ))) → is_some o ≡ false → No
 there-none None h = refl
 there-none (Some f) h = cc
 
--- what stands behind the first field has the fields behind it
-pub record IsBehind (list others : List CsiParam) : Type 0 where
-  pub kept : IsSome (fields_of others)
-  pub fields : fields_there others ≡ behind (fields_there list)
-
-behind-guarded : (s : Bool) (x : Option ℤ) (o : Option (List (Option ℤ))) → IsSome (if s then with_field x o else None)
-    → IsSome o × (unwrap_or o [] ≡ behind (unwrap_or (if s then with_field x o else None) []))
-behind-guarded true x None h = cc
-behind-guarded true x (Some f) h = (refl, refl)
-behind-guarded false x o h = cc
-
-pub behind-empty : (b : ℕ) (list : List CsiParam) → IsSome (fields_of (P b ∷ list)) → IsBehind (P b ∷ list) list
-behind-empty b list h = let r = behind-guarded (b == 59) None (fields_of list) h in record { kept = r.0; fields = r.1 }
-
-pub behind-closed : (z : ℤ) (b : ℕ) (list : List CsiParam) → IsSome (fields_of (Integer z ∷ P b ∷ list)) → IsBehind (Integer z ∷ P b ∷ list) list
-behind-closed z b list h = let r = behind-guarded (b == 59) (Some z) (fields_of list) h in record { kept = r.0; fields = r.1 }
-
-pub behind-alone : (z : ℤ) (list : List CsiParam) → ((b : ℕ) (others : List CsiParam) → list ≡ P b ∷ others → ⊥) → IsSome (fields_of (Integer z ∷ list)) → IsBehind (Integer z ∷ list) list
-behind-alone z [] other h = record { kept = refl; fields = refl }
-behind-alone z (P b ∷ list) other h = absurd (other b list refl)
-behind-alone z (Integer y ∷ list) other h = let r = behind-guarded true (Some z) (fields_of (Integer y ∷ list)) h in record { kept = r.0; fields = r.1 }
-
 -- ---- a field by its place
 
 drop-none : (n : ℕ) → drop {A = Option ℤ} n [] ≡ []
@@ -94,9 +72,6 @@ pub first-number : (z : ℤ) (list : List CsiParam) → IsSome (fields_of (Integ
 first-number z [] h = refl
 first-number z (P b ∷ list) h = first-guarded (b == 59) (Some z) (fields_of list) h
 first-number z (Integer y ∷ list) h = first-guarded true (Some z) (fields_of (Integer y ∷ list)) h
-
-pub first-empty : (b : ℕ) (list : List CsiParam) → IsSome (fields_of (P b ∷ list)) → None ≡ first (fields_there (P b ∷ list))
-first-empty b list h = first-guarded (b == 59) None (fields_of list) h
 
 there-guarded : (s : Bool) (x : Option ℤ) (o : Option (List (Option ℤ))) → IsSome (if s then with_field x o else None) → true ≡ is_there (unwrap_or (if s then with_field x o else None) [])
 there-guarded true x None h = cc

@@ -1,12 +1,12 @@
 -- A position whose numbers are written as a codec writes them is its own normal form.
-use Rattle.std.proofs.Common.{◌≡◌, ℕ, ◌≤◌, ◌+◌, ◌-◌, ◌*◌, ◌/◌, ◌%◌, false, List, [], ◌∷◌, ◌++◌, suc, get_or, length, take, drop, refl, sym, ap, subst, ◌∙◌, append_assoc, append-nil, inl, arith}
+use Rattle.std.proofs.Common.{◌≡◌, ℕ, zero, ◌<◌, ◌≤◌, ◌+◌, ◌-◌, ◌^◌, false, List, [], ◌∷◌, ◌++◌, suc, get_or, length, take, drop, refl, sym, ap, subst, ◌∙◌, append_assoc, append-nil, inl, arith, rules}
 use Rattle.std.proofs.Math.Seq.{take-append_seam}
-use Rattle.std.proofs.lemmas.Fmt.{decimal_digit}
+use Rattle.std.proofs.lemmas.Fmt.{decimal-digits_value, decimal_digit}
 use Rattle.std.proofs.lemmas.List.{length-append, length-take, take-append-drop, take_all}
+use Rattle.std.proofs.lemmas.Str.Parse.{IsNumeralModel, digits_value_short, numerals_by_fold}
 use Rattle.std.specs.Fmt.{decimal}
-use Rattle.csicodec_tokens.specs.Digits.{AreDigits}
+use Rattle.csicodec_tokens.specs.Digits.{AreDigits, value, value_after}
 use Rattle.csicodec_tokens.specs.Sequence.{Seq}
-use Rattle.csicodec_tokens.proofs.Decimal.{three_digits, two_digits}
 use Rattle.csicodec_tokens.proofs.Printed.{printed}
 use Rattle.csicodec_tokens.proofs.Reading.{first_cut}
 use Rattle.csicodec_tokens.specs.Param.{spells}
@@ -25,41 +25,27 @@ use Rattle.csicodec_streams.proofs.OneReading.{one_sequence}
 
 -- ---- numbers
 
-pub one_digit : (d : ℕ) → 49 ≤ d → d ≤ 57 → IsNumber (d ∷ [])
-one_digit d low high = one (d - 48) d (omega (arith, low)) low high
+pub own : IsNumeralModel AreDigits value
+own = numerals_by_fold AreDigits (search rules) value_after (search rules)
+
+-- the first of them isn't 0, and there are nine at most
+number_of : (a : ℕ) (ds : List ℕ) → 49 ≤ a → a ≤ 57 → AreDigits ds → length ds ≤ 8 → IsNumber (a ∷ ds)
+number_of a ds low high digits few = (value (a ∷ ds), record { above = above (value (a ∷ ds)) same; fits = omega (arith, small) }, sym same)
   where
-    one : (n d : ℕ) → n + 48 ≡ d → 49 ≤ d → d ≤ 57 → IsNumber (d ∷ [])
-    one n d is low high =
-        let digit : 48 + n ≡ d = omega (arith, is) in
-        (n, record { above = omega (arith, is, low); fits = omega (arith, is, high) }, rw (decimal_digit n (omega (arith, is, high)), digit) refl)
+    all : AreDigits (a ∷ ds)
+    all = ((omega (arith, low), high), digits)
 
-pub more_digits : (a b : ℕ) → 49 ≤ a → a ≤ 57 → 48 ≤ b → b ≤ 57 → IsNumber (a ∷ b ∷ [])
-more_digits a b low high least most = two (10 * a + b - 528) (omega (arith, low, least))
-  where
-    two : (n : ℕ) → n + 528 ≡ 10 * a + b → IsNumber (a ∷ b ∷ [])
-    two n is =
-        let tens : 48 + n / 10 ≡ a = omega (arith, is, low, high, least, most) in
-        let ones : 48 + n % 10 ≡ b = omega (arith, is, low, high, least, most) in
-        (n, record { above = omega (arith, is, low, least); fits = omega (arith, is, high, most) }, rw (two_digits n (omega (arith, is, low, least)) (omega (arith, is, high, most)), tens, ones) refl)
+    small : value (a ∷ ds) < 10 ^ 9
+    small = digits_value_short own (a ∷ ds) 9 all (omega (arith, few))
 
-pub most_digits : (a b c : ℕ) → 49 ≤ a → a ≤ 57 → 48 ≤ b → b ≤ 57 → 48 ≤ c → c ≤ 57 → IsNumber (a ∷ b ∷ c ∷ [])
-most_digits a b c low high least most from to = three (100 * a + 10 * b + c - 5328) (omega (arith, low, least, from))
-  where
-    three : (n : ℕ) → n + 5328 ≡ 100 * a + 10 * b + c → IsNumber (a ∷ b ∷ c ∷ [])
-    three n is =
-        let hundreds : 48 + n / 100 ≡ a = omega (arith, is, low, high, least, most, from, to) in
-        let tens : 48 + n / 10 % 10 ≡ b = omega (arith, is, low, high, least, most, from, to) in
-        let ones : 48 + n % 10 ≡ c = omega (arith, is, low, high, least, most, from, to) in
-        (n, record { above = omega (arith, is, low, least); fits = omega (arith, is, high, most, to) }, rw (three_digits n (omega (arith, is, low, least, from)) (omega (arith, is, high, most, to)), hundreds, tens, ones) refl)
+    same : decimal (value (a ∷ ds)) ≡ a ∷ ds
+    same = decimal-digits_value own (a ∷ ds) all (omega arith) (λ blank. absurd (omega (arith, blank, low))) (omega (arith, small))
 
--- the first of them isn't 0, and there are three at most
-number_of : (a : ℕ) (ds : List ℕ) → 49 ≤ a → a ≤ 57 → AreDigits ds → length ds ≤ 2 → IsNumber (a ∷ ds)
-number_of a [] low high digits few = one_digit a low high
-number_of a (b ∷ []) low high digits few = more_digits a b low high digits.0.0 digits.0.1
-number_of a (b ∷ c ∷ []) low high digits few = most_digits a b c low high digits.0.0 digits.0.1 digits.1.0.0 digits.1.0.1
-number_of a (b ∷ c ∷ d ∷ ds) low high digits few = absurd (omega (arith, few))
+    above : (n : ℕ) → decimal n ≡ a ∷ ds → 0 < n
+    above zero is = absurd (omega (arith, low, ap (λ (l : List ℕ). get_or l 0 0) (sym is ∙ decimal_digit 0 (omega arith))))
+    above (suc n) is = omega arith
 
-pub number_front : (xs : List ℕ) (n : ℕ) → 1 ≤ length xs → 49 ≤ get_or xs 0 0 → get_or xs 0 0 ≤ 57 → n ≤ 2 → AreDigits (take n (take (length xs - 1) (drop 1 xs))) → IsNumber (take (1 + n) xs)
+pub number_front : (xs : List ℕ) (n : ℕ) → 1 ≤ length xs → 49 ≤ get_or xs 0 0 → get_or xs 0 0 ≤ 57 → n ≤ 8 → AreDigits (take n (take (length xs - 1) (drop 1 xs))) → IsNumber (take (1 + n) xs)
 number_front xs n some low high few digits =
     let others : List ℕ = take (length xs - 1) (drop 1 xs) in
     let next : 1 + n ≡ suc n = omega arith in

@@ -14,12 +14,26 @@ fn is_digit(byte: u8) -> bool
     b'0' <= byte && byte <= b'9'
 }
 
-/// How many digits stand in front, two at most.
+/// How many digits stand in front, five at most.
+#[inline(never)]
+fn more_len(bytes: &[u8]) -> usize
+    ensures digits { AreDigits (take result bytes.now) }
+    ensures within { result ≤ length bytes.now }
+    ensures few { result ≤ 5 }
+{
+    let mut len = 0;
+    while len < 5 && len < bytes.len() && is_digit(bytes[len]) {
+        len += 1;
+    }
+    len
+}
+
+/// How many digits stand in front, eight at most.
 #[inline(always)]
 fn digits_len(bytes: &[u8]) -> usize
     ensures digits { AreDigits (take result bytes.now) }
     ensures within { result ≤ length bytes.now }
-    ensures few { result ≤ 2 }
+    ensures few { result ≤ 8 }
 {
     let [first, others @ ..] = bytes else {
         return 0;
@@ -28,18 +42,19 @@ fn digits_len(bytes: &[u8]) -> usize
         return 0;
     }
     match others {
+        [second, third, more @ ..] if is_digit(*second) && is_digit(*third) => 3 + more_len(more),
         [second, ..] if is_digit(*second) => 2,
         _ => 1,
     }
 }
 
-/// How many digits the number in front has: one to three, the first of them not 0, and one by itself not below `least`. 0 where none
+/// How many digits the number in front has: one to nine, the first of them not 0, and one by itself not below `least`. 0 where none
 /// stands there.
 #[inline(always)]
 fn number_len(least: u8, bytes: &[u8]) -> usize
     ensures number { 0 < result → IsNumber (take result bytes.now) }
     ensures within { result ≤ length bytes.now }
-    ensures few { result ≤ 3 }
+    ensures few { result ≤ 9 }
 {
     let [first, others @ ..] = bytes else {
         return 0;
@@ -51,10 +66,9 @@ fn number_len(least: u8, bytes: &[u8]) -> usize
     1 + behind
 }
 
-/// How many bytes the position in front has, of CUP or HVP: `ESC [`, a line, `;`, a column, and `H` or `f`, each number from 1 to 999 and
-/// without a 0 in front. One of a single digit isn't below `least`. 0 where no such position stands there.
+/// The same as [`position_len`].
 #[inline(always)]
-pub fn position_len(least: u8, bytes: &[u8]) -> usize
+fn placed_len(least: u8, bytes: &[u8]) -> usize
     ensures own { 0 < result → IsPosition (take result bytes.now) }
     ensures within { result ≤ length bytes.now }
     ensures short { result ≤ 48 }
@@ -74,6 +88,22 @@ pub fn position_len(least: u8, bytes: &[u8]) -> usize
         [b'H', ..] => line + column + 4,
         [b'f', ..] => line + column + 4,
         _ => 0,
+    }
+}
+
+/// How many bytes the position in front has, of CUP or HVP: `ESC [`, a line, `;`, a column, and `H` or `f`, each number from 1 to
+/// 999999999 and without a 0 in front. One of a single digit isn't below `least`. 0 where it finds
+/// none.
+#[inline(always)]
+pub fn position_len(least: u8, bytes: &[u8]) -> usize
+    ensures own { 0 < result → IsPosition (take result bytes.now) }
+    ensures within { result ≤ length bytes.now }
+    ensures short { result ≤ 48 }
+{
+    // A length that is known is compared once.
+    match bytes.first_chunk::<WIDE>() {
+        Some(front) => placed_len(least, front),
+        None => placed_len(least, bytes),
     }
 }
 

@@ -1,16 +1,21 @@
 //! Colours: the sequence of one is read at the front, and its normal form written, without a list of its tokens.
-ghost use Rattle.std.specs.Prelude.{◌≡◌, ◌+◌, ◌<◌, ◌≤◌, ◌∷◌, [], ◌++◌, ℕ, List, false, length, take, IfSome};
+ghost use Rattle.std.specs.Prelude.{◌≡◌, ◌+◌, ◌-◌, ◌<◌, ◌≤◌, ◌∷◌, [], ◌++◌, ℕ, List, false, length, map, take, IfSome, OnErr, OnOk};
 ghost use Rattle.csicodec_tokens.specs.declared.param.CsiParam.{CsiParam};
 ghost use Rattle.csicodec_tokens.specs.Sequence.{Reads};
 ghost use Rattle.csicodec_actions.specs.Actions.{Sgr as Styled};
 ghost use Rattle.csicodec_base.specs.Shapes.{Plane, painted};
+ghost use Rattle.csicodec_base.specs.SgrText.{sgr_text};
+ghost use Rattle.csicodec_base.specs.declared.sgr.Sgr.{Sgr as Attribute};
 ghost use Rattle.csicodec_parser.specs.Segments.{Actions};
+ghost use Rattle.csicodec_streams.specs.Colors.{IsColored, plane_byte};
 ghost use Rattle.csicodec_streams.specs.Known.{AreKnown, IsNormal};
-ghost use Rattle.csicodec_streams.specs.Private.Steps.{IsColor, IsPart, plane_byte};
+ghost use Rattle.csicodec_streams.specs.Private.Steps.{IsColor, IsPart, with_colon};
 
 use crate::memo::{Memo, Normal};
 use crate::position::take_position;
 use csicodec_base::{ColorSpec, Sgr, SrgbaTuple, Text, TextBuffer};
+use std::alloc::AllocError;
+use std::simd::prelude::*;
 
 /// A digit in front, and what is behind it.
 #[inline(always)]
@@ -23,7 +28,7 @@ fn digit_front(bytes: &[u8]) -> Option<(u8, &[u8])>
     }
 }
 
-/// A part of a colour in front, of three digits at most, and what is behind it.
+/// A part of a colour in front, without a 0 ahead, and what is behind it.
 #[inline(always)]
 fn part_front(bytes: &[u8]) -> Option<(u8, &[u8])>
     ensures { IfSome result (λ f. IsPart bytes.now f.0 f.1.now) }
@@ -32,6 +37,9 @@ fn part_front(bytes: &[u8]) -> Option<(u8, &[u8])>
     let Some((second, behind)) = digit_front(rest) else {
         return Some((first, rest));
     };
+    if first == 0 {
+        return None;
+    }
     let Some((third, last)) = digit_front(behind) else {
         return Some((10 * first + second, behind));
     };
@@ -83,9 +91,10 @@ fn painted(digit: u8, color: ColorSpec) -> Option<Sgr>
 }
 
 /// The attribute of a sequence in front that gives one colour with semicolons, `38;2;r;g;b` or `38;5;n` before `m`, or with 48 or 58,
-/// and what is behind it. None where no such sequence stands there, or a number has more than three digits.
+/// and what is behind it. It may be None of other spellings, as of a number with a 0 in front.
 #[inline(always)]
 pub fn read_color(bytes: &[u8]) -> Option<(Sgr, &[u8])>
+    ensures spelled { IfSome result (λ f. IsColored bytes.now f.0 f.1.now) }
     ensures read { IfSome result (λ f. (list : List CsiParam) × Reads bytes.now list 109 f.1.now
         × Actions list false 109 (Styled f.0 ∷ [])) }
     ensures short { IfSome result (λ f. (length f.1.now ≤ length bytes.now) × (length bytes.now ≤ length f.1.now + 19)) }
@@ -100,9 +109,64 @@ pub fn read_color(bytes: &[u8]) -> Option<(Sgr, &[u8])>
     Some((painted(*digit, color)?, rest))
 }
 
-/// Appends the normal form of the colour in front, and answers how many bytes its sequence has; 0 where none stands there, or without
-/// memory.
+/// What begins with the normal form of a true colour, by the first digit of its code, and by its parts with what is behind them.
 #[inline(always)]
+fn with_colons(digit: u8, parts: &[u8]) -> [u8; 24]
+    requires { 16 ≤ length parts.now }
+    ensures { result ≡ 27 ∷ 91 ∷ digit ∷ 56 ∷ 58 ∷ 50 ∷ 58 ∷ 58 ∷ map with_colon (take 16 parts.now) }
+{
+    let lanes = u8x16::from_slice(parts);
+    let colons = lanes
+        .simd_eq(u8x16::splat(b';'))
+        .select(u8x16::splat(b':'), lanes);
+    let mut text = [0; 24];
+    text[..8].copy_from_slice(&[0x1b, b'[', digit, b'8', b':', b'2', b':', b':']);
+    text[8..].copy_from_slice(&colons.to_array());
+    text
+}
+
+/// Appends the normal form of an attribute. On `Err`, out of memory, the bytes stay.
+#[inline(never)]
+fn append_sgr(sgr: Sgr, out: &mut TextBuffer) -> Result<(), AllocError>
+    ensures ok { OnOk result (out.new ≡ out.old ++ 27 ∷ 91 ∷ sgr_text sgr) }
+    ensures err { OnErr result (out.new ≡ out.old) }
+{
+    let mut text = Text::new();
+    text.push_str("\x1b[");
+    sgr.write_to(&mut text);
+    out.push_text(&text)
+}
+
+/// What begins with the normal form of a true colour in front, which has one byte more than its sequence. It may be None.
+#[inline(always)]
+fn color_text(bytes: &[u8]) -> Option<[u8; 24]>
+    ensures { IfSome result (λ text. (sgr : Attribute) (rest : List ℕ) → IsColored bytes.now sgr rest
+        → take (length bytes.now - length rest + 1) text ≡ 27 ∷ 91 ∷ sgr_text sgr) }
+{
+    match bytes {
+        [_, _, digit, _, _, b'2', _, parts @ ..] if parts.len() >= 16 => Some(with_colons(
+            *digit, parts,
+        )),
+        _ => None,
+    }
+}
+
+/// Appends the normal form of the colour in front. On `Err`, out of memory, the bytes stay.
+#[inline(always)]
+fn append_color(bytes: &[u8], sgr: Sgr, rest: &[u8], out: &mut TextBuffer) -> Result<(), AllocError>
+    requires colored { IsColored bytes.now sgr rest.now }
+    requires short { (length rest.now ≤ length bytes.now) × (length bytes.now ≤ length rest.now + 19) }
+    ensures ok { OnOk result (out.new ≡ out.old ++ 27 ∷ 91 ∷ sgr_text sgr) }
+    ensures err { OnErr result (out.new ≡ out.old) }
+{
+    match color_text(bytes) {
+        Some(text) => out.push_front(&text, bytes.len() - rest.len() + 1),
+        None => append_sgr(sgr, out),
+    }
+}
+
+/// Appends the normal form of the colour in front, and answers how many bytes its sequence has; 0 where none is read, or without memory.
+#[inline(never)]
 fn take_color(bytes: &[u8], out: &mut TextBuffer) -> usize
     ensures normal { 0 < result
         → (text : List ℕ) × IsNormal (take result bytes.now) text × (out.new ≡ out.old ++ text) }
@@ -113,37 +177,14 @@ fn take_color(bytes: &[u8], out: &mut TextBuffer) -> usize
     let Some((sgr, rest)) = read_color(bytes) else {
         return 0;
     };
-    let mut text = Text::new();
-    text.push_str("\x1b[");
-    sgr.write_to(&mut text);
-    match out.push_text(&text) {
+    match append_color(bytes, sgr, rest, out) {
         Ok(()) => bytes.len() - rest.len(),
         Err(_) => 0,
     }
 }
 
-/// The same, and the sequence is kept.
-#[inline(never)]
-fn keep_color(memo: &mut Memo<Normal>, bytes: &[u8], out: &mut TextBuffer) -> usize
-    requires { AreKnown IsNormal memo.old.slots.items }
-    ensures normal { 0 < result
-        → (text : List ℕ) × IsNormal (take result bytes.now) text × (out.new ≡ out.old ++ text) }
-    ensures none { result ≡ 0 → out.new ≡ out.old }
-    ensures within { result ≤ length bytes.now }
-    ensures short { result ≤ 48 }
-    ensures known { AreKnown IsNormal memo.new.slots.items }
-{
-    let before = out.as_slice().len();
-    let len = take_color(bytes, out);
-    if len > 0 {
-        let (_, text) = out.as_slice().split_at(before);
-        memo.keep(bytes, len, text);
-    }
-    len
-}
-
-/// Appends the normal form of a new sequence in front where it is read at a glance, as that of a position or a colour, which is kept; how
-/// many bytes the sequence has, 0 where neither stands there, or without memory.
+/// Appends the normal form of a new sequence in front, if it is read at a glance: that of a position, or that of a colour, which is kept.
+/// It answers how many bytes the sequence has, and 0 where it appends nothing.
 #[inline(always)]
 pub fn take_simple(memo: &mut Memo<Normal>, bytes: &[u8], out: &mut TextBuffer) -> usize
     requires { AreKnown IsNormal memo.old.slots.items }
@@ -158,5 +199,11 @@ pub fn take_simple(memo: &mut Memo<Normal>, bytes: &[u8], out: &mut TextBuffer) 
     if moved > 0 {
         return moved;
     }
-    keep_color(memo, bytes, out)
+    let before = out.as_slice().len();
+    let len = take_color(bytes, out);
+    if len > 0 {
+        let (_, text) = out.as_slice().split_at(before);
+        memo.keep(bytes, len, text);
+    }
+    len
 }

@@ -1,17 +1,16 @@
 -- What the private steps of a decoding say to each other: how far it has come, and why it goes no further.
-use Rattle.std.specs.Prelude.{ℕ, pos, ◌≡◌, ◌<◌, ◌≤◌, ◌∷◌, ◌++◌, Bool, true, false, List, [], length, Option, None, Some}
+use Rattle.std.specs.Prelude.{ℕ, pos, ◌≡◌, ◌==◌, ◌<◌, ◌∷◌, ◌++◌, Bool, true, false, if◌then◌else◌, List, [], length, Option, None, Some}
 use Rattle.std.specs.Fmt.{decimal}
 use Rattle.csicodec_tokens.specs.declared.reader.ReadError.{ReadError}
 use Rattle.csicodec_tokens.specs.declared.reader.ReadError.TheVariants as read_errors
 use Rattle.csicodec_tokens.specs.declared.param.CsiParam.{CsiParam}
 use Rattle.csicodec_tokens.specs.declared.param.CsiParam.TheVariants.{Integer, P}
 use Rattle.csicodec_tokens.specs.Fault.{Refuses}
-use Rattle.csicodec_tokens.specs.Sequence.{Spells, SpellsToken}
 use Rattle.csicodec_names.specs.declared.color.ColorSpec.{ColorSpec}
 use Rattle.csicodec_names.specs.declared.color.ColorSpec.TheVariants.{Default, PaletteIndex, TrueColor}
-use Rattle.csicodec_base.specs.Shapes.{Plane, Front, Back, Line}
 use Rattle.csicodec_actions.specs.Actions.{Action}
 use Rattle.csicodec_actions.specs.Kinds.{IsOneBased}
+use Rattle.csicodec_streams.specs.Colors.{IsOpaque, color_list}
 use Rattle.csicodec_streams.specs.Decoding.{Decodes}
 
 -- the sequences at the front of the bytes have these actions, and behind them comes the rest
@@ -38,34 +37,21 @@ IsNumber text = (n : ℕ) × IsOneBased n × (text ≡ decimal n)
 
 -- ---- colours
 
--- a part of a colour stands in front, and the rest behind it
+-- the text of a part of a colour stands in front, and the rest behind it
 abbrev pub IsPart : List ℕ → ℕ → List ℕ → Type 0
-IsPart bytes n rest = (digits : List ℕ) × (bytes ≡ digits ++ rest)
-    × SpellsToken digits (Integer (pos n)) × (length digits ≤ 3) × (n < 256)
+IsPart bytes n rest = (bytes ≡ decimal n ++ rest) × (n < 256)
 
--- the first digit of the code of a plane's colours, which is 38, 48 or 58
-abbrev pub plane_byte : Plane → ℕ
-plane_byte Front = 51
-plane_byte Back = 52
-plane_byte Line = 53
-
--- what stands behind that code and a `;`
+-- the tokens of the list of a colour
 abbrev pub color_tokens : ColorSpec → List CsiParam
 color_tokens Default = []
 color_tokens (PaletteIndex i) = Integer (pos 5) ∷ P 59 ∷ Integer (pos i) ∷ []
 color_tokens (TrueColor c) = Integer (pos 2) ∷ P 59 ∷ Integer (pos c.0) ∷ P 59 ∷ Integer
     (pos c.1) ∷ P 59 ∷ Integer (pos c.2) ∷ []
 
--- the colour has such tokens
-abbrev pub IsOpaque : ColorSpec → Type 0
-IsOpaque Default = ⊥
-IsOpaque (PaletteIndex i) = i < 256
-IsOpaque (TrueColor c) = (c.0 < 256) × (c.1 < 256) × (c.2 < 256) × (c.3 ≡ 255)
+-- the list of a colour stands in front, and the rest behind it
+abbrev pub IsColor : List ℕ → ColorSpec → List ℕ → Type 0
+IsColor bytes color rest = IsOpaque color × (bytes ≡ color_list color ++ rest)
 
--- these tokens stand in front, and the rest behind them
-pub record IsColor (bytes : List ℕ) (color : ColorSpec) (rest : List ℕ) : Type 0 where
-  pub text : List ℕ
-  pub parts : bytes ≡ text ++ rest
-  pub spelled : Spells text (color_tokens color)
-  pub opaque : IsOpaque color
-  pub short : length text ≤ 13
+-- a byte of the list of a colour, with `:` in place of `;`
+abbrev pub with_colon : ℕ → ℕ
+with_colon b = if b == 59 then 58 else b

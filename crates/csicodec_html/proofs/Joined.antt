@@ -4,9 +4,8 @@ use Rattle.std.specs.Prelude.{codes, ◌||◌, if◌then◌else◌}
 use Rattle.std.proofs.lemmas.Grind.{flat_map-append}
 use Rattle.csicodec_html.specs.declared.look.Look.{Look}
 use Rattle.csicodec_html.specs.declared.markup.Markup.{Markup}
-use Rattle.csicodec_html.specs.Classes.{attributes}
 use Rattle.csicodec_html.specs.Look.{is_plain}
-use Rattle.csicodec_html.specs.Page.{Piece, begins, ends, leads, opens, shuts, switch}
+use Rattle.csicodec_html.specs.Page.{Begin, Piece, begins, ends, leads, opens, shuts, switch}
 use Rattle.csicodec_html.specs.Private.Marked.{all_marked, marked}
 
 pub two : (old mid new a b : List ℕ) → mid ≡ old ++ a → new ≡ mid ++ b → new ≡ old ++ (a ++ b)
@@ -27,7 +26,7 @@ eight old one two' three' four' five' six' seven' new a b c d e f g h i j k l m 
     four old one two' three' new a b c (d ++ (e ++ (f ++ (g ++ h)))) i j k (five three' four' five' six' seven' new d e f g h l m n o p)
 
 -- the tag of a look that has one
-pub begun : (m : Markup) (l : Look) → is_plain l ≡ false → all_marked (begins m l) ≡ (1 ∷ codes "span") ++ (attributes 3 m l ++ 2 ∷ [])
+pub begun : (m : Markup) (l : Look) → is_plain l ≡ false → all_marked (begins m l) ≡ marked (Begin m l)
 begun m l h = rw h (append-nil _)
 
 pub turned : (m : Markup) (old new : Look) (before mid after : List ℕ) → mid ≡ before ++ all_marked (ends old) → after ≡ mid ++ all_marked (begins m new) → after ≡ before ++ all_marked (ends old ++ begins m new)

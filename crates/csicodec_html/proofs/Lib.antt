@@ -9,6 +9,7 @@ pub mod Marks
 pub mod MarkupBytes
 pub mod Named
 pub mod Paired
+pub mod Recalled
 pub mod Ruled
 pub mod Rules
 pub mod Said

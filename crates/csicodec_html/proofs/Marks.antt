@@ -1,5 +1,5 @@
 -- Pieces as the first step marks them are, byte by byte, what stands on the page.
-use Rattle.std.proofs.Common.{◌≡◌, ◌≤◌, ◌<◌, ◌+◌, ◌/◌, ℕ, Bool, true, false, List, [], ◌∷◌, ◌++◌, refl, sym, ap, ◌∙◌, ⊎_elim, append-nil, arith, lt-ltb, le-ltb}
+use Rattle.std.proofs.Common.{◌≡◌, ◌≤◌, ◌<◌, ◌+◌, ◌/◌, ℕ, Bool, true, false, List, [], ◌∷◌, ◌++◌, refl, sym, ap, ◌∙◌, ⊎_elim, append_assoc, append-nil, arith, lt-ltb, le-ltb}
 use Rattle.std.specs.Prelude.{codes, encode_utf8_all, ◌==◌, if◌then◌else◌, Option, Some, None}
 use Rattle.std.specs.Char.{encode_utf8}
 use lib.Utf8.{next}
@@ -11,10 +11,11 @@ use Rattle.csicodec_clean.specs.Shown.{IsShown, shown}
 use Rattle.csicodec_html.specs.declared.look.Look.{Look}
 use Rattle.csicodec_html.specs.declared.markup.Markup.{Markup}
 use Rattle.csicodec_html.specs.declared.classes.Class.{Class}
-use Rattle.csicodec_html.specs.Classes.{ahead, attributes, attributes_of, behind_slot, class_name, classes_of, has_true, names, rest_attribute, slot_text, style_attribute, true_colors}
+use Rattle.csicodec_html.specs.declared.palette.Palette.{Palette}
+use Rattle.csicodec_html.specs.Classes.{ahead, behind_slot, class_name, classes_of, has_true, names, rest_attribute, slot_text, style_attribute, true_colors}
 use Rattle.csicodec_html.specs.Look.{css, settled}
 use Rattle.csicodec_html.specs.Page.{IsHarmless, is_harmless, IsSafe, Piece, Char, Begin, End, Open, Shut, escaped, piece_text, piece_texts}
-use Rattle.csicodec_html.specs.Private.Marked.{all_marked, marked, page_byte, page_bytes}
+use Rattle.csicodec_html.specs.Private.Marked.{all_marked, classed_mark, marked, page_byte, page_bytes, styled_mark}
 use Rattle.csicodec_html.proofs.Declarations.{Fine, apart, css_fine, fine}
 use Rattle.csicodec_html.proofs.Named.{name_fine, true_fine}
 use Rattle.csicodec_html.proofs.Addresses.{IsVisible, ascii, below}
@@ -34,6 +35,9 @@ one_fine b h =
       differs is_harmless b 1 h refl,
       differs is_harmless b 2 h refl,
       differs is_harmless b 3 h refl,
+      differs is_harmless b 4 h refl,
+      differs is_harmless b 5 h refl,
+      differs is_harmless b 6 h refl,
     ) refl
 
 all_fine : (bytes : List ℕ) → Fine bytes → page_bytes bytes ≡ bytes
@@ -57,7 +61,7 @@ high c a = ⊎_elim
 
 char : (c : ℕ) → IsShown c → page_bytes (encode_utf8 c) ≡ escaped c
 char c h = ⊎_elim
-    (λ (a : c < 128). rw (ascii c a, differs shown c 1 h refl, differs shown c 2 h refl, differs shown c 3 h refl) (append-nil _))
+    (λ (a : c < 128). rw (ascii c a, differs shown c 1 h refl, differs shown c 2 h refl, differs shown c 3 h refl, differs shown c 4 h refl, differs shown c 5 h refl, differs shown c 6 h refl) (append-nil _))
     (λ (a : 128 ≤ c). rw (far a 38 (omega arith), far a 60 (omega arith), far a 62 (omega arith), far a 34 (omega arith), far a 39 (omega arith)) (all_fine (encode_utf8 c) (high c a)))
     (cases_lt c 128)
   where
@@ -95,25 +99,31 @@ of_rest l = by (has_true l)
     by true = quoted (true_colors l) (true_fine l)
     by false = refl
 
-of_look : (m : Markup) (l : Look) → page_bytes (attributes_of 3 m l) ≡ attributes_of 34 m l
-of_look m l = by m.classes
-  where
-    slots : List (Option Class)
-    slots = classes_of l
+of_classes : (l : Look) → page_bytes (classed_mark l) ≡ codes "<span" ++ ((names 34 false (classes_of l) ++ rest_attribute 34 l) ++ 62 ∷ [])
+of_classes l =
+    let slots = classes_of l in
+    let rest = rest_attribute 3 l in
+    ap (λ (t : List ℕ). codes "<span" ++ t)
+    (flat_map-append page_byte (names 3 false slots) (rest ++ 2 ∷ []) ∙ ap (λ (t : List ℕ). t ++ page_bytes (rest ++ 2 ∷ [])) (of_names false slots)
+    ∙ ap (λ (t : List ℕ). names 34 false slots ++ t) (flat_map-append page_byte rest (2 ∷ []) ∙ ap (λ (t : List ℕ). t ++ 62 ∷ []) (of_rest l))
+    ∙ sym (append_assoc (names 34 false slots) (rest_attribute 34 l) (62 ∷ [])))
 
-    style : List ℕ
-    style = css m.palette l
-
-    by : (b : Bool) → page_bytes (if b then names 3 false slots ++ rest_attribute 3 l else style_attribute 3 style) ≡ (if b then names 34 false slots ++ rest_attribute 34 l else style_attribute 34 style)
-    by true = flat_map-append page_byte (names 3 false slots) (rest_attribute 3 l) ∙ ap (λ (t : List ℕ). t ++ page_bytes (rest_attribute 3 l)) (of_names false slots) ∙ ap (λ (t : List ℕ). names 34 false slots ++ t) (of_rest l)
-    by false = quoted style (css_fine m.palette l)
-
-of_attributes : (m : Markup) (l : Look) → page_bytes (attributes 3 m l) ≡ attributes 34 m l
-of_attributes m l = of_look m (settled m.palette l)
+of_style : (p : Palette) (l : Look) → page_bytes (styled_mark p l) ≡ codes "<span" ++ (style_attribute 34 (css p l) ++ 62 ∷ [])
+of_style p l =
+    let style = css p l in
+    ap (λ (t : List ℕ). codes "<span style=\"" ++ t)
+    (flat_map-append page_byte style (6 ∷ []) ∙ ap (λ (t : List ℕ). t ++ codes "\">") (all_fine style (css_fine p l)) ∙ sym (append_assoc style (34 ∷ []) (62 ∷ [])))
 
 begin : (m : Markup) (l : Look) → page_bytes (marked (Begin m l)) ≡ piece_text (Begin m l)
-begin m l =
-    ap (λ (t : List ℕ). codes "<span" ++ t) (flat_map-append page_byte (attributes 3 m l) (2 ∷ []) ∙ ap (λ (t : List ℕ). t ++ 62 ∷ []) (of_attributes m l))
+begin m l = by m.classes
+  where
+    look : Look
+    look = settled m.palette l
+
+    by : (b : Bool) → page_bytes (if b then classed_mark look else styled_mark m.palette look)
+        ≡ codes "<span" ++ ((if b then names 34 false (classes_of look) ++ rest_attribute 34 look else style_attribute 34 (css m.palette look)) ++ 62 ∷ [])
+    by true = of_classes look
+    by false = of_style m.palette look
 
 visible_shown : (c : ℕ) → IsVisible c → IsShown c
 visible_shown c h = grind (arith, nat_tests, h)

@@ -5,12 +5,12 @@ use Rattle.std.proofs.lemmas.Bool.Decides.{nat_tests}
 use Rattle.csicodec_html.specs.Private.Marked.{Stands, page_byte, page_bytes}
 
 one : (b : ℕ) → Stands b → page_byte b ≡ b ∷ []
-one b h = by (b == 38) (b == 60) (b == 62) (b == 34) (b == 39) (b == 1) (b == 2) (b == 3) (grind (arith, nat_tests)) (grind (arith, nat_tests)) (grind (arith, nat_tests)) (grind (arith, nat_tests)) (grind (arith, nat_tests)) (grind (arith, nat_tests))
-    (grind (arith, nat_tests)) (grind (arith, nat_tests))
+one b h = by (b == 38) (b == 60) (b == 62) (b == 34) (b == 39) (b == 1) (b == 2) (b == 3) (b == 4) (b == 5) (b == 6) (grind (arith, nat_tests)) (grind (arith, nat_tests)) (grind (arith, nat_tests)) (grind (arith, nat_tests)) (grind (arith, nat_tests)) (grind (arith, nat_tests))
+    (grind (arith, nat_tests)) (grind (arith, nat_tests)) (grind (arith, nat_tests)) (grind (arith, nat_tests)) (grind (arith, nat_tests))
   where
-    by : (i j k l m n o p : Bool) → i ≡ false → j ≡ false → k ≡ false → l ≡ false → m ≡ false → n ≡ false → o ≡ false → p ≡ false
-        → cond i (codes "&amp;") (cond j (codes "&lt;") (cond k (codes "&gt;") (cond l (codes "&quot;") (cond m (codes "&#39;") (cond n (60 ∷ []) (cond o (62 ∷ []) (cond p (34 ∷ []) (b ∷ [])))))))) ≡ b ∷ []
-    by i j k l m n o p e f g q r s t u = rw (e, f, g, q, r, s, t, u) refl
+    by : (i j k l m n o p q r s : Bool) → i ≡ false → j ≡ false → k ≡ false → l ≡ false → m ≡ false → n ≡ false → o ≡ false → p ≡ false → q ≡ false → r ≡ false → s ≡ false
+        → cond i (codes "&amp;") (cond j (codes "&lt;") (cond k (codes "&gt;") (cond l (codes "&quot;") (cond m (codes "&#39;") (cond n (60 ∷ []) (cond o (62 ∷ []) (cond p (34 ∷ []) (cond q (codes "</span>") (cond r (codes "<span style=\"") (cond s (codes "\">") (b ∷ []))))))))))) ≡ b ∷ []
+    by i j k l m n o p q r s a c d e f g h t u v w = rw (a, c, d, e, f, g, h, t, u, v, w) refl
 
 pub run_stands : (front rest : List ℕ) → AllByRecursion Stands front → page_bytes (front ++ rest) ≡ front ++ page_bytes rest
 run_stands [] rest h = refl

@@ -1,3 +1,3 @@
--- What private steps say of each other. No promise rests on these files.
 pub mod Marked
 pub mod Through
+pub mod Turns

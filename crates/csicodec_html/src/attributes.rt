@@ -1,7 +1,9 @@
-//! The attributes of a span, with controls in place of the quotation marks.
+//! The tag that begins a span, with controls in place of its markup.
 ghost use Rattle.std.specs.Prelude.{◌≡◌, ◌++◌, [], ◌∷◌, OnOk};
-ghost use Rattle.csicodec_html.specs.Classes.{attributes, attributes_of, has_true, is_true, rest_attribute, style_attribute, true_color, true_colors};
-ghost use Rattle.csicodec_html.specs.Look.{css, is_exact, is_mixed, settled, settled_color};
+ghost use Rattle.csicodec_html.specs.Classes.{has_true, is_true, rest_attribute, true_color, true_colors};
+ghost use Rattle.csicodec_html.specs.Look.{is_exact, is_mixed, settled, settled_color};
+ghost use Rattle.csicodec_html.specs.Page.{Begin};
+ghost use Rattle.csicodec_html.specs.Private.Marked.{classed_mark, marked, styled_mark};
 
 use crate::classes::{Part, append_classes};
 use crate::colors::{append_parts, append_property_of};
@@ -61,16 +63,6 @@ fn append_rest(look: Look, out: &mut Vec<u8>) -> Result<(), AllocError>
     Ok(out.push(3)?)
 }
 
-/// Appends the style of a look.
-fn append_style(palette: &Palette, look: Look, out: &mut Vec<u8>) -> Result<(), AllocError>
-    ensures { OnOk result
-        (out.new.items ≡ out.old.items ++ style_attribute 3 (css palette.now look)) }
-{
-    out.extend_from_slice(b" style=\x03")?;
-    append_css(palette, look, out)?;
-    Ok(out.push(3)?)
-}
-
 /// Whether a colour is the same on a light and on a dark page.
 fn is_exact(color: ColorSpec) -> bool
     ensures { result ≡ is_exact color }
@@ -119,24 +111,33 @@ fn settled(palette: &Palette, look: Look) -> Look
     look
 }
 
-/// Appends classes, and a style for colours by their parts, or a style for all.
-fn append_attributes_of(markup: &Markup, look: Look, out: &mut Vec<u8>) -> Result<(), AllocError>
-    ensures { OnOk result (out.new.items ≡ out.old.items ++ attributes_of 3 markup.now look) }
+/// Appends the tag that begins a span of this look, which has classes, and a style for colours by their parts.
+fn append_classed(look: Look, out: &mut Vec<u8>) -> Result<(), AllocError>
+    ensures { OnOk result (out.new.items ≡ out.old.items ++ classed_mark look) }
 {
-    if !markup.classes {
-        return append_style(&markup.palette, look, out);
-    }
+    out.extend_from_slice(b"\x01span")?;
     append_classes(&look.classes(), out)?;
-    append_rest(look, out)
+    append_rest(look, out)?;
+    Ok(out.push(2)?)
 }
 
-/// Appends the attributes of a span that looks so, with colours that can be read beside each other.
-pub(crate) fn append_attributes(
-    markup: &Markup,
-    look: Look,
-    out: &mut Vec<u8>,
-) -> Result<(), AllocError>
-    ensures { OnOk result (out.new.items ≡ out.old.items ++ attributes 3 markup.now look) }
+/// The same with a style for all.
+fn append_styled(palette: &Palette, look: Look, out: &mut Vec<u8>) -> Result<(), AllocError>
+    ensures { OnOk result (out.new.items ≡ out.old.items ++ styled_mark palette.now look) }
 {
-    append_attributes_of(markup, settled(&markup.palette, look), out)
+    out.push(5)?;
+    append_css(palette, look, out)?;
+    Ok(out.push(6)?)
+}
+
+/// Appends the tag that begins a span that looks so, with colours that can be read beside each other.
+pub(crate) fn append_span(markup: &Markup, look: Look, out: &mut Vec<u8>) -> Result<(), AllocError>
+    ensures { OnOk result (out.new.items ≡ out.old.items ++ marked (Begin markup.now look)) }
+{
+    let shown = settled(&markup.palette, look);
+    if markup.classes {
+        append_classed(shown, out)
+    } else {
+        append_styled(&markup.palette, shown, out)
+    }
 }

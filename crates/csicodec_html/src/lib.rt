@@ -19,6 +19,7 @@ mod sheet;
 mod standing;
 mod tags;
 mod through;
+mod turns;
 
 pub use given::{given_color, given_palette};
 pub use look::Look;

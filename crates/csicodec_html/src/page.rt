@@ -23,6 +23,9 @@ fn append_byte(byte: u8, out: &mut Vec<u8>) -> Result<(), AllocError>
         0x01 => Ok(out.push(b'<')?),
         0x02 => Ok(out.push(b'>')?),
         0x03 => Ok(out.push(b'"')?),
+        0x04 => out.extend_from_slice(b"</span>"),
+        0x05 => out.extend_from_slice(b"<span style=\""),
+        0x06 => out.extend_from_slice(b"\">"),
         _ => Ok(out.push(byte)?),
     }
 }

@@ -9,6 +9,7 @@ use crate::links::Lead;
 use crate::look::Look;
 use crate::markup::Markup;
 use crate::tags::{append_begin, append_end, append_shut};
+use crate::turns::Turns;
 use csicodec::CSI;
 use csicodec_base::CsiParam;
 use csicodec_clean::Rule;
@@ -92,6 +93,8 @@ pub(crate) struct Spans {
     lead: Lead,
     /// A place that is kept for the actions of a sequence.
     actions: Vec<CSI>,
+    /// Sequences that came before.
+    turns: Turns,
 }
 
 impl Model for Spans {
@@ -100,8 +103,12 @@ impl Model for Spans {
 
     ghost Value = { Setting };
 
+    ghost use Rattle.csicodec_html.specs.Private.Turns.{AreTurns};
+
     ghost view = { λ s. setting s.markup s.look s.lead.to.items
         (begun s.lead.next.place s.lead.next.params.items s.lead.next.url.items) };
+
+    ghost invariant = { λ s. AreTurns s.markup s.turns.kept.items };
 }
 
 impl Spans {
@@ -115,6 +122,7 @@ impl Spans {
             look: Look::plain(),
             lead: Lead::new(alloc),
             actions: Vec::new(alloc),
+            turns: Turns::new(alloc),
         }
     }
 }
@@ -128,7 +136,7 @@ impl Rule for Spans {
 
     fn rewrite(
         &mut self,
-        _bytes: &[u8],
+        bytes: &[u8],
         params: &[CsiParam],
         control: char,
         out: &mut Vec<u8>,
@@ -136,18 +144,31 @@ impl Rule for Spans {
         self.actions.clear();
         parse_into(self.alloc, params, false, control, &mut self.actions)?;
         let new = behind_each(self.look, &self.actions);
+        let before = out.len();
         append_turn(&self.markup, sets_any(&self.actions), self.look, new, out)?;
+        let tags = out.split_at(before).1;
+        self.turns.keep(&self.markup, bytes, self.look, new, tags)?;
         self.look = new;
         Ok(())
     }
 
+    #[inline(always)]
     fn take_at_once(
         &mut self,
-        _limit: usize,
-        _bytes: &[u8],
-        _out: &mut Vec<u8>,
+        limit: usize,
+        bytes: &[u8],
+        out: &mut Vec<u8>,
     ) -> Result<usize, AllocError> {
-        Ok(0)
+        let told = self
+            .turns
+            .recall(&self.markup, self.look, limit, bytes, out)?;
+        match told {
+            Some((len, new)) => {
+                self.look = new;
+                Ok(len)
+            }
+            None => Ok(0),
+        }
     }
 
     fn string(&mut self, bytes: &[u8], out: &mut Vec<u8>) -> Result<(), AllocError> {

@@ -2,7 +2,7 @@
 use csicodec_clean::{ByteClass, first_set};
 use std::simd::prelude::*;
 
-/// All bytes but those from 0 to 3, and the five characters that are written as references.
+/// All bytes but those from 0 to 6, and the five characters that are written as references.
 pub(crate) struct Standing;
 
 impl ByteClass for Standing {
@@ -12,7 +12,7 @@ impl ByteClass for Standing {
 
     #[inline(always)]
     fn has(byte: u8) -> bool {
-        byte >= 4 && byte != b'"' && byte != b'&' && byte != b'\'' && byte != b'<' && byte != b'>'
+        byte >= 7 && byte != b'"' && byte != b'&' && byte != b'\'' && byte != b'<' && byte != b'>'
     }
 
     #[inline(always)]
@@ -20,7 +20,7 @@ impl ByteClass for Standing {
         let lanes = u8x16::from_slice(bytes);
         let quotes = lanes.simd_eq(u8x16::splat(b'"')) | lanes.simd_eq(u8x16::splat(b'\''));
         let brackets = lanes.simd_eq(u8x16::splat(b'<')) | lanes.simd_eq(u8x16::splat(b'>'));
-        let others = lanes.simd_lt(u8x16::splat(4)) | lanes.simd_eq(u8x16::splat(b'&'));
+        let others = lanes.simd_lt(u8x16::splat(7)) | lanes.simd_eq(u8x16::splat(b'&'));
         let odd = quotes | brackets | others;
         first_set(odd.to_bitmask())
     }

@@ -3,7 +3,7 @@ ghost use Rattle.std.specs.Prelude.{◌≡◌, ◌++◌, OnOk};
 ghost use Rattle.csicodec_html.specs.Page.{begins, ends, leads, opens, shuts};
 ghost use Rattle.csicodec_html.specs.Private.Marked.{all_marked};
 
-use crate::attributes::append_attributes;
+use crate::attributes::append_span;
 use crate::look::Look;
 use crate::markup::Markup;
 use std::alloc::AllocError;
@@ -15,9 +15,7 @@ pub(crate) fn append_begin(markup: &Markup, look: Look, out: &mut Vec<u8>) -> Re
     if look.is_plain() {
         return Ok(());
     }
-    out.extend_from_slice(b"\x01span")?;
-    append_attributes(markup, look, out)?;
-    Ok(out.push(2)?)
+    append_span(markup, look, out)
 }
 
 /// Appends the tag that ends a span of this look, if that has one.
@@ -27,7 +25,7 @@ pub(crate) fn append_end(look: Look, out: &mut Vec<u8>) -> Result<(), AllocError
     if look.is_plain() {
         return Ok(());
     }
-    out.extend_from_slice(b"\x01/span\x02")
+    Ok(out.push(4)?)
 }
 
 /// Whether text leads there: nowhere has no bytes.

@@ -1,6 +1,6 @@
--- Between the two steps by which a page is made: text as it is, and tags whose `<`, `>` and `"` are the controls 1, 2 and 3, of which no
+-- Between the two steps by which a page is made: text as it is, and tags in which controls from 1 to 6 stand for markup, of which no
 -- text that is shown has one. The second step goes byte by byte.
-use Rattle.std.specs.Prelude.{ℕ, ◌≡◌, ◌==◌, nat_le, Bool, true, not, ◌&&◌, if◌then◌else◌, List, [], ◌∷◌, ◌++◌, codes, encode_utf8}
+use Rattle.std.specs.Prelude.{ℕ, ◌≡◌, ◌==◌, nat_le, Bool, true, false, not, ◌&&◌, if◌then◌else◌, List, [], ◌∷◌, ◌++◌, codes, encode_utf8}
 use Rattle.std.specs.List.{flat_map}
 use Rattle.csicodec_actions.specs.Actions.{Action}
 use Rattle.csicodec_clean.specs.Cleaned.{RuleOf, EndOf}
@@ -8,14 +8,27 @@ use Rattle.csicodec_clean.specs.Links.{links_at, next}
 use Rattle.csicodec_clean.specs.Stream.{Between, Takes}
 use Rattle.csicodec_clean.specs.Shown.{shown_text}
 use Rattle.csicodec_clean.specs.Styled.{IsOf}
-use Rattle.csicodec_html.specs.Classes.{attributes}
-use Rattle.csicodec_html.specs.Look.{behind_all, sets_any}
+use Rattle.csicodec_html.specs.declared.look.Look.{Look}
+use Rattle.csicodec_html.specs.declared.markup.Markup.{Markup}
+use Rattle.csicodec_html.specs.declared.palette.Palette.{Palette}
+use Rattle.csicodec_html.specs.Classes.{classes_of, names, rest_attribute}
+use Rattle.csicodec_html.specs.Look.{behind_all, css, settled, sets_any}
 use Rattle.csicodec_html.specs.Page.{Piece, Char, Begin, End, Open, Setting, Shut, behind_actions, closing, led_by, setting, switches, turn}
+
+-- the tag that begins a span, with classes and with a style, of a look as it can be read
+abbrev pub classed_mark : Look → List ℕ
+classed_mark l = 1 ∷ (codes "span" ++ (names 3 false (classes_of l) ++ (rest_attribute 3 l ++ 2 ∷ [])))
+
+abbrev pub styled_mark : Palette → Look → List ℕ
+styled_mark p l = 5 ∷ (css p l ++ 6 ∷ [])
+
+abbrev pub begin_mark : Markup → Look → List ℕ
+begin_mark m l = if m.classes then classed_mark l else styled_mark m.palette l
 
 abbrev pub marked : Piece → List ℕ
 marked (Char c) = encode_utf8 c
-marked (Begin m l) = 1 ∷ (codes "span" ++ (attributes 3 m l ++ 2 ∷ []))
-marked End = 1 ∷ (codes "/span" ++ 2 ∷ [])
+marked (Begin m l) = begin_mark m (settled m.palette l)
+marked End = 4 ∷ []
 marked (Open url) = 1 ∷ (codes "a href=" ++ (3 ∷ (url ++ 3 ∷ 2 ∷ [])))
 marked Shut = 1 ∷ (codes "/a" ++ 2 ∷ [])
 
@@ -33,6 +46,9 @@ page_byte b =
     else if b == 1 then 60 ∷ []
     else if b == 2 then 62 ∷ []
     else if b == 3 then 34 ∷ []
+    else if b == 4 then codes "</span>"
+    else if b == 5 then codes "<span style=\""
+    else if b == 6 then codes "\">"
     else b ∷ []
 
 abbrev pub page_bytes : List ℕ → List ℕ
@@ -40,7 +56,7 @@ page_bytes bytes = flat_map page_byte bytes
 
 -- one that stands there as it is
 abbrev pub stands : ℕ → Bool
-stands b = nat_le 4 b && (not (b == 34) && (not (b == 38) && (not (b == 39) && (not (b == 60) && not (b == 62)))))
+stands b = nat_le 7 b && (not (b == 34) && (not (b == 38) && (not (b == 39) && (not (b == 60) && not (b == 62)))))
 
 abbrev pub Stands : ℕ → Type 0
 Stands b = stands b ≡ true

@@ -1,28 +1,37 @@
-use Rattle.std.proofs.Common.{◌≡◌, ◌++◌, ◌∙◌, Bool, [], map, ap, refl, subst}
+use Rattle.std.proofs.Common.{◌∙◌, [], drop, map, ap, arith, subst}
 use Rattle.csicodec_parser.specs.ActionOf.{action_of}
 use Rattle.csicodec_clean.specs.Links.{begun}
-use Rattle.csicodec_html.specs.declared.look.Look.{Look}
 use Rattle.csicodec_html.specs.Look.{behind_all, sets_any}
 use Rattle.csicodec_html.specs.Page.{Setting, setting, turn}
 use Rattle.csicodec_html.specs.Private.Marked.{all_marked, turns}
+use Rattle.csicodec_html.proofs.Recalled.{appended, given, read}
 use Rattle.csicodec_html.proofs.rule.SpansRule.rewrite.Goals as goal
+
+pub keep-requires-clause-turn : goal.keep-requires-clause-turn
+keep-requires-clause-turn c =
+    let (actions, are, held) = c.in_ok-parse_into.ensures [] (ap (map action_of) c.clear.ensures.items) in
+    let inside = c.self.inside in
+    let bytes = c.args.bytes.now in
+    let new = c.behind_each-new.result in
+    let is = read inside.markup bytes c.args.params.now c.args.control inside.look new c.sets_any.result actions _ c.requires are held
+    (c.behind_each-new.ensures ∙ ap (λ l. behind_all inside.look (map action_of l)) c.deref.ensures.value)
+    (c.sets_any.ensures ∙ ap (λ l. sets_any (map action_of l)) c.deref-2.ensures.value) in
+    appended inside.markup bytes inside.look new _ _ c.args.out.now.items c.append_turn.new.out.items c.len-before.result
+    is c.in_ok-append_turn.ensures (omega (arith, c.len-before.ensures))
+    (c.split_at.ensures.back ∙ ap (drop c.len-before.result) c.deref-3.ensures.value)
 
 pub returns : goal.returns
 returns c =
     let (actions, are, held) = c.in_ok-parse_into.ensures [] (ap (map action_of) c.clear.ensures.items) in
     let inside = c.self.inside in
+    let bytes = c.args.bytes.now in
     let come = begun inside.lead.next.place inside.lead.next.params.items inside.lead.next.url.items in
-    let old = setting inside.markup inside.look inside.lead.to.items come in
-    let out = c.args.out.now.items in
+    let first = setting inside.markup inside.look inside.lead.to.items come in
     let new = c.behind_each-new.result in
-    let here = map action_of c.deref.result.now in
-    let told : here ≡ actions = ap (map action_of) c.deref.ensures.value ∙ held in
-    let behind : new ≡ behind_all inside.look actions = c.behind_each-new.ensures ∙ ap (behind_all inside.look) told in
-    let comes : c.sets_any.result ≡ sets_any actions = c.sets_any.ensures ∙ ap sets_any (ap (map action_of) c.deref-2.ensures.value ∙ held) in
-    let text = all_marked (turn inside.markup (sets_any actions) inside.look (behind_all inside.look actions)) in
     let after = setting inside.markup new inside.lead.to.items come in
-    let given : turns.sequence old c.args._bytes.now text after = (actions, (c.args.params.now, c.args.control, c.requires, are), ap (λ (l : Look). setting inside.markup l inside.lead.to.items come) behind, refl) in (
-      text,
-      subst (λ (s : Setting). turns.sequence s c.args._bytes.now text after) c.self.view_is given,
-      c.in_ok-append_turn.ensures ∙ ap (λ (b : Bool). out ++ all_marked (turn inside.markup b inside.look new)) comes ∙ ap (λ (l : Look). out ++ all_marked (turn inside.markup (sets_any actions) inside.look l)) behind,
-    )
+    let text = all_marked (turn inside.markup c.sets_any.result inside.look new) in
+    let is = read inside.markup bytes c.args.params.now c.args.control inside.look new c.sets_any.result actions _ c.requires are held
+    (c.behind_each-new.ensures ∙ ap (λ l. behind_all inside.look (map action_of l)) c.deref.ensures.value)
+    (c.sets_any.ensures ∙ ap (λ l. sets_any (map action_of l)) c.deref-2.ensures.value) in
+    let gives = (given first bytes text new is).1 in
+    (text, subst (λ (s : Setting). turns.sequence s bytes text after) c.self.view_is gives, c.in_ok-append_turn.ensures)

@@ -1,2 +1,3 @@
 pub mod Object
 pub mod Lines
+pub mod Private

@@ -9,6 +9,7 @@
 //! ```
 #![tactic(auto)]
 
+mod glance;
 pub mod laws;
 mod lines;
 mod object;

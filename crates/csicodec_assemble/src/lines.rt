@@ -1,18 +1,35 @@
 //! Lines as they come, and the bytes that they stand for.
-ghost use Rattle.std.specs.Prelude.{◌≡◌, ◌≤◌, ◌++◌, ◌∷◌, [], ℕ, List, IfErr, OnErr, OnOk, vec_len};
+ghost use Rattle.std.specs.Prelude.{◌≡◌, ◌≤◌, ◌==◌, ◌++◌, ◌∷◌, [], ℕ, List, IfErr, IfNone, IfSome, OnErr, OnOk, not, true, vec_len};
+ghost use Rattle.std.specs.List.{list_all};
 ghost use Rattle.csicodec_assemble.specs.Lines.{IsRefused, Passes, counted, last_line, most, of_lines, one_more};
 ghost use Rattle.csicodec_assemble.specs.Object.{IsTold, of_line};
 
-use crate::object::{Fault, Refusal, bytes_of_line};
+use crate::object::{Fault, Refusal, append_bytes};
+use json::Scratch;
+use memchr::memchr;
 use std::alloc::Global;
 
 /// The most bytes that a line may have, without its end: 16 MiB.
 const MOST: usize = 16_777_216;
 
-/// Lines of which some have come. It holds no more than the line that has begun.
+/// The line in front, and what is behind its end, if it has one.
+fn split_line(bytes: &[u8]) -> Option<(&[u8], &[u8])>
+    ensures whole { IfSome result (λ (line, behind). bytes.now ≡ line.now ++ 10 ∷ behind.now) }
+    ensures first { IfSome result (λ (line, _). list_all (λ b. not (b == 10)) line.now ≡ true) }
+    ensures none { IfNone result (list_all (λ b. not (b == 10)) bytes.now ≡ true) }
+{
+    match memchr(b'\n', bytes) {
+        Some(end) => Some((&bytes[..end], &bytes[end + 1..])),
+        None => None,
+    }
+}
+
+/// Lines of which some have come. It holds no more than the line that has begun, and as much room to read it.
 #[derive(Drop)]
 pub struct Assembler {
     alloc: Global,
+    /// Where a line is read.
+    scratch: Scratch,
     /// What has come of the line.
     line: Vec<u8>,
     /// How many lines are over.
@@ -28,6 +45,7 @@ impl Assembler {
     {
         Assembler {
             alloc,
+            scratch: Scratch::new(alloc),
             line: Vec::new(alloc),
             over: 0,
         }
@@ -51,34 +69,25 @@ impl Assembler {
         ensures told { IfErr result (λ e. IsTold e (of_line self.old.line.items)) }
         ensures kept { OnErr result (out.new.items ≡ out.old.items) }
     {
-        let bytes = bytes_of_line(self.alloc, &self.line)?;
-        out.extend_from_slice(&bytes)?;
+        append_bytes(self.alloc, &mut self.scratch, &self.line, out)?;
         self.line.clear();
         self.over = self.over.saturating_add(1);
         Ok(())
     }
 
-    /// Takes a byte: the end of the line, or one of it.
-    fn step(&mut self, byte: u8, out: &mut Vec<u8>) -> Result<(), Refusal>
-        ensures bytes { OnOk result ((text : List ℕ)
-            × Passes self.old.line.items (byte ∷ []) text self.new.line.items
-            × (out.new.items ≡ out.old.items ++ text)) }
-        ensures over { OnOk result (self.new.over ≡ counted self.old.over (byte ∷ [])) }
-        ensures told { IfErr result (λ e. IsRefused e self.old.line.items (byte ∷ [])) }
-        ensures stays { OnErr result (self.new.over ≡ self.old.over) }
+    /// The line goes on with these bytes.
+    fn hold(&mut self, bytes: &[u8]) -> Result<(), Refusal>
+        requires { list_all (λ b. not (b == 10)) bytes.now ≡ true }
+        ensures held { OnOk result (self.new.line.items ≡ self.old.line.items ++ bytes.now) }
+        ensures over { self.new.over ≡ self.old.over }
+        ensures told { IfErr result (λ e. IsRefused e self.old.line.items bytes.now) }
         ensures same { OnErr result (self.new.line.items ≡ self.old.line.items) }
-        ensures kept { OnErr result (out.new.items ≡ out.old.items) }
     {
-        if byte == b'\n' {
-            return self.end_line(out);
-        }
-        if self.line.len() >= MOST {
+        if bytes.len() > MOST - self.line.len() {
             return Err(Refusal::Line(Fault::TooLong));
         }
-        match self.line.push(byte) {
-            Ok(()) => Ok(()),
-            Err(_) => Err(Refusal::Memory),
-        }
+        self.line.extend_from_slice(bytes)?;
+        Ok(())
     }
 
     /// Takes bytes, and appends what the lines stand for that end in them. On `Err` that of the lines ahead of the one that is
@@ -95,13 +104,22 @@ impl Assembler {
             × (self.new.over ≡ counted self.old.over front)
             × (out.new.items ≡ out.old.items ++ text)) }
     {
-        for byte in bytes {
-            match self.step(*byte, out) {
+        let mut rest = bytes;
+        while let Some((line, behind)) = split_line(rest) {
+            match self.hold(line) {
                 Ok(()) => {}
                 Err(refusal) => return Err(refusal),
             }
+            match self.end_line(out) {
+                Ok(()) => {}
+                Err(refusal) => return Err(refusal),
+            }
+            rest = behind;
         }
-        Ok(())
+        match self.hold(rest) {
+            Ok(()) => Ok(()),
+            Err(refusal) => Err(refusal),
+        }
     }
 
     /// Nothing comes any more: a line that has begun is over. On `Err` it is the one that `number` says.

@@ -1,11 +1,13 @@
 //! One object, and the line that it stands in.
-ghost use Rattle.std.specs.Prelude.{◌≡◌, IfErr, IfOk, Some};
+ghost use Rattle.std.specs.Prelude.{◌≡◌, ◌++◌, ℕ, List, IfErr, IfOk, Ok, OnErr, OnOk, Some};
 ghost use Rattle.serde_json.specs.Find.{as_str};
 ghost use Rattle.serde_json.specs.View.{view};
 ghost use Rattle.csicodec_assemble.specs.Object.{IsTold, fault_text, of_hex, of_line, of_object, of_text};
 ghost use Rattle.csicodec_assemble.specs.declared.object.Refusal.TheVariants.{Memory};
 
+use crate::glance::append_text;
 use hex::FromHexError;
+use json::Scratch;
 use serde_json::Value;
 use std::alloc::{AllocError, Global};
 use std::fmt;
@@ -121,4 +123,22 @@ pub fn bytes_of_line(alloc: Global, line: &[u8]) -> Result<Vec<u8>, Refusal>
         Err(error) if error.is_memory() => Err(Refusal::Memory),
         Err(_) => Err(Refusal::Line(Fault::NoObject)),
     }
+}
+
+/// Appends the bytes that a line stands for.
+pub(crate) fn append_bytes(
+    alloc: Global,
+    scratch: &mut Scratch,
+    line: &[u8],
+    out: &mut Vec<u8>,
+) -> Result<(), Refusal>
+    ensures bytes { OnOk result ((text : List ℕ) × (of_line line.now ≡ Ok text)
+        × (out.new.items ≡ out.old.items ++ text)) }
+    ensures told { IfErr result (λ e. IsTold e (of_line line.now)) }
+    ensures kept { OnErr result (out.new.items ≡ out.old.items) }
+{
+    if !append_text(scratch, line, out)? {
+        out.extend_from_slice(&bytes_of_line(alloc, line)?)?;
+    }
+    Ok(())
 }

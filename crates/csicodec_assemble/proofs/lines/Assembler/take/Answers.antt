@@ -1,48 +1,78 @@
-use Rattle.std.proofs.Common.{◌≡◌, ◌+◌, ◌++◌, ◌∷◌, [], ℕ, List, suc, get_or, take, drop, drop-cons, take-append-drop, append_assoc, sym, ap, ◌∙◌, subst, rules}
-use Rattle.std.proofs.lemmas.List.{take_more}
-use Rattle.csicodec_assemble.specs.Lines.{IsRefused, Passes, counted}
-use Rattle.csicodec_assemble.proofs.Joined.{counted_then, passes_then, refused_then}
+use Rattle.std.proofs.Common.{◌∷◌, [], ℕ, List, sym, subst, append-nil, refl, arith}
+use Rattle.csicodec_assemble.specs.Lines.{IsRefused}
+use Rattle.csicodec_assemble.proofs.Joined.{at_end, at_refusal, one_end, one_run, refused_by, refused_then}
 use Rattle.csicodec_assemble.proofs.lines.Assembler.take.Goals as goal
+
+pub loop-line-init : goal.loop-line-init
+loop-line-init c = ([], [], refl, record { over = []; lines = λ more. refl; all = refl }, refl, sym (append-nil c.args.out.now.items))
+
+pub loop-line-preserved : goal.loop-line-preserved
+loop-line-preserved c =
+    let l = c.loop-line in
+    let split = c.in-Some.ensures in
+    let held = c.in-Ok.ensures in
+    let ended = c.in-Ok-end_line.ensures in
+    let (text, told, longer) = ended.bytes in
+    let now = c.hold.new.self in
+    let first = c.args.self.now.line.items in
+    let all = c.args.bytes.now in
+    let old = c.args.out.now.items in
+    let before = c.args.self.now.over in
+    let same = now.line.ok.0 in
+    let bound = now.bounded in
+    let run = one_run first l.self.line.items all l.rest.now old l.out.items c.in-Some.line.now (10 ∷ c.in-Some.behind.now) now.line.items before l.self.over now.over l.invariant split.whole split.first held.held held.over in
+    one_end first now.line.items all c.in-Some.behind.now old l.out.items text c.end_line.new.self.line.items c.end_line.new.out.items before now.over c.end_line.new.self.over run
+    (omega (arith, same, bound)) told ended.begins ended.over longer
 
 pub returns-in-Err-clause-told : goal.returns-in-Err-clause-told
 returns-in-Err-clause-told c =
-    let (text, passes, over, out) = c.loop-byte.invariant in
-    let i = c.loop-byte.byte-index in
-    let bytes = c.args.bytes.now in
-    let first = c.args.self.now.line.items in
-    let line = c.loop-byte.self.line.items in
+    let l = c.loop-line in
     let e = c.in-Err.refusal in
-    let same = c.in-Err.ensures.same in
-    let front = take i bytes in
-    let x = get_or bytes i 0 in
-    let more = drop (suc i) bytes in
-    let behind : drop i bytes ≡ x ∷ more = drop-cons bytes i 0 c.loop-byte-test.true in
-    let split : bytes ≡ front ++ (x ∷ more) = sym (take-append-drop i bytes) ∙ ap (λ (s : List ℕ). front ++ s) behind in (
-      front,
-      x ∷ more,
-      text,
-      split,
-      subst (λ (s : List ℕ). Passes first front text s) (sym same) passes,
-      subst (λ (s : List ℕ). IsRefused e s (x ∷ more)) (sym same) (refused_then e line more x c.in-Err.ensures.told),
-      c.in-Err.ensures.stays ∙ over,
-      c.in-Err.ensures.kept ∙ out,
-    )
+    let held = c.in-Err.ensures in
+    let line = l.self.line.items in
+    let left = refused_then e line c.in-Some.line.now (10 ∷ c.in-Some.behind.now) held.told in
+    at_refusal e c.args.self.now.line.items line c.args.bytes.now l.rest.now c.args.out.now.items l.out.items c.hold.new.self.line.items l.out.items c.args.self.now.over l.self.over c.hold.new.self.over
+    l.invariant (subst (λ (s : List ℕ). IsRefused e line s) (sym c.in-Some.ensures.whole) left) held.same held.over refl
 
-pub loop-byte-preserved : goal.loop-byte-preserved
-loop-byte-preserved c =
-    let (text, passes, over, out) = c.loop-byte.invariant in
-    let (more, next, longer) = c.in-Ok.ensures.bytes in
-    let i = c.loop-byte.byte-index in
-    let bytes = c.args.bytes.now in
+pub returns-in-Err-end_line-clause-told : goal.returns-in-Err-end_line-clause-told
+returns-in-Err-end_line-clause-told c =
+    let l = c.loop-line in
+    let e = c.in-Err-end_line.refusal in
+    let split = c.in-Some.ensures in
+    let held = c.in-Ok.ensures in
+    let ended = c.in-Err-end_line.ensures in
+    let now = c.hold.new.self in
     let first = c.args.self.now.line.items in
-    let last = c.step.new.self.line.items in
-    let ahead = c.args.self.now.over in
-    let x = get_or bytes i 0 in
-    let taken : take (i + 1) bytes ≡ take i bytes ++ x ∷ [] = search (rules, take_more) in
-    let whole = passes_then first c.loop-byte.self.line.items last (take i bytes) (x ∷ []) text more passes next in (
-      text ++ more,
-      subst (λ (s : List ℕ). Passes first s (text ++ more) last) (sym taken) whole,
-      c.in-Ok.ensures.over ∙ ap (λ (n : ℕ). counted n (x ∷ [])) over ∙ sym (counted_then ahead (take i bytes) (x ∷ []))
-          ∙ ap (λ (s : List ℕ). counted ahead s) (sym taken),
-      longer ∙ ap (λ (s : List ℕ). s ++ more) out ∙ append_assoc c.args.out.now.items text more,
-    )
+    let all = c.args.bytes.now in
+    let old = c.args.out.now.items in
+    let before = c.args.self.now.over in
+    let same = now.line.ok.0 in
+    let bound = now.bounded in
+    let behind = c.in-Some.behind.now in
+    let run = one_run first l.self.line.items all l.rest.now old l.out.items c.in-Some.line.now (10 ∷ behind) now.line.items before l.self.over now.over l.invariant split.whole split.first held.held held.over in
+    let left = refused_then e now.line.items (10 ∷ []) behind (refused_by e now.line.items (omega (arith, same, bound)) ended.told) in
+    at_refusal e first now.line.items all (10 ∷ behind) old l.out.items c.end_line.new.self.line.items c.end_line.new.out.items before now.over c.end_line.new.self.over run left ended.same ended.stays ended.kept
+
+pub returns-in-Ok-hold-clause-bytes : goal.returns-in-Ok-hold-clause-bytes
+returns-in-Ok-hold-clause-bytes c =
+    let l = c.loop-line in
+    let held = c.in-Ok-hold.ensures in
+    let first = c.args.self.now.line.items in
+    let all = c.args.bytes.now in
+    let old = c.args.out.now.items in
+    let before = c.args.self.now.over in
+    let now = c.hold-2.new.self in
+    let run = one_run first l.self.line.items all l.rest.now old l.out.items l.rest.now [] now.line.items before l.self.over now.over l.invariant (sym (append-nil l.rest.now)) c.in_default.ensures.none held.held held.over in
+    (at_end first now.line.items all old l.out.items before now.over run).0
+
+pub returns-in-Ok-hold-clause-over : goal.returns-in-Ok-hold-clause-over
+returns-in-Ok-hold-clause-over c =
+    let l = c.loop-line in
+    let held = c.in-Ok-hold.ensures in
+    let first = c.args.self.now.line.items in
+    let all = c.args.bytes.now in
+    let old = c.args.out.now.items in
+    let before = c.args.self.now.over in
+    let now = c.hold-2.new.self in
+    let run = one_run first l.self.line.items all l.rest.now old l.out.items l.rest.now [] now.line.items before l.self.over now.over l.invariant (sym (append-nil l.rest.now)) c.in_default.ensures.none held.held held.over in
+    (at_end first now.line.items all old l.out.items before now.over run).1

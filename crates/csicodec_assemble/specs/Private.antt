@@ -1,0 +1,2 @@
+-- What private steps say of each other. No promise rests on these files.
+pub mod Glance

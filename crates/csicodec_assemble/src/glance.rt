@@ -1,0 +1,164 @@
+//! A line in the form that `explain --json` gives it, of which the text is read and nothing else kept.
+ghost use Rattle.std.specs.Prelude.{◌≡◌, ◌<◌, ◌++◌, [], ◌∷◌, ℕ, List, length, IfOk, IfSome, IsFalse, IsSome, IsTrue, OnErr, OnOk, Ok, Some, option_map};
+ghost use Rattle.json.specs.Token as token;
+ghost use Rattle.json.specs.Json.{items, members, value};
+ghost use Rattle.serde_json.specs.Data.{Data, Items, Members, no_members, put};
+ghost use Rattle.serde_json.specs.Read.{converted, number_of, of_items, of_json, of_members};
+ghost use Rattle.csicodec_assemble.specs.Object.{of_line, of_object};
+ghost use Rattle.csicodec_assemble.specs.Private.Glance.{Says};
+
+use fast_float::Numeral;
+use json::{Invalid, Reader, Scratch, Token};
+use std::alloc::AllocError;
+
+/// How deep arrays and objects may nest in the object of a line: as deep as serde_json reads them.
+const DEPTH: usize = 126;
+
+/// Whether a number has digits alone, and is less than 2^64. Any other is left to serde_json.
+fn is_small(number: &str) -> bool
+    ensures { IsTrue result → IsSome (number_of number.now) }
+{
+    let bytes = number.as_bytes();
+    if bytes.is_empty() || bytes[0] == b'-' {
+        return false;
+    }
+    Numeral::scan(bytes).to_u64().is_some()
+}
+
+/// Passes a value in which arrays and objects nest no deeper than that.
+#[cycle(pass)]
+fn pass(reader: &mut Reader<'_>, depth: usize) -> Result<(), Invalid>
+    ensures value { OnOk result ((d : Data)
+        × (converted of_json (value depth reader.old) ≡ Some (d, reader.new))) }
+    ensures shorter { OnOk result (length reader.new < length reader.old) }
+{
+    let token = reader.next().ok_or(Invalid)?;
+    match token {
+        Token::String(_) => Ok(()),
+        Token::Bool(_) => Ok(()),
+        Token::Null => Ok(()),
+        Token::Number(text) if is_small(text) => Ok(()),
+        Token::BeginArray if depth > 0 => pass_items(reader, depth - 1),
+        Token::BeginObject if depth > 0 => pass_members(reader, depth - 1),
+        _ => Err(Invalid),
+    }
+}
+
+#[cycle(pass)]
+fn pass_items(reader: &mut Reader<'_>, depth: usize) -> Result<(), Invalid>
+    ensures value { OnOk result ((ds : Items)
+        × (converted of_items (items (value depth) (length reader.old) reader.old)
+        ≡ Some (ds, reader.new))) }
+    ensures shorter { OnOk result (length reader.new < length reader.old) }
+{
+    'items: while !reader.take_end_array() {
+        pass(reader, depth)?;
+    }
+    Ok(())
+}
+
+#[cycle(pass)]
+fn pass_members(reader: &mut Reader<'_>, depth: usize) -> Result<(), Invalid>
+    ensures value { OnOk result ((found : Members)
+        × (converted (λ ms. of_members ms no_members)
+        (members (value depth) (length reader.old) reader.old) ≡ Some (found, reader.new))) }
+    ensures shorter { OnOk result (length reader.new < length reader.old) }
+{
+    'members: while let Some(_) = reader.next_key()? {
+        pass(reader, depth)?;
+    }
+    Ok(())
+}
+
+/// The string that is next.
+fn take_string<'a>(reader: &mut Reader<'a>) -> Result<&'a str, Invalid>
+    ensures { IfOk result (λ s. reader.old ≡ token.string s.now ∷ reader.new) }
+{
+    match reader.next() {
+        Some(Token::String(text)) => Ok(text),
+        _ => Err(Invalid),
+    }
+}
+
+/// Passes a member of this name: the text, if it is that.
+fn take_member<'a>(
+    reader: &mut Reader<'a>,
+    name: &str,
+    text: Option<&'a str>,
+) -> Result<Option<&'a str>, Invalid>
+    ensures said { IfOk result (λ now. (d : Data)
+        × (converted of_json (value 126 reader.old) ≡ Some (d, reader.new))
+        × ((found : Members) → Says (option_map (λ s. s.now) text.entry) found
+        → Says (option_map (λ s. s.now) now) (put name.now d found))) }
+    ensures shorter { OnOk result (length reader.new < length reader.old) }
+{
+    if name == "text" {
+        return Ok(Some(take_string(reader)?));
+    }
+    if name == "kind" {
+        let kind = take_string(reader)?;
+        return if kind == "totals" {
+            Err(Invalid)
+        } else {
+            Ok(text)
+        };
+    }
+    if name == "hex" {
+        return Err(Invalid);
+    }
+    pass(reader, DEPTH)?;
+    Ok(text)
+}
+
+/// Passes the members of an object: its text, if it has one. It has no `hex`, and isn't of the kind `totals`.
+fn text_member<'a>(reader: &mut Reader<'a>) -> Result<Option<&'a str>, Invalid>
+    ensures { IfOk result (λ text. (found : Members)
+        × (converted (λ ms. of_members ms no_members)
+        (members (value 126) (length reader.old) reader.old) ≡ Some (found, reader.new))
+        × Says (option_map (λ s. s.now) text) found) }
+{
+    let mut text = None;
+    'members: while let Some(name) = reader.next_key()? {
+        text = take_member(reader, name, text)?;
+    }
+    Ok(text)
+}
+
+/// The text of an object that is all that comes, where it has that form.
+fn text_of<'a>(reader: &mut Reader<'a>) -> Option<&'a str>
+    ensures { IfSome result (λ s. (d : Data)
+        × (converted of_json (value 127 reader.old) ≡ Some (d, [])) × (of_object d ≡ Ok s.now)) }
+{
+    let Some(Token::BeginObject) = reader.next() else {
+        return None;
+    };
+    let Ok(text) = text_member(reader) else {
+        return None;
+    };
+    if reader.next().is_some() {
+        return None;
+    }
+    text
+}
+
+/// Appends the text of a line's object, where it has that form; whether it does.
+pub(crate) fn append_text(
+    scratch: &mut Scratch,
+    line: &[u8],
+    out: &mut Vec<u8>,
+) -> Result<bool, AllocError>
+    ensures bytes { IfOk result (λ told. IsTrue told → (text : List ℕ)
+        × (of_line line.now ≡ Ok text) × (out.new.items ≡ out.old.items ++ text)) }
+    ensures none { IfOk result (λ told. IsFalse told → out.new.items ≡ out.old.items) }
+    ensures kept { OnErr result (out.new.items ≡ out.old.items) }
+{
+    let Ok(line) = std::str::from_utf8(line) else {
+        return Ok(false);
+    };
+    let mut reader = Reader::new(line, scratch)?;
+    let Some(text) = text_of(&mut reader) else {
+        return Ok(false);
+    };
+    out.extend_from_slice(text.as_bytes())?;
+    Ok(true)
+}

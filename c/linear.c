@@ -124,6 +124,20 @@ static int stripped(size_t len) {
     return at == len;
 }
 
+static void count_bytes(void *written, const uint8_t *text, size_t len) {
+    (void)text;
+    *(size_t *)written += len;
+}
+
+/* Whether a line that a sequence stands in is written when it ends. */
+static int lined(size_t len) {
+    static uint8_t held[2 * LIMIT];
+    struct csicodec_lines lines = csicodec_overwritten_lines(0, held, sizeof held, out, sizeof out);
+    size_t at = 0, written = 0;
+    while (at < len && csicodec_feed_lines(&lines, bytes + at, 1, count_bytes, &written) == 1) at++;
+    return at == len && csicodec_feed_lines(&lines, (const uint8_t *)"\n", 1, count_bytes, &written) == 1 && written > 0;
+}
+
 int main(void) {
     static const char *const cases[][2] = {{";", "m"}, {"1;", "m"}, {"\x08", "A"}, {"1\x08;", "A"}, {"\x7f", "\x18"}, {"\x07", "\x1b[m"},
                                            {"1", "m"}, {"?", "\xc3\xa9"}, {" ", "z"}};
@@ -135,9 +149,9 @@ int main(void) {
     for (size_t i = 0; i < sizeof cases / sizeof cases[0]; i++) {
         size_t len = fill(cases[i][0], cases[i][1]);
         int good = 1;
-        for (int way = 0; way < 4; way++) {
+        for (int way = 0; way < 5; way++) {
             passed = reads = 0;
-            good &= way == 3 ? stripped(len) : way == 2 ? filtered(len) : streamed(len, way == 0 ? 1 : len);
+            good &= way == 4 ? lined(len) : way == 3 ? stripped(len) : way == 2 ? filtered(len) : streamed(len, way == 0 ? 1 : len);
             good &= passed <= 4 * len && reads * PAGE <= 4 * len;
             mprotect(bytes, sizeof bytes, PROT_READ | PROT_WRITE);
             if (good) continue;

@@ -175,6 +175,37 @@ static int starves(uint32_t (*call)(const uint8_t *, size_t), const uint8_t *tex
     return 0;
 }
 
+static uint8_t written[256];
+static size_t written_len;
+
+static void add_written(void *user, const uint8_t *bytes, size_t len) {
+    (void)user;
+    memcpy(written + written_len, bytes, len);
+    written_len += len;
+}
+
+/* Whether lines as they come are those of the whole where any allocation is refused, and the same bytes are fed again. */
+static int lines_go_on(void) {
+    static const char text[] = "1%\r\x1b[1m2%\n\x1b[31mred\n\x1b[3mend";
+    static uint8_t held[1024], room[256], whole[256];
+    size_t needed = csicodec_overwrite(1, (const uint8_t *)text, sizeof text - 1, whole, sizeof whole).needed;
+    for (long nth = 0; nth < 1000; nth++) {
+        struct csicodec_lines lines = csicodec_overwritten_lines(1, held, sizeof held, room, sizeof room);
+        size_t at = 0, stops = 0;
+        written_len = 0;
+        left = nth, refused = 0;
+        while (at < sizeof text - 1) {
+            at += csicodec_feed_lines(&lines, (const uint8_t *)text + at, sizeof text - 1 - at, add_written, NULL);
+            stops += lines.status == CSICODEC_MEMORY && !lines.held_needed && !lines.out_needed;
+        }
+        while (csicodec_finish_lines(&lines, add_written, NULL) == CSICODEC_MEMORY) stops++;
+        left = -1;
+        if (written_len != needed || memcmp(written, whole, needed) || stops != (size_t)refused) return 0;
+        if (!refused) return nth > 3;
+    }
+    return 0;
+}
+
 int main(void) {
     for (size_t i = 0; i < sizeof texts / sizeof texts[0]; i++) {
         const uint8_t *text = (const uint8_t *)texts[i];
@@ -202,6 +233,7 @@ int main(void) {
         fprintf(stderr, "starve: cost %zu, of ESC %s: %ld allocations, not %ld\n", i, costs[i].text + 1, asked, costs[i].asked);
         return 2;
     }
+    if (!lines_go_on()) return fprintf(stderr, "starve: lines are others where memory is refused\n"), 4;
     printf("each allocation was refused in turn\n");
     return 0;
 }

@@ -659,6 +659,7 @@ typedef char csicodec_known_has_56_bytes[sizeof(struct csicodec_known) == 56 ? 1
 #endif
 
 #include "csicodec_stream.h"
+#include "csicodec_lines.h"
 
 #ifdef __cplusplus
 }

@@ -29,7 +29,7 @@ DEBIAN = {"x86_64-linux": "amd64", "aarch64-linux": "arm64"}
 CARGO_TARGETS = {**{place: target for place, (target, _) in TARGETS.items()}, systems.WINDOWS: "x86_64-pc-windows-gnu"}
 # The systems of each kind of package that isn't of dist/ alone.
 OTHERS = {"windows": [systems.WINDOWS], "macos": ["aarch64-macos", "x86_64-macos"]}
-HEADERS = [f"include/{name}" for name in ("csicodec.h", "csicodec_kinds.h", "csicodec_names.h", "csicodec_stream.h")]
+HEADERS = [f"include/{name}" for name in ("csicodec.h", "csicodec_kinds.h", "csicodec_names.h", "csicodec_stream.h", "csicodec_lines.h")]
 
 
 def epoch():

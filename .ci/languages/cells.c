@@ -19,6 +19,11 @@ static void count(void *counts, const struct csicodec_parser *parser, const stru
     (void)parser;
     ((size_t *)counts)[event->kind == CSICODEC_EVENT_OTHER] += event->kind == CSICODEC_EVENT_OTHER ? event->len : event->actions;
 }
+/* Adds to what was written, of so many bytes. */
+static void add(void *written, const uint8_t *bytes, size_t len) {
+    memcpy(out + *(size_t *)written, bytes, len);
+    *(size_t *)written += len;
+}
 static int wrote(size_t needed, const char *text) { return needed == strlen(text) && !memcmp(out, text, needed); }
 
 int main(void) {
@@ -53,6 +58,13 @@ int main(void) {
     struct csicodec_markup markup = {0, 0, 1, 0};
     says("html", wrote(csicodec_html(&markup, NULL, 0, B("1\r\033[1m<"), out, 128).needed, "<span style=\"font-weight:bold;\">&lt;</span>")
         && wrote(csicodec_overwrite(0, B("1\r2"), out, 128).needed, "2"));
+    static uint8_t waits[1024], room[128];
+    struct csicodec_lines lines = csicodec_html_lines(&markup, NULL, 0, waits, sizeof waits, room, sizeof room);
+    size_t written = 0;
+    csicodec_feed_lines(&lines, B("1\r\033[1m<\n&"), add, &written);
+    int is_first = wrote(written, "<span style=\"font-weight:bold;\">&lt;</span>\n");
+    csicodec_finish_lines(&lines, add, &written);
+    says("lines", is_first && wrote(written, "<span style=\"font-weight:bold;\">&lt;</span>\n<span style=\"font-weight:bold;\">&amp;</span>"));
     says("encode", wrote(csicodec_encode(actions, 1, params, 0, out, 128).needed, "\033[3m"));
     return 0;
 }

@@ -9,17 +9,23 @@
 static char told[1 << 16];
 static size_t size;
 static char open;
+/* Whether text begins or ends within a character. */
+static int torn;
+/* Whether the bytes of a sequence are said too. */
+static int details;
 
 /* What an event says; text and malformed controls that go on are joined, and so are strings that come in pieces. */
 static void tell(void *user, const struct csicodec_parser *parser, const struct csicodec_event *event) {
     char kind = "NTAESO"[event->kind];
     int goes_on = open == kind && (kind == 'T' || kind == 'O' || (kind == 'S' && !event->first));
     (void)user;
-    if (size + event->len + 64 > sizeof told) abort();
+    if (size + event->len + 300 > sizeof told) abort();
+    torn |= kind == 'T' && event->used && ((event->bytes[0] & 0xc0) == 0x80 || event->bytes[event->len - 1] >= 0xc0);
     if (open && !goes_on) told[size++] = '|';
     open = kind;
     if (kind == 'A') {
         size += (size_t)sprintf(told + size, "A%d", (int)event->actions);
+        if (details) size += (size_t)sprintf(told + size, "<%.*s>%d", (int)event->len, (const char *)event->bytes, (int)event->params);
         for (size_t i = 0; i < event->actions && i < parser->stream.actions_room; i++)
             size += (size_t)sprintf(told + size, " %d %d", (int)parser->stream.actions[i].kind, (int)parser->stream.actions[i].first);
     } else if (kind == 'E') {
@@ -63,27 +69,88 @@ static int is_told(const char *text, size_t room, const char *wanted) {
     return 1;
 }
 
-/* Random streams of bytes that mean something, in pieces of several lengths. */
+static uint64_t state = 88172645463325252u;
+
+static size_t any(size_t below) {
+    state ^= state << 13, state ^= state >> 7, state ^= state << 17;
+    return (size_t)(state % below);
+}
+
+/* What streams are made of: first what is whole, then what is cut, malformed or no UTF-8. */
+static const char *const bits[] = {"a", "b c", "\n", "\xc3\xa9", "\xe2\x82\xac", "\xf0\x9f\x98\x80", "\xe0\xa0\x80", "\xed\x9f\xbf", "\xf4\x8f\xbf\xbf", "\xf0\x90\x80\x80",
+    "\x1b[m", "\x1b[1;31m", "\x1b[38;5;200m", "\x1b[;H", "\x1b[5A", "\x1b[3@", "\x1b[2~", "\x1b[?25h", "\x1b[1 q", "\x1b[!p", "\x1b[1;m", "\x1b[0;98;1m", "\x1b(B", "\x1b" "7", "\x1b#8",
+    "\x1b]0;t\x07", "\x1b]8;;u\x1b\\", "\x1bPq\x1b\\", "\x1b[1\n;2H", "\x1b[\x08" "5A", "\x1b[2\x1f" "A", "\x1b[123456789012m",
+    "\x1b", "\x1b[", "\x1b[1", "\x1b[1;", "\x1b[?", "\x1b(", "\x1b]", "\x1b]0;t", "\x1bP", "\x1b_x", "\x18", "\x7f", "\x1b[3\x18", "\x1b[\x7f", "\x1b[1:2?m", "\x1b[ 1m", "\x1b!!",
+    "\xc3", "\xe2\x82", "\xe2", "\x82", "\xf0\x9f\x98", "\xf0\x9f", "\xe0\x80", "\xed\xa0", "\xf0\x8f", "\xf4\x90", "\xf5", "\xff", "\xc0", "\x9b", "\x1b[1\xc3\xa9", "?", ";", "m"};
+enum { ALL = sizeof bits / sizeof bits[0], WHOLE = 32 };
+
+/* The events that the library itself tells of all bytes, by csicodec_event alone. */
+static void tell_whole(struct csicodec_parser *parser, const uint8_t *bytes, size_t len) {
+    struct csicodec_event event;
+    size_t at = 0;
+    size = 0, open = 0;
+    for (;; at += event.used) {
+        memset(&event, 0, sizeof event);
+        if (at == len || !csicodec_told_event(&parser->stream, bytes + at, len - at, &event)) break;
+        csicodec_tell_event(parser, &event, tell, NULL);
+    }
+    memcpy(parser->held, bytes + at, parser->waiting = len - at);
+    csicodec_finish(parser, tell, NULL);
+    told[size] = 0;
+}
+
+/* The same in pieces, each of a length at random. */
+static void tell_pieces(struct csicodec_parser *parser, const uint8_t *bytes, size_t len, size_t most) {
+    size = 0, open = 0;
+    for (size_t at = 0, more; at < len; at += more) {
+        more = 1 + any(most);
+        if (more > len - at) more = len - at;
+        uint8_t *given = malloc(more);
+        memcpy(given, bytes + at, more);
+        if (csicodec_feed(parser, given, more, tell, NULL) != more) abort();
+        free(given);
+    }
+    csicodec_finish(parser, tell, NULL);
+    told[size] = 0;
+}
+
+/* Streams at random, in pieces at random, against what the library tells of the whole; each parser has several streams, one after the other. */
 static int same_in_pieces(unsigned rounds) {
-    static const char alphabet[] = "\x1b\x1b\x1b[[[]PX^_\\\x07\x18;:?<0123456789mHhAJ \x0a" "ab\xc3\xa9\xe2\x82\xac\x7f!$\x1b";
     static char whole[sizeof told];
-    static uint8_t bytes[400];
-    uint64_t state = 88172645463325252u;
-    while (rounds--) {
-        for (size_t i = 0; i < sizeof bytes; i++) {
-            state ^= state << 13, state ^= state >> 7, state ^= state << 17;
-            bytes[i] = (uint8_t)alphabet[state % (sizeof alphabet - 1)];
-        }
-        for (size_t room = 0; room <= 64; room += 64) {
-            feed(bytes, sizeof bytes, sizeof bytes, room);
+    static uint8_t bytes[4096], string[64];
+    struct csicodec_action actions[4];
+    struct csicodec_param params[4];
+    int good = 1;
+    details = 1;
+    while (good && rounds--) {
+        /* Of the heap, so that a sanitizer sees where it ends. */
+        size_t limit = 4 + any(any(2) ? 16 : 120), room = limit + any(2) * any(100), kinds = any(2) ? WHOLE : ALL;
+        uint8_t *held = malloc(room), *all = malloc(sizeof bytes);
+        struct csicodec_parser parser = csicodec_parser_of(held, room, actions, 4, params, 4), other = parser;
+        parser.stream.limit = other.stream.limit = limit;
+        parser.stream.as_terminals = other.stream.as_terminals = any(2);
+        other.held = all;
+        if (any(2)) csicodec_collect(&parser, string, sizeof string), csicodec_collect(&other, string, sizeof string);
+        for (int stream = 0; good && stream < 4; stream++) {
+            size_t len = 0, count = any(60);
+            while (count--) {
+                const char *bit = bits[any(kinds)];
+                memcpy(bytes + len, bit, strlen(bit));
+                len += strlen(bit);
+            }
+            tell_whole(&other, bytes, len);
             memcpy(whole, told, size + 1);
-            for (size_t piece = 1; piece < 100; piece += 1 + piece / 2) {
-                feed(bytes, sizeof bytes, piece, room);
-                if (strcmp(whole, told)) return fprintf(stderr, "parser: other events in pieces of %zu\n", piece), 0;
+            for (size_t most = 1; good && most < 200; most += 1 + most / 2) {
+                torn = 0;
+                tell_pieces(&parser, bytes, len, most);
+                good = !strcmp(whole, told) && (kinds == ALL || !torn);
+                if (!good) fprintf(stderr, "parser: limit %zu, pieces of at most %zu: %s\nis told as %s\n%s", limit, most, whole, told, torn ? "and a character is cut\n" : "");
             }
         }
+        free(held), free(all);
     }
-    return 1;
+    details = 0;
+    return good;
 }
 
 static int is_raw(const char *text, const char *wanted) {

@@ -58,7 +58,7 @@ static int waits(void) {
     static const struct { const char *text; size_t len, whole; } cases[] = {
         {"a", 1, 1}, {"a\xc3", 2, 1}, {"\xc3\xa9", 2, 2}, {"ab\xe2\x82", 4, 2}, {"\xe2\x82\xac", 3, 3}, {"a\xf0\x9f\x98", 4, 1},
         {"\xf0\x9f\x98\x80", 4, 4}, {"\xc3" "a", 2, 2}, {"\xc0", 1, 1}, {"\xe0\x80", 2, 2}, {"\xed\xa0", 2, 2}, {"\xf4\x90", 2, 2},
-        {"\xff", 1, 1}, {"\x82\x82\x82\x82", 4, 4}};
+        {"\xf0\x8f", 2, 2}, {"\xf5", 1, 1}, {"\xc1", 1, 1}, {"\xff", 1, 1}, {"\x82\x82\x82\x82", 4, 4}};
     int good = 1;
     for (size_t i = 0; i < sizeof cases / sizeof cases[0]; i++) {
         struct csicodec_stream stream = csicodec_stream_of(64, NULL, 0, NULL, 0);

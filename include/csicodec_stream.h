@@ -21,6 +21,13 @@
 
 #include <string.h>
 
+/* What is rarely called stays a function of its own, so that compilers put what is often called where it is called. */
+#if defined(__GNUC__)
+#define CSICODEC_RARELY static __attribute__((noinline, unused))
+#else
+#define CSICODEC_RARELY static inline
+#endif
+
 /* Whether a step of csicodec_filter, or a call of csicodec_next, can wait for more bytes: with the first `looked` of len bytes it used
  * nothing, or returned CSICODEC_TRUNCATED, and none of the bytes behind them ends the control sequence. So a sequence that comes
  * byte by byte is read once, and not again with each byte. The limit is the filter's; for csicodec_next it is SIZE_MAX.
@@ -149,7 +156,7 @@ static inline int csicodec_may_differ(const struct csicodec_stream *stream, cons
 }
 
 /* An event of actions, with those that terminals take its sequence for. If there is no memory the stream is as it was before it. */
-static inline int csicodec_terminal_event(struct csicodec_stream *stream, uint32_t mode, size_t looked, struct csicodec_event *event) {
+CSICODEC_RARELY int csicodec_terminal_event(struct csicodec_stream *stream, uint32_t mode, size_t looked, struct csicodec_event *event) {
     struct csicodec_front front;
     if (!csicodec_may_differ(stream, event)) return 1;
     front = csicodec_terminal_actions(event->bytes, event->used, stream->actions, stream->actions_room, stream->params, stream->params_room);
@@ -165,7 +172,7 @@ static inline int csicodec_terminal_event(struct csicodec_stream *stream, uint32
 }
 
 /* What csicodec_event tells. */
-static inline int csicodec_told_event(struct csicodec_stream *stream, const uint8_t *bytes, size_t len, struct csicodec_event *event) {
+CSICODEC_RARELY int csicodec_told_event(struct csicodec_stream *stream, const uint8_t *bytes, size_t len, struct csicodec_event *event) {
     uint32_t mode = stream->mode;
     size_t looked = stream->looked;
     struct csicodec_told told = csicodec_event(mode, stream->limit, looked, bytes, len, stream->actions,
@@ -193,19 +200,47 @@ static inline size_t csicodec_escape_length(const uint8_t *bytes, size_t len) {
     }
 }
 
+/* How many bytes at the end of some text are the beginning of a character in UTF-8 that isn't all there. */
+CSICODEC_RARELY size_t csicodec_unfinished(const uint8_t *bytes, size_t len) {
+    size_t back = 1, size;
+    uint8_t first, second;
+    while (back < 3 && back < len && (bytes[len - back] & 0xc0) == 0x80) back++;
+    first = bytes[len - back], second = bytes[len - back + (back > 1)];
+    size = first < 0xc2 || first > 0xf4 ? 1 : first < 0xe0 ? 2 : first < 0xf0 ? 3 : 4;
+    if (size <= back) return 0;
+    if (back == 1) return 1;
+    if ((first == 0xe0 && second < 0xa0) || (first == 0xed && second > 0x9f)) return 0;
+    return (first == 0xf0 && second < 0x90) || (first == 0xf4 && second > 0x8f) ? 0 : back;
+}
+
+/* How much of some text without an ESC is told: all but the beginning of a character that isn't all there. */
+static inline size_t csicodec_told_text(const uint8_t *bytes, size_t len) {
+    return bytes[len - 1] < 0x80 ? len : len - csicodec_unfinished(bytes, len);
+}
+
+/* The event of a control sequence that csicodec_next read. If it returns 0 there is no memory for what terminals take it for. */
+static inline int csicodec_front_event(struct csicodec_stream *stream, const uint8_t *bytes, const struct csicodec_front *front,
+                                       struct csicodec_event *event) {
+    uint32_t mode = stream->mode;
+    event->actions = front->actions;
+    event->params = front->params;
+    csicodec_event_of(stream, event, CSICODEC_EVENT_ACTIONS, bytes, front->used, CSICODEC_FILTER_TEXT);
+    return !stream->as_terminals || csicodec_terminal_event(stream, mode, 0, event);
+}
+
 /* The next event of a stream at the front of len bytes. If it returns 0 there is none, and the bytes wait; otherwise continue at
  * bytes + event->used. At the end of the stream the bytes that wait are an unfinished control or an incomplete character.
  *
- * It is a call of csicodec_event, but for what needs none: text up to an ESC, or up to ASCII, while no control is open, an escape sequence,
- * and a control sequence that csicodec_next reads at once. */
+ * It is a call of csicodec_event, but for what needs none: text while no control is open, an escape sequence, and a control sequence that
+ * csicodec_next reads at once. */
 static inline int csicodec_next_event(struct csicodec_stream *stream, const uint8_t *bytes, size_t len,
                                       struct csicodec_event *event) {
     memset(event, 0, sizeof *event);
     if (!len) return 0;
     if (bytes[0] != 0x1b && stream->mode == CSICODEC_FILTER_TEXT && stream->limit) {
         const uint8_t *esc = (const uint8_t *)memchr(bytes, 0x1b, len);
-        if (esc || bytes[len - 1] < 0x80)
-            return csicodec_event_of(stream, event, CSICODEC_EVENT_TEXT, bytes, esc ? (size_t)(esc - bytes) : len, CSICODEC_FILTER_TEXT);
+        size_t text = esc ? (size_t)(esc - bytes) : csicodec_told_text(bytes, len);
+        return text && csicodec_event_of(stream, event, CSICODEC_EVENT_TEXT, bytes, text, CSICODEC_FILTER_TEXT);
     } else if (len > 1 && bytes[0] == 0x1b && !stream->looked && stream->limit && stream->mode <= CSICODEC_FILTER_BAD_ESC) {
         size_t escape = csicodec_escape_length(bytes, len);
         if (escape) {
@@ -216,13 +251,7 @@ static inline int csicodec_next_event(struct csicodec_stream *stream, const uint
         if (bytes[1] == '[') {
             struct csicodec_front front = csicodec_next(bytes, len < stream->limit ? len : stream->limit, stream->actions,
                                                         stream->actions_room, stream->params, stream->params_room);
-            if (front.status == CSICODEC_OK) {
-                uint32_t mode = stream->mode;
-                event->actions = front.actions;
-                event->params = front.params;
-                csicodec_event_of(stream, event, CSICODEC_EVENT_ACTIONS, bytes, front.used, CSICODEC_FILTER_TEXT);
-                return !stream->as_terminals || csicodec_terminal_event(stream, mode, 0, event);
-            }
+            if (front.status == CSICODEC_OK) return csicodec_front_event(stream, bytes, &front, event);
         }
     }
     return csicodec_told_event(stream, bytes, len, event);
@@ -233,7 +262,7 @@ static inline int csicodec_next_event(struct csicodec_stream *stream, const uint
 struct csicodec_parser {
     /* Its actions and params are those of the event that is told, as many as there is room for. */
     struct csicodec_stream stream;
-    /* The bytes that wait, and room for them: the most bytes that a control sequence may have, at least 4. */
+    /* The bytes that wait, and room for them: at least as many as the stream's limit, and 4. */
     uint8_t *held;
     size_t held_room;
     size_t waiting;
@@ -271,9 +300,8 @@ static inline void csicodec_collect(struct csicodec_parser *parser, uint8_t *roo
 }
 
 /* Tells the string that was collected, if one was; ended_by is 0 where it was cancelled, and its event has no `last` then. */
-static inline void csicodec_tell_string(struct csicodec_parser *parser, uint8_t ended_by, csicodec_teller *tell, void *user) {
+CSICODEC_RARELY void csicodec_tell_string(struct csicodec_parser *parser, uint8_t ended_by, csicodec_teller *tell, void *user) {
     struct csicodec_event event;
-    if (!parser->collecting) return;
     memset(&event, 0, sizeof event);
     event.kind = CSICODEC_EVENT_STRING;
     event.string = parser->collecting;
@@ -289,7 +317,7 @@ static inline void csicodec_tell_event(struct csicodec_parser *parser, const str
                                        void *user) {
     int is_string = event->kind == CSICODEC_EVENT_STRING;
     uint8_t ended_by = is_string && event->last ? event->bytes[event->len] : 0;
-    if (!is_string || event->first) csicodec_tell_string(parser, 0, tell, user);
+    if (parser->collecting && (!is_string || event->first)) csicodec_tell_string(parser, 0, tell, user);
     if (!is_string || !parser->string) {
         if (is_string) parser->ended_by = ended_by;
         tell(user, parser, event);
@@ -304,62 +332,97 @@ static inline void csicodec_tell_event(struct csicodec_parser *parser, const str
     if (event->last) csicodec_tell_string(parser, ended_by, tell, user);
 }
 
-/* Whether the bytes are the beginning of a control sequence of which the end hasn't come: nothing of it has to be looked at yet. */
-static inline int csicodec_is_begun(const struct csicodec_stream *stream, const uint8_t *bytes, size_t len) {
-    size_t i;
-    if (bytes[0] != 0x1b || (len > 1 && bytes[1] != '[')) return 0;
-    if (stream->mode != CSICODEC_FILTER_TEXT || stream->looked || len >= stream->limit) return 0;
-    for (i = 2; i < len; i++)
-        if (bytes[i] < 0x20 || bytes[i] > 0x3f) return 0;
-    return 1;
-}
-
 /* The most bytes that are taken at once to those that wait. */
 enum { CSICODEC_TAKEN = 64 };
 
-/* Tells the events at the front of some bytes; how many bytes these have. */
-static inline size_t csicodec_tell_events(struct csicodec_parser *parser, const uint8_t *bytes, size_t len, csicodec_teller *tell,
-                                          void *user) {
-    struct csicodec_event event;
-    size_t at = 0;
-    parser->status = CSICODEC_OK;
-    while (at < len) {
-        parser->begun = len - at <= CSICODEC_TAKEN && csicodec_is_begun(&parser->stream, bytes + at, len - at);
-        if (parser->begun) break;
-        if (!csicodec_next_event(&parser->stream, bytes + at, len - at, &event)) {
-            parser->status = event.status;
-            break;
-        }
-        csicodec_tell_event(parser, &event, tell, user);
-        at += event.used;
+/* Of a few bytes with an ESC in front, the length of the control sequence there, up to the first byte that may be its last one; 0 of anything
+ * else. Where its end hasn't come nothing of it has to be looked at yet: it is held, and has begun. */
+static inline size_t csicodec_begins(struct csicodec_parser *parser, const uint8_t *bytes, size_t len) {
+    uint8_t *held = parser->held;
+    size_t at;
+    if (len > CSICODEC_TAKEN || (len > 1 && bytes[1] != '[')) return 0;
+    if (parser->stream.mode != CSICODEC_FILTER_TEXT || len >= parser->stream.limit) return 0;
+    for (at = 2; at < len; at++) {
+        held[at] = bytes[at];
+        if ((bytes[at] & 0xe0) != 0x20) return at + 1;
     }
+    held[0] = 0x1b, held[1] = '[';
+    parser->waiting = len;
+    return parser->begun = 1;
+}
+
+/* Goes on with the control sequence that has begun, up to its end or to the limit; how many bytes it took. */
+static inline size_t csicodec_goes_on(struct csicodec_parser *parser, const uint8_t *bytes, size_t len) {
+    uint8_t *held = parser->held + parser->waiting;
+    size_t room = parser->stream.limit - parser->waiting, at = parser->waiting == 1;
+    if (len > room) len = room;
+    if (at) held[0] = bytes[0];
+    if (!at || bytes[0] == '[') {
+        while (at < len && bytes[at] >= 0x20 && bytes[at] < 0x40) held[at] = bytes[at], at++;
+        parser->begun = at == len && at < room;
+        if (at < len) held[at] = bytes[at], at++;
+    } else parser->begun = 0;
+    parser->waiting += at;
     return at;
 }
 
-/* How many of the bytes are taken to those that wait: of a control sequence that has begun up to its end, else a few. */
-static inline size_t csicodec_taken(struct csicodec_parser *parser, const uint8_t *bytes, size_t len) {
-    size_t room = parser->held_room - parser->waiting, end = parser->waiting == 1;
-    size_t most = CSICODEC_TAKEN;
-    if (most > room) most = room;
-    if (most > len) most = len;
-    if (!parser->begun || !most) return most;
-    if (!end || bytes[0] == '[')
-        while (end < most && bytes[end] >= 0x20 && bytes[end] < 0x40) end++;
-    else most = 1, end = 0;
-    parser->begun = end == most && most < room;
-    return end < most ? end + 1 : most;
+/* Tells the event at the front of some bytes, and adds how many it used; whether there is one. */
+static inline int csicodec_tell_next(struct csicodec_parser *parser, const uint8_t *bytes, size_t len, size_t *used, csicodec_teller *tell,
+                                     void *user) {
+    struct csicodec_event event;
+    if (!csicodec_next_event(&parser->stream, bytes, len, &event)) {
+        parser->status = event.status;
+        return 0;
+    }
+    csicodec_tell_event(parser, &event, tell, user);
+    *used += event.used;
+    return 1;
+}
+
+/* Tells the text at the front of some bytes, while no control is open, so that no string is collected; how many bytes it has. */
+static inline size_t csicodec_tell_text(struct csicodec_parser *parser, const uint8_t *bytes, size_t len, csicodec_teller *tell, void *user) {
+    struct csicodec_event event;
+    const uint8_t *esc;
+    size_t at = 1;
+    if (len > 16) {
+        esc = (const uint8_t *)memchr(bytes, 0x1b, len);
+        at = esc ? (size_t)(esc - bytes) : len;
+    } else {
+        while (at < len && bytes[at] != 0x1b) at++;
+    }
+    if (at == len) at = csicodec_told_text(bytes, len);
+    if (!at) return 0;
+    memset(&event, 0, sizeof event);
+    event.kind = CSICODEC_EVENT_TEXT;
+    event.bytes = bytes;
+    event.len = event.used = at;
+    tell(user, parser, &event);
+    return at;
+}
+
+/* Tells the control sequence that these bytes are, while no other control is open; whether csicodec_next reads it. */
+static inline int csicodec_tell_sequence(struct csicodec_parser *parser, const uint8_t *bytes, size_t len, csicodec_teller *tell, void *user) {
+    struct csicodec_stream *stream = &parser->stream;
+    struct csicodec_front front = csicodec_next(bytes, len, stream->actions, stream->actions_room, stream->params, stream->params_room);
+    struct csicodec_event event;
+    if (front.status != CSICODEC_OK) return 0;
+    memset(&event, 0, sizeof event);
+    if (!csicodec_front_event(stream, bytes, &front, &event)) return parser->status = event.status, 0;
+    tell(user, parser, &event);
+    return 1;
 }
 
 /* Takes bytes to those that wait, until the events of these are told; how many it took. */
-static inline size_t csicodec_feed_waiting(struct csicodec_parser *parser, const uint8_t *bytes, size_t len, csicodec_teller *tell,
-                                           void *user) {
+CSICODEC_RARELY size_t csicodec_feed_waiting(struct csicodec_parser *parser, const uint8_t *bytes, size_t len, csicodec_teller *tell,
+                                             void *user) {
     size_t at = 0, more, used;
     do {
-        more = csicodec_taken(parser, bytes + at, len - at);
+        more = parser->held_room - parser->waiting;
+        if (more > CSICODEC_TAKEN) more = CSICODEC_TAKEN;
+        if (more > len - at) more = len - at;
         memcpy(parser->held + parser->waiting, bytes + at, more);
-        at += more, parser->waiting += more;
-        if (parser->begun) continue;
-        used = csicodec_tell_events(parser, parser->held, parser->waiting, tell, user);
+        at += more, parser->waiting += more, used = 0;
+        while (parser->waiting - used > more && csicodec_tell_next(parser, parser->held + used, parser->waiting - used, &used, tell, user)) continue;
         parser->waiting -= used;
         if (parser->waiting <= more) {
             at -= parser->waiting, parser->waiting = 0;
@@ -370,17 +433,47 @@ static inline size_t csicodec_feed_waiting(struct csicodec_parser *parser, const
     return at;
 }
 
+/* Tells the events of bytes in front of which none wait, and keeps those that wait then; how many it took. Text, and a control sequence that
+ * begins within a few bytes of the end, are told at once, since a stream may come in small pieces. */
+static inline size_t csicodec_feed_rest(struct csicodec_parser *parser, const uint8_t *bytes, size_t len, csicodec_teller *tell, void *user) {
+    size_t at = 0, more;
+    while (at < len) {
+        if (bytes[at] != 0x1b && parser->stream.mode == CSICODEC_FILTER_TEXT && parser->stream.limit) {
+            more = csicodec_tell_text(parser, bytes + at, len - at, tell, user);
+            at += more;
+            if (more) continue;
+        } else {
+            more = bytes[at] == 0x1b ? csicodec_begins(parser, bytes + at, len - at) : 0;
+            if (parser->waiting) return len;
+            if (more && csicodec_tell_sequence(parser, bytes + at, more, tell, user)) {
+                at += more;
+                continue;
+            }
+            if (parser->status != CSICODEC_OK) return at;
+            if (csicodec_tell_next(parser, bytes + at, len - at, &at, tell, user)) continue;
+            if (parser->status != CSICODEC_OK) return at;
+        }
+        memcpy(parser->held, bytes + at, parser->waiting = len - at);
+        return len;
+    }
+    return len;
+}
+
 /* Tells the events that are sure now, and keeps the bytes that wait. It returns how many bytes it took: all of them, unless
  * parser->status says why it stopped. After CSICODEC_MEMORY the others may be fed again. */
 static inline size_t csicodec_feed(struct csicodec_parser *parser, const uint8_t *bytes, size_t len, csicodec_teller *tell, void *user) {
     size_t at = 0;
     parser->status = CSICODEC_OK;
-    if (parser->waiting) at = csicodec_feed_waiting(parser, bytes, len, tell, user);
-    if (parser->waiting || at == len || parser->status != CSICODEC_OK) return at;
-    at += csicodec_tell_events(parser, bytes + at, len - at, tell, user);
-    if (parser->status != CSICODEC_OK) return at;
-    memcpy(parser->held, bytes + at, parser->waiting = len - at);
-    return len;
+    if (parser->waiting && len) {
+        if (parser->begun) {
+            at = csicodec_goes_on(parser, bytes, len);
+            if (parser->begun) return at;
+            if (parser->held[1] == '[' && csicodec_tell_sequence(parser, parser->held, parser->waiting, tell, user)) parser->waiting = 0;
+        }
+        if (parser->waiting && parser->status == CSICODEC_OK) at += csicodec_feed_waiting(parser, bytes + at, len - at, tell, user);
+        if (parser->waiting || parser->status != CSICODEC_OK) return at;
+    }
+    return at + csicodec_feed_rest(parser, bytes + at, len - at, tell, user);
 }
 
 /* The end of the stream. What waits is told: an incomplete character as text, and an unfinished control as CSICODEC_EVENT_OTHER. A string
@@ -395,8 +488,8 @@ static inline void csicodec_finish(struct csicodec_parser *parser, csicodec_tell
         if (!is_text) event.status = CSICODEC_TRUNCATED;
         csicodec_tell_event(parser, &event, tell, user);
     }
-    csicodec_tell_string(parser, 0, tell, user);
-    parser->waiting = 0, parser->stream.looked = 0, parser->stream.mode = CSICODEC_FILTER_TEXT;
+    if (parser->collecting) csicodec_tell_string(parser, 0, tell, user);
+    parser->waiting = 0, parser->begun = 0, parser->stream.looked = 0, parser->stream.mode = CSICODEC_FILTER_TEXT;
 }
 
 /* How many parameters struct csicodec_raw has room for. */

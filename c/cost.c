@@ -21,10 +21,11 @@ static size_t all_next(const uint8_t *bytes, size_t len, int encodes) {
 }
 
 /* The events of a stream in turn, in pieces of 4,096 bytes. */
-static size_t all_events(const uint8_t *bytes, size_t len) {
+static size_t all_events(const uint8_t *bytes, size_t len, size_t as_terminals) {
     struct csicodec_stream stream = csicodec_stream_of(4096, actions, 1 << 10, params, 1 << 10);
     struct csicodec_event event;
     size_t at = 0, end = 0, done = 0;
+    stream.as_terminals = as_terminals;
     while (end < len) {
         end = len - end > 4096 ? end + 4096 : len;
         for (; csicodec_next_event(&stream, bytes + at, end - at, &event); at += event.used) done++;
@@ -49,7 +50,8 @@ static size_t all_fed(const uint8_t *bytes, size_t len, size_t piece) {
 static size_t run(const char *call, const uint8_t *bytes, size_t len) {
     if (!strcmp(call, "next")) return all_next(bytes, len, 0);
     if (!strcmp(call, "encode")) return all_next(bytes, len, 1);
-    if (!strcmp(call, "events")) return all_events(bytes, len);
+    if (!strcmp(call, "events")) return all_events(bytes, len, 0);
+    if (!strcmp(call, "taken")) return all_events(bytes, len, 1);
     if (!strcmp(call, "feed")) return all_fed(bytes, len, 65536);
     if (!strcmp(call, "feed7")) return all_fed(bytes, len, 7);
     if (!strcmp(call, "normalise")) return csicodec_normalise(bytes, len, out, sizeof out).needed;

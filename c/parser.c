@@ -275,12 +275,45 @@ static int both_agree(unsigned rounds) {
     return same > 0;
 }
 
+/* An event as terminals take it has the actions of the call, of short sequences at random and of each that is one number and a character. */
+static int is_event_taken(const uint8_t *bytes, size_t len) {
+    struct csicodec_action told[32], taken[32];
+    struct csicodec_param told_params[32], taken_params[32];
+    struct csicodec_stream stream = csicodec_stream_of(64, told, 32, told_params, 32);
+    struct csicodec_event event;
+    memset(told, 0, sizeof told), memset(taken, 0, sizeof taken);
+    struct csicodec_front front = csicodec_terminal_actions(bytes, len, taken, 32, taken_params, 32);
+    stream.as_terminals = 1;
+    if (front.status != CSICODEC_OK || !csicodec_next_event(&stream, bytes, len, &event) || event.kind != CSICODEC_EVENT_ACTIONS) return front.status != CSICODEC_OK;
+    int good = event.used == front.used && event.actions == front.actions && event.params == front.params && !memcmp(told, taken, front.actions * sizeof told[0])
+        && !memcmp(told_params, taken_params, front.params * sizeof told_params[0]);
+    if (!good) fprintf(stderr, "parser: the event of ESC %.*s has other actions than terminals take it for\n", (int)len - 1, (const char *)bytes + 1);
+    return good;
+}
+
+static int are_events_taken(unsigned rounds) {
+    static const char alphabet[] = "0123456789;;;:<=>?!$ ", *const leaders[] = {"", "<", "=", ">", "?"};
+    char text[32] = "\x1b[";
+    int good = 1;
+    for (unsigned i = 0; good && i < rounds; i++) {
+        size_t len = 2 + any(8);
+        for (size_t at = 2; at < len; at++) text[at] = alphabet[any(sizeof alphabet - 1)];
+        text[len++] = any(2) ? "mhlHJKrs"[any(8)] : (char)(0x40 + any(63));
+        good = is_event_taken((const uint8_t *)text, len);
+    }
+    for (int leader = 0; leader < 5; leader++)
+        for (int final = 0x40; good && final < 0x7f; final++)
+            for (unsigned number = 0; good && number < 999999999; number = number < 110 ? number + 1 : number < 2048 ? number + 97 : number * 7 - 1)
+                good = is_event_taken((const uint8_t *)text, (size_t)sprintf(text, "\x1b[%s%u%c", leaders[leader], number, final));
+    return good;
+}
+
 static int are_taken(unsigned rounds) {
     for (size_t i = 0; i < sizeof readings / sizeof readings[0]; i++)
         if (!is_taken(readings[i].text, readings[i].read, readings[i].taken)) return 0;
     return csicodec_terminal_actions((const uint8_t *)"\x1b[1", 3, NULL, 0, NULL, 0).status == CSICODEC_TRUNCATED
         && csicodec_terminal_actions((const uint8_t *)"\x1b[1\n\x1b", 5, NULL, 0, NULL, 0).at == 3
-        && csicodec_terminal_actions(NULL, 0, NULL, 0, NULL, 0).status == CSICODEC_TRUNCATED && both_agree(rounds);
+        && csicodec_terminal_actions(NULL, 0, NULL, 0, NULL, 0).status == CSICODEC_TRUNCATED && both_agree(rounds) && are_events_taken(rounds);
 }
 
 int main(int count, char **words) {

@@ -145,21 +145,26 @@ static inline int csicodec_event_of(struct csicodec_stream *stream, struct csico
     return 1;
 }
 
+/* Whether a control sequence has one number of at most nine digits and nothing else, as \e[?8c: terminals take it as it is read. */
+static inline int csicodec_is_one_number(const uint8_t *bytes, size_t len) {
+    size_t first = bytes[2] >= 0x3c && bytes[2] <= 0x3f ? 3 : 2, at = first;
+    while (at < len && bytes[at] >= '0' && bytes[at] <= '9') at++;
+    return at > first && at < first + 10 && at + 1 == len;
+}
+
 /* Whether terminals may take the sequence of an event for other actions: the last one is unknown, as only a last one can be, or some have
  * no room, or the last attribute is left out. A control may stand before m, and hide that. */
 static inline int csicodec_may_differ(const struct csicodec_stream *stream, const struct csicodec_event *event) {
     const uint8_t *end = event->bytes + event->used;
     if (event->actions - 1 >= stream->actions_room) return 1;
-    if (stream->actions[event->actions - 1].kind == CSICODEC_UNSPECIFIED) return 1;
-    if (end[-2] >= '0' && end[-2] <= '9') return 0;
+    if (stream->actions[event->actions - 1].kind == CSICODEC_UNSPECIFIED) return !csicodec_is_one_number(event->bytes, event->used);
     return end[-1] == 'm' && (end[-2] == ';' || end[-2] < 0x20 || end[-2] == 0x7f);
 }
 
-/* An event of actions, with those that terminals take its sequence for. If there is no memory the stream is as it was before it. */
+/* Asks which actions terminals take the sequence of an event for. If there is no memory the stream is as it was before it. */
 CSICODEC_RARELY int csicodec_terminal_event(struct csicodec_stream *stream, uint32_t mode, size_t looked, struct csicodec_event *event) {
-    struct csicodec_front front;
-    if (!csicodec_may_differ(stream, event)) return 1;
-    front = csicodec_terminal_actions(event->bytes, event->used, stream->actions, stream->actions_room, stream->params, stream->params_room);
+    struct csicodec_front front = csicodec_terminal_actions(event->bytes, event->used, stream->actions, stream->actions_room,
+                                                            stream->params, stream->params_room);
     if (front.status == CSICODEC_OK) {
         event->actions = front.actions;
         event->params = front.params;
@@ -187,7 +192,8 @@ CSICODEC_RARELY int csicodec_told_event(struct csicodec_stream *stream, const ui
     event->params = told.params;
     csicodec_event_of(stream, event, told.kind, bytes, told.used, told.mode);
     if (told.kind > CSICODEC_EVENT_ACTIONS) csicodec_event_says(stream, event);
-    return told.kind != CSICODEC_EVENT_ACTIONS || !stream->as_terminals || csicodec_terminal_event(stream, mode, looked, event);
+    if (told.kind != CSICODEC_EVENT_ACTIONS || !stream->as_terminals || !csicodec_may_differ(stream, event)) return 1;
+    return csicodec_terminal_event(stream, mode, looked, event);
 }
 
 /* The length of the escape sequence in front, of at least two bytes, where it is all there: ESC, an intermediate byte or none, and a final
@@ -225,7 +231,7 @@ static inline int csicodec_front_event(struct csicodec_stream *stream, const uin
     event->actions = front->actions;
     event->params = front->params;
     csicodec_event_of(stream, event, CSICODEC_EVENT_ACTIONS, bytes, front->used, CSICODEC_FILTER_TEXT);
-    return !stream->as_terminals || csicodec_terminal_event(stream, mode, 0, event);
+    return !stream->as_terminals || !csicodec_may_differ(stream, event) || csicodec_terminal_event(stream, mode, 0, event);
 }
 
 /* The next event of a stream at the front of len bytes. If it returns 0 there is none, and the bytes wait; otherwise continue at

@@ -1,4 +1,5 @@
 /* What the library has for C, each row tried: a row's name is said behind it. */
+#define _POSIX_C_SOURCE 200809L
 #include <csicodec.h>
 #include <stdio.h>
 #include <stdlib.h>
@@ -7,7 +8,7 @@
 #define B(text) (const uint8_t *)(text), sizeof(text) - 1
 static struct csicodec_action actions[8];
 static struct csicodec_param params[8];
-static uint8_t out[128];
+static uint8_t out[256];
 static uint32_t typed[CSICODEC_TYPED];
 
 static void says(const char *row, int is_so) {
@@ -66,5 +67,8 @@ int main(void) {
     csicodec_finish_lines(&lines, add, &written);
     says("lines", is_first && wrote(written, "<span style=\"font-weight:bold;\">&lt;</span>\n<span style=\"font-weight:bold;\">&amp;</span>"));
     says("encode", wrote(csicodec_encode(actions, 1, params, 0, out, 128).needed, "\033[3m"));
+    FILE *program = popen("printf '\\033[5;7H' | csicodec explain --json", "r");
+    out[program ? fread(out, 1, sizeof out - 1, program) : 0] = 0;
+    says("explain", program && !pclose(program) && strstr((const char *)out, "cursor to line 5, column 7"));
     return 0;
 }

@@ -7,7 +7,7 @@ fn says(row: &str, is_so: bool) {
     println!("{row}");
 }
 
-fn main() -> Result<(), csicodec::Error> {
+fn main() -> Result<(), Box<dyn std::error::Error>> {
     let events: Vec<_> = csicodec::events(b"a\x1b[2A").collect();
     says("events", events == [Event::Text(b"a"), Event::Csi(CSI::Cursor(Cursor::Up(2)))]);
     let (mut parser, mut count) = (Parser::new(), 0);
@@ -38,5 +38,6 @@ fn main() -> Result<(), csicodec::Error> {
         && csicodec::filter(b"\x1b[01ma")? == b"\x1b[1ma" && csicodec::compact(b"\x1b[1m\x1b[3ma")? == b"\x1b[1;3ma");
     says("stream", cleaned == b"ab" && filtered == b"\x1b[1m");
     says("encode", csicodec::encode(&[CSI::Sgr(Sgr::Italic(true))])? == b"\x1b[3m");
+    says("explain", csicodec::explain(b"\x1b[5;7H")?.contains("cursor to line 5, column 7"));
     Ok(())
 }

@@ -19,7 +19,7 @@ ROWS = [
     ("html", "`html`, overwritten lines of a whole", {}),
     ("lines", "the same, line by line as it comes", {}),
     ("encode", "actions built, and written", {}),
-    ("explain", "`explain`", {"Python": "runs the program"}),
+    ("explain", "`explain`", {language: "runs the program" for language in ("C", "Rust", "Python")}),
 ]
 BEGIN, END = "| | C | Rust | Python | JavaScript |\n|---|---|---|---|---|\n", "\n\n"
 

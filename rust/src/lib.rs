@@ -21,6 +21,8 @@ mod error;
 mod esc;
 mod event;
 mod events;
+#[cfg(feature = "std")]
+mod explain;
 mod filter;
 mod html;
 mod input;
@@ -53,6 +55,8 @@ pub use error::Error;
 pub use esc::{Esc, EscCode};
 pub use event::{Event, OwnedEvent, StringKind};
 pub use events::{Events, events};
+#[cfg(feature = "std")]
+pub use explain::{Explain, explain};
 pub use filter::{Filter, compact, compact_semicolons, filter};
 pub use html::{Markup, Palette, html, overwrite, overwrite_styled};
 pub use input::{Dialect, InputEvent, Inputs, inputs};

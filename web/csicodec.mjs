@@ -72,7 +72,7 @@ export const joined = parts => {
 
 /** The text of bytes from here to there; a few of ASCII are taken without a decoder. */
 export function textOf(bytes, from = 0, to = bytes.length) {
-    if (to - from > 64) return decoder.decode(bytes.subarray(from, to));
+    if (to - from > 12) return decoder.decode(bytes.subarray(from, to));
     let text = '';
     for (let i = from; i < to; i++) {
         if (bytes[i] > 127) return decoder.decode(bytes.subarray(from, to));
@@ -145,7 +145,7 @@ class Library {
     takeText(text) {
         this.input = this.grown(this.input, text.length * 3 + 1);
         const all = this.memory, at = this.input.place;
-        let i = text.length > 256 ? -1 : 0;
+        let i = text.length > 24 ? -1 : 0;
         for (; i >= 0 && i < text.length; i++) {
             const code = text.charCodeAt(i);
             if (code > 127) break;

@@ -162,6 +162,48 @@ impl<W: Write> Write for CleanWriter<W> {
     }
 }
 
+/// Writes the plain text of the bytes that are written to it: the [`CleanWriter`] of [`Cleaner::strip`].
+///
+/// ```
+/// use csicodec::StripWriter;
+/// use std::io::Write;
+///
+/// let mut log = StripWriter::new(Vec::new());
+/// write!(log, "\x1b[31mfai")?;
+/// write!(log, "led\x1b[0m")?;
+/// assert_eq!(log.finish()?, b"failed");
+/// # Ok::<(), std::io::Error>(())
+/// ```
+#[derive(Debug)]
+pub struct StripWriter<W: Write>(CleanWriter<W>);
+
+impl<W: Write> StripWriter<W> {
+    /// A writer that passes on the plain text.
+    pub fn new(to: W) -> Self {
+        StripWriter(Cleaner::strip().writer(to))
+    }
+
+    /// The writer behind it.
+    pub fn get_ref(&self) -> &W {
+        self.0.get_ref()
+    }
+
+    /// Writes the end, and gives the writer behind it back, which isn't flushed.
+    pub fn finish(self) -> io::Result<W> {
+        self.0.finish()
+    }
+}
+
+impl<W: Write> Write for StripWriter<W> {
+    fn write(&mut self, bytes: &[u8]) -> io::Result<usize> {
+        self.0.write(bytes)
+    }
+
+    fn flush(&mut self) -> io::Result<()> {
+        self.0.flush()
+    }
+}
+
 impl Markup {
     /// A writer that writes the page of all that is written to it.
     pub fn writer<W: Write>(self, to: W) -> HtmlWriter<W> {

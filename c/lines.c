@@ -1,4 +1,5 @@
-/* Pages and lines as they come, in pieces of any length, are those of the whole; what is held stays in its room, and room that lacks is told. */
+/* Pages and lines as they come, in pieces of any length, are those of the whole; what is held stays in its room, and room that lacks is
+ * told. */
 #include "csicodec.h"
 
 #include <stdio.h>
@@ -66,10 +67,12 @@ static int is_same(int form, const uint8_t *bytes, size_t len, size_t piece, siz
 }
 
 /* What lines are made of, and what begins and ends what is no line. */
-static const char *const bits[] = {"a", "\xc3\xa9", "\n", "\n", "\n", "\r", "\x1b[1m", "\x1b[38;5;200;4m", "\x1b[m", "\x1b[8m", "\x1b" "c", "\x1bkt", "\x1b\\",
-                                   "\x1b]0;t\n", "\x07", "\x1b[3\n1m", "\x1b[K", "\x1b[2C", "\x1bM", "\x1b" "7", "\x1b" "8", "\x1b[", "\x1bP\n", "\t", "\x18", "\x0e",
-                                   "\x1b(0", "\x1b[5;7H", "\x1b[2", "\x1b]8;;http://a.b\x07", "\x1b[s", "\x1b[u", "\x1b[4h", "\x1b[!p", "\x1b[?25;1049h",
-                                   "\x1b[?25h", "\x1b[1;3;5;7;9;53;38;2;1;2;3;48;2;4;5;6;58:2::7:8:9m", "<&>"};
+static const char *const bits[] = {
+    "a", "\xc3\xa9", "\n", "\n", "\n", "\r", "\x1b[1m", "\x1b[38;5;200;4m", "\x1b[m", "\x1b[8m", "\x1b" "c", "\x1bkt", "\x1b\\",
+    "\x1b]0;t\n", "\x07", "\x1b[3\n1m", "\x1b[K", "\x1b[2C", "\x1bM", "\x1b" "7", "\x1b" "8", "\x1b[", "\x1bP\n", "\t", "\x18", "\x0e",
+    "\x1b(0", "\x1b[5;7H", "\x1b[2", "\x1b]8;;http://a.b\x07", "\x1b[s", "\x1b[u", "\x1b[4h", "\x1b[!p", "\x1b[?25;1049h", "\x1b[?25h",
+    "\x1b[1;3;5;7;9;53;38;2;1;2;3;48;2;4;5;6;58:2::7:8:9m", "<&>"
+};
 static uint64_t state = 88172645463325252u;
 
 static size_t any(size_t below) {
@@ -98,7 +101,8 @@ static int looks_fit(void) {
     static const char text[] = "\x1b[1;3;4:3;5;7;9;53;73;38:6::255:255:255:254;48:6::255:255:255:254;58:6::255:255:255:254m\na";
     struct csicodec_lines lines = lines_of(1, 4096, 4096);
     size = 0;
-    int good = csicodec_feed_lines(&lines, (const uint8_t *)text, sizeof text - 1, add, NULL) == sizeof text - 1 && lines.look > 70 && lines.look < CSICODEC_LOOK / 2;
+    int good = csicodec_feed_lines(&lines, (const uint8_t *)text, sizeof text - 1, add, NULL) == sizeof text - 1;
+    good &= lines.look > 70 && lines.look < CSICODEC_LOOK / 2;
     free(lines.held), free(lines.out);
     if (!good) fprintf(stderr, "lines: a look of %zu\n", lines.look);
     return good;
@@ -128,14 +132,16 @@ static int is_told(void) {
     }
     lines = csicodec_overwritten_lines(0, NULL, 0, NULL, 0);
     good &= csicodec_finish_lines(&lines, add, NULL) == CSICODEC_OK && size == 5;
-    good &= !csicodec_feed_lines(&lines, (const uint8_t *)"a", 1, add, NULL) && lines.status == CSICODEC_MEMORY && lines.held_needed == CSICODEC_LOOK + 1;
+    good &= !csicodec_feed_lines(&lines, (const uint8_t *)"a", 1, add, NULL) && lines.status == CSICODEC_MEMORY;
+    good &= lines.held_needed == CSICODEC_LOOK + 1;
     if (!good) fprintf(stderr, "lines: rooms and choices\n");
     return good;
 }
 
 static int is_written(struct csicodec_lines *lines, const char *given, const char *wanted) {
     size = 0;
-    return csicodec_feed_lines(lines, (const uint8_t *)given, strlen(given), add, NULL) == strlen(given) && size == strlen(wanted) && !memcmp(said, wanted, size);
+    if (csicodec_feed_lines(lines, (const uint8_t *)given, strlen(given), add, NULL) != strlen(given)) return 0;
+    return size == strlen(wanted) && !memcmp(said, wanted, size);
 }
 
 /* The text of a line needs room, and not that of all lines that come at once; a reset ends what holds lines. */

@@ -77,11 +77,15 @@ static size_t any(size_t below) {
 }
 
 /* What streams are made of: first what is whole, then what is cut, malformed or no UTF-8. */
-static const char *const bits[] = {"a", "b c", "\n", "\xc3\xa9", "\xe2\x82\xac", "\xf0\x9f\x98\x80", "\xe0\xa0\x80", "\xed\x9f\xbf", "\xf4\x8f\xbf\xbf", "\xf0\x90\x80\x80",
-    "\x1b[m", "\x1b[1;31m", "\x1b[38;5;200m", "\x1b[;H", "\x1b[5A", "\x1b[3@", "\x1b[2~", "\x1b[?25h", "\x1b[1 q", "\x1b[!p", "\x1b[1;m", "\x1b[0;98;1m", "\x1b(B", "\x1b" "7", "\x1b#8",
-    "\x1b]0;t\x07", "\x1b]8;;u\x1b\\", "\x1bPq\x1b\\", "\x1b[1\n;2H", "\x1b[\x08" "5A", "\x1b[2\x1f" "A", "\x1b[123456789012m",
-    "\x1b", "\x1b[", "\x1b[1", "\x1b[1;", "\x1b[?", "\x1b(", "\x1b]", "\x1b]0;t", "\x1bP", "\x1b_x", "\x18", "\x7f", "\x1b[3\x18", "\x1b[\x7f", "\x1b[1:2?m", "\x1b[ 1m", "\x1b!!",
-    "\xc3", "\xe2\x82", "\xe2", "\x82", "\xf0\x9f\x98", "\xf0\x9f", "\xe0\x80", "\xed\xa0", "\xf0\x8f", "\xf4\x90", "\xf5", "\xff", "\xc0", "\x9b", "\x1b[1\xc3\xa9", "?", ";", "m"};
+static const char *const bits[] = {
+    "a", "b c", "\n", "\xc3\xa9", "\xe2\x82\xac", "\xf0\x9f\x98\x80", "\xe0\xa0\x80", "\xed\x9f\xbf", "\xf4\x8f\xbf\xbf",
+    "\xf0\x90\x80\x80", "\x1b[m", "\x1b[1;31m", "\x1b[38;5;200m", "\x1b[;H", "\x1b[5A", "\x1b[3@", "\x1b[2~", "\x1b[?25h", "\x1b[1 q",
+    "\x1b[!p", "\x1b[1;m", "\x1b[0;98;1m", "\x1b(B", "\x1b" "7", "\x1b#8", "\x1b]0;t\x07", "\x1b]8;;u\x1b\\", "\x1bPq\x1b\\",
+    "\x1b[1\n;2H", "\x1b[\x08" "5A", "\x1b[2\x1f" "A", "\x1b[123456789012m", "\x1b", "\x1b[", "\x1b[1", "\x1b[1;", "\x1b[?", "\x1b(",
+    "\x1b]", "\x1b]0;t", "\x1bP", "\x1b_x", "\x18", "\x7f", "\x1b[3\x18", "\x1b[\x7f", "\x1b[1:2?m", "\x1b[ 1m", "\x1b!!", "\xc3",
+    "\xe2\x82", "\xe2", "\x82", "\xf0\x9f\x98", "\xf0\x9f", "\xe0\x80", "\xed\xa0", "\xf0\x8f", "\xf4\x90", "\xf5", "\xff", "\xc0",
+    "\x9b", "\x1b[1\xc3\xa9", "?", ";", "m"
+};
 enum { ALL = sizeof bits / sizeof bits[0], WHOLE = 32 };
 
 /* The events that the library itself tells of all bytes, by csicodec_event alone. */
@@ -144,7 +148,9 @@ static int same_in_pieces(unsigned rounds) {
                 torn = 0;
                 tell_pieces(&parser, bytes, len, most);
                 good = !strcmp(whole, told) && (kinds == ALL || !torn);
-                if (!good) fprintf(stderr, "parser: limit %zu, pieces of at most %zu: %s\nis told as %s\n%s", limit, most, whole, told, torn ? "and a character is cut\n" : "");
+                if (good) continue;
+                fprintf(stderr, "parser: limit %zu, pieces of at most %zu: %s\nis told as %s\n", limit, most, whole, told);
+                if (torn) fprintf(stderr, "and a character is cut\n");
             }
         }
         free(held), free(all);
@@ -284,10 +290,11 @@ static int is_event_taken(const uint8_t *bytes, size_t len) {
     memset(told, 0, sizeof told), memset(taken, 0, sizeof taken);
     struct csicodec_front front = csicodec_terminal_actions(bytes, len, taken, 32, taken_params, 32);
     stream.as_terminals = 1;
-    if (front.status != CSICODEC_OK || !csicodec_next_event(&stream, bytes, len, &event) || event.kind != CSICODEC_EVENT_ACTIONS) return front.status != CSICODEC_OK;
-    int good = event.used == front.used && event.actions == front.actions && event.params == front.params && !memcmp(told, taken, front.actions * sizeof told[0])
-        && !memcmp(told_params, taken_params, front.params * sizeof told_params[0]);
-    if (!good) fprintf(stderr, "parser: the event of ESC %.*s has other actions than terminals take it for\n", (int)len - 1, (const char *)bytes + 1);
+    if (front.status != CSICODEC_OK) return 1;
+    int good = csicodec_next_event(&stream, bytes, len, &event) && event.kind == CSICODEC_EVENT_ACTIONS && event.used == front.used;
+    good &= event.actions == front.actions && !memcmp(told, taken, front.actions * sizeof told[0]);
+    good &= event.params == front.params && !memcmp(told_params, taken_params, front.params * sizeof told_params[0]);
+    if (!good) fprintf(stderr, "parser: ESC %.*s has other actions than terminals take it for\n", (int)len - 1, (const char *)bytes + 1);
     return good;
 }
 
@@ -303,8 +310,10 @@ static int are_events_taken(unsigned rounds) {
     }
     for (int leader = 0; leader < 5; leader++)
         for (int final = 0x40; good && final < 0x7f; final++)
-            for (unsigned number = 0; good && number < 999999999; number = number < 110 ? number + 1 : number < 2048 ? number + 97 : number * 7 - 1)
-                good = is_event_taken((const uint8_t *)text, (size_t)sprintf(text, "\x1b[%s%u%c", leaders[leader], number, final));
+            for (unsigned number = 0; good && number < 999999999; number += number < 110 ? 1 : number < 2048 ? 97 : number * 6 - 1) {
+                size_t len = (size_t)sprintf(text, "\x1b[%s%u%c", leaders[leader], number, final);
+                good = is_event_taken((const uint8_t *)text, len);
+            }
     return good;
 }
 

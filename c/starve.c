@@ -196,7 +196,7 @@ static int lines_go_on(void) {
         left = nth, refused = 0;
         while (at < sizeof text - 1) {
             at += csicodec_feed_lines(&lines, (const uint8_t *)text + at, sizeof text - 1 - at, add_written, NULL);
-            stops += lines.status == CSICODEC_MEMORY && !lines.held_needed && !lines.out_needed;
+            stops += lines.status == CSICODEC_MEMORY;
         }
         while (csicodec_finish_lines(&lines, add_written, NULL) == CSICODEC_MEMORY) stops++;
         left = -1;

@@ -189,8 +189,8 @@ static inline void csicodec_span_anew(struct csicodec_lines *lines) {
     lines->is_title = lines->keeps = lines->within = lines->behind = 0;
 }
 
-/* Gathers the sequences of the lines that were written, behind what set their look, in front of "\nX". All of it is one byte further to the left, so that
- * it ends where the lines end. */
+/* Gathers the sequences of the lines that were written, behind what set their look, in front of "\nX". It begins one byte to the left, where
+ * there is room, since it may be so much longer than the lines; then it is put where the lines end. */
 static inline void csicodec_gather(struct csicodec_lines *lines) {
     uint8_t *held = lines->held;
     size_t at = lines->begin, to = lines->begin - 1;
@@ -291,8 +291,8 @@ static inline size_t csicodec_feed_lines(struct csicodec_lines *lines, const uin
     return at;
 }
 
-/* The end of the stream: writes the last line, and what stands behind a page. It returns the status; after CSICODEC_OK the stream is as new, and after
- * CSICODEC_MEMORY the same call may be made again. */
+/* The end of the stream: writes the last line, and what stands behind a page. It returns the status. After CSICODEC_OK the stream is as new,
+ * and after CSICODEC_MEMORY the same call may be made again. */
 static inline uint32_t csicodec_finish_lines(struct csicodec_lines *lines, csicodec_writer *write, void *user) {
     struct csicodec_stripped text;
     size_t from;

@@ -206,6 +206,32 @@ static int lines_go_on(void) {
     return 0;
 }
 
+static void count_actions(void *count, const struct csicodec_parser *parser, const struct csicodec_event *event) {
+    (void)parser;
+    *(size_t *)count += event->kind == CSICODEC_EVENT_ACTIONS ? event->actions : 1000;
+}
+
+/* Whether a sequence in pieces is told once where any allocation is refused, and the rest is fed again. */
+static int pieces_go_on(const uint8_t *text, size_t len, size_t piece) {
+    size_t wanted = csicodec_terminal_actions(text, len, actions, 32, params, 64).actions;
+    uint8_t held[128];
+    for (long nth = 0; nth < 1000; nth++) {
+        struct csicodec_parser parser = csicodec_parser_of(held, sizeof held, actions, 32, params, 64);
+        size_t count = 0, at = 0, more;
+        parser.stream.as_terminals = 1;
+        left = nth, refused = 0;
+        while (at < len || parser.status == CSICODEC_MEMORY) {
+            more = len - at < piece ? len - at : piece;
+            at += csicodec_feed(&parser, text + at, more, count_actions, &count);
+        }
+        csicodec_finish(&parser, count_actions, &count);
+        left = -1;
+        if (count != wanted) return 0;
+        if (!refused) return 1;
+    }
+    return 0;
+}
+
 int main(void) {
     for (size_t i = 0; i < sizeof texts / sizeof texts[0]; i++) {
         const uint8_t *text = (const uint8_t *)texts[i];
@@ -233,6 +259,12 @@ int main(void) {
         fprintf(stderr, "starve: cost %zu, of ESC %s: %ld allocations, not %ld\n", i, costs[i].text + 1, asked, costs[i].asked);
         return 2;
     }
+    for (size_t i = 0; i < sizeof texts / sizeof texts[0]; i++)
+        for (size_t piece = 1; piece <= 64; piece++) {
+            if (pieces_go_on((const uint8_t *)texts[i], strlen(texts[i]), piece)) continue;
+            fprintf(stderr, "starve: ESC %s in pieces of %zu\n", texts[i] + 1, piece);
+            return 5;
+        }
     if (!lines_go_on()) return fprintf(stderr, "starve: lines are others where memory is refused\n"), 4;
     printf("each allocation was refused in turn\n");
     return 0;

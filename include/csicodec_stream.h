@@ -442,26 +442,24 @@ CSICODEC_RARELY size_t csicodec_feed_waiting(struct csicodec_parser *parser, con
 /* Tells the events of bytes in front of which none wait, and keeps those that wait then; how many it took. Text, and a control sequence that
  * begins within a few bytes of the end, are told at once, since a stream may come in small pieces. */
 static inline size_t csicodec_feed_rest(struct csicodec_parser *parser, const uint8_t *bytes, size_t len, csicodec_teller *tell, void *user) {
-    size_t at = 0, more;
-    while (at < len) {
-        if (bytes[at] != 0x1b && parser->stream.mode == CSICODEC_FILTER_TEXT && parser->stream.limit) {
-            more = csicodec_tell_text(parser, bytes + at, len - at, tell, user);
-            at += more;
-            if (more) continue;
+    const uint8_t *front = bytes, *end = bytes + len;
+    size_t used;
+    while (front < end) {
+        if (*front != 0x1b && parser->stream.mode == CSICODEC_FILTER_TEXT && parser->stream.limit) {
+            used = csicodec_tell_text(parser, front, (size_t)(end - front), tell, user);
+            if (!used) break;
         } else {
-            more = bytes[at] == 0x1b ? csicodec_begins(parser, bytes + at, len - at) : 0;
+            used = *front == 0x1b ? csicodec_begins(parser, front, (size_t)(end - front)) : 0;
             if (parser->waiting) return len;
-            if (more && csicodec_tell_sequence(parser, bytes + at, more, tell, user)) {
-                at += more;
-                continue;
+            if (!used || !csicodec_tell_sequence(parser, front, used, tell, user)) {
+                used = 0;
+                if (parser->status != CSICODEC_OK || !csicodec_tell_next(parser, front, (size_t)(end - front), &used, tell, user)) break;
             }
-            if (parser->status != CSICODEC_OK) return at;
-            if (csicodec_tell_next(parser, bytes + at, len - at, &at, tell, user)) continue;
-            if (parser->status != CSICODEC_OK) return at;
         }
-        memcpy(parser->held, bytes + at, parser->waiting = len - at);
-        return len;
+        front += used;
     }
+    if (parser->status != CSICODEC_OK) return (size_t)(front - bytes);
+    if (front < end) memcpy(parser->held, front, parser->waiting = (size_t)(end - front));
     return len;
 }
 
@@ -470,9 +468,9 @@ static inline size_t csicodec_feed_rest(struct csicodec_parser *parser, const ui
 static inline size_t csicodec_feed(struct csicodec_parser *parser, const uint8_t *bytes, size_t len, csicodec_teller *tell, void *user) {
     size_t at = 0;
     parser->status = CSICODEC_OK;
-    if (parser->waiting && len) {
+    if (parser->waiting) {
         if (parser->begun) {
-            at = csicodec_goes_on(parser, bytes, len);
+            at = len ? csicodec_goes_on(parser, bytes, len) : 0;
             if (parser->begun) return at;
             if (parser->held[1] == '[' && csicodec_tell_sequence(parser, parser->held, parser->waiting, tell, user)) parser->waiting = 0;
         }

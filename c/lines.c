@@ -70,14 +70,42 @@ static int is_same(int form, const uint8_t *bytes, size_t len, size_t piece, siz
 static const char *const bits[] = {
     "a", "\xc3\xa9", "\n", "\n", "\n", "\r", "\x1b[1m", "\x1b[38;5;200;4m", "\x1b[m", "\x1b[8m", "\x1b" "c", "\x1bkt", "\x1b\\",
     "\x1b]0;t\n", "\x07", "\x1b[3\n1m", "\x1b[K", "\x1b[2C", "\x1bM", "\x1b" "7", "\x1b" "8", "\x1b[", "\x1bP\n", "\t", "\x18", "\x0e",
-    "\x1b(0", "\x1b[5;7H", "\x1b[2", "\x1b]8;;http://a.b\x07", "\x1b[s", "\x1b[u", "\x1b[4h", "\x1b[!p", "\x1b[?25;1049h", "\x1b[?25h",
-    "\x1b[1;3;5;7;9;53;38;2;1;2;3;48;2;4;5;6;58:2::7:8:9m", "<&>"
+    "\x1b(0", "\x1b[5;7H", "\x1b[2", "\x1b]8;;http://a.b\x07", "\x1b[s", "\x1b[u", "\x1b[?1048h", "\x1b[4h", "\x1b[!p", "\x1b[?25;1049h", "\x1b[?25h",
+    "\x1b[1;3;5;7;9;53;38;2;1;2;3;48;2;4;5;6;58:2::7:8:9m", "<&>", "\x1bH", "\x1b[3g", "\x1b[g", "\x1b[?5W", "\x1b[1;5r", "\x1b[?69h",
+    "\x1b[5;10s", "\x1b[1\"q", "\x1b[0\"q", "\x1b[?2K", "\x1b[?K", "\x1b[?J", "\x1b[2J", "\x1b[J", "\x1b[1J", "\x1b[3b", "\x1b[b",
+    "\x1b[5@", "\x1b[3P", "\x1b[4X", "\x1b[2L", "\x1b[M", "\x1b[3A", "\x1b[B", "\x1b[E", "\x1b[F", "\x1b[7G", "\x1b[3d", "\x1b[2I",
+    "\x1b[Z", "\x1b" "D", "\x1b" "E", "\x1b[S", "\x1b[T", "\x1b[?25l", "\x1b[?7l", "\x1b[20h", "\x1b[20l", "\x1b[4l", "\x1b[?1049l",
+    "\x1b[?1048l", "\x1b[?47h", "\x1b[?1047h", "\x1b#8", "\x1b[1'}", "\x1b[2 @", "\x1b[?6h", "\x1b[!p", "\x1b[22;0t", "\x1b[>4;2m",
+    "\x1b[>1u", "\x1b[10m", "\x1b[11m", "\x1b[7m", "\x1b[27m", "\x1b[5m", "\x1b[73m", "\x1b[75m", "\x1b[58;5;9m", "\x1b[59m", "\x1b[4:3m",
+    "\x1b[24m", "\x1b[28m", "\x0b", "\x0c", "\x08", "\x08\x08", "\x7f", "\x85", "\xc2\x85", "\xe2\x80\xa8", "\xe5\xad\x97",
+    "e" "\xcc\x81", "\xcc\x81", "\xf0\x9f\x91\xa9\xe2\x80\x8d\xf0\x9f\x91\xa7", "\xe2", "\xff", "\r\n", "\x1b]8;;\x1b\\", "\x1bk",
+    "\x1b]2;", "\x1b_", "\x1b^", "\x1bX", "\x1b[1;2\r3m", "\x1b[?1;1049;h", "\x1b[?1049:h", "\x1b[?1049 h", "\x1b[1049h", "\x1b[?1049$p",
+    "\x1b[?1048s", "\x1b[?1048r", "\x1b[?1r", "\x1b[u", "\x1b" "8", "\x1b[?1049 ;h"
 };
+/* How many of them are taken in each second stream. */
+enum { OFTEN = 39 };
 static uint64_t state = 88172645463325252u;
 
 static size_t any(size_t below) {
     state ^= state << 13, state ^= state >> 7, state ^= state << 17;
     return (size_t)(state % below);
+}
+
+/* Each way to save a place, and each way back to it, in the next line and behind what may end both. */
+static int same_of_places(void) {
+    enum { SAVES = 8, BACKS = 5, BETWEEN = 4 };
+    static const char *const saves[SAVES] = {"\x1b" "7", "\x1b[s", "\x1b[?1048h", "\x1b[?1049h", "\x1b[?25;1048h", "\x1b[4h", "\x1b[1;4h",
+                                             "\x1b[?1048;25h"};
+    static const char *const backs[BACKS] = {"\x1b" "8", "\x1b[u", "\x1b[?1048l", "\x1b[?1049l", "\r\x1b[2Ccd\r"};
+    static const char *const between[BETWEEN] = {"", "\x1b[!p", "\x1b" "c", "\x1b[4l"};
+    char text[64];
+    for (size_t i = 0; i < SAVES * BACKS * BETWEEN; i++) {
+        const char *back = backs[i / SAVES % BACKS];
+        size_t len = (size_t)sprintf(text, "1\nab%s\n%sx\n%sX\nY\n", saves[i % SAVES], between[i / SAVES / BACKS], back);
+        for (int form = 0; form < FORMS; form++)
+            if (!is_same(form, (const uint8_t *)text, len, 1, 4096, 4096)) return 0;
+    }
+    return 1;
 }
 
 static int same_at_random(unsigned rounds) {
@@ -86,7 +114,7 @@ static int same_at_random(unsigned rounds) {
         size_t len = 0, count = 3 + any(i % 16 ? 25 : 200);
         while (count--) {
             /* A saved place holds all that follows, so that it is rare. */
-            size_t bit = any(sizeof bits / sizeof bits[0] + 40), at = bit < sizeof bits / sizeof bits[0] ? bit : bit % 14;
+            size_t kinds = i % 2 ? OFTEN : sizeof bits / sizeof bits[0], bit = any(kinds + 40), at = bit < kinds ? bit : bit % 14;
             memcpy(bytes + len, bits[at], strlen(bits[at]));
             len += strlen(bits[at]);
         }
@@ -171,7 +199,7 @@ static int same_of_file(const char *name) {
 }
 
 int main(int count, char **words) {
-    if (!same_at_random(count > 1 ? (unsigned)atoi(words[1]) : 1000) || !looks_fit() || !is_told() || !are_written()) return 1;
+    if (!same_of_places() || !same_at_random(count > 1 ? (unsigned)atoi(words[1]) : 1000) || !looks_fit() || !is_told() || !are_written()) return 1;
     for (int i = 2; i < count; i++)
         if (!same_of_file(words[i])) return 1;
     printf("lines: pages and lines as they come are those of the whole\n");

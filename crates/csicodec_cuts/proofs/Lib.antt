@@ -1,0 +1,4 @@
+pub mod Parts
+pub mod Going
+pub mod Shorter
+pub mod Places

@@ -6,13 +6,14 @@ _csicodec() {
     [ "$before" != = ] || before=${COMP_WORDS[COMP_CWORD-2]}
     [ "${COMP_WORDS[COMP_CWORD]}" != = ] || before=${COMP_WORDS[COMP_CWORD-1]}
     for it in "${COMP_WORDS[@]:1:COMP_CWORD-1}"; do
-        case $it in filter|compact|strip|clean|html|explain|assemble|help) task=$it; break ;; esac
+        case $it in filter|compact|strip|clean|html|explain|assemble|cuts|help) task=$it; break ;; esac
     done
     COMPREPLY=()
     case $before in
         --at) COMPREPLY=(); return ;;
         --color) COMPREPLY=($(compgen -W "always never auto" -- "$word")); return ;;
         --colors) COMPREPLY=($(compgen -W "256 16" -- "$word")); return ;;
+        --every) COMPREPLY=(); return ;;
         --grep) COMPREPLY=(); return ;;
         --only) COMPREPLY=(); return ;;
         --palette) COMPREPLY=(); return ;;
@@ -26,8 +27,9 @@ _csicodec() {
         html) of="--classes --fragment --links --no-overwrite --overwrite --palette --help" ;;
         explain) of="--at --color --count --decode --diff --full --grep --ignore-case --input --json --only --quiet --stats --timing --unknown --utf8-mouse --help" ;;
         assemble) of="--help" ;;
-        help) COMPREPLY=($(compgen -W "filter compact strip clean html explain assemble" -- "$word")); return ;;
-        *) of="filter compact strip clean html explain assemble help --help --version" ;;
+        cuts) of="--every --help" ;;
+        help) COMPREPLY=($(compgen -W "filter compact strip clean html explain assemble cuts" -- "$word")); return ;;
+        *) of="filter compact strip clean html explain assemble cuts help --help --version" ;;
     esac
     if [ ! "$task" ] || [ "${word#-}" != "$word" ]; then COMPREPLY=($(compgen -W "$of" -- "$word")); fi
 }

@@ -4,7 +4,7 @@
 use crate::command::Task;
 
 /// The words that say what is to be done, with what `--help` behind one says.
-pub(crate) static TASKS: [(&str, Task, &str); 7] = [
+pub(crate) static TASKS: [(&str, Task, &str); 8] = [
     ("filter", Task::Filter, FILTER),
     ("compact", Task::Compact, COMPACT),
     ("strip", Task::Strip, STRIP),
@@ -12,11 +12,12 @@ pub(crate) static TASKS: [(&str, Task, &str); 7] = [
     ("html", Task::Html, HTML),
     ("explain", Task::Explain, EXPLAIN),
     ("assemble", Task::Assemble, ASSEMBLE),
+    ("cuts", Task::Cuts, CUTS),
 ];
 
 /// The options: how each stands in a command line, the words that have it, none where all have, and which values it has, none
 /// where it has no value.
-pub(crate) static OPTIONS: [(&str, &str, &str); 31] = [
+pub(crate) static OPTIONS: [(&str, &str, &str); 32] = [
     (
         "--at",
         "explain",
@@ -29,6 +30,7 @@ pub(crate) static OPTIONS: [(&str, &str, &str); 31] = [
     ("--count", "explain", ""),
     ("--decode", "explain", ""),
     ("--diff", "explain", ""),
+    ("--every", "cuts", "a size such as 64M"),
     ("--faithful", "filter", ""),
     ("--fragment", "html", ""),
     ("--full", "explain", ""),
@@ -68,6 +70,7 @@ usage: csicodec                                 write control sequences in their
        csicodec html [OPTION ..] [FILE ..]      write an HTML page of the text with its colours and styles
        csicodec explain [OPTION ..] [FILE ..]   say in words what is in a stream
        csicodec assemble [FILE ..]              turn what explain --json wrote back into a stream
+       csicodec cuts [OPTION ..] [FILE ..]      say where a stream may be cut into pieces
        csicodec help [WORD]                     show this text, or the options of a word
        csicodec --version                       show the version";
 
@@ -253,6 +256,24 @@ With no FILE, or when FILE is -, read standard input. A line is refused if it
 isn't such an object, if it is over 16 MiB long, or if no sequence has its
 actions.
 
+  -h, --help     Show this text.";
+
+/// How `cuts` is used.
+pub const CUTS: &str = "\
+usage: csicodec cuts --every SIZE [FILE ..]
+
+Write the offsets where each FILE may be cut, counted from 0, a line for each.
+Each is at least SIZE bytes behind the one before, and the first at least SIZE
+bytes behind the start. No sequence, string or title is open there, and no
+character is cut, so each piece is as good as a stream of its own. A piece ends
+with a newline, or if none comes for 64 KiB with an ASCII character that is no
+control.
+
+With no FILE, or when FILE is -, read standard input. An asciinema recording is
+read like any other FILE.
+
+  --every SIZE   The least number of bytes in a piece, such as 64M. K, M and G
+                 are 1,024 bytes, 1,024 K and 1,024 M.
   -h, --help     Show this text.";
 
 /// The program's name and version.

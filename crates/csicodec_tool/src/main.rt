@@ -6,6 +6,7 @@ mod all_names;
 mod assemble;
 mod check;
 mod compare;
+mod cuts;
 mod diff;
 mod explain;
 mod explained_cast;
@@ -19,6 +20,7 @@ mod timing;
 
 use assemble::Assembly;
 use csicodec_command::{Request, Task, asked, refused, words_of, work_through};
+use cuts::Cuts;
 use explain::explain_inputs;
 use normal::Normaliser;
 use rewrite::{Job, Work};
@@ -30,6 +32,7 @@ fn work_of_task(rt: &HostRuntime, run: &Request<'_>) -> Result<(), u8> {
         Task::Normal => return work_through(rt, &mut Normaliser, &run.files),
         Task::Explain => return explain_inputs(rt, run),
         Task::Assemble => return work_through(rt, &mut Assembly, &run.files),
+        Task::Cuts => return work_through(rt, &mut Cuts::of(run), &run.files),
         Task::Filter => Work::Filter {
             faithful: run.faithful,
         },

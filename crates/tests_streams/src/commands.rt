@@ -52,13 +52,18 @@ fn append_texts(all: &mut String, run: &Request<'_>) -> Result<(), AllocError> {
     Ok(())
 }
 
-/// What is asked for: the task, the files, the colours of `clean` and of `explain`, the places, and each option that came.
+/// What is asked for: the task, the files, the colours of `clean` and of `explain`, the places, each option that came, and the size of
+/// `cuts`.
 fn told(alloc: Global, run: &Request<'_>) -> Result<String, AllocError> {
     let (task, files, depth) = (run.task, run.files.as_slice(), run.depth);
     let (color, at) = (run.color, run.at.as_slice());
     let mut all = format!(in alloc; "{task:?} {files:?} {depth:?} {color:?} {at:?}")?;
     append_flags(&mut all, run)?;
     append_texts(&mut all, run)?;
+    if let Some(size) = run.every {
+        let every = format!(in alloc; " every={size}")?;
+        all.push_str(every.as_str())?;
+    }
     Ok(all)
 }
 

@@ -57,6 +57,7 @@ fn told(alloc: Global, row: &str) -> Result<String, AllocError> {
         "links" => untrusted::links(alloc, rest),
         "lines" => untrusted::lines(alloc, rest),
         "link" => untrusted::link(alloc, rest),
+        "cuts" => untrusted::cuts(alloc, rest),
         "overwrite" => overwrite::overwrite(alloc, rest),
         "painted" => overwrite::painted(alloc, rest),
         "crowded" => overwrite::crowded(alloc, rest),

@@ -5,6 +5,7 @@ use csicodec_clean::{
     Anew, Checked, Cleaner, Depth, Dropped, Kept, Passing, Rule, check_all, clean, clean_in,
     clean_with, strip,
 };
+use csicodec_cuts::cuts_all;
 use csicodec_filter::Transform;
 use csicodec_html::html_all;
 use csicodec_lines::{Lines, clean_lines_all, strip_lines_all};
@@ -105,6 +106,15 @@ pub(crate) fn lines(alloc: Global, word: &str) -> Result<String, AllocError> {
         && lines_byte_by_byte(alloc, Lines::stripped(alloc), &bytes)? == stripped
         && lines_byte_by_byte(alloc, Lines::cleaned(alloc, WITH_LINKS), &bytes)? == cleaned;
     both(alloc, &stripped, &cleaned, holds)
+}
+
+/// `cuts SIZE BYTES`: where they may be cut into pieces of so many bytes at least.
+pub(crate) fn cuts(alloc: Global, words: &str) -> Result<String, AllocError> {
+    let (size, word) = words.split_once(' ').unwrap_or((words, ""));
+    let (size, bytes) = (size.parse::<u64>().unwrap_or(0), bytes_of(alloc, word)?);
+    let mut places = Vec::new(alloc);
+    let read = cuts_all(alloc, size, &mut bytes.as_slice(), &mut places);
+    judged(alloc, &places, read.is_ok())
 }
 
 /// `check BYTES`: whether they are plain text, or the byte and the line where they are no more. Byte by byte it is the same.

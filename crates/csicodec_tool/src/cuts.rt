@@ -1,0 +1,51 @@
+//! Where a stream may be cut.
+
+use csicodec_command::{Failure, Request, Worker};
+use csicodec_cuts::cuts_all;
+use csicodec_streams::RunError;
+use std::alloc::Global;
+use std::io::{BufRead, Read, Write};
+
+/// Tells where each input may be cut, with so many bytes at least in each piece.
+#[derive(Drop)]
+pub struct Cuts {
+    every: u64,
+}
+
+impl Cuts {
+    /// As it is asked for.
+    pub fn of(run: &Request<'_>) -> Cuts {
+        Cuts {
+            every: run.every.unwrap_or(u64::MAX),
+        }
+    }
+}
+
+impl Worker for Cuts {
+    /// A piece of a recording is none, so its lines are taken as they are.
+    fn takes_recordings(&self) -> bool {
+        false
+    }
+
+    fn read<R: Read, W: Write>(
+        &mut self,
+        alloc: Global,
+        input: &mut R,
+        output: &mut W,
+    ) -> Result<(), Failure> {
+        Ok(cuts_all(alloc, self.every, input, output)?)
+    }
+
+    fn read_cast<R: BufRead, W: Write>(
+        &mut self,
+        alloc: Global,
+        input: &mut R,
+        output: &mut W,
+    ) -> Result<(), Failure> {
+        self.read(alloc, input, output)
+    }
+
+    fn end<W: Write>(&mut self, _output: &mut W) -> Result<(), RunError> {
+        Ok(())
+    }
+}

@@ -24,12 +24,14 @@ pub goes_none : (m : Mode) (t : Bool) (old : Search) (bytes : List ℕ) → Goes
 goes_none m t old bytes = record { parts = []; first = (refl, refl); titles = refl; finds = λ s h. (h, refl) }
 
 -- the parts behind those that were searched
-pub goes_on : (m n a : Mode) (t u v : Bool) (old mid new : Search) (bytes text rest more later : List ℕ) → Goes m t old bytes text rest n u mid → Goes n u mid rest more later a v new
+pub goes_on : (m n a : Mode) (t u v : Bool) (old mid new : Search) (bytes text rest more later : List ℕ)
+    → Goes m t old bytes text rest n u mid → Goes n u mid rest more later a v new
     → Goes m t old bytes (text ++ more) later a v new
 goes_on m n a t u v old mid new bytes text rest more later g k =
     let ps = with_titles t g.parts in
     let qs = with_titles u k.parts in
-    let whole : with_titles t (g.parts ++ k.parts) ≡ ps ++ qs = titles_on t g.parts k.parts ∙ ap (λ (b : Bool). ps ++ with_titles b k.parts) (sym g.titles) in
+    let whole : with_titles t (g.parts ++ k.parts) ≡ ps ++ qs = titles_on t g.parts k.parts
+    ∙ ap (λ (b : Bool). ps ++ with_titles b k.parts) (sym g.titles) in
     record {
       parts = g.parts ++ k.parts;
       first = parts_on longest g.parts k.parts m bytes rest later n a g.first k.first;
@@ -39,12 +41,15 @@ goes_on m n a t u v old mid new bytes text rest more later g k =
           let mids = behind s ps in
           let (last, f) = k.finds mids at in (
             subst (λ (x : List Part). IsAt new (behind s x)) (sym whole) (subst (IsAt new) (sym (behind_on s ps qs)) last),
-            ap (λ (x : List ℕ). x ++ more) e ∙ ap (λ (x : List ℕ). told (cuts s ps) ++ x) f ∙ sym (told_on (cuts s ps) (cuts mids qs)) ∙ ap told (sym (cuts_on s ps qs)) ∙ ap (λ (x : List Part). told (cuts s x)) (sym whole),
+            ap (λ (x : List ℕ). x ++ more) e ∙ ap (λ (x : List ℕ). told (cuts s ps) ++ x) f
+                ∙ sym (told_on (cuts s ps) (cuts mids qs)) ∙ ap told (sym (cuts_on s ps qs))
+                ∙ ap (λ (x : List Part). told (cuts s x)) (sym whole),
           );
     }
 
 -- a span
-pub goes_span : (n a : Mode) (u : Bool) (mid new : Search) (k : Kind) (rest span later more : List ℕ) → Cuts longest n rest k span later a → FindsAt mid (part (read_as k u) span) more new
+pub goes_span : (n a : Mode) (u : Bool) (mid new : Search) (k : Kind) (rest span later more : List ℕ)
+    → Cuts longest n rest k span later a → FindsAt mid (part (read_as k u) span) more new
     → Goes n u mid rest more later a (title_behind u k span) new
 goes_span n a u mid new k rest span later more c finds =
     let one = titled u k span c.parts c.span in
@@ -60,10 +65,12 @@ goes_span n a u mid new k rest span later more c finds =
     }
 
 -- a chunk more
-pub goes_then : (m n a : Mode) (t u v : Bool) (old mid new : Search) (bytes chunk text held more rest : List ℕ) → Goes m t old bytes text held n u mid → Goes n u mid (held ++ chunk) more rest a v new
+pub goes_then : (m n a : Mode) (t u v : Bool) (old mid new : Search) (bytes chunk text held more rest : List ℕ)
+    → Goes m t old bytes text held n u mid → Goes n u mid (held ++ chunk) more rest a v new
     → Goes m t old (bytes ++ chunk) (text ++ more) rest a v new
 goes_then m n a t u v old mid new bytes chunk text held more rest g k =
-    goes_on m n a t u v old mid new (bytes ++ chunk) text (held ++ chunk) more rest (record { parts = g.parts; first = parts_more longest g.parts m bytes chunk held n g.first; titles = g.titles; finds = g.finds }) k
+    goes_on m n a t u v old mid new (bytes ++ chunk) text (held ++ chunk) more rest
+    (record { parts = g.parts; first = parts_more longest g.parts m bytes chunk held n g.first; titles = g.titles; finds = g.finds }) k
 
 -- nothing came yet
 pub begun : (every : ℕ) (f : Finder) → IsBegun every f → Passes f [] [] f
@@ -82,11 +89,13 @@ no_more : (t : Bool) (s : Found) (rest : List ℕ) → cuts s (with_titles t (le
 no_more t s [] = refl
 no_more t s (b ∷ rest) = refl
 
-pub sure_alone : (s : Found) (ps : List Part) (rest : List ℕ) → cuts s (with_titles false (ps ++ left_over rest)) ≡ cuts s (with_titles false ps)
+pub sure_alone : (s : Found) (ps : List Part) (rest : List ℕ)
+    → cuts s (with_titles false (ps ++ left_over rest)) ≡ cuts s (with_titles false ps)
 sure_alone s ps rest =
     let front = with_titles false ps in
     let now = title_open false ps in
-    ap (cuts s) (titles_on false ps (left_over rest)) ∙ cuts_on s front (with_titles now (left_over rest)) ∙ ap (λ (x : List ℕ). cuts s front ++ x) (no_more now (behind s front) rest) ∙ append-nil (cuts s front)
+    ap (cuts s) (titles_on false ps (left_over rest)) ∙ cuts_on s front (with_titles now (left_over rest))
+    ∙ ap (λ (x : List ℕ). cuts s front ++ x) (no_more now (behind s front) rest) ∙ append-nil (cuts s front)
 
 module _ (every : ℕ) (f : Finder) (is : IsBegun every f) where
   of_all : (read : List ℕ) (text : List ℕ) (last : Finder) → Passes f read text last → Tells every read text
@@ -97,7 +106,11 @@ module _ (every : ℕ) (f : Finder) (is : IsBegun every f) where
       let all = g.parts ++ left_over rest in
       let same = sure_alone s g.parts rest in (
         cuts s (with_titles false all),
-        record { parts = all; whole = record { sure = g.parts; rest = rest; after = last.mode; first = g.first; unsure = p.unsure; whole = refl }; all = refl },
+        record {
+          parts = all;
+          whole = record { sure = g.parts; rest = rest; after = last.mode; first = g.first; unsure = p.unsure; whole = refl };
+          all = refl;
+        },
         (g.finds s is.search).1 ∙ ap told (sym same),
       )
 
@@ -117,12 +130,16 @@ module _ (every : ℕ) (f : Finder) (is : IsBegun every f) where
       let w = k.whole in
       let s = start every in
       let ps = with_titles false g.parts in
-      let (others, same) = parts_front longest g.parts w.sure mode.Text (read ++ more) (last.pending.items ++ more) w.rest last.mode w.after (parts_more longest g.parts mode.Text read more last.pending.items last.mode g.first) w.first w.unsure in
+      let (others, same) = parts_front longest g.parts w.sure mode.Text (read ++ more)
+      (last.pending.items ++ more) w.rest last.mode w.after
+      (parts_more longest g.parts mode.Text read more last.pending.items last.mode g.first) w.first w.unsure in
       let qs = others ++ left_over w.rest in
-      let parts : k.parts ≡ g.parts ++ qs = w.whole ∙ ap (λ (x : List Part). x ++ left_over w.rest) same ∙ append_assoc g.parts others (left_over w.rest) in
+      let parts : k.parts ≡ g.parts ++ qs = w.whole ∙ ap (λ (x : List Part). x ++ left_over w.rest) same
+      ∙ append_assoc g.parts others (left_over w.rest) in
       let later = cuts (behind s ps) (with_titles (title_open false g.parts) qs) in (
         told later,
-        e ∙ ap told (k.all ∙ ap (λ (x : List Part). cuts s (with_titles false x)) parts ∙ ap (cuts s) (titles_on false g.parts qs) ∙ cuts_on s ps (with_titles (title_open false g.parts) qs))
+        e ∙ ap told (k.all ∙ ap (λ (x : List Part). cuts s (with_titles false x)) parts ∙ ap (cuts s) (titles_on false g.parts qs)
+            ∙ cuts_on s ps (with_titles (title_open false g.parts) qs))
             ∙ told_on (cuts s ps) later ∙ ap (λ (x : List ℕ). x ++ told later) (sym (g.finds s is.search).1),
       )
 

@@ -26,7 +26,8 @@ pub cuts_in_on : (s : Found) (xs ys : List ℕ) → cuts_in s (xs ++ ys) ≡ cut
 cuts_in_on s [] ys = refl
 cuts_in_on s (x ∷ xs) ys =
     let own = if is_cut s x then suc s.at ∷ [] else [] in
-    ap (λ (t : List ℕ). own ++ t) (cuts_in_on (behind_byte s x) xs ys) ∙ sym (append_assoc own (cuts_in (behind_byte s x) xs) (cuts_in (behind_text s (x ∷ xs)) ys))
+    ap (λ (t : List ℕ). own ++ t) (cuts_in_on (behind_byte s x) xs ys)
+    ∙ sym (append_assoc own (cuts_in (behind_byte s x) xs) (cuts_in (behind_text s (x ∷ xs)) ys))
 
 abbrev at : Found → ℕ → Found
 at s n = record { every = s.every; last = s.last; at = n }
@@ -63,11 +64,13 @@ pub skip : (s : Found) (text front rest : List ℕ) → text ≡ front ++ rest �
     → (behind_text (passed (length front) s) rest ≡ behind_text s text) × (cuts_in (passed (length front) s) rest ≡ cuts_in s text)
 skip s text front rest whole h = (
   ap (λ (t : Found). behind_text t rest) (sym h.behind) ∙ sym (text_on s front rest) ∙ ap (behind_text s) (sym whole),
-  ap (λ (t : Found). cuts_in t rest) (sym h.behind) ∙ ap (λ (t : List ℕ). t ++ cuts_in (behind_text s front) rest) (sym h.none) ∙ sym (cuts_in_on s front rest) ∙ ap (cuts_in s) (sym whole),
+  ap (λ (t : Found). cuts_in t rest) (sym h.behind) ∙ ap (λ (t : List ℕ). t ++ cuts_in (behind_text s front) rest) (sym h.none)
+      ∙ sym (cuts_in_on s front rest) ∙ ap (cuts_in s) (sym whole),
 )
 
 -- a place, and those in the text behind it
-pub one_told : (s : Found) (b : ℕ) (text line : List ℕ) → is_cut s b ≡ true → line ≡ line_of (counted (suc s.at)) → line ++ told (cuts_in (behind_byte s b) text) ≡ told (cuts_in s (b ∷ text))
+pub one_told : (s : Found) (b : ℕ) (text line : List ℕ) → is_cut s b ≡ true → line ≡ line_of (counted (suc s.at))
+    → line ++ told (cuts_in (behind_byte s b) text) ≡ told (cuts_in s (b ∷ text))
 one_told s b text line cut e =
     let later = cuts_in (behind_byte s b) text in
     let own : (if is_cut s b then suc s.at ∷ [] else []) ≡ suc s.at ∷ [] = rw cut refl in
@@ -81,7 +84,8 @@ behind_on s (p ∷ ps) qs = behind_on (behind_part s p) ps qs
 
 pub cuts_on : (s : Found) (ps qs : List Part) → cuts s (ps ++ qs) ≡ cuts s ps ++ cuts (behind s ps) qs
 cuts_on s [] qs = refl
-cuts_on s (p ∷ ps) qs = ap (λ (t : List ℕ). cuts_at s p ++ t) (cuts_on (behind_part s p) ps qs) ∙ sym (append_assoc (cuts_at s p) (cuts (behind_part s p) ps) (cuts (behind s (p ∷ ps)) qs))
+cuts_on s (p ∷ ps) qs = ap (λ (t : List ℕ). cuts_at s p ++ t) (cuts_on (behind_part s p) ps qs)
+    ∙ sym (append_assoc (cuts_at s p) (cuts (behind_part s p) ps) (cuts (behind s (p ∷ ps)) qs))
 
 -- the parts of a span are as the span
 pub record Spanned (s : Found) (k : Kind) (bytes : List ℕ) (ps : List Part) : Type 0 where
@@ -104,7 +108,8 @@ other_behind s k bytes none = rw none refl
 pub other_none : (s : Found) (k : Kind) (bytes : List ℕ) → is_text k ≡ false → cuts_at s (part k bytes) ≡ []
 other_none s k bytes none = rw none refl
 
-others : (s : Found) (k : Kind) (ps : List Part) → is_text k ≡ false → AllByRecursion (λ (p : Part). p.kind ≡ k) ps → Spanned s k (flat_map bytes_of ps) ps
+others : (s : Found) (k : Kind) (ps : List Part) → is_text k ≡ false → AllByRecursion (λ (p : Part). p.kind ≡ k) ps
+    → Spanned s k (flat_map bytes_of ps) ps
 others s k [] none h = record { behind = sym (passed_none s) ∙ sym (other_behind s k [] none); cuts = sym (other_none s k [] none) }
 others s k (p ∷ ps) none h =
     let rest = flat_map bytes_of ps in
@@ -112,9 +117,11 @@ others s k (p ∷ ps) none h =
     let next = other_behind s p.kind p.bytes own in
     let later = others (passed (length p.bytes) s) k ps none h.1 in
     record {
-      behind = ap (λ (t : Found). behind t ps) next ∙ later.behind ∙ other_behind (passed (length p.bytes) s) k rest none ∙ passed_on s (length p.bytes) (length rest)
+      behind = ap (λ (t : Found). behind t ps) next ∙ later.behind ∙ other_behind (passed (length p.bytes) s) k rest none
+          ∙ passed_on s (length p.bytes) (length rest)
           ∙ ap (λ (n : ℕ). passed n s) (sym (length-append p.bytes rest)) ∙ sym (other_behind s k (p.bytes ++ rest) none);
-      cuts = ap (λ (t : List ℕ). t ++ cuts (behind_part s p) ps) (other_none s p.kind p.bytes own) ∙ ap (λ (t : Found). cuts t ps) next ∙ later.cuts ∙ other_none (passed (length p.bytes) s) k rest none
+      cuts = ap (λ (t : List ℕ). t ++ cuts (behind_part s p) ps) (other_none s p.kind p.bytes own)
+          ∙ ap (λ (t : Found). cuts t ps) next ∙ later.cuts ∙ other_none (passed (length p.bytes) s) k rest none
           ∙ sym (other_none s k (p.bytes ++ rest) none);
     }
 
@@ -126,7 +133,8 @@ spanned s kind.Str bytes ps h = rw (← h.joined) (others s kind.Str ps refl h.a
 spanned s kind.Other bytes ps h = rw (← h.joined) (others s kind.Other ps refl h.all)
 
 -- what is no text, where the search is told apart from it
-pub other_kind : (s : Found) (k : Kind) (bytes : List ℕ) (new : Search) → k ≢ kind.Text → IsAt new (passed (length bytes) s) → IsAt new (behind_part s (part k bytes)) × ([] ≡ told (cuts_at s (part k bytes)))
+pub other_kind : (s : Found) (k : Kind) (bytes : List ℕ) (new : Search) → k ≢ kind.Text → IsAt new (passed (length bytes) s)
+    → IsAt new (behind_part s (part k bytes)) × ([] ≡ told (cuts_at s (part k bytes)))
 other_kind s kind.Text bytes new other h = absurd (other refl)
 other_kind s kind.Csi bytes new other h = (h, refl)
 other_kind s kind.Esc bytes new other h = (h, refl)

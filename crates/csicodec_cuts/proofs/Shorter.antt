@@ -22,7 +22,12 @@ use Rattle.csicodec_clean.specs.Cleaned.{is_text}
 -- ---- control sequences that went wrong
 
 none_less : (bytes more : List ℕ) → NoSeq (bytes ++ more) → NoSeq bytes
-none_less bytes more none list final rest r = none list final (rest ++ more) (r.0, r.1, ap (λ (t : List ℕ). t ++ more) r.2 ∙ append_assoc r.0 rest more)
+none_less bytes more none list final rest r = none list final (rest ++ more) (
+  r.0,
+  r.1,
+  ap (λ (t : List ℕ). t ++ more) r.2
+      ∙ append_assoc r.0 rest more,
+)
 
 least_less : (bytes more : List ℕ) (n : ℕ) → n < length bytes → IsLeast (bytes ++ more) n → IsLeast bytes n
 least_less bytes more n l h = record {
@@ -43,18 +48,33 @@ fault_less bytes more (BadByte place) n at l f =
     let w : place < length bytes = omega (arith, at, l) in
     (none_less bytes more f.0, (least_less bytes more place w f.1.0, f.1.1, subst IsBad (get_or-append bytes more 0 place w) f.1.2))
 fault_less bytes more (NumberTooLarge place) n at l f =
-    let w : place < length bytes = omega (arith, at, l) in
-    (none_less bytes more f.0, (least_less bytes more place w f.1.0, f.1.1, λ bad. f.1.2 (subst IsBad (sym (get_or-append bytes more 0 place w)) bad)))
+    let w : place < length bytes = omega (arith, at, l) in (
+      none_less bytes more f.0,
+      (
+        least_less bytes more place w f.1.0,
+        f.1.1,
+        λ bad. f.1.2 (subst IsBad (sym
+            (get_or-append bytes more 0 place w)) bad),
+      ),
+    )
 fault_less bytes more (Truncated place) n at l f = absurd at
 fault_less bytes more Memory n at l f = absurd at
 
-malformed_less : (limit : ℕ) (text x more : List ℕ) → 0 < length x → IsMalformed limit ((text ++ x) ++ more) (length text) → IsMalformed limit (text ++ x) (length text)
-malformed_less limit text x more some (inl h) = inl (h.0, fault_less (text ++ x) more h.0 (length text) h.2 (omega (arith, length-append text x, some)) h.1, h.2, h.3)
+malformed_less : (limit : ℕ) (text x more : List ℕ) → 0 < length x → IsMalformed limit ((text ++ x) ++ more) (length text)
+    → IsMalformed limit (text ++ x) (length text)
+malformed_less limit text x more some (inl h) = inl (
+  h.0,
+  fault_less (text ++ x) more h.0 (length text) h.2 (omega
+      (arith, length-append text x, some)) h.1,
+  h.2,
+  h.3,
+)
 malformed_less limit text x more some (inr h) =
     let fits : limit ≤ length (text ++ x) = omega (arith, h.2, length-append text x) in
     inr (subst Begins (take-append-le limit (text ++ x) more fits) h.0, fits, h.2)
 
-csi_less : (limit : ℕ) (text x more : List ℕ) (k : Kind) (a : Mode) → 0 < length x → AllowsCsi limit ((text ++ x) ++ more) k text a → AllowsCsi limit (text ++ x) k text a
+csi_less : (limit : ℕ) (text x more : List ℕ) (k : Kind) (a : Mode) → 0 < length x → AllowsCsi limit ((text ++ x) ++ more) k text a
+    → AllowsCsi limit (text ++ x) k text a
 csi_less limit text x more kind.Csi a some s = s
 csi_less limit text x more kind.Other a some s = (malformed_less limit text x more some s.0, s.1)
 csi_less limit text x more kind.Text a some s = absurd s
@@ -75,7 +95,8 @@ Near rest f g = (f ≡ g) ⊎ ((rest ≡ []) × TakesTwo g)
 
 -- the tests of a byte are the same
 module _ {A : Type 0} (f : A → Answer) where
-  both : (rest : List ℕ) (b : Bool) (x y v w : A) → Near rest (f x) (f v) → Near rest (f y) (f w) → Near rest (f (if b then x else y)) (f (if b then v else w))
+  both : (rest : List ℕ) (b : Bool) (x y v w : A) → Near rest (f x) (f v) → Near rest (f y) (f w)
+      → Near rest (f (if b then x else y)) (f (if b then v else w))
   both rest true x y v w h k = h
   both rest false x y v w h k = k
 
@@ -93,52 +114,65 @@ near_intermediate m [] (b ∷ more) = inr (refl, two (meant m) (is_within 48 126
 
 near_opened : (m : Mode) (b : ℕ) (rest more : List ℕ) → Near rest (meant m (opened b rest)) (meant m (opened b (rest ++ more)))
 near_opened m b rest more =
-    same (meant m) rest (b == 91) _ _ _ (same (meant m) rest (b == 93) _ _ _ (same (meant m) rest (b == 80) _ _ _ (same (meant m) rest (opens_string b) _ _ _ (same (meant m) rest (is_within 48 126 b) _ _ _
-    (both (meant m) rest (is_within 32 47 b) (intermediate rest) _ (intermediate (rest ++ more)) _ (near_intermediate m rest more) (inl refl))))))
+    same (meant m) rest (b == 91) _ _ _ (same (meant m) rest (b == 93) _ _ _ (same (meant m) rest (b == 80) _ _ _ (same (meant m) rest
+    (opens_string b) _ _ _ (same (meant m) rest (is_within 48 126 b) _ _ _
+    (both (meant m) rest (is_within 32 47 b) (intermediate rest) _ (intermediate (rest ++ more)) _ (near_intermediate m rest more)
+    (inl refl))))))
 
 near_escape : (m : Mode) (b : ℕ) (rest more : List ℕ) → Near rest (meant m (escape m (b ∷ rest))) (meant m (escape m (b ∷ (rest ++ more))))
 near_escape m b rest more =
-    same (meant m) rest (is_string m && b == 92) _ _ _ (same (meant m) rest (is_dcs m && b == 27) _ (opened b rest) (opened b (rest ++ more)) (near_opened m b rest more))
+    same (meant m) rest (is_string m && b == 92) _ _ _ (same (meant m) rest (is_dcs m && b == 27) _ (opened b rest) (opened b
+    (rest ++ more)) (near_opened m b rest more))
 
-near_look : (m : Mode) (b c : ℕ) (rest more : List ℕ) → Near rest (meant m (look m (b ∷ c ∷ rest))) (meant m (look m (b ∷ c ∷ (rest ++ more))))
+near_look : (m : Mode) (b c : ℕ) (rest more : List ℕ)
+    → Near rest (meant m (look m (b ∷ c ∷ rest))) (meant m (look m (b ∷ c ∷ (rest ++ more))))
 near_look m b c rest more =
     same (meant m) rest (stays m b) _ _ _
-    (same (meant m) rest (ends m b) _ _ _ (both (meant m) rest (b == 27) (escape m (c ∷ rest)) _ (escape m (c ∷ (rest ++ more))) _ (near_escape m c rest more) (inl refl)))
+    (same (meant m) rest (ends m b) _ _ _ (both (meant m) rest (b == 27) (escape m (c ∷ rest)) _ (escape m (c ∷ (rest ++ more))) _
+    (near_escape m c rest more) (inl refl)))
 
 -- ---- one part
 
-allows_less : (f : Answer) (limit : ℕ) (text x more : List ℕ) (k : Kind) (a : Mode) → 0 < length x → Allows f limit ((text ++ x) ++ more) k text a → Allows f limit (text ++ x) k text a
+allows_less : (f : Answer) (limit : ℕ) (text x more : List ℕ) (k : Kind) (a : Mode) → 0 < length x
+    → Allows f limit ((text ++ x) ++ more) k text a → Allows f limit (text ++ x) k text a
 allows_less (More j n b) limit text x more k a some s = s
 allows_less (Anew j n b) limit text x more k a some s = s
 allows_less Sequence limit text x more k a some s = csi_less limit text x more k a some s
 allows_less Undecided limit text x more k a some s = s
 
-takes_two : (g : Answer) (limit : ℕ) (bytes : List ℕ) (k : Kind) (text : List ℕ) (a : Mode) → TakesTwo g → Allows g limit bytes k text a → 2 ≤ length text
+takes_two : (g : Answer) (limit : ℕ) (bytes : List ℕ) (k : Kind) (text : List ℕ) (a : Mode) → TakesTwo g
+    → Allows g limit bytes k text a → 2 ≤ length text
 takes_two (More j n b) limit bytes k text a h s = omega (arith, h, s.1)
 takes_two (Anew j n b) limit bytes k text a h s = omega (arith, h, s.1)
 takes_two Sequence limit bytes k text a h s = absurd h
 takes_two Undecided limit bytes k text a h s = absurd s
 
-by_two : (m : Mode) (b c : ℕ) (rest text x more : List ℕ) (limit : ℕ) (k : Kind) (a : Mode) → b ∷ c ∷ rest ≡ text ++ x → 0 < length x → Allows (ahead m ((text ++ x) ++ more)) limit ((text ++ x) ++ more) k text a
+by_two : (m : Mode) (b c : ℕ) (rest text x more : List ℕ) (limit : ℕ) (k : Kind) (a : Mode) → b ∷ c ∷ rest ≡ text ++ x → 0 < length x
+    → Allows (ahead m ((text ++ x) ++ more)) limit ((text ++ x) ++ more) k text a
     → Allows (ahead m (text ++ x)) limit (text ++ x) k text a
 by_two m b c rest text x more limit k a shape some s =
     let short = b ∷ c ∷ rest in
-    let longer : ahead m ((text ++ x) ++ more) ≡ meant m (look m (short ++ more)) = ap (λ (t : List ℕ). ahead m (t ++ more)) (sym shape) ∙ found m (short ++ more) (look m (short ++ more)) refl in
+    let longer : ahead m ((text ++ x) ++ more) ≡ meant m (look m (short ++ more)) = ap (λ (t : List ℕ). ahead m (t ++ more))
+    (sym shape) ∙ found m (short ++ more) (look m (short ++ more)) refl in
     let shorter : meant m (look m short) ≡ ahead m (text ++ x) = sym (found m short (look m short) refl) ∙ ap (ahead m) shape in
     ⊎_elim
     (λ (e : meant m (look m short) ≡ meant m (look m (short ++ more))).
-    allows_less (ahead m (text ++ x)) limit text x more k a some (subst (λ (f : Answer). Allows f limit ((text ++ x) ++ more) k text a) (longer ∙ sym e ∙ shorter) s))
+    allows_less (ahead m (text ++ x)) limit text x more k a some (subst (λ (f : Answer). Allows f limit
+    ((text ++ x) ++ more) k text a) (longer ∙ sym e ∙ shorter) s))
     (λ (h : (rest ≡ []) × TakesTwo (meant m (look m (short ++ more)))).
-    let long = takes_two (meant m (look m (short ++ more))) limit ((text ++ x) ++ more) k text a h.1 (subst (λ (f : Answer). Allows f limit ((text ++ x) ++ more) k text a) longer s) in
+    let long = takes_two (meant m (look m (short ++ more))) limit ((text ++ x) ++ more) k text a h.1 (subst
+    (λ (f : Answer). Allows f limit ((text ++ x) ++ more) k text a) longer s) in
     absurd (omega (arith, long, some, ap length shape, ap length h.0, length-append text x)))
     (near_look m b c rest more)
 
-ahead_less : (m : Mode) (text x more : List ℕ) (limit : ℕ) (k : Kind) (a : Mode) → 0 < length text → 0 < length x → Allows (ahead m ((text ++ x) ++ more)) limit ((text ++ x) ++ more) k text a
+ahead_less : (m : Mode) (text x more : List ℕ) (limit : ℕ) (k : Kind) (a : Mode) → 0 < length text → 0 < length x
+    → Allows (ahead m ((text ++ x) ++ more)) limit ((text ++ x) ++ more) k text a
     → Allows (ahead m (text ++ x)) limit (text ++ x) k text a
 ahead_less m [] x more limit k a first some s = absurd (omega (arith, first))
 ahead_less m (b ∷ text) [] more limit k a first some s = absurd (omega (arith, some))
 ahead_less m (b ∷ []) (c ∷ x) more limit k a first some s = by_two m b c x (b ∷ []) (c ∷ x) more limit k a refl some s
-ahead_less m (b ∷ c ∷ text) (d ∷ x) more limit k a first some s = by_two m b c (text ++ d ∷ x) (b ∷ c ∷ text) (d ∷ x) more limit k a refl some s
+ahead_less m (b ∷ c ∷ text) (d ∷ x) more limit k a first some s = by_two m b c (text ++ d ∷ x) (b ∷ c ∷ text)
+    (d ∷ x) more limit k a refl some s
 
 -- ---- parts up to a byte of text
 
@@ -152,22 +186,35 @@ last_some (p ∷ ps) b = omega (arith, length-append p.bytes (flat_map bytes_of 
 no_esc : (m : Mode) (b : ℕ) (rest : List ℕ) → (b == 27) ≡ false → meant m (look m (b ∷ rest)) ≡ meant m (look m (b ∷ []))
 no_esc m b rest e = rw e refl
 
-text_alone : (f : Answer) (limit : ℕ) (bytes : List ℕ) (b : ℕ) (a : Mode) → Allows f limit bytes kind.Text (b ∷ []) a → Allows f limit (b ∷ []) kind.Text (b ∷ []) a
+text_alone : (f : Answer) (limit : ℕ) (bytes : List ℕ) (b : ℕ) (a : Mode) → Allows f limit bytes kind.Text (b ∷ []) a
+    → Allows f limit (b ∷ []) kind.Text (b ∷ []) a
 text_alone (More k n c) limit bytes b a s = s
 text_alone (Anew k n c) limit bytes b a s = s
 text_alone Sequence limit bytes b a s = absurd s
 text_alone Undecided limit bytes b a s = absurd s
 
-pub parts_less : (limit : ℕ) (ps : List Part) (b : ℕ) (m : Mode) (bytes rest : List ℕ) (a : Mode) → 0 < limit → (b == 27) ≡ false → AreFirstParts limit m bytes (ends_in ps b) rest a
+pub parts_less : (limit : ℕ) (ps : List Part) (b : ℕ) (m : Mode) (bytes rest : List ℕ) (a : Mode) → 0 < limit → (b == 27) ≡ false
+    → AreFirstParts limit m bytes (ends_in ps b) rest a
     → AreFirstParts limit m (flat_map bytes_of (ends_in ps b)) (ends_in ps b) [] a
 parts_less limit [] b m bytes rest a l other (behind, mid, (e, s), last) =
     let same : ahead m bytes ≡ ahead m (b ∷ []) =
-    ap (ahead m) e ∙ found m (b ∷ behind) (look m (b ∷ behind)) refl ∙ no_esc m b behind other ∙ sym (found m (b ∷ []) (look m (b ∷ [])) refl) in
-    ([], mid, (refl, subst (λ (f : Answer). Allows f limit (b ∷ []) kind.Text (b ∷ []) mid) same (text_alone (ahead m bytes) limit bytes b mid s)), (refl, last.1))
+    ap (ahead m) e ∙ found m (b ∷ behind) (look m (b ∷ behind)) refl ∙ no_esc m b behind other
+    ∙ sym (found m (b ∷ []) (look m (b ∷ [])) refl) in (
+      [],
+      mid,
+      (
+        refl,
+        subst (λ (f : Answer). Allows f limit (b ∷ []) kind.Text (b ∷ []) mid) same (text_alone
+            (ahead m bytes) limit bytes b mid s),
+      ),
+      (refl, last.1),
+    )
 parts_less limit (p ∷ ps) b m bytes rest a l other (behind, mid, (e, s), later) =
     let x = flat_map bytes_of (ends_in ps b) in
-    let whole = e ∙ ap (λ (t : List ℕ). p.bytes ++ t) (parts_join limit (ends_in ps b) mid behind rest a later) ∙ sym (append_assoc p.bytes x rest) in
-    let one = ahead_less m p.bytes x rest limit p.kind mid (part_some limit m bytes p behind mid l (e, s)) (last_some ps b) (subst (λ (t : List ℕ). Allows (ahead m t) limit t p.kind p.bytes mid) whole s) in
+    let whole = e ∙ ap (λ (t : List ℕ). p.bytes ++ t) (parts_join limit (ends_in ps b) mid behind rest a later)
+    ∙ sym (append_assoc p.bytes x rest) in
+    let one = ahead_less m p.bytes x rest limit p.kind mid (part_some limit m bytes p behind mid l (e, s)) (last_some ps b) (subst
+    (λ (t : List ℕ). Allows (ahead m t) limit t p.kind p.bytes mid) whole s) in
     (x, mid, (refl, one), parts_less limit ps b mid behind rest a l other later)
 
 -- ---- a part of text is a byte
@@ -186,18 +233,21 @@ row_one : (rows : List ModeRow) (m : Mode) (bytes : List ℕ) → all_one rows �
 row_one [] m bytes e = refl
 row_one (r ∷ rows) m bytes e =
     let parts = and_parts (is_one r.answer) (all_one rows) e in
-    cond_both (fits_front m bytes r) (r ∷ []) [] (λ (rs : List ModeRow). is_one (answer_of (rs ++ fitting rows m bytes)) ≡ true) (λ f. parts.0) (λ f. row_one rows m bytes parts.1)
+    cond_both (fits_front m bytes r) (r ∷ []) [] (λ (rs : List ModeRow). is_one (answer_of (rs ++ fitting rows m bytes)) ≡ true)
+    (λ f. parts.0) (λ f. row_one rows m bytes parts.1)
 
 one : (m : Mode) (bytes : List ℕ) → is_one (ahead m bytes) ≡ true
 one m bytes =
     let row = only_row m bytes in
     ap is_one (row.answer ∙ sym (ap answer_of row.fits)) ∙ row_one mode_table m bytes refl
 
-one_by : (f : Answer) (limit : ℕ) (bytes text : List ℕ) (a : Mode) → is_one f ≡ true → Allows f limit bytes kind.Text text a → length text ≡ 1
+one_by : (f : Answer) (limit : ℕ) (bytes text : List ℕ) (a : Mode) → is_one f ≡ true → Allows f limit bytes kind.Text text a
+    → length text ≡ 1
 one_by (More k n b) limit bytes text a e s = s.1 ∙ eqb-true n 1 (ap (λ (j : Kind). not (is_text j) || n == 1) s.0 ∙ e)
 one_by (Anew k n b) limit bytes text a e s = s.1 ∙ eqb-true n 1 (ap (λ (j : Kind). not (is_text j) || n == 1) s.0 ∙ e)
 one_by Sequence limit bytes text a e s = absurd s
 one_by Undecided limit bytes text a e s = absurd s
 
-pub text_is_one : (m : Mode) (limit : ℕ) (bytes text : List ℕ) (a : Mode) → Allows (ahead m bytes) limit bytes kind.Text text a → length text ≡ 1
+pub text_is_one : (m : Mode) (limit : ℕ) (bytes text : List ℕ) (a : Mode) → Allows (ahead m bytes) limit bytes kind.Text text a
+    → length text ≡ 1
 text_is_one m limit bytes text a s = one_by (ahead m bytes) limit bytes text a (one m bytes) s

@@ -9,8 +9,8 @@ use Rattle.csicodec_clean.specs.Check.{counted}
 use Rattle.csicodec_clean.specs.Cleaned.{is_text, longest}
 use Rattle.csicodec_clean.specs.Titles.{title_open, with_titles}
 
--- So far behind the bytes the stream may be cut: the bytes up to there are whole parts, of which the last is a byte of text, in no title, and
--- of ASCII, behind which no character goes on.
+-- So far from the start the stream may be cut: the bytes up to there are whole parts, of which the last is a byte of text, in no title,
+-- and of ASCII, behind which no character goes on.
 pub record IsPlace (bytes : List ℕ) (at : ℕ) : Type 0 where
   pub before : List Part
   pub byte : ℕ
@@ -35,8 +35,8 @@ patience = 65536
 abbrev pub is_shown : ℕ → Bool
 is_shown b = nat_le 32 b && nat_lt b 127
 
--- The next place is behind this byte of text: it is far enough from the last one, and a newline. Or it is so far that none is waited for,
--- and such a character.
+-- The next place is behind this byte of text: it is far enough from the last one, and a newline. Or it is so far that none is waited
+-- for, and such a character.
 abbrev pub is_cut : Found → ℕ → Bool
 is_cut s b = nat_le (s.last + s.every) (suc s.at)
     && (b == 10 || nat_le (s.last + s.every + patience) (suc s.at) && is_shown b)

@@ -10,11 +10,13 @@ use csicodec_streams::RunError;
 use std::alloc::Global;
 use std::io::{Read, Write};
 
-/// Reads to the end, and writes where the stream may be cut: the offsets in decimal digits, a line for each, rising. Between two of them, and ahead
-/// of the first, stand `every` bytes at least.
+/// Reads to the end, and writes where the stream may be cut: the offsets in decimal digits, a line for each, rising. Between two of them,
+/// and ahead of the first, stand `every` bytes at least.
 ///
 /// A place is right behind the first newline that is far enough, of those in text. If none comes within 65536 bytes, it is behind the first
-/// ASCII character of text behind these that is no control. Text in a title (`ESC k`) has no place. It holds back a control sequence that isn't over, of fewer than 65536 bytes. An offset of more than 64 bits is told as the largest of
+/// ASCII character of text behind these that is no control. Text in a title (`ESC k`) has no place.
+///
+/// It holds back a control sequence that isn't over, of fewer than 65536 bytes. An offset of more than 64 bits is told as the largest of
 /// these. A read or a write that answers `Interrupted` is tried again. Any other error of a read is `RunError::Read`; any of a write or
 /// the flush, or a write that takes no byte, is `RunError::Write`; `RunError::Decode` never comes.
 ///

@@ -6,7 +6,8 @@ use Rattle.csicodec_cuts.proofs.finder.append_places.Given as goal
 abbrev pub invariant-loop-cut : goal.invariant-loop-cut
 invariant-loop-cut l = record {
   parts : (front : List ℕ) × (l.bytes ≡ front ++ l.rest);
-  goes : (text : List ℕ) × Goes l.fn.mode l.initial.titled l.initial.search l.bytes text l.rest l.mode l.titled l.search × (l.out.items ≡ l.initial.out.items ++ text);
+  goes : (text : List ℕ) × Goes l.fn.mode l.initial.titled l.initial.search l.bytes text l.rest l.mode l.titled l.search ×
+      (l.out.items ≡ l.initial.out.items ++ text);
 }
 
 abbrev pub decreases-loop-cut : goal.decreases-loop-cut

@@ -12,7 +12,8 @@ transform_all-requires-clause-begun g c = begun c.args.every c.new.result c.new.
 
 pub returns-clause-ok : goal.returns-clause-ok
 returns-clause-ok g c = on_ok_weaker c.transform_all.result
-    (λ (bytes, text, consumed, end, whole, appended). (bytes, text, consumed, end, tells c.args.every c.new.result c.new.ensures bytes text whole, appended))
+    (λ (bytes, text, consumed, end, whole, appended).
+    (bytes, text, consumed, end, tells c.args.every c.new.result c.new.ensures bytes text whole, appended))
     c.transform_all.ensures.ok
 
 pub returns-clause-front : goal.returns-clause-front
@@ -22,5 +23,6 @@ returns-clause-front g c =
     let is = c.new.ensures in
     on_err_weaker c.transform_all.result
     (λ (bytes, more, sent, consumed, begins, appended).
-    whole_front (Sends Passes first) (Transforms Passes Quiet first) (IsFrontOf (Tells every)) (shorter every first is) (front every first is) (whole_text every first is) bytes more sent _ _ _ _ consumed begins appended)
+    whole_front (Sends Passes first) (Transforms Passes Quiet first) (IsFrontOf (Tells every)) (shorter every first is)
+    (front every first is) (whole_text every first is) bytes more sent _ _ _ _ consumed begins appended)
     c.transform_all.ensures.front

@@ -3,4 +3,8 @@ use Rattle.std.proofs.lemmas.Fmt.{length-decimal-le}
 use Rattle.csicodec_cuts.proofs.search.append_line.Goals as goal
 
 pub write_digits-begin-requires : goal.write_digits-begin-requires
-write_digits-begin-requires c = (length-decimal-le 20 c.args.place (omega arith) (omega (arith, c.ranges.place.fits)) (omega (arith, c.ranges.place.fits)), omega arith)
+write_digits-begin-requires c = (
+  length-decimal-le 20 c.args.place (omega arith) (omega (arith, c.ranges.place.fits)) (omega
+      (arith, c.ranges.place.fits)),
+  omega arith,
+)

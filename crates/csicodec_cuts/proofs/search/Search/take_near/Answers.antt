@@ -19,6 +19,8 @@ loop-byte-preserved-in_ok-append_line c =
             behind_byte now byte,
             new,
             sym (ap (behind_text now) whole) ∙ behind,
-            append_assoc more line (told (cuts_in (behind_byte now byte) rest)) ∙ ap (λ t. more ++ t) (one_told now byte rest line is_one (ap line_of new.at)) ∙ ap (λ t. more ++ told (cuts_in now t)) (sym whole) ∙ text,
+            append_assoc more line (told (cuts_in (behind_byte now byte) rest))
+                ∙ ap (λ t. more ++ t) (one_told now byte rest line is_one (ap line_of new.at))
+                ∙ ap (λ t. more ++ told (cuts_in now t)) (sym whole) ∙ text,
           ),
     )

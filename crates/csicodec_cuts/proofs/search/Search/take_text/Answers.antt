@@ -10,12 +10,14 @@ returns c =
     let front = c.split_at.result.0.now in
     let rest = c.split_at.result.1.now in
     let text = c.args.text.now in
-    let whole : text ≡ front ++ rest = rw (c.split_at.ensures.front, c.split_at.ensures.back) (sym (take-append-drop c.min-len.result text)) in
+    let whole : text ≡ front ++ rest = rw (c.split_at.ensures.front, c.split_at.ensures.back) (sym
+    (take-append-drop c.min-len.result text)) in
     on_ok_weaker c.take_near.result
     (λ (more, finds, out). (
       more,
       (λ s is.
-          let both = skip s text front rest whole (skipped s front (omega (arith, is.near, c.saturating_sub.ensures, c.min-len.ensures, c.split_at.ensures.front_len))) in
+          let both = skip s text front rest whole (skipped s front (omega
+          (arith, is.near, c.saturating_sub.ensures, c.min-len.ensures, c.split_at.ensures.front_len))) in
           let (at, e) = finds (passed (length front) s) (c.pass.ensures s is) in
           (subst (IsAt c.take_near.new.self) both.0 at, e ∙ ap told both.1)),
       out,

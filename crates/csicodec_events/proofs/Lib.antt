@@ -14,3 +14,4 @@ pub mod Looked
 pub mod AllDivided
 pub mod Chunks
 pub mod Looks
+pub mod Costs

@@ -1,8 +1,8 @@
--- No byte of a control sequence is looked at again to find where it stops.
+-- How often the bytes of control sequences are looked at: no byte again to find where one stops.
 use Rattle.std.proofs.Common.{◌≡◌, ℕ, ◌+◌, ◌-◌, ◌*◌, ◌<◌, ◌≤◌, max, List, [], ◌∷◌, ◌++◌, length, take, drop, refl, sym, ap, ◌∙◌, inl, inr, append-nil, take_all, arith}
 use Rattle.std.specs.List.{concat, flat_map, prefix_len}
 use Rattle.std.specs.Prelude.{◌==◌, ◌&&◌, Bool, true, false, if◌then◌else◌}
-use Rattle.std.proofs.lemmas.Bool.{and_parts, eqb-true}
+use Rattle.std.proofs.lemmas.Bool.{and_parts, cases_lt, eqb-true}
 use Rattle.std.proofs.lemmas.List.{drop_at, length-append, length-drop, length-take}
 use Rattle.csicodec_tokens.specs.declared.param.CsiParam.{CsiParam}
 use Rattle.csicodec_spans.specs.declared.table.Mode.{Mode}
@@ -10,7 +10,7 @@ use Rattle.csicodec_events.specs.declared.event.Event.{Event}
 use Rattle.csicodec_events.specs.declared.event.Event.TheVariants as event
 use Rattle.csicodec_events.specs.declared.event.Events.{Events}
 use Rattle.csicodec_events.specs.declared.event.Told.{Told}
-use Rattle.csicodec_events.specs.Events.{AreTold, BeginsCsi, GoesWrong, InChunks, IsOpen, IsTold, Waits, before_stop, bytes_of, from_stop, is_passed, is_csi, looks, looks_in, looks_told, stop}
+use Rattle.csicodec_events.specs.Events.{AreTold, BeginsCsi, GoesWrong, InChunks, IsOpen, IsTold, Waits, before_stop, bytes_of, from_stop, is_passed, is_csi, looks, looks_in, looks_told, reach, stop}
 use Rattle.csicodec_events.proofs.AllDivided.{told_goes}
 use Rattle.csicodec_events.proofs.Divided.{esc_other, str_other, text_other}
 use Rattle.csicodec_events.proofs.Looked.{IsLooked, looked_met, looked_more, over_inside}
@@ -36,42 +36,53 @@ csi_false (a ∷ b ∷ bytes) other = refuted (a == 27 && b == 91) (λ e.
     let bracket = eqb-true b 91 h.1 in
     other (bytes, cc))
 
--- what stands before the place where it stops, and the byte there
-abbrev front : Events → List ℕ → ℕ
-front e bytes = length (take (stop e.looked bytes + 1) bytes)
-
-abbrev reads : Events → ℕ → ℕ
-reads after n = if after.looked == 0 then n else 0
+-- those that are read at once
+abbrev pub first : Events → ℕ → ℕ
+first e n = if e.looked == 0 then n else 0
 
 at_most : (t : Bool) (n : ℕ) → (if t then n else 0) ≤ n
 at_most true n = omega arith
 at_most false n = omega arith
 
-looks_most : (e after : Events) (bytes : List ℕ)
-    → looks e bytes after ≤ front e bytes - max 2 e.looked + reads after (front e bytes)
-looks_most e after bytes = at_most (is_csi bytes) (front e bytes - max 2 e.looked + reads after (front e bytes))
+looks_most : (e : Events) (bytes : List ℕ) (n : ℕ)
+    → looks e bytes n ≤ first e (reach e bytes) + (reach e bytes - max 2 e.looked) + 2 * n
+looks_most e bytes n = at_most (is_csi bytes) (first e (reach e bytes) + (reach e bytes - max 2 e.looked) + 2 * n)
 
-reads_most : (after : Events) (n : ℕ) → reads after n ≤ n
-reads_most after n = at_most (after.looked == 0) n
-
-reads_none : (after : Events) (n : ℕ) → 0 < after.looked → reads after n ≡ 0
-reads_none after n some = by (after.looked == 0) refl
+-- only where none was looked at before
+first_most : (e : Events) (n : ℕ) → (first e n ≤ n) × (0 < e.looked → first e n ≡ 0)
+first_most e n = (at_most (e.looked == 0) n, by (e.looked == 0) refl)
   where
-    by : (t : Bool) → (after.looked == 0) ≡ t → (if t then n else 0) ≡ 0
-    by true e = absurd (omega (arith, some, eqb-true after.looked 0 e))
-    by false e = refl
+    by : (t : Bool) → (e.looked == 0) ≡ t → 0 < e.looked → (if t then n else 0) ≡ 0
+    by true same some = absurd (omega (arith, some, eqb-true e.looked 0 same))
+    by false other some = refl
 
--- what was looked at, and what is looked at now, are bytes of the event, each twice at most, or noted
+csi_true : (bytes : List ℕ) → BeginsCsi bytes → is_csi bytes ≡ true
+csi_true bytes begins = ap is_csi begins.1
+
+pub looks_is : (e : Events) (bytes : List ℕ) (n : ℕ) → BeginsCsi bytes
+    → looks e bytes n ≡ first e (reach e bytes) + (reach e bytes - max 2 e.looked) + 2 * n
+looks_is e bytes n begins = ap (λ (t : Bool). if t then first e (reach e bytes) + (reach e bytes - max 2 e.looked) + 2 * n else 0) (csi_true bytes begins)
+
+pub first_all : (e : Events) (n : ℕ) → e.looked ≡ 0 → first e n ≡ n
+first_all e n none = ap (λ (k : ℕ). if k == 0 then n else 0) none
+
+-- what was looked at, and what is looked at now, are bytes of the event, each four times at most, or noted, each twice
 abbrev IsCounted : Events → List ℕ → List ℕ → Events → Type 0
 IsCounted e bytes text after =
-    looks e bytes after + (e.looked - 2) ≤ 2 * length text + (after.looked - 2)
+    looks e bytes (length text) + 2 * (e.looked - 1) ≤ 4 * length text + 2 * (after.looked - 1)
 
 none_counted : (e after : Events) (bytes text : List ℕ) → IsLooked e bytes → (BeginsCsi bytes → ⊥)
     → IsCounted e bytes text after
 none_counted e after bytes text (inl none) other =
-    let no : looks e bytes after ≡ 0 = ap (λ (t : Bool). if t then front e bytes - max 2 e.looked + reads after (front e bytes) else 0) (csi_false bytes other) in
+    let no : looks e bytes (length text) ≡ 0 = ap (λ (t : Bool). if t then first e (reach e bytes) + (reach e bytes - max 2 e.looked) + 2 * length text else 0) (csi_false bytes other) in
     omega (arith, none, no)
 none_counted e after bytes text (inr l) other = absurd (other l.0)
+
+by_looked : {P : Type 0} (e : Events) → (e.looked ≡ 0 → P) → (0 < e.looked → P) → P
+by_looked e f g = elim (cases_lt 0 e.looked) [
+  | inl lt ↦ g lt
+  | inr le ↦ f (omega (arith, le))
+]
 
 goes_longer : (over behind text rest : List ℕ) (m : Mode) → GoesWrong over behind text rest m
     → length over ≤ length text
@@ -89,17 +100,20 @@ told_counted (event.Control b) e bytes text rest list after l h =
     let place = (halves e bytes).some (omega (arith, ap length c.stands)) in
     let s = stop_behind e.looked bytes in
     let looked : after.looked ≡ length (before_stop e bytes) + 1 = ap (λ (a : Events). a.looked) c.looked in
-    let none = reads_none after (front e bytes) (omega (arith, looked)) in
-    let most = looks_most e after bytes in
-    omega (arith, most, none, looked, place, s.0, s.1, length-take (at + 1) bytes)
+    let most = looks_most e bytes (length text) in
+    let once = first_most e (reach e bytes) in
+    by_looked e (λ none. omega (arith, most, once.0, none, looked, place, s.0, s.1, length-take (at + 1) bytes))
+    (λ some. let no = once.1 some in omega (arith, most, no, some, looked, place, s.0, s.1, length-take (at + 1) bytes))
 told_counted (event.Csi final) e bytes text rest list after l h =
     let at = stop e.looked bytes in
     let c = h.1 in
     let place = (halves e bytes).some (omega (arith, ap length c.stands)) in
     let s = stop_behind e.looked bytes in
-    let most = looks_most e after bytes in
-    let whole = reads_most after (front e bytes) in
-    omega (arith, most, whole, place, s.0, s.1, length-take (at + 1) bytes, ap length c.whole, length-append (before_stop e bytes) (c.last ∷ []))
+    let most = looks_most e bytes (length text) in
+    let once = first_most e (reach e bytes) in
+    let long : length text ≡ length (before_stop e bytes) + 1 = ap length c.whole ∙ length-append (before_stop e bytes) (c.last ∷ []) in
+    by_looked e (λ none. omega (arith, most, once.0, none, place, s.0, s.1, length-take (at + 1) bytes, long))
+    (λ some. let no = once.1 some in omega (arith, most, no, some, place, s.0, s.1, length-take (at + 1) bytes, long))
 told_counted event.Esc e bytes text rest list after l h = none_counted e after bytes text l (esc_other e bytes text rest after h)
 told_counted event.Str e bytes text rest list after l h = none_counted e after bytes text l (str_other e bytes text rest after h)
 told_counted event.Other e bytes text rest list after l (inl h) = none_counted e after bytes text l h.0
@@ -108,9 +122,11 @@ told_counted event.Other e bytes text rest list after l (inr h) =
     let s = stop_behind e.looked bytes in
     let met = met_within e bytes (looked_met e bytes l) in
     let long = goes_longer (before_stop e bytes) (from_stop e bytes) text rest h.1.next h.1.goes in
-    let most = looks_most e after bytes in
-    let whole = reads_most after (front e bytes) in
-    omega (arith, most, whole, met, long, s.0, s.1, length-take at bytes, length-take (at + 1) bytes, ap length h.0.1)
+    let most = looks_most e bytes (length text) in
+    let once = first_most e (reach e bytes) in
+    let two = ap length h.0.1 in
+    by_looked e (λ none. omega (arith, most, once.0, none, met, long, s.0, s.1, length-take at bytes, length-take (at + 1) bytes, two))
+    (λ some. let no = once.1 some in omega (arith, most, no, some, met, long, s.0, s.1, length-take at bytes, length-take (at + 1) bytes, two))
 
 -- ---- where the stream waits
 
@@ -122,10 +138,12 @@ wait_counted e after bytes l (inl w) =
     let s = stop_behind e.looked bytes in
     let met = met_within e bytes (looked_met e bytes l) in
     let looked : after.looked ≡ length (before_stop e bytes) = ap (λ (a : Events). a.looked) o.looked in
-    let some : 2 ≤ after.looked = omega (arith, looked, s.1, length-take at bytes, ap length w.0.1) in
-    let none = reads_none after (front e bytes) (omega (arith, some)) in
-    let most = looks_most e after bytes in
-    omega (arith, most, none, looked, met, s.0, s.1, length-take at bytes, length-take (at + 1) bytes, length-drop at bytes, ap length o.ends, ap length w.0.1)
+    let most = looks_most e bytes 0 in
+    let once = first_most e (reach e bytes) in
+    let ends = ap length o.ends in
+    let two = ap length w.0.1 in
+    by_looked e (λ none. omega (arith, most, once.0, none, looked, met, s.0, s.1, length-take at bytes, length-take (at + 1) bytes, length-drop at bytes, ends, two))
+    (λ some. let no = once.1 some in omega (arith, most, no, some, looked, met, s.0, s.1, length-take at bytes, length-take (at + 1) bytes, length-drop at bytes, ends, two))
 wait_counted e after bytes l (inr (inl w)) = none_counted e after bytes [] l w.0
 wait_counted e after bytes l (inr (inr w)) = none_counted e after bytes [] l w.0
 
@@ -149,7 +167,7 @@ waits_looked e after bytes l (inr (inr w)) = rw w.2 l
 
 record AllCounted (e : Events) (told : List Told) (rest : List ℕ) (after : Events) (n : ℕ) : Type 0
   where
-    count : n + (e.looked - 2) ≤ 2 * length (flat_map bytes_of told) + (after.looked - 2)
+    count : n + 2 * (e.looked - 1) ≤ 4 * length (flat_map bytes_of told) + 2 * (after.looked - 1)
     looked : IsLooked after rest
 
 all_counted : (told : List Told) (e after : Events) (bytes rest : List ℕ) → IsLooked e bytes
@@ -178,7 +196,7 @@ chunks_counted (chunk ∷ chunks) e after held rest told l (now, later, kept, mi
 
 pub looks_once : (e after : Events) (chunks : List (List ℕ)) (told : List Told) (rest : List ℕ)
     → e.looked ≡ 0 → (c : InChunks e [] chunks told rest after)
-    → looks_in chunks e [] told rest after c ≤ 2 * length (concat chunks)
+    → looks_in chunks e [] told rest after c ≤ 4 * length (concat chunks)
 looks_once e after chunks told rest none c =
     let r = chunks_counted chunks e after [] rest told (inl none) c in
     let within = met_within after rest (looked_met after rest r.looked) in

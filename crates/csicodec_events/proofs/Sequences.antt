@@ -13,7 +13,7 @@ use Rattle.csicodec_events.specs.Events.{IsCsi, before_stop, from_stop, is_passe
 
 -- ---- bytes of a sequence
 
-passed_byte : (b : ℕ) → IsBodyByte b → is_passed b ≡ true
+pub passed_byte : (b : ℕ) → IsBodyByte b → is_passed b ≡ true
 passed_byte b h = grind (arith, nat_tests)
 
 passed_final : (b : ℕ) → IsFinal b → is_passed b ≡ false

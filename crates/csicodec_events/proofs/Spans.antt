@@ -32,14 +32,14 @@ pub span_told : (e : Events) (bytes : List ℕ) (t : Told) (list : List CsiParam
     → after ≡ onward e m 0 → Cuts e.limit e.mode bytes k text rest m → IsMaximal k m rest
     → (IsSpan e k bytes t.bytes.now t.rest.now after
     → IsTold x e bytes t.bytes.now t.rest.now list after)
-    → HasTold e bytes t list after
+    → HasTold e bytes t.event t.bytes.now t.rest.now list after
 span_told e bytes t list after m k x text rest limit none is front back on cuts maximal tells =
     let parts = cut_parts e.limit e.mode bytes k text rest m cuts in
     let some = cut_some e.limit e.mode bytes k text rest m limit cuts in
     let front' : t.bytes.now ≡ text = front ∙ ap (λ (l : List ℕ). take (length text) l) parts ∙ take-append_seam text rest in
     let back' : t.rest.now ≡ rest = back ∙ ap (λ (l : List ℕ). drop (length text) l) parts ∙ drop-append_seam text rest in
     let span : IsSpan e k bytes t.bytes.now t.rest.now after = record { next = m; cuts = rw (front', back') cuts; maximal = rw back' maximal; on = on } in
-    told_on e bytes t list after m x is on (tells span) (record {
+    told_on e bytes t.event t.bytes.now t.rest.now list after m x is on (tells span) (record {
       parts = rw (front', back') parts;
       some = omega (arith, some, ap length front');
       further = omega (arith, some, none, ap length front');
@@ -52,7 +52,7 @@ pub text_told : (e : Events) (bytes : List ℕ) (t : Told) (list : List CsiParam
     → t.bytes.now ≡ take n bytes → t.rest.now ≡ drop n bytes → after ≡ onward e m 0
     → Cuts e.limit e.mode bytes kind.Text span behind m → IsMaximal kind.Text m behind
     → n ≤ length span → 0 < n → IsHeld (take n span) (drop n span) behind
-    → HasTold e bytes t list after
+    → HasTold e bytes t.event t.bytes.now t.rest.now list after
 text_told e bytes t list after m n span behind none is front back on cuts maximal le some holds =
     let parts = cut_parts e.limit e.mode bytes kind.Text span behind m cuts in
     let halves = take-append-drop n span in
@@ -60,7 +60,7 @@ text_told e bytes t list after m n span behind none is front back on cuts maxima
     let back' : t.rest.now ≡ drop n span ++ behind = back ∙ ap (λ (l : List ℕ). drop n l) parts ∙ drop-append-le n span behind le in
     let whole : bytes ≡ take n span ++ (drop n span ++ behind) = parts ∙ ap (λ (l : List ℕ). l ++ behind) (sym halves) ∙ append_assoc (take n span) (drop n span) behind in
     let long : length t.bytes.now ≡ n = omega (arith, ap length front', length-take n span, le) in
-    told_on e bytes t list after m event.Text is on (record {
+    told_on e bytes t.event t.bytes.now t.rest.now list after m event.Text is on (record {
       some = omega (arith, long, some);
       held = drop n span;
       behind = behind;

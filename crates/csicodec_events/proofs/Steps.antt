@@ -4,7 +4,6 @@ use Rattle.std.proofs.lemmas.List.{length-append, length-take, length-drop, take
 use Rattle.csicodec_tokens.specs.declared.param.CsiParam.{CsiParam}
 use Rattle.csicodec_spans.specs.declared.table.Mode.{Mode}
 use Rattle.csicodec_events.specs.declared.event.Event.{Event}
-use Rattle.csicodec_events.specs.declared.event.Event.TheVariants as event
 use Rattle.csicodec_events.specs.declared.event.Events.{Events}
 use Rattle.csicodec_events.specs.declared.event.Told.{Told}
 use Rattle.csicodec_events.specs.Events.{IsCsi, IsTold, before_stop, from_stop, onward, stop}
@@ -42,17 +41,17 @@ pub record IsFurther (e : Events) (bytes text rest : List ℕ) : Type 0 where
   pub further : e.looked < 2 * length text
 
 -- an event of such bytes, behind which nothing is looked at
-pub told_on : (e : Events) (bytes : List ℕ) (t : Told) (list : List CsiParam) (after : Events)
-    (m : Mode) (x : Event) → t.event ≡ x → after ≡ onward e m 0
-    → IsTold x e bytes t.bytes.now t.rest.now list after → IsFurther e bytes t.bytes.now t.rest.now
-    → HasTold e bytes t list after
-told_on e bytes t list after m x is on tells f =
+pub told_on : (e : Events) (bytes : List ℕ) (y : Event) (text rest : List ℕ) (list : List CsiParam)
+    (after : Events) (m : Mode) (x : Event) → y ≡ x → after ≡ onward e m 0
+    → IsTold x e bytes text rest list after → IsFurther e bytes text rest
+    → HasTold e bytes y text rest list after
+told_on e bytes y text rest list after m x is on tells f =
     let none : after.looked ≡ 0 = ap (λ (a : Events). a.looked) on in
     let count = ap length f.parts in
     record {
-      tells = subst (λ (y : Event). IsTold y e bytes t.bytes.now t.rest.now list after) (sym is) tells;
+      tells = subst (λ (z : Event). IsTold z e bytes text rest list after) (sym is) tells;
       parts = f.parts;
-      progress = omega (arith, none, count, f.further, f.some, length-append t.bytes.now t.rest.now);
+      progress = omega (arith, none, count, f.further, f.some, length-append text rest);
       again = inl none;
       limit = ap (λ (a : Events). a.limit) on;
     }
@@ -88,7 +87,8 @@ match_some P Q S None h g = tt
 match_some P Q S (Some x) h g = g x h
 
 pub match_limit : (e : Events) (bytes : List ℕ) (after : Events) (o : Option Told)
-    → MatchOption o (HasWaited e bytes after) (λ (t : Told). HasTold e bytes t [] after)
+    → MatchOption o (HasWaited e bytes after)
+    (λ (t : Told). HasTold e bytes t.event t.bytes.now t.rest.now [] after)
     → after.limit ≡ e.limit
 match_limit e bytes after None h = h.limit
 match_limit e bytes after (Some t) h = h.limit

@@ -1,18 +1,20 @@
 -- What is told where a sequence stops, by the byte there.
-use Rattle.std.proofs.Common.{◌≡◌, ℕ, ◌+◌, ◌-◌, ◌<◌, ◌≤◌, false, List, [], ◌∷◌, ◌++◌, length, take, drop, refl, sym, ap, subst, ◌∙◌, append_assoc, append-nil, slice_index_or, arith}
+use Rattle.std.proofs.Common.{◌≡◌, ℕ, ◌+◌, ◌-◌, ◌<◌, ◌≤◌, Bool, true, false, cond, filter, inl, inr, List, [], ◌∷◌, ◌++◌, length, take, drop, refl, sym, ap, subst, ◌∙◌, append_assoc, append-nil, slice_index_or, arith}
 use Rattle.std.proofs.Math.Seq.{take-append_seam, drop-append_seam}
 use Rattle.std.proofs.lemmas.List.{length-append, length-take, length-drop, take-append-drop}
 use Rattle.csicodec_tokens.specs.declared.param.CsiParam.{CsiParam}
-use Rattle.csicodec_tokens.specs.Sequence.{Reads, Seq}
+use Rattle.std.proofs.lemmas.Bool.Decides.{nat_tests}
+use Rattle.std.proofs.lemmas.List.Elements.{filter-append}
+use Rattle.csicodec_tokens.specs.Sequence.{IsFinal, Reads, Seq}
 use Rattle.csicodec_spans.specs.declared.table.Mode.TheVariants as mode
 use Rattle.csicodec_spans.proofs.Sequences.{short, whole}
+use Rattle.csicodec_events.specs.declared.event.Event.{Event}
 use Rattle.csicodec_events.specs.declared.event.Event.TheVariants as event
 use Rattle.csicodec_events.specs.declared.event.Events.{Events}
-use Rattle.csicodec_events.specs.declared.event.Told.{Told}
-use Rattle.csicodec_events.specs.Events.{BeginsCsi, IsCsi, IsWrongAt, before_stop, from_stop, is_control, onward, stop, without_controls}
+use Rattle.csicodec_events.specs.Events.{BeginsCsi, GoesWrong, IsCsi, IsWrong, IsWrongAt, before_stop, from_stop, is_control, is_final, is_passed, is_read, onward, stop, without_controls}
 use Rattle.csicodec_events.specs.Private.Steps.{HasTold}
 use Rattle.csicodec_events.proofs.Sequences.{at_once}
-use Rattle.csicodec_events.proofs.Steps.{csi_further, told_on}
+use Rattle.csicodec_events.proofs.Steps.{csi_further, stop_behind, told_on}
 
 -- all of the bytes are read
 pub whole_reads : (read bytes : List ℕ) (list : List CsiParam) (final : ℕ)
@@ -48,31 +50,31 @@ next_place bytes at b more e =
 
 -- ---- a sequence that is read at once
 
-pub read_told : (e : Events) (bytes tail : List ℕ) (list : List CsiParam) (final : ℕ) (t : Told)
-    (after : Events) → e.looked ≡ 0 → BeginsCsi bytes → Reads (take e.limit bytes) list final tail
-    → t.event ≡ event.Csi final
-    → t.bytes.now ≡ take (length (take e.limit bytes) - length tail) bytes
-    → t.rest.now ≡ drop (length (take e.limit bytes) - length tail) bytes
-    → after ≡ onward e mode.Text 0 → HasTold e bytes t list after
-read_told e bytes tail list final t after none begins r is front back on =
+pub read_told : (e : Events) (bytes tail : List ℕ) (list : List CsiParam) (final : ℕ)
+    (y : Event) (text rest : List ℕ) (after : Events) → e.looked ≡ 0 → BeginsCsi bytes → Reads (take e.limit bytes) list final tail
+    → y ≡ event.Csi final
+    → text ≡ take (length (take e.limit bytes) - length tail) bytes
+    → rest ≡ drop (length (take e.limit bytes) - length tail) bytes
+    → after ≡ onward e mode.Text 0 → HasTold e bytes y text rest list after
+read_told e bytes tail list final y text rest after none begins r is front back on =
     let n = length (take e.limit bytes) - length tail in
     let seq = whole e.limit bytes tail list final r in
     let csi = at_once e bytes (take n bytes) (drop n bytes) list final none seq (sym (take-append-drop n bytes)) (short e.limit bytes tail) in
-    let here : IsCsi e (before_stop e bytes) (from_stop e bytes) list final t.bytes.now t.rest.now after = rw (front, back, on) csi in
-    told_on e bytes t list after mode.Text (event.Csi final) is on (begins, here) (csi_further e bytes list final t.bytes.now t.rest.now after here)
+    let here : IsCsi e (before_stop e bytes) (from_stop e bytes) list final text rest after = rw (front, back, on) csi in
+    told_on e bytes y text rest list after mode.Text (event.Csi final) is on (begins, here) (csi_further e bytes list final text rest after here)
 
 -- ---- a sequence with controls in it
 
 pub csi_told : (e : Events) (bytes : List ℕ) (list : List CsiParam) (b final : ℕ) (more : List ℕ)
-    (t : Told) (after : Events) → BeginsCsi bytes → from_stop e bytes ≡ b ∷ more
+    (y : Event) (text rest : List ℕ) (after : Events) → BeginsCsi bytes → from_stop e bytes ≡ b ∷ more
     → stop e.looked bytes < e.limit
     → Seq (without_controls (take (stop e.looked bytes + 1) bytes)) list final
-    → t.event ≡ event.Csi final → t.bytes.now ≡ take (stop e.looked bytes + 1) bytes
-    → t.rest.now ≡ drop (stop e.looked bytes + 1) bytes → after ≡ onward e mode.Text 0
-    → HasTold e bytes t list after
-csi_told e bytes list b final more t after begins stands low seq is front back on =
+    → y ≡ event.Csi final → text ≡ take (stop e.looked bytes + 1) bytes
+    → rest ≡ drop (stop e.looked bytes + 1) bytes → after ≡ onward e mode.Text 0
+    → HasTold e bytes y text rest list after
+csi_told e bytes list b final more y text rest after begins stands low seq is front back on =
     let n = next_place bytes (stop e.looked bytes) b more stands in
-    let here : IsCsi e (before_stop e bytes) (from_stop e bytes) list final t.bytes.now t.rest.now after = record {
+    let here : IsCsi e (before_stop e bytes) (from_stop e bytes) list final text rest after = record {
       last = b;
       stands = stands ∙ ap (λ (x : List ℕ). b ∷ x) (sym (back ∙ n.back));
       whole = front ∙ n.front;
@@ -80,7 +82,7 @@ csi_told e bytes list b final more t after begins stands low seq is front back o
       seq = rw front seq;
       closed = on;
     } in
-    told_on e bytes t list after mode.Text (event.Csi final) is on (begins, here) (csi_further e bytes list final t.bytes.now t.rest.now after here)
+    told_on e bytes y text rest list after mode.Text (event.Csi final) is on (begins, here) (csi_further e bytes list final text rest after here)
 
 -- ---- what goes wrong
 
@@ -97,3 +99,43 @@ pub no_sequence : (limit : ℕ) (bytes : List ℕ) (at b : ℕ) (more : List ℕ
 no_sequence limit bytes at b more e other none =
     let n = next_place bytes at b more e in
     subst (λ (x : List ℕ). IsWrongAt limit (take at bytes) x) (sym e) (λ lt. (other, λ list final s. none list final (subst (λ (x : List ℕ). Seq (without_controls x) list final) (sym n.front) s)))
+
+-- a final byte stands there
+pub wrong_told : (e : Events) (bytes : List ℕ) (at b : ℕ) (more : List ℕ) (y : Event)
+    (text rest : List ℕ) (list : List CsiParam) (after : Events) → BeginsCsi bytes
+    → at ≡ stop e.looked bytes → drop at bytes ≡ b ∷ more → is_final b ≡ true
+    → IsWrongAt e.limit (before_stop e bytes) (from_stop e bytes) → y ≡ event.Other
+    → text ≡ take (at + 1) bytes → rest ≡ drop (at + 1) bytes → after ≡ onward e mode.Text 0
+    → HasTold e bytes y text rest list after
+wrong_told e bytes at b more y text rest list after begins place stands final why is front back on =
+    let n = next_place bytes at b more stands in
+    let over : take at bytes ≡ before_stop e bytes = ap (λ (k : ℕ). take k bytes) place in
+    let behind : b ∷ more ≡ from_stop e bytes = sym stands ∙ ap (λ (k : ℕ). drop k bytes) place in
+    let goes : GoesWrong (before_stop e bytes) (from_stop e bytes) text rest mode.Text = subst (λ (x : List ℕ). GoesWrong (before_stop e bytes) x text rest mode.Text) behind
+    (inl (final, front ∙ n.front ∙ ap (λ (x : List ℕ). x ++ b ∷ []) over, back ∙ n.back, refl)) in
+    let wrong : IsWrong e (before_stop e bytes) (from_stop e bytes) text rest after = record { next = mode.Text; why = why; goes = goes; on = on } in
+    let s = stop_behind e.looked bytes in
+    let long : length text ≡ at + 1 = ap length (front ∙ n.front) ∙ omega (arith, n.len, length-append (take at bytes) (b ∷ [])) in
+    told_on e bytes y text rest list after mode.Text event.Other is on (inr (begins, wrong))
+    (record { parts = rw (front, back) (sym (take-append-drop (at + 1) bytes)); some = omega (arith, long); further = omega (arith, long, place, s.0) })
+
+-- no sequence ends with any other byte
+last_same : (xs ys : List ℕ) (a b : ℕ) → xs ++ a ∷ [] ≡ ys ++ b ∷ [] → a ≡ b
+last_same [] [] a b e = cc
+last_same [] (y ∷ ys) a b e = absurd (omega (arith, ap length e, length-append ys (b ∷ [])))
+last_same (x ∷ xs) [] a b e = absurd (omega (arith, ap length e, length-append xs (a ∷ [])))
+last_same (x ∷ xs) (y ∷ ys) a b e = last_same xs ys a b (ap (drop 1) e)
+
+read_byte : (b : ℕ) → is_control b ≡ false → is_passed b ≡ false → is_read b ≡ true
+read_byte b control passed = grind (arith, nat_tests)
+
+final_byte : (b : ℕ) → IsFinal b → is_final b ≡ false → ⊥
+final_byte b final none = grind (arith, nat_tests)
+
+pub no_final : (over : List ℕ) (b : ℕ) → is_control b ≡ false → is_passed b ≡ false
+    → is_final b ≡ false → (list : List CsiParam) (final : ℕ)
+    → Seq (without_controls (over ++ b ∷ [])) list final → ⊥
+no_final over b control passed none list final s =
+    let split : without_controls (over ++ b ∷ []) ≡ filter is_read over ++ b ∷ [] = filter-append is_read over (b ∷ []) ∙ ap (λ (t : Bool). filter is_read over ++ cond t (b ∷ []) []) (read_byte b control passed) in
+    let last = last_same (filter is_read over) (27 ∷ 91 ∷ s.body) b final (sym split ∙ s.whole) in
+    final_byte b (subst IsFinal (sym last) s.ends) none

@@ -2,7 +2,7 @@
 --
 -- All but control sequences are as the table of modes cuts them (`Cuts` of csicodec_spans). Of a control sequence DEC's terminals
 -- and xterm carry out each C0 control within it when it comes, ignore DEL, and read the sequence as if neither were there.
-use Rattle.std.specs.Prelude.{ℕ, ◌≡◌, ◌+◌, ◌-◌, ◌*◌, ◌<◌, ◌≤◌, ◌⊎◌, ◌==◌, ◌&&◌, max, Bool, true, false, not, filter, if◌then◌else◌, List, [], ◌∷◌, ◌++◌, length, take, drop}
+use Rattle.std.specs.Prelude.{ℕ, ◌≡◌, ◌+◌, ◌-◌, ◌*◌, ◌<◌, ◌≤◌, ◌⊎◌, ◌==◌, ◌&&◌, max, Bool, true, false, not, filter, if◌then◌else◌, Option, Some, None, List, [], ◌∷◌, ◌++◌, length, take, drop}
 use Rattle.std.specs.List.{flat_map, prefix_len}
 use Rattle.csicodec_tokens.specs.declared.param.CsiParam.{CsiParam}
 use Rattle.csicodec_tokens.specs.Sequence.{Seq}
@@ -227,25 +227,36 @@ pub record AreAlike (told others : List Told) (rest rest' : List ℕ)
   pub waits : rest ≡ rest'
   pub on : after ≡ after'
 
--- ---- how often a byte of a control sequence is looked at
+-- ---- how often the bytes of control sequences are looked at
 
 abbrev pub is_csi : List ℕ → Bool
 is_csi (a ∷ b ∷ bytes) = a == 27 && b == 91
 is_csi bytes = false
 
--- How many bytes are looked at of a control sequence in front: to find where it stops, those behind what was looked at, up to there
--- and with the one there; and where it is over, all of these once more, to read it.
-abbrev pub looks : Events → List ℕ → Events → ℕ
-looks e bytes after =
-    let front = length (take (stop e.looked bytes + 1) bytes) in
-    if is_csi bytes then front - max 2 e.looked + (if after.looked == 0 then front else 0) else 0
+-- up to where a sequence stops, and with the byte there
+abbrev pub reach : Events → List ℕ → ℕ
+reach e bytes = length (take (stop e.looked bytes + 1) bytes)
+
+-- How often a byte is looked at of a control sequence in front, where so many bytes are used: once, to read it at once, if none was
+-- looked at before; to find where it stops, those behind what was looked at; and twice more what is used, to leave out the controls and
+-- to read what is left.
+abbrev pub looks : Events → List ℕ → ℕ → ℕ
+looks e bytes used =
+    if is_csi bytes then (if e.looked == 0 then reach e bytes else 0)
+    + (reach e bytes - max 2 e.looked) + 2 * used
+    else 0
+
+-- how many bytes an event has, if there is one
+abbrev pub used : Option (Event × ℕ) → ℕ
+used None = 0
+used (Some (event, n)) = n
 
 -- .. for these events, one after the other
 abbrev pub looks_told : (told : List Told) (e : Events) (bytes rest : List ℕ) (after : Events)
     → AreTold e bytes told rest after → ℕ
 looks_told [] e bytes rest after s = 0
 looks_told (t ∷ told) e bytes rest after (list, mid, tells, others) =
-    looks e bytes mid + looks_told told mid t.rest.now rest after others
+    looks e bytes (length t.bytes.now) + looks_told told mid t.rest.now rest after others
 
 -- .. in all chunks, for the events of each and then until it waits
 abbrev pub looks_in : (chunks : List (List ℕ)) (e : Events) (held : List ℕ) (told : List Told)
@@ -253,5 +264,5 @@ abbrev pub looks_in : (chunks : List (List ℕ)) (e : Events) (held : List ℕ) 
 looks_in [] e held told rest after c = 0
 looks_in (chunk ∷ chunks) e held told rest after
     (now, later, kept, mid, waiting, whole, first, waits, others) =
-    looks_told now e (held ++ chunk) kept mid first + looks mid kept waiting
+    looks_told now e (held ++ chunk) kept mid first + looks mid kept 0
     + looks_in chunks waiting kept later rest after others

@@ -1,4 +1,5 @@
 pub mod Characters
 pub mod Events
+pub mod Front
 pub mod Input
 pub mod Private

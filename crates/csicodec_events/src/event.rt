@@ -7,6 +7,9 @@ ghost use Rattle.csicodec_spans.specs.Parts.{Cuts, IsMaximal};
 ghost use Rattle.csicodec_events.specs.Events.{BeginsCsi, IsMet, Tells, Waits, left, onward};
 ghost use Rattle.csicodec_events.specs.Private.Steps.{HasTold, HasWaited};
 
+use crate::front::Front;
+use crate::input::behind;
+use crate::sequence::near;
 use crate::text::held_len;
 use csicodec_spans::{Cut, Kind, Mode, next_span};
 use csicodec_tokens::CsiParam;
@@ -115,7 +118,7 @@ impl Events {
         requires looked { self.old.looked ≡ 0 }
         ensures { (list : List CsiParam)
             → MatchOption result (HasWaited self.old bytes.now self.new)
-            (λ t. HasTold self.old bytes.now t list self.new) }
+            (λ t. HasTold self.old bytes.now t.event t.bytes.now t.rest.now list self.new) }
     {
         let len = cut.span.bytes.len() - held_len(cut.span.bytes, cut.rest);
         if len == 0 {
@@ -131,7 +134,7 @@ impl Events {
         requires looked { self.old.looked ≡ 0 }
         ensures { (list : List CsiParam)
             → MatchOption result (HasWaited self.old bytes.now self.new)
-            (λ t. HasTold self.old bytes.now t list self.new) }
+            (λ t. HasTold self.old bytes.now t.event t.bytes.now t.rest.now list self.new) }
     {
         let Some(cut) = next_span(self.limit, self.mode, bytes) else {
             return None;
@@ -181,10 +184,16 @@ impl Events {
         ensures limit { OnOk result (self.new.limit ≡ self.old.limit) }
         ensures memory { OnErr result (self.new ≡ self.old) }
     {
-        if begins_csi(bytes) {
-            self.sequence(bytes, params)
-        } else {
-            Ok(self.span(bytes))
+        if !begins_csi(bytes) {
+            return Ok(self.span(bytes));
+        }
+        match self.next_over(&mut Front::new(bytes), params)? {
+            Some((event, len)) => Ok(Some(Told {
+                event,
+                bytes: near(len, bytes),
+                rest: behind(bytes, len),
+            })),
+            None => Ok(None),
         }
     }
 }

@@ -147,7 +147,7 @@ fn char_width(dialect: Dialect, bytes: &[u8]) -> Width
     }
 }
 
-fn behind(bytes: &[u8], len: usize) -> &[u8]
+pub(crate) fn behind(bytes: &[u8], len: usize) -> &[u8]
     ensures { result.now ≡ drop len bytes.now }
 {
     bytes.get(len..).unwrap_or(&[])

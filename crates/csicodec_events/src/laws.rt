@@ -31,9 +31,10 @@ pub fn any_chunks()
         → AreAlike told told' rest rest' after after' }
 {}
 
-/// In whatever chunks a stream comes, and however many they are, no more than twice its bytes are looked at for its control sequences: to
-/// find where one stops, only those that weren't looked at before, since where that is doesn't depend on the others, and once more all
-/// of it, to read it.
+/// In whatever chunks a stream comes, and however many they are, no more than four times its bytes are looked at for its control
+/// sequences, where each call takes as many looks as `cheap` of [`Events::next_over`](crate::Events::next_over) lets it: to read a sequence
+/// at once, those that came first; to find where it stops, only those that weren't looked at before, since where that is doesn't depend on
+/// the others; and twice more all of it, to leave out its controls and to read it.
 #[tactic(auto, using(crate::proofs::Looks::looks_once, crate::proofs::Looks::stops_behind))]
 pub fn looks()
     ensures behind { (looked : ℕ) (front other bytes : List ℕ) → 2 ≤ looked
@@ -41,7 +42,7 @@ pub fn looks()
         → stop looked (front ++ bytes) ≡ stop looked (other ++ bytes) }
     ensures once { (e after : Events) (chunks : List (List ℕ)) (told : List Told) (rest : List ℕ)
         → e.looked ≡ 0 → (c : InChunks e [] chunks told rest after)
-        → looks_in chunks e [] told rest after c ≤ 2 * length (concat chunks) }
+        → looks_in chunks e [] told rest after c ≤ 4 * length (concat chunks) }
 {}
 
 /// What is told of a control sequence that waited is told of it where it comes at once.

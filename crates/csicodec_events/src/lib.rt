@@ -7,11 +7,13 @@
 #![tactic(auto)]
 
 mod event;
+mod front;
 mod input;
 pub mod laws;
 mod sequence;
 mod text;
 
 pub use event::{Event, Events, Told, begins_csi};
+pub use front::Front;
 pub use input::{Dialect, InputEvent, Sent};
 pub use sequence::append_read;

@@ -1,17 +1,17 @@
 -- What one step of a stream promises to the next.
-use Rattle.std.specs.Prelude.{ℕ, ◌≡◌, ◌<◌, List, ◌++◌}
+use Rattle.std.specs.Prelude.{ℕ, ◌≡◌, ◌<◌, Option, None, Some, false, List, [], ◌∷◌, ◌++◌, take, drop}
 use Rattle.csicodec_tokens.specs.declared.param.CsiParam.{CsiParam}
 use Rattle.csicodec_events.specs.declared.event.Events.{Events}
-use Rattle.csicodec_events.specs.declared.event.Told.{Told}
-use Rattle.csicodec_events.specs.Events.{IsMet, Tells, Waits, left}
+use Rattle.csicodec_events.specs.declared.event.Event.{Event}
+use Rattle.csicodec_events.specs.Events.{IsMet, IsTold, Waits, is_passed, left}
 
 -- an event was told
-pub record HasTold (e : Events) (bytes : List ℕ) (told : Told) (list : List CsiParam)
-    (after : Events) : Type 0 where
-  pub tells : Tells e bytes told list after
-  pub parts : bytes ≡ told.bytes.now ++ told.rest.now
-  pub progress : left after told.rest.now < left e bytes
-  pub again : IsMet after told.rest.now
+pub record HasTold (e : Events) (bytes : List ℕ) (event : Event) (text rest : List ℕ)
+    (list : List CsiParam) (after : Events) : Type 0 where
+  pub tells : IsTold event e bytes text rest list after
+  pub parts : bytes ≡ text ++ rest
+  pub progress : left after rest < left e bytes
+  pub again : IsMet after rest
   pub limit : after.limit ≡ e.limit
 
 -- none was
@@ -19,3 +19,12 @@ pub record HasWaited (e : Events) (bytes : List ℕ) (after : Events) : Type 0 w
   pub waits : Waits e bytes after
   pub again : (more : List ℕ) → IsMet after (bytes ++ more)
   pub limit : after.limit ≡ e.limit
+
+-- .. of the first bytes, so many
+abbrev pub HasFound : Events → List ℕ → Event → ℕ → List CsiParam → Events → Type 0
+HasFound e bytes event n list after = HasTold e bytes event (take n bytes) (drop n bytes) list after
+
+-- the byte where a sequence stops, if it doesn't stop where the bytes end
+abbrev pub StandsAt : Option ℕ → List ℕ → Type 0
+StandsAt None behind = behind ≡ []
+StandsAt (Some b) behind = (is_passed b ≡ false) × ((more : List ℕ) × (behind ≡ b ∷ more))

@@ -1,17 +1,14 @@
-use Rattle.std.proofs.Common.{◌≡◌, ◌-◌, ℕ, List, length, take, drop, subst}
-use Rattle.csicodec_tokens.specs.Sequence.{Reads}
+use Rattle.std.proofs.Common.{◌≡◌, ◌-◌, ℕ, length, take, drop, ap, ◌∙◌, arith}
+use Rattle.csicodec_events.specs.declared.event.Event.{Event}
 use Rattle.csicodec_events.proofs.Stops.{read_told}
 use Rattle.csicodec_events.proofs.event.Events.at_once.Goals as goal
 
-pub returns-in-Ok-clause-some : goal.returns-in-Ok-clause-some
-returns-in-Ok-clause-some c =
+pub returns-in-Some-clause-some : goal.returns-in-Some-clause-some
+returns-in-Some-clause-some c =
     let e = c.args.self.now in
-    let bytes = c.args.bytes.now in
-    let tail = c.in-Ok.tail in
-    let list = c.read_csi_into.new.params.items in
-    let t = c.tell.ensures in
-    let near = c.near-front.ensures in
-    let reads = subst (λ (x : List ℕ). Reads x list tail.control tail.rest.now) near c.in-Ok.ensures.found in
-    let front = subst (λ (x : List ℕ). c.tell.result.bytes.now ≡ take (length x - length tail.rest.now) bytes) near t.bytes in
-    let back = subst (λ (x : List ℕ). c.tell.result.rest.now ≡ drop (length x - length tail.rest.now) bytes) near t.rest in
-    read_told e bytes tail.rest.now list tail.control c.tell.result c.tell.new.self c.requires.looked c.requires.begins reads t.event front back t.onward
+    let bytes = c.args.front.now.bytes in
+    let r = rw c.in-Some.is at c.in_ok-control.ensures.read in
+    let size = r.1.1 in
+    let len : c.found.result.1 ≡ length (take e.limit bytes) - length r.0 = ap (λ (x : Event × ℕ). x.1) c.found.ensures.event ∙ omega (arith, size) in
+    read_told e bytes r.0 c.read.new.params.items c.in-Some.control c.found.result.0 (take c.found.result.1 bytes) (drop c.found.result.1 bytes) c.found.new.self c.requires.looked c.requires.begins r.1.0
+    (ap (λ (x : Event × ℕ). x.0) c.found.ensures.event) (ap (λ (k : ℕ). take k bytes) len) (ap (λ (k : ℕ). drop k bytes) len) c.found.ensures.onward

@@ -1,0 +1,98 @@
+-- Where a reader stops, with a sequence or without one: no further than the sequence does.
+use Rattle.std.proofs.Common.{◌≡◌, ℕ, ◌+◌, ◌≤◌, ◌⊎◌, Bool, cond, refl, subst, List, [], ◌∷◌, ◌++◌, length, take, drop, sym, ap, ◌∙◌, inl, inr, append_assoc, arith}
+use Rattle.std.specs.List.{AllByRecursion, prefix_len}
+use Rattle.std.proofs.lemmas.List.{length-append, length-take, take-append-drop}
+use Rattle.csicodec_tokens.specs.declared.param.CsiParam.{CsiParam}
+use Rattle.csicodec_tokens.specs.declared.reader.ReadError.{ReadError}
+use Rattle.csicodec_tokens.specs.declared.reader.ReadError.TheVariants.{NotCsi, BadByte, NumberTooLarge, Truncated, Memory}
+use Rattle.csicodec_tokens.specs.Fault.{Begins, FaultOf, IsLeast, Refuses}
+use Rattle.csicodec_tokens.specs.Sequence.{IsBodyByte, Reads}
+use Rattle.csicodec_tokens.proofs.Spelled.{IsBody-from_spelling}
+use Rattle.csicodec_events.specs.Events.{is_passed, stop}
+use Rattle.csicodec_events.proofs.Sequences.{passed_byte}
+
+passed_more : (body rest : List ℕ) → AllByRecursion IsBodyByte body
+    → length body ≤ prefix_len is_passed (body ++ rest)
+passed_more [] rest h = omega arith
+passed_more (b ∷ body) rest h =
+    let first : prefix_len is_passed (b ∷ (body ++ rest)) ≡ 1 + prefix_len is_passed (body ++ rest) =
+    ap (λ (t : Bool). cond t (1 + prefix_len is_passed (body ++ rest)) 0) (passed_byte b h.0) in
+    let others = passed_more body rest h.1 in
+    omega (arith, first, others)
+
+body_stop : (bytes body rest : List ℕ) → AllByRecursion IsBodyByte body
+    → bytes ≡ 27 ∷ 91 ∷ (body ++ rest) → 2 + length body ≤ stop 0 bytes
+body_stop bytes body rest h e =
+    let passed : prefix_len is_passed (drop 2 bytes) ≡ prefix_len is_passed (body ++ rest) = ap (λ (x : List ℕ). prefix_len is_passed (drop 2 x)) e in
+    let more = passed_more body rest h in
+    omega (arith, passed, more)
+
+begun_stop : (bytes front rest : List ℕ) → Begins front → bytes ≡ front ++ rest
+    → length front ≤ stop 0 bytes
+begun_stop bytes front rest (inl none) e = omega (arith, ap length none)
+begun_stop bytes front rest (inr (inl one)) e = omega (arith, ap length one)
+begun_stop bytes front rest (inr (inr b)) e =
+    let long = ap length b.1 in
+    let most = body_stop bytes b.0 rest b.2.bytes (e ∙ ap (λ (x : List ℕ). x ++ rest) b.1) in
+    omega (arith, most, long)
+
+-- all of them begin a sequence
+pub all_cost : (limit : ℕ) (bytes : List ℕ) → Begins (take limit bytes)
+    → length (take limit bytes) ≤ length (take (stop 0 bytes + 1) bytes)
+all_cost limit bytes b =
+    let most = begun_stop bytes (take limit bytes) (drop limit bytes) b (sym (take-append-drop limit bytes)) in
+    omega (arith, most, length-take limit bytes, length-take (stop 0 bytes + 1) bytes)
+
+-- they begin one up to this place, and not with it
+pub least_cost : (limit : ℕ) (bytes : List ℕ) (place : ℕ) → IsLeast (take limit bytes) place
+    → place + 1 ≤ length (take (stop 0 bytes + 1) bytes)
+least_cost limit bytes place l =
+    let near = take limit bytes in
+    let parts : bytes ≡ take place near ++ (drop place near ++ drop limit bytes) =
+    sym (take-append-drop limit bytes) ∙ ap (λ (x : List ℕ). x ++ drop limit bytes) (sym (take-append-drop place near)) ∙ append_assoc (take place near) (drop place near) (drop limit bytes) in
+    let most = begun_stop bytes (take place near) (drop place near ++ drop limit bytes) (l.before place (omega arith)) parts in
+    let within = l.within in
+    omega (arith, most, within, length-take place near, length-take limit bytes, length-take (stop 0 bytes + 1) bytes)
+
+-- a sequence stands in front
+pub read_cost : (limit : ℕ) (bytes rest : List ℕ) (list : List CsiParam) (final n : ℕ)
+    → Reads (take limit bytes) list final rest → n + length rest ≡ length (take limit bytes)
+    → n ≤ length (take (stop 0 bytes + 1) bytes)
+read_cost limit bytes rest list final n (front, s, split) len =
+    let body = (IsBody-from_spelling s.body list s.spellable s.spelled).bytes in
+    let behind : List ℕ = final ∷ (rest ++ drop limit bytes) in
+    let parts : bytes ≡ 27 ∷ 91 ∷ (s.body ++ behind) =
+    sym (take-append-drop limit bytes) ∙ ap (λ (x : List ℕ). x ++ drop limit bytes) (split ∙ ap (λ (x : List ℕ). x ++ rest) s.whole)
+    ∙ ap (λ (x : List ℕ). 27 ∷ 91 ∷ x) (append_assoc (s.body ++ final ∷ []) rest (drop limit bytes) ∙ append_assoc s.body (final ∷ []) (rest ++ drop limit bytes)) in
+    let most = body_stop bytes s.body behind body parts in
+    let long : length front ≡ 2 + (length s.body + 1) = ap length s.whole ∙ omega (arith, length-append s.body (final ∷ [])) in
+    let whole : length (take limit bytes) ≡ length front + length rest = ap length split ∙ length-append front rest in
+    omega (arith, most, long, whole, len, length-take limit bytes, length-take (stop 0 bytes + 1) bytes)
+
+-- ---- by the error of a reader
+
+pub refused_fault : (near : List ℕ) (room : ℕ) (e : ReadError) → Refuses near room e
+    → (e ≡ Memory → ⊥) → FaultOf near e
+refused_fault near room (NotCsi place) r other = r
+refused_fault near room (BadByte place) r other = r
+refused_fault near room (NumberTooLarge place) r other = r
+refused_fault near room (Truncated place) r other = r
+refused_fault near room Memory r other = absurd (other refl)
+
+pub truncated_cost : (limit : ℕ) (bytes : List ℕ) (e : ReadError) (place : ℕ)
+    → e ≡ Truncated place → FaultOf (take limit bytes) e
+    → place ≤ length (take (stop 0 bytes + 1) bytes)
+truncated_cost limit bytes e place is f =
+    let g : FaultOf (take limit bytes) (Truncated place) = subst (λ (x : ReadError). FaultOf (take limit bytes) x) is f in
+    let most = all_cost limit bytes g.1.0 in
+    omega (arith, most, g.1.1)
+
+pub fault_cost : (limit : ℕ) (bytes : List ℕ) (e : ReadError) (place : ℕ)
+    → (e ≡ NotCsi place) ⊎ ((e ≡ BadByte place) ⊎ (e ≡ NumberTooLarge place))
+    → FaultOf (take limit bytes) e → place + 1 ≤ length (take (stop 0 bytes + 1) bytes)
+fault_cost limit bytes e place (inl is) f =
+    let g : FaultOf (take limit bytes) (NotCsi place) = subst (λ (x : ReadError). FaultOf (take limit bytes) x) is f in least_cost limit bytes place g.1.0
+fault_cost limit bytes e place (inr (inl is)) f =
+    let g : FaultOf (take limit bytes) (BadByte place) = subst (λ (x : ReadError). FaultOf (take limit bytes) x) is f in least_cost limit bytes place g.1.0
+fault_cost limit bytes e place (inr (inr is)) f =
+    let g : FaultOf (take limit bytes) (NumberTooLarge place) = subst (λ (x : ReadError). FaultOf (take limit bytes) x) is f in least_cost limit bytes place g.1.0

@@ -3,3 +3,7 @@ pub mod Texts
 pub mod Taken
 pub mod Fronts
 pub mod Copied
+pub mod Parts
+pub mod Going
+pub mod Shorter
+pub mod Places

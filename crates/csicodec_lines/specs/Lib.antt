@@ -1,3 +1,4 @@
+pub mod Cuts
 pub mod Lines
 pub mod Stream
 pub mod Private

@@ -1,8 +1,12 @@
 //! Laws of the definitions. Each is the contract of a function that does nothing.
-ghost use Rattle.std.specs.Prelude.{◌≡◌, ℕ, List};
+ghost use Rattle.std.specs.Prelude.{◌≡◌, ◌++◌, ℕ, List, drop, take};
+ghost use Rattle.std.specs.List.{AllByRecursion};
+ghost use Rattle.csicodec_spans.specs.declared.table.Mode.TheVariants.{Text};
+ghost use Rattle.csicodec_spans.specs.Parts.{Part, IsWhole};
 ghost use Rattle.csicodec_clean.specs.Cleaned.{Strips, longest};
 ghost use Rattle.csicodec_clean.specs.Styled.{IsStyledIn, StylesIn};
 ghost use Rattle.csicodec_clean.specs.declared.styles.Passing.{Passing};
+ghost use Rattle.csicodec_lines.specs.Cuts.{AreCuts, IsPlace};
 ghost use Rattle.csicodec_lines.specs.Lines.{AreOf, ByLines, lines_of};
 ghost use Rattle.csicodec_lines.specs.Stream.{AnyChunks};
 
@@ -25,4 +29,17 @@ pub fn one_text()
 pub fn none_open()
     ensures { (d : Passing) (bytes text : List ℕ) (l : ByLines (StylesIn d) bytes text)
         → AreOf (λ _ t. IsStyledIn d t) (lines_of bytes) l.texts }
+{}
+
+/// Each place that is told is one: the bytes up to there, alone, are whole parts, and end in text.
+pub fn places()
+    ensures { (every : ℕ) (bytes places : List ℕ) → AreCuts every bytes places
+        → AllByRecursion (IsPlace bytes) places }
+{}
+
+/// The stream may be cut there: the parts of the two pieces, each a stream of its own, are together those of the stream.
+pub fn pieces()
+    ensures { (bytes : List ℕ) (at : ℕ) (front back : List Part) → IsPlace bytes at
+        → IsWhole longest Text (take at bytes) front → IsWhole longest Text (drop at bytes) back
+        → IsWhole longest Text bytes (front ++ back) }
 {}

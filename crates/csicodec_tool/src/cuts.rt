@@ -1,7 +1,7 @@
 //! Where a stream may be cut.
 
 use csicodec_command::{Failure, Request, Worker};
-use csicodec_cuts::cuts_all;
+use csicodec_lines::cuts_all;
 use csicodec_streams::RunError;
 use std::alloc::Global;
 use std::io::{BufRead, Read, Write};

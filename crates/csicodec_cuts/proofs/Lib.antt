@@ -1,4 +1,0 @@
-pub mod Parts
-pub mod Going
-pub mod Shorter
-pub mod Places

@@ -1,0 +1,152 @@
+-- A search as it goes, part by part and chunk by chunk.
+use Rattle.std.proofs.Common.{◌≡◌, ℕ, Bool, false, List, [], ◌∷◌, ◌++◌, refl, sym, ap, subst, ◌∙◌, append_assoc, append-nil}
+use Rattle.csicodec_spans.specs.declared.table.Kind.{Kind}
+use Rattle.csicodec_spans.specs.declared.table.Mode.{Mode}
+use Rattle.csicodec_spans.specs.declared.table.Mode.TheVariants as mode
+use Rattle.csicodec_spans.specs.Parts.{Part, part, left_over, Cuts}
+use Rattle.csicodec_spans.proofs.Kept.{parts_more, parts_on}
+use Rattle.csicodec_spans.proofs.Once.{parts_front, whole_once}
+use Rattle.csicodec_spans.proofs.OneSpan.{none_unsure}
+use Rattle.csicodec_filter.specs.Transform.{EndsOf, Sends, Transforms}
+use Rattle.csicodec_clean.specs.Cleaned.{longest}
+use Rattle.csicodec_clean.specs.Stream.{IsFrontOf}
+use Rattle.csicodec_clean.specs.Titles.{read_as, title_behind, title_open, with_titles}
+use Rattle.csicodec_clean.proofs.Titles.{open_on, titled, titles_on}
+use Rattle.csicodec_lines.specs.declared.finder.Finder.{Finder}
+use Rattle.csicodec_lines.specs.declared.search.Search.{Search}
+use Rattle.csicodec_lines.specs.Cuts.{Found, Tells, behind, cuts, first as start, told}
+use Rattle.csicodec_lines.specs.Private.Search.{FindsAt, IsAt}
+use Rattle.csicodec_lines.specs.Private.Finder.{Goes, IsBegun, Passes}
+use Rattle.csicodec_lines.proofs.Parts.{behind_on, cuts_on, spanned, told_on}
+
+-- nothing more
+pub goes_none : (m : Mode) (t : Bool) (old : Search) (bytes : List ℕ) → Goes m t old bytes [] bytes m t old
+goes_none m t old bytes = record { parts = []; first = (refl, refl); titles = refl; finds = λ s h. (h, refl) }
+
+-- the parts behind those that were searched
+pub goes_on : (m n a : Mode) (t u v : Bool) (old mid new : Search) (bytes text rest more later : List ℕ)
+    → Goes m t old bytes text rest n u mid → Goes n u mid rest more later a v new
+    → Goes m t old bytes (text ++ more) later a v new
+goes_on m n a t u v old mid new bytes text rest more later g k =
+    let ps = with_titles t g.parts in
+    let qs = with_titles u k.parts in
+    let whole : with_titles t (g.parts ++ k.parts) ≡ ps ++ qs = titles_on t g.parts k.parts
+    ∙ ap (λ (b : Bool). ps ++ with_titles b k.parts) (sym g.titles) in
+    record {
+      parts = g.parts ++ k.parts;
+      first = parts_on longest g.parts k.parts m bytes rest later n a g.first k.first;
+      titles = k.titles ∙ ap (λ (b : Bool). title_open b k.parts) g.titles ∙ sym (open_on t g.parts k.parts);
+      finds = λ s is.
+          let (at, e) = g.finds s is in
+          let mids = behind s ps in
+          let (last, f) = k.finds mids at in (
+            subst (λ (x : List Part). IsAt new (behind s x)) (sym whole) (subst (IsAt new) (sym (behind_on s ps qs)) last),
+            ap (λ (x : List ℕ). x ++ more) e ∙ ap (λ (x : List ℕ). told (cuts s ps) ++ x) f
+                ∙ sym (told_on (cuts s ps) (cuts mids qs)) ∙ ap told (sym (cuts_on s ps qs))
+                ∙ ap (λ (x : List Part). told (cuts s x)) (sym whole),
+          );
+    }
+
+-- a span
+pub goes_span : (n a : Mode) (u : Bool) (mid new : Search) (k : Kind) (rest span later more : List ℕ)
+    → Cuts longest n rest k span later a → FindsAt mid (part (read_as k u) span) more new
+    → Goes n u mid rest more later a (title_behind u k span) new
+goes_span n a u mid new k rest span later more c finds =
+    let one = titled u k span c.parts c.span in
+    let qs = with_titles u c.parts in
+    record {
+      parts = c.parts;
+      first = c.first;
+      titles = sym one.behind;
+      finds = λ s is.
+          let (at, e) = finds s is in
+          let same = spanned s (read_as k u) span qs one.span in
+          (subst (IsAt new) (sym same.behind) at, e ∙ ap told (sym same.cuts));
+    }
+
+-- a chunk more
+pub goes_then : (m n a : Mode) (t u v : Bool) (old mid new : Search) (bytes chunk text held more rest : List ℕ)
+    → Goes m t old bytes text held n u mid → Goes n u mid (held ++ chunk) more rest a v new
+    → Goes m t old (bytes ++ chunk) (text ++ more) rest a v new
+goes_then m n a t u v old mid new bytes chunk text held more rest g k =
+    goes_on m n a t u v old mid new (bytes ++ chunk) text (held ++ chunk) more rest
+    (record { parts = g.parts; first = parts_more longest g.parts m bytes chunk held n g.first; titles = g.titles; finds = g.finds }) k
+
+-- nothing came yet
+pub begun : (every : ℕ) (f : Finder) → IsBegun every f → Passes f [] [] f
+begun every f is = record {
+  unsure = rw (is.mode, is.pending) (none_unsure longest mode.Text);
+  goes = λ other h. rw (is.mode, is.pending, is.titled) (goes_none mode.Text false f.search []);
+}
+
+-- ---- the text of a whole stream
+
+abbrev pub Quiet : EndsOf Finder
+Quiet last text = text ≡ []
+
+-- what is left at the end has no place
+no_more : (t : Bool) (s : Found) (rest : List ℕ) → cuts s (with_titles t (left_over rest)) ≡ []
+no_more t s [] = refl
+no_more t s (b ∷ rest) = refl
+
+pub sure_alone : (s : Found) (ps : List Part) (rest : List ℕ)
+    → cuts s (with_titles false (ps ++ left_over rest)) ≡ cuts s (with_titles false ps)
+sure_alone s ps rest =
+    let front = with_titles false ps in
+    let now = title_open false ps in
+    ap (cuts s) (titles_on false ps (left_over rest)) ∙ cuts_on s front (with_titles now (left_over rest))
+    ∙ ap (λ (x : List ℕ). cuts s front ++ x) (no_more now (behind s front) rest) ∙ append-nil (cuts s front)
+
+module _ (every : ℕ) (f : Finder) (is : IsBegun every f) where
+  of_all : (read : List ℕ) (text : List ℕ) (last : Finder) → Passes f read text last → Tells every read text
+  of_all read text last p =
+      let g = p.goes every is in
+      let rest = last.pending.items in
+      let s = start every in
+      let all = g.parts ++ left_over rest in
+      let same = sure_alone s g.parts rest in (
+        cuts s (with_titles false all),
+        record {
+          parts = all;
+          whole = record { sure = g.parts; rest = rest; after = last.mode; first = g.first; unsure = p.unsure; whole = refl };
+          all = refl;
+        },
+        (g.finds s is.search).1 ∙ ap told (sym same),
+      )
+
+  pub tells : (bytes text : List ℕ) → Transforms Passes Quiet f bytes text → Tells every bytes text
+  tells bytes text (last, sure, rest, p, none, split) = rw (split, none, append-nil sure) (of_all bytes sure last p)
+
+  -- a stream has one text
+  pub one_text : (bytes text other : List ℕ) → Tells every bytes text → Tells every bytes other → text ≡ other
+  one_text bytes text other (xs, h, e) (ys, k, f) =
+      let same = whole_once longest mode.Text bytes h.parts k.parts h.whole k.whole in
+      e ∙ ap told (h.all ∙ ap (λ (x : List Part). cuts (start every) (with_titles false x)) same ∙ sym k.all) ∙ sym f
+
+  -- and what was told before the end is a front of it
+  pub front : (read more text : List ℕ) → Sends Passes f read text → IsFrontOf (Tells every) (read ++ more) text
+  front read more text (last, p) whole (places, k, e) =
+      let g = p.goes every is in
+      let w = k.whole in
+      let s = start every in
+      let ps = with_titles false g.parts in
+      let (others, same) = parts_front longest g.parts w.sure mode.Text (read ++ more)
+      (last.pending.items ++ more) w.rest last.mode w.after
+      (parts_more longest g.parts mode.Text read more last.pending.items last.mode g.first) w.first w.unsure in
+      let qs = others ++ left_over w.rest in
+      let parts : k.parts ≡ g.parts ++ qs = w.whole ∙ ap (λ (x : List Part). x ++ left_over w.rest) same
+      ∙ append_assoc g.parts others (left_over w.rest) in
+      let later = cuts (behind s ps) (with_titles (title_open false g.parts) qs) in (
+        told later,
+        e ∙ ap told (k.all ∙ ap (λ (x : List Part). cuts s (with_titles false x)) parts ∙ ap (cuts s) (titles_on false g.parts qs)
+            ∙ cuts_on s ps (with_titles (title_open false g.parts) qs))
+            ∙ told_on (cuts s ps) later ∙ ap (λ (x : List ℕ). x ++ told later) (sym (g.finds s is.search).1),
+      )
+
+  pub whole_text : (bytes text : List ℕ) → Transforms Passes Quiet f bytes text → IsFrontOf (Tells every) bytes text
+  whole_text bytes text h whole k = ([], one_text bytes whole text k (tells bytes text h) ∙ sym (append-nil text))
+
+  pub shorter : (bytes sent unsent : List ℕ) → IsFrontOf (Tells every) bytes (sent ++ unsent) → IsFrontOf (Tells every) bytes sent
+  shorter bytes sent unsent h whole k =
+      let (rest, e) = h whole k in
+      (unsent ++ rest, e ∙ append_assoc sent unsent rest)

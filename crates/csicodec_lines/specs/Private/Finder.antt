@@ -1,0 +1,33 @@
+-- A search as it goes.
+use Rattle.std.specs.Prelude.{ℕ, ◌≡◌, Bool, false, List, []}
+use Rattle.csicodec_spans.specs.declared.table.Mode.{Mode}
+use Rattle.csicodec_spans.specs.declared.table.Mode.TheVariants as mode
+use Rattle.csicodec_spans.specs.Parts.{Part, AreFirstParts, IsUnsure}
+use Rattle.csicodec_clean.specs.Cleaned.{longest}
+use Rattle.csicodec_clean.specs.Titles.{title_open, with_titles}
+use Rattle.csicodec_lines.specs.declared.finder.Finder.{Finder}
+use Rattle.csicodec_lines.specs.declared.search.Search.{Search}
+use Rattle.csicodec_lines.specs.Cuts.{Found, behind, cuts, first, told}
+use Rattle.csicodec_lines.specs.Private.Search.{IsAt}
+
+-- The parts in front of the bytes were searched: what is left, and what was told, wherever the search was.
+pub record Goes (m : Mode) (titled : Bool) (old : Search) (bytes text rest : List ℕ) (a : Mode)
+    (later : Bool) (new : Search) : Type 0 where
+  pub parts : List Part
+  pub first : AreFirstParts longest m bytes parts rest a
+  pub titles : later ≡ title_open titled parts
+  pub finds : (s : Found) → IsAt old s → IsAt new (behind s (with_titles titled parts))
+      × (text ≡ told (cuts s (with_titles titled parts)))
+
+-- where nothing has come
+pub record IsBegun (every : ℕ) (f : Finder) : Type 0 where
+  pub search : IsAt f.search (first every)
+  pub mode : f.mode ≡ mode.Text
+  pub titled : f.titled ≡ false
+  pub pending : f.pending.items ≡ []
+
+-- since it has begun, these bytes, and what was told of them
+pub record Passes (old : Finder) (bytes text : List ℕ) (new : Finder) : Type 0 where
+  pub unsure : IsUnsure longest new.mode new.pending.items
+  pub goes : (every : ℕ) → IsBegun every old
+      → Goes mode.Text false old.search bytes text new.pending.items new.mode new.titled new.search

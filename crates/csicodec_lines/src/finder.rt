@@ -1,0 +1,96 @@
+//! A stream that is searched as it comes.
+ghost use Rattle.std.specs.Prelude.{◌≡◌, ◌++◌, ℕ, List, OnOk, IfOk};
+ghost use Rattle.csicodec_spans.specs.Parts.{IsUnsure};
+ghost use Rattle.csicodec_clean.specs.Cleaned.{longest};
+ghost use Rattle.csicodec_lines.specs.Private.Finder.{Goes, IsBegun};
+
+use crate::search::Search;
+use csicodec_clean::{read_as, title_behind};
+use csicodec_filter::Transform;
+use csicodec_spans::{LIMIT, Mode, next_span};
+use csicodec_streams::keep_from;
+use std::alloc::{AllocError, Global};
+
+/// Appends the places in all spans of the bytes that are sure, and answers the bytes that aren't, and the mode there.
+fn append_places<'a>(
+    search: &mut Search,
+    titled: &mut bool,
+    mode: Mode,
+    bytes: &'a [u8],
+    out: &mut Vec<u8>,
+) -> Result<(&'a [u8], Mode), AllocError>
+    ensures parts { IfOk result (λ (rest, after). (front : List ℕ) × (bytes.now ≡ front ++ rest.now)) }
+    ensures unsure { IfOk result (λ (rest, after). IsUnsure longest after rest.now) }
+    ensures goes { IfOk result (λ (rest, after). (text : List ℕ)
+        × Goes mode titled.old search.old bytes.now text rest.now after titled.new search.new
+        × (out.new.items ≡ out.old.items ++ text)) }
+{
+    let (mut rest, mut mode) = (bytes, mode);
+    while let Some(cut) = next_span(LIMIT, mode, rest) {
+        let kind = read_as(cut.span.kind, *titled);
+        search.take(kind, cut.span.bytes, out)?;
+        *titled = title_behind(*titled, cut.span.kind, cut.span.bytes);
+        rest = cut.rest;
+        mode = cut.mode;
+    }
+    Ok((rest, mode))
+}
+
+/// A stream whose places are told as it comes. It holds a control sequence that isn't over, of fewer than 65536 bytes.
+#[derive(Drop)]
+pub(crate) struct Finder {
+    search: Search,
+    mode: Mode,
+    titled: bool,
+    pending: Vec<u8>,
+}
+
+impl Finder {
+    /// A stream of which nothing has come.
+    pub(crate) fn new(alloc: Global, every: u64) -> Finder
+        ensures { IsBegun every result }
+    {
+        Finder {
+            search: Search::new(every),
+            mode: Mode::Text,
+            titled: false,
+            pending: Vec::new(alloc),
+        }
+    }
+}
+
+impl Transform for Finder {
+    ghost use Rattle.std.specs.Prelude.{⊤, ◌≡◌, []};
+    ghost use Rattle.csicodec_lines.specs.Private.Finder.{Passes};
+
+    ghost stands = { λ now. ⊤ };
+
+    ghost passes = { Passes };
+
+    ghost rests = { λ _. ⊤ };
+
+    ghost ends = { λ _ text. text ≡ [] };
+
+    fn take(&mut self, bytes: &[u8], out: &mut Vec<u8>) -> Result<(), AllocError> {
+        self.pending.extend_from_slice(bytes)?;
+        let (rest, mode) = append_places(
+            &mut self.search,
+            &mut self.titled,
+            self.mode,
+            &self.pending,
+            out,
+        )?;
+        let used = self.pending.len() - rest.len();
+        self.mode = mode;
+        keep_from(&mut self.pending, used);
+        Ok(())
+    }
+
+    fn pause(&mut self, _out: &mut Vec<u8>) -> Result<(), AllocError> {
+        Ok(())
+    }
+
+    fn end(&mut self, _out: &mut Vec<u8>) -> Result<(), AllocError> {
+        Ok(())
+    }
+}

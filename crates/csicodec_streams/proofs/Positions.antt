@@ -45,7 +45,8 @@ number_of a ds low high digits few = (value (a ∷ ds), record { above = above (
     above zero is = absurd (omega (arith, low, ap (λ (l : List ℕ). get_or l 0 0) (sym is ∙ decimal_digit 0 (omega arith))))
     above (suc n) is = omega arith
 
-pub number_front : (xs : List ℕ) (n : ℕ) → 1 ≤ length xs → 49 ≤ get_or xs 0 0 → get_or xs 0 0 ≤ 57 → n ≤ 8 → AreDigits (take n (take (length xs - 1) (drop 1 xs))) → IsNumber (take (1 + n) xs)
+pub number_front : (xs : List ℕ) (n : ℕ) → 1 ≤ length xs → 49 ≤ get_or xs 0 0 → get_or xs 0 0 ≤ 57 → n ≤ 8
+    → AreDigits (take n (take (length xs - 1) (drop 1 xs))) → IsNumber (take (1 + n) xs)
 number_front xs n some low high few digits =
     let others : List ℕ = take (length xs - 1) (drop 1 xs) in
     let next : 1 + n ≡ suc n = omega arith in

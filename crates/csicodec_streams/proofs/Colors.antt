@@ -45,7 +45,7 @@ part_two bytes mid rest a b some fa fb e f = go (10 * a + b) refl
         let tens : a ≡ n / 10 = omega (arith, is, fa, fb) in
         let ones : b ≡ n % 10 = omega (arith, is, fa, fb) in
         let same : (48 + a) ∷ (48 + b) ∷ [] ≡ decimal n =
-            rw (tens, ones) (sym (two_digits n (omega (arith, is, some)) (omega (arith, is, fa, fb)))) in
+        rw (tens, ones) (sym (two_digits n (omega (arith, is, some)) (omega (arith, is, fa, fb)))) in
         (e ∙ ap (λ (l : List ℕ). (48 + a) ∷ l) f ∙ ap (λ (l : List ℕ). l ++ rest) same, omega (arith, is, fa, fb))
 
 pub part_three : (bytes mid last rest : List ℕ) (a b c n : ℕ) → 0 < a → a < 10 → b < 10 → c < 10 → bytes ≡ (48 + a) ∷ mid
@@ -56,7 +56,7 @@ part_three bytes mid last rest a b c n some fa fb fc e f g is fits =
     let tens : b ≡ n / 10 % 10 = omega (arith, is, fa, fb, fc) in
     let ones : c ≡ n % 10 = omega (arith, is, fa, fb, fc) in
     let same : (48 + a) ∷ (48 + b) ∷ (48 + c) ∷ [] ≡ decimal n =
-        rw (hundreds, tens, ones) (sym (three_digits n (omega (arith, is, some)) (omega (arith, fits)))) in
+    rw (hundreds, tens, ones) (sym (three_digits n (omega (arith, is, some)) (omega (arith, fits)))) in
     (e ∙ ap (λ (l : List ℕ). (48 + a) ∷ l) (f ∙ ap (λ (l : List ℕ). (48 + b) ∷ l) g) ∙ ap (λ (l : List ℕ). l ++ rest) same, fits)
 
 part_spelled : (n : ℕ) → n < 256 → SpellsToken (decimal n) (Integer (pos n))
@@ -80,11 +80,13 @@ pub true_color : (bytes first second third p q rest : List ℕ) (r g b : ℕ) �
     → IsColor bytes (TrueColor (record { 0 = r; 1 = g; 2 = b; 3 = 255 })) rest
 true_color bytes first second third p q rest r g b begins (red, fits) then (green, within) next (blue, inside) =
     let behind : second ≡ decimal g ++ 59 ∷ (decimal b ++ rest) = green
-        ∙ ap (λ (l : List ℕ). decimal g ++ l) (next ∙ ap (λ (l : List ℕ). 59 ∷ l) blue) in
+    ∙ ap (λ (l : List ℕ). decimal g ++ l) (next ∙ ap (λ (l : List ℕ). 59 ∷ l) blue) in
     let all : first ≡ decimal r ++ 59 ∷ (decimal g ++ 59 ∷ (decimal b ++ rest)) = red
-        ∙ ap (λ (l : List ℕ). decimal r ++ l) (then ∙ ap (λ (l : List ℕ). 59 ∷ l) behind) in
-    ((fits, within, inside, refl), begins ∙ ap (λ (l : List ℕ). 50 ∷ 59 ∷ l)
-        (all ∙ sym (parts_joined (decimal r) (decimal g) (decimal b) rest)))
+    ∙ ap (λ (l : List ℕ). decimal r ++ l) (then ∙ ap (λ (l : List ℕ). 59 ∷ l) behind) in (
+      (fits, within, inside, refl),
+      begins ∙ ap (λ (l : List ℕ). 50 ∷ 59 ∷ l)
+          (all ∙ sym (parts_joined (decimal r) (decimal g) (decimal b) rest)),
+    )
 
 -- ---- sequences
 
@@ -136,25 +138,38 @@ color_piece Line (TrueColor c) (red, green, blue, opaque) = rw (lt-ltb c.0 256 r
 
 color_spelled : (color : ColorSpec) → IsOpaque color → Spells (color_list color) (color_tokens color)
 color_spelled Default o = absurd o
-color_spelled (PaletteIndex i) fits =
-    (53 ∷ [], 59 ∷ decimal i, refl, (omega arith, ((omega arith, omega arith), tt), refl),
-        (59 ∷ [], decimal i, refl, refl, (decimal i, [], sym (append-nil (decimal i)), part_spelled i fits, refl)))
+color_spelled (PaletteIndex i) fits = (
+  53 ∷ [],
+  59 ∷ decimal i,
+  refl,
+  (omega arith, ((omega arith, omega arith), tt), refl),
+  (59 ∷ [], decimal i, refl, refl, (decimal i, [], sym (append-nil (decimal i)), part_spelled i fits, refl)),
+)
 color_spelled (TrueColor c) (red, green, blue, opaque) =
     let x : List ℕ = decimal c.0 in
     let y : List ℕ = decimal c.1 in
     let z : List ℕ = decimal c.2 in
     let last : Spells z (Integer (pos c.2) ∷ []) = (z, [], sym (append-nil z), part_spelled c.2 blue, refl) in
     let mid : Spells (y ++ 59 ∷ z) (Integer (pos c.1) ∷ P 59 ∷ Integer (pos c.2) ∷ []) =
-        (y, 59 ∷ z, refl, part_spelled c.1 green, (59 ∷ [], z, refl, refl, last)) in
-    let body : List ℕ = x ++ 59 ∷ (y ++ 59 ∷ z) in
-    (50 ∷ [], 59 ∷ body, refl, (omega arith, ((omega arith, omega arith), tt), refl),
-        (59 ∷ [], body, refl, refl, (x, 59 ∷ (y ++ 59 ∷ z), refl, part_spelled c.0 red, (59 ∷ [], y ++ 59 ∷ z, refl, refl, mid))))
+    (y, 59 ∷ z, refl, part_spelled c.1 green, (59 ∷ [], z, refl, refl, last)) in
+    let body : List ℕ = x ++ 59 ∷ (y ++ 59 ∷ z) in (
+      50 ∷ [],
+      59 ∷ body,
+      refl,
+      (omega arith, ((omega arith, omega arith), tt), refl),
+      (59 ∷ [], body, refl, refl, (x, 59 ∷ (y ++ 59 ∷ z), refl, part_spelled c.0 red, (59 ∷ [], y ++ 59 ∷ z, refl, refl, mid))),
+    )
 
 -- what stands between `ESC [` and `m`
 pub listed_spelled : (plane : Plane) (color : ColorSpec) → IsOpaque color
     → Spells (plane_byte plane ∷ 56 ∷ 59 ∷ color_list color) (listed plane color)
-listed_spelled plane color o = (plane_byte plane ∷ 56 ∷ [], 59 ∷ color_list color, refl, code_spelled plane,
-    (59 ∷ [], color_list color, refl, refl, color_spelled color o))
+listed_spelled plane color o = (
+  plane_byte plane ∷ 56 ∷ [],
+  59 ∷ color_list color,
+  refl,
+  code_spelled plane,
+  (59 ∷ [], color_list color, refl, refl, color_spelled color o),
+)
 
 pub listed_spellable : (plane : Plane) (color : ColorSpec) → IsOpaque color → Spellable (listed plane color)
 listed_spellable plane color o = (code_spellable plane, tt, (mark_spellable, tt, color_spellable color o))
@@ -199,23 +214,35 @@ list_short : (color : ColorSpec) → IsOpaque color → length (color_list color
 list_short Default o = omega arith
 list_short (PaletteIndex i) fits = omega (arith, part_short i fits)
 list_short (TrueColor c) (red, green, blue, opaque) =
-    omega (arith, part_short c.0 red, part_short c.1 green, part_short c.2 blue, length-append (decimal c.0)
-        (59 ∷ (decimal c.1 ++ 59 ∷ decimal c.2)), length-append (decimal c.1) (59 ∷ decimal c.2))
+    omega (
+      arith,
+      part_short c.0 red,
+      part_short c.1 green,
+      part_short c.2 blue,
+      length-append (decimal c.0)
+          (59 ∷ (decimal c.1 ++ 59 ∷ decimal c.2)),
+      length-append (decimal c.1) (59 ∷ decimal c.2),
+    )
 
 pub color_short : (bytes rest : List ℕ) (sgr : sgr_type.Sgr) → IsColored bytes sgr rest
     → (length rest ≤ length bytes) × (length bytes ≤ length rest + 19)
 color_short bytes rest sgr (plane, color, o, is, e) =
     let long : length bytes ≡ 6 + length (color_list color) + length rest =
-        omega (arith, ap length e, length-append (color_list color) (109 ∷ rest)) in
+    omega (arith, ap length e, length-append (color_list color) (109 ∷ rest)) in
     (omega (arith, long), omega (arith, long, list_short color o))
 
 -- how it stands in front
 pub color_stands : (plane : Plane) (color : ColorSpec) (sgr : sgr_type.Sgr) (bytes behind end rest : List ℕ) → sgr ≡ painted plane color
     → bytes ≡ 27 ∷ 91 ∷ plane_byte plane ∷ 56 ∷ 59 ∷ behind → IsColor behind color end → end ≡ 109 ∷ rest
     → IsColored bytes sgr rest
-color_stands plane color sgr bytes behind end rest is begins (o, list) ends =
-    (plane, color, o, is, begins ∙ ap (λ (l : List ℕ). 27 ∷ 91 ∷ plane_byte plane ∷ 56 ∷ 59 ∷ l)
-        (list ∙ ap (λ (l : List ℕ). color_list color ++ l) ends))
+color_stands plane color sgr bytes behind end rest is begins (o, list) ends = (
+  plane,
+  color,
+  o,
+  is,
+  begins ∙ ap (λ (l : List ℕ). 27 ∷ 91 ∷ plane_byte plane ∷ 56 ∷ 59 ∷ l)
+      (list ∙ ap (λ (l : List ℕ). color_list color ++ l) ends),
+)
 
 -- ---- parts with colons
 
@@ -233,7 +260,7 @@ digits_kept (d ∷ ds) (digit, digits) = rw (ne_eqb d 59 (λ is. omega (arith, i
 part_kept : (n : ℕ) (more : List ℕ) → n < 256 → map with_colon (decimal n ++ more) ≡ decimal n ++ map with_colon more
 part_kept n more fits =
     map-append with_colon (decimal n) more ∙ ap (λ (l : List ℕ). l ++ map with_colon more)
-        (digits_kept (decimal n) (digits_decimal own n (omega (arith, fits))))
+    (digits_kept (decimal n) (digits_decimal own n (omega (arith, fits))))
 
 pub colons_selected : (xs : List ℕ) (n : ℕ) → length xs ≡ n
     → sel_l (map (top 7) (zip2 (λ a b. cond (eqb a b) 255 0) xs (replicate n 59))) (replicate n 58) xs ≡ map with_colon xs
@@ -251,7 +278,7 @@ colons_in : (c : SrgbaTuple) → c.0 < 256 → c.1 < 256 → c.2 < 256 → map w
 colons_in c red green blue =
     part_kept c.0 (59 ∷ (decimal c.1 ++ 59 ∷ (decimal c.2 ++ 109 ∷ []))) red
     ∙ ap (λ (l : List ℕ). decimal c.0 ++ 58 ∷ l)
-        (part_kept c.1 (59 ∷ (decimal c.2 ++ 109 ∷ [])) green ∙ ap (λ (l : List ℕ). decimal c.1 ++ 58 ∷ l) (part_kept c.2 (109 ∷ []) blue))
+    (part_kept c.1 (59 ∷ (decimal c.2 ++ 109 ∷ [])) green ∙ ap (λ (l : List ℕ). decimal c.1 ++ 58 ∷ l) (part_kept c.2 (109 ∷ []) blue))
 
 true_text : (plane : Plane) (c : SrgbaTuple) → c.3 ≡ 255
     → sgr_text (painted plane (TrueColor c)) ≡ plane_byte plane ∷ 56 ∷ 58 ∷ 50 ∷ 58 ∷ 58 ∷ parts_of c 58
@@ -262,7 +289,7 @@ true_text Line c opaque = rw (opaque, two_digits 58 (omega arith) (omega arith))
 parts_ended : (x y z rest : List ℕ) → (x ++ 59 ∷ (y ++ 59 ∷ z)) ++ 109 ∷ rest ≡ (x ++ 59 ∷ (y ++ 59 ∷ (z ++ 109 ∷ []))) ++ rest
 parts_ended x y z rest =
     parts_joined x y z (109 ∷ rest) ∙ ap (λ (l : List ℕ). x ++ 59 ∷ (y ++ 59 ∷ l)) (sym (append_assoc z (109 ∷ []) rest))
-        ∙ sym (parts_joined x y (z ++ 109 ∷ []) rest)
+    ∙ sym (parts_joined x y (z ++ 109 ∷ []) rest)
 
 -- the sequence with colons, by one copy of its parts
 pub colons_normal : (bytes parts rest : List ℕ) (digit len : ℕ) (sgr : sgr_type.Sgr) → IsColored bytes sgr rest → digit ≡ get_or bytes 2 0
@@ -279,13 +306,20 @@ colons_normal bytes parts rest digit len sgr (plane, TrueColor c, (red, green, b
     let same : parts ≡ body ++ rest = all ∙ slice_from 7 bytes ∙ ap (λ (l : List ℕ). drop 7 l) e ∙ parts_ended x y z rest in
     let first : digit ≡ plane_byte plane = third ∙ ap (λ (l : List ℕ). get_or l 2 0) e in
     let short : length body ≤ 12 =
-    omega (arith, part_short c.0 red, part_short c.1 green, part_short c.2 blue, length-append x (59 ∷ (y ++ 59 ∷ (z ++ 109 ∷ []))),
-        length-append y (59 ∷ (z ++ 109 ∷ [])), length-append z (109 ∷ [])) in
+    omega (
+      arith,
+      part_short c.0 red,
+      part_short c.1 green,
+      part_short c.2 blue,
+      length-append x (59 ∷ (y ++ 59 ∷ (z ++ 109 ∷ []))),
+      length-append y (59 ∷ (z ++ 109 ∷ [])),
+      length-append z (109 ∷ []),
+    ) in
     let count : len + 1 ≡ 8 + length body = omega (arith, long, ap length e, ap length (parts_ended x y z rest), length-append body rest) in
     let front : take (length body) (map with_colon (take 16 parts)) ≡ parts_of c 58 =
     take-map with_colon (length body) (take 16 parts)
-        ∙ ap (λ (l : List ℕ). map with_colon l) (take-take (length body) 16 parts (omega (arith, short))
-            ∙ ap (λ (l : List ℕ). take (length body) l) same ∙ take-append_seam body rest) ∙ colons_in c red green blue in
+    ∙ ap (λ (l : List ℕ). map with_colon l) (take-take (length body) 16 parts (omega (arith, short))
+    ∙ ap (λ (l : List ℕ). take (length body) l) same ∙ take-append_seam body rest) ∙ colons_in c red green blue in
     ap (λ (n : ℕ). take n (27 ∷ 91 ∷ digit ∷ 56 ∷ 58 ∷ 50 ∷ 58 ∷ 58 ∷ map with_colon (take 16 parts))) count
     ∙ take_behind 8 (27 ∷ 91 ∷ digit ∷ 56 ∷ 58 ∷ 50 ∷ 58 ∷ 58 ∷ []) (map with_colon (take 16 parts)) (length body) refl
     ∙ ap (λ (l : List ℕ). 27 ∷ 91 ∷ digit ∷ 56 ∷ 58 ∷ 50 ∷ 58 ∷ 58 ∷ l) front

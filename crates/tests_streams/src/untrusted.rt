@@ -5,10 +5,9 @@ use csicodec_clean::{
     Anew, Checked, Cleaner, Depth, Dropped, Kept, Passing, Rule, check_all, clean, clean_in,
     clean_with, strip,
 };
-use csicodec_lines::cuts_all;
 use csicodec_filter::Transform;
 use csicodec_html::html_all;
-use csicodec_lines::{Lines, clean_lines_all, strip_lines_all};
+use csicodec_lines::{Lines, clean_lines_all, cuts_all, strip_lines_all};
 use std::alloc::{AllocError, Global};
 
 const WITH_LINKS: Passing = Passing {

@@ -12,5 +12,5 @@ returns-in_default-digit_front c = part_two _ _ _ _ _ (omega (arith, c.if-first-
 pub returns : goal.returns
 returns c =
     part_three _ _ _ _ _ _ _ _ (omega (arith, c.if-first-eq0.false)) c.in_ok-first.ensures.0 c.in-Some.ensures.0
-        c.in-Some-digit_front.ensures.0 c.in_ok-first.ensures.1 c.in-Some.ensures.1 c.in-Some-digit_front.ensures.1
+    c.in-Some-digit_front.ensures.0 c.in_ok-first.ensures.1 c.in-Some.ensures.1 c.in-Some-digit_front.ensures.1
     (omega (arith, c.from.ensures, c.from-2.ensures, c.from-3.ensures)) (omega (arith, c.if-number-gt255.false))

@@ -44,7 +44,7 @@ complete -c csicodec -n '__fish_seen_subcommand_from explain' -l full -d 'Show a
 complete -c csicodec -n '__fish_seen_subcommand_from explain' -l grep -x -d 'Show only what contains TEXT, in its bytes as they are or as they are shown, or in its words. Exit 1 if nothing does'
 complete -c csicodec -n '__fish_seen_subcommand_from explain' -l ignore-case -d 'With --grep, ignore case'
 complete -c csicodec -n '__fish_seen_subcommand_from explain' -l input -d 'Read what a terminal sends, which is keys, mouse reports and answers. From a recording, list what was typed'
-complete -c csicodec -n '__fish_seen_subcommand_from explain' -l json -d 'Write a JSON object on each line, with at, kind, text or hex, and actions. An action has name, words, action and its fields. More than 1 MiB takes several objects, and in all but the last more is true'
+complete -c csicodec -n '__fish_seen_subcommand_from explain' -l json -d 'Write a JSON object on each line, with at, kind, text or hex, and actions. An action has name, words, action and its fields. More than 64 KiB takes several objects, and in all but the last more is true'
 complete -c csicodec -n '__fish_seen_subcommand_from explain' -l only -x -d 'Show only these names, such as SGR or DECSET 2004, separated by commas'
 complete -c csicodec -n '__fish_seen_subcommand_from explain' -l quiet -d 'Show nothing. Exit 0 if anything would be shown, and 1 if not'
 complete -c csicodec -n '__fish_seen_subcommand_from explain' -l stats -d 'Show only a table, at the end. It counts each name and its bytes, and has their share of all bytes'

@@ -229,7 +229,7 @@ standard input if it begins like one.
                   answers. From a recording, list what was typed.
   --json          Write a JSON object on each line, with at, kind, text or hex,
                   and actions. An action has name, words, action and its fields.
-                  More than 1 MiB takes several objects, and in all but the last
+                  More than 64 KiB takes several objects, and in all but the last
                   more is true.
   --only NAMES    Show only these names, such as SGR or DECSET 2004, separated
                   by commas.

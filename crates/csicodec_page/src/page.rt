@@ -9,6 +9,7 @@ use csicodec_sheet::{
     Names, Sheet, Sort, Style, Summary, Told, Totals, clipboard_bytes, whole_characters,
 };
 use csicodec_spans::{Kind, LIMIT, Mode};
+use csicodec_streams::keep_from;
 use csicodec_strings::{ControlString, FRONT};
 use csicodec_words::Described;
 use std::alloc::{AllocError, Global};
@@ -23,10 +24,51 @@ struct Open {
     time: u64,
     /// How many bytes there are; 0 where no span is open.
     len: u64,
-    /// Whether a string is closed.
+    /// Whether a string is closed, and by BEL.
     closed: bool,
-    /// The first of the bytes.
+    bell: bool,
+    /// How many of the bytes are told in pieces.
+    told: u64,
+    /// The first of the bytes behind those.
     front: Vec<u8>,
+    /// The first of all bytes, where some are told.
+    begin: Vec<u8>,
+}
+
+impl Open {
+    /// What isn't told of it yet, with this end of its line.
+    fn rest<'b>(&'b self, end: &'b [u8]) -> Told<'b> {
+        Told {
+            sort: sort_of(self.kind),
+            place: self.place.saturating_add(self.told),
+            time: self.time,
+            bytes: &self.front,
+            len: self.len,
+            end,
+        }
+    }
+
+    /// The first bytes, of which words are made.
+    fn first(&self) -> &[u8] {
+        if self.told == 0 {
+            &self.front
+        } else {
+            &self.begin
+        }
+    }
+
+    /// So many bytes more are told.
+    fn pass(&mut self, len: usize) -> Result<(), AllocError> {
+        if self.told == 0 {
+            self.begin.clear();
+            let first = self.front.get(..FRONT).unwrap_or(&self.front);
+            self.begin.extend_from_slice(first)?;
+        }
+        self.told = self.told.saturating_add(len as u64);
+        let len = len.min(self.front.len());
+        keep_from(&mut self.front, len);
+        Ok(())
+    }
 }
 
 /// The modes ahead of bytes of a stream and behind them.
@@ -37,7 +79,7 @@ pub struct Modes {
 }
 
 /// The lines of the spans that came, and the span of which more may come. It doesn't grow with that span, but where all
-/// its bytes are to be shown.
+/// its bytes are to be shown at once.
 #[derive(Drop)]
 pub struct Page<'a> {
     alloc: Global,
@@ -136,20 +178,15 @@ fn tell_words<T: Display>(
     sheet.end(span)
 }
 
-/// A string, which may be closed, and what it puts into the clipboard, where that is asked for.
+/// A string, and what it puts into the clipboard, where that is asked for.
 fn tell_string(
     alloc: Global,
     sheet: &mut Sheet<'_>,
     span: Told<'_>,
-    closed: bool,
+    string: &ControlString<'_>,
 ) -> Result<(), AllocError> {
-    let string = ControlString {
-        front: span.bytes,
-        len: span.len,
-        closed,
-    };
     sheet.begin(span)?;
-    sheet.add(span, &string)?;
+    sheet.add(span, string)?;
     if sheet.style().decode {
         if let Some(bytes) = clipboard_bytes(alloc, span.bytes)? {
             sheet.add_decoded(span, &bytes)?;
@@ -215,7 +252,10 @@ impl<'a> Page<'a> {
                 time: 0,
                 len: 0,
                 closed: false,
+                bell: false,
+                told: 0,
                 front: Vec::new(alloc),
+                begin: Vec::new(alloc),
             },
             held: None,
             text: false,
@@ -301,22 +341,22 @@ impl<'a> Page<'a> {
     /// Tells the span of which more could have come, a text with this end of its line.
     fn close_open(&mut self, end: &[u8]) -> Result<(), AllocError> {
         let kind = self.open.kind;
-        let span = Told {
-            sort: sort_of(kind),
-            place: self.open.place,
-            time: self.open.time,
-            bytes: &self.open.front,
+        let span = self.open.rest(end);
+        let string = ControlString {
+            front: self.open.first(),
             len: self.open.len,
-            end,
+            closed: self.open.closed,
+            bell: self.open.bell,
         };
-        self.open.len = 0;
         match kind {
             Kind::Text => self.sheet.tell_text(span),
-            Kind::Str => tell_string(self.alloc, &mut self.sheet, span, self.open.closed),
+            Kind::Str => tell_string(self.alloc, &mut self.sheet, span, &string),
             Kind::Csi | Kind::Esc | Kind::Other => {
                 tell_wrong(&mut self.sheet, &mut self.totals, kind, span)
             }
-        }
+        }?;
+        self.open.len = 0;
+        Ok(())
     }
 
     /// The bytes that come now came at this time, in microseconds, and the first of those that are not told yet too, if none of
@@ -527,6 +567,7 @@ impl<'a> Page<'a> {
             self.open.kind = kind;
             self.open.place = self.place;
             self.open.time = self.time;
+            self.open.told = 0;
             self.open.front.clear();
         }
         let most = if self.sheet.style().holds_all() {
@@ -539,6 +580,23 @@ impl<'a> Page<'a> {
             .front
             .extend_from_slice(bytes.get(..room).unwrap_or(bytes))?;
         self.open.len = self.open.len.saturating_add(bytes.len() as u64);
+        if self.sheet.style().tells_pieces() {
+            self.tell_pieces()
+        } else {
+            Ok(())
+        }
+    }
+
+    /// Tells pieces of what is open, where there is more than one object has.
+    #[inline(never)]
+    fn tell_pieces(&mut self) -> Result<(), AllocError> {
+        for _ in 0..self.open.front.len() {
+            let told = self.sheet.tell_piece(self.open.rest(&[]))?;
+            if told == 0 {
+                break;
+            }
+            self.open.pass(told)?;
+        }
         Ok(())
     }
 
@@ -599,6 +657,7 @@ impl<'a> Page<'a> {
         self.add_open(kind, same, bytes)?;
         let over = modes.after == Mode::Text;
         self.open.closed = kind == Kind::Str && over;
+        self.open.bell = bytes.last().copied() == Some(0x07);
         self.text = false;
         self.advance(kind, if same { 0 } else { 1 }, bytes.len());
         if over { self.close() } else { Ok(()) }

@@ -19,16 +19,15 @@ use csicodec_strings::Shown;
 use std::alloc::{AllocError, Global};
 use std::fmt::{Debug, Display, Write};
 
-/// So many bytes of a span an object of JSON has at most.
-const PIECE: usize = 1_048_576;
+/// So many bytes of a span an object of JSON has at most: 64 KiB.
+const PIECE: usize = 65_536;
 
-/// The first piece of a long span, with whole characters, and what is behind it.
-fn piece_of(bytes: &[u8]) -> Option<(&[u8], &[u8])> {
+/// The first piece of a long span, with whole characters.
+fn piece_of(bytes: &[u8]) -> Option<&[u8]> {
     if bytes.len() <= PIECE {
         return None;
     }
-    let front = whole_characters(bytes.get(..PIECE)?);
-    bytes.split_at_checked(front.len())
+    Some(whole_characters(bytes.get(..PIECE)?))
 }
 
 /// The lines of the spans that came, in a buffer that is kept.
@@ -196,18 +195,27 @@ impl<'a> Sheet<'a> {
         )
     }
 
+    /// Tells the first piece of a span that is too long for one object; how many bytes it has, 0 where the span isn't.
+    pub fn tell_piece(&mut self, span: Told<'_>) -> Result<usize, AllocError> {
+        let Some(bytes) = piece_of(span.bytes) else {
+            return Ok(0);
+        };
+        self.begin_span(span)?;
+        append_object(&mut self.text, Told { bytes, ..span })?;
+        append_more(&mut self.text)?;
+        Ok(bytes.len())
+    }
+
     /// The begin of a span's object: ahead of it stands one for each piece of a long span, but for the last.
     fn begin_object(&mut self, span: Told<'_>) -> Result<(), AllocError> {
         let mut rest = span;
         for _ in 0..span.bytes.len() {
-            let Some((bytes, behind)) = piece_of(rest.bytes) else {
+            let told = self.tell_piece(rest)?;
+            if told == 0 {
                 break;
-            };
-            self.begin_span(rest)?;
-            append_object(&mut self.text, Told { bytes, ..rest })?;
-            append_more(&mut self.text)?;
-            rest.place = rest.place.saturating_add(bytes.len() as u64);
-            rest.bytes = behind;
+            }
+            rest.place = rest.place.saturating_add(told as u64);
+            rest.bytes = rest.bytes.get(told..).unwrap_or(&[]);
         }
         self.begin_span(rest)?;
         self.behind = self.text.len();

@@ -101,7 +101,12 @@ impl<'a> Style<'a> {
         !self.full && self.joins_lines()
     }
 
-    /// Whether a span is held until it is over, so that all its bytes are there.
+    /// Whether a long span is told in pieces as it comes.
+    pub fn tells_pieces(&self) -> bool {
+        self.json && !self.decode && self.is_plain()
+    }
+
+    /// Whether a span is held until it is over, but for pieces of it that were told.
     pub fn holds_all(&self) -> bool {
         self.full || self.json || self.decode || self.grep.is_some()
     }

@@ -38,6 +38,8 @@ pub struct ControlString<'a> {
     pub len: u64,
     /// Whether ST, or BEL behind an OSC, closed it: it isn't over else, or something cancelled it.
     pub closed: bool,
+    /// Whether it was BEL that closed it.
+    pub bell: bool,
 }
 
 impl<'a> ControlString<'a> {
@@ -49,7 +51,7 @@ impl<'a> ControlString<'a> {
         if !self.closed {
             return Body { bytes, more };
         }
-        let ends: &[u8] = if self.ends_in_bell() {
+        let ends: &[u8] = if self.bell {
             b"\x07"
         } else {
             b"\x1b\\"
@@ -60,11 +62,6 @@ impl<'a> ControlString<'a> {
         }
         let more = more.saturating_sub(ends.len() as u64);
         Body { bytes, more }
-    }
-
-    /// Whether what is there ends in BEL, and BEL closes a string of this kind.
-    fn ends_in_bell(&self) -> bool {
-        self.opener() == b']' && self.front.last().copied() == Some(0x07)
     }
 
     /// The character behind the ESC that opens it.

@@ -19,6 +19,7 @@ pub(crate) fn string(alloc: Global, words: &str) -> Result<String, AllocError> {
         front: &front,
         len: len.parse().unwrap_or(0),
         closed: state == "closed",
+        bell: front.last().copied() == Some(0x07),
     };
     string.to_string(alloc)
 }

@@ -6,5 +6,6 @@ mod explain;
 mod input;
 mod page;
 mod stats;
+mod taken;
 
 pub use explain::Explainer;

@@ -2,6 +2,7 @@
 ghost use Rattle.std.specs.Prelude.{◌≤◌, IfOk, length};
 
 use crate::controls::{is_control, text_front, words_of};
+use crate::taken::words_with_taken;
 use csicodec_base::{CsiParam, Esc, ReadError, read_csi_into};
 use csicodec_parser::CSI;
 use csicodec_readings::{Did, EscReading, LongEscReading, Reading};
@@ -36,15 +37,15 @@ struct Open {
 }
 
 impl Open {
-    /// What isn't told of it yet, with this end of its line.
-    fn rest<'b>(&'b self, end: &'b [u8]) -> Told<'b> {
+    /// What isn't told of it yet.
+    fn rest(&self) -> Told<'_> {
         Told {
             sort: sort_of(self.kind),
             place: self.place.saturating_add(self.told),
             time: self.time,
             bytes: &self.front,
             len: self.len,
-            end,
+            end: &[],
         }
     }
 
@@ -183,10 +184,10 @@ fn tell_string(
     alloc: Global,
     sheet: &mut Sheet<'_>,
     span: Told<'_>,
-    string: &ControlString<'_>,
+    string: ControlString<'_>,
 ) -> Result<(), AllocError> {
     sheet.begin(span)?;
-    sheet.add(span, string)?;
+    sheet.add(span, &string)?;
     if sheet.style().decode {
         if let Some(bytes) = clipboard_bytes(alloc, span.bytes)? {
             sheet.add_decoded(span, &bytes)?;
@@ -229,7 +230,12 @@ fn tell_actions(
             control,
             sent: sheet.style().dialect.is_some(),
         };
-        sheet.add_action(span, &Described(&reading), &action)?;
+        if let CSI::Unspecified(_) = &action {
+            let words = words_with_taken(alloc, reading, count as usize)?;
+            sheet.add_action(span, &words, &action)?;
+        } else {
+            sheet.add_action(span, &Described(&reading), &action)?;
+        }
         count = count.saturating_add(1);
     }
     sheet.end(span)?;
@@ -340,17 +346,21 @@ impl<'a> Page<'a> {
 
     /// Tells the span of which more could have come, a text with this end of its line.
     fn close_open(&mut self, end: &[u8]) -> Result<(), AllocError> {
-        let kind = self.open.kind;
-        let span = self.open.rest(end);
+        let (kind, len) = (self.open.kind, self.open.len);
+        let (closed, bell) = (self.open.closed, self.open.bell);
+        let span = Told {
+            end,
+            ..self.open.rest()
+        };
         let string = ControlString {
             front: self.open.first(),
-            len: self.open.len,
-            closed: self.open.closed,
-            bell: self.open.bell,
+            len,
+            closed,
+            bell,
         };
         match kind {
             Kind::Text => self.sheet.tell_text(span),
-            Kind::Str => tell_string(self.alloc, &mut self.sheet, span, &string),
+            Kind::Str => tell_string(self.alloc, &mut self.sheet, span, string),
             Kind::Csi | Kind::Esc | Kind::Other => {
                 tell_wrong(&mut self.sheet, &mut self.totals, kind, span)
             }
@@ -591,7 +601,7 @@ impl<'a> Page<'a> {
     #[inline(never)]
     fn tell_pieces(&mut self) -> Result<(), AllocError> {
         for _ in 0..self.open.front.len() {
-            let told = self.sheet.tell_piece(self.open.rest(&[]))?;
+            let told = self.sheet.tell_piece(self.open.rest())?;
             if told == 0 {
                 break;
             }

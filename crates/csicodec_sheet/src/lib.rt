@@ -16,5 +16,5 @@ pub use counts::{Names, Sum};
 pub use decode::clipboard_bytes;
 pub use line::{Sort, Told, whole_characters};
 pub use sheet::Sheet;
-pub use style::{Style, is_among};
+pub use style::{Style, is_among, name_of};
 pub use totals::{Summary, Totals};

@@ -51,11 +51,7 @@ impl<'a> ControlString<'a> {
         if !self.closed {
             return Body { bytes, more };
         }
-        let ends: &[u8] = if self.bell {
-            b"\x07"
-        } else {
-            b"\x1b\\"
-        };
+        let ends: &[u8] = if self.bell { b"\x07" } else { b"\x1b\\" };
         if more == 0 {
             let bytes = bytes.strip_suffix(ends).unwrap_or(bytes);
             return Body { bytes, more };

@@ -15,3 +15,4 @@ pub mod Room
 pub mod Lost
 pub mod Came
 pub mod Straight
+pub mod Fronts

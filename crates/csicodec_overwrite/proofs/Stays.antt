@@ -22,20 +22,15 @@ use Rattle.csicodec_overwrite.specs.declared.line.Line.{Line}
 use Rattle.csicodec_overwrite.specs.declared.pen.Pen.{Pen}
 use Rattle.csicodec_overwrite.specs.declared.step.Step.{Step}
 use Rattle.csicodec_overwrite.specs.declared.step.Step.TheVariants as step
-use Rattle.csicodec_overwrite.specs.Cells.{chars_of, columns, glyph, is_empty, onto, trimmed, width}
+use Rattle.csicodec_overwrite.specs.Cells.{chars_of, columns, glyph, onto, trimmed, width}
 use Rattle.csicodec_overwrite.specs.Line.{Done, HasRoom, before, blank, cells_of, do_all, does, done, fresh, line, pen_behind, placed, put}
 use Rattle.csicodec_overwrite.specs.Steps.{of_char, of_chars, of_control, of_run}
 use Rattle.csicodec_overwrite.specs.Reading.{AreOfParts, Overwrites, Steps, most}
+use Rattle.csicodec_overwrite.specs.Private.Plain.{AreFull, closed}
 use Rattle.csicodec_overwrite.proofs.Once.{one_text}
 use Rattle.csicodec_overwrite.proofs.Texts.{chars_by, line_chars, shown_plain}
 
 -- ---- cells of which none is empty
-
-abbrev IsFull : Cell → Type 0
-IsFull cell = is_empty cell ≡ false
-
-abbrev AreFull : List Cell → Type 0
-AreFull cells = AllByRecursion IsFull cells
 
 -- their characters, where the last stands nearest
 abbrev chars : List Cell → List ℕ
@@ -51,7 +46,7 @@ chars_onto (x ∷ left) right =
 one_more : (x : Cell) (left : List Cell) → chars (x ∷ left) ≡ chars left ++ chars_of x
 one_more x left = chars_onto left (x ∷ []) ∙ ap (λ (t : List ℕ). chars left ++ t) (append-nil (chars_of x))
 
-full_trimmed : (left : List Cell) → AreFull left → trimmed left ≡ left
+pub full_trimmed : (left : List Cell) → AreFull left → trimmed left ≡ left
 full_trimmed [] h = refl
 full_trimmed (x ∷ left) h = ap (λ (t : Bool). cond t (trimmed left) (x ∷ left)) h.0
 
@@ -72,7 +67,7 @@ cells_chars g (suc w) left = behind w
     behind zero = one_more (Char g) left
     behind (suc n) = one_more Behind (replicate n Behind ++ Char g ∷ left) ∙ append-nil (chars (replicate n Behind ++ Char g ∷ left)) ∙ behind n
 
-cells_full : (g : Glyph) (w : ℕ) (left : List Cell) → AreFull left → AreFull (cells g w left)
+pub cells_full : (g : Glyph) (w : ℕ) (left : List Cell) → AreFull left → AreFull (cells g w left)
 cells_full g zero left h = (refl, h)
 cells_full g (suc w) left h = behind w
   where
@@ -88,7 +83,7 @@ cells_columns g (suc w) left = omega (arith, behind w)
     behind zero = omega arith
     behind (suc n) = omega (arith, behind n)
 
-cells_length : (g : Glyph) (w : ℕ) (left : List Cell) → length (cells g w left) ≡ length left + max w 1
+pub cells_length : (g : Glyph) (w : ℕ) (left : List Cell) → length (cells g w left) ≡ length left + max w 1
 cells_length g zero left = omega arith
 cells_length g (suc w) left = omega (arith, behind w)
   where
@@ -127,9 +122,9 @@ silent : (limit : ℕ) (pen : Pen) (s : Step) (steps : List Step) (l m : Line) �
 silent limit pen s steps l m e = ap (λ (d : Done). chars_by (before d.lines (do_all limit (pen_behind pen s (columns l.left)) steps d.line))) e
 
 -- a character that is shown ends the line, or stands in it
-abbrev Puts : Pen → ℕ → Type 0
+abbrev pub Puts : Pen → ℕ → Type 0
 Puts pen c = ((c == 10 ≡ true) × (of_char c ≡ step.NewLine ∷ []))
-    ⊎ ((c == 10 ≡ false) × ((s : Step) × (of_char c ≡ s ∷ []) × ((column : ℕ) → (pen_behind pen s column).inserts ≡ pen.inserts)
+    ⊎ ((c == 10 ≡ false) × ((s : Step) × (of_char c ≡ s ∷ []) × ((column : ℕ) → closed (pen_behind pen s column) ≡ closed pen)
     × ((limit : ℕ) (left : List Cell) → does limit pen s (line left []) ≡ put limit pen.inserts (glyph c pen.look) (line left []))))
 
 pub not_shown : (c d : ℕ) → c ≡ d → shown d ≡ false → IsShown c → ⊥
@@ -142,7 +137,7 @@ put_of c = by (c == 10) (c == 13) (c == 8) (c == 9) (shown c)
         → cond line (step.NewLine ∷ []) (cond return (step.Column 1 ∷ []) (cond back (step.Left 1 ∷ []) (cond tab (step.Tab ∷ []) (cond shows (step.Put c ∷ []) (of_control c))))) ≡ step.Put c ∷ []
     by line return back tab shows e f g i k = rw (e, f, g, i, k) refl
 
-puts : (pen : Pen) (c : ℕ) → IsShown c → Puts pen c
+pub puts : (pen : Pen) (c : ℕ) → IsShown c → Puts pen c
 puts pen c h = by (c == 10) (c == 13) (c == 8) (c == 9) (shown c) refl refl refl refl refl
   where
     by : (line return back tab shows : Bool) → (c == 10) ≡ line → (c == 13) ≡ return → (c == 8) ≡ back → (c == 9) ≡ tab → shown c ≡ shows → Puts pen c
@@ -177,7 +172,7 @@ stays limit pen (c ∷ cs) left over full all room = ⊎_elim
     ∙ ap (λ (t : List ℕ). (chars left ++ 10 ∷ []) ++ t) (stays limit next cs [] over tt all.1 (room_line limit (columns left) (length left) c cs k.0 room))
     ∙ append_assoc (chars left) (10 ∷ []) cs
     ∙ ap (λ (d : ℕ). chars left ++ d ∷ cs) (sym (newline_is c k.0)))
-    (λ (k : (c == 10 ≡ false) × ((s : Step) × (of_char c ≡ s ∷ []) × ((column : ℕ) → (pen_behind pen s column).inserts ≡ pen.inserts)
+    (λ (k : (c == 10 ≡ false) × ((s : Step) × (of_char c ≡ s ∷ []) × ((column : ℕ) → closed (pen_behind pen s column) ≡ closed pen)
     × ((limit : ℕ) (left : List Cell) → does limit pen s (line left []) ≡ put limit pen.inserts (glyph c pen.look) (line left [])))).
     let (s, of, same, puts) = k.1 in
     let w = width c (columns left) in
@@ -188,7 +183,7 @@ stays limit pen (c ∷ cs) left over full all room = ⊎_elim
     subst (λ (n : ℕ). HasRoom limit n (length next) cs) (sym (cells_columns g w left)) (subst (λ (m : ℕ). HasRoom limit (columns left + w) m cs) (sym (cells_length g w left)) more.1) in
     ap (λ (x : List Step). chars_by (do_all limit pen (x ++ of_chars cs) (line left []))) of
     ∙ silent limit pen s (of_chars cs) (line left []) (line next []) (puts limit left ∙ ap (λ (b : Bool). put limit b g (line left [])) over ∙ put_cells limit g left more.0)
-    ∙ stays limit (pen_behind pen s (columns left)) cs next (same (columns left) ∙ over) (cells_full g w left full) all.1 room_next
+    ∙ stays limit (pen_behind pen s (columns left)) cs next (ap (λ (p : Pen). p.inserts) (same (columns left)) ∙ over) (cells_full g w left full) all.1 room_next
     ∙ ap (λ (t : List ℕ). t ++ cs) (cells_chars g w left)
     ∙ append_assoc (chars left) (c ∷ []) cs)
     (puts pen c all.0)

@@ -1,7 +1,8 @@
 -- Text of ASCII, which takes no reading, and its lines, which stand as they come.
-use Rattle.std.proofs.Common.{◌≡◌, ◌≢◌, ◌<◌, ◌≤◌, ◌+◌, ◌*◌, ◌/◌, ℕ, Bool, true, false, cond, List, [], ◌∷◌, ◌++◌, length, encode_utf8_all, refl, sym, ap, subst, ◌∙◌, append_assoc, append-nil, arith, ne_eqb}
+use Rattle.std.proofs.Common.{◌≡◌, ◌≢◌, ◌<◌, ◌≤◌, ◌+◌, ◌*◌, ◌/◌, ℕ, Bool, true, false, cond, List, [], ◌∷◌, ◌++◌, length, drop, encode_utf8_all, refl, sym, ap, subst, ◌∙◌, append_assoc, append-nil, arith, ne_eqb}
 use Rattle.std.specs.Prelude.{◌==◌, nat_le, nat_lt, MatchBool, max, unwrap_or, Option, Some, None}
 use Rattle.std.specs.List.{AllByRecursion, flat_map}
+use Rattle.std.proofs.Math.Seq.{drop-append_seam}
 use Rattle.std.proofs.lemmas.Bool.{eqb-true}
 use Rattle.std.proofs.lemmas.Bool.Decides.{nat_tests}
 use Rattle.unicode_width.specs.Width.{char_width}
@@ -35,20 +36,26 @@ use Rattle.csicodec_overwrite.specs.Line.{Done, HasRoom, blank, cells_of, do_all
 use Rattle.csicodec_overwrite.specs.Paint.{ended, look_of, paint, text_of, texts_of, turn}
 use Rattle.csicodec_overwrite.specs.Steps.{of_char, of_chars}
 use Rattle.csicodec_overwrite.specs.Reading.{AreOfParts}
-use Rattle.csicodec_overwrite.specs.Stream.{Held, Now, Passes, Reads, none_held}
-use Rattle.csicodec_overwrite.specs.Private.Plain.{GoesBehind, IsShortLine, IsStraight, Leads, PutsPlain}
+use Rattle.csicodec_overwrite.specs.Stream.{Held, Reads, none_held}
+use Rattle.csicodec_overwrite.specs.Private.Plain.{GoesBehind, IsShortLine, IsStraight, PutsPlain, closed}
 use Rattle.csicodec_overwrite.proofs.Chars.{chars_on}
 use Rattle.csicodec_overwrite.proofs.Kept.{OfCell, OfCells, OfLast, OfStep, of_all}
 use Rattle.csicodec_overwrite.proofs.Same.{not_titled}
 use Rattle.csicodec_overwrite.proofs.Stays.{cells, not_shown, of_singles, put_cells, put_of, stays}
 use Rattle.csicodec_overwrite.proofs.Texts.{shown_plain}
-use Rattle.csicodec_overwrite.proofs.Written.{line_on, passes_on, pen_on}
+use Rattle.csicodec_overwrite.proofs.Written.{line_on, pen_on}
 
 -- ---- its bytes
 
 pub parts_plain : (xs ys : List ℕ) → AllByRecursion IsPlainByte (xs ++ ys) → AllByRecursion IsPlainByte xs × AllByRecursion IsPlainByte ys
 parts_plain [] ys h = (tt, h)
 parts_plain (x ∷ xs) ys h = let (front, behind) = parts_plain xs ys h.1 in ((h.0, front), behind)
+
+-- bytes of which those in front are split off
+pub rest_is : (bytes lines more far rest : List ℕ) → bytes ≡ (lines ++ more) ++ far → rest ≡ drop (length lines) bytes → bytes ≡ lines ++ rest
+rest_is bytes lines more far rest e is =
+    let whole = e ∙ append_assoc lines more far in
+    whole ∙ ap (λ (t : List ℕ). lines ++ t) (sym (is ∙ ap (drop (length lines)) whole ∙ drop-append_seam lines (more ++ far)))
 
 pub short_line : (limit : ℕ) (text front : List ℕ) (b : ℕ) → text ≡ front ++ b ∷ [] → b ≡ 10 → nat_le (length text) (limit / 8) ≡ true → IsShortLine limit text
 short_line limit text front b e is few =
@@ -60,7 +67,7 @@ short_line limit text front b e is few =
 is_read : (bs : List ℕ) → AllByRecursion IsPlainByte bs → IsRead bs bs []
 is_read bs h = λ more. ap (λ (t : List ℕ). lossy_chars (t ++ more)) (encoded bs h) ∙ read_encoded bs more (scalars bs h)
 
-reads_plain : (text : List ℕ) → AllByRecursion IsPlainByte text → Reads none_held text (of_chars text) none_held
+pub reads_plain : (text : List ℕ) → AllByRecursion IsPlainByte text → Reads none_held text (of_chars text) none_held
 reads_plain text h = record {
   unsure = none_unsure longest mode.Text;
   goes = λ run chars read. record {
@@ -81,10 +88,6 @@ pub reads_text : (held : Held) (text : List ℕ) → held ≡ none_held → AllB
 reads_text held text e h = rw e (reads_plain text h)
 
 -- ---- what its characters do
-
--- behind a newline
-abbrev closed : Pen → Pen
-closed pen = record pen { last = None; here = false }
 
 abbrev Any : ℕ → Type 0
 Any c = Unit {0}
@@ -111,7 +114,7 @@ does_one c h = by (c == 10) (c == 13) (c == 8) (c == 9) refl refl refl refl
     by false false false true e f g i = record { s = step.Tab; is = rw (e, f, g, i) refl; pens = λ pen column. refl; even = tt }
     by false false false false e f g i = record { s = step.Put c; is = put_of c e f g i h; pens = λ pen column. refl; even = tt }
 
-pens_kept : (limit : ℕ) (pen : Pen) (cs : List ℕ) (l : Line) → AllByRecursion IsShown cs → closed (pen_behind_all limit pen (of_chars cs) l) ≡ closed pen
+pub pens_kept : (limit : ℕ) (pen : Pen) (cs : List ℕ) (l : Line) → AllByRecursion IsShown cs → closed (pen_behind_all limit pen (of_chars cs) l) ≡ closed pen
 pens_kept limit pen [] l h = refl
 pens_kept limit pen (c ∷ cs) l h =
     let d = does_one c h.0 in
@@ -164,7 +167,7 @@ same_texts limit false pen cs h look = refl
 
 -- ---- a line
 
-few_cells : (c column : ℕ) → max (width c column) 1 ≤ 8
+pub few_cells : (c column : ℕ) → max (width c column) 1 ≤ 8
 few_cells c column = by (c == 9)
   where
     by : (t : Bool) → max (cond t (to_tab_stop column) (unwrap_or (char_width false c) 0)) 1 ≤ 8
@@ -215,7 +218,7 @@ module _ (limit : ℕ) (painted : Bool) (pen : Pen) (text : List ℕ) (l : Line)
 
 -- ---- a character behind all others
 
-narrow : (c column : ℕ) → 32 ≤ c → c < 127 → width c column ≡ 1
+pub narrow : (c column : ℕ) → 32 ≤ c → c < 127 → width c column ≡ 1
 unfolding char_width
 narrow c column low high = by (c == 9) (nat_lt c 127) (nat_le 32 c) (grind (arith, nat_tests)) (grind (arith, nat_tests)) (grind (arith, nat_tests))
   where
@@ -234,11 +237,3 @@ goes_line limit pen c l (low, high, over, none, few) =
 
 pub goes_text : (limit : ℕ) (painted : Bool) (pen : Pen) (c : ℕ) (l : Line) (out : List ℕ) → GoesBehind limit pen c l → out ≡ out ++ texts_of painted (put limit pen.inserts (glyph c pen.look) l).lines
 goes_text limit painted pen c l out s = sym (append-nil out) ∙ sym (ap (λ (d : Done). out ++ texts_of painted d.lines) (goes limit pen c l s))
-
--- ---- one behind the other
-
-pub leads_none : (now : Now) → Leads now [] [] now
-leads_none now more out last h = h
-
-pub leads_on : (old mid new : Now) (first second one two : List ℕ) → Leads old first one mid → Passes mid second two new → Leads old (first ++ second) (one ++ two) new
-leads_on old mid new first second one two h p more out last k = rw (append_assoc first second more, append_assoc one two out) (h (second ++ more) (two ++ out) last (passes_on mid new last second more two out p k))

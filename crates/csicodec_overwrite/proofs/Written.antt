@@ -11,7 +11,7 @@ use Rattle.csicodec_overwrite.specs.Line.{blank, cells_of, do_all, does, fresh, 
 use Rattle.csicodec_overwrite.specs.Paint.{text_of, texts_of}
 use Rattle.csicodec_overwrite.specs.Steps.{of_run}
 use Rattle.csicodec_overwrite.specs.Reading.{Shows, most, shown_by}
-use Rattle.csicodec_overwrite.specs.Stream.{AreTaken, Ending, Now, Passes, Reads, begun_as}
+use Rattle.csicodec_overwrite.specs.Stream.{AreTaken, Ending, Now, Passes, Reads, begun_as, none_held}
 use Rattle.csicodec_overwrite.proofs.Read.{reads_none, reads_on, whole_reads}
 use Rattle.csicodec_overwrite.proofs.Texts.{texts_on}
 
@@ -47,9 +47,9 @@ shown_on painted limit xs ys pen l =
 
 -- ---- a stream
 
--- nothing came yet
-pub passes_none : (painted : Bool) → Passes (begun_as painted) [] [] (begun_as painted)
-passes_none painted = record { steps = []; reads = reads_none; pen = refl; painted = refl; line = refl; all = refl }
+-- nothing comes, where nothing is held
+pub passes_none : (now : Now) → now.reader ≡ none_held → Passes now [] [] now
+passes_none now bare = record { steps = []; reads = rw bare reads_none; pen = refl; painted = refl; line = refl; all = refl }
 
 -- bytes more
 pub passes_on : (old mid new : Now) (first second one two : List ℕ) → Passes old first one mid → Passes mid second two new → Passes old (first ++ second) (one ++ two) new
@@ -130,4 +130,4 @@ taken_on first old last bytes text (chunk ∷ chunks) more p (mid, one, others, 
     rw (← append_assoc bytes chunk (concat chunks), e, ← append_assoc text one others) all
 
 pub any_chunks : (painted : Bool) (chunks : List (List ℕ)) (text rest : List ℕ) (last : Now) → AreTaken (begun_as painted) chunks text last → Ending last rest → Shows painted (concat chunks) (text ++ rest)
-any_chunks painted chunks text rest last taken ending = shows painted (concat chunks) text rest last (taken_on (begun_as painted) (begun_as painted) last [] [] chunks text (passes_none painted) taken) ending
+any_chunks painted chunks text rest last taken ending = shows painted (concat chunks) text rest last (taken_on (begun_as painted) (begun_as painted) last [] [] chunks text (passes_none (begun_as painted) refl) taken) ending

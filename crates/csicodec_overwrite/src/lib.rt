@@ -3,6 +3,7 @@
 
 mod ascii;
 mod cells;
+mod front;
 pub mod laws;
 mod line;
 mod overwriter;

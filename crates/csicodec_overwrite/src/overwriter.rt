@@ -1,17 +1,20 @@
 //! A stream of which each line is overwritten, as it comes.
-ghost use Rattle.std.specs.Prelude.{◌≡◌, ◌≤◌, ◌<◌, ◌++◌, ℕ, List, OnOk, IfOk, length, true};
+ghost use Rattle.std.specs.Prelude.{◌≡◌, ◌≤◌, ◌<◌, ◌++◌, ℕ, List, OnOk, IfOk, false, length, true};
 ghost use Rattle.std.specs.List.{AllByRecursion};
 ghost use Rattle.csicodec_clean.specs.Bytes.{IsPlainByte};
-ghost use Rattle.csicodec_overwrite.specs.Private.Plain.{Leads};
+ghost use Rattle.csicodec_overwrite.specs.Line.{blank};
 ghost use Rattle.csicodec_overwrite.specs.Stream.{Ending, Passes, begun, begun_as, none_held};
 
-use crate::ascii::{lines_len, odd_len};
+use crate::ascii::{InLine, behind_newline, has_line, lines_len, odd_len, style_len};
+use crate::front::{Looks, append_front};
 use crate::line::Line;
+use crate::paint::append_turned;
 use crate::pen::Pen;
 use crate::reader::Reader;
 use crate::step::Step;
 use csicodec_clean::{PlainAscii, split_front};
 use csicodec_filter::Transform;
+use csicodec_html::Look;
 use csicodec_spans::LIMIT;
 use std::alloc::{AllocError, Global};
 use std::marker::Model;
@@ -30,6 +33,8 @@ pub struct Overwriter {
     line: Line,
     /// A place that is kept for the steps of a slice.
     steps: Vec<Step>,
+    /// Reads the sequences of a line that is written as it comes.
+    looks: Looks,
 }
 
 impl Model for Overwriter {
@@ -65,6 +70,7 @@ impl Overwriter {
             painted,
             line: Line::new(alloc),
             steps: Vec::new(alloc),
+            looks: Looks::new(alloc),
         }
     }
 
@@ -88,18 +94,17 @@ impl Overwriter {
         Ok(())
     }
 
-    /// Takes the text of ASCII in front, if nothing is open or held, and answers what is behind it.
+    /// Takes the text of ASCII in front, up to its last newline if there is one, and answers what is behind it.
     fn take_texts<'a>(&mut self, bytes: &'a [u8], out: &mut Vec<u8>) -> Result<&'a [u8], AllocError>
-        ensures leads { IfOk result (λ rest. (front : List ℕ) × (text : List ℕ)
-            × (bytes.now ≡ front ++ rest.now) × Leads self.old front text self.new
+        requires { self.old.reader ≡ none_held }
+        ensures passes { IfOk result (λ rest. (front : List ℕ) × (text : List ℕ)
+            × (bytes.now ≡ front ++ rest.now) × Passes self.old front text self.new
             × (out.new.items ≡ out.old.items ++ text)) }
-        ensures reader { OnOk result (self.new.reader ≡ self.old.reader) }
+        ensures reader { OnOk result (self.new.reader ≡ none_held) }
     {
-        if !self.is_bare() {
-            return Ok(bytes);
-        }
-        let (front, rest) = split_front::<PlainAscii>(bytes);
-        let mut text = front;
+        let front = split_front::<PlainAscii>(bytes).0;
+        let mut text = front.split_at(lines_len(front, front.len())).0;
+        let rest = bytes.split_at(text.len()).1;
         while !text.is_empty() {
             let most = if self.line.is_blank() { LIMIT / 8 } else { 0 };
             let (lines, behind) = text.split_at(lines_len(text, most));
@@ -123,7 +128,75 @@ impl Overwriter {
         Ok(())
     }
 
-    /// Takes the text of ASCII in front, and some bytes behind it step by step, and answers the others.
+    /// Takes some bytes in front step by step, and answers the others.
+    fn take_odd<'a>(&mut self, bytes: &'a [u8], out: &mut Vec<u8>) -> Result<&'a [u8], AllocError>
+        ensures passes { IfOk result (λ rest. (front : List ℕ) × (text : List ℕ)
+            × (bytes.now ≡ front ++ rest.now) × Passes self.old front text self.new
+            × (out.new.items ≡ out.old.items ++ text)) }
+        ensures fewer { IfOk result
+            (λ rest. 0 < length bytes.now → length rest.now < length bytes.now) }
+        ensures held { OnOk result
+            (length self.old.reader.held ≤ 3 → length self.new.reader.held ≤ 3) }
+    {
+        let (front, rest) = bytes.split_at(odd_len(bytes, !self.is_bare()));
+        self.take_steps(front, out)?;
+        Ok(rest)
+    }
+
+    /// Whether a line may begin here that is written as it comes, and has a sequence that sets how it looks.
+    fn begins_line(&self, bytes: &[u8]) -> bool
+        ensures { result ≡ true → (self.now.line ≡ blank) × (self.now.pen.inserts ≡ false) }
+    {
+        if !self.line.is_blank() || self.pen.inserts {
+            return false;
+        }
+        style_len(split_front::<InLine>(bytes).1) > 0 && has_line(bytes)
+    }
+
+    /// Takes the line in front, written as it comes. Where it can't be, it takes step by step the bytes that might have been written so.
+    fn take_line<'a>(&mut self, bytes: &'a [u8], out: &mut Vec<u8>) -> Result<&'a [u8], AllocError>
+        requires bare { self.old.reader ≡ none_held }
+        requires blank { self.old.line ≡ blank }
+        requires over { self.old.pen.inserts ≡ false }
+        ensures passes { IfOk result (λ rest. (front : List ℕ) × (text : List ℕ)
+            × (bytes.now ≡ front ++ rest.now) × Passes self.old front text self.new
+            × (out.new.items ≡ out.old.items ++ text)) }
+        ensures held { OnOk result (length self.new.reader.held ≤ 3) }
+    {
+        let before = out.len();
+        let front = append_front(&mut self.looks, self.pen, self.painted, bytes, out)?;
+        if let Some(rest) = behind_newline(front.rest) {
+            append_turned(self.painted, front.last, Look::plain(), out)?;
+            out.push(b'\n')?;
+            let pen = Pen {
+                look: front.now,
+                ..self.pen
+            };
+            self.pen = pen.behind(Step::NewLine, 0);
+            return Ok(rest);
+        }
+        out.truncate(before);
+        let (odd, rest) = bytes.split_at(bytes.len().saturating_sub(front.rest.len()));
+        self.take_steps(odd, out)?;
+        Ok(rest)
+    }
+
+    /// Takes the line in front, or the text of ASCII.
+    fn take_ready<'a>(&mut self, bytes: &'a [u8], out: &mut Vec<u8>) -> Result<&'a [u8], AllocError>
+        requires { self.old.reader ≡ none_held }
+        ensures passes { IfOk result (λ rest. (front : List ℕ) × (text : List ℕ)
+            × (bytes.now ≡ front ++ rest.now) × Passes self.old front text self.new
+            × (out.new.items ≡ out.old.items ++ text)) }
+        ensures held { OnOk result (length self.new.reader.held ≤ 3) }
+    {
+        if self.begins_line(bytes) {
+            return self.take_line(bytes, out);
+        }
+        let rest = self.take_texts(bytes, out)?;
+        Ok(rest)
+    }
+
+    /// Takes a line or the text of ASCII in front, where nothing is open or held, or else some bytes step by step, and answers the others.
     fn take_front<'a>(&mut self, bytes: &'a [u8], out: &mut Vec<u8>) -> Result<&'a [u8], AllocError>
         ensures passes { IfOk result (λ rest. (front : List ℕ) × (text : List ℕ)
             × (bytes.now ≡ front ++ rest.now) × Passes self.old front text self.new
@@ -133,10 +206,15 @@ impl Overwriter {
         ensures held { OnOk result
             (length self.old.reader.held ≤ 3 → length self.new.reader.held ≤ 3) }
     {
-        let odd = self.take_texts(bytes, out)?;
-        let (front, rest) = odd.split_at(odd_len(odd, !self.is_bare()));
-        self.take_steps(front, out)?;
-        Ok(rest)
+        if !self.is_bare() {
+            return self.take_odd(bytes, out);
+        }
+        let rest = self.take_ready(bytes, out)?;
+        if rest.len() < bytes.len() {
+            return Ok(rest);
+        }
+        let odd = self.take_odd(rest, out)?;
+        Ok(odd)
     }
 
     /// Takes the next bytes, and appends the lines that are over now.

@@ -4,6 +4,7 @@ ghost use Rattle.std.specs.List.{flat_map};
 ghost use Rattle.csicodec_html.specs.Look.{is_default, is_none, is_normal};
 ghost use Rattle.csicodec_overwrite.specs.Cells.{chars_of};
 ghost use Rattle.csicodec_overwrite.specs.Paint.{further, given, look_of, look_text, paint, same, same_color, same_flag, same_intensity, same_underline, text_of, turn};
+ghost use Rattle.csicodec_overwrite.specs.Private.Front.{turned};
 
 use crate::cells::Cell;
 use bstr::ByteVec;
@@ -120,6 +121,21 @@ fn append_turn(old: Look, new: Look, out: &mut Vec<u8>) -> Result<(), AllocError
         return Ok(());
     }
     append_look(new, out)
+}
+
+/// The same where lines are painted.
+pub(crate) fn append_turned(
+    painted: bool,
+    old: Look,
+    new: Look,
+    out: &mut Vec<u8>,
+) -> Result<(), AllocError>
+    ensures { OnOk result (out.new.items ≡ out.old.items ++ turned painted old new) }
+{
+    if painted {
+        return append_turn(old, new, out);
+    }
+    Ok(())
 }
 
 /// How a cell looks behind others that look so.

@@ -152,6 +152,16 @@ impl Reader {
         self.mode == Mode::Text && !self.titled && self.pending.is_empty() && self.held.is_empty()
     }
 
+    /// As if nothing had come.
+    pub(crate) fn clear(&mut self)
+        ensures { self.new ≡ none_held }
+    {
+        self.mode = Mode::Text;
+        self.titled = false;
+        self.pending.clear();
+        self.held.clear();
+    }
+
     /// Takes the next bytes, and appends the steps of all that is sure now.
     pub(crate) fn push(&mut self, bytes: &[u8], steps: &mut Vec<Step>) -> Result<(), AllocError>
         ensures reads { OnOk result ((more : _) × Reads self.old bytes.now more self.new

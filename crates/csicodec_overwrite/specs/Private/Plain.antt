@@ -1,10 +1,12 @@
 -- Plain text that is put at once. No promise rests on this file.
-use Rattle.std.specs.Prelude.{ℕ, ◌≡◌, ◌≤◌, ◌<◌, ◌*◌, Bool, true, false, List, [], ◌∷◌, ◌++◌, length}
+use Rattle.std.specs.Prelude.{ℕ, ◌≡◌, ◌≤◌, ◌<◌, ◌*◌, ◌==◌, ◌&&◌, ◌||◌, nat_le, nat_lt, Bool, true, false, List, [], ◌∷◌, ◌++◌, length, None}
+use Rattle.std.specs.List.{AllByRecursion}
 use Rattle.csicodec_html.specs.Look.{plain}
+use Rattle.csicodec_overwrite.specs.declared.cells.Cell.{Cell}
 use Rattle.csicodec_overwrite.specs.declared.line.Line.{Line}
 use Rattle.csicodec_overwrite.specs.declared.pen.Pen.{Pen}
+use Rattle.csicodec_overwrite.specs.Cells.{is_empty}
 use Rattle.csicodec_overwrite.specs.Line.{blank}
-use Rattle.csicodec_overwrite.specs.Stream.{Now, Passes}
 
 -- text that ends its line, and so short that a line of so many cells has room for it
 abbrev pub IsShortLine : ℕ → List ℕ → Type 0
@@ -22,7 +24,20 @@ IsStraight limit painted pen text l = (l ≡ blank) × PutsPlain painted pen × 
 abbrev pub GoesBehind : ℕ → Pen → ℕ → Line → Type 0
 GoesBehind limit pen c l = (32 ≤ c) × (c < 127) × (pen.inserts ≡ false) × (l.right ≡ []) × (length l.left < limit)
 
--- whatever passes behind these bytes passes with them too
-abbrev pub Leads : Now → List ℕ → List ℕ → Now → Type 0
-Leads old bytes text new = (more out : List ℕ) (last : Now) → Passes new more out last
-    → Passes old (bytes ++ more) (text ++ out) last
+-- a tab or a character of ASCII that is no control
+abbrev pub line_byte : ℕ → Bool
+line_byte b = b == 9 || nat_le 32 b && nat_lt b 127
+
+abbrev pub IsLineByte : ℕ → Type 0
+IsLineByte b = line_byte b ≡ true
+
+-- none of the cells is empty
+abbrev pub IsFull : Cell → Type 0
+IsFull cell = is_empty cell ≡ false
+
+abbrev pub AreFull : List Cell → Type 0
+AreFull cells = AllByRecursion IsFull cells
+
+-- behind a newline
+abbrev pub closed : Pen → Pen
+closed pen = record pen { last = None; here = false }

@@ -1,10 +1,11 @@
-use Rattle.std.proofs.Common.{true}
+use Rattle.std.proofs.Common.{refl, true}
 use Rattle.std.proofs.lemmas.Result.{on_err_weaker, on_ok_weaker}
+use Rattle.csicodec_overwrite.specs.Stream.{begun_as}
 use Rattle.csicodec_overwrite.proofs.Written.{begins, passes_none, transformed}
 use Rattle.csicodec_overwrite.proofs.page.html_overwritten_all.Goals as goal
 
 pub html_through-requires-clause-begun : goal.html_through-requires-clause-begun
-html_through-requires-clause-begun g c = rw c.painting.ensures (passes_none true)
+html_through-requires-clause-begun g c = rw c.painting.ensures (passes_none (begun_as true) refl)
 
 pub returns-clause-ok : goal.returns-clause-ok
 returns-clause-ok g c = on_ok_weaker c.html_through.result

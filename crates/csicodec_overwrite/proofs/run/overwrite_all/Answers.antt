@@ -1,4 +1,4 @@
-use Rattle.std.proofs.Common.{false}
+use Rattle.std.proofs.Common.{false, refl}
 use Rattle.csicodec_filter.specs.Transform.{Sends, Transforms}
 use Rattle.csicodec_clean.specs.Shown.{IsPlain}
 use Rattle.csicodec_clean.proofs.Streams.{Texts, streams_one}
@@ -10,7 +10,7 @@ use Rattle.csicodec_overwrite.proofs.Written.{begins, passes_none, transformed}
 use Rattle.csicodec_overwrite.proofs.run.overwrite_all.Goals as goal
 
 pub transform_all-requires-clause-begun : goal.transform_all-requires-clause-begun
-transform_all-requires-clause-begun g c = rw c.new.ensures (passes_none false)
+transform_all-requires-clause-begun g c = rw c.new.ensures (passes_none (begun_as false) refl)
 
 pub returns : goal.returns
 returns g c =

@@ -1,23 +1,39 @@
 use Rattle.std.proofs.Common.{◌++◌, sym, ap, ◌∙◌, append_assoc, arith, length, length-append}
+use Rattle.csicodec_overwrite.proofs.Written.{passes_on}
 use Rattle.csicodec_overwrite.proofs.overwriter.Overwriter.take_front.Goals as goal
+
+pub take_ready-requires : goal.take_ready-requires
+take_ready-requires c = c.is_bare.ensures c.if-not-is_bare.false
+
+pub returns-then-rest-bytes-clause-passes : goal.returns-then-rest-bytes-clause-passes
+returns-then-rest-bytes-clause-passes c = c.in_ok-rest.ensures.passes
+
+pub returns-then-rest-bytes-clause-fewer : goal.returns-then-rest-bytes-clause-fewer
+returns-then-rest-bytes-clause-fewer c = λ some. c.if-rest-bytes.true
+
+pub returns-then-rest-bytes-clause-held : goal.returns-then-rest-bytes-clause-held
+returns-then-rest-bytes-clause-held c = λ few. c.in_ok-rest.ensures.held
 
 pub returns-clause-passes : goal.returns-clause-passes
 returns-clause-passes c =
-    let (front, text, split, leads, out) = c.in_ok-odd.ensures.leads in
-    let (more, passes, longer) = c.in_ok-take_steps.ensures.passes in
-    let odd = c.split_at.result.0.now in
-    let rest = c.split_at.result.1.now in (
-      front ++ odd,
+    let (front, text, split, passes, out) = c.in_ok-rest.ensures.passes in
+    let (here, more, next, then, longer) = c.in_ok-odd.ensures.passes in (
+      front ++ here,
       text ++ more,
-      split ∙ ap (λ t. front ++ t) c.split_at.ensures.by_index.0 ∙ sym (append_assoc front odd rest),
-      leads odd more c.take_steps.new.self passes,
+      split ∙ ap (λ t. front ++ t) next ∙ sym (append_assoc front here c.in_ok-odd.odd.now),
+      passes_on c.args.self.now c.take_ready.new.self c.take_odd-2.new.self front here text more passes then,
       longer ∙ ap (λ t. t ++ more) out ∙ append_assoc c.args.out.now.items text more,
     )
 
 pub returns-clause-fewer : goal.returns-clause-fewer
 returns-clause-fewer c = λ some.
-    let (front, text, split, leads, out) = c.in_ok-odd.ensures.leads in
-    omega (arith, some, ap length split, length-append front c.in_ok-odd.odd.now, c.odd_len.ensures.some, c.split_at.ensures.back_len)
+    let (front, text, split, passes, out) = c.in_ok-rest.ensures.passes in
+    omega (
+      arith,
+      c.in_ok-odd.ensures.fewer (omega (arith, some, c.if-rest-bytes.false)),
+      ap length split,
+      length-append front c.in_ok-rest.rest.now,
+    )
 
 pub returns-clause-held : goal.returns-clause-held
-returns-clause-held c = λ few. c.in_ok-take_steps.ensures.held (rw c.in_ok-odd.ensures.reader few)
+returns-clause-held c = λ few. c.in_ok-odd.ensures.held c.in_ok-rest.ensures.held

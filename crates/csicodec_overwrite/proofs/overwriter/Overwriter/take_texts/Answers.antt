@@ -1,41 +1,55 @@
-use Rattle.std.proofs.Common.{◌++◌, [], refl, sym, ap, ◌∙◌, append_assoc, append-nil, take-append-drop}
-use Rattle.std.specs.List.{prefix_len}
-use Rattle.csicodec_clean.specs.Bytes.{plain_byte}
+use Rattle.std.proofs.Common.{◌≡◌, ◌++◌, [], drop, sym, ap, ◌∙◌, append_assoc, append-nil, take-append-drop}
+use Rattle.std.specs.List.{AllByRecursion, prefix_len}
+use Rattle.csicodec_clean.specs.Bytes.{IsPlainByte, plain_byte}
 use Rattle.csicodec_clean.proofs.Bytes.{front_in}
-use Rattle.csicodec_overwrite.proofs.Straight.{leads_none, leads_on, parts_plain}
+use Rattle.csicodec_overwrite.proofs.Straight.{parts_plain, rest_is}
+use Rattle.csicodec_overwrite.proofs.Written.{passes_none, passes_on}
 use Rattle.csicodec_overwrite.proofs.overwriter.Overwriter.take_texts.Goals as goal
-
-pub returns-then-not-is_bare-clause-leads : goal.returns-then-not-is_bare-clause-leads
-returns-then-not-is_bare-clause-leads c = ([], [], refl, leads_none c.args.self.now, sym (append-nil c.args.out.now.items))
 
 pub loop-text-init : goal.loop-text-init
 loop-text-init c =
     let bytes = c.args.bytes.now in
-    let is = c.split_front.ensures in
+    let len = prefix_len plain_byte bytes in
+    let front = c.split_front.result.0.now in
+    let lines = c.split_at.result.0.now in
+    let more = c.split_at.result.1.now in
+    let parts : front ≡ lines ++ more = c.split_at.ensures.by_index.0 in
+    let plain : AllByRecursion IsPlainByte front = rw c.split_front.ensures.front (front_in plain_byte bytes) in
+    let whole : bytes ≡ (lines ++ more) ++ drop len bytes = sym (take-append-drop len bytes)
+    ∙ ap (λ t. t ++ drop len bytes) (sym c.split_front.ensures.front ∙ parts) in
     record {
-      leads = ([], [], rw (is.front, is.rest) (sym (take-append-drop (prefix_len plain_byte bytes) bytes)), leads_none c.args.self.now, sym (append-nil c.args.out.now.items));
-      bare = c.is_bare.ensures c.if-not-is_bare.false;
-      plain = rw is.front (front_in plain_byte bytes);
+      passes = (
+        [],
+        [],
+        rest_is bytes lines more (drop len bytes) c.split_at-2.result.1.now whole c.split_at-2.ensures.back,
+        passes_none c.args.self.now c.requires,
+        sym (append-nil c.args.out.now.items),
+      );
+      bare = c.requires;
+      plain = (parts_plain lines more (rw parts at plain)).0;
     }
 
 pub take_text-requires-clause-plain : goal.take_text-requires-clause-plain
-take_text-requires-clause-plain c = (parts_plain c.split_at.result.0.now c.split_at.result.1.now (rw c.split_at.ensures.by_index.0 at c.loop-text.invariant.plain)).0
+take_text-requires-clause-plain c =
+    (parts_plain c.split_at-in-loop-text.result.0.now c.split_at-in-loop-text.result.1.now
+    (rw c.split_at-in-loop-text.ensures.by_index.0 at c.loop-text.invariant.plain)).0
 
 pub loop-text-preserved : goal.loop-text-preserved
 loop-text-preserved c =
     let l = c.loop-text in
-    let (front, more, split, leads, out) = l.invariant.leads in
-    let here = c.split_at.result.0.now in
-    let behind = c.split_at.result.1.now in
-    let (later, passes, longer) = c.in_ok-take_text.ensures.passes in
-    let rest = c.split_front.result.1.now in
-    let parts = c.split_at.ensures.by_index.0 in
+    let (front, more, split, passes, out) = l.invariant.passes in
+    let here = c.split_at-in-loop-text.result.0.now in
+    let behind = c.split_at-in-loop-text.result.1.now in
+    let (later, then, longer) = c.in_ok-take_text.ensures.passes in
+    let rest = c.split_at-2.result.1.now in
+    let parts = c.split_at-in-loop-text.ensures.by_index.0 in
     record {
-      leads = (
+      passes = (
         front ++ here,
         more ++ later,
-        split ∙ ap (λ t. front ++ (t ++ rest)) parts ∙ ap (λ t. front ++ t) (append_assoc here behind rest) ∙ sym (append_assoc front here (behind ++ rest)),
-        leads_on c.args.self.now l.self c.take_text.new.self front here more later leads passes,
+        split ∙ ap (λ t. front ++ (t ++ rest)) parts ∙ ap (λ t. front ++ t) (append_assoc here behind rest)
+            ∙ sym (append_assoc front here (behind ++ rest)),
+        passes_on c.args.self.now l.self c.take_text.new.self front here more later passes then,
         longer ∙ ap (λ t. t ++ later) out ∙ append_assoc c.args.out.now.items more later,
       );
       bare = c.in_ok-take_text.ensures.reader;

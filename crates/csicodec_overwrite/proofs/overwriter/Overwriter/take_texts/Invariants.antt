@@ -1,14 +1,13 @@
 use Rattle.std.proofs.Common.{◌≡◌, ◌++◌, ℕ, List, length}
 use Rattle.std.specs.List.{AllByRecursion}
 use Rattle.csicodec_clean.specs.Bytes.{IsPlainByte}
-use Rattle.csicodec_overwrite.specs.Private.Plain.{Leads}
-use Rattle.csicodec_overwrite.specs.Stream.{none_held}
+use Rattle.csicodec_overwrite.specs.Stream.{Passes, none_held}
 use Rattle.csicodec_overwrite.proofs.overwriter.Overwriter.take_texts.Given as goal
 
 -- some text was taken, where nothing is held
 abbrev pub invariant-loop-text : goal.invariant-loop-text
 invariant-loop-text l = record {
-  leads : (front : List ℕ) × (more : List ℕ) × (l.bytes ≡ front ++ (l.text ++ l.rest)) × Leads l.fn.self front more l.self × (l.out.items ≡ l.fn.out.items ++ more);
+  passes : (front : List ℕ) × (more : List ℕ) × (l.bytes ≡ front ++ (l.text ++ l.rest)) × Passes l.fn.self front more l.self × (l.out.items ≡ l.fn.out.items ++ more);
   bare : l.self.reader ≡ none_held;
   plain : AllByRecursion IsPlainByte l.text;
 }

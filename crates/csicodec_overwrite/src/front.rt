@@ -1,0 +1,135 @@
+//! The front of a line that is written as it comes: text of ASCII, and sequences that do no more than to set how it looks.
+ghost use Rattle.std.specs.Prelude.{◌≡◌, ◌<◌, ◌++◌, ℕ, List, false, length, IfOk, IfSome};
+ghost use Rattle.std.specs.List.{AllByRecursion};
+ghost use Rattle.csicodec_overwrite.specs.Private.Front.{AreLooks, IsFront, IsLook, Sets, last_of_run, run_text};
+
+use crate::ascii::{InLine, style_len};
+use crate::paint::append_turned;
+use crate::pen::Pen;
+use crate::reader::Reader;
+use crate::step::Step;
+use csicodec_clean::split_front;
+use csicodec_html::Look;
+use csicodec_spans::LIMIT;
+use std::alloc::{AllocError, Global};
+
+/// How characters look behind a step that does no more than to set that, where nothing stands right of the cursor.
+fn look_behind(look: Look, step: Step) -> Option<Look>
+    ensures { IfSome result (λ after. IsLook look step after) }
+{
+    match step {
+        Step::Attribute(attribute) => Some(look.behind(&attribute)),
+        Step::EraseRight | Step::Other => Some(look),
+        _ => None,
+    }
+}
+
+/// The same of steps in turn.
+fn look_behind_all(look: Look, steps: &[Step]) -> Option<Look>
+    ensures { IfSome result (λ after. AreLooks look steps.now after) }
+{
+    let mut now = look;
+    let mut rest = steps;
+    while let Some((step, behind)) = rest.split_first() {
+        now = look_behind(now, *step)?;
+        rest = behind;
+    }
+    Some(now)
+}
+
+/// Tells how characters look behind a control sequence.
+#[derive(Drop)]
+pub(crate) struct Looks {
+    /// It reads each sequence by itself.
+    reader: Reader,
+    /// A place that is kept for its steps.
+    steps: Vec<Step>,
+}
+
+impl Looks {
+    /// Which has read nothing.
+    pub(crate) fn new(alloc: Global) -> Looks {
+        Looks {
+            reader: Reader::new(alloc),
+            steps: Vec::new(alloc),
+        }
+    }
+
+    /// How characters look behind these bytes, if there are some, and all that they do is to set that.
+    fn behind(&mut self, look: Look, bytes: &[u8]) -> Result<Option<Look>, AllocError>
+        ensures sets { IfOk result (λ o. IfSome o (λ after. Sets bytes.now look after)) }
+        ensures some { IfOk result (λ o. IfSome o (λ after. 0 < length bytes.now)) }
+    {
+        if bytes.is_empty() {
+            return Ok(None);
+        }
+        self.reader.clear();
+        self.steps.clear();
+        self.reader.push(bytes, &mut self.steps)?;
+        if !self.reader.is_bare() {
+            return Ok(None);
+        }
+        Ok(look_behind_all(look, &self.steps))
+    }
+}
+
+/// The front of a line that is written.
+#[derive(Clone, Copy)]
+pub(crate) struct Front<'a> {
+    /// What is behind it.
+    pub(crate) rest: &'a [u8],
+    /// How the character looks that was written last.
+    pub(crate) last: Look,
+    /// How those look that come.
+    pub(crate) now: Look,
+}
+
+/// Appends text that looks so, and answers how the last character looks then.
+fn append_run(
+    last: Look,
+    now: Look,
+    run: &[u8],
+    painted: bool,
+    out: &mut Vec<u8>,
+) -> Result<Look, AllocError>
+    ensures { IfOk result (λ look. (look ≡ last_of_run last now run.now)
+        × (out.new.items ≡ out.old.items ++ run_text painted last now run.now)) }
+{
+    if run.is_empty() {
+        return Ok(last);
+    }
+    append_turned(painted, last, now, out)?;
+    out.extend_from_slice(run)?;
+    Ok(now)
+}
+
+/// Appends the front of a line that was blank, up to the first byte that is no text of ASCII, nor of a sequence that sets how it looks.
+/// A line has room for it.
+pub(crate) fn append_front<'a>(
+    looks: &mut Looks,
+    pen: Pen,
+    painted: bool,
+    bytes: &'a [u8],
+    out: &mut Vec<u8>,
+) -> Result<Front<'a>, AllocError>
+    requires { pen.inserts ≡ false }
+    ensures { IfOk result (λ f. (front : List ℕ) × (text : List ℕ) × (bytes.now ≡ front ++ f.rest.now)
+        × IsFront painted pen front text f.last f.now
+        × (out.new.items ≡ out.old.items ++ text)) }
+{
+    let (mut rest, mut last, mut now) = (bytes, Look::plain(), pen.look);
+    loop {
+        let (run, behind) = split_front::<InLine>(rest);
+        if LIMIT / 8 < bytes.len().saturating_sub(behind.len()) {
+            return Ok(Front { rest, last, now });
+        }
+        last = append_run(last, now, run, painted, out)?;
+        rest = behind;
+        let (sequence, others) = rest.split_at(style_len(rest));
+        let Some(after) = looks.behind(now, sequence)? else {
+            return Ok(Front { rest, last, now });
+        };
+        now = after;
+        rest = others;
+    }
+}

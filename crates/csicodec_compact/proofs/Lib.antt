@@ -3,3 +3,4 @@ pub mod Joined
 pub mod JoinedLists
 pub mod Beside
 pub mod Meaning
+pub mod Colors

@@ -1,5 +1,5 @@
 //! What is noted of a sequence: the text that is written for it, and how that may be joined to others.
-ghost use Rattle.std.specs.Prelude.{◌≡◌, ◌+◌, ◌≤◌, ℕ, List, ◌∷◌, true, false, length, IfOk, OnOk};
+ghost use Rattle.std.specs.Prelude.{◌≡◌, ◌+◌, ◌≤◌, ℕ, List, ◌∷◌, true, false, drop, length, take, IfOk, OnOk};
 ghost use Rattle.csicodec_tokens.specs.Sequence.{Seq};
 ghost use Rattle.csicodec_filter.specs.Faithful.{stays};
 ghost use Rattle.csicodec_compact.specs.Private.Steps.{IsNote, IsOwn, closing, form_of, is_joined, list_of};
@@ -61,6 +61,20 @@ fn write_note(note: &mut TextBuffer, form: Form, text: &[u8]) -> Result<(), Allo
     note.push_front(&[form.mark(), u8::MAX], 2)?;
     note.push_slice(text)?;
     Ok(())
+}
+
+/// What begins with the note of a sequence in front that is a list of attributes, is written as it came, and ends in the last of so many
+/// numbers.
+#[inline(always)]
+pub(crate) fn open_note(numbers: u8, bytes: &[u8]) -> [u8; 32]
+    requires { 31 ≤ length bytes.now }
+    ensures { (mark : ℕ) × (form_of mark ≡ Form.Open)
+        × (result ≡ mark ∷ numbers ∷ 59 ∷ take 29 (drop 2 bytes.now)) }
+{
+    let mut note = [0; 32];
+    note[..3].copy_from_slice(&[Form::Open.mark(), numbers, b';']);
+    note[3..].copy_from_slice(bytes.split_at(2).1.split_at(29).0);
+    note
 }
 
 /// Finds what is noted of sequences.

@@ -7,12 +7,13 @@ ghost use Rattle.csicodec_streams.specs.Known.{AreKnown};
 ghost use Rattle.csicodec_compact.specs.Private.Steps.{IsNote, WritesFront};
 
 use crate::compact::Compact;
-use crate::notes::{Notes, Short};
+use crate::lists::numbers;
+use crate::notes::{Notes, Short, open_note};
 use crate::runs::{Written, take_span};
 use csicodec_base::{CsiParam, TextBuffer};
 use csicodec_filter::Known;
 use csicodec_spans::{Cutter, Mode, plain_len};
-use csicodec_streams::{keep_from, position_len};
+use csicodec_streams::{WIDE, keep_from, position_len, read_color};
 use std::alloc::{AllocError, Global};
 use std::marker::Model;
 
@@ -47,8 +48,41 @@ fn pass_position(
     Ok(len)
 }
 
-/// Writes what passes at a glance where nothing is open, text, an escape sequence, or a control sequence that is known; how many bytes
-/// that is, 0 where nothing does.
+/// Writes a colour in front, which has no shorter spelling, and keeps it. How many bytes that is, 0 where none is read.
+#[inline(never)]
+fn pass_color(
+    known: &mut Known<Short>,
+    written: &mut Written,
+    limit: usize,
+    bytes: &[u8],
+    out: &mut TextBuffer,
+) -> Result<usize, AllocError>
+    requires { AreKnown IsNote known.old.memo.slots.items }
+    ensures within { IfOk result (λ len. len ≤ length bytes.now) }
+    ensures passed { IfOk result
+        (λ len. 0 < len
+        → WritesFront limit Plain bytes.now written.old.form out.old out.new written.new.form
+        (drop len bytes.now) Plain) }
+    ensures none { IfOk result
+        (λ len. len ≡ 0 → (out.new ≡ out.old) × (written.new.form ≡ written.old.form)) }
+    ensures known { AreKnown IsNote known.new.memo.slots.items }
+{
+    let Some((_, rest)) = read_color(bytes) else {
+        return Ok(0);
+    };
+    let len = bytes.len() - rest.len();
+    if len > limit || bytes.len() < WIDE {
+        return Ok(0);
+    }
+    let wide = open_note(numbers(bytes.split_at(len).0), bytes);
+    let note = &wide[..len];
+    written.take(note, &wide, out)?;
+    known.keep(bytes, len, note);
+    Ok(len)
+}
+
+/// Writes what passes at a glance where nothing is open, text, an escape sequence, or a control sequence that is known, a position or a
+/// colour; how many bytes that is, 0 where nothing does.
 #[inline(always)]
 fn pass_one(
     known: &mut Known<Short>,
@@ -70,7 +104,11 @@ fn pass_one(
     if is_csi(bytes) {
         let len = known.look(limit, bytes);
         if len == 0 {
-            return pass_position(written, limit, bytes, out);
+            let moved = pass_position(written, limit, bytes, out)?;
+            if moved > 0 {
+                return Ok(moved);
+            }
+            return pass_color(known, written, limit, bytes, out);
         }
         written.take(known.noted(), known.wide(), out)?;
         return Ok(len);

@@ -1,4 +1,6 @@
 //! Logs: each line by itself, as it stands when it ends, as plain text or with its styles.
+ghost use Rattle.std.specs.Prelude.{ℕ, List};
+ghost use Rattle.std.specs.Io.KnownBytes.{Appends};
 
 use csicodec_clean::{Cleaner, Kept, Passing};
 use csicodec_overwrite::Overwriter;
@@ -86,7 +88,9 @@ pub fn log_all<R: Read, W: Write>(
     styles: Option<Passing>,
     input: &mut R,
     output: &mut W,
-) -> Result<(), RunError> {
+) -> Result<(), RunError>
+    ensures { (text : List ℕ) × Appends (W.contents output.old) (W.contents output.new) text }
+{
     let (mut log, mut out) = (Log::new(alloc, styles), Vec::new(alloc));
     let mut chunk = [0u8; CHUNK];
     for _ in 0..u64::MAX {

@@ -1,11 +1,12 @@
 //! What `csicodec filter`, `compact`, `strip`, `clean` and `html` make of a stream: with `filter` each control sequence in its normal
 //! form and all else as it came, with `compact` in a shorter spelling; with `strip` the plain text alone, with `clean` that and
 //! its styles; with `html` those as a page.
+ghost use Rattle.csicodec_tool.specs.Writes.{IsHeaded, Wrote, WroteBehind};
 
 use crate::check::{check_cast, check_stream};
 use crate::log::{Log, log_all};
 use crate::palette::palette_of;
-use crate::rewritten_cast::{Rewriter, html_cast, no_memory, rewrite_cast, unwrap_cast};
+use crate::rewritten_cast::{Rewriter, html_cast, rewrite_cast, unwrap_cast};
 use csicodec_clean::{Cleaner, Depth, Dropped, Kept, Passing, clean_all_with, strip_all};
 use csicodec_command::{Colors, Failure, Request, Worker, Wrong};
 use csicodec_compact::{Compact, Compactor, compact_all};
@@ -163,7 +164,10 @@ impl<'a> Work<'a> {
     }
 
     /// Writes what stands ahead of the first input.
-    fn begin<W: Write>(&mut self, alloc: Global, output: &mut W) -> Result<(), Failure> {
+    fn begin<W: Write>(&mut self, alloc: Global, output: &mut W) -> Result<(), RunError>
+        ensures { IsHeaded self.old result self.new
+            (W.contents output.old) (W.contents output.new) }
+    {
         if let Work::Html {
             name,
             markup,
@@ -174,11 +178,50 @@ impl<'a> Work<'a> {
         {
             if !*begun {
                 *begun = true;
-                let text = front(alloc, *markup, name).map_err(no_memory)?;
-                return Ok(send(output, &text)?);
+                let Ok(text) = front(alloc, *markup, name) else {
+                    return Err(RunError::Memory);
+                };
+                return send(output, &text);
             }
         }
         Ok(())
+    }
+
+    /// Writes what becomes of a stream; nothing where it is only checked.
+    fn write_stream<R: Read, W: Write>(
+        &self,
+        alloc: Global,
+        input: &mut R,
+        output: &mut W,
+    ) -> Result<(), RunError>
+        ensures { Wrote self.now result (R.remaining input.old)
+            (W.contents output.old) (W.contents output.new) }
+    {
+        match *self {
+            Work::Filter { faithful: true } => {
+                filter_all(alloc, LIMIT, Faithful::new(alloc), input, output)
+            }
+            Work::Filter { .. } => filter_all(alloc, LIMIT, NormalForm::new(alloc), input, output),
+            Work::Compact { semicolons } => {
+                compact_all(alloc, LIMIT, compact(alloc, semicolons), input, output)
+            }
+            Work::Check => Ok(()),
+            Work::Strip { lines: true } => strip_lines_all(alloc, input, output),
+            Work::Strip { .. } => strip_all(alloc, input, output),
+            Work::Overwrite => overwrite_all(alloc, input, output),
+            Work::Log { styles } => log_all(alloc, styles, input, output),
+            Work::Clean {
+                passing,
+                lines: true,
+            } => clean_lines_all(alloc, passing, input, output),
+            Work::Clean { passing, .. } => clean_all_with(alloc, passing, input, output),
+            Work::Html {
+                markup,
+                overwrite: true,
+                ..
+            } => html_overwritten_all(alloc, markup, input, output),
+            Work::Html { markup, .. } => html_all_with(alloc, markup, input, output),
+        }
     }
 
     /// Writes what becomes of an input.
@@ -187,34 +230,15 @@ impl<'a> Work<'a> {
         alloc: Global,
         input: &mut R,
         output: &mut W,
-    ) -> Result<(), Failure> {
+    ) -> Result<(), Failure>
+        ensures { WroteBehind self.old result self.new
+            (R.remaining input.old) (W.contents output.old) (W.contents output.new) }
+    {
         self.begin(alloc, output)?;
         match self {
-            Work::Filter { faithful: true } => {
-                filter_all(alloc, LIMIT, Faithful::new(alloc), input, output)?;
-            }
-            Work::Filter { .. } => filter_all(alloc, LIMIT, NormalForm::new(alloc), input, output)?,
-            Work::Compact { semicolons } => {
-                compact_all(alloc, LIMIT, compact(alloc, *semicolons), input, output)?;
-            }
-            Work::Check => check_stream(alloc, input)?,
-            Work::Strip { lines: true } => strip_lines_all(alloc, input, output)?,
-            Work::Strip { .. } => strip_all(alloc, input, output)?,
-            Work::Overwrite => overwrite_all(alloc, input, output)?,
-            Work::Log { styles } => log_all(alloc, *styles, input, output)?,
-            Work::Clean {
-                passing,
-                lines: true,
-            } => clean_lines_all(alloc, *passing, input, output)?,
-            Work::Clean { passing, .. } => clean_all_with(alloc, *passing, input, output)?,
-            Work::Html {
-                markup,
-                overwrite: true,
-                ..
-            } => html_overwritten_all(alloc, *markup, input, output)?,
-            Work::Html { markup, .. } => html_all_with(alloc, *markup, input, output)?,
+            Work::Check => check_stream(alloc, input),
+            _ => Ok(self.write_stream(alloc, input, output)?),
         }
-        Ok(())
     }
 
     /// Writes what becomes of a recording of which no recording is made.

@@ -1,0 +1,186 @@
+-- what a run from a reader to a writer promises, where the bytes of its input are known
+use Rattle.std.proofs.Common.{Bool, true, false, Bor, inr, ◌≡◌, ◌++◌, ℕ, List, [], Option, None, Some, Result, Ok, Err, refl, ◌∙◌, subst}
+use Rattle.std.proofs.Common.{append_assoc}
+use Rattle.std.specs.Prelude.{⊤, IfSome, IsErr, OnErr, OnOk}
+use Rattle.std.proofs.KnownBytes.{Appends-nil, Appends-trans}
+use Rattle.std.specs.Io.KnownBytes.{Appends, Consumes, IsAtEnd}
+use Rattle.csicodec_streams.specs.declared.error.RunError.{RunError}
+use Rattle.csicodec_streams.proofs.Streamed.{given_all}
+use Rattle.csicodec_clean.specs.Streams.{Streams}
+use Rattle.std.proofs.lemmas.Result.{on_ok_weaker}
+use Rattle.csicodec_overwrite.specs.Reading.{Paints}
+use Rattle.csicodec_html.specs.Page.{IsPageWith, PageWith}
+use Rattle.csicodec_html.specs.declared.markup.Markup.{Markup}
+use Rattle.csicodec_tool.specs.declared.rewrite.Work.{Work}
+use Rattle.csicodec_tool.specs.declared.rewrite.Work.TheVariants as work
+use Rattle.csicodec_tool.specs.Writes.{FrontsOf, FrontsOfPainted, IsHeaded, IsPageFront, IsWrittenBy}
+use Rattle.csicodec_tool.specs.Writes.{PaintedPage, Wrote, WroteBehind}
+
+pub known_so : {X : Type 0} {P Q : X → Type 0} (known : Option X) → ((x : X) → P x → Q x)
+    → IfSome known P → IfSome known Q
+known_so None each h = tt
+known_so (Some x) each h = each x h
+
+pub on_ok_both : {A E P Q R : Type 0} (result : Result A E) → OnOk result P → OnOk result Q → (P → Q → R) → OnOk result R
+on_ok_both (Ok a) p q f = f p q
+on_ok_both (Err e) p q f = tt
+
+pub on_err_so : {A E P Q : Type 0} (result : Result A E) → OnErr result P → (P → Q) → OnErr result Q
+on_err_so (Ok a) p f = tt
+on_err_so (Err e) p f = f p
+
+-- bytes that were read are a front of those that were there
+pub consumed_front : (before after : Option (List ℕ)) (bytes : List ℕ) → Consumes before after bytes
+    → IfSome before (λ all. (rest : List ℕ) × (all ≡ bytes ++ rest))
+consumed_front None after bytes h = tt
+consumed_front (Some all) None bytes h = absurd h
+consumed_front (Some all) (Some rest) bytes h = (rest, h)
+
+pub fronts_known : (Out : List ℕ → List ℕ → Type 0) (before after : Option (List ℕ)) (bytes more sent unsent : List ℕ)
+    → Consumes before after (bytes ++ more) → Out bytes (sent ++ unsent)
+    → IfSome before (λ all. FrontsOf Out all sent)
+fronts_known Out before after bytes more sent unsent consumed out =
+    known_so before (λ all (rest, same). (bytes, more ++ rest, unsent, same ∙ append_assoc bytes more rest, out))
+    (consumed_front before after (bytes ++ more) consumed)
+
+pub streams_written : {A E : Type 0} (Out : List ℕ → List ℕ → Type 0) (Safe : List ℕ → Type 0) (result : Result A E)
+    (before after old new : Option (List ℕ)) → Streams Out Safe result before after old new
+    → IsWrittenBy Out (FrontsOf Out) result before old new
+streams_written Out Safe result before after old new s = (
+  on_ok_both result s.ok s.end (λ (bytes, text, consumed, out, safe, appended) end.
+      known_so before (λ all same. (text, subst (λ (b : List ℕ). Out b text) same out, appended))
+      (given_all before after bytes consumed end)),
+  on_err_so result s.front (λ (bytes, more, sent, unsent, consumed, out, safe, appended).
+      known_so before (λ all fronts. (sent, fronts, appended))
+      (fronts_known Out before after bytes more sent unsent consumed out)),
+)
+
+-- the same of a run whose promises stand by themselves
+pub run_written : {A E : Type 0} (Out : List ℕ → List ℕ → Type 0) (result : Result A E)
+    (before after old new : Option (List ℕ))
+    → OnOk result ((bytes : List ℕ) × (text : List ℕ) × Consumes before after bytes × Out bytes text × Appends old new text)
+    → OnOk result (IsAtEnd after)
+    → OnErr result ((bytes : List ℕ) × (more : List ℕ) × (sent : List ℕ) × (unsent : List ℕ)
+    × Consumes before after (bytes ++ more) × Out bytes (sent ++ unsent) × Appends old new sent)
+    → IsWrittenBy Out (FrontsOf Out) result before old new
+run_written Out result before after old new ok end front = (
+  on_ok_both result ok end (λ (bytes, text, consumed, out, appended) end.
+      known_so before (λ all same. (text, subst (λ (b : List ℕ). Out b text) same out, appended))
+      (given_all before after bytes consumed end)),
+  on_err_so result front (λ (bytes, more, sent, unsent, consumed, out, appended).
+      known_so before (λ all fronts. (sent, fronts, appended))
+      (fronts_known Out before after bytes more sent unsent consumed out)),
+)
+
+pub known_all : {X : Type 0} {P : X → Type 0} (known : Option X) → ((x : X) → P x) → IfSome known P
+known_all None each = tt
+known_all (Some x) each = each x
+
+pub on_ok_all : {A E P : Type 0} (result : Result A E) → P → OnOk result P
+on_ok_all (Ok a) p = p
+on_ok_all (Err e) p = tt
+
+pub on_err_all : {A E P : Type 0} (result : Result A E) → P → OnErr result P
+on_err_all (Ok a) p = tt
+on_err_all (Err e) p = p
+
+-- what is written by one thing is written by another that is the same
+pub by_same : {A E X : Type 0} (Out Fronts : X → List ℕ → List ℕ → Type 0) (p q : X) (result : Result A E)
+    (known old new : Option (List ℕ)) → p ≡ q → IsWrittenBy (Out p) (Fronts p) result known old new
+    → IsWrittenBy (Out q) (Fronts q) result known old new
+by_same {A} {E} {X} Out Fronts p q result known old new same written =
+    subst (λ (x : X). IsWrittenBy (Out x) (Fronts x) result known old new) same written
+
+-- what writes nothing writes the empty text
+pub nothing_written : {A E : Type 0} (result : Result A E) (known out : Option (List ℕ))
+    → IsWrittenBy (λ bytes text. text ≡ []) (FrontsOf (λ bytes text. text ≡ [])) result known out out
+nothing_written result known out = (
+  on_ok_all result (known_all known (λ bytes. ([], refl, Appends-nil out))),
+  on_err_all result (known_all known (λ bytes. ([], ([], bytes, [], refl, refl), Appends-nil out))),
+)
+
+-- some text was written
+pub some_written : {A E : Type 0} (result : Result A E) (known old new : Option (List ℕ))
+    → ((text : List ℕ) × Appends old new text)
+    → IsWrittenBy (λ bytes text. ⊤) (λ bytes text. ⊤) result known old new
+some_written result known old new (text, appended) = (
+  on_ok_all result (known_all known (λ bytes. (text, tt, appended))),
+  on_err_all result (known_all known (λ bytes. (text, tt, appended))),
+)
+
+-- behind some text more went out, or a front of it
+pub sent_more : {A E : Type 0} (result : Result A E) (old mid new : Option (List ℕ)) (text bytes : List ℕ)
+    → Appends old mid text
+    → OnOk result (Appends mid new bytes)
+    → OnErr result ((sent : List ℕ) × (unsent : List ℕ) × (bytes ≡ sent ++ unsent) × Appends mid new sent)
+    → (all : List ℕ) × Appends old new all
+sent_more (Ok a) old mid new text bytes h ok front = (text ++ bytes, Appends-trans old mid new text bytes h ok)
+sent_more (Err e) old mid new text bytes h ok (sent, unsent, same, appended) =
+    (text ++ sent, Appends-trans old mid new text sent h appended)
+
+-- what stands ahead of a page was written, or a front of it
+pub page_headed : {A E : Type 0} (w : Work) (name : Bor (List ℕ)) (markup : Markup)
+    (overwrite fragment begun : Bool) (result : Result A E) (old new : Option (List ℕ)) (text : List ℕ)
+    → w ≡ work.Html name markup overwrite fragment begun → fragment ≡ false → begun ≡ false
+    → IsPageFront markup name.now text → OnOk result (Appends old new text)
+    → OnErr result ((sent : List ℕ) × (unsent : List ℕ) × (text ≡ sent ++ unsent) × Appends old new sent)
+    → IsHeaded w result (work.Html name markup overwrite fragment true) old new
+page_headed w name markup overwrite fragment begun result old new text is whole first front ok failed =
+    rw (is, whole, first) (
+      refl,
+      on_ok_weaker result (λ appended. (text, front, appended)) ok,
+      on_err_so result failed (λ (sent, unsent, same, appended).
+          (sent, inr (unsent, subst (λ (t : List ℕ). IsPageFront markup name.now t) same front), appended)),
+    )
+
+-- the same of a page of what is painted
+pub painted_written : {A E : Type 0} (markup : Markup) (result : Result A E) (before after old new : Option (List ℕ))
+    → OnOk result ((bytes : List ℕ) × (painted : List ℕ) × (page : List ℕ) × Consumes before after bytes
+    × Paints bytes painted × PageWith markup painted page × IsPageWith markup page × Appends old new page)
+    → OnOk result (IsAtEnd after)
+    → OnErr result ((bytes : List ℕ) × (more : List ℕ) × (painted : List ℕ) × (unpainted : List ℕ)
+    × (sent : List ℕ) × (unsent : List ℕ) × Consumes before after (bytes ++ more) × Paints bytes (painted ++ unpainted)
+    × PageWith markup painted (sent ++ unsent) × IsPageWith markup (sent ++ unsent) × Appends old new sent)
+    → IsWrittenBy (PaintedPage markup) (FrontsOfPainted markup) result before old new
+painted_written markup result before after old new ok end front = (
+  on_ok_both result ok end (λ (bytes, painted, page, consumed, paints, made, safe, appended) end.
+      known_so before (λ all same. (page, (painted, subst (λ (b : List ℕ). Paints b painted) same paints, made), appended))
+      (given_all before after bytes consumed end)),
+  on_err_so result front (λ (bytes, more, painted, unpainted, sent, unsent, consumed, paints, made, safe, appended).
+      known_so before (λ all fronts. (sent, (painted, unsent, fronts, made), appended))
+      (fronts_known Paints before after bytes more painted unpainted consumed paints)),
+)
+
+-- an input failed ahead of its bytes
+pub headed_alone : {A E : Type 0} (w new : Work) (headed : Result (Unit {0}) RunError) (error : RunError) (result : Result A E)
+    (known old out : Option (List ℕ))
+    → IsHeaded w headed new old out → headed ≡ Err error → IsErr result → WroteBehind w result new known old out
+headed_alone w new headed error result known old out heads failed ended =
+    record { headed = headed; ahead = out; heads = heads; wrote = rw failed tt; failed = rw failed (ended, refl) }
+
+-- its bytes were written behind what stands ahead
+pub headed_whole : {A E : Type 0} (w new : Work) (headed : Result (Unit {0}) RunError) (result : Result A E)
+    (known old ahead out : Option (List ℕ))
+    → IsHeaded w headed new old ahead → headed ≡ Ok tt → Wrote new result known ahead out → WroteBehind w result new known old out
+headed_whole w new headed result known old ahead out heads went wrote =
+    record { headed = headed; ahead = ahead; heads = heads; wrote = rw went wrote; failed = rw went tt }
+
+pub not_ok : {A E : Type 0} (Q : Type 0) (result : Result A E) → IsErr result → OnOk result Q
+not_ok Q (Err e) h = tt
+not_ok Q (Ok a) h = absurd cc
+
+-- the same where they were written to their end
+pub headed_well : {E F : Type 0} (w new : Work) (headed : Result (Unit {0}) RunError) (written : Result (Unit {0}) E)
+    (known old ahead out : Option (List ℕ))
+    → IsHeaded w headed new old ahead → headed ≡ Ok tt → written ≡ Ok tt → Wrote new written known ahead out
+    → WroteBehind {A = Unit {0}} {E = F} w (Ok tt) new known old out
+headed_well w new headed written known old ahead out heads went is wrote =
+    headed_whole w new headed (Ok tt) known old ahead out heads went (rw is at wrote.0, tt)
+
+-- and where that failed
+pub headed_failed : {E F : Type 0} (w new : Work) (headed : Result (Unit {0}) RunError) (written : Result (Unit {0}) E) (error : E)
+    (result : Result (Unit {0}) F) (known old ahead out : Option (List ℕ))
+    → IsHeaded w headed new old ahead → headed ≡ Ok tt → written ≡ Err error → IsErr result → Wrote new written known ahead out
+    → WroteBehind w result new known old out
+headed_failed w new headed written error result known old ahead out heads went is failed wrote =
+    headed_whole w new headed result known old ahead out heads went (not_ok _ result failed, on_err_all result (rw is at wrote.1))

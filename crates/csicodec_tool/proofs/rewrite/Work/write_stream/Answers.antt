@@ -1,0 +1,73 @@
+use Rattle.csicodec_clean.specs.Styled.{StylesIn}
+use Rattle.csicodec_lines.specs.Lines.{ByLines}
+use Rattle.csicodec_html.specs.Page.{PageWith}
+use Rattle.csicodec_tool.specs.Writes.{FrontsOf, FrontsOfPainted, PaintedPage}
+use Rattle.csicodec_tool.proofs.Written.{by_same, painted_written, run_written, some_written, streams_written}
+use Rattle.csicodec_tool.proofs.rewrite.Work.write_stream.Goals as goal
+
+pub returns-in-Filter-true : goal.returns-in-Filter-true
+returns-in-Filter-true g c =
+    let a = c.in-Filter-true in
+    let run = c.filter_all.ensures in
+    rw (a.is, ← a.faithful-is, a.faithful-test) (run.ok, run.front)
+
+pub returns-in-Filter : goal.returns-in-Filter
+returns-in-Filter g c =
+    let a = c.in-Filter in
+    let run = c.filter_all-in-Filter.ensures in
+    rw (a.is, ← a.faithful-is, a.faithful-test) (run.ok, run.front)
+
+pub returns-in-Compact : goal.returns-in-Compact
+returns-in-Compact g c =
+    let run = c.compact_all.ensures in
+    rw c.in-Compact.is (run_written _ c.compact_all.result _ _ _ _ run.ok run.end run.front)
+
+pub returns-in-Strip-true : goal.returns-in-Strip-true
+returns-in-Strip-true g c =
+    let a = c.in-Strip-true in
+    rw (a.is, ← a.lines-is, a.lines-test)
+    (streams_written _ _ c.strip_lines_all.result _ _ _ _ c.strip_lines_all.ensures.streams)
+
+pub returns-in-Strip : goal.returns-in-Strip
+returns-in-Strip g c =
+    let a = c.in-Strip in
+    rw (a.is, ← a.lines-is, a.lines-test) (streams_written _ _ c.strip_all.result _ _ _ _ c.strip_all.ensures.streams)
+
+pub returns-in-Overwrite : goal.returns-in-Overwrite
+returns-in-Overwrite g c =
+    rw c.in-Overwrite.is (streams_written _ _ c.overwrite_all.result _ _ _ _ c.overwrite_all.ensures.streams)
+
+pub returns-in-Log : goal.returns-in-Log
+returns-in-Log g c = rw c.in-Log.is (some_written c.log_all.result _ _ _ c.log_all.ensures)
+
+pub returns-in-Clean-default-true : goal.returns-in-Clean-default-true
+returns-in-Clean-default-true g c =
+    let a = c.in-Clean-default-true in
+    let run = c.clean_lines_all in
+    rw (a.is, ← a.lines-is, a.lines-test)
+    (by_same (λ p. ByLines (StylesIn p)) (λ p. FrontsOf (ByLines (StylesIn p))) _ a.passing run.result _ _ _ a.passing-is
+    (streams_written _ _ run.result _ _ _ _ run.ensures.streams))
+
+pub returns-in-Clean : goal.returns-in-Clean
+returns-in-Clean g c =
+    let a = c.in-Clean in
+    let run = c.clean_all_with in
+    rw (a.is, ← a.lines-is, a.lines-test)
+    (by_same (λ p. StylesIn p) (λ p. FrontsOf (StylesIn p)) _ a.passing run.result _ _ _ a.passing-is
+    (streams_written _ _ run.result _ _ _ _ run.ensures.streams))
+
+pub returns-in-Html-default-default-true-default-default : goal.returns-in-Html-default-default-true-default-default
+returns-in-Html-default-default-true-default-default g c =
+    let a = c.in-Html-default-default-true-default-default in
+    let run = c.html_overwritten_all in
+    rw (a.is, ← a.overwrite-is, a.overwrite-test)
+    (by_same PaintedPage FrontsOfPainted _ a.markup run.result _ _ _ a.markup-is
+    (painted_written _ run.result _ _ _ _ run.ensures.ok run.ensures.end run.ensures.front))
+
+pub returns-in-Html : goal.returns-in-Html
+returns-in-Html g c =
+    let a = c.in-Html in
+    let run = c.html_all_with in
+    rw (a.is, ← a.overwrite-is, a.overwrite-test)
+    (by_same (λ m. PageWith m) (λ m. FrontsOf (PageWith m)) _ a.markup run.result _ _ _ a.markup-is
+    (streams_written _ _ run.result _ _ _ _ run.ensures))

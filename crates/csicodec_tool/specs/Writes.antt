@@ -1,0 +1,106 @@
+-- What `filter`, `compact`, `strip`, `clean` and `html` write of an input.
+use Rattle.std.specs.Prelude.{ℕ, ◌≡◌, ◌⊎◌, ⊤, true, false, List, [], ◌++◌, Option, Result, OnOk, OnErr, IfSome, IsErr}
+use Rattle.std.specs.Io.KnownBytes.{Appends}
+use Rattle.csicodec_spans.specs.declared.table.Mode.TheVariants.{Text as Plain}
+use Rattle.csicodec_streams.specs.declared.error.RunError.{RunError}
+use Rattle.csicodec_streams.specs.Decoding.{NormalisesTo}
+use Rattle.csicodec_filter.specs.Faithful.{IsFaithful}
+use Rattle.csicodec_filter.specs.Filter.{Filters, IsFrontOf}
+use Rattle.csicodec_compact.specs.Runs.{CompactsAll}
+use Rattle.csicodec_clean.specs.Cleaned.{Strips, longest}
+use Rattle.csicodec_clean.specs.Styled.{StylesIn}
+use Rattle.csicodec_lines.specs.Lines.{ByLines}
+use Rattle.csicodec_overwrite.specs.Reading.{Overwrites, Paints}
+use Rattle.csicodec_html.specs.declared.markup.Markup.{Markup}
+use Rattle.csicodec_html.specs.declared.sheet.TheConstants.{BODY, HEAD, STYLE}
+use Rattle.csicodec_html.specs.Page.{PageWith}
+use Rattle.csicodec_html.specs.Sheet.{IsTitle, sheet}
+use Rattle.csicodec_tool.specs.declared.rewrite.Work.{Work}
+use Rattle.csicodec_tool.specs.declared.rewrite.Work.TheVariants as work
+
+-- the page of what is painted of the bytes
+abbrev pub PaintedPage : Markup → List ℕ → List ℕ → Type 0
+PaintedPage markup bytes page = (painted : List ℕ) × Paints bytes painted × PageWith markup painted page
+
+-- All bytes of an input become this text. Of a log nothing is said, and what is only checked has no text.
+abbrev pub Writes : Work → List ℕ → List ℕ → Type 0
+Writes (work.Filter true) bytes text = Filters IsFaithful longest Plain bytes text
+Writes (work.Filter false) bytes text = Filters NormalisesTo longest Plain bytes text
+Writes (work.Compact semicolons) bytes text = CompactsAll longest Plain bytes text
+Writes (work.Strip true) bytes text = ByLines (Strips longest) bytes text
+Writes (work.Strip false) bytes text = Strips longest bytes text
+Writes work.Overwrite bytes text = Overwrites bytes text
+Writes (work.Log styles) bytes text = ⊤
+Writes work.Check bytes text = text ≡ []
+Writes (work.Clean passing true) bytes text = ByLines (StylesIn passing) bytes text
+Writes (work.Clean passing false) bytes text = StylesIn passing bytes text
+Writes (work.Html name markup true fragment begun) bytes text = PaintedPage markup bytes text
+Writes (work.Html name markup false fragment begun) bytes text = PageWith markup bytes text
+
+-- the text of a front of the bytes begins with what was sent
+abbrev pub FrontsOf : (List ℕ → List ℕ → Type 0) → List ℕ → List ℕ → Type 0
+FrontsOf Out bytes sent = (front : List ℕ) × (more : List ℕ) × (unsent : List ℕ)
+    × (bytes ≡ front ++ more) × Out front (sent ++ unsent)
+
+-- The same of a painted page: it is of a front of what is painted of a front of the bytes.
+abbrev pub FrontsOfPainted : Markup → List ℕ → List ℕ → Type 0
+FrontsOfPainted markup bytes sent = (painted : List ℕ) × (unsent : List ℕ) × FrontsOf Paints bytes painted
+    × PageWith markup painted (sent ++ unsent)
+
+-- Of an input that failed this went out: a front of the text of a front of its bytes, and of a filter's, of all of them.
+abbrev pub Sends : Work → List ℕ → List ℕ → Type 0
+Sends (work.Filter true) bytes sent = IsFrontOf IsFaithful longest Plain bytes sent
+Sends (work.Filter false) bytes sent = IsFrontOf NormalisesTo longest Plain bytes sent
+Sends (work.Html name markup true fragment begun) bytes sent = FrontsOfPainted markup bytes sent
+Sends (work.Log styles) bytes sent = ⊤
+Sends w bytes sent = FrontsOf (Writes w) bytes sent
+
+-- a text that is so was appended to what was known of the output
+abbrev pub IsAppended : (List ℕ → Type 0) → Option (List ℕ) → Option (List ℕ) → Type 0
+IsAppended Is old new = (text : List ℕ) × Is text × Appends old new text
+
+-- an input of known bytes was written, or went out as far as it did until something failed
+abbrev pub IsWrittenBy : {A E : Type 0} → (List ℕ → List ℕ → Type 0) → (List ℕ → List ℕ → Type 0)
+    → Result A E → Option (List ℕ) → Option (List ℕ) → Option (List ℕ) → Type 0
+IsWrittenBy Out Fronts result known old new =
+    OnOk result (IfSome known (λ bytes. IsAppended (Out bytes) old new))
+    × OnErr result (IfSome known (λ bytes. IsAppended (Fronts bytes) old new))
+
+-- an input was written as the work has it
+abbrev pub Wrote : {A E : Type 0} → Work → Result A E → Option (List ℕ) → Option (List ℕ)
+    → Option (List ℕ) → Type 0
+Wrote w result known old new = IsWrittenBy (Writes w) (Sends w) result known old new
+
+-- what stands ahead of a page of this name: its title and its style sheet, between the texts of every page
+abbrev pub IsPageFront : Markup → List ℕ → List ℕ → Type 0
+IsPageFront markup name text = (title : List ℕ) × IsTitle name title
+    × (text ≡ HEAD.now ++ (title ++ (STYLE.now ++ (sheet markup ++ BODY.now))))
+
+-- what stands ahead of an input: of the first one of a page that is no fragment its front, and else nothing
+abbrev pub Heads : Work → List ℕ → Type 0
+Heads (work.Html name markup overwrite false false) text = IsPageFront markup name.now text
+Heads w text = text ≡ []
+
+-- the work behind that
+abbrev pub begun_of : Work → Work
+begun_of (work.Html name markup overwrite false begun) = work.Html name markup overwrite false true
+begun_of w = w
+
+-- the text begins with what was sent
+abbrev pub BeginsWith : (List ℕ → Type 0) → List ℕ → Type 0
+BeginsWith Is sent = (unsent : List ℕ) × Is (sent ++ unsent)
+
+-- what stands ahead was written, or went out as far as it did until something failed
+abbrev pub IsHeaded : {A E : Type 0} → Work → Result A E → Work → Option (List ℕ)
+    → Option (List ℕ) → Type 0
+IsHeaded w result new old out = (new ≡ begun_of w) × OnOk result (IsAppended (Heads w) old out)
+    × OnErr result (IsAppended (λ sent. (sent ≡ []) ⊎ BeginsWith (Heads w) sent) old out)
+
+-- An input is written: what stands ahead of it, and unless that failed the input itself, by the work behind that.
+pub record WroteBehind {A E : Type 0} (w : Work) (result : Result A E) (new : Work)
+    (known old out : Option (List ℕ)) : Type 0 where
+  pub headed : Result (Unit {0}) RunError
+  pub ahead : Option (List ℕ)
+  pub heads : IsHeaded w headed new old ahead
+  pub wrote : OnOk headed (Wrote new result known ahead out)
+  pub failed : OnErr headed (IsErr result × (out ≡ ahead))

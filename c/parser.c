@@ -335,6 +335,7 @@ int main(int count, char **words) {
         && is_told("\x1b]0;ti", 64, "S] 0;ti")
         && is_told("ab\xe2\x82", 0, "T ab\xe2\x82") && is_told("a\x1b[1", 0, "T a|O \x1b[1")
         && is_told("\x1b[1234567890123456;7m", 0, "O \x1b[1234567890123456;7m")
+        && is_told("\x1b\n[31mred", 0, "O \x1b\n[|T 31mred") && is_told("\x1b(\n0x", 0, "O \x1b(\n0|T x")
         && same_in_pieces(rounds) && are_raw() && is_read_again() && are_taken(rounds * 20);
     if (!right) return 1;
     printf("parser: the events of the whole in pieces of any length, whole strings, raw parameters, %d lists as terminals take them\n", (int)(sizeof readings / sizeof readings[0]));

@@ -113,7 +113,7 @@ def written_lines(actions):
         yield f"written_{action.subject.lower()} ({value(action)} {numbers(action)}) = {said}"
 
 
-# ---- csicodec_lists and csicodec_front
+# ---- csicodec_lists and csicodec_c
 
 
 def read_arms(actions):
@@ -250,7 +250,7 @@ def of_subject(subject, said):
 
 def of_cursor(actions):
     one, two = single(actions)
-    front, rows = "crates/csicodec_front/src/row.rt", "crates/csicodec_front/proofs/Rows.antt"
+    front, rows = "crates/csicodec_c/src/row.rt", "crates/csicodec_c/proofs/Rows.antt"
     yield front, Part(list(front_arms(one)), ("fn moved_by(number: u32, control: u8) -> Option<Cursor>", "    match control {"), "        _ => None,")
     yield front, Part(list(front_arms(two)), ("fn moved_to(first: u32, second: u32, control: u8) -> Option<Cursor>", "    match control {"), "        b'r' => Some(Cursor::SetTopAndBottomMargins {")
     lists = "TwoCounts final make = (list : List CsiParam) → as_cursor list final ≡ option_map (λ (p : ℕ × ℕ). Cursor (make p.0 p.1)) (given (paired (λ a b. (a, b))) list)"
@@ -266,8 +266,8 @@ def of_cursor(actions):
 
 
 def of_edit(actions):
-    rows, others = "crates/csicodec_front/proofs/Rows.antt", ["erase_in_display", "erase_in_line"]
-    yield "crates/csicodec_front/src/row.rt", Part(list(front_arms(actions)), ("fn edited(number: u32, control: u8) -> Option<Edit>", "    match control {"), "        b'J' => Some(Edit::EraseInDisplay(EraseInDisplay::from_i64(i64::from(number))?)),")
+    rows, others = "crates/csicodec_c/proofs/Rows.antt", ["erase_in_display", "erase_in_line"]
+    yield "crates/csicodec_c/src/row.rt", Part(list(front_arms(actions)), ("fn edited(number: u32, control: u8) -> Option<Edit>", "    match control {"), "        b'J' => Some(Edit::EraseInDisplay(EraseInDisplay::from_i64(i64::from(number))?)),")
     head = "OneEdit final make = (n k : ℕ) → k ≡ or_default 1 n → n < 2 ^ 32 → (list : List CsiParam) → IsOne n list → as_edit list final ≡ Some (Edits (make k))"
     behind = "pub erase_in_display : (n : ℕ) (v : EraseInDisplay) → Some v ≡ with_number erase_in_display_number erases_in_display (pos n) → (list : List CsiParam) → IsOne n list → as_edit list 74 ≡ Some (Edits (edit.EraseInDisplay v))"
     last = "erase_in_line n v is list (inr none) = rw (none.1, same_Some _ _ (rw none.0 at is)) refl"

@@ -1,3 +1,10 @@
 mod Calls
 mod Told
 mod Keys
+mod Alone
+mod Changed
+mod Colors
+mod Laid
+mod Rows
+mod Styled
+mod Unknown

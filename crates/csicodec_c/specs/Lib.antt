@@ -1,3 +1,5 @@
+pub mod Private
+pub mod Recognised
 pub mod Filter
 pub mod Span
 pub mod Event

@@ -7,8 +7,8 @@ ghost use Rattle.csicodec_c.specs.Filter.{mode_number};
 ghost use Rattle.csicodec_c.specs.Event.{HasPut, IsDone, IsRefused, IsWaiting, answered, event_number, read_at_once, refused};
 
 use crate::filter::{mode_at, number_of};
+use crate::front::lay_front;
 use csicodec_events::{Event, Events, append_read, begins_csi};
-use csicodec_front::lay_front;
 use csicodec_structs::{Front, Param, Status, Struct};
 use std::alloc::Global;
 

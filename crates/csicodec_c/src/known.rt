@@ -1,8 +1,8 @@
 //! What is known of an unknown action.
 ghost use Rattle.std.specs.Prelude.{◌⊎◌};
-ghost use Rattle.csicodec_rows.specs.Recognised.{IsKnown, IsUnknown};
+ghost use Rattle.csicodec_c.specs.Recognised.{IsKnown, IsUnknown};
 
-use csicodec_rows::{Recognised, recognise};
+use crate::recognise::{Recognised, recognise};
 use csicodec_structs::{Param, Struct};
 
 /// Which row of the table reads the list of the unknown action that the struct stands for, and the values. It takes no memory.

@@ -7,8 +7,8 @@ ghost use Rattle.csicodec_structs.specs.Next.{IsDone as IsLaid, IsRefused as Ref
 ghost use Rattle.csicodec_structs.specs.Terminal.{IsTaken};
 ghost use Rattle.csicodec_structs.specs.declared.status.Status.TheVariants as status;
 
+use crate::front::lay_front;
 use csicodec_events::append_read;
-use csicodec_front::lay_front;
 use csicodec_structs::{
     Encoded, Front, Judged, Normalised, Param, Status, Struct, judge, lay_as_terminals,
     put_normal_form, put_texts,

@@ -1,0 +1,16 @@
+use Rattle.std.specs.Prelude.{pos}
+use Rattle.std.proofs.Common.{◌∷◌, [], refl, sym, inl, arith}
+use Rattle.csicodec_tokens.specs.declared.param.CsiParam.TheVariants.{Integer, P}
+use Rattle.csicodec_tokens.proofs.Reading.{first_cut}
+use Rattle.csicodec_actions.specs.Actions as action
+use Rattle.csicodec_c.proofs.Laid.{cursor_alone, row_laid, two_read}
+use Rattle.csicodec_c.proofs.row.lay_two.Goals as goal
+
+pub returns-clause-some : goal.returns-clause-some
+returns-clause-some c =
+    let behind = c.args.behind.now in
+    let list = Integer (pos c.args.first) ∷ P 59 ∷ Integer (pos c.args.second) ∷ [] in
+    let cursor = c.in_ok-cursor.cursor in
+    row_laid c.args.body.now behind _ c.args.actions.now c.put.new.room list _ c.cursor_struct.result
+    (two_read c.args.body.now c.args.text.now behind c.args.first c.args.second c.requires.first c.requires.second) (omega arith, omega arith)
+    (first_cut behind c.in-64-to-126.len_at_least) (action.Cursor cursor, cursor_alone list _ cursor (sym (c.in_ok-cursor.ensures list (inl refl))), c.cursor_struct.ensures, refl) c.put.ensures

@@ -1,0 +1,138 @@
+-- What is read of a short sequence, behind ESC and '['.
+use Rattle.std.specs.Prelude.{ℕ, ℤ, ◌≡◌, ◌⊎◌, ◌+◌, pos, false, List, [], ◌∷◌, ◌++◌, Some, length, map}
+use Rattle.csicodec_tokens.specs.declared.param.CsiParam.{CsiParam}
+use Rattle.csicodec_tokens.specs.declared.param.CsiParam.TheVariants.{Integer, P}
+use Rattle.csicodec_tokens.specs.Sequence.{Reads}
+use Rattle.csicodec_tokens.specs.Private.Reading.{HasRead, IsFirstToken}
+use Rattle.csicodec_names.specs.declared.color.ColorSpec.{ColorSpec}
+use Rattle.csicodec_base.specs.FrontBy.{color_by, piece}
+use Rattle.csicodec_base.specs.Shapes.{color_shapes}
+use Rattle.csicodec_base.specs.declared.sgr.Sgr.{Sgr}
+use Rattle.csicodec_actions.specs.Actions.{Action, Sgr as Styled}
+use Rattle.csicodec_actions.specs.declared.mode.Change.{Change}
+use Rattle.csicodec_actions.specs.declared.mode.Change.TheVariants as change
+use Rattle.csicodec_parser.specs.Cut.{Cut}
+use Rattle.csicodec_parser.specs.Groups.{group, has_odd}
+use Rattle.csicodec_parser.specs.Segments.{Actions}
+use Rattle.csicodec_parser.specs.declared.group.Group.TheVariants.{Styles}
+use Rattle.csicodec_structs.specs.Next.{Lays}
+use Rattle.csicodec_structs.specs.Rows.{params_of, sgr_struct, struct_of}
+use Rattle.csicodec_structs.specs.Structs.{color_row, row}
+use Rattle.csicodec_structs.specs.declared.structs.Param.{Param}
+use Rattle.csicodec_structs.specs.declared.structs.Struct.{Struct}
+use Rattle.csicodec_c.specs.declared.by_number.Alone.{Alone}
+use Rattle.csicodec_c.specs.declared.attributes.Style.{Style}
+
+-- ---- tokens in turn
+
+-- the text begins with these tokens in turn
+abbrev pub ReadsOn : List ℕ → List CsiParam → List ℕ → Type 0
+ReadsOn text [] behind = text ≡ behind
+ReadsOn text (t ∷ tokens) behind = (mid : List ℕ) × IsFirstToken text t mid × ReadsOn mid tokens behind
+
+-- a mark between the parts of a colour
+abbrev pub IsMark : ℕ → Type 0
+IsMark mark = (mark ≡ 58) ⊎ (mark ≡ 59)
+
+-- what is behind an attribute that ends there: nothing, or a `;`
+abbrev pub Ends : List CsiParam → Type 0
+Ends [] = Unit {0}
+Ends (t ∷ more) = t ≡ P 59
+
+-- ---- numbers
+
+-- the list is this number; or nothing, which reads as 0
+abbrev pub IsOne : ℕ → List CsiParam → Type 0
+IsOne n list = (list ≡ Integer (pos n) ∷ []) ⊎ ((n ≡ 0) × (list ≡ []))
+
+-- it is these two, or the first of them, where the second is 0
+abbrev pub IsTwo : ℕ → ℕ → List CsiParam → Type 0
+IsTwo a b list = (list ≡ Integer (pos a) ∷ P 59 ∷ Integer (pos b) ∷ []) ⊎ ((b ≡ 0) × IsOne a list)
+
+-- ---- attributes
+
+-- nothing is set
+abbrev pub nothing : Alone
+nothing = record { 0 = 0; 1 = 0; 2 = 0 }
+
+-- an attribute with no true colour
+abbrev pub plain : ℕ → ℕ → ℕ → Style
+plain kind first second = record { kind = kind; first = first; second = second; red = 0; green = 0; blue = 0; alpha = 0 }
+
+-- the struct of an attribute
+abbrev pub style_struct : Style → Struct
+style_struct s = record (row s.kind (pos s.first) (pos s.second)) { red = s.red; green = s.green; blue = s.blue; alpha = s.alpha }
+
+-- the number sets this attribute, where it ends there
+abbrev pub SetsAlone : ℕ → Style → Type 0
+SetsAlone number style = (s : Sgr) × ((more : List CsiParam) → Ends more → piece (Integer (pos number) ∷ more) ≡ Some (s, 1)) × (style_struct style ≡ sgr_struct s)
+
+-- the tokens of a colour behind its code, where it ends there
+pub record IsColor (text : List ℕ) (c : ColorSpec) (behind : List ℕ) : Type 0 where
+  pub tokens : List CsiParam
+  pub reads : ReadsOn text tokens behind
+  pub gives : (more : List CsiParam) → Ends more → color_by 1 color_shapes (tokens ++ more) ≡ Some (c, length tokens + 1)
+  pub even : has_odd Styles tokens ≡ false
+
+-- such a colour, as an attribute of this kind
+abbrev pub IsPainted : ℕ → List ℕ → Style → List ℕ → Type 0
+IsPainted kind text style behind = (c : ColorSpec) × IsColor text c behind × (style_struct style ≡ color_row kind c)
+
+-- the tokens of an attribute, a number and others, where it ends there
+pub record IsAttribute (text : List ℕ) (s : Sgr) (behind : List ℕ) : Type 0 where
+  pub number : ℕ
+  pub others : List CsiParam
+  pub reads : ReadsOn text (Integer (pos number) ∷ others) behind
+  pub gives : (more : List CsiParam) → Ends more → piece (Integer (pos number) ∷ (others ++ more)) ≡ Some (s, length others + 1)
+  pub even : has_odd Styles others ≡ false
+
+-- an attribute as its struct has it
+abbrev pub IsStyled : List ℕ → Style → List ℕ → Type 0
+IsStyled text style behind = (s : Sgr) × IsAttribute text s behind × (style_struct style ≡ sgr_struct s)
+
+-- attributes that were read, with a `;` behind each
+pub record HasStyled (body : List ℕ) (styles : List Sgr) (rest : List ℕ) : Type 0 where
+  pub list : List CsiParam
+  pub read : HasRead (27 ∷ 91 ∷ body) list rest
+  pub even : has_odd Styles list ≡ false
+  pub cut : (more : List CsiParam) → Cut Styles (list ++ more) (map Styled styles) more
+  pub first : (z : ℤ) (more : List CsiParam) → group (list ++ Integer z ∷ more) 109 ≡ Styles
+
+-- the actions of a sequence before m
+pub record AreAttributes (body : List ℕ) (styles : List Sgr) (after : List ℕ) : Type 0 where
+  pub list : List CsiParam
+  pub reads : Reads (27 ∷ 91 ∷ body) list 109 after
+  pub are : Actions list false 109 (map Styled styles)
+
+-- both, with attributes as their structs have them
+abbrev pub HasStyles : List ℕ → List Style → List ℕ → Type 0
+HasStyles body styles rest = (all : List Sgr) × HasStyled body all rest × (map style_struct styles ≡ map sgr_struct all)
+
+abbrev pub AreStyles : List ℕ → List Style → List ℕ → Type 0
+AreStyles body styles after = (all : List Sgr) × AreAttributes body all after × (map style_struct styles ≡ map sgr_struct all)
+
+-- ---- what is laid
+
+-- the final byte of what is done to private modes: DECSET, DECRST, and xterm's XTSAVE and XTRESTORE
+abbrev pub change_final : Change → ℕ
+change_final change.Set = 104
+change_final change.Reset = 108
+change_final change.Save = 115
+change_final change.Restore = 114
+
+-- in front stands this number, or nothing, which reads as 0
+abbrev pub HasOne : List ℕ → ℕ → List ℕ → Type 0
+HasOne body n rest = (list : List CsiParam) × IsOne n list × HasRead (27 ∷ 91 ∷ body) list rest
+
+-- the list is read as one action, which has this struct, and no tokens
+abbrev pub IsRow : List CsiParam → ℕ → Struct → Type 0
+IsRow list final given = (action : Action) × Actions list false final (action ∷ []) × (given ≡ struct_of 0 action) × (params_of action ≡ [])
+
+-- the actions of the sequence in front are put, which have no tokens
+pub record HasLaid (body : List ℕ) (actions_old actions_new : List Struct) (count : ℕ) (after : List ℕ) : Type 0 where
+  pub list : List CsiParam
+  pub final : ℕ
+  pub reads : Reads (27 ∷ 91 ∷ body) list final after
+  pub all : List Action
+  pub are : Actions list false final all
+  pub lays : (params : List Param) → Lays actions_old actions_new params params (record { actions = count; params = 0 }) all

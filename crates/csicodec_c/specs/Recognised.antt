@@ -1,0 +1,37 @@
+-- What the call for an unknown action answers a C program: which row of the table of further sequences reads its list.
+use Rattle.std.specs.Prelude.{ℕ, ◌≡◌, ◌-◌, ◌++◌, false, List, [], Some, None, length, map, replicate}
+use Rattle.std.specs.List.{All}
+use Rattle.csicodec_tokens.specs.declared.param.CsiParam.{CsiParam}
+use Rattle.csicodec_actions.specs.Actions.{Unspecified}
+use Rattle.csicodec_sequences.specs.declared.row.Form.{Form}
+use Rattle.csicodec_sequences.specs.Known.{reading}
+use Rattle.csicodec_structs.specs.declared.structs.Param.{Param}
+use Rattle.csicodec_structs.specs.declared.structs.Struct.{Struct}
+use Rattle.csicodec_structs.specs.Encode.{Stands}
+use Rattle.csicodec_structs.specs.Structs.{param_of}
+use Rattle.csicodec_structs.specs.Values.{TokenInRange}
+use Rattle.csicodec_c.specs.declared.recognise.Recognised.{Recognised}
+
+-- a kind and values, with zeros behind them up to 12
+abbrev pub recognised : ℕ → List ℕ → Recognised
+recognised kind values =
+    record { kind = kind; count = length values; values = values ++ replicate (12 - length values) 0 }
+
+-- the struct stands for an unknown action whose list a row reads: the row's kind, and the values
+pub record IsKnown (given : Struct) (params : List Param) (answer : Recognised) : Type 0 where
+  pub list : List CsiParam
+  pub final : ℕ
+  pub form : Form
+  pub values : List ℕ
+  pub stands : Stands given params (Unspecified list false final)
+  pub reads : reading list final ≡ Some (form, values)
+  pub tells : answer ≡ recognised form.kind values
+
+-- or it stands for none whose list a row reads: zeros
+abbrev pub IsUnknown : Struct → List Param → Recognised → Type 0
+IsUnknown given params answer = (answer ≡ recognised 0 []) × ((list : List CsiParam) (final : ℕ)
+    → Stands given params (Unspecified list false final) → reading list final ≡ None)
+
+-- the structs of these tokens, each a byte or a number
+abbrev pub AreTokens : List CsiParam → List Param → Type 0
+AreTokens list params = All TokenInRange list × (map param_of list ≡ params)

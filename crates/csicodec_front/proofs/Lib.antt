@@ -1,6 +1,0 @@
-mod Alone
-mod Changed
-mod Colors
-mod Laid
-mod Rows
-mod Styled

@@ -1,9 +1,0 @@
-use Rattle.std.specs.Prelude.{map}
-use Rattle.std.proofs.Common.{◌≡◌, take}
-use Rattle.csicodec_structs.specs.Room.{laid}
-use Rattle.csicodec_front.specs.Private.Short.{style_struct}
-use Rattle.csicodec_front.proofs.styles.put_styles.Given as goal
-
--- the attributes up to here are put
-abbrev pub invariant-loop-place : goal.invariant-loop-place
-invariant-loop-place l = l.actions ≡ laid l.fn.actions (map style_struct (take l.place l.styles))

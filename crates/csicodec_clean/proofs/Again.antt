@@ -41,8 +41,8 @@ use Rattle.csicodec_clean.specs.Styled.{kept, Item, Shown, Style, Link, item_tex
 use Rattle.csicodec_clean.proofs.Shows.{encoded_on, shown_none}
 use Rattle.csicodec_clean.proofs.Linked.{body_read}
 use Rattle.csicodec_clean.proofs.Pieces.{piece}
-use Rattle.csicodec_clean.proofs.Plain.{scalars_on, shown_both}
-use Rattle.csicodec_clean.proofs.PlainBytes.{one_char}
+use Rattle.csicodec_clean.proofs.Plain.{scalars_on}
+use Rattle.csicodec_clean.proofs.PlainBytes.{all_both, one_char}
 use Rattle.csicodec_clean.proofs.Styled.{safe_closed, styled}
 use Rattle.csicodec_clean.proofs.Titles.{single_texts, titles_on}
 use Rattle.csicodec_clean.proofs.Twice.{all_kept, all_text}
@@ -82,16 +82,12 @@ link_bytes : (bs more : List ℕ) → AllByRecursion IsVisible bs → AreFirstPa
 link_bytes [] more h = (refl, refl)
 link_bytes (b ∷ bs) more h = (bs ++ more, mode.Osc, link_byte b (bs ++ more) h.0, link_bytes bs more h.1)
 
-both_visible : (xs ys : List ℕ) → AllByRecursion IsVisible xs → AllByRecursion IsVisible ys → AllByRecursion IsVisible (xs ++ ys)
-both_visible [] ys h k = k
-both_visible (x ∷ xs) ys h k = (h.0, both_visible xs ys h.1 k)
-
 params_visible : (ps : List ℕ) → AllByRecursion (λ b. is_param b ≡ true) ps → AllByRecursion IsVisible ps
 params_visible [] h = tt
 params_visible (b ∷ ps) h = ((and_parts (is_visible b) (not (b == 59)) h.0).0, params_visible ps h.1)
 
 body_visible : (a : Address) → IsLink a → AllByRecursion IsVisible (link_body a)
-body_visible a h = (refl, (refl, both_visible a.params (59 ∷ a.url) (params_visible a.params h.params) (refl, h.url)))
+body_visible a h = (refl, (refl, all_both IsVisible a.params (59 ∷ a.url) (params_visible a.params h.params) (refl, h.url)))
 
 link_first : (a : Address) (more rest : List ℕ) (ps : List Part) (after : Mode) → IsLink a → AreFirstParts longest mode.Text more ps rest after
     → AreFirstParts longest mode.Text (link_text a ++ more) (part kind.Str (27 ∷ 93 ∷ []) ∷ (singles kind.Str (link_body a) ++ part kind.Str (27 ∷ 92 ∷ []) ∷ ps)) rest after
@@ -188,9 +184,7 @@ chars_links (a ∷ links) = chars_links links
 leaves_chars : (d : Passing) (b : Begun) (k : Kind) (bytes : List ℕ) (own : List Item) → Leaves d b k bytes own → chars_of own ≡ []
 leaves_chars d b kind.Csi bytes own (actions, one, e) = ap chars_of e ∙ chars_styles (kept d.depth actions)
 leaves_chars d b kind.Str bytes own e = ap chars_of e ∙ chars_links (links_in d.links b bytes)
-leaves_chars d b kind.Text bytes own e = ap chars_of e
-leaves_chars d b kind.Esc bytes own e = ap chars_of e
-leaves_chars d b kind.Other bytes own e = ap chars_of e
+leaves_chars d b _ bytes own e = ap chars_of e
 
 chars_part : (run : List ℕ) (own others : List Item) → chars_of own ≡ [] → chars_of (shown_items run ++ (own ++ others)) ≡ filter shown (lossy_chars run) ++ chars_of others
 chars_part run own others none =
@@ -223,7 +217,7 @@ stripped_items d [] cs a h safe = shown_back cs a h ∙ ap encode_utf8_all (sym 
 stripped_items d (Shown c ∷ items) cs a h safe =
     let (here, one) = safe.0 in
     stripped_on (encode_utf8 c) (encode_utf8_all cs) (parts_of items) ∙ ap (λ (r : List ℕ). stripped r (parts_of items)) (sym (more_encoded cs c))
-    ∙ stripped_items d items (cs ++ c ∷ []) (more_scalars cs c a one) (shown_both cs (c ∷ []) h (here, tt)) safe.1 ∙ ap encode_utf8_all (append_assoc cs (c ∷ []) (chars_of items))
+    ∙ stripped_items d items (cs ++ c ∷ []) (more_scalars cs c a one) (all_both IsShown cs (c ∷ []) h (here, tt)) safe.1 ∙ ap encode_utf8_all (append_assoc cs (c ∷ []) (chars_of items))
 stripped_items d (Style s ∷ items) cs a h safe =
     ap (λ (t : List ℕ). t ++ stripped [] (parts_of items)) (shown_back cs a h) ∙ ap (λ (t : List ℕ). encode_utf8_all cs ++ t) (stripped_items d items [] refl tt safe.1)
     ∙ sym (encoded_on cs (chars_of items))
@@ -241,10 +235,7 @@ ended_stripped run own others ps none rest =
 stripped_part : (k : Kind) (run bytes : List ℕ) (own others : List Item) (ps : List Part) → chars_of own ≡ [] → encode_utf8_all (chars_of others) ≡ stripped (run_behind k run bytes) ps
     → encode_utf8_all (chars_of (items_behind k run ++ (own ++ others))) ≡ cond (is_text k) (stripped (run ++ bytes) ps) (shown_text run ++ stripped [] ps)
 stripped_part kind.Text run bytes own others ps none rest = ap encode_utf8_all (chars_both own others ∙ ap (λ (t : List ℕ). t ++ chars_of others) none) ∙ rest
-stripped_part kind.Csi run bytes own others ps none rest = ended_stripped run own others ps none rest
-stripped_part kind.Esc run bytes own others ps none rest = ended_stripped run own others ps none rest
-stripped_part kind.Str run bytes own others ps none rest = ended_stripped run own others ps none rest
-stripped_part kind.Other run bytes own others ps none rest = ended_stripped run own others ps none rest
+stripped_part _ run bytes own others ps none rest = ended_stripped run own others ps none rest
 
 -- the characters that are left of parts are what is shown of them
 left_stripped : (d : Passing) (b : Begun) (ps : List Part) (run : List ℕ) (items : List Item) → AreLeft d b run ps items → encode_utf8_all (chars_of items) ≡ stripped run ps
@@ -269,10 +260,7 @@ of_once bytes xs ys (l, f, s, a) (m, g, t, b) = one_decoding bytes false xs ys (
 
 leaves_once : (d : Passing) (b : Begun) (k : Kind) (bytes : List ℕ) (xs ys : List Item) → Leaves d b k bytes xs → Leaves d b k bytes ys → xs ≡ ys
 leaves_once d b kind.Csi bytes xs ys (own, one, e) (others, two, f) = e ∙ ap (λ (x : List Action). map Style (kept d.depth x)) (of_once bytes own others one two) ∙ sym f
-leaves_once d b kind.Str bytes xs ys e f = e ∙ sym f
-leaves_once d b kind.Text bytes xs ys e f = e ∙ sym f
-leaves_once d b kind.Esc bytes xs ys e f = e ∙ sym f
-leaves_once d b kind.Other bytes xs ys e f = e ∙ sym f
+leaves_once d b _ bytes xs ys e f = e ∙ sym f
 
 left_once : (d : Passing) (b : Begun) (ps : List Part) (run : List ℕ) (xs ys : List Item) → AreLeft d b run ps xs → AreLeft d b run ps ys → xs ≡ ys
 left_once d b [] run xs ys e f = e ∙ sym f
@@ -360,7 +348,7 @@ left_again d (Shown c ∷ items) params url cs out a h safe l =
     let b = begun place.Outside params url in
     let moved = left_on d b (encode_utf8 c) (encode_utf8_all cs) (parts_of items) out l in
     let grown : AreLeft d b (encode_utf8_all (cs ++ c ∷ [])) (parts_of items) out = subst (λ (r : List ℕ). AreLeft d b r (parts_of items) out) (sym (more_encoded cs c)) moved in
-    left_again d items params url (cs ++ c ∷ []) out (more_scalars cs c a one) (shown_both cs (c ∷ []) h (here, tt)) safe.1 grown ∙ ap (λ (x : List Item). x ++ items) (map-append Shown cs (c ∷ []))
+    left_again d items params url (cs ++ c ∷ []) out (more_scalars cs c a one) (all_both IsShown cs (c ∷ []) h (here, tt)) safe.1 grown ∙ ap (λ (x : List Item). x ++ items) (map-append Shown cs (c ∷ []))
     ∙ append_assoc (map Shown cs) (Shown c ∷ []) items
 left_again d (Style s ∷ items) params url cs out a h safe (own, others, (actions, (list, final, seq, read), k), e, rest) =
     let (stays, alone, same_color) = safe.0 in

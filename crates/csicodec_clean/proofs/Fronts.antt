@@ -95,10 +95,7 @@ ended_begins run chars rest own others h =
 part_begins : (d : Passing) (b : Begun) (k : Kind) (run bytes chars rest : List ℕ) (own others : List Item) → Leaves d b k bytes own → IsRead run chars rest
     → ((cs r : List ℕ) → IsRead (run_behind k run bytes) cs r → GoesOnFrom (item_texts others) (shown_chars cs)) → GoesOnFrom (item_texts (items_behind k run ++ (own ++ others))) (shown_chars chars)
 part_begins d b kind.Text run bytes chars rest own others none h later = rw none (later chars (rest ++ bytes) (read_longer run chars rest bytes h))
-part_begins d b kind.Csi run bytes chars rest own others l h later = ended_begins run chars rest own others h
-part_begins d b kind.Esc run bytes chars rest own others l h later = ended_begins run chars rest own others h
-part_begins d b kind.Str run bytes chars rest own others l h later = ended_begins run chars rest own others h
-part_begins d b kind.Other run bytes chars rest own others l h later = ended_begins run chars rest own others h
+part_begins d b _ run bytes chars rest own others l h later = ended_begins run chars rest own others h
 
 left_begins : (d : Passing) (b : Begun) (ps : List Part) (run chars rest : List ℕ) (items : List Item) → IsRead run chars rest → AreLeft d b run ps items → GoesOnFrom (item_texts items) (shown_chars chars)
 left_begins d b [] run chars rest items h e =
@@ -134,10 +131,8 @@ module _ {S : Type 0} (of : S → Keeping) where
       let g = given_string of bytes s mid given steps in
       let text : item_texts own ≡ given = ap item_texts l ∙ texts_links (links_in (of s).passing.links (of s).begun bytes) ∙ sym g.told in
       record { text = ended run first given own others e text; next_run = left; passing = ap (λ (x : Keeping). x.passing) g.state; begun = ap (λ (x : Keeping). x.begun) g.state }
-  step_left kind.Esc s mid run bytes first next own others (e, same, left) l =
-      record { text = bare run first own others e l; next_run = left; passing = ap (λ (x : S). (of x).passing) same; begun = ap (λ (x : S). (of x).begun) same }
-  step_left kind.Other s mid run bytes first next own others (e, same, left) l =
-      record { text = bare run first own others e l; next_run = left; passing = ap (λ (x : S). (of x).passing) same; begun = ap (λ (x : S). (of x).begun) same }
+  step_left _ s mid run bytes first next own others h l =
+      record { text = bare run first own others h.0 l; next_run = h.2; passing = ap (λ (x : S). (of x).passing) h.1; begun = ap (λ (x : S). (of x).begun) h.1 }
 
   record Later (d : Passing) (qs : List Part) (last text : List ℕ) (items : List Item) : Type 0 where
     others : List Item

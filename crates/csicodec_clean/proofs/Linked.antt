@@ -74,9 +74,6 @@ fine_url params url c h e =
     record { params = h.params; few = h.few; url = all_more (λ b. is_visible b ≡ true) url c h.url both.0; short = one_longer url c longest_url both.1 }
 
 fine_at : (p : Place) (params url : List ℕ) (c : ℕ) → IsFine (begun p params url) → IsFine (behind_at p params url c)
-fine_at place.Outside params url c h = h
-fine_at place.Escape params url c h = h
-fine_at place.Opened params url c h = h
 fine_at place.Eight params url c h =
     choose IsFine (c == 59) (begun place.Params [] url) (begun (anew c) params url) (λ e. record { params = tt; few = omega arith; url = h.url; short = h.short }) (λ e. h)
 fine_at place.Params params url c h =
@@ -87,7 +84,7 @@ fine_at place.Params params url c h =
     (λ e. choose IsFine test more other (λ f. fine_param params url c h f) (λ f. h))
 fine_at place.Url params url c h =
     choose IsFine (is_visible c && nat_lt (length url) longest_url) (begun place.Url params (url ++ c ∷ [])) (begun (if c == 27 then place.Ending else place.Outside) params url) (λ e. fine_url params url c h e) (λ e. h)
-fine_at place.Ending params url c h = h
+fine_at _ params url c h = h
 
 fine_next : (passing : Bool) (b : Begun) (c : ℕ) → IsFine b → IsFine (next passing b c)
 fine_next true b c h = fine_at b.place b.address.params b.address.url c h

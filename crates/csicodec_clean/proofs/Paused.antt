@@ -95,11 +95,9 @@ same_behind (b ∷ bytes) d t text after (first, mid, others, byte, e, rest) =
     same_behind bytes d t others after (subst (λ (k : Keeping). AreGiven (keeps (λ (x : Keeping). x)) k bytes others after) byte.1 rest)
 
 resumed_step : (k : Kind) (d : Depth) (t : Bool) (run bytes text : List ℕ) (after : Keeping) (left : List ℕ) → IsStep (keeps (λ (x : Keeping). x)) k (resumed d t) run bytes text after left → (u : Bool) × (after ≡ resumed d u)
-resumed_step kind.Text d t run bytes text after left h = (t, h.1)
 resumed_step kind.Csi d t run bytes text after left (own, (actions, is, out, same), e, none) = (_, same)
-resumed_step kind.Esc d t run bytes text after left h = (t, h.1)
 resumed_step kind.Str d t run bytes text after left (own, given, e, none) = (t, same_behind bytes d t own after given)
-resumed_step kind.Other d t run bytes text after left h = (t, h.1)
+resumed_step _ d t run bytes text after left h = (t, h.1)
 
 resumed_steps : (ps : List Part) (d : Depth) (t : Bool) (run text : List ℕ) (after : Keeping) (left : List ℕ) → AreSteps (keeps (λ (x : Keeping). x)) (resumed d t) run ps text after left → (u : Bool) × (after ≡ resumed d u)
 resumed_steps [] d t run text after left h = (t, h.1)

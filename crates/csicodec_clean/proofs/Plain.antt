@@ -15,6 +15,7 @@ use Rattle.csicodec_spans.specs.Parts.{Part}
 use Rattle.csicodec_clean.specs.Shown.{shown, shown_text, IsShown, IsPlain}
 use Rattle.csicodec_clean.specs.Titles.{with_titles}
 use Rattle.csicodec_clean.specs.Cleaned.{AreGiven, IsStep, AreSteps, Ends, Strips, stripped, drops, ends_bare, is_text}
+use Rattle.csicodec_clean.proofs.PlainBytes.{all_both}
 use Rattle.csicodec_clean.proofs.Shows.{encoded_on}
 
 char_scalar : (o : Option ℕ) → ((c : ℕ) → o ≡ Some c → IsScalar c) → all_scalars (or_replacement o ∷ []) ≡ true
@@ -55,12 +56,8 @@ pub scalars_on : (xs ys : List ℕ) → all_scalars xs ≡ true → all_scalars 
 scalars_on [] ys h k = k
 scalars_on (x ∷ xs) ys h k = let both = and_parts _ _ h in and_from _ _ both.0 (scalars_on xs ys both.1 k)
 
-pub shown_both : (xs ys : List ℕ) → AllByRecursion IsShown xs → AllByRecursion IsShown ys → AllByRecursion IsShown (xs ++ ys)
-shown_both [] ys h k = k
-shown_both (x ∷ xs) ys h k = (h.0, shown_both xs ys h.1 k)
-
 pub plain_on : (s t : List ℕ) → IsPlain s → IsPlain t → IsPlain (s ++ t)
-plain_on s t (xs, a, b, c) (ys, d, e, f) = (xs ++ ys, scalars_on xs ys a d, shown_both xs ys b e, ap (λ u. u ++ t) c ∙ ap (λ u. encode_utf8_all xs ++ u) f ∙ sym (encoded_on xs ys))
+plain_on s t (xs, a, b, c) (ys, d, e, f) = (xs ++ ys, scalars_on xs ys a d, all_both IsShown xs ys b e, ap (λ u. u ++ t) c ∙ ap (λ u. encode_utf8_all xs ++ u) f ∙ sym (encoded_on xs ys))
 
 -- ---- stripped
 

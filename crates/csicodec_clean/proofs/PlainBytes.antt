@@ -26,13 +26,13 @@ one_char c h =
     (cases_lt c 2048))
     (cases_lt c 128)
 
-pub other_both : (xs ys : List ℕ) → AllByRecursion IsOther xs → AllByRecursion IsOther ys → AllByRecursion IsOther (xs ++ ys)
-other_both [] ys h k = k
-other_both (x ∷ xs) ys h k = (h.0, other_both xs ys h.1 k)
+pub all_both : {T : Type 0} (P : T → Type 0) (xs ys : List T) → AllByRecursion P xs → AllByRecursion P ys → AllByRecursion P (xs ++ ys)
+all_both P [] ys h k = k
+all_both P (x ∷ xs) ys h k = (h.0, all_both P xs ys h.1 k)
 
 chars : (cs : List ℕ) → AllByRecursion IsShown cs → AllByRecursion IsOther (encode_utf8_all cs)
 chars [] h = tt
-chars (c ∷ cs) h = other_both (encode_utf8 c) (encode_utf8_all cs) (one_char c h.0) (chars cs h.1)
+chars (c ∷ cs) h = all_both IsOther (encode_utf8 c) (encode_utf8_all cs) (one_char c h.0) (chars cs h.1)
 
 pub plain_bytes : (text : List ℕ) → IsPlain text → AllByRecursion IsOther text
 plain_bytes text (cs, scalars, all, e) = subst (AllByRecursion IsOther) (sym e) (chars cs all)

@@ -4,8 +4,7 @@ use Rattle.std.specs.Prelude.{filter}
 use Rattle.std.proofs.lemmas.List.Elements.{filter-append}
 use Rattle.bstr.specs.Utf8.{lossy_chars}
 use Rattle.bstr.proofs.lemmas.PieceLemmas.{lossy_chars-nil}
-use Rattle.csicodec_clean.specs.Shown.{shown, shown_chars, shown_text}
-use Rattle.csicodec_clean.specs.Shown.{IsRead}
+use Rattle.csicodec_clean.specs.Shown.{shown, shown_chars, shown_text, IsRead}
 use Rattle.csicodec_clean.proofs.Sure.{read_all}
 
 pub encoded_on : (xs ys : List ℕ) → encode_utf8_all (xs ++ ys) ≡ encode_utf8_all xs ++ encode_utf8_all ys

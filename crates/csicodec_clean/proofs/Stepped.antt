@@ -7,10 +7,9 @@ use Rattle.csicodec_spans.specs.declared.table.Mode.{Mode}
 use Rattle.csicodec_spans.specs.declared.table.Mode.TheVariants as mode
 use Rattle.csicodec_spans.specs.Parts.{Part, part, bytes_of, AreAll, IsSpan, Cuts, IsUnsure}
 use Rattle.csicodec_spans.proofs.Kept.{parts_on}
-use Rattle.csicodec_clean.specs.Shown.{shown_chars, shown_text}
+use Rattle.csicodec_clean.specs.Shown.{shown_chars, shown_text, IsRead}
 use Rattle.csicodec_clean.specs.Titles.{title_behind, title_open, read_as, with_titles}
 use Rattle.csicodec_clean.specs.Cleaned.{RuleOf, AreGiven, IsStep, AreSteps, Cleans}
-use Rattle.csicodec_clean.specs.Shown.{IsRead}
 use Rattle.csicodec_clean.specs.Private.Steps.{IsAppended}
 use Rattle.csicodec_clean.specs.Stream.{Goes}
 use Rattle.csicodec_clean.proofs.Sure.{read_more, read_none}

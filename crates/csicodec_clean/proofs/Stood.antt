@@ -11,7 +11,8 @@ use Rattle.csicodec_spans.specs.declared.table.Kind.TheVariants as kind
 use Rattle.csicodec_spans.specs.declared.table.Mode.{Mode}
 use Rattle.csicodec_spans.specs.declared.table.Mode.TheVariants as mode
 use Rattle.csicodec_spans.specs.Parts.{Part, part, bytes_of, AreFirstParts, IsFirstPart, IsSpan, left_over}
-use Rattle.csicodec_spans.proofs.Strings.{IsPiece, fit, in_string, is_str}
+use Rattle.csicodec_spans.proofs.Fronts.{IsPiece, in_string, is_str}
+use Rattle.csicodec_spans.proofs.Missed.{fit}
 use Rattle.csicodec_clean.specs.declared.colors.Depth.{Depth}
 use Rattle.csicodec_clean.specs.declared.links.Place.{Place}
 use Rattle.csicodec_clean.specs.declared.links.Place.TheVariants as place
@@ -22,6 +23,7 @@ use Rattle.csicodec_clean.specs.Shown.{shown}
 use Rattle.csicodec_clean.specs.Styled.{kept, Item, Shown, Style, Link, shown_items, Leaves, begun_behind, run_behind, items_behind, AreLeft, links_of, ends_of, is_open, styles_of, IsSafe, StylesIn}
 use Rattle.csicodec_clean.specs.Titles.{read_as, title_behind, with_titles}
 use Rattle.csicodec_clean.proofs.Linked.{links_on, passes}
+use Rattle.csicodec_clean.proofs.PlainBytes.{all_both}
 use Rattle.csicodec_clean.proofs.Styled.{links_both, links_chars, links_links, links_styles, part_links, safe_closed}
 
 -- either way of a test
@@ -47,15 +49,11 @@ address params url = record { params = params; url = url }
 
 -- with the byte that ends it, it is the link
 over_at : (p : Place) (params url : List ℕ) (c : ℕ) → ends_at p c ≡ true → Spells (read_of p params url ++ c ∷ []) (address params url)
-over_at place.Outside params url c e = absurd cc
-over_at place.Escape params url c e = absurd cc
-over_at place.Opened params url c e = absurd cc
-over_at place.Eight params url c e = absurd cc
-over_at place.Params params url c e = absurd cc
 over_at place.Url params url c e = inl (ap (λ (x : ℕ). 27 ∷ 93 ∷ (link_body (address params url) ++ x ∷ [])) (eqb-true c 7 e))
 over_at place.Ending params url c e =
     let body = link_body (address params url) in
     inr (ap (λ (t : List ℕ). 27 ∷ 93 ∷ t) (append_assoc body (27 ∷ []) (c ∷ [])) ∙ ap (λ (x : ℕ). 27 ∷ 93 ∷ (body ++ 27 ∷ x ∷ [])) (eqb-true c 92 e))
+over_at _ params url c e = absurd cc
 
 -- ---- byte by byte
 
@@ -128,13 +126,9 @@ in_bytes bytes = stood_in bytes [] bytes start refl ([], refl)
 
 -- behind whole pieces it doesn't end in ESC
 abbrev IsAtRest : Place → Type 0
-IsAtRest place.Outside = Unit {0}
 IsAtRest place.Escape = ⊥
-IsAtRest place.Opened = Unit {0}
-IsAtRest place.Eight = Unit {0}
-IsAtRest place.Params = Unit {0}
-IsAtRest place.Url = Unit {0}
 IsAtRest place.Ending = ⊥
+IsAtRest _ = Unit {0}
 
 -- one byte more, or nothing any more
 abbrev GoesOnBy : List ℕ → List ℕ → Begun → Type 0
@@ -145,7 +139,6 @@ none_on old params url c e = rw e (tt, inr refl)
 
 on_at : (p : Place) (params url : List ℕ) (c : ℕ) → IsAtRest p → (c == 27) ≡ false → GoesOnBy (read_of p params url) (c ∷ []) (behind_at p params url c)
 on_at place.Outside params url c rest e = none_on [] params url c e
-on_at place.Escape params url c rest e = absurd rest
 on_at place.Opened params url c rest e =
     either (λ (p : Place). GoesOnBy (27 ∷ 93 ∷ []) (c ∷ []) (begun p params url)) (c == 56) place.Eight (anew c) (λ f. (tt, inl (ap (λ (x : ℕ). 27 ∷ 93 ∷ x ∷ []) (sym (eqb-true c 56 f))))) (λ f. none_on (27 ∷ 93 ∷ []) params url c e)
 on_at place.Eight params url c rest e =
@@ -162,17 +155,13 @@ on_at place.Url params url c rest e =
     let old = 27 ∷ 93 ∷ 56 ∷ 59 ∷ (params ++ 59 ∷ url) in
     either (GoesOnBy old (c ∷ [])) (is_visible c && nat_lt (length url) longest_url) (begun place.Url params (url ++ c ∷ [])) (begun (if c == 27 then place.Ending else place.Outside) params url)
     (λ f. (tt, inl (ap (λ (t : List ℕ). 27 ∷ 93 ∷ 56 ∷ 59 ∷ t) (sym (append_assoc params (59 ∷ url) (c ∷ [])))))) (λ f. rw e (tt, inr refl))
-on_at place.Ending params url c rest e = absurd rest
+on_at _ params url c rest e = absurd rest
 
 -- ESC and a byte begin anew
 anew_at : (p : Place) (params url : List ℕ) (c : ℕ) → IsAtRest p → all_behind true (begun p params url) (27 ∷ c ∷ []) ≡ begun (opened c) params url
-anew_at place.Outside params url c rest = refl
 anew_at place.Escape params url c rest = absurd rest
-anew_at place.Opened params url c rest = refl
-anew_at place.Eight params url c rest = refl
-anew_at place.Params params url c rest = refl
-anew_at place.Url params url c rest = refl
 anew_at place.Ending params url c rest = absurd rest
+anew_at _ params url c rest = refl
 
 opened_rest : (params url : List ℕ) (c : ℕ) → GoesOnBy [] (27 ∷ c ∷ []) (begun (opened c) params url)
 opened_rest params url c =
@@ -305,37 +294,32 @@ none_left d b kind.Str run bytes own others e l = absurd cc
 none_left d b kind.Text run bytes own others e l = rw l refl
 none_left d b kind.Csi run bytes own others e (actions, is, l) =
     part_links run own others ∙ ap (λ (t : List Address). t ++ links_of others) (ap links_of l ∙ links_styles (kept d actions))
-none_left d b kind.Esc run bytes own others e l = part_links run own others ∙ ap (λ (t : List Item). links_of t ++ links_of others) l
-none_left d b kind.Other run bytes own others e l = part_links run own others ∙ ap (λ (t : List Item). links_of t ++ links_of others) l
+none_left d b _ run bytes own others e l = part_links run own others ∙ ap (λ (t : List Item). links_of t ++ links_of others) l
 
 -- and one that is one those that are over in it
 string_left : (d : Depth) (b : Begun) (run bytes : List ℕ) (own others items : List Item) → Leaves (with_links d) b kind.Str bytes own → items ≡ items_behind kind.Str run ++ (own ++ others) → links_of items ≡ links_in true b bytes ++ links_of others
 string_left d b run bytes own others items leaves e =
     ap links_of e ∙ part_links run own others ∙ ap (λ (x : List Address). x ++ links_of others) (ap links_of leaves ∙ links_links (links_in true b bytes))
 
-both : (P : Address → Type 0) (xs ys : List Address) → AllByRecursion P xs → AllByRecursion P ys → AllByRecursion P (xs ++ ys)
-both P [] ys h k = k
-both P (x ∷ xs) ys h k = (h.0, both P xs ys h.1 k)
-
 -- one part, and then the others
 one_part : (d : Depth) (k : Kind) (text : List ℕ) (m a : Mode) (bytes rest : List ℕ) (b : Begun) (t : Bool) (run : List ℕ) (done later whole : List Part) (items own others : List Item) → IsFirstPart longest m bytes (part k text) rest a → Held m done b
     → whole ≡ done ++ (part k text ∷ later) → Leaves (with_links d) b (read_as k t) text own → items ≡ items_behind (read_as k t) run ++ (own ++ others)
     → (Held a (done ++ part k text ∷ []) (begun_behind (with_links d) b (read_as k t) text) → AllByRecursion (StoodIn whole) (links_of others)) → AllByRecursion (StoodIn whole) (links_of items)
 one_part d kind.Text text m a bytes rest b true run done later whole items own others first h split leaves e f =
-    subst (AllByRecursion (StoodIn whole)) (sym (ap links_of e ∙ none_left d b kind.Other run text own others refl leaves)) (f record { at_rest = h.at_rest; open_or_shut = inr (fit longest m bytes kind.Text text rest a first) })
+    subst (AllByRecursion (StoodIn whole)) (sym (ap links_of e ∙ none_left d b kind.Other run text own others refl leaves)) (f record { at_rest = h.at_rest; open_or_shut = inr (fit longest m bytes kind.Text text rest a first).0 })
 one_part d kind.Text text m a bytes rest b false run done later whole items own others first h split leaves e f =
-    subst (AllByRecursion (StoodIn whole)) (sym (ap links_of e ∙ none_left d b kind.Text run text own others refl leaves)) (f record { at_rest = h.at_rest; open_or_shut = inr (fit longest m bytes kind.Text text rest a first) })
+    subst (AllByRecursion (StoodIn whole)) (sym (ap links_of e ∙ none_left d b kind.Text run text own others refl leaves)) (f record { at_rest = h.at_rest; open_or_shut = inr (fit longest m bytes kind.Text text rest a first).0 })
 one_part d kind.Csi text m a bytes rest b t run done later whole items own others first h split leaves e f =
     subst (AllByRecursion (StoodIn whole)) (sym (ap links_of e ∙ none_left d b kind.Csi run text own others refl leaves)) (f record { at_rest = h.at_rest; open_or_shut = inr (fit longest m bytes kind.Csi text rest a first) })
 one_part d kind.Esc text m a bytes rest b t run done later whole items own others first h split leaves e f =
-    subst (AllByRecursion (StoodIn whole)) (sym (ap links_of e ∙ none_left d b kind.Esc run text own others refl leaves)) (f record { at_rest = h.at_rest; open_or_shut = inr (fit longest m bytes kind.Esc text rest a first) })
+    subst (AllByRecursion (StoodIn whole)) (sym (ap links_of e ∙ none_left d b kind.Esc run text own others refl leaves)) (f record { at_rest = h.at_rest; open_or_shut = inr (fit longest m bytes kind.Esc text rest a first).0 })
 one_part d kind.Other text m a bytes rest b t run done later whole items own others first h split leaves e f =
     subst (AllByRecursion (StoodIn whole)) (sym (ap links_of e ∙ none_left d b kind.Other run text own others refl leaves)) (f record { at_rest = h.at_rest; open_or_shut = inr (fit longest m bytes kind.Other text rest a first) })
 one_part d kind.Str text m a bytes rest b t run done later whole items own others first h split leaves e f =
     let fits = fit longest m bytes kind.Str text rest a first in
     let now = after_piece whole done later m b text split h fits in
     subst (AllByRecursion (StoodIn whole)) (sym (string_left d b run text own others items leaves e))
-    (both (StoodIn whole) (links_in true b text) (links_of others) now.links (f record { at_rest = rest_behind m b text fits h.at_rest; open_or_shut = inl now.opens }))
+    (all_both (StoodIn whole) (links_in true b text) (links_of others) now.links (f record { at_rest = rest_behind m b text fits h.at_rest; open_or_shut = inl now.opens }))
 
 -- what is left where nothing follows
 end_links : (d : Depth) (rest : List ℕ) (b : Begun) (t : Bool) (run : List ℕ) (items : List Item) → AreLeft (with_links d) b run (with_titles t (left_over rest)) items → links_of items ≡ []
@@ -374,20 +358,14 @@ in_stream d bytes text s = stream d.depth d.links bytes text s
 part_rests : (d : Depth) (k : Kind) (text : List ℕ) (m a : Mode) (bytes rest : List ℕ) (b : Begun) (t : Bool) → IsFirstPart longest m bytes (part k text) rest a → IsAtRest b.place → IsAtRest (begun_behind (with_links d) b (read_as k t) text).place
 part_rests d kind.Text text m a bytes rest b true first h = h
 part_rests d kind.Text text m a bytes rest b false first h = h
-part_rests d kind.Csi text m a bytes rest b t first h = h
-part_rests d kind.Esc text m a bytes rest b t first h = h
-part_rests d kind.Other text m a bytes rest b t first h = h
 part_rests d kind.Str text m a bytes rest b t first h = rest_behind m b text (fit longest m bytes kind.Str text rest a first) h
+part_rests d _ text m a bytes rest b t first h = h
 
 -- `ESC ]` begins anew, whatever was read
 opens_any : (p : Place) (params url bytes : List ℕ) → IsAtRest p → links_in true (begun p params url) (27 ∷ 93 ∷ bytes) ≡ links_in true (begun place.Opened params url) bytes
-opens_any place.Outside params url bytes rest = refl
 opens_any place.Escape params url bytes rest = absurd rest
-opens_any place.Opened params url bytes rest = refl
-opens_any place.Eight params url bytes rest = refl
-opens_any place.Params params url bytes rest = refl
-opens_any place.Url params url bytes rest = refl
 opens_any place.Ending params url bytes rest = absurd rest
+opens_any _ params url bytes rest = refl
 
 passes_any : (b : Begun) (a : Address) (end : List ℕ) → IsAtRest b.place → IsLink a → links_in true (begun place.Url a.params a.url) end ≡ a ∷ [] → links_in true b (27 ∷ 93 ∷ (link_body a ++ end)) ≡ a ∷ []
 passes_any b a end rest h over =
@@ -403,11 +381,8 @@ BeginsBy links first = (more : List Address) × (links ≡ first ++ more)
 
 one_string : (d : Depth) (k : Kind) (text : List ℕ) (b : Begun) (t : Bool) (run : List ℕ) (items own others : List Item) → k ≡ kind.Str → Leaves (with_links d) b (read_as k t) text own → items ≡ items_behind (read_as k t) run ++ (own ++ others)
     → (links_of items ≡ links_in true b text ++ links_of others) × (begun_behind (with_links d) b (read_as k t) text ≡ all_behind true b text)
-one_string d kind.Text text b t run items own others is leaves e = absurd cc
-one_string d kind.Csi text b t run items own others is leaves e = absurd cc
-one_string d kind.Esc text b t run items own others is leaves e = absurd cc
-one_string d kind.Other text b t run items own others is leaves e = absurd cc
 one_string d kind.Str text b t run items own others is leaves e = (string_left d b run text own others items leaves e, refl)
+one_string d _ text b t run items own others is leaves e = absurd cc
 
 strings : (d : Depth) (ps later : List Part) (b : Begun) (t : Bool) (run : List ℕ) (items : List Item) → AllByRecursion IsStr ps → AreLeft (with_links d) b run (with_titles t (ps ++ later)) items → BeginsBy (links_of items) (links_in true b (flat_map bytes_of ps))
 strings d [] later b t run items h left = (links_of items, refl)

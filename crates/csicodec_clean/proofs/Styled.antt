@@ -32,6 +32,7 @@ use Rattle.csicodec_clean.specs.Styled.{hides, is_reset, kept, Item, Shown, Styl
 use Rattle.csicodec_clean.proofs.Linked.{fine_behind, fine_links, linked_on, links_none}
 use Rattle.csicodec_clean.proofs.Reduced.{reduced_alone, reduced_hides, reduced_twice}
 use Rattle.csicodec_clean.proofs.Plain.{kept_shown, scalars_lossy}
+use Rattle.csicodec_clean.proofs.PlainBytes.{all_both}
 
 -- ---- one action behind the other
 
@@ -42,15 +43,7 @@ kept_on d (action.Sgr s ∷ xs) ys = by (kept_on d xs ys) (hides s)
     by : kept d (xs ++ ys) ≡ kept d xs ++ kept d ys → (b : Bool) → (if b then kept d (xs ++ ys) else reduced d s ∷ kept d (xs ++ ys)) ≡ (if b then kept d xs else reduced d s ∷ kept d xs) ++ kept d ys
     by rest true = rest
     by rest false = ap (λ t. reduced d s ∷ t) rest
-kept_on d (action.Cursor c ∷ xs) ys = kept_on d xs ys
-kept_on d (action.Edit e ∷ xs) ys = kept_on d xs ys
-kept_on d (action.Mode m ∷ xs) ys = kept_on d xs ys
-kept_on d (action.Mouse m ∷ xs) ys = kept_on d xs ys
-kept_on d (action.Device e ∷ xs) ys = kept_on d xs ys
-kept_on d (action.Window w ∷ xs) ys = kept_on d xs ys
-kept_on d (action.Keyboard k ∷ xs) ys = kept_on d xs ys
-kept_on d (action.SelectCharacterPath p e ∷ xs) ys = kept_on d xs ys
-kept_on d (action.Unspecified p f c ∷ xs) ys = kept_on d xs ys
+kept_on d (_ ∷ xs) ys = kept_on d xs ys
 
 pub texts_on : (xs ys : List Sgr) → texts (map action.Sgr (xs ++ ys)) ≡ texts (map action.Sgr xs) ++ texts (map action.Sgr ys)
 texts_on [] ys = refl
@@ -241,10 +234,8 @@ module _ {S : Type 0} (of : S → Keeping) where
       let links = links_in (of s).passing.links (of s).begun p.bytes in
       ends p parts s mid after run first others text last (map Link links) (rw is refl) (rw is refl) (rw is refl) (e ∙ ap (λ t. shown_text run ++ t) (g.told ∙ sym (texts_links links)))
       (rw is (state_links s mid p.bytes g.state)) all (rw none at r)
-  goes p parts kind.Esc s mid after run first next others text last is (e, same, none) all r =
-      ends p parts s mid after run first others text last [] (rw is refl) (rw is refl) (rw is refl) (e ∙ sym (append-nil (shown_text run))) (rw is (ap of same)) all (rw none at r)
-  goes p parts kind.Other s mid after run first next others text last is (e, same, none) all r =
-      ends p parts s mid after run first others text last [] (rw is refl) (rw is refl) (rw is refl) (e ∙ sym (append-nil (shown_text run))) (rw is (ap of same)) all (rw none at r)
+  goes p parts _ s mid after run first next others text last is h all r =
+      ends p parts s mid after run first others text last [] (rw is refl) (rw is refl) (rw is refl) (h.0 ∙ sym (append-nil (shown_text run))) (rw is (ap of h.1)) all (rw h.2 at r)
 
   left_of : (parts : List Part) (s after : S) (run text last : List ℕ) → AreSteps (keeps of) s run parts text after last → Left parts s run text after last
   left_of [] s after run text last (none, same, e) =
@@ -279,10 +270,6 @@ module _ {S : Type 0} (of : S → Keeping) where
 
 -- ---- safe
 
-pub safe_both : (d : Passing) (xs ys : List Item) → AllByRecursion (IsSafe d) xs → AllByRecursion (IsSafe d) ys → AllByRecursion (IsSafe d) (xs ++ ys)
-safe_both d [] ys h k = k
-safe_both d (x ∷ xs) ys h k = (h.0, safe_both d xs ys h.1 k)
-
 safe_chars : (d : Passing) (cs : List ℕ) → all_scalars cs ≡ true → AllByRecursion IsShown cs → AllByRecursion (IsSafe d) (map Shown cs)
 safe_chars d [] a h = tt
 safe_chars d (c ∷ cs) a h = let both = and_parts (scalar c) (all_scalars cs) a in ((h.0, both.0), safe_chars d cs both.1 h.1)
@@ -297,15 +284,7 @@ safe_kept d (action.Sgr s ∷ xs) f = by (safe_kept d xs (λ t h. f t (Contains-
     by : AllByRecursion (IsSafe d) (map Style (kept d.depth xs)) → (b : Bool) → hides s ≡ b → AllByRecursion (IsSafe d) (map Style (if b then kept d.depth xs else reduced d.depth s ∷ kept d.depth xs))
     by rest true e = rest
     by rest false e = ((reduced_hides d.depth s ∙ e, reduced_alone d.depth s (f s (0, omega arith, refl)), reduced_twice d.depth s), rest)
-safe_kept d (action.Cursor c ∷ xs) f = safe_kept d xs (λ t h. f t (Contains-append_right (action.Cursor c ∷ []) xs (action.Sgr t) h))
-safe_kept d (action.Edit e ∷ xs) f = safe_kept d xs (λ t h. f t (Contains-append_right (action.Edit e ∷ []) xs (action.Sgr t) h))
-safe_kept d (action.Mode m ∷ xs) f = safe_kept d xs (λ t h. f t (Contains-append_right (action.Mode m ∷ []) xs (action.Sgr t) h))
-safe_kept d (action.Mouse m ∷ xs) f = safe_kept d xs (λ t h. f t (Contains-append_right (action.Mouse m ∷ []) xs (action.Sgr t) h))
-safe_kept d (action.Device e ∷ xs) f = safe_kept d xs (λ t h. f t (Contains-append_right (action.Device e ∷ []) xs (action.Sgr t) h))
-safe_kept d (action.Window w ∷ xs) f = safe_kept d xs (λ t h. f t (Contains-append_right (action.Window w ∷ []) xs (action.Sgr t) h))
-safe_kept d (action.Keyboard k ∷ xs) f = safe_kept d xs (λ t h. f t (Contains-append_right (action.Keyboard k ∷ []) xs (action.Sgr t) h))
-safe_kept d (action.SelectCharacterPath p e ∷ xs) f = safe_kept d xs (λ t h. f t (Contains-append_right (action.SelectCharacterPath p e ∷ []) xs (action.Sgr t) h))
-safe_kept d (action.Unspecified p g c ∷ xs) f = safe_kept d xs (λ t h. f t (Contains-append_right (action.Unspecified p g c ∷ []) xs (action.Sgr t) h))
+safe_kept d (x ∷ xs) f = safe_kept d xs (λ t h. f t (Contains-append_right (x ∷ []) xs (action.Sgr t) h))
 
 alone : (list : List CsiParam) (final : ℕ) (bytes : List ℕ) (actions : List Action) → Seq bytes list final → Actions list false final actions → (s : Sgr) → Contains actions (action.Sgr s) → ReadsAlone (action.Sgr s) false
 alone list final bytes actions seq read s one = (round_trip_lem list false final seq.spellable seq.ends actions read).attributes s one
@@ -324,29 +303,21 @@ safe_links d bytes b h = by d.links refl
 safe_part : (d : Passing) (b : Begun) (k : Kind) (bytes : List ℕ) (own : List Item) → IsLink b.address → Leaves d b k bytes own → AllByRecursion (IsSafe d) own
 safe_part d b kind.Csi bytes own h (actions, (list, final, seq, read), e) = rw e (safe_kept d actions (alone list final bytes actions seq read))
 safe_part d b kind.Str bytes own h e = rw e (safe_links d bytes b h)
-safe_part d b kind.Text bytes own h e = rw e tt
-safe_part d b kind.Esc bytes own h e = rw e tt
-safe_part d b kind.Other bytes own h e = rw e tt
+safe_part d b _ bytes own h e = rw e tt
 
 safe_behind : (d : Passing) (k : Kind) (run : List ℕ) → AllByRecursion (IsSafe d) (items_behind k run)
 safe_behind d kind.Text run = tt
-safe_behind d kind.Csi run = safe_run d run
-safe_behind d kind.Esc run = safe_run d run
-safe_behind d kind.Str run = safe_run d run
-safe_behind d kind.Other run = safe_run d run
+safe_behind d _ run = safe_run d run
 
 fine_part : (d : Passing) (b : Begun) (k : Kind) (bytes : List ℕ) → IsLink b.address → IsLink (begun_behind d b k bytes).address
 fine_part d b kind.Str bytes h = fine_behind d.links bytes b h
-fine_part d b kind.Csi bytes h = h
-fine_part d b kind.Text bytes h = h
-fine_part d b kind.Esc bytes h = h
-fine_part d b kind.Other bytes h = h
+fine_part d b _ bytes h = h
 
 safe_left : (d : Passing) (b : Begun) (parts : List Part) (run : List ℕ) (items : List Item) → IsLink b.address → AreLeft d b run parts items → AllByRecursion (IsSafe d) items
 safe_left d b [] run items h e = rw e (safe_run d run)
 safe_left d b (p ∷ parts) run items h (own, others, leaves, e, rest) =
     let later = safe_left d (begun_behind d b p.kind p.bytes) parts (run_behind p.kind run p.bytes) others (fine_part d b p.kind p.bytes h) rest in
-    rw e (safe_both d (items_behind p.kind run) (own ++ others) (safe_behind d p.kind run) (safe_both d own others (safe_part d b p.kind p.bytes own h leaves) later))
+    rw e (all_both (IsSafe d) (items_behind p.kind run) (own ++ others) (safe_behind d p.kind run) (all_both (IsSafe d) own others (safe_part d b p.kind p.bytes own h leaves) later))
 
 reset_alone : ReadsAlone (action.Sgr sgr.Reset) false
 reset_alone = (round_trip_lem [] false 109 tt (omega arith, omega arith) (action.Sgr sgr.Reset ∷ []) refl).attributes sgr.Reset (0, omega arith, refl)
@@ -385,7 +356,7 @@ safe_closed d bytes text s =
     let safe = safe_left d start (with_titles false s.parts) [] s.items none_fine s.left in
     let linked = is_linked false (links_of s.items) in
     let styled = is_open false (styles_of s.items) in
-    safe_both d s.items (ends_of linked styled) safe (safe_ends d linked styled (λ e. linked_passes d s.items false (λ no. absurd cc) safe e))
+    all_both (IsSafe d) s.items (ends_of linked styled) safe (safe_ends d linked styled (λ e. linked_passes d s.items false (λ no. absurd cc) safe e))
 
 pub styled : (d : Passing) (bytes text : List ℕ) → StylesIn d bytes text → IsStyledIn d text
 styled d bytes text s =

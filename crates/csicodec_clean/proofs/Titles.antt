@@ -1,19 +1,15 @@
 -- Titles, part by part and span by span.
 use Rattle.std.proofs.Common.{◌≡◌, ◌<◌, ◌⊎◌, ℕ, suc, Bool, true, false, List, [], ◌∷◌, ◌++◌, Some, length, refl, sym, ap, subst, ◌∙◌, inl, inr, arith}
-use Rattle.std.specs.Prelude.{◌==◌, ◌&&◌, not, slice_get}
+use Rattle.std.specs.Prelude.{◌==◌, slice_get}
 use Rattle.std.specs.List.{AllByRecursion, flat_map}
-use Rattle.std.proofs.lemmas.Bool.{and_parts, cond_both, eqb-true}
+use Rattle.std.proofs.lemmas.Bool.{and_parts, eqb-true}
 use Rattle.csicodec_spans.specs.declared.table.Kind.{Kind}
 use Rattle.csicodec_spans.specs.declared.table.Kind.TheVariants as kind
 use Rattle.csicodec_spans.specs.declared.table.Mode.{Mode}
 use Rattle.csicodec_spans.specs.declared.table.Mode.TheVariants as mode
-use Rattle.csicodec_spans.specs.Table.{Answer, More, Anew, Sequence, Undecided, ModeRow, mode_table, fits_front, fitting, answer_of, ahead}
-use Rattle.csicodec_spans.specs.Iteration.{BeginsAs}
-use Rattle.csicodec_spans.specs.Parts.{Part, part, bytes_of, Allows, AreAll, AreFirstParts, IsFirstPart, IsSpan, IsWhole, left_over}
-use Rattle.csicodec_spans.proofs.Agrees.{only_row, sound}
-use Rattle.csicodec_spans.proofs.Missed.{front_is}
+use Rattle.csicodec_spans.specs.Parts.{Part, part, bytes_of, AreAll, AreFirstParts, IsFirstPart, IsSpan, IsWhole, left_over}
+use Rattle.csicodec_spans.proofs.Missed.{fit}
 use Rattle.csicodec_spans.proofs.OneSpan.{singles}
-use Rattle.csicodec_spans.proofs.Rows.{Sound}
 use Rattle.csicodec_clean.specs.Cleaned.{longest}
 use Rattle.csicodec_clean.specs.Titles.{InTitle, IsText, title_behind, title_open, read_as, with_titles}
 
@@ -72,10 +68,9 @@ ended k t bytes (p ∷ ps) f g a =
 
 pub titled : (t : Bool) (k : Kind) (bytes : List ℕ) (ps : List Part) → IsSpan k bytes ps → Titled t k bytes ps
 titled t kind.Text bytes ps h = record { span = text_span t bytes ps h; behind = same_open kind.Text t ps (λ b. refl) h.all }
-titled t kind.Csi bytes ps h = rw h record { span = refl; behind = refl }
-titled t kind.Esc bytes ps h = rw h record { span = refl; behind = refl }
 titled t kind.Str bytes ps h = let e = ended kind.Str t bytes ps (λ x. refl) (λ x b. refl) h in record { span = e.0; behind = e.1 }
 titled t kind.Other bytes ps h = let e = ended kind.Other t bytes ps (λ x. refl) (λ x b. refl) h in record { span = e.0; behind = e.1 }
+titled t _ bytes ps h = rw h record { span = refl; behind = refl }
 
 -- text alone
 pub single_texts : (bs : List ℕ) → with_titles false (singles kind.Text bs) ≡ singles kind.Text bs
@@ -88,47 +83,10 @@ single_texts (b ∷ bs) = ap (λ (x : List Part). part kind.Text (b ∷ []) ∷ 
 abbrev EscIsFirst : Part → Type 0
 EscIsFirst p = (c : ℕ) → p ≡ part kind.Esc (c ∷ 107 ∷ []) → c ≡ 27
 
-abbrev is_esc : Kind → Bool
-is_esc kind.Text = false
-is_esc kind.Csi = false
-is_esc kind.Esc = true
-is_esc kind.Str = false
-is_esc kind.Other = false
-
--- no escape sequence goes on with what is open: each begins anew
-abbrev begins_anew : Answer → Bool
-begins_anew (More k n a) = not (is_esc k)
-begins_anew (Anew k n a) = true
-begins_anew Sequence = true
-begins_anew Undecided = true
-
-abbrev all_anew : List ModeRow → Bool
-all_anew [] = true
-all_anew (r ∷ rows) = begins_anew r.answer && all_anew rows
-
-row_anew : (rows : List ModeRow) (m : Mode) (bytes : List ℕ) → all_anew rows ≡ true → begins_anew (answer_of (fitting rows m bytes)) ≡ true
-row_anew [] m bytes e = refl
-row_anew (r ∷ rows) m bytes e =
-    let both = and_parts (begins_anew r.answer) (all_anew rows) e in
-    cond_both (fits_front m bytes r) (r ∷ []) [] (λ (rs : List ModeRow). begins_anew (answer_of (rs ++ fitting rows m bytes)) ≡ true) (λ f. both.0) (λ f. row_anew rows m bytes both.1)
-
-anew : (m : Mode) (bytes : List ℕ) → begins_anew (ahead m bytes) ≡ true
-anew m bytes =
-    let one = only_row m bytes in
-    ap begins_anew (one.answer ∙ sym (ap answer_of one.fits)) ∙ row_anew mode_table m bytes refl
-
-allows_esc : (f : Answer) (m : Mode) (limit : ℕ) (bytes text rest : List ℕ) (a : Mode) → begins_anew f ≡ true → bytes ≡ text ++ rest → Sound m bytes f → Allows f limit bytes kind.Esc text a → BeginsAs kind.Esc text
-allows_esc (More k n b) m limit bytes text rest a new e h s = let no : not (is_esc kind.Esc) ≡ true = ap (λ (j : Kind). not (is_esc j)) s.0 ∙ new in absurd cc
-allows_esc (Anew k n b) m limit bytes text rest a new e h s =
-    subst (λ (j : Kind). BeginsAs j text) (sym s.0) (subst (BeginsAs k) (front_is bytes text rest n e s.1) h.2)
-allows_esc Sequence m limit bytes text rest a new e h s = absurd s
-allows_esc Undecided m limit bytes text rest a new e h s = absurd s
-
 esc_first : (limit : ℕ) (m : Mode) (bytes rest : List ℕ) (a : Mode) (p : Part) → IsFirstPart limit m bytes p rest a → EscIsFirst p
 esc_first limit m bytes rest a p h c e =
-    let first : IsFirstPart limit m bytes (part kind.Esc (c ∷ 107 ∷ [])) rest a = subst (λ (q : Part). IsFirstPart limit m bytes q rest a) e h in
-    let begins = allows_esc (ahead m bytes) m limit bytes (c ∷ 107 ∷ []) rest a (anew m bytes) first.0 (sound m bytes) first.1 in
-    let same : c ∷ 107 ∷ [] ≡ 27 ∷ begins.0 = begins.1 in cc
+    let (shut, (more, begins)) = fit limit m bytes kind.Esc (c ∷ 107 ∷ []) rest a (subst (λ (q : Part). IsFirstPart limit m bytes q rest a) e h) in
+    cc
 
 left_first : (rest : List ℕ) → AllByRecursion EscIsFirst (left_over rest)
 left_first [] = tt
@@ -184,10 +142,7 @@ dropped before behind p h text = at_place false before behind p ∙ ap (λ (k : 
 as_is : (k : Kind) (t : Bool) → (k ≡ kind.Text → t ≡ true → ⊥) → read_as k t ≡ k
 as_is kind.Text true f = absurd (f refl refl)
 as_is kind.Text false f = refl
-as_is kind.Csi t f = refl
-as_is kind.Esc t f = refl
-as_is kind.Str t f = refl
-as_is kind.Other t f = refl
+as_is _ t f = refl
 
 shut_before : (ps : List Part) → Opened false ps → InTitle ps
 shut_before ps (inl (is, texts)) = absurd cc

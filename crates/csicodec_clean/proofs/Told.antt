@@ -16,7 +16,7 @@ use Rattle.csicodec_clean.specs.Bytes.{IsPlainByte, behind, plain_byte}
 use Rattle.csicodec_clean.specs.Private.Steps.{IsBehindShown, IsOther, IsTold, Tells, dropped_byte}
 use Rattle.csicodec_clean.proofs.Bytes.{front_in}
 use Rattle.csicodec_clean.proofs.Plain.{plain_on}
-use Rattle.csicodec_clean.proofs.PlainBytes.{other_both, plain_bytes}
+use Rattle.csicodec_clean.proofs.PlainBytes.{all_both, plain_bytes}
 use Rattle.csicodec_clean.proofs.Shows.{shown_on}
 use Rattle.csicodec_clean.proofs.Sure.{read_more, read_none}
 use Rattle.csicodec_clean.proofs.Twice.{all_kept}
@@ -113,7 +113,7 @@ tells_on bytes mid rest old one new (xs, cs, e, (h, r), o) (ys, ds, f, (k, t), n
   xs ++ ys,
   cs ++ ds,
   e ∙ ap (λ l. xs ++ l) f ∙ sym (append_assoc xs ys rest),
-  (other_both xs ys h k, read_more xs [] ys [] cs ds r t),
+  (all_both IsOther xs ys h k, read_more xs [] ys [] cs ds r t),
   n ∙ ap (λ l. l ++ shown_chars ds) o ∙ append_assoc old (shown_chars cs) (shown_chars ds) ∙ ap (λ l. old ++ l) (sym (shown_on cs ds)),
 )
 

@@ -24,12 +24,14 @@ ghost use Rattle.csicodec_clean.specs.Styled.{IsStyledIn, Keeping, StylesIn, fir
 use crate::rule::Rule;
 
 /// It doesn't matter how a stream is cut into chunks.
+#[tactic(auto, using(crate::proofs::Chunks::any_chunks))]
 pub fn any_chunks<R: Rule>()
     ensures { AnyChunks R.gives R.closes }
 {}
 
 /// Nor how it is cut into the steps of a caller that keeps what is open: what these append, and the end, is what `strip` makes of all of
 /// it, or `clean_in`.
+#[tactic(auto, using(crate::proofs::Paused::stripped_steps, crate::proofs::Paused::cleaned_steps))]
 pub fn any_steps()
     ensures strip { (chunks : List (List ℕ)) (text rest : List ℕ) (last : Pause)
         → AreStepped drops (λ _. bare) beginning [] chunks text last rest → last.styled ≡ false
@@ -109,6 +111,7 @@ pub fn strip_cleaned()
 
 /// A link that may pass does, with BEL at its end or with ST, whatever came before it: wherever it stands in a stream as a control
 /// string.
+#[tactic(auto, using(crate::proofs::Linked::passes, crate::proofs::Stood::passes_in_stream))]
 pub fn links_pass()
     ensures bel { (a : Address) (params url : List ℕ) → IsLink a
         → links_in true (begun Outside params url) (27 ∷ 93 ∷ (link_body a ++ 7 ∷ [])) ≡ a ∷ [] }
@@ -127,6 +130,7 @@ pub fn links_stood()
 {}
 
 /// The place that a colour becomes is the nearest of the palette, and of those that are as near the first.
+#[tactic(auto, using(crate::proofs::Reduced::nearest_256, crate::proofs::Reduced::nearest_16))]
 pub fn nearest()
     ensures of_256 { (color : SrgbaTuple) → IsNearest color 16 256 (nearest_of_256 color) }
     ensures of_16 { (color : SrgbaTuple) → IsNearest color 0 16 (nearest_of_16 color) }

@@ -3,9 +3,8 @@ ghost use Rattle.std.specs.Prelude.{◌≡◌, ◌≢◌, ◌<◌, ◌≤◌, �
 ghost use Rattle.csicodec_tokens.specs.Sequence.{Seq};
 ghost use Rattle.csicodec_spans.specs.declared.table.Kind.TheVariants.{Csi as Sequence};
 ghost use Rattle.csicodec_spans.specs.Parts.{IsUnsure};
-ghost use Rattle.csicodec_clean.specs.Shown.{shown_chars};
+ghost use Rattle.csicodec_clean.specs.Shown.{shown_chars, IsRead};
 ghost use Rattle.csicodec_clean.specs.Private.Steps.{IsAppended};
-ghost use Rattle.csicodec_clean.specs.Shown.{IsRead};
 ghost use Rattle.csicodec_clean.specs.Stream.{Goes};
 
 use crate::glance::append_front;

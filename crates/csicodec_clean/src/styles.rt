@@ -154,24 +154,17 @@ impl Kept {
     pub fn new(alloc: Global) -> Kept
         ensures { result ≡ first_kept (without_links AllColors) }
     {
-        Kept::in_depth(alloc, Depth::Full)
-    }
-
-    /// The same with the colours that stay.
-    pub fn in_depth(alloc: Global, depth: Depth) -> Kept
-        ensures { result ≡ first_kept (without_links depth) }
-    {
-        let links = false;
-        Kept::letting(alloc, Passing { depth, links })
+        Kept::resumed(alloc, Depth::Full, false)
     }
 
     /// In the middle of a stream, where no links pass.
     pub(crate) fn resumed(alloc: Global, depth: Depth, styled: bool) -> Kept
         ensures { result ≡ resumed depth styled }
     {
+        let links = false;
         Kept {
             styled,
-            ..Kept::in_depth(alloc, depth)
+            ..Kept::letting(alloc, Passing { depth, links })
         }
     }
 

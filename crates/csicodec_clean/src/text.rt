@@ -1,8 +1,7 @@
 //! The characters of a run of text that are shown.
 ghost use Rattle.std.specs.Prelude.{◌≡◌, ◌<◌, ◌≤◌, ◌-◌, ◌++◌, ◌∷◌, [], ℕ, List, length, take, drop, OnOk, IfOk, IfSome, IfNone};
-ghost use Rattle.csicodec_clean.specs.Shown.{shown, shown_chars, shown_text};
+ghost use Rattle.csicodec_clean.specs.Shown.{shown, shown_chars, shown_text, IsCut, IsRead};
 ghost use Rattle.csicodec_clean.specs.Private.Steps.{Tells, dropped_byte};
-ghost use Rattle.csicodec_clean.specs.Shown.{IsCut, IsRead};
 
 use crate::class::LANES;
 use crate::wide::behind_shown;

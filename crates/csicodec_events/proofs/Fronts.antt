@@ -12,9 +12,8 @@ use Rattle.csicodec_spans.specs.Parts.{Part, Allows, IsFirstPart, IsMore}
 use Rattle.csicodec_spans.specs.Table.{Answer, More, Anew, Sequence, Undecided, ModeRow, Spot, ahead, begin_with, every_mode, fits_front, fitting, holds_in, mode_table, openers, takes, within}
 use Rattle.csicodec_spans.proofs.Agrees.{only_row, opens, sound}
 use Rattle.csicodec_spans.proofs.Apart.{said}
-use Rattle.csicodec_spans.proofs.Missed.{front_is}
-use Rattle.csicodec_spans.proofs.Rows.{Sound}
-use Rattle.csicodec_spans.proofs.Strings.{IsFit, IsPiece, fit, is_str}
+use Rattle.csicodec_spans.proofs.Fronts.{IsFit, IsPiece, Sound, is_str}
+use Rattle.csicodec_spans.proofs.Missed.{fit, front_is}
 use Rattle.csicodec_events.specs.declared.event.Event.{Event}
 use Rattle.csicodec_events.specs.declared.event.Event.TheVariants as event
 use Rattle.csicodec_events.specs.Events.{BeginsCsi, begins}

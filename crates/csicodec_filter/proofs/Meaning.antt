@@ -16,12 +16,12 @@ use Rattle.csicodec_spans.specs.declared.table.Mode.{Mode}
 use Rattle.csicodec_spans.specs.declared.table.Mode.TheVariants as mode
 use Rattle.csicodec_spans.specs.Table.{Answer, More, Anew, Sequence, Undecided, ahead}
 use Rattle.csicodec_spans.specs.Parts.{Part, part, bytes_of, left_over, IsSequence, IsMalformed, AllowsCsi, Allows, IsFirstPart, AreFirstParts, IsUnsure, IsWhole}
-use Rattle.csicodec_spans.proofs.Agrees.{only_row, opens, sound}
+use Rattle.csicodec_spans.proofs.Agrees.{kept, opens, sound}
 use Rattle.csicodec_spans.proofs.Kept.{parts_more, parts_on}
 use Rattle.csicodec_spans.proofs.Missed.{allows_whole, part_some}
 use Rattle.csicodec_spans.proofs.Once.{whole_once}
 use Rattle.csicodec_spans.proofs.OneSpan.{none_unsure}
-use Rattle.csicodec_spans.proofs.Rows.{Sound, kept}
+use Rattle.csicodec_spans.proofs.Fronts.{Sound}
 use Rattle.csicodec_spans.proofs.Spanned.{whole_joined}
 use Rattle.csicodec_filter.specs.Filter.{AreWritten, IsWritten}
 use Rattle.csicodec_filter.specs.Meaning.{AreCsi, Means, MeanTheSame, StandInPlace, singles, KeepsMeaning, Within}
@@ -80,7 +80,7 @@ part_less limit m p s x a l two h =
     let all : p.bytes ++ (s ++ x) ≡ short ++ x = sym (append_assoc p.bytes s x) in
     let allows : Allows (ahead m (short ++ x)) limit (short ++ x) p.kind p.bytes a = subst (λ (t : List ℕ). Allows (ahead m t) limit t p.kind p.bytes a) all h.1 in (
       refl,
-      elim (kept m short x (only_row m short)) [
+      elim (kept m short x) [
         | inl e ↦ absurd (long_decided m short (omega (arith, some, two, long)) e)
         | inr e ↦ allows_less (ahead m short) limit short x p.kind p.bytes a (omega (arith, some, two, long)) (subst (λ (f : Answer). Allows f limit (short ++ x) p.kind p.bytes a) e allows)
       ],

@@ -13,19 +13,17 @@ use Rattle.csicodec_spans.specs.Table.{Answer, More, Anew, Sequence, Undecided, 
 use Rattle.csicodec_spans.specs.Parts.{Part, part, bytes_of, Allows, AreFirstParts, IsWhole, left_over}
 use Rattle.csicodec_spans.proofs.Agrees.{sound}
 use Rattle.csicodec_spans.proofs.Kept.{parts_join, parts_more, parts_on}
+use Rattle.csicodec_spans.proofs.Missed.{fit}
 use Rattle.csicodec_spans.proofs.Once.{whole_once}
 use Rattle.csicodec_spans.proofs.OneSpan.{none_unsure}
-use Rattle.csicodec_spans.proofs.Rows.{Sound}
+use Rattle.csicodec_spans.proofs.Fronts.{Sound}
 use Rattle.csicodec_clean.specs.Cleaned.{longest}
 use Rattle.csicodec_clean.specs.Titles.{read_as, title_behind, title_open, with_titles}
+use Rattle.csicodec_clean.proofs.PlainBytes.{all_both}
 use Rattle.csicodec_clean.proofs.Titles.{open_on}
 use Rattle.csicodec_lines.specs.Cuts.{AreCuts, Found, IsPlace, behind_byte, behind_part, behind_text, cuts, cuts_at, cuts_in, first, is_cut}
 use Rattle.csicodec_lines.proofs.Going.{sure_alone}
-use Rattle.csicodec_lines.proofs.Shorter.{ends_in, parts_less, text_is_one}
-
-all_on : (P : ℕ → Type 0) (xs ys : List ℕ) → AllByRecursion P xs → AllByRecursion P ys → AllByRecursion P (xs ++ ys)
-all_on P [] ys h k = k
-all_on P (x ∷ xs) ys h k = (h.0, all_on P xs ys h.1 k)
+use Rattle.csicodec_lines.proofs.Shorter.{ends_in, parts_less}
 
 -- ---- how many bytes came
 
@@ -115,7 +113,7 @@ one_part : (bytes : List ℕ) (s : Found) (t : Bool) (k : Kind) (own : List ℕ)
 one_part bytes s true kind.Text own pre ps rest a parts titled at = tt
 one_part bytes s false kind.Text own pre ps rest a parts titled at =
     let (mid, n, front, (behind, b, (e, allowed), later)) = split longest pre (part kind.Text own ∷ ps) mode.Text bytes rest a parts in
-    text_places bytes s pre own mid behind n b front (behind, b, (e, allowed), (refl, refl)) (text_is_one n longest mid own b allowed)
+    text_places bytes s pre own mid behind n b front (behind, b, (e, allowed), (refl, refl)) (fit longest n mid kind.Text own behind b (e, allowed)).1
     (text_mode (ahead n mid) n longest mid own b (sound n mid) allowed) (sym titled) at
 one_part bytes s t kind.Csi own pre ps rest a parts titled at = tt
 one_part bytes s t kind.Esc own pre ps rest a parts titled at = tt
@@ -133,7 +131,7 @@ within bytes s t pre (p ∷ ps) rest a parts titled at =
     let next = behind_part s (part k p.bytes) in
     let titles : title_behind t p.kind p.bytes ≡ title_open false (pre ++ p ∷ []) = sym (open_on false pre (p ∷ [])
     ∙ ap (λ (b : Bool). title_behind b p.kind p.bytes) (sym titled)) in
-    all_on (IsPlace bytes) (cuts_at s (part k p.bytes)) (cuts next (with_titles (title_behind t p.kind p.bytes) ps))
+    all_both (IsPlace bytes) (cuts_at s (part k p.bytes)) (cuts next (with_titles (title_behind t p.kind p.bytes) ps))
     (one_part bytes s t p.kind p.bytes pre ps rest a parts titled at)
     (within bytes next (title_behind t p.kind p.bytes) (pre ++ p ∷ []) ps rest a (subst
     (λ (x : List Part). AreFirstParts longest mode.Text bytes x rest a) (sym (append_assoc pre (p ∷ []) ps)) parts) titles

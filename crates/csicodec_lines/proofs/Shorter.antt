@@ -1,9 +1,8 @@
 -- What was cut is cut so of fewer bytes too, if one stands behind it.
 use Rattle.std.proofs.Common.{◌≡◌, ◌<◌, ◌≤◌, ◌⊎◌, ℕ, Bool, true, false, List, [], ◌∷◌, ◌++◌, length, length-append, refl, sym, ap, subst, ◌∙◌, inl, inr, ⊎_elim, append_assoc, arith}
-use Rattle.std.specs.Prelude.{◌+◌, ◌==◌, ◌&&◌, ◌||◌, not, if◌then◌else◌}
+use Rattle.std.specs.Prelude.{◌+◌, ◌==◌, ◌&&◌, if◌then◌else◌}
 use Rattle.std.specs.List.{flat_map}
 use Rattle.std.proofs.Math.ListN.{get_or-append}
-use Rattle.std.proofs.lemmas.Bool.{and_parts, cond_both, eqb-true}
 use Rattle.std.proofs.lemmas.List.{take-append-le}
 use Rattle.csicodec_tokens.specs.declared.reader.ReadError.{ReadError}
 use Rattle.csicodec_tokens.specs.declared.reader.ReadError.TheVariants.{NotCsi, BadByte, NumberTooLarge, Truncated, Memory}
@@ -12,12 +11,11 @@ use Rattle.csicodec_spans.specs.declared.table.Kind.{Kind}
 use Rattle.csicodec_spans.specs.declared.table.Kind.TheVariants as kind
 use Rattle.csicodec_spans.specs.declared.table.Mode.{Mode}
 use Rattle.csicodec_spans.specs.Private.TableBy.{ends, escape, intermediate, is_dcs, is_string, is_within, look, meant, opened, opens_string, stays}
-use Rattle.csicodec_spans.specs.Table.{Answer, More, Anew, Sequence, Undecided, ModeRow, ahead, answer_of, fits_front, fitting, mode_table}
+use Rattle.csicodec_spans.specs.Table.{Answer, More, Anew, Sequence, Undecided, ahead}
 use Rattle.csicodec_spans.specs.Parts.{Part, part, bytes_of, Allows, AllowsCsi, AreFirstParts, IsMalformed}
-use Rattle.csicodec_spans.proofs.Agrees.{found, only_row}
+use Rattle.csicodec_spans.proofs.Agrees.{found}
 use Rattle.csicodec_spans.proofs.Kept.{parts_join}
 use Rattle.csicodec_spans.proofs.Missed.{part_some}
-use Rattle.csicodec_clean.specs.Cleaned.{is_text}
 
 -- ---- control sequences that went wrong
 
@@ -216,38 +214,3 @@ parts_less limit (p ∷ ps) b m bytes rest a l other (behind, mid, (e, s), later
     let one = ahead_less m p.bytes x rest limit p.kind mid (part_some limit m bytes p behind mid l (e, s)) (last_some ps b) (subst
     (λ (t : List ℕ). Allows (ahead m t) limit t p.kind p.bytes mid) whole s) in
     (x, mid, (refl, one), parts_less limit ps b mid behind rest a l other later)
-
--- ---- a part of text is a byte
-
-abbrev is_one : Answer → Bool
-is_one (More k n a) = not (is_text k) || n == 1
-is_one (Anew k n a) = not (is_text k) || n == 1
-is_one Sequence = true
-is_one Undecided = true
-
-abbrev all_one : List ModeRow → Bool
-all_one [] = true
-all_one (r ∷ rows) = is_one r.answer && all_one rows
-
-row_one : (rows : List ModeRow) (m : Mode) (bytes : List ℕ) → all_one rows ≡ true → is_one (answer_of (fitting rows m bytes)) ≡ true
-row_one [] m bytes e = refl
-row_one (r ∷ rows) m bytes e =
-    let parts = and_parts (is_one r.answer) (all_one rows) e in
-    cond_both (fits_front m bytes r) (r ∷ []) [] (λ (rs : List ModeRow). is_one (answer_of (rs ++ fitting rows m bytes)) ≡ true)
-    (λ f. parts.0) (λ f. row_one rows m bytes parts.1)
-
-one : (m : Mode) (bytes : List ℕ) → is_one (ahead m bytes) ≡ true
-one m bytes =
-    let row = only_row m bytes in
-    ap is_one (row.answer ∙ sym (ap answer_of row.fits)) ∙ row_one mode_table m bytes refl
-
-one_by : (f : Answer) (limit : ℕ) (bytes text : List ℕ) (a : Mode) → is_one f ≡ true → Allows f limit bytes kind.Text text a
-    → length text ≡ 1
-one_by (More k n b) limit bytes text a e s = s.1 ∙ eqb-true n 1 (ap (λ (j : Kind). not (is_text j) || n == 1) s.0 ∙ e)
-one_by (Anew k n b) limit bytes text a e s = s.1 ∙ eqb-true n 1 (ap (λ (j : Kind). not (is_text j) || n == 1) s.0 ∙ e)
-one_by Sequence limit bytes text a e s = absurd s
-one_by Undecided limit bytes text a e s = absurd s
-
-pub text_is_one : (m : Mode) (limit : ℕ) (bytes text : List ℕ) (a : Mode) → Allows (ahead m bytes) limit bytes kind.Text text a
-    → length text ≡ 1
-text_is_one m limit bytes text a s = one_by (ahead m bytes) limit bytes text a (one m bytes) s

@@ -3,11 +3,12 @@ use Rattle.std.proofs.Common.{◌≡◌, ℕ, Bool, false, List, [], ◌∷◌, 
 use Rattle.csicodec_clean.specs.Shown.{IsPlain}
 use Rattle.csicodec_clean.specs.Cleaned.{Strips, longest}
 use Rattle.csicodec_clean.specs.Links.{is_linked}
-use Rattle.csicodec_clean.specs.Styled.{IsStyledIn, Shown, StylesIn, is_open, item_texts, links_of, styles_of}
+use Rattle.csicodec_clean.specs.Styled.{IsSafe, IsStyledIn, Shown, StylesIn, is_open, item_texts, links_of, styles_of}
 use Rattle.csicodec_clean.specs.declared.styles.Passing.{Passing}
 use Rattle.csicodec_clean.proofs.Linked.{linked_on}
 use Rattle.csicodec_clean.proofs.Plain.{plain_on, strips_plain}
-use Rattle.csicodec_clean.proofs.Styled.{links_both, open_on, safe_both, styled, styles_both, texts_both}
+use Rattle.csicodec_clean.proofs.PlainBytes.{all_both}
+use Rattle.csicodec_clean.proofs.Styled.{links_both, open_on, styled, styles_both, texts_both}
 use Rattle.csicodec_lines.specs.Lines.{AreOf, ByLines, joined}
 use Rattle.csicodec_lines.specs.Stream.{ended}
 
@@ -99,7 +100,7 @@ styled_both d s t h k =
     let later = Shown 10 ∷ k.items in
     record {
       items = h.items ++ later;
-      safe = safe_both d h.items later h.safe ((refl, refl), k.safe);
+      safe = all_both (IsSafe d) h.items later h.safe ((refl, refl), k.safe);
       texts = ap (λ (x : List ℕ). x ++ 10 ∷ t) h.texts ∙ ap (λ (x : List ℕ). item_texts h.items ++ 10 ∷ x) k.texts ∙ sym (texts_both h.items later);
       none_open = ap (is_open false) (styles_both h.items later) ∙ open_on false (styles_of h.items) (styles_of k.items) ∙ ap (λ (b : Bool). is_open b (styles_of k.items)) h.none_open ∙ k.none_open;
       none_linked = ap (is_linked false) (links_both h.items later) ∙ linked_on false (links_of h.items) (links_of k.items) ∙ ap (λ (b : Bool). is_linked b (links_of k.items)) h.none_linked ∙ k.none_linked;

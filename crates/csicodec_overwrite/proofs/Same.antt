@@ -18,8 +18,8 @@ use Rattle.csicodec_spans.proofs.OneSpan.{none_unsure, singles}
 use Rattle.csicodec_clean.specs.Cleaned.{Strips, longest, stripped}
 use Rattle.csicodec_clean.specs.Shown.{IsShown, shown, shown_text}
 use Rattle.csicodec_clean.specs.Titles.{title_open, with_titles}
-use Rattle.csicodec_clean.proofs.Plain.{scalars_on, shown_both}
-use Rattle.csicodec_clean.proofs.PlainBytes.{one_char}
+use Rattle.csicodec_clean.proofs.Plain.{scalars_on}
+use Rattle.csicodec_clean.proofs.PlainBytes.{all_both, one_char}
 use Rattle.csicodec_clean.proofs.Shows.{encoded_on}
 use Rattle.csicodec_clean.proofs.Titles.{single_texts, titles_on}
 use Rattle.csicodec_clean.proofs.Twice.{all_kept, all_text}
@@ -132,7 +132,7 @@ stripped_pieces [] cs a h safe = shown_back cs a h ∙ ap encode_utf8_all (sym (
 stripped_pieces (One c ∷ ps) cs a h safe =
     let (here, one) = safe.0 in
     stripped_on (encode_utf8 c) (encode_utf8_all cs) (parts_of ps) ∙ ap (λ (r : List ℕ). stripped r (parts_of ps)) (sym (more_encoded cs c))
-    ∙ stripped_pieces ps (cs ++ c ∷ []) (more_scalars cs c a one) (shown_both cs (c ∷ []) h (here, tt)) safe.1 ∙ ap encode_utf8_all (append_assoc cs (c ∷ []) (chars_in ps))
+    ∙ stripped_pieces ps (cs ++ c ∷ []) (more_scalars cs c a one) (all_both IsShown cs (c ∷ []) h (here, tt)) safe.1 ∙ ap encode_utf8_all (append_assoc cs (c ∷ []) (chars_in ps))
 stripped_pieces (Turn l ∷ ps) cs a h safe =
     ap (λ (t : List ℕ). t ++ stripped [] (parts_of ps)) (shown_back cs a h) ∙ ap (λ (t : List ℕ). encode_utf8_all cs ++ t) (stripped_pieces ps [] refl tt safe.1) ∙ sym (encoded_on cs (chars_in ps))
 

@@ -1,5 +1,5 @@
 -- What the tests of `table.rt` find in front of bytes is what the one row says that fits them.
-use Rattle.std.proofs.Common.{◌≡◌, ◌≢◌, ℕ, List, [], ◌∷◌, Some, refl, sym, ap, subst, ◌∙◌, inl, inr, arith}
+use Rattle.std.proofs.Common.{◌≡◌, ◌≢◌, ◌⊎◌, ℕ, List, [], ◌∷◌, ◌++◌, Some, refl, sym, ap, subst, ◌∙◌, inl, inr, arith}
 use Rattle.std.specs.Prelude.{◌==◌, ◌&&◌, Bool, true, false, not, nat_lt, slice_get, if◌then◌else◌}
 use Rattle.std.proofs.lemmas.Bool.{cases_Bool, and_from, eqb-true}
 use Rattle.std.proofs.lemmas.Bool.Decides.{nat_tests}
@@ -8,10 +8,10 @@ use Rattle.csicodec_spans.specs.declared.table.Mode.{Mode}
 use Rattle.csicodec_spans.specs.declared.table.Mode.TheVariants as mode
 use Rattle.csicodec_spans.specs.declared.table.Ahead.{Ahead}
 use Rattle.csicodec_spans.specs.declared.table.Ahead.TheVariants.{GoesOn, Ends, New, Esc, Csi, Unsure}
-use Rattle.csicodec_spans.specs.Table.{More, Sequence, ModeRow, mode_table, every_mode, holds_in, begin_with, fits_front, ahead, HasOneRow}
+use Rattle.csicodec_spans.specs.Table.{More, Sequence, Undecided, ModeRow, mode_table, every_mode, holds_in, begin_with, fits_front, ahead, HasOneRow}
 use Rattle.csicodec_spans.specs.Private.TableBy.{is_within, opens_string, is_string, is_dcs, stays, ends, intermediate, opened, escape, look, meant}
 use Rattle.csicodec_spans.proofs.Apart.{one_row, said}
-use Rattle.csicodec_spans.proofs.Rows.{Sound, sound_row}
+use Rattle.csicodec_spans.proofs.Fronts.{Sound, kept_look, told}
 
 -- text has no end
 abbrev pub IsNoText : Mode → Ahead → Type 0
@@ -63,9 +63,6 @@ agrees_left mode.Text b bytes e f g = absurd (no_text b e g)
   where
     no_text : (b : ℕ) → not (b == 27) ≡ false → (b == 27) ≡ false → ⊥
     no_text b e g = grind (arith, nat_tests)
-agrees_left mode.Osc b bytes e f g = by_row 10 _ mode.Osc (b ∷ bytes) (New 1 mode.Text) refl (grind (arith, nat_tests)) refl tt
-agrees_left mode.Dcs b bytes e f g = by_row 10 _ mode.Dcs (b ∷ bytes) (New 1 mode.Text) refl (grind (arith, nat_tests)) refl tt
-agrees_left mode.Str b bytes e f g = by_row 10 _ mode.Str (b ∷ bytes) (New 1 mode.Text) refl (grind (arith, nat_tests)) refl tt
 agrees_left mode.BadCsi b bytes e f g = elim (cases_Bool (nat_lt b 128)) [
   | inl low ↦ by_row 10 _ mode.BadCsi (b ∷ bytes) (New 1 mode.Text) refl (grind (arith, nat_tests)) refl tt
   | inr high ↦ by_row 9 _ mode.BadCsi (b ∷ bytes) (New 1 mode.Text) refl (grind (arith, nat_tests)) refl tt
@@ -74,6 +71,7 @@ agrees_left mode.BadEsc b bytes e f g = elim (cases_Bool (nat_lt b 128)) [
   | inl low ↦ by_row 10 _ mode.BadEsc (b ∷ bytes) (New 1 mode.Text) refl (grind (arith, nat_tests)) refl tt
   | inr high ↦ by_row 9 _ mode.BadEsc (b ∷ bytes) (New 1 mode.Text) refl (grind (arith, nat_tests)) refl tt
 ]
+agrees_left m b bytes e f g = by_row 10 _ m (b ∷ bytes) (New 1 mode.Text) refl (grind (arith, nat_tests)) refl tt
 
 -- ---- behind ESC
 
@@ -100,23 +98,19 @@ agrees_opened m b bytes st quote =
     plain m b bytes csi osc dcs str e st = by_any 17 _ m (27 ∷ b ∷ bytes) (Esc 2) refl refl (grind (arith, nat_tests)) refl tt
 
     closes : (m : Mode) (b : ℕ) (bytes : List ℕ) → (is_string m && b == 92) ≡ false → (b == 92) ≡ true → Agrees m (27 ∷ b ∷ bytes) (Esc 2)
-    closes mode.Text b bytes st e = by_row 16 _ mode.Text (27 ∷ b ∷ bytes) (Esc 2) refl (grind (arith, nat_tests)) refl tt
     closes mode.Osc b bytes st e = cc
-    closes mode.BadCsi b bytes st e = by_row 16 _ mode.BadCsi (27 ∷ b ∷ bytes) (Esc 2) refl (grind (arith, nat_tests)) refl tt
-    closes mode.BadEsc b bytes st e = by_row 16 _ mode.BadEsc (27 ∷ b ∷ bytes) (Esc 2) refl (grind (arith, nat_tests)) refl tt
-    closes _ b bytes st e = cc
+    closes mode.Dcs b bytes st e = cc
+    closes mode.Str b bytes st e = cc
+    closes m b bytes st e = by_row 16 _ m (27 ∷ b ∷ bytes) (Esc 2) refl (grind (arith, nat_tests)) refl tt
 
     agrees_final : (m : Mode) (b : ℕ) (bytes : List ℕ) → (is_string m && b == 92) ≡ false → (b == 91) ≡ false → (b == 93) ≡ false → (b == 80) ≡ false → opens_string b ≡ false → is_within 48 126 b ≡ true
         → Agrees m (27 ∷ b ∷ bytes) (Esc 2)
     agrees_final m b bytes st csi osc dcs str e = elim (cases_Bool (b == 92)) [ inl is ↦ closes m b bytes st is | inr other ↦ plain m b bytes csi osc dcs str e other ]
 
     twice : (m : Mode) (b : ℕ) (bytes : List ℕ) → (is_dcs m && b == 27) ≡ false → (b == 27) ≡ true → Agrees m (27 ∷ b ∷ bytes) (New 1 mode.BadEsc)
-    twice mode.Text b bytes q e = by_row 21 _ mode.Text (27 ∷ b ∷ bytes) (New 1 mode.BadEsc) refl (grind (arith, nat_tests)) refl tt
-    twice mode.Osc b bytes q e = by_row 21 _ mode.Osc (27 ∷ b ∷ bytes) (New 1 mode.BadEsc) refl (grind (arith, nat_tests)) refl tt
     twice mode.Dcs b bytes q e = cc
-    twice mode.Str b bytes q e = by_row 21 _ mode.Str (27 ∷ b ∷ bytes) (New 1 mode.BadEsc) refl (grind (arith, nat_tests)) refl tt
-    twice mode.BadCsi b bytes q e = by_row 21 _ mode.BadCsi (27 ∷ b ∷ bytes) (New 1 mode.BadEsc) refl (grind (arith, nat_tests)) refl tt
     twice mode.BadEsc b bytes q e = by_row 21 _ mode.BadEsc (27 ∷ b ∷ bytes) (New 1 mode.BadEsc) refl (grind (arith, nat_tests)) refl tt
+    twice m b bytes q e = by_row 21 _ m (27 ∷ b ∷ bytes) (New 1 mode.BadEsc) refl (grind (arith, nat_tests)) refl tt
 
     other : (m : Mode) (b : ℕ) (bytes : List ℕ) → is_within 48 126 b ≡ false → is_within 32 47 b ≡ false → (b == 27) ≡ false → Agrees m (27 ∷ b ∷ bytes) (New 1 mode.BadEsc)
     other m b bytes final e q = by_any 22 _ m (27 ∷ b ∷ bytes) (New 1 mode.BadEsc) refl refl (grind (arith, nat_tests)) refl tt
@@ -133,11 +127,9 @@ agrees_escape m (b ∷ bytes) =
   where
     st : (m : Mode) (b : ℕ) (bytes : List ℕ) → (is_string m && b == 92) ≡ true → Agrees m (27 ∷ b ∷ bytes) (Ends 2)
     st mode.Text b bytes e = cc
-    st mode.Osc b bytes e = by_row 15 _ mode.Osc (27 ∷ b ∷ bytes) (Ends 2) refl (grind (arith, nat_tests)) refl (λ text. absurd cc)
-    st mode.Dcs b bytes e = by_row 15 _ mode.Dcs (27 ∷ b ∷ bytes) (Ends 2) refl (grind (arith, nat_tests)) refl (λ text. absurd cc)
-    st mode.Str b bytes e = by_row 15 _ mode.Str (27 ∷ b ∷ bytes) (Ends 2) refl (grind (arith, nat_tests)) refl (λ text. absurd cc)
     st mode.BadCsi b bytes e = cc
     st mode.BadEsc b bytes e = cc
+    st m b bytes e = by_row 15 _ m (27 ∷ b ∷ bytes) (Ends 2) refl (grind (arith, nat_tests)) refl (λ text. absurd cc)
 
     quote : (m : Mode) (b : ℕ) (bytes : List ℕ) → (is_dcs m && b == 27) ≡ true → Agrees m (27 ∷ b ∷ bytes) (GoesOn 2)
     quote mode.Text b bytes e = cc
@@ -164,7 +156,12 @@ pub found : (m : Mode) (bytes : List ℕ) (f : Ahead) → look m bytes ≡ f →
 found m bytes f e = (agrees m bytes).same ∙ ap (meant m) e
 
 pub sound : (m : Mode) (bytes : List ℕ) → Sound m bytes (ahead m bytes)
-sound m bytes = sound_row m bytes (only_row m bytes)
+sound m bytes = subst (Sound m bytes) (sym (agrees m bytes).same) (told m bytes)
+
+-- what is decided stays, whatever follows
+pub kept : (m : Mode) (bytes more : List ℕ) → (ahead m bytes ≡ Undecided) ⊎ (ahead m (bytes ++ more) ≡ ahead m bytes)
+kept m bytes more =
+    elim (kept_look m bytes more) [ inl none ↦ inl (found m bytes Unsure none) | inr same ↦ inr (found m (bytes ++ more) _ same ∙ sym (found m bytes _ refl)) ]
 
 -- ESC and `[` begin a sequence in every mode
 pub opens : (m : Mode) (bytes : List ℕ) → ahead m (27 ∷ 91 ∷ bytes) ≡ Sequence

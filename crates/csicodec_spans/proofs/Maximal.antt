@@ -12,16 +12,14 @@ use Rattle.csicodec_spans.specs.Table.{Answer, More, Anew, Sequence, Undecided, 
 use Rattle.csicodec_spans.specs.Parts.{Part, part, bytes_of, AllowsCsi, Allows, IsFirstPart, AreFirstParts, IsUnsureBy, AreAll, IsSpan, Cuts, IsMore, IsMaximal}
 use Rattle.csicodec_spans.specs.Iteration.{Left, Gives, BeginsAs, IsNoMoreText, AreMaximal}
 use Rattle.csicodec_spans.proofs.Missed.{front_is, malformed_some}
-use Rattle.csicodec_spans.proofs.Rows.{Sound}
+use Rattle.csicodec_spans.proofs.Fronts.{Sound}
 use Rattle.csicodec_spans.proofs.Agrees.{found, sound, text_goes_on}
 
 -- a front begins as all of it does
 begins_longer : (k : Kind) (text more : List ℕ) → BeginsAs k text → BeginsAs k (text ++ more)
 begins_longer kind.Text text more (b, t, e, other) = (b, t ++ more, ap (λ (x : List ℕ). x ++ more) e, other)
-begins_longer kind.Csi text more (t, e) = (t ++ more, ap (λ (x : List ℕ). x ++ more) e)
-begins_longer kind.Esc text more (t, e) = (t ++ more, ap (λ (x : List ℕ). x ++ more) e)
 begins_longer kind.Str text more (b, t, e, opener) = (b, t ++ more, ap (λ (x : List ℕ). x ++ more) e, opener)
-begins_longer kind.Other text more (t, e) = (t ++ more, ap (λ (x : List ℕ). x ++ more) e)
+begins_longer _ text more h = (h.0 ++ more, ap (λ (x : List ℕ). x ++ more) h.1)
 
 -- what stands in front is text or begins anew
 abbrev IsAnew : Mode → Answer → Type 0
@@ -76,9 +74,7 @@ only_of limit m bytes text rest k a ps e s =
 first_part : (limit : ℕ) (m : Mode) (bytes text rest : List ℕ) (k : Kind) (a : Mode) (ps : List Part) → IsSpan k text ps → AreFirstParts limit m bytes ps rest a → FirstPart limit m bytes k text
 first_part limit m bytes text rest kind.Csi a ps h s = only_of limit m bytes text rest kind.Csi a ps h s
 first_part limit m bytes text rest kind.Esc a ps h s = only_of limit m bytes text rest kind.Esc a ps h s
-first_part limit m bytes text rest kind.Text a ps h s = first_of limit m bytes text rest kind.Text a ps h s
-first_part limit m bytes text rest kind.Str a ps h s = first_of limit m bytes text rest kind.Str a ps h s
-first_part limit m bytes text rest kind.Other a ps h s = first_of limit m bytes text rest kind.Other a ps h s
+first_part limit m bytes text rest k a ps h s = first_of limit m bytes text rest k a ps h s
 
 cut_begins : (limit : ℕ) (m : Mode) (bytes text rest : List ℕ) (k : Kind) (a : Mode) → 0 < limit → IsAnew m (ahead m bytes) → Cuts limit m bytes k text rest a → BeginsAs k text
 cut_begins limit m bytes text rest k a l anew c =
@@ -132,11 +128,10 @@ anew_behind k mode.Osc rest h = inr (h (inr (λ i. absurd cc)))
 anew_behind k _ rest h = inr (h (inr (λ i. absurd cc)))
 
 unsure_begins : (f : Answer) (limit : ℕ) (m : Mode) (bytes : List ℕ) → 0 < length bytes → Sound m bytes f → IsUnsureBy f limit bytes → BeginsAs kind.Other bytes
-unsure_begins (More j n b) limit m bytes some h u = absurd u
-unsure_begins (Anew j n b) limit m bytes some h u = absurd u
 unsure_begins Sequence limit m bytes some h u = (91 ∷ h.0, h.1)
 unsure_begins Undecided limit m bytes some (short, inl e) u = absurd (omega (arith, ap length e))
 unsure_begins Undecided limit m bytes some (short, inr h) u = h
+unsure_begins _ limit m bytes some h u = absurd u
 
 begins : (left after : Left) (s : Span) → 0 < left.limit → IsAnew left.mode (ahead left.mode left.bytes) → Gives left (Some s) after → BeginsAs s.kind s.bytes.now
 begins left after s l anew (same, inl next) = cut_begins left.limit left.mode left.bytes s.bytes.now after.bytes s.kind after.mode l anew next.cut

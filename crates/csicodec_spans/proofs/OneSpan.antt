@@ -12,7 +12,7 @@ use Rattle.csicodec_spans.specs.declared.table.Ahead.TheVariants.{GoesOn, Csi, U
 use Rattle.csicodec_spans.specs.Table.{Answer, More, Anew, ahead}
 use Rattle.csicodec_spans.specs.Private.TableBy.{kind_in, stays, look, meant}
 use Rattle.csicodec_spans.specs.Parts.{Part, part, Allows, AllowsCsi, IsFirstPart, AreFirstParts, IsUnsure, IsUnsureBy, IsMore, bytes_of, AreAll, AreOne, IsSpan, Cuts}
-use Rattle.csicodec_spans.proofs.Rows.{Sound}
+use Rattle.csicodec_spans.proofs.Fronts.{Sound}
 use Rattle.csicodec_spans.proofs.Agrees.{found, sound}
 use Rattle.csicodec_spans.proofs.AsOne.{one_alone, one_none, one_on}
 
@@ -21,11 +21,10 @@ one k text = record { some = omega arith; all = (refl, tt); joined = append-nil 
 
 -- one part is a span
 pub one_span : (k : Kind) (text : List ℕ) → IsSpan k text (part k text ∷ [])
-one_span kind.Csi text = refl
-one_span kind.Esc text = refl
 one_span kind.Text text = one kind.Text text
 one_span kind.Str text = one kind.Str text
 one_span kind.Other text = one kind.Other text
+one_span _ text = refl
 
 -- each byte by itself
 abbrev pub singles : Kind → List ℕ → List Part

@@ -1,6 +1,5 @@
 use Rattle.std.proofs.Common.{◌≡◌, ◌++◌, ℕ, List, length}
-use Rattle.csicodec_clean.specs.Shown.{shown_chars}
-use Rattle.csicodec_clean.specs.Shown.{IsRead}
+use Rattle.csicodec_clean.specs.Shown.{shown_chars, IsRead}
 use Rattle.csicodec_clean.proofs.text.append_sure.Given as goal
 
 -- some characters were read, and what is shown of them was appended

@@ -46,15 +46,7 @@ fn append_style(depth: Depth, action: &CSI, out: &mut Vec<u8>) -> Result<(), All
             }
             encode(&CSI::Sgr(reduced(depth, *style)), out)
         }
-        CSI::Cursor(_)
-        | CSI::Edit(_)
-        | CSI::Mode(_)
-        | CSI::Device(_)
-        | CSI::Keyboard(_)
-        | CSI::SelectCharacterPath(..)
-        | CSI::Mouse(_)
-        | CSI::Window(_)
-        | CSI::Unspecified(_) => Ok(()),
+        _ => Ok(()),
     }
 }
 
@@ -87,15 +79,7 @@ fn is_open_behind(_depth: Depth, action: &CSI, styled: bool) -> bool
             }
             !is_reset(style)
         }
-        CSI::Cursor(_)
-        | CSI::Edit(_)
-        | CSI::Mode(_)
-        | CSI::Device(_)
-        | CSI::Keyboard(_)
-        | CSI::SelectCharacterPath(..)
-        | CSI::Mouse(_)
-        | CSI::Window(_)
-        | CSI::Unspecified(_) => styled,
+        _ => styled,
     }
 }
 

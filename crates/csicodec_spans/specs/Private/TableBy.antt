@@ -23,21 +23,15 @@ opens_string b = b == 88 || b == 94 || b == 95
 
 -- a control string is open
 abbrev pub is_string : modes.Mode → Bool
-is_string mode.Text = false
 is_string mode.Osc = true
 is_string mode.Dcs = true
 is_string mode.Str = true
-is_string mode.BadCsi = false
-is_string mode.BadEsc = false
+is_string _ = false
 
 -- a device control string is open
 abbrev pub is_dcs : modes.Mode → Bool
-is_dcs mode.Text = false
-is_dcs mode.Osc = false
 is_dcs mode.Dcs = true
-is_dcs mode.Str = false
-is_dcs mode.BadCsi = false
-is_dcs mode.BadEsc = false
+is_dcs _ = false
 
 -- what the bytes are that belong to what is open
 abbrev pub kind_in : modes.Mode → kinds.Kind
@@ -60,12 +54,10 @@ stays mode.BadEsc b = not (is_cancel b) && (nat_lt b 48 || b == 127)
 
 -- the byte ends what is open, and belongs to it: BEL an OSC, and a final byte what went wrong
 abbrev pub ends : modes.Mode → ℕ → Bool
-ends mode.Text b = false
 ends mode.Osc b = b == 7
-ends mode.Dcs b = false
-ends mode.Str b = false
 ends mode.BadCsi b = is_within 64 126 b
 ends mode.BadEsc b = is_within 48 126 b
+ends _ b = false
 
 -- behind ESC and an intermediate byte: a final byte, or the two have gone wrong
 abbrev pub intermediate : List ℕ → Ahead

@@ -1,5 +1,5 @@
 use Rattle.std.proofs.Common.{◌∙◌, sym, ⊎_elim}
-use Rattle.csicodec_clean.proofs.WideChars.{four, three, two}
+use Rattle.csicodec_clean.proofs.Told.{four, three, two}
 use Rattle.csicodec_clean.proofs.wide.char_len.Goals as goal
 
 pub returns-then-second-gt159 : goal.returns-then-second-gt159

@@ -1,4 +1,4 @@
-use Rattle.csicodec_clean.proofs.WideChars.{none_shown, wide_front}
+use Rattle.csicodec_clean.proofs.Told.{none_shown, wide_front}
 use Rattle.csicodec_clean.proofs.wide.front_len.Goals as goal
 
 pub returns-then-bytes-lt4-clause-shown : goal.returns-then-bytes-lt4-clause-shown

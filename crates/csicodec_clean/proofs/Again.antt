@@ -159,14 +159,12 @@ more_encoded cs c = encoded_on cs (c ∷ []) ∙ ap (λ (t : List ℕ). encode_u
 abbrev chars_of : List Item → List ℕ
 chars_of [] = []
 chars_of (Shown c ∷ items) = c ∷ chars_of items
-chars_of (Style s ∷ items) = chars_of items
-chars_of (Link a ∷ items) = chars_of items
+chars_of (_ ∷ items) = chars_of items
 
 chars_both : (xs ys : List Item) → chars_of (xs ++ ys) ≡ chars_of xs ++ chars_of ys
 chars_both [] ys = refl
 chars_both (Shown c ∷ xs) ys = ap (λ (t : List ℕ). c ∷ t) (chars_both xs ys)
-chars_both (Style s ∷ xs) ys = chars_both xs ys
-chars_both (Link a ∷ xs) ys = chars_both xs ys
+chars_both (_ ∷ xs) ys = chars_both xs ys
 
 chars_shown : (cs : List ℕ) → chars_of (map Shown cs) ≡ cs
 chars_shown [] = refl

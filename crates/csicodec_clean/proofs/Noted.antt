@@ -13,14 +13,9 @@ use Rattle.csicodec_clean.specs.Private.Notes.{IsLeft, IsNoted, depth_byte, open
 
 same_depth : (d e : Depth) → depth_byte d ≡ depth_byte e → d ≡ e
 same_depth depth.Full depth.Full h = refl
-same_depth depth.Full depth.Palette h = absurd (omega (arith, h))
-same_depth depth.Full depth.Ansi h = absurd (omega (arith, h))
-same_depth depth.Palette depth.Full h = absurd (omega (arith, h))
 same_depth depth.Palette depth.Palette h = refl
-same_depth depth.Palette depth.Ansi h = absurd (omega (arith, h))
-same_depth depth.Ansi depth.Full h = absurd (omega (arith, h))
-same_depth depth.Ansi depth.Palette h = absurd (omega (arith, h))
 same_depth depth.Ansi depth.Ansi h = refl
+same_depth _ _ h = absurd (omega (arith, h))
 
 byte_is : (b : Bool) → (open_byte b == 1) ≡ b
 byte_is true = refl

@@ -163,8 +163,6 @@ reduced_twice d s = refl
 
 pub reduced_hides : (d : Depth) (s : Sgr) → hides (reduced d s) ≡ hides s
 reduced_hides d (sgr.Foreground c) = refl
-reduced_hides d (sgr.Background c) = refl
-reduced_hides d (sgr.UnderlineColor c) = refl
 reduced_hides d s = refl
 
 pub reduced_alone : (d : Depth) (s : Sgr) → ReadsAlone (action.Sgr s) false → ReadsAlone (action.Sgr (reduced d s)) false

@@ -20,7 +20,7 @@ use Rattle.csicodec_clean.specs.declared.styles.Passing.{Passing}
 use Rattle.csicodec_clean.specs.Cleaned.{longest}
 use Rattle.csicodec_clean.specs.Links.{Address, Begun, IsLink, Spells, Stood, StoodIn, all_behind, anew, begun, behind, behind_at, ends_at, is_linked, is_param, is_visible, link_body, links_in, longest_params, longest_url, opened, start}
 use Rattle.csicodec_clean.specs.Shown.{shown}
-use Rattle.csicodec_clean.specs.Styled.{kept, Item, Shown, Style, Link, shown_items, Leaves, begun_behind, run_behind, items_behind, AreLeft, links_of, ends_of, is_open, styles_of, IsSafe, StylesIn}
+use Rattle.csicodec_clean.specs.Styled.{kept, Item, Link, shown_items, Leaves, begun_behind, run_behind, items_behind, AreLeft, links_of, ends_of, is_open, styles_of, IsSafe, StylesIn}
 use Rattle.csicodec_clean.specs.Titles.{read_as, title_behind, with_titles}
 use Rattle.csicodec_clean.proofs.Linked.{links_on, passes}
 use Rattle.csicodec_clean.proofs.PlainBytes.{all_both}
@@ -181,13 +181,10 @@ if_over P false a f = tt
 
 over_two : (P : Address → Type 0) (p : Place) (params url : List ℕ) (c : ℕ) → IsAtRest p → ((c == 92) ≡ true → Spells (read_of p params url ++ 27 ∷ c ∷ []) (address params url) → P (address params url))
     → AllByRecursion P (links_in true (begun p params url) (27 ∷ c ∷ []))
-over_two P place.Outside params url c rest f = tt
 over_two P place.Escape params url c rest f = absurd rest
-over_two P place.Opened params url c rest f = tt
-over_two P place.Eight params url c rest f = tt
-over_two P place.Params params url c rest f = tt
-over_two P place.Url params url c rest f = if_over P (c == 92) (address params url) (λ e. f e (inr (ap (λ (x : ℕ). 27 ∷ 93 ∷ (link_body (address params url) ++ 27 ∷ x ∷ [])) (eqb-true c 92 e))))
 over_two P place.Ending params url c rest f = absurd rest
+over_two P place.Url params url c rest f = if_over P (c == 92) (address params url) (λ e. f e (inr (ap (λ (x : ℕ). 27 ∷ 93 ∷ (link_body (address params url) ++ 27 ∷ x ∷ [])) (eqb-true c 92 e))))
+over_two P _ params url c rest f = tt
 
 -- ---- part by part
 
@@ -337,9 +334,8 @@ all_parts d (p ∷ sure) m a bytes rest b t run done whole items (behind, mid, o
 -- where no links pass
 none_pass : (d : Passing) (P : Address → Type 0) (items more : List Item) → d.links ≡ false → AllByRecursion (IsSafe d) (items ++ more) → AllByRecursion P (links_of items)
 none_pass d P [] more e h = tt
-none_pass d P (Shown c ∷ items) more e h = none_pass d P items more e h.1
-none_pass d P (Style s ∷ items) more e h = none_pass d P items more e h.1
 none_pass d P (Link a ∷ items) more e h = absurd (both_ways d.links e h.0.0)
+none_pass d P (_ ∷ items) more e h = none_pass d P items more e h.1
 
 stream : (depth : Depth) (links : Bool) (bytes text : List ℕ) (s : StylesIn (record { depth = depth; links = links }) bytes text) → AllByRecursion (StoodIn s.parts) (links_of s.items)
 stream depth true bytes text s =

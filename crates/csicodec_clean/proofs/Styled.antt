@@ -61,15 +61,13 @@ texts_both (x ∷ xs) ys = ap (λ t. item_text x ++ t) (texts_both xs ys) ∙ sy
 
 pub styles_both : (xs ys : List Item) → styles_of (xs ++ ys) ≡ styles_of xs ++ styles_of ys
 styles_both [] ys = refl
-styles_both (Shown c ∷ xs) ys = styles_both xs ys
 styles_both (Style s ∷ xs) ys = ap (λ t. s ∷ t) (styles_both xs ys)
-styles_both (Link a ∷ xs) ys = styles_both xs ys
+styles_both (_ ∷ xs) ys = styles_both xs ys
 
 pub links_both : (xs ys : List Item) → links_of (xs ++ ys) ≡ links_of xs ++ links_of ys
 links_both [] ys = refl
-links_both (Shown c ∷ xs) ys = links_both xs ys
-links_both (Style s ∷ xs) ys = links_both xs ys
 links_both (Link a ∷ xs) ys = ap (λ (t : List Address). a ∷ t) (links_both xs ys)
+links_both (_ ∷ xs) ys = links_both xs ys
 
 pub texts_chars : (cs : List ℕ) → item_texts (map Shown cs) ≡ encode_utf8_all cs
 texts_chars [] = refl
@@ -328,9 +326,8 @@ none_fine = record { params = tt; few = omega arith; url = tt; short = omega ari
 -- a link is open only where links pass
 linked_passes : (d : Passing) (items : List Item) (linked : Bool) → (linked ≡ true → d.links ≡ true) → AllByRecursion (IsSafe d) items → is_linked linked (links_of items) ≡ true → d.links ≡ true
 linked_passes d [] linked f h e = f e
-linked_passes d (Shown c ∷ items) linked f h e = linked_passes d items linked f h.1 e
-linked_passes d (Style s ∷ items) linked f h e = linked_passes d items linked f h.1 e
 linked_passes d (Link a ∷ items) linked f h e = linked_passes d items (not (length a.url == 0)) (λ _. h.0.0) h.1 e
+linked_passes d (_ ∷ items) linked f h e = linked_passes d items linked f h.1 e
 
 -- nothing is open behind what ends it
 styles_shut : (items : List Item) (linked styled : Bool) → is_open false (styles_of items) ≡ styled → is_open false (styles_of (items ++ ends_of linked styled)) ≡ false
@@ -383,6 +380,4 @@ more_styles d xs x b flag new e f = f ∙ ap (λ c. is_open c (kept d (x ∷ [])
 -- a colour that becomes another is no reset
 pub reset_reduced : (d : Depth) (s : Sgr) → is_reset (reduced d s) ≡ is_reset s
 reset_reduced d (sgr.Foreground c) = refl
-reset_reduced d (sgr.Background c) = refl
-reset_reduced d (sgr.UnderlineColor c) = refl
 reset_reduced d _ = refl

@@ -15,7 +15,6 @@ use Rattle.csicodec_spans.proofs.Fronts.{Sound, kept_look, told}
 
 -- text has no end
 abbrev pub IsNoText : Mode → Ahead → Type 0
-IsNoText m (GoesOn n) = Unit {0}
 IsNoText m (Ends n) = m ≢ mode.Text
 IsNoText m _ = Unit {0}
 
@@ -51,7 +50,6 @@ agrees_stays mode.BadCsi b bytes e = by_row 5 _ mode.BadCsi (b ∷ bytes) (GoesO
 agrees_stays mode.BadEsc b bytes e = by_row 7 _ mode.BadEsc (b ∷ bytes) (GoesOn 1) refl (grind (arith, nat_tests)) refl tt
 
 agrees_ends : (m : Mode) (b : ℕ) (bytes : List ℕ) → ends m b ≡ true → Agrees m (b ∷ bytes) (Ends 1)
-agrees_ends mode.Text b bytes e = cc
 agrees_ends mode.Osc b bytes e = by_row 1 _ mode.Osc (b ∷ bytes) (Ends 1) refl (grind (arith, nat_tests)) refl (λ text. absurd cc)
 agrees_ends mode.BadCsi b bytes e = by_row 6 _ mode.BadCsi (b ∷ bytes) (Ends 1) refl (grind (arith, nat_tests)) refl (λ text. absurd cc)
 agrees_ends mode.BadEsc b bytes e = by_row 8 _ mode.BadEsc (b ∷ bytes) (Ends 1) refl (grind (arith, nat_tests)) refl (λ text. absurd cc)
@@ -132,7 +130,6 @@ agrees_escape m (b ∷ bytes) =
     st m b bytes e = by_row 15 _ m (27 ∷ b ∷ bytes) (Ends 2) refl (grind (arith, nat_tests)) refl (λ text. absurd cc)
 
     quote : (m : Mode) (b : ℕ) (bytes : List ℕ) → (is_dcs m && b == 27) ≡ true → Agrees m (27 ∷ b ∷ bytes) (GoesOn 2)
-    quote mode.Text b bytes e = cc
     quote mode.Dcs b bytes e = by_row 20 _ mode.Dcs (27 ∷ b ∷ bytes) (GoesOn 2) refl (grind (arith, nat_tests)) refl tt
     quote _ b bytes e = cc
 

@@ -121,9 +121,6 @@ IsNeither f = ((n : ℕ) × (f ≡ Ends n)) ⊎ (((n : ℕ) × (a : Mode) × (f 
 
 no_escape : (a : Mode) → kind_in a ≡ kind.Esc → ⊥
 no_escape mode.Text e = absurd cc
-no_escape mode.Osc e = absurd cc
-no_escape mode.BadCsi e = absurd cc
-no_escape mode.BadEsc e = absurd cc
 no_escape _ e = absurd cc
 
 pub none_plain : (bytes : List ℕ) (f : Ahead) → look mode.Text bytes ≡ f → IsNeither f → IsPlain (ahead mode.Text bytes) → ⊥

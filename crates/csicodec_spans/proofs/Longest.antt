@@ -45,7 +45,6 @@ ends_longer bytes first rest k m n e is h = more_longer bytes first rest k m mod
 
 not_text : (m : Mode) → m ≢ mode.Text → kind_in m ≢ kind.Text
 not_text mode.Text other e = other refl
-not_text mode.Osc other e = absurd cc
 not_text _ other e = absurd cc
 
 -- a span of another kind that leaves nothing open is as long as it can be

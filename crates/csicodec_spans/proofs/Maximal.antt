@@ -32,7 +32,6 @@ esc_front (b ∷ text) rest body some e = (text, cc)
 csi_begins : (limit : ℕ) (bytes text rest body : List ℕ) (k : Kind) (a : Mode) → 0 < limit → bytes ≡ 27 ∷ 91 ∷ body → bytes ≡ text ++ rest → AllowsCsi limit bytes k text a → BeginsAs k text
 csi_begins limit bytes text rest body kind.Csi a l is e s = (s.0.2.body ++ s.0.1 ∷ [], s.0.2.whole)
 csi_begins limit bytes text rest body kind.Other a l is e s = esc_front text rest body (malformed_some limit (length text) bytes (91 ∷ body) l is s.0) (sym is ∙ e)
-csi_begins limit bytes text rest body kind.Text a l is e s = absurd s
 csi_begins limit bytes text rest body _ a l is e s = absurd s
 
 front_begins : (bytes text rest : List ℕ) (k l : Kind) (n : ℕ) → bytes ≡ text ++ rest → length text ≡ n → l ≡ k → BeginsAs k (take n bytes) → BeginsAs l text
@@ -124,7 +123,6 @@ no_more left after s (t ∷ spans) last l g y = λ e f. apart left after y.0 s t
 
 anew_behind : (k : Kind) (a : Mode) (rest : List ℕ) → IsMaximal k a rest → IsAnew a (ahead a rest)
 anew_behind k mode.Text rest h = inl refl
-anew_behind k mode.Osc rest h = inr (h (inr (λ i. absurd cc)))
 anew_behind k _ rest h = inr (h (inr (λ i. absurd cc)))
 
 unsure_begins : (f : Answer) (limit : ℕ) (m : Mode) (bytes : List ℕ) → 0 < length bytes → Sound m bytes f → IsUnsureBy f limit bytes → BeginsAs kind.Other bytes

@@ -48,7 +48,6 @@ are_singles k bs some = record { some = rw length_singles some; all = all_single
 
 span_of_singles : (m : Mode) (bs : List ℕ) → 0 < length bs → IsSpan (kind_in m) bs (singles (kind_in m) bs)
 span_of_singles mode.Text bs some = are_singles kind.Text bs some
-span_of_singles mode.Osc bs some = are_singles kind.Str bs some
 span_of_singles mode.BadCsi bs some = are_singles kind.Other bs some
 span_of_singles mode.BadEsc bs some = are_singles kind.Other bs some
 span_of_singles _ bs some = are_singles kind.Str bs some

@@ -49,24 +49,11 @@ short i h = past (decimal i) 3 (length-decimal-le 3 i (omega arith) (omega (arit
 of_place : (p : Part) (i : ℕ) → i < 256 → known (class_name (kind.Color p i)) ≡ kind.Color p i
 of_place part.Text i h = rw (short i h, value i h) refl
 of_place part.Ground i h = rw (short i h, value i h) refl
-of_place part.Line i h = rw (value i h) refl
-of_place part.TextAsGround i h = rw (value i h) refl
-of_place part.GroundAsText i h = rw (value i h) refl
+of_place _ i h = rw (value i h) refl
 
 by_name : (c : Class) → IsClass c → known (class_name c) ≡ c
-by_name kind.Bold h = refl
-by_name kind.Faint h = refl
-by_name kind.Italic h = refl
-by_name kind.Underline h = refl
-by_name kind.Double h = refl
-by_name kind.Curly h = refl
-by_name kind.Dotted h = refl
-by_name kind.Dashed h = refl
-by_name kind.Overline h = refl
-by_name kind.Strike h = refl
-by_name kind.TextAsGround h = refl
-by_name kind.GroundAsText h = refl
 by_name (kind.Color p i) h = of_place p i h
+by_name _ h = refl
 
 pub one_class : (c d : Class) → IsClass c → IsClass d → class_name c ≡ class_name d → c ≡ d
 one_class c d h k e = sym (by_name c h) ∙ ap known e ∙ by_name d k

@@ -166,10 +166,7 @@ safe_leaves s after kind.Other bytes own h (e, same) = subst (Safe s.markup) (sy
 
 safe_behind : (m : Markup) (k : Kind) (run : List ℕ) → Safe m (pieces_behind k run)
 safe_behind m kind.Text run = tt
-safe_behind m kind.Csi run = safe_run m run
-safe_behind m kind.Esc run = safe_run m run
-safe_behind m kind.Str run = safe_run m run
-safe_behind m kind.Other run = safe_run m run
+safe_behind m _ run = safe_run m run
 
 -- behind a part: what becomes markup is as before, and what has come of a link may pass
 record Stays (s after : Setting) : Type 0 where

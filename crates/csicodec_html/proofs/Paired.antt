@@ -96,16 +96,11 @@ paired_in s ps = are_paired (leads s.to) (inside s.look) ps
 paired_leaves : (s after : Setting) (k : Kind) (bytes : List ℕ) (own ps : List Piece) → Leaves s k bytes own after → paired_in s (own ++ ps) ≡ paired_in after ps
 paired_leaves s after kind.Csi bytes own ps (actions, isof, behind, e) = rw (e, behind) (paired_turn s.markup (leads s.to) s.look actions ps)
 paired_leaves s after kind.Str bytes own ps (e, behind) = rw (e, behind) (paired_switches s.markup s.look s.to (links_in s.markup.links s.begun bytes) ps)
-paired_leaves s after kind.Text bytes own ps h = rw (h.0, h.1) refl
-paired_leaves s after kind.Esc bytes own ps h = rw (h.0, h.1) refl
-paired_leaves s after kind.Other bytes own ps h = rw (h.0, h.1) refl
+paired_leaves s after _ bytes own ps h = rw (h.0, h.1) refl
 
 paired_behind : (a b : Bool) (k : Kind) (run : List ℕ) (ps : List Piece) → are_paired a b (pieces_behind k run ++ ps) ≡ are_paired a b ps
 paired_behind a b kind.Text run ps = refl
-paired_behind a b kind.Csi run ps = paired_chars a b (filter shown (lossy_chars run)) ps
-paired_behind a b kind.Esc run ps = paired_chars a b (filter shown (lossy_chars run)) ps
-paired_behind a b kind.Str run ps = paired_chars a b (filter shown (lossy_chars run)) ps
-paired_behind a b kind.Other run ps = paired_chars a b (filter shown (lossy_chars run)) ps
+paired_behind a b _ run ps = paired_chars a b (filter shown (lossy_chars run)) ps
 
 paired_closing : (s : Setting) → paired_in s (closing s ++ []) ≡ true
 paired_closing s = ap (paired_in s) (append_assoc (ends s.look) (shuts s.to) []) ∙ paired_ends (leads s.to) s.look (shuts s.to ++ []) ∙ paired_shuts s.to []
@@ -129,10 +124,7 @@ is_page m bytes page p = record {
 chars_both : (xs ys : List Piece) → chars_of (xs ++ ys) ≡ chars_of xs ++ chars_of ys
 chars_both [] ys = refl
 chars_both (Char c ∷ xs) ys = ap (λ (t : List ℕ). c ∷ t) (chars_both xs ys)
-chars_both (Begin m l ∷ xs) ys = chars_both xs ys
-chars_both (End ∷ xs) ys = chars_both xs ys
-chars_both (Open url ∷ xs) ys = chars_both xs ys
-chars_both (Shut ∷ xs) ys = chars_both xs ys
+chars_both (_ ∷ xs) ys = chars_both xs ys
 
 chars_chars : (cs : List ℕ) → chars_of (map Char cs) ≡ cs
 chars_chars [] = refl
@@ -181,9 +173,7 @@ bare_leaves s after kind.Csi bytes own (actions, isof, behind, e) =
     let new = behind_all s.look actions in
     ap chars_of e ∙ bare_if (sets_any actions) (ends s.look ++ begins s.markup new) (bare_both (ends s.look) (begins s.markup new) (bare_ends s.look) (bare_begins s.markup new))
 bare_leaves s after kind.Str bytes own (e, behind) = ap chars_of e ∙ bare_switches s.markup s.look s.to (links_in s.markup.links s.begun bytes)
-bare_leaves s after kind.Text bytes own h = ap chars_of h.0
-bare_leaves s after kind.Esc bytes own h = ap chars_of h.0
-bare_leaves s after kind.Other bytes own h = ap chars_of h.0
+bare_leaves s after _ bytes own h = ap chars_of h.0
 
 abbrev text_of : List Piece → List ℕ
 text_of ps = encode_utf8_all (chars_of ps)
@@ -226,9 +216,7 @@ leaves_once s one other kind.Csi bytes xs ys (actions, isof, e, made) (again, is
     let same = of_once bytes actions again isof isof' in
     record { pieces = made ∙ ap (λ (x : List Action). turn s.markup (sets_any x) s.look (behind_all s.look x)) same ∙ sym made'; settings = e ∙ ap (behind_actions s) same ∙ sym f }
 leaves_once s one other kind.Text bytes xs ys h k = record { pieces = h.0 ∙ sym k.0; settings = h.1 ∙ sym k.1 }
-leaves_once s one other kind.Esc bytes xs ys h k = record { pieces = h.0 ∙ sym k.0; settings = h.1 ∙ sym k.1 }
-leaves_once s one other kind.Str bytes xs ys h k = record { pieces = h.0 ∙ sym k.0; settings = h.1 ∙ sym k.1 }
-leaves_once s one other kind.Other bytes xs ys h k = record { pieces = h.0 ∙ sym k.0; settings = h.1 ∙ sym k.1 }
+leaves_once s one other _ bytes xs ys h k = record { pieces = h.0 ∙ sym k.0; settings = h.1 ∙ sym k.1 }
 
 left_once : (parts : List Part) (s : Setting) (run : List ℕ) (xs ys : List Piece) → AreLeft s run parts xs → AreLeft s run parts ys → xs ≡ ys
 left_once [] s run xs ys h k = h ∙ sym k

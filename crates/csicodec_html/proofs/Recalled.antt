@@ -1,7 +1,12 @@
 -- A control sequence that came before, and comes again.
-use Rattle.std.proofs.Common.{◌≡◌, ◌≤◌, ◌∙◌, ℕ, Bool, false, List, ◌++◌, length, take, drop, sym, ap, subst, arith}
+use Rattle.std.proofs.Common.{◌≡◌, ◌≤◌, ◌∙◌, ℕ, Bool, true, false, List, ◌++◌, length, take, drop, sym, ap, subst, arith, rules}
 use Rattle.std.proofs.Math.Seq.{drop-append_seam, take-append_seam}
+use Rattle.std.proofs.lemmas.Bool.{and_parts}
 use Rattle.std.proofs.lemmas.List.{length-append}
+use mathlib.Core.Bool.{beq}
+use Rattle.csicodec_names.specs.contracts.color.ColorSpecPartialEq.TheImpl as color_eq
+use Rattle.csicodec_names.specs.contracts.color.IntensityPartialEq.TheImpl as intensity_eq
+use Rattle.csicodec_names.specs.contracts.color.UnderlinePartialEq.TheImpl as underline_eq
 use Rattle.csicodec_names.specs.declared.color.ColorSpec.{ColorSpec}
 use Rattle.csicodec_names.specs.declared.color.Intensity.{Intensity}
 use Rattle.csicodec_names.specs.declared.color.Underline.{Underline}
@@ -10,6 +15,7 @@ use Rattle.csicodec_tokens.specs.Sequence.{Seq}
 use Rattle.csicodec_actions.specs.Actions.{Action}
 use Rattle.csicodec_parser.specs.Segments.{Actions}
 use Rattle.csicodec_spans.specs.Parts.{IsSequence}
+use Rattle.csicodec_html.specs.contracts.look.LookPartialEq.TheImpl as look_eq
 use Rattle.csicodec_html.specs.declared.look.Look.{Look}
 use Rattle.csicodec_html.specs.declared.markup.Markup.{Markup}
 use Rattle.csicodec_html.specs.declared.turns.Turn.{Turn}
@@ -18,25 +24,41 @@ use Rattle.csicodec_html.specs.Page.{Setting, setting, turn}
 use Rattle.csicodec_html.specs.Private.Marked.{all_marked, turns}
 use Rattle.csicodec_html.specs.Private.Turns.{Fits, IsTold, IsTurn, IsTurned}
 
--- looks of which each part is the same are one
-pub same_look : (a b : Look) → a.intensity ≡ b.intensity → a.italic ≡ b.italic → a.underline ≡ b.underline
-    → a.line ≡ b.line → a.overline ≡ b.overline → a.strike ≡ b.strike → a.inverse ≡ b.inverse
-    → a.foreground ≡ b.foreground → a.background ≡ b.background → a ≡ b
-same_look a b i t u l o s v f g =
-    ap (λ (x : Intensity). record a { intensity = x }) i ∙ ap (λ (x : Bool). record a { intensity = b.intensity; italic = x }) t
-    ∙ ap (λ (x : Underline). record a { intensity = b.intensity; italic = b.italic; underline = x }) u
-    ∙ ap (λ (x : ColorSpec). record a { intensity = b.intensity; italic = b.italic; underline = b.underline; line = x }) l
-    ∙ ap (λ (x : Bool). record b {
-      overline = x;
-      strike = a.strike;
-      inverse = a.inverse;
-      foreground = a.foreground;
-      background = a.background;
-    }) o
-    ∙ ap (λ (x : Bool). record b { strike = x; inverse = a.inverse; foreground = a.foreground; background = a.background }) s
-    ∙ ap (λ (x : Bool). record b { inverse = x; foreground = a.foreground; background = a.background }) v
-    ∙ ap (λ (x : ColorSpec). record b { foreground = x; background = a.background }) f
-    ∙ ap (λ (x : ColorSpec). record b { background = x }) g
+-- weights, lines and colours that are equal are one
+weight : (a b : Intensity) → (intensity_eq.ghosts).eq a b ≡ true → a ≡ b
+weight a b h = search rules
+
+line : (a b : Underline) → (underline_eq.ghosts).eq a b ≡ true → a ≡ b
+line a b h = search rules
+
+color : (a b : ColorSpec) → (color_eq.ghosts).eq a b ≡ true → a ≡ b
+color a b h = search rules
+
+flag : (a b : Bool) → beq a b ≡ true → a ≡ b
+flag a b h = search rules
+
+-- and so are looks
+pub same_look : (a b : Look) → (look_eq.ghosts).eq a b ≡ true → a ≡ b
+same_look a b h =
+    let (i, h1) = and_parts _ _ h in
+    let (t, h2) = and_parts _ _ h1 in
+    let (u, h3) = and_parts _ _ h2 in
+    let (l, h4) = and_parts _ _ h3 in
+    let (o, h5) = and_parts _ _ h4 in
+    let (s, h6) = and_parts _ _ h5 in
+    let (v, h7) = and_parts _ _ h6 in
+    let (f, g) = and_parts _ _ h7 in
+    λ x. record {
+      intensity = weight a.intensity b.intensity i x;
+      italic = flag a.italic b.italic t x;
+      underline = line a.underline b.underline u x;
+      line = color a.line b.line l x;
+      overline = flag a.overline b.overline o x;
+      strike = flag a.strike b.strike s x;
+      inverse = flag a.inverse b.inverse v x;
+      foreground = color a.foreground b.foreground f x;
+      background = color a.background b.background g x;
+    }
 
 -- bytes that begin with others
 pub in_front : (bytes own rest : List ℕ) → bytes ≡ own ++ rest → (length own ≤ length bytes) × (take (length own) bytes ≡ own)

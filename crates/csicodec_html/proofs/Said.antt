@@ -19,8 +19,7 @@ use Rattle.csicodec_html.specs.Sheet.{color_of_lines, declaration, declares, kin
 pub weights : (p : Palette) (i : Intensity) → declares p (weight_class i) ≡ weight i
 unfolding declaration weight
 weights p intensity.Normal = refl
-weights p intensity.Bold = refl
-weights p intensity.Half = refl
+weights p _ = refl
 
 pub slants : (p : Palette) (b : Bool) → declares p (class_if b kind.Italic) ≡ slant b
 unfolding declaration
@@ -30,11 +29,7 @@ slants p false = refl
 pub kinds : (p : Palette) (u : Underline) → declares p (lines_class u) ≡ kind_of_lines u
 unfolding declaration kind_of_lines line_kind
 kinds p underline.None = refl
-kinds p underline.Single = refl
-kinds p underline.Double = refl
-kinds p underline.Curly = refl
-kinds p underline.Dotted = refl
-kinds p underline.Dashed = refl
+kinds p _ = refl
 
 pub of_line : (p : Palette) (c : ColorSpec) → said p part.Line None c ≡ color_of_lines p c
 unfolding declaration color_of_lines line_color property

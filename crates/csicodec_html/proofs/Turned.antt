@@ -10,38 +10,14 @@ use Rattle.csicodec_html.specs.Look.{behind_all, sets_any}
 -- one action, and then the others
 pub behind_one : (l : Look) (a : Action) (actions : List Action) → behind_all l (a ∷ actions) ≡ behind_all (behind_all l (a ∷ [])) actions
 behind_one l (action.Sgr s) actions = refl
-behind_one l (action.Cursor c) actions = refl
-behind_one l (action.Edit e) actions = refl
-behind_one l (action.Mode m) actions = refl
-behind_one l (action.Mouse m) actions = refl
-behind_one l (action.Device e) actions = refl
-behind_one l (action.Window w) actions = refl
-behind_one l (action.Keyboard k) actions = refl
-behind_one l (action.SelectCharacterPath p e) actions = refl
-behind_one l (action.Unspecified p f c) actions = refl
+behind_one l _ actions = refl
 
 pub sets_one : (a : Action) (actions : List Action) → sets_any (a ∷ actions) ≡ (if sets_any (a ∷ []) then true else sets_any actions)
 sets_one (action.Sgr s) actions = refl
-sets_one (action.Cursor c) actions = refl
-sets_one (action.Edit e) actions = refl
-sets_one (action.Mode m) actions = refl
-sets_one (action.Mouse m) actions = refl
-sets_one (action.Device e) actions = refl
-sets_one (action.Window w) actions = refl
-sets_one (action.Keyboard k) actions = refl
-sets_one (action.SelectCharacterPath p e) actions = refl
-sets_one (action.Unspecified p f c) actions = refl
+sets_one _ actions = refl
 
 -- where no attribute comes it looks the same
 pub unset : (l : Look) (actions : List Action) → sets_any actions ≡ false → behind_all l actions ≡ l
 unset l [] h = refl
 unset l (action.Sgr s ∷ actions) h = absurd (false≢true (sym h))
-unset l (action.Cursor c ∷ actions) h = unset l actions h
-unset l (action.Edit e ∷ actions) h = unset l actions h
-unset l (action.Mode m ∷ actions) h = unset l actions h
-unset l (action.Mouse m ∷ actions) h = unset l actions h
-unset l (action.Device e ∷ actions) h = unset l actions h
-unset l (action.Window w ∷ actions) h = unset l actions h
-unset l (action.Keyboard k ∷ actions) h = unset l actions h
-unset l (action.SelectCharacterPath p e ∷ actions) h = unset l actions h
-unset l (action.Unspecified p f c ∷ actions) h = unset l actions h
+unset l (_ ∷ actions) h = unset l actions h

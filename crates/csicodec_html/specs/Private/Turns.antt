@@ -1,5 +1,5 @@
 -- What a table of control sequences that came before holds. No promise rests on this file.
-use Rattle.std.specs.Prelude.{ℕ, ◌≡◌, ◌<◌, ◌≤◌, List, ◌++◌, Some, length, slice_get, take}
+use Rattle.std.specs.Prelude.{ℕ, ◌≡◌, ◌<◌, ◌≤◌, List, ◌++◌, length, take}
 use Rattle.std.specs.List.{All}
 use Rattle.csicodec_actions.specs.Actions.{Action}
 use Rattle.csicodec_clean.specs.Styled.{IsOf}
@@ -29,10 +29,6 @@ Fits t look limit bytes =
     (0 < length t.bytes.items) × (length t.bytes.items ≤ limit)
     × (length t.bytes.items ≤ length bytes)
     × (take (length t.bytes.items) bytes ≡ t.bytes.items) × (t.old ≡ look)
-
--- the one at this place is
-abbrev pub FitsAt : List Turn → Look → ℕ → List ℕ → ℕ → Type 0
-FitsAt kept look limit bytes at = (t : Turn) × (slice_get kept at ≡ Some t) × Fits t look limit bytes
 
 -- the tags of the sequence in front, of so many bytes, are appended
 abbrev pub IsTold : Markup → Look → ℕ → List ℕ → ℕ → Look → List ℕ → List ℕ → Type 0

@@ -1,7 +1,7 @@
 use Rattle.std.proofs.Common.{length, drop, arith}
 use Rattle.std.proofs.lemmas.Bool.Decides.{Decides-eqb}
 use Rattle.std.proofs.lemmas.Slice.Eq.{starts_is}
-use Rattle.csicodec_html.proofs.Recalled.{in_front}
+use Rattle.csicodec_html.proofs.Recalled.{in_front, same_look}
 use Rattle.csicodec_html.proofs.turns.Turn.fits.Goals as goal
 
 pub returns : goal.returns
@@ -14,5 +14,5 @@ returns c = λ same.
       omega (arith, c.if-len-limit.false, c.len-len.ensures),
       front.0,
       front.1,
-      c.is_same.ensures same,
+      same_look _ _ (rw c.eq.ensures at same),
     )

@@ -23,6 +23,7 @@ use Rattle.csicodec_spans.specs.Parts.{Part, part, bytes_of, left_over, AreAll, 
 use Rattle.csicodec_spans.proofs.OneSpan.{none_unsure}
 use Rattle.csicodec_spans.proofs.Kept.{parts_more, parts_on}
 use Rattle.csicodec_filter.specs.Faithful.{stays}
+use Rattle.csicodec_filter.specs.Meaning.{singles}
 use Rattle.csicodec_filter.specs.Transform.{Begins as BeginsWith, Sends, Transforms}
 use Rattle.csicodec_filter.proofs.Filtered.{one_first}
 use Rattle.csicodec_compact.specs.Compacts.{Compacts, ReadsAlike}
@@ -63,10 +64,6 @@ shortened_none = ([], (refl, refl))
 pub shortened_run : (run : List Part) (text : List ℕ) → Shortens run text → IsShortened run text
 shortened_run run text h = (run ∷ [], ([], text, [], sym (append-nil run), sym (append-nil text), inl h, (refl, refl)))
 
-abbrev singles : List Part → List (List Part)
-singles [] = []
-singles (p ∷ ps) = (p ∷ []) ∷ singles ps
-
 plain_runs : (k : Kind) (ps : List Part) → k ≢ kind.Csi → AllByRecursion (λ (p : Part). p.kind ≡ k) ps → AreRuns (singles ps) ps (flat_map bytes_of ps)
 plain_runs k [] ne all = (refl, refl)
 plain_runs k (p ∷ ps) ne all =
@@ -85,15 +82,8 @@ shortened_span kind.Text bytes ps ne s = all_plain kind.Text bytes ps ne s
 shortened_span kind.Str bytes ps ne s = all_plain kind.Str bytes ps ne s
 shortened_span kind.Other bytes ps ne s = all_plain kind.Other bytes ps ne s
 
-abbrev is_csi : Kind → Bool
-is_csi kind.Csi = true
-is_csi kind.Esc = false
-is_csi kind.Text = false
-is_csi kind.Str = false
-is_csi kind.Other = false
-
 other_plain : kind.Other ≢ kind.Csi
-other_plain = λ e. true≢false (sym (ap is_csi e))
+other_plain e = cc
 
 pub shortened_left : (rest : List ℕ) → IsShortened (left_over rest) rest
 shortened_left [] = shortened_none
@@ -216,10 +206,7 @@ module _ (run : List Part) (bytes held text : List ℕ) (st : Form) (h : IsHeld 
   begun forms.Whole n =
       held_whole (run ++ part kind.Csi bytes ∷ []) ((held ++ closing st) ++ text)
       (shortened_on run (part kind.Csi bytes ∷ []) (held ++ closing st) text (closed run held st h) (shortened_run (part kind.Csi bytes ∷ []) text (one_of bytes text one n)))
-  begun forms.Last n = begun_list forms.Last n
-  begun forms.Open n = begun_list forms.Open n
-  begun forms.Blank n = begun_list forms.Blank n
-  begun forms.Bare n = begun_list forms.Bare n
+  begun form n = begun_list form n
 
   -- a list in the same sequence
   list_joined : (form : Form) → (n : IsNotedList form bytes text) → GoesOnFrom st h.left h.tail → may_join st form text ≡ true
@@ -245,10 +232,7 @@ module _ (run : List Part) (bytes held text : List ℕ) (st : Form) (h : IsHeld 
   joined_by : (form : Form) → IsNoted form bytes text → GoesOnFrom st h.left h.tail → may_join st form text ≡ true → (is_joined form ≡ false → may_join st form text ≡ false)
       → IsHeld (run ++ part kind.Csi bytes ∷ []) (held ++ joint st form text) (behind st form)
   joined_by forms.Whole n g may none = absurd (true≢false (sym may ∙ none refl))
-  joined_by forms.Last n g may none = list_joined forms.Last n g may
-  joined_by forms.Open n g may none = list_joined forms.Open n g may
-  joined_by forms.Blank n g may none = list_joined forms.Blank n g may
-  joined_by forms.Bare n g may none = list_joined forms.Bare n g may
+  joined_by form n g may none = list_joined form n g may
 
 pub joined : (run : List Part) (bytes held text : List ℕ) (st form : Form) → IsHeld run held st → IsOne bytes → IsNoted form bytes text → may_join st form text ≡ true
     → IsHeld (run ++ part kind.Csi bytes ∷ []) (held ++ joint st form text) (behind st form)
@@ -278,10 +262,7 @@ listed_long form text h = omega (arith, ap length h.whole, length-append h.bytes
 -- a text that is a list is long enough
 pub own_long : (form : Form) (text : List ℕ) → IsOwn form text → is_joined form ≡ true → 2 + length (closing form) ≤ length text
 own_long forms.Whole text own is = absurd (true≢false (sym is))
-own_long forms.Last text own is = listed_long forms.Last text own
-own_long forms.Open text own is = listed_long forms.Open text own
-own_long forms.Blank text own is = listed_long forms.Blank text own
-own_long forms.Bare text own is = listed_long forms.Bare text own
+own_long form text own is = listed_long form text own
 
 pub note_of : (bytes text note : List ℕ) (form : Form) → IsOne bytes → Compacts bytes text → IsOwn form text → (is_joined form ≡ true → ¬ IsStaying bytes)
     → (is_joined form ≡ false → (mark : ℕ) × (count : ℕ) × (form_of mark ≡ form) × (note ≡ mark ∷ count ∷ text))
@@ -298,10 +279,7 @@ note_of bytes text note form one made own free whole list = by_form form own fre
         → (is_joined form ≡ false → (mark : ℕ) × (count : ℕ) × (form_of mark ≡ form) × (note ≡ mark ∷ count ∷ text))
         → (is_joined form ≡ true → (mark : ℕ) × (count : ℕ) × (form_of mark ≡ form) × (note ≡ mark ∷ count ∷ 59 ∷ list_of form text)) → IsNote bytes note
     by_form forms.Whole own free whole list = by_whole (whole refl)
-    by_form forms.Last own free whole list = by_list forms.Last (noted bytes text forms.Last (free refl) made own) (list refl)
-    by_form forms.Open own free whole list = by_list forms.Open (noted bytes text forms.Open (free refl) made own) (list refl)
-    by_form forms.Blank own free whole list = by_list forms.Blank (noted bytes text forms.Blank (free refl) made own) (list refl)
-    by_form forms.Bare own free whole list = by_list forms.Bare (noted bytes text forms.Bare (free refl) made own) (list refl)
+    by_form form own free whole list = by_list form (noted bytes text form (free refl) made own) (list refl)
 
 pub note_long : (bytes note : List ℕ) → IsNote bytes note → 2 ≤ length note
 note_long bytes note n = omega (arith, ap length n.3)
@@ -317,15 +295,18 @@ extends_one st form bytes text one n run before h =
 pub as_it_came : (bytes : List ℕ) → Compacts bytes bytes
 as_it_came bytes = record { alike = λ actions d. d; short = omega arith; kept = λ list final s stay. refl }
 
+pub shortened_one : (bytes : List ℕ) → IsOne bytes → IsShortened (part kind.Csi bytes ∷ []) bytes
+shortened_one bytes one = shortened_run (part kind.Csi bytes ∷ []) bytes (one_of bytes bytes one (as_it_came bytes))
+
 -- one in the same list
 pub extends_joined : (st form : Form) (bytes text : List ℕ) → IsOne bytes → IsNoted form bytes text → may_join st form text ≡ true → Extends st (part kind.Csi bytes ∷ []) (joint st form text) (behind st form)
 extends_joined st form bytes text one n may run before h = joined run bytes before text st form h one n may
 
--- what is no control sequence
-pub extends_plain : (st : Form) (k : Kind) (bytes : List ℕ) (parts : List Part) → k ≢ kind.Csi → IsSpan k bytes parts → Extends st parts (closing st ++ bytes) forms.Whole
-extends_plain st k bytes parts ne span run before h =
+-- what stands as it came
+pub extends_own : (st : Form) (bytes : List ℕ) (parts : List Part) → IsShortened parts bytes → Extends st parts (closing st ++ bytes) forms.Whole
+extends_own st bytes parts short run before h =
     subst (λ (l : List ℕ). IsHeld (run ++ parts) l forms.Whole) (append_assoc before (closing st) bytes)
-    (held_whole (run ++ parts) ((before ++ closing st) ++ bytes) (shortened_on run parts (before ++ closing st) bytes (closed run before st h) (shortened_span k bytes parts ne span)))
+    (held_whole (run ++ parts) ((before ++ closing st) ++ bytes) (shortened_on run parts (before ++ closing st) bytes (closed run before st h) short))
 
 -- nothing
 extends_none : (st : Form) → Extends st [] [] st
@@ -353,10 +334,10 @@ front_on limit m n a bytes mid rest f g h old now new x y =
 
 -- text, or an escape sequence
 pub front_plain : (limit n : ℕ) (bytes : List ℕ) (f g : Form) (old new : List ℕ) → IsPlainFront bytes n
-    → ((parts : List Part) (k : Kind) → IsSpan k (take n bytes) parts → k ≢ kind.Csi → GoesOnBy f parts old new g) → WritesFront limit mode.Text bytes f old new g (drop n bytes) mode.Text
+    → ((parts : List Part) → IsShortened parts (take n bytes) → GoesOnBy f parts old new g) → WritesFront limit mode.Text bytes f old new g (drop n bytes) mode.Text
 front_plain limit n bytes f g old new (k, other, cuts) goes =
     let found = cuts limit in
-    record { parts = found.parts; first = found.first; goes = goes found.parts k found.span other }
+    record { parts = found.parts; first = found.first; goes = goes found.parts (shortened_span k (take n bytes) found.parts other found.span) }
 
 -- a sequence that is known
 pub front_known : (limit : ℕ) (m : Mode) (len : ℕ) (bytes : List ℕ) (f g : Form) (old new : List ℕ) → IsOne (take len bytes) → len ≤ limit → len ≤ length bytes

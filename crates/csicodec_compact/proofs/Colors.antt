@@ -19,8 +19,7 @@ use Rattle.csicodec_compact.proofs.JoinedLists.{number-last, open_listed}
 
 color_plain : (plane : Plane) (color : ColorSpec) → IsStyleList (listed plane color)
 color_plain plane Default = record { some = omega arith; plain = refl }
-color_plain plane (PaletteIndex i) = record { some = omega arith; plain = refl }
-color_plain plane (TrueColor c) = record { some = omega arith; plain = refl }
+color_plain plane _ = record { some = omega arith; plain = refl }
 
 color_unclosed : (plane : Plane) (color : ColorSpec) → IsOpaque color → ¬ EndsInSemicolon (listed plane color)
 color_unclosed plane Default o = absurd o

@@ -339,20 +339,11 @@ joint_few : (st form : Form) (b : List ℕ) → may_join st form (59 ∷ b) ≡ 
 joint_few forms.Whole form b may = absurd (true≢false (sym may))
 joint_few forms.Last form b may = absurd (true≢false (sym may))
 joint_few forms.Open forms.Whole b may = absurd (true≢false (sym may))
-joint_few forms.Open forms.Last b may = omega arith
-joint_few forms.Open forms.Open b may = omega arith
-joint_few forms.Open forms.Blank b may = omega arith
-joint_few forms.Open forms.Bare b may = omega arith
+joint_few forms.Open _ b may = omega arith
 joint_few forms.Blank forms.Whole b may = absurd (true≢false (sym may))
-joint_few forms.Blank forms.Last b may = omega arith
-joint_few forms.Blank forms.Open b may = omega arith
-joint_few forms.Blank forms.Blank b may = omega arith
-joint_few forms.Blank forms.Bare b may = omega arith
+joint_few forms.Blank _ b may = omega arith
 joint_few forms.Bare forms.Whole b may = absurd (true≢false (sym may))
-joint_few forms.Bare forms.Last b may = omega arith
-joint_few forms.Bare forms.Open b may = omega arith
-joint_few forms.Bare forms.Blank b may = omega arith
-joint_few forms.Bare forms.Bare b may = omega arith
+joint_few forms.Bare _ b may = omega arith
 
 -- and is no longer than both
 pub joint_short : (st form : Form) (bytes b : List ℕ) → may_join st form (59 ∷ b) ≡ true
@@ -385,15 +376,7 @@ plain_by (P b ∷ ts) e =
 pub styles_by : (actions : List CSI) → list_any is_other actions ≡ false → (styles : List sgr_type.Sgr) × (map action_of actions ≡ map Sgr styles)
 styles_by [] e = ([], refl)
 styles_by (csi.Sgr s ∷ more) e = let h = styles_by more e in (s ∷ h.0, ap (λ (l : List Action). Sgr s ∷ l) h.1)
-styles_by (csi.Cursor c ∷ more) e = absurd (true≢false e)
-styles_by (csi.Edit c ∷ more) e = absurd (true≢false e)
-styles_by (csi.Mode c ∷ more) e = absurd (true≢false e)
-styles_by (csi.Mouse c ∷ more) e = absurd (true≢false e)
-styles_by (csi.Device c ∷ more) e = absurd (true≢false e)
-styles_by (csi.Window c ∷ more) e = absurd (true≢false e)
-styles_by (csi.Keyboard c ∷ more) e = absurd (true≢false e)
-styles_by (csi.SelectCharacterPath p c ∷ more) e = absurd (true≢false e)
-styles_by (csi.Unspecified c ∷ more) e = absurd (true≢false e)
+styles_by (_ ∷ more) e = absurd (true≢false e)
 
 pub open_listed : (text : List ℕ) (list : List CsiParam) (styles : List sgr_type.Sgr) → Seq text list 109 → IsStyleList list → ¬ EndsInSemicolon list → Actions list false 109 (map Sgr styles) → IsListed forms.Open text
 open_listed text list styles s plain unclosed means = record {

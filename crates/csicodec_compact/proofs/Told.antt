@@ -9,7 +9,7 @@ use Rattle.std.proofs.lemmas.List.Folds.{list_any-append}
 use Rattle.csicodec_tokens.specs.declared.param.CsiParam.{CsiParam}
 use Rattle.csicodec_tokens.specs.Sequence.{IsFinal, Seq, Spellable}
 use Rattle.csicodec_tokens.proofs.Unique.{one_seq}
-use Rattle.csicodec_actions.specs.Actions.{Action, Sgr, Cursor, Edit, Mode, Mouse, Device, Window, Keyboard, SelectCharacterPath, Unspecified}
+use Rattle.csicodec_actions.specs.Actions.{Action, Cursor, Device}
 use Rattle.csicodec_actions.specs.Devices.{RequestTerminalParameters, attribute_token}
 use Rattle.csicodec_actions.specs.Kinds.{number}
 use Rattle.csicodec_actions.specs.Special.{IsSpecial, NoneSpecial}
@@ -70,16 +70,9 @@ special-untold a (inr (inl e)) told = parameters-untold (pos 0) (rw e at told.1)
 special-untold a (inr (inr e)) told = parameters-untold (pos 1) (rw e at told.1)
 
 canonical-plain : (a : Action) (flag : Bool) → Canonical a flag → IsSpecial a → ⊥
-canonical-plain (Sgr s) flag ok special = special
 canonical-plain (Cursor c) flag ok special = ok.1 special
-canonical-plain (Edit e) flag ok special = special
-canonical-plain (Mode m) flag ok special = special
-canonical-plain (Mouse m) flag ok special = special
 canonical-plain (Device d) flag ok special = ok.1 special
-canonical-plain (Window w) flag ok special = special
-canonical-plain (Keyboard k) flag ok special = special
-canonical-plain (SelectCharacterPath path effect) flag ok special = special
-canonical-plain (Unspecified params own final) flag ok special = special
+canonical-plain _ flag ok special = special
 
 told-plain : (a : Action) → Kept false a → Tells (text a) → IsSpecial a → ⊥
 told-plain a kept told special = elim kept.canonical [

@@ -4,7 +4,8 @@ ghost use Rattle.csicodec_tokens.specs.Sequence.{Seq};
 ghost use Rattle.csicodec_spans.specs.declared.table.Kind.{Kind};
 ghost use Rattle.csicodec_spans.specs.declared.table.Kind.TheVariants.{Csi as Sequence};
 ghost use Rattle.csicodec_spans.specs.Parts.{IsSpan, Part, part};
-ghost use Rattle.csicodec_streams.specs.Known.{AreKnown, IsOne};
+ghost use Rattle.csicodec_streams.specs.Known.{AreKnown};
+ghost use Rattle.csicodec_compact.specs.Runs.{IsShortened};
 ghost use Rattle.csicodec_compact.specs.Private.Steps.{Begins, GoesOnBy, IsNote, behind, closing, is_semicolon, joint, may_join, opened};
 
 use crate::encode::NUMBERS;
@@ -192,45 +193,16 @@ impl Written {
         Ok(())
     }
 
-    /// Writes the control sequence in front as it came: the list before it is over.
+    /// Writes so many bytes in front as they came: the list before them is over.
     #[inline(always)]
-    pub(crate) fn pass_own(
-        &mut self,
-        bytes: &[u8],
-        len: usize,
-        out: &mut TextBuffer,
-    ) -> Result<(), AllocError>
-        requires within { len ≤ length bytes.now }
-        requires one { IsOne (take len bytes.now) }
-        ensures { OnOk result
-            (GoesOnBy self.old.form (part Sequence (take len bytes.now) ∷ []) out.old out.new self.new.form) }
-    {
-        self.close(out)?;
-        append_front(bytes, len, out)
-    }
-
-    /// Writes a span that is no control sequence: the list before it is over.
-    fn pass(&mut self, span: &[u8], out: &mut TextBuffer) -> Result<(), AllocError>
-        ensures { OnOk result
-            ((parts : List Part) (kind : Kind) → IsSpan kind span.now parts → kind ≢ Sequence
-            → GoesOnBy self.old.form parts out.old out.new self.new.form) }
-    {
-        self.close(out)?;
-        out.push_slice(span)
-    }
-
-    /// Writes so many bytes in front, which are no control sequence: the list before them is over.
-    #[inline(always)]
-    pub(crate) fn pass_front(
+    pub(crate) fn pass(
         &mut self,
         bytes: &[u8],
         len: usize,
         out: &mut TextBuffer,
     ) -> Result<(), AllocError>
         requires { len ≤ length bytes.now }
-        ensures { OnOk result
-            ((parts : List Part) (kind : Kind) → IsSpan kind (take len bytes.now) parts
-            → kind ≢ Sequence
+        ensures { OnOk result ((parts : List Part) → IsShortened parts (take len bytes.now)
             → GoesOnBy self.old.form parts out.old out.new self.new.form) }
     {
         self.close(out)?;
@@ -284,6 +256,6 @@ pub(crate) fn take_span(
 {
     match control {
         Some(control) => { take_sequence(notes, known, written, bytes, span, params, control, out) }
-        None => written.pass(span, out),
+        None => written.pass(span, span.len(), out),
     }
 }

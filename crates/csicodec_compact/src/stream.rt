@@ -17,40 +17,10 @@ use csicodec_streams::{WIDE, keep_from, position_len, read_color};
 use std::alloc::{AllocError, Global};
 use std::marker::Model;
 
-/// Whether the bytes begin as a control sequence does.
-#[inline(always)]
-fn is_csi(bytes: &[u8]) -> bool {
-    matches!(bytes, [0x1b, b'[', ..])
-}
-
-/// Writes a position in front that has no shorter spelling: each number is written, for none is 1. How many bytes that is, 0 where none
-/// stands there.
+/// Writes a position in front, or a colour, which it keeps: neither has a shorter spelling, for no number of a position is 1. How many
+/// bytes that is, 0 where none of them is read.
 #[inline(never)]
-fn pass_position(
-    written: &mut Written,
-    limit: usize,
-    bytes: &[u8],
-    out: &mut TextBuffer,
-) -> Result<usize, AllocError>
-    ensures within { IfOk result (λ len. len ≤ length bytes.now) }
-    ensures passed { IfOk result
-        (λ len. 0 < len
-        → WritesFront limit Plain bytes.now written.old.form out.old out.new written.new.form
-        (drop len bytes.now) Plain) }
-    ensures none { IfOk result
-        (λ len. len ≡ 0 → (out.new ≡ out.old) × (written.new.form ≡ written.old.form)) }
-{
-    let len = position_len(b'2', bytes);
-    if len == 0 || len > limit {
-        return Ok(0);
-    }
-    written.pass_own(bytes, len, out)?;
-    Ok(len)
-}
-
-/// Writes a colour in front, which has no shorter spelling, and keeps it. How many bytes that is, 0 where none is read.
-#[inline(never)]
-fn pass_color(
+fn pass_plain(
     known: &mut Known<Short>,
     written: &mut Written,
     limit: usize,
@@ -67,6 +37,11 @@ fn pass_color(
         (λ len. len ≡ 0 → (out.new ≡ out.old) × (written.new.form ≡ written.old.form)) }
     ensures known { AreKnown IsNote known.new.memo.slots.items }
 {
+    let moved = position_len(b'2', bytes);
+    if moved > 0 && moved <= limit {
+        written.pass(bytes, moved, out)?;
+        return Ok(moved);
+    }
     let Some((_, rest)) = read_color(bytes) else {
         return Ok(0);
     };
@@ -101,21 +76,17 @@ fn pass_one(
         (λ len. len ≡ 0 → (out.new ≡ out.old) × (written.new.form ≡ written.old.form)) }
     ensures known { AreKnown IsNote known.new.memo.slots.items }
 {
-    if is_csi(bytes) {
+    if matches!(bytes, [0x1b, b'[', ..]) {
         let len = known.look(limit, bytes);
         if len == 0 {
-            let moved = pass_position(written, limit, bytes, out)?;
-            if moved > 0 {
-                return Ok(moved);
-            }
-            return pass_color(known, written, limit, bytes, out);
+            return pass_plain(known, written, limit, bytes, out);
         }
         written.take(known.noted(), known.wide(), out)?;
         return Ok(len);
     }
     let len = plain_len(bytes);
     if len > 0 {
-        written.pass_front(bytes, len, out)?;
+        written.pass(bytes, len, out)?;
     }
     Ok(len)
 }
@@ -187,34 +158,6 @@ fn append_short(
     }
 }
 
-/// The same, appended to a vector.
-fn append_into(
-    notes: &mut Notes,
-    known: &mut Known<Short>,
-    written: &mut Written,
-    params: &mut Vec<CsiParam>,
-    limit: usize,
-    mode: Mode,
-    bytes: &[u8],
-    out: &mut Vec<u8>,
-) -> Result<(usize, Mode), AllocError>
-    requires limit { 0 < limit }
-    requires known { AreKnown IsNote known.old.memo.slots.items }
-    ensures within { IfOk result (λ (used, after). used ≤ length bytes.now) }
-    ensures unsure { IfOk result (λ (used, after). IsUnsure limit after (drop used bytes.now)) }
-    ensures goes { IfOk result (λ (used, after).
-        WritesFront limit mode bytes.now written.old.form out.old.items out.new.items written.new.form (drop used bytes.now) after) }
-    ensures known { OnOk result (AreKnown IsNote known.new.memo.slots.items) }
-{
-    let alloc = *out.allocator();
-    let mut texts = TextBuffer::of(std::mem::replace(out, Vec::new(alloc)));
-    let appended = append_short(
-        notes, known, written, params, limit, mode, bytes, &mut texts,
-    );
-    *out = texts.into_vec();
-    appended
-}
-
 /// A stream that is made shorter as it comes: each control sequence of at most `limit` bytes in the shortest of its spellings that is
 /// found, as [`Compact`] writes it, sequences of attributes (SGR) that stand side by side in one of at most 16 numbers, and every other
 /// byte as it came.
@@ -282,7 +225,9 @@ impl Compactor {
         ensures known { OnOk result (AreKnown IsNote known.new.memo.slots.items) }
     {
         self.pending.extend_from_slice(bytes)?;
-        let (used, mode) = append_into(
+        let alloc = *out.allocator();
+        let mut texts = TextBuffer::of(std::mem::replace(out, Vec::new(alloc)));
+        let appended = append_short(
             &mut self.notes,
             known,
             written,
@@ -290,8 +235,10 @@ impl Compactor {
             self.limit,
             self.mode,
             &self.pending,
-            out,
-        )?;
+            &mut texts,
+        );
+        *out = texts.into_vec();
+        let (used, mode) = appended?;
         self.mode = mode;
         keep_from(&mut self.pending, used);
         Ok(())

@@ -1,18 +1,18 @@
-use Rattle.std.proofs.Common.{◌++◌, ap, ◌∙◌, append_assoc}
+use Rattle.std.proofs.Common.{◌++◌, ap, take, ◌∙◌, append_assoc}
 use Rattle.std.proofs.lemmas.Result.{on_ok_weaker}
 use Rattle.csicodec_compact.specs.Private.Steps.{closing}
-use Rattle.csicodec_compact.proofs.Beside.{extends_plain}
+use Rattle.csicodec_compact.proofs.Beside.{extends_own}
 use Rattle.csicodec_compact.proofs.runs.Written.pass.Goals as goal
 
 pub returns : goal.returns
 returns c =
     let st = c.args.self.now.form in
     let old = c.args.out.now in
-    let bytes = c.args.span.now in
-    on_ok_weaker c.push_slice.result
-    (λ e parts k span other. (
+    let bytes = (take c.args.len c.args.bytes.now) in
+    on_ok_weaker c.append_front.result
+    (λ e parts short. (
       closing st ++ bytes,
       e ∙ ap (λ t. t ++ bytes) c.in_ok-close.ensures.text ∙ append_assoc old (closing st) bytes,
-      rw c.close.ensures.form (extends_plain st k bytes parts other span),
+      rw c.close.ensures.form (extends_own st bytes parts short),
     ))
-    c.push_slice.ensures.ok
+    c.append_front.ensures.ok

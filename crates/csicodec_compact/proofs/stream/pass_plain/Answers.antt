@@ -1,9 +1,9 @@
 use Rattle.std.proofs.Common.{◌-◌, drop, length, refl, sym, take, arith}
 use Rattle.std.proofs.lemmas.List.{take-append-drop}
 use Rattle.csicodec_spans.specs.declared.table.Mode.TheVariants as mode
-use Rattle.csicodec_compact.proofs.Beside.{front_known, note_long}
+use Rattle.csicodec_compact.proofs.Beside.{front_known, note_long, shortened_one}
 use Rattle.csicodec_compact.proofs.Colors.{color_note}
-use Rattle.csicodec_compact.proofs.stream.pass_color.Goals as goal
+use Rattle.csicodec_compact.proofs.stream.pass_plain.Goals as goal
 
 pub take-requires-clause-long : goal.take-requires-clause-long
 take-requires-clause-long c =
@@ -28,3 +28,11 @@ returns-clause-passed c = λ some.
     refl c.open_note-wide.ensures in
     front_known c.args.limit mode.Text len bytes c.args.written.now.form c.take.new.self.form c.args.out.now c.take.new.out note.4
     (omega (arith, c.if-len-limit.false)) (omega arith) (c.in_ok-take.ensures (take len bytes) note)
+
+pub returns-then-moved-limit-clause-passed : goal.returns-then-moved-limit-clause-passed
+returns-then-moved-limit-clause-passed c = λ some.
+    let own = c.position_len-moved.ensures in
+    let (list, final, moved, seq, acts, is) = own.own some in
+    let front = take c.position_len-moved.result c.args.bytes.now in
+    front_known c.args.limit mode.Text c.position_len-moved.result c.args.bytes.now c.args.written.now.form c.pass.new.self.form c.args.out.now c.pass.new.out (list, final, seq) (omega arith) own.within
+    (c.in_ok-pass.ensures _ (shortened_one front (list, final, seq)))

@@ -26,7 +26,6 @@ use Rattle.csicodec_filter.proofs.Sent.{whole_front}
 
 pub weaker_part : (V W : List ℕ → List ℕ → Type 0) (k : Kind) (b t : List ℕ) → ((b t : List ℕ) → V b t → W b t) → IsWritten V k b t → IsWritten W k b t
 weaker_part V W kind.Csi b t f h = f b t h
-weaker_part V W kind.Text b t f h = h
 weaker_part V W _ b t f h = h
 
 weaker : (V W : List ℕ → List ℕ → Type 0) (ps : List Part) (t : List ℕ) → ((b t : List ℕ) → V b t → W b t) → AreWritten V ps t → AreWritten W ps t
@@ -67,9 +66,7 @@ module _ (Writes : List ℕ → List ℕ → Type 0) where
   pub written_span : (k : Kind) (bytes t : List ℕ) (qs : List Part) → IsSpan k bytes qs → IsWritten Writes k bytes t → AreWritten Writes qs t
   written_span kind.Csi bytes t qs s n = one kind.Csi bytes t qs s n
   written_span kind.Esc bytes t qs s n = one kind.Esc bytes t qs s n
-  written_span kind.Text bytes t qs s n = all_plain kind.Text bytes t qs (λ b. refl) s n
-  written_span kind.Str bytes t qs s n = all_plain kind.Str bytes t qs (λ b. refl) s n
-  written_span kind.Other bytes t qs s n = all_plain kind.Other bytes t qs (λ b. refl) s n
+  written_span k bytes t qs s n = all_plain k bytes t qs (λ b. refl) s n
 
   -- what is left at the end passes as it is
   written_left : (rest : List ℕ) → AreWritten Writes (left_over rest) rest
@@ -80,7 +77,6 @@ module _ (Writes : List ℕ → List ℕ → Type 0) where
   pub by_control : (control : Option ℕ) (k : Kind) (bytes text : List ℕ) (list : List CsiParam) → MatchOption control (k ≢ kind.Csi) (λ final. (k ≡ kind.Csi) × Seq bytes list final)
       → MatchOption control (text ≡ bytes) (λ final. Writes bytes text) → IsWritten Writes k bytes text
   by_control None kind.Csi bytes text list h w = absurd (h refl)
-  by_control None kind.Text bytes text list h w = w
   by_control (Some final) k bytes text list h w = rw h.0 w
   by_control None _ bytes text list h w = w
 

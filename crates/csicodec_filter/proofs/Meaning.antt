@@ -391,10 +391,7 @@ written_meant : (limit : ℕ) (Writes : List ℕ → List ℕ → Type 0) (k : K
 written_meant limit Writes kind.Csi bytes text keeps w =
     let h = keeps bytes text w.0 in
     inl (record { all = (refl, tt); actions = h.0; came = rw (append-nil bytes) h.1; written = h.2 }, w.1)
-written_meant limit Writes kind.Text bytes text keeps w = inr (part kind.Text bytes, refl, (λ e. absurd cc), w)
-written_meant limit Writes kind.Esc bytes text keeps w = inr (part kind.Esc bytes, refl, (λ e. absurd cc), w)
-written_meant limit Writes kind.Str bytes text keeps w = inr (part kind.Str bytes, refl, (λ e. absurd cc), w)
-written_meant limit Writes kind.Other bytes text keeps w = inr (part kind.Other bytes, refl, (λ e. absurd cc), w)
+written_meant limit Writes k bytes text keeps w = inr (part k bytes, refl, (λ e. absurd cc), w)
 
 are_meant : (limit : ℕ) (Writes : List ℕ → List ℕ → Type 0) (parts : List Part) (text : List ℕ) → KeepsMeaning Writes → AreWritten (Within limit Writes) parts text → AreMeant limit (singles parts) parts text
 are_meant limit Writes [] text keeps w = (refl, w)

@@ -58,12 +58,6 @@ fn keep_span(
     }
 }
 
-/// Whether the bytes begin as a control sequence does.
-#[inline(always)]
-fn is_csi(bytes: &[u8]) -> bool {
-    matches!(bytes, [0x1b, b'[', ..])
-}
-
 /// Appends what passes at a glance where nothing is open, text, an escape sequence, or the normal form of a control sequence that is
 /// known, if that is wanted; how many bytes that is, 0 where nothing does.
 #[inline(always)]
@@ -84,7 +78,7 @@ fn pass_one(
     ensures none { IfOk result (λ len. len ≡ 0 → out.new ≡ out.old) }
     ensures known { AreKnown IsNormal known.new.memo.slots.items }
 {
-    if is_csi(bytes) {
+    if matches!(bytes, [0x1b, b'[', ..]) {
         if !wanted {
             return Ok(0);
         }

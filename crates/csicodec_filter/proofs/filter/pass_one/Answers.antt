@@ -9,8 +9,8 @@ returns-then-limit-ge-WIDE-clause-passed c = λ some.
     let same = c.recall-len.ensures.none (omega (arith, c.if-len-eq0.true)) in
     (text, known_passes c.args.wanted c.args.limit c.take_simple.result c.args.bytes.now text c.if-not-wanted.false normal (omega (arith, own.short, c.if-limit-ge-WIDE.true)) own.within, out ∙ ap (λ (l : List ℕ). l ++ text) same)
 
-pub returns-then-is_csi-clause-passed : goal.returns-then-is_csi-clause-passed
-returns-then-is_csi-clause-passed c = λ some.
+pub returns-then-matches-clause-passed : goal.returns-then-matches-clause-passed
+returns-then-matches-clause-passed c = λ some.
     let found = c.recall-len.ensures in
     let (text, normal, out) = found.noted some in
     (text, known_passes c.args.wanted c.args.limit c.recall-len.result c.args.bytes.now text c.if-not-wanted.false normal found.short found.within, out)

@@ -7,7 +7,8 @@ from dataclasses import dataclass
 import core
 from declared import Type, Variant, declaration
 from faults import check_columns, check_once, refuse
-from read import rows_of
+from layout import array, pair, string
+from read import first_line, rows_of
 from values import types as value_types
 
 TABLE = "actions.toml"
@@ -117,24 +118,20 @@ def types():
     return out | {subject.type: subject.declaration() for subject in subjects()}
 
 
-ROW = ("number", "form", "fields", "text", "read", "final", "name", "words", "left_out", "in_line", "source", "says", "means", "doc")
-LIST = ("name", "words", "left_out", "source", "says")
-# What the words of a list are: a count or a place at the end, a line and a column, or what csicodec_words says of it.
-WORDS = {"count": r"[^{}]* \{n(#[a-z ]+)?\}", "place": r"cursor to column \{n\}", "places": r"[^{}]* line \{line\}, column \{col\}|by hand"}
+ROW = ("number", "form", "fields", "text", "read", "final", "name", "shown", "words", "sent", "left_out", "in_line", "source", "says", "means", "doc")
+LIST = ("left_out", "source", "says")
 
 
 def check(rows):
     for name, subject in rows.items():
-        check_columns(TABLE, {name: subject}, ("file", "doc", "derives", "example", "actions"), ("beside",))
+        check_columns(TABLE, {name: subject}, ("file", "doc", "derives", "example", "actions"), ("beside", "lists"))
         check_once(TABLE, subject["actions"], "final")
         for variant, row in subject["actions"].items():
             key = f"{name}::{variant}"
             is_list = "final" in row
-            check_columns(TABLE, {key: row}, ("form", *(LIST if is_list else ["text"] if "number" in row else []), *(["source", "means"] if "doc" not in row else [])), ROW)
+            check_columns(TABLE, {key: row}, ("form", *(LIST if is_list else ["text"] if "number" in row else []), *(["name", "words"] if "number" in row and name != "Sgr" else []), *(["source", "means"] if "doc" not in row else [])), ROW)
             if is_list and row["form"] not in EXAMPLES:
                 refuse(TABLE, key, f"a list with a final has one of the forms {', '.join(EXAMPLES)}")
-            if is_list and not re.fullmatch(WORDS[row["form"]], row["words"]):
-                refuse(TABLE, key, f"words of a {row['form']} are of another form")
             for sequence, said in row.get("says", {}).items():
                 if is_list and not sequence.endswith(row["final"]) or not said.startswith(f"{row['name']}  "):
                     refuse(TABLE, key, f"its example {sequence} is another action's")
@@ -144,6 +141,15 @@ def check(rows):
                 refuse(TABLE, key, f"there is no form {row['form']}")
             if name in ("Cursor", "Edit") and not isinstance(row.get("in_line"), bool):
                 refuse(TABLE, key, "it has no in_line")
+
+
+SENT = "//! What terminals send by the same sequences as actions, in words.\n\n"
+
+
+def sent():
+    """src/sent_rows.rt of csicodec_readings."""
+    rows = {ord(action.row["final"]): action.row["sent"] for subject in subjects() for action in subject.actions if "sent" in action.row}
+    return first_line(TABLE) + SENT + array("What a terminal sends by a list without numbers, by its final byte.", "SENT", "(i64, &str)", [pair(hex(final), string(f" (or {words})")) for final, words in sorted(rows.items())])
 
 
 def files(rows):
@@ -156,4 +162,4 @@ def files(rows):
             found[f"crates/{kind.file}"].append(declaration(kind))
     for path, of in core.parts(subjects()).items():
         found.setdefault(path, []).extend(of)
-    return found
+    return found | {"crates/csicodec_readings/src/sent_rows.rt": sent()}

@@ -11,25 +11,20 @@ from read import TOP
 WIDTH = 100
 # The crate whose tests have lines for each.
 TESTS = "crates/tests_codec"
-# What each of the two subjects is called in the specs, by what name its words have the number, and the first lines behind the parts, which stand
-# there by hand.
+# What each of the two subjects is called in the specs, and the first lines behind the parts, which stand there by hand.
 CURSOR = {
     "name": "cursor",
-    "number": "n",
     "write": "            Cursor::TabulationControl(control) => write_choice(text, control.to_i64() as u8, b'W'),",
     "read": "        'W' => tabulation_control(params),",
     "row": "    ∷ before \"W\" (chosen Control control.SetCharacterTabStopAtActivePosition (λ c.",
     "written": "written_cursor (cursor.TabulationControl c) = choice Control c \"W\"",
-    "words": "            Cursor::TabulationControl(control) => f.write_str(tabulation(control)),",
 }
 EDIT = {
     "name": "edit",
-    "number": "count",
     "write": "            Edit::EraseInDisplay(part) => write_choice(text, part.to_i64() as u8, b'J'),",
     "read": "        'J' => Some(Edit::EraseInDisplay(EraseInDisplay::from_i64(choice(params)?)?)),",
     "row": "    ∷ before \"J\" (chosen InDisplay display.EraseToEndOfDisplay (λ c. Edit (edit.EraseInDisplay c)))",
     "written": "written_edit (edit.EraseInDisplay c) = choice InDisplay c \"J\"",
-    "words": "            Edit::EraseInDisplay(part) => f.write_str(in_display(part)),",
 }
 
 
@@ -143,25 +138,7 @@ def front_arms(actions):
         yield f"        {final} => Some({rust(action)}{said}),"
 
 
-# ---- csicodec_words and csicodec_compact
-
-
-def words_arms(actions, number):
-    """What explain says of each, by the functions of csicodec_words."""
-    for action in actions:
-        row = action.row
-        counted = re.fullmatch(r"(.*) \{n#(.*)\}", row["words"])
-        if row["words"] == "by hand":
-            pattern, said = f" {{ {fields(action)} }}", f"reported(f, {', '.join(action.row['fields'])})"
-        elif counted:
-            pattern, said = f"({number})", f'counted(f, "{row["name"]}  {counted[1]}", *{number}, "{counted[2]}")'
-        elif action.form == "places":
-            pattern, said = f" {{ {fields(action)} }}", f'at(f, "{row["name"]}  {row["words"].removesuffix(" line {line}, column {col}")}", line, col)'
-        elif action.form == "place":
-            pattern, said = "(col)", f'to_column(f, "{row["name"]}", col)'
-        else:
-            pattern, said = "(line)", f'write!(f, "{row["name"]}  {row["words"].replace("{n}", "{line}")}")'
-        yield from arm(f"{rust(action)}{pattern}", said)
+# ---- csicodec_compact
 
 
 def runs(finals):
@@ -243,8 +220,6 @@ def of_subject(subject, said):
     yield table, Part(list(written_lines(actions)), (f"abbrev pub written_{name_of} : {name_of}_type.{subject.name} → Written",), said["written"])
     head = f"pub fn {name_of}_action(params: &[CsiParam], control: char) -> Option<{subject.name}>"
     yield f"crates/csicodec_lists/src/{name_of}.rt", Part("\n".join(read_arms(actions)).split("\n"), (head, "    match control {"), said["read"])
-    head = "    fn describe<W: fmt::Write>(&self, f: &mut fmt::Formatter<W>) -> fmt::Result {"
-    yield f"crates/csicodec_words/src/{name_of}.rt", Part(list(words_arms(actions, said["number"])), (head, "        match self {"), said["words"])
     yield from tests(actions, name_of)
 
 

@@ -41,7 +41,9 @@ def pair(*parts):
 def array(said, name, kind, rows, public="pub(crate)"):
     """An array of these rows, with its comment."""
     lines = [line for row in rows for line in row]
-    return "\n".join([*comment(said), f"{public} static {name}: [{kind}; {len(rows)}] = [", *lines, "];"]) + "\n"
+    ahead = f"{public} static {name}: [{kind}; {len(rows)}] = ["
+    whole = [f"{ahead}{lines[0].strip(' ,')}];"] if len(lines) == 1 else [ahead, *lines, "];"]
+    return "\n".join([*comment(said), *whole]) + "\n"
 
 
 def arm(pattern, function, *arguments):

@@ -151,9 +151,11 @@ def files(rows):
     names = first_line(TABLE) + RUST + "".join(map(kind, types(), ("dec_mode_number", "terminal_mode_number")))
     said = first_line(TABLE) + "//! What modes are called, by their numbers.\n"
     said += words("Private modes, of DEC and of other terminals.", "PRIVATE", private, "words")
-    said += words("What is set of private modes whose states are more than on and off.", "SET", private, "set")
-    said += words("What is reset of them.", "RESET", private, "reset")
+    said += words("What is set of private modes, where that isn't `on`.", "SET", private, "set")
+    said += words("What is reset of them, where that isn't `off`.", "RESET", private, "reset")
     said += words("Modes of ECMA-48, and those that others have among them.", "TERMINAL", terminal, "words")
+    said += words("What is set of them, where that isn't `on`.", "TERMINAL_SET", terminal, "set")
+    said += words("What is reset of them, where that isn't `off`.", "TERMINAL_RESET", terminal, "reset")
     return {
         "crates/csicodec_names/src/modes.rt": names,
         "crates/csicodec_names/specs/ModeNumbers.antt": first_line(TABLE, "--") + specs(private, terminal),

@@ -37,7 +37,7 @@ def row_of(kind, row, lists):
         if not kind.isdigit() or COLUMNS - row.keys():
             raise ValueError(f"it lacks {', '.join(sorted(COLUMNS - row.keys())) or 'a number'}")
         own = {name: words for name, words in row.items() if name not in COLUMNS | {"words", "shown", "fields", "says"}}
-        unread = [name for name in own if f"@{name}}}" not in str(row.get("words"))]
+        unread = [name for name in own if not re.search(rf"[@&]{name}\}}", str(row.get("words")))]
         if unread:
             raise ValueError(f"what nothing reads: {', '.join(unread)}")
         form = form_of(row["form"])

@@ -93,11 +93,11 @@ pub(crate) struct Alone(pub u8, pub u8, pub u8);
 WORDS = """\
 //! What attributes of text are called.
 
-use crate::sgr::Words;
+use crate::values::{Said, alone, color_row, row};
 use csicodec_base::{TYPES};
 
 /// What an attribute is called.
-pub(crate) fn words_of_attribute(attribute: &Sgr) -> Words<'_> {
+pub(crate) fn words_of_attribute(attribute: &Sgr) -> Said<'_> {
     match attribute {
 ARMS
     }
@@ -250,11 +250,11 @@ def arms(table):
     for key, attribute in (*table.sets.items(), *table.further.items()):
         row = table.code.get(key) or table.rows["further"][key]
         if attribute.ahead and attribute.holds == "ColorSpec":
-            said[f"Sgr::{attribute.variant}(color)"] = "Words::Color", string(attribute.ahead), "color"
+            said[f"Sgr::{attribute.variant}(color)"] = "color_row", string(f"SGR  {attribute.ahead} {{0@color}}"), "color"
         elif attribute.ahead:
-            said[f"Sgr::{attribute.variant}(Font::{attribute.value}(number))"] = "Words::Number", string(attribute.ahead), "*number"
+            said[f"Sgr::{attribute.variant}(Font::{attribute.value}(number))"] = "row", string(f"SGR  {attribute.ahead} {{0}}"), "i64::from(*number)", "0"
         elif not row.get("also"):
-            said[attribute.rust()] = "Words::Alone", string(row["words"])
+            said[attribute.rust()] = "alone", string(f"SGR  {row['words']}")
     return [line for pattern, words in said.items() for line in arm(pattern, *words)]
 
 

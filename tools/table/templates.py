@@ -1,14 +1,15 @@
 """Words with holes, as a row of table/sequences.toml writes them, for the program: with places in the place of names, so that it looks up nothing."""
 import re
 
-# What code tells: csicodec_readings has a function for each.
-CODE = ("mode", "private_mode", "extensions", "win32_held", "mouse", "mouse_held", "button", "released", "button_held")
-HOLE = re.compile(r"(\w+)(?:=(\d+))?(\.\.)?(?:([#:@])(.*))?$")
+# What code tells: csicodec_words has a function for each.
+CODE = ("mode", "mode_on", "mode_off", "private_mode", "private_on", "private_off", "extensions", "mouse", "button", "released", "lines", "columns", "f3", "values")
+HOLE = re.compile(r"(\w+)(?:=(\d+))?(\.\.)?(?:([#:@~&])(.*))?$")
 
 
 def hole_of(text, form, lists):
     """A hole by its place: `{0}` the value, 0 where it is left out, `{0=100}` it, and 100 where it is left out, `{0:text}` the text where it is 0 or left out, `{0#line}` it with
-    what it counts, `{0?1=on|2=off}` the words of the value, `{0..?..}` those of it and of all behind it, `{0@mode}` what code tells of it."""
+    what it counts, `{0~text|ahead}` it with what stands ahead, and the text where it is left out, `{0?1=on|2=off}` the words of the value, `{0..?..}` those of it and of all
+    behind it, `{0&, with |1=a|2=b}` those of its bits, `{0@mode}` what code tells of it."""
     found = HOLE.match(text)
     places = [place for place, slot in enumerate(form.slots) if found and slot.name == found[1].replace("_", " ")]
     if not places:
@@ -22,8 +23,12 @@ def hole_of(text, form, lists):
         return f"{{{left_out}{zero}}}"
     if kind == "#":
         return f"{{{left_out}{f'{zero} {rest}' if slot.as_zero else ''}#{rest}}}"
+    if kind == "~":
+        return f"{{{left_out}~{rest}}}"
     if any(byte in rest for byte in "#?@|"):
         raise ValueError(f"a byte that holes have: {{{text}}}")
+    if kind == "&":
+        return f"{{{left_out}&" + "|".join(words if bits == "ahead" else f"{bits}={words}" for bits, words in lists[rest].items()) + "}"
     if rest in lists:
         return f"{{{left_out}{further or ''}?" + "|".join(f"{'' if number == 'else' else number}={words}" for number, words in lists[rest].items()) + "}"
     if rest not in CODE:

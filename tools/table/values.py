@@ -22,10 +22,10 @@ def types():
 
 def check(rows):
     for name, row in rows.items():
-        check_columns(TABLE, {name: row}, ("file", "doc", "derives", "of" if "of" in row else "variants"), ("numbers", "specs", "reads", "prefix", "plain", "example"))
+        check_columns(TABLE, {name: row}, ("file", "doc", "derives", "of" if "of" in row else "variants"), ("numbers", "specs", "reads", "prefix", "plain", "example", "others"))
         for variant, of in row.get("variants", {}).items():
             for column in of:
-                if column not in ("number", "holds", "fields", "doc"):
+                if column not in ("number", "holds", "fields", "words", "doc"):
                     refuse(TABLE, f"{name}::{variant}", f"nothing is written from a column {column}")
             if "numbers" in row and "number" not in of:
                 refuse(TABLE, f"{name}::{variant}", "it has no number")

@@ -13,11 +13,10 @@ mod list;
 mod mouse;
 mod other_sets;
 mod otherwise;
+mod sent_rows;
 mod sequence_rows;
 mod sgr_rows;
 mod table;
-mod template;
-mod told;
 
 use crate::escapes::escape_of;
 use crate::intermediates::escape_of_bytes;
@@ -27,10 +26,9 @@ use crate::other_sets::Escape;
 use crate::otherwise::{Otherwise, read_otherwise};
 use crate::sgr_rows::UNREAD;
 use crate::table::words;
-use crate::template::fill;
 use csicodec_base::{CsiParam, Esc};
 use csicodec_parser::{CSI, Unspecified};
-use csicodec_words::{Describe, words_of};
+use csicodec_words::{Describe, Values, fill, words_of};
 pub use input::Did;
 use std::fmt;
 
@@ -57,7 +55,7 @@ impl<'a> Describe for Reading<'a> {
             };
         }
         match read_otherwise(self.params, self.control) {
-            Some(Otherwise::Instead(words)) => fill(f, self.params, words),
+            Some(Otherwise::Instead(words)) => fill(f, words, Values::List(self.params)),
             Some(Otherwise::Or(also)) => {
                 self.action.describe(f)?;
                 f.write_str(also)
@@ -124,7 +122,7 @@ fn unread<W: fmt::Write>(
         _ => key_by_number(control, params).or_else(|| words(params, control)),
     };
     match words {
-        Some(words) => fill(f, params, words),
+        Some(words) => fill(f, words, Values::List(params)),
         None => unknown.describe(f),
     }
 }

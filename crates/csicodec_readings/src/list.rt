@@ -51,21 +51,3 @@ pub fn count_fields(params: &[CsiParam]) -> i64 {
     }
     count
 }
-
-/// The number at a place, counted from 0 by the semicolons ahead of it; behind a colon stand others, of the same place.
-pub fn number(params: &[CsiParam], place: u32) -> Option<i64> {
-    let mut at = 0u32;
-    let mut is_behind = false;
-    for token in params {
-        match token {
-            CsiParam::P(b';') => {
-                at = at.saturating_add(1);
-                is_behind = false;
-            }
-            CsiParam::P(b':') => is_behind = true,
-            CsiParam::Integer(number) if at == place && !is_behind => return Some(*number),
-            _ => {}
-        }
-    }
-    None
-}

@@ -1,6 +1,6 @@
 //! Reports of the mouse in three characters (xterm's ctlseqs, Mouse Tracking; UTF-8 in mode 1005).
 
-use crate::told::{held, mouse_event};
+use csicodec_words::{Values, fill};
 use std::fmt;
 
 /// What the mouse did, and where: three numbers, each 32 and more than what it stands for.
@@ -45,27 +45,14 @@ impl Report {
     }
 }
 
-/// A line or a column by its number in a report, which is too small where the place is too far for the form.
-#[derive(Clone, Copy)]
-struct Coordinate(i64);
-
-impl fmt::Display for Coordinate {
-    fn fmt<W: fmt::Write>(&self, f: &mut fmt::Formatter<W>) -> fmt::Result {
-        if self.0 <= 32 {
-            return f.write_str("out of range");
-        }
-        let place = self.0.saturating_sub(32);
-        write!(f, "{place}")
-    }
-}
-
 impl fmt::Display for Report {
     fn fmt<W: fmt::Write>(&self, f: &mut fmt::Formatter<W>) -> fmt::Result {
-        let code = self.button.saturating_sub(32);
-        let (line, column) = (Coordinate(self.line), Coordinate(self.column));
-        f.write_str("mouse  ")?;
-        mouse_event(f, code, false)?;
-        write!(f, " line {line}, column {column}")?;
-        held(f, code)
+        let words =
+            "mouse  {0@mouse} line {1@place}, column {2@place}{0&, with |4=shift|8=alt|16=control}";
+        fill(
+            f,
+            words,
+            Values::Six([self.button, self.line, self.column, 0, 0, 0]),
+        )
     }
 }

@@ -1,8 +1,10 @@
 //! Sequences that terminals read otherwise than the codec's table, which is termwiz's.
 
-use crate::list::{intermediate, marker, number};
+use crate::list::{intermediate, marker};
+use crate::sent_rows::SENT;
 use crate::table::words_instead;
 use csicodec_base::CsiParam;
+use csicodec_words::{Values, words_of};
 
 /// How a terminal reads a sequence otherwise.
 #[derive(Clone, Copy)]
@@ -19,31 +21,13 @@ pub fn read_otherwise(params: &[CsiParam], control: char) -> Option<Otherwise> {
         return Some(Otherwise::Instead(words));
     }
     Some(Otherwise::Or(match (marker(params), intermediate(params), control) {
-        (0, 0, 't') if params.len() > 2 && number(params, 0) == Some(5) => {
+        (0, 0, 't') if params.len() > 2 && Values::List(params).number(0) == Some(5) => {
             " (or answer: the display's size in pixels)"
         }
         (0, 0, 'm') if is_behind_semicolon(params) => " (and then all attributes off)",
-        (0, 0, _) if params.is_empty() => input(control)?,
+        (0, 0, _) if params.is_empty() => words_of(&SENT, i64::from(u32::from(control)))?,
         _ => return None,
     }))
-}
-
-/// What a terminal sends by the same sequence without numbers (xterm's ctlseqs, PC-Style Function Keys, FocusIn/FocusOut and Mouse
-/// Tracking).
-fn input(control: char) -> Option<&'static str> {
-    Some(match control {
-        'A' => " (or the key Up)",
-        'B' => " (or the key Down)",
-        'C' => " (or the key Right)",
-        'D' => " (or the key Left)",
-        'E' => " (or the key Begin)",
-        'F' => " (or the key End)",
-        'H' => " (or the key Home)",
-        'I' => " (or focus gained)",
-        'R' => " (or the key F3)",
-        'M' => " (or a mouse report, by the next 3 characters)",
-        _ => return None,
-    })
 }
 
 /// Whether a list is a style and a `;`, behind which a terminal reads 0 (ECMA-48, 5.4.2).

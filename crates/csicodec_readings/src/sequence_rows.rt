@@ -330,8 +330,8 @@ pub(crate) static PART_4: [WordsRow; 44] = [
     row! { 10224, 0, 0, 'x', ANY, ANY, ANY, "DECREPTPARM  answer: serial line, {1?4=odd parity|5=even parity|=no parity}, {2?2=7|=8} bits, {3?0=50|8=75|16=110|24=134.5|32=150|40=200|48=300|56=600|64=1200|72=1800|80=2000|88=2400|96=3600|104=4800|112=9600|120=19200|128=38400|=other} and {4?0=50|8=75|16=110|24=134.5|32=150|40=200|48=300|56=600|64=1200|72=1800|80=2000|88=2400|96=3600|104=4800|112=9600|120=19200|128=38400|=other} baud" },
     row! { 10227, b'>', 0, 'f', ANY, ANY, ANY, "XTFMTKEYS  set the format of keys, resource {0}, to {1:its initial value}" },
     row! { 10228, 0, 0, 'O', ANY, ANY, ANY, "EA  erase in area (or focus lost)" },
-    row! { 10231, 0, 0, 'M', ANY, ANY, (1, 0), "mouse  {0@mouse} line {2}, column {1}{0@mouse_held} (urxvt form)" },
-    row! { 10232, 0, 0, '_', ANY, ANY, (1, 6), "key  virtual key {0}, scan code {1}, character {2}, {3?1=pressed|=released}{4@win32_held} (Win32 input mode)" },
+    row! { 10231, 0, 0, 'M', ANY, ANY, (1, 0), "mouse  {0@mouse} line {2}, column {1}{0&, with |4=shift|8=alt|16=control} (urxvt form)" },
+    row! { 10232, 0, 0, '_', ANY, ANY, (1, 6), "key  virtual key {0}, scan code {1}, character {2}, {3?1=pressed|=released}{4&, with |16=shift|3=alt|12=control} (Win32 input mode)" },
 ];
 
 fn part_4() -> &'static [WordsRow] {
@@ -343,6 +343,6 @@ pub(crate) static INSTEAD: [WordsRow; 5] = [
     row! { 0, 0, 0, 's', ANY, (0, 0), (2, 2), "DECSLRM  left and right margins: column {0:1} to the last" },
     row! { 0, 0, b'*', 'y', ANY, (0, 0), ANY, "DECRQCRA  ask for the checksum of lines {2:1} to {4:the last}, columns {3:1} to {5:the last} of all pages, request {0}" },
     row! { 0, 0, b'*', 'y', ANY, ANY, ANY, "DECRQCRA  ask for the checksum of lines {2:1} to {4:the last}, columns {3:1} to {5:the last} of page {1}, request {0}" },
-    row! { 0, b'<', 0, 'M', (128, 191), ANY, ANY, "mouse  {0@button} line {2}, column {1}{0@button_held}" },
-    row! { 0, b'<', 0, 'm', (128, 191), ANY, ANY, "mouse  {0@released} line {2}, column {1}{0@button_held}" },
+    row! { 0, b'<', 0, 'M', (128, 191), ANY, ANY, "mouse  {0@button} line {2}, column {1}{0&, with |4=shift|8=alt|16=control}" },
+    row! { 0, b'<', 0, 'm', (128, 191), ANY, ANY, "mouse  {0@released} line {2}, column {1}{0&, with |4=shift|8=alt|16=control}" },
 ];

@@ -1,9 +1,10 @@
 //! The words of control sequences that table/sequences.toml has, of those that a row of csicodec_sequences reads and of others.
 
-use crate::list::{count_fields, intermediate, marker, number};
+use crate::list::{count_fields, intermediate, marker};
 use crate::sequence_rows::{INSTEAD, parts};
 use csicodec_base::CsiParam;
 use csicodec_sequences::Known;
+use csicodec_words::Values;
 
 /// From a number to another one.
 pub type Range = (i64, i64);
@@ -35,7 +36,8 @@ pub struct WordsRow {
 impl WordsRow {
     /// Whether it is of a list by its bytes, its first two numbers and how many it has.
     fn is_of(&self, params: &[CsiParam]) -> bool {
-        let (first, second) = (number(params, 0), number(params, 1));
+        let values = Values::List(params);
+        let (first, second) = (values.number(0), values.number(1));
         self.marker == marker(params)
             && self.between == intermediate(params)
             && is_within(count_fields(params), self.fields)

@@ -2,48 +2,37 @@
 //! what it does.
 #![tactic(auto)]
 
-mod amount;
-mod cursor;
+mod action_words;
 mod describe;
 mod device;
-mod edit;
 mod esc;
 mod esc_words;
-mod keyboard;
 mod mode;
 mod mode_words;
-mod mouse;
 mod numbered;
 mod sgr;
 mod sgr_words;
-mod window;
+mod template;
+mod told;
+mod values;
 
-use crate::keyboard::path;
+use crate::action_words::words_of_action;
 use csicodec_base::CsiParam;
 use csicodec_parser::{CSI, Unspecified};
 pub use describe::{Describe, Described};
-pub use device::tell_extension;
-pub use mode::{private_mode_name, terminal_mode_name};
 pub use numbered::{Numbered, words_of};
 use std::fmt;
+pub use template::fill;
+pub use values::Values;
 
-/// In the words of its subject.
 impl Describe for CSI {
     fn describe<W: fmt::Write>(&self, f: &mut fmt::Formatter<W>) -> fmt::Result {
-        match self {
-            CSI::Sgr(sgr) => sgr.describe(f),
-            CSI::Cursor(cursor) => cursor.describe(f),
-            CSI::Edit(edit) => edit.describe(f),
-            CSI::Mode(mode) => mode.describe(f),
-            CSI::Device(device) => (**device).describe(f),
-            CSI::Keyboard(keyboard) => keyboard.describe(f),
-            CSI::SelectCharacterPath(to, effect) => {
-                let (to, effect) = (path(to), *effect);
-                write!(f, "SCP  character path {to}, effect {effect}")
-            }
-            CSI::Mouse(mouse) => mouse.describe(f),
-            CSI::Window(window) => (**window).describe(f),
-            CSI::Unspecified(unspecified) => (**unspecified).describe(f),
+        if let CSI::Unspecified(unspecified) = self {
+            return (**unspecified).describe(f);
+        }
+        match words_of_action(self) {
+            Some(said) => said.tell(f),
+            None => Ok(()),
         }
     }
 }

@@ -118,13 +118,13 @@ pub(crate) static PRIVATE: [(i64, &str); 110] = [
     (9001, "Win32 input mode"),
 ];
 
-/// What is set of private modes whose states are more than on and off.
+/// What is set of private modes, where that isn't `on`.
 pub(crate) static SET: [(i64, &str); 2] = [
     (1048, "save the cursor"),
     (1049, "save the cursor, alternate screen on, erased"),
 ];
 
-/// What is reset of them.
+/// What is reset of them, where that isn't `off`.
 pub(crate) static RESET: [(i64, &str); 5] = [
     (2, "ANSI mode (DECANM) off: VT52"),
     (3, "132 columns (DECCOLM) off: 80"),
@@ -158,3 +158,9 @@ pub(crate) static TERMINAL: [(i64, &str); 22] = [
     (22, "a parameter of 0 for the default (ZDM)"),
     (25, "visible cursor"),
 ];
+
+/// What is set of them, where that isn't `on`.
+pub(crate) static TERMINAL_SET: [(i64, &str); 1] = [(12, "local echo (SRM) off")];
+
+/// What is reset of them, where that isn't `off`.
+pub(crate) static TERMINAL_RESET: [(i64, &str); 1] = [(12, "local echo (SRM) on")];

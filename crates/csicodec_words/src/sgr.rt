@@ -1,43 +1,20 @@
-//! Attributes of text, in words.
+//! Colours, in words.
 
-use crate::describe::Describe;
-use crate::sgr_words::{COLORS, words_of_attribute};
-use csicodec_base::{ColorSpec, Sgr};
+use crate::sgr_words::COLORS;
+use crate::values::Values;
+use csicodec_base::ColorSpec;
 use std::fmt;
 
-/// What is said of an attribute.
-#[derive(Clone, Copy)]
-pub(crate) enum Words<'a> {
-    /// These words alone.
-    Alone(&'static str),
-    /// These, and behind them a number.
-    Number(&'static str, u8),
-    /// These, and behind them a colour.
-    Color(&'static str, &'a ColorSpec),
-}
-
-impl Describe for Sgr {
-    fn describe<W: fmt::Write>(&self, f: &mut fmt::Formatter<W>) -> fmt::Result {
-        match words_of_attribute(self) {
-            Words::Alone(words) => write!(f, "SGR  {words}"),
-            Words::Number(words, number) => write!(f, "SGR  {words} {number}"),
-            Words::Color(words, color) => tell_color(f, words, color),
-        }
-    }
-}
-
-/// What gets this colour, and the colour: one of the first 16 of the palette by its name, another by its place from 16 to
-/// 255, and a true colour by red, green and blue, each 0 to 255.
-fn tell_color<W: fmt::Write>(
+/// A colour: one of the first 16 of the palette by its name, another by its place from 16 to 255, and a true colour by red, green and
+/// blue, each 0 to 255.
+pub(crate) fn tell_color<W: fmt::Write>(
     f: &mut fmt::Formatter<W>,
-    what: &'static str,
-    color: &ColorSpec,
+    values: Values<'_>,
 ) -> fmt::Result {
-    write!(f, "SGR  {what} ")?;
-    match color {
-        ColorSpec::Default => f.write_str("default"),
-        ColorSpec::PaletteIndex(index) => tell_place(f, *index),
-        ColorSpec::TrueColor(parts) => tell_parts(f, parts.to_srgb_u8()),
+    match values {
+        Values::Color(ColorSpec::PaletteIndex(index)) => tell_place(f, *index),
+        Values::Color(ColorSpec::TrueColor(parts)) => tell_parts(f, parts.to_srgb_u8()),
+        _ => f.write_str("default"),
     }
 }
 

@@ -1,45 +1,47 @@
 // Written by tools/table from table/sgr.toml: change that, and run python3 tools/table.
 //! What attributes of text are called.
 
-use crate::sgr::Words;
+use crate::values::{Said, alone, color_row, row};
 use csicodec_base::{Blink, Font, Intensity, Sgr, Underline, VerticalAlign};
 
 /// What an attribute is called.
-pub(crate) fn words_of_attribute(attribute: &Sgr) -> Words<'_> {
+pub(crate) fn words_of_attribute(attribute: &Sgr) -> Said<'_> {
     match attribute {
-        Sgr::Reset => Words::Alone("all attributes off"),
-        Sgr::Intensity(Intensity::Bold) => Words::Alone("bold on"),
-        Sgr::Intensity(Intensity::Half) => Words::Alone("faint on"),
-        Sgr::Italic(true) => Words::Alone("italic on"),
-        Sgr::Underline(Underline::Single) => Words::Alone("underline on"),
-        Sgr::Blink(Blink::Slow) => Words::Alone("slow blink on"),
-        Sgr::Blink(Blink::Rapid) => Words::Alone("rapid blink on"),
-        Sgr::Inverse(true) => Words::Alone("inverse on"),
-        Sgr::Invisible(true) => Words::Alone("concealed on"),
-        Sgr::StrikeThrough(true) => Words::Alone("crossed out on"),
-        Sgr::Font(Font::Default) => Words::Alone("primary font"),
-        Sgr::Font(Font::Alternate(number)) => Words::Number("alternative font", *number),
-        Sgr::Underline(Underline::Double) => Words::Alone("double underline on"),
-        Sgr::Intensity(Intensity::Normal) => Words::Alone("bold and faint off"),
-        Sgr::Italic(false) => Words::Alone("italic off"),
-        Sgr::Underline(Underline::None) => Words::Alone("underline off"),
-        Sgr::Blink(Blink::None) => Words::Alone("blink off"),
-        Sgr::Inverse(false) => Words::Alone("inverse off"),
-        Sgr::Invisible(false) => Words::Alone("concealed off"),
-        Sgr::StrikeThrough(false) => Words::Alone("crossed out off"),
-        Sgr::Foreground(color) => Words::Color("foreground", color),
-        Sgr::Background(color) => Words::Color("background", color),
-        Sgr::Overline(true) => Words::Alone("overline on"),
-        Sgr::Overline(false) => Words::Alone("overline off"),
-        Sgr::UnderlineColor(color) => Words::Color("underline colour", color),
-        Sgr::VerticalAlign(VerticalAlign::SuperScript) => Words::Alone("superscript on"),
-        Sgr::VerticalAlign(VerticalAlign::SubScript) => Words::Alone("subscript on"),
-        Sgr::VerticalAlign(VerticalAlign::BaseLine) => Words::Alone(
-            "superscript and subscript off",
+        Sgr::Reset => alone("SGR  all attributes off"),
+        Sgr::Intensity(Intensity::Bold) => alone("SGR  bold on"),
+        Sgr::Intensity(Intensity::Half) => alone("SGR  faint on"),
+        Sgr::Italic(true) => alone("SGR  italic on"),
+        Sgr::Underline(Underline::Single) => alone("SGR  underline on"),
+        Sgr::Blink(Blink::Slow) => alone("SGR  slow blink on"),
+        Sgr::Blink(Blink::Rapid) => alone("SGR  rapid blink on"),
+        Sgr::Inverse(true) => alone("SGR  inverse on"),
+        Sgr::Invisible(true) => alone("SGR  concealed on"),
+        Sgr::StrikeThrough(true) => alone("SGR  crossed out on"),
+        Sgr::Font(Font::Default) => alone("SGR  primary font"),
+        Sgr::Font(Font::Alternate(number)) => row(
+            "SGR  alternative font {0}",
+            i64::from(*number),
+            0,
         ),
-        Sgr::Underline(Underline::Curly) => Words::Alone("curly underline on"),
-        Sgr::Underline(Underline::Dotted) => Words::Alone("dotted underline on"),
-        Sgr::Underline(Underline::Dashed) => Words::Alone("dashed underline on"),
+        Sgr::Underline(Underline::Double) => alone("SGR  double underline on"),
+        Sgr::Intensity(Intensity::Normal) => alone("SGR  bold and faint off"),
+        Sgr::Italic(false) => alone("SGR  italic off"),
+        Sgr::Underline(Underline::None) => alone("SGR  underline off"),
+        Sgr::Blink(Blink::None) => alone("SGR  blink off"),
+        Sgr::Inverse(false) => alone("SGR  inverse off"),
+        Sgr::Invisible(false) => alone("SGR  concealed off"),
+        Sgr::StrikeThrough(false) => alone("SGR  crossed out off"),
+        Sgr::Foreground(color) => color_row("SGR  foreground {0@color}", color),
+        Sgr::Background(color) => color_row("SGR  background {0@color}", color),
+        Sgr::Overline(true) => alone("SGR  overline on"),
+        Sgr::Overline(false) => alone("SGR  overline off"),
+        Sgr::UnderlineColor(color) => color_row("SGR  underline colour {0@color}", color),
+        Sgr::VerticalAlign(VerticalAlign::SuperScript) => alone("SGR  superscript on"),
+        Sgr::VerticalAlign(VerticalAlign::SubScript) => alone("SGR  subscript on"),
+        Sgr::VerticalAlign(VerticalAlign::BaseLine) => alone("SGR  superscript and subscript off"),
+        Sgr::Underline(Underline::Curly) => alone("SGR  curly underline on"),
+        Sgr::Underline(Underline::Dotted) => alone("SGR  dotted underline on"),
+        Sgr::Underline(Underline::Dashed) => alone("SGR  dashed underline on"),
     }
 }
 

@@ -1,4 +1,4 @@
-"""Which files follow from the actions, from the values that they have, and from the other tables: whole files of csicodec_structs, of csicodec_remake, of include/, of c/,
+"""Which files follow from the actions, from the values that they have, and from the other tables: whole files of csicodec_structs, of csicodec_words, of csicodec_remake, of include/, of c/,
 of python/, of web/ and of rust/ (FILES), in which nothing else stands, and the numbers of new names in include/numbers.txt. A number that was given
 isn't changed."""
 import os
@@ -18,6 +18,7 @@ from bindings.rust import rust_known, rust_rows, rust_types
 from bindings.said import rust_keys, rust_osc
 from bindings.source import candidates, rows
 from bindings.specs import named, ranges, specs
+from bindings.words import words
 
 HEADER = "include/csicodec_kinds.h"
 FILES = {
@@ -27,6 +28,7 @@ FILES = {
     "crates/csicodec_structs/proofs/OneAction.antt": proof,
     "crates/csicodec_structs/src/rows.rt": rows,
     "crates/csicodec_structs/src/candidates.rt": candidates,
+    "crates/csicodec_words/src/action_words.rt": words,
     "crates/csicodec_remake/src/patterns.rt": patterns,
     HEADER: header,
     "include/csicodec_names.h": header_names,

@@ -1,0 +1,163 @@
+//! The numbers that stand in words, and what else is told there.
+
+use crate::template::fill;
+use bitflags::Flags;
+use csicodec_actions::{DeviceAttribute, MouseButton, XtSmGraphics};
+use csicodec_base::{ColorSpec, CsiParam, Modifiers, OneBased};
+use std::fmt;
+
+/// What the holes of words stand for.
+#[derive(Clone, Copy)]
+pub enum Values<'a> {
+    /// Nothing.
+    Nothing,
+    /// The numbers of a list, each by the semicolons ahead of it.
+    List(&'a [CsiParam]),
+    /// Two numbers, of which each may be left out.
+    Two(Option<i64>, Option<i64>),
+    /// Six numbers.
+    Six([i64; 6]),
+    /// Extensions of a terminal.
+    Extensions(&'a [DeviceAttribute]),
+    /// What is asked or answered of graphics.
+    Graphics(&'a XtSmGraphics),
+    /// A colour.
+    Color(&'a ColorSpec),
+}
+
+impl<'a> Values<'a> {
+    /// The number at a place, counted from 0; none where it is left out.
+    pub fn number(self, place: u32) -> Option<i64> {
+        match self {
+            Values::List(params) => number(params, place),
+            Values::Two(first, second) => match place {
+                0 => first,
+                1 => second,
+                _ => None,
+            },
+            Values::Six(numbers) => numbers.get(usize::try_from(place).ok()?).copied(),
+            Values::Graphics(graphics) => match place {
+                0 => Some(graphics.action_or_status),
+                _ => Some(graphics.item.number()),
+            },
+            Values::Nothing | Values::Extensions(_) | Values::Color(_) => None,
+        }
+    }
+}
+
+/// The number at a place, counted from 0 by the semicolons ahead of it; behind a colon stand others, of the same place.
+fn number(params: &[CsiParam], place: u32) -> Option<i64> {
+    let mut at = 0u32;
+    let mut is_behind = false;
+    for token in params {
+        match token {
+            CsiParam::P(b';') => {
+                at = at.saturating_add(1);
+                is_behind = false;
+            }
+            CsiParam::P(b':') => is_behind = true,
+            CsiParam::Integer(number) if at == place && !is_behind => return Some(*number),
+            _ => {}
+        }
+    }
+    None
+}
+
+/// Words with holes, and what they stand for.
+#[derive(Clone, Copy)]
+pub(crate) struct Said<'a> {
+    pub(crate) words: &'static str,
+    pub(crate) values: Values<'a>,
+}
+
+impl<'a> Said<'a> {
+    /// Writes the words.
+    pub(crate) fn tell<W: fmt::Write>(self, f: &mut fmt::Formatter<W>) -> fmt::Result {
+        match self.values {
+            Values::Nothing => f.write_str(self.words),
+            values => fill(f, self.words, values),
+        }
+    }
+}
+
+/// Words alone.
+pub(crate) fn alone(words: &'static str) -> Said<'static> {
+    Said {
+        words,
+        values: Values::Nothing,
+    }
+}
+
+/// Words with two numbers.
+pub(crate) fn row(words: &'static str, first: i64, second: i64) -> Said<'static> {
+    sized_row(words, Some(first), Some(second))
+}
+
+/// Words with two numbers that may be left out.
+pub(crate) fn sized_row(
+    words: &'static str,
+    first: Option<i64>,
+    second: Option<i64>,
+) -> Said<'static> {
+    Said {
+        words,
+        values: Values::Two(first, second),
+    }
+}
+
+/// Words with a place, a button by its turn in the type, and the bits of the keys that are held.
+pub(crate) fn report_row(
+    words: &'static str,
+    x: u16,
+    y: u16,
+    button: MouseButton,
+    modifiers: Modifiers,
+) -> Said<'static> {
+    let (x, y) = (i64::from(x), i64::from(y));
+    let held = i64::from(modifiers.bits());
+    Said {
+        words,
+        values: Values::Six([x, y, button as i64, held, 0, 0]),
+    }
+}
+
+/// Words with two numbers, and the sides of an area.
+pub(crate) fn area_row(
+    words: &'static str,
+    first: i64,
+    second: i64,
+    sides: [OneBased; 4],
+) -> Said<'static> {
+    let [top, left, bottom, right] = sides.map(|side| i64::from(side.as_one_based()));
+    Said {
+        words,
+        values: Values::Six([first, second, top, left, bottom, right]),
+    }
+}
+
+/// Words with what a terminal can do.
+pub(crate) fn extensions_row<'a>(
+    words: &'static str,
+    attributes: &'a [DeviceAttribute],
+) -> Said<'a> {
+    Said {
+        words,
+        values: Values::Extensions(attributes),
+    }
+}
+
+/// Words with what is asked or answered of graphics.
+pub(crate) fn graphics_row<'a>(words: &'static str, graphics: &'a XtSmGraphics) -> Said<'a> {
+    Said {
+        words,
+        values: Values::Graphics(graphics),
+    }
+}
+
+/// Words with a colour.
+pub(crate) fn color_row<'a>(words: &'static str, color: &'a ColorSpec) -> Said<'a> {
+    Said {
+        words,
+        values: Values::Color(color),
+    }
+}

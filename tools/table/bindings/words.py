@@ -1,0 +1,90 @@
+"""The source of csicodec_words that has a line for each kind: the words of an action with holes, and what these stand for."""
+from bindings.library import BY_NUMBER, IN_TURN, SUBJECTS, low, number_of, of, type_of, used
+from bindings.source import source_name, struct_arm
+from forms import LARGEST, Form, Slot
+from layout import array, pair, string
+from read import first_line, rows_of
+from templates import template_of
+
+# How the values of an action are given, of these forms; no action here has a flag, and an area has an arm of its own.
+OWN = {
+    "flag": "",
+    "area": "",
+    "enum": lambda names: number_of(names[0])[1],
+    "keys": "i64::from(resource.number())",
+    "state": "i64::from(mode.number())",
+    "extensions": "extensions_row({}, &flags.attributes)",
+    "graphics": "graphics_row({}, graphics)",
+}
+ROWS = ("alone", "area_row", "color_row", "extensions_row", "graphics_row", "report_row", "row", "sized_row")
+# What holes are called in the words of forms that have no fields, each with its type.
+SLOTS = {"unit": [], "count": ["n"], "place": ["n"], "int": ["n"], "bits": ["flags"], "extensions": ["attributes"], "graphics": ["action", "item", "values"]}
+
+TEXT = """\
+//! Actions in words.
+
+use crate::values::{{{rows}}};
+use crate::sgr_words::words_of_attribute;
+use bitflags::Flags;
+use csicodec_actions::{{{types}}};
+use csicodec_parser::CSI;
+
+"""
+
+
+def words_of(name):
+    """The words of an enumeration's variants by their numbers; of a button by its turn."""
+    variants = rows_of("values.toml")[name].get("variants", {}) if name in rows_of("values.toml") else {}
+    return {str(at if name == "MouseButton" else row["number"]): row["words"] for at, row in enumerate(variants.values()) if "words" in row}
+
+
+def slots(action):
+    """The fields of an action, each with the type that it has."""
+    if action.form == "enum":
+        return {"value": action.names[0]}
+    held = action.declared().fields
+    return {name: kind for name, kind, _ in held} if held else dict.fromkeys(SLOTS[action.form], "")
+
+
+def filled(words, fields, lists):
+    """The words with places in the place of names."""
+    named = {name: words_of(kind) for name, kind in fields.items() if words_of(kind)}
+    form = Form("", tuple(Slot(name.replace("_", " "), 0, LARGEST, 0, False, False) for name in fields), "", "")
+    return string(template_of(words, form, {**lists, **named}))
+
+
+def arm(kind, action, lists):
+    """The words of an action, and what they have of it."""
+    number, group, variant, form, names = kind
+    name, tail = source_name(group, variant)
+    words = filled(f"{action.row.get('shown', action.row['name'])}  {action.row['words']}", slots(action), lists)
+    if form == "unit":
+        return f"{name}{tail} => alone({words}),\n"
+    if form == "area":
+        first, second, *sides = action.row["fields"]
+        return f"{name} {{ {', '.join(action.row['fields'])} }} => area_row({words}, *{first}, *{second}, [{', '.join('*' + side for side in sides)}]),\n"
+    return struct_arm((words, group, variant, form, names), OWN)
+
+
+def of_subject(subject):
+    said, kind = low(subject.name), type_of(subject.name)
+    body = "".join(arm(kind, action, subject.row.get("lists", {})) for kind, action in zip(of(subject.name), subject.actions))
+    return f"\nfn {said}_words({said}: &{kind}) -> Said<'_> {{\n    match {said} {{\n{body}    }}\n}}\n"
+
+
+def words():
+    body = """/// The words of an action; none of one that no rule reads.
+pub(crate) fn words_of_action(action: &CSI) -> Option<Said<'_>> {
+    Some(match action {
+"""
+    for group in IN_TURN:
+        body += f"        CSI::{group}({low(group)}) => {low(group)}_words({low(group)}),\n"
+    path = next(variant for variant in rows_of("values.toml")["CSI"]["variants"].items() if variant[0] == "SelectCharacterPath")[1]
+    said = filled(path["words"], {"path": "CharacterPath", "effect": ""}, {})
+    body += f"        CSI::SelectCharacterPath(path, effect) => row({said}, i64::from(path.number()), *effect),\n        CSI::Unspecified(_) => return None,\n    }})\n}}\n"
+    body += "".join(of_subject(SUBJECTS[group]) for group in BY_NUMBER if group != "Sgr")
+    codes = rows_of("values.toml")["DeviceAttributeCodes"]
+    extensions = {row["number"]: row["words"] for row in codes["variants"].values()} | {int(number): words for number, words in codes["others"].items()}
+    table = array("Extensions of terminals, by their numbers.", "EXTENSIONS", "(i64, &str)", [pair(str(number), string(extensions[number])) for number in sorted(extensions)])
+    held = [type_of(group) for group in BY_NUMBER if group != "Sgr"] + ["DeviceAttributes"]
+    return first_line("actions.toml") + TEXT.format(rows=used([*ROWS, "Said"], body), types=used(held, body)) + body.replace("sgr_words(sgr)", "words_of_attribute(sgr)") + "\n" + table

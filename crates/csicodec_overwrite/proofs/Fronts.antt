@@ -1,6 +1,6 @@
 -- The front of a line that is written as it comes, and its end.
 use Rattle.std.proofs.Common.{◌≡◌, ◌≤◌, ◌+◌, ◌-◌, ◌*◌, ℕ, zero, suc, Bool, true, false, cond, List, [], ◌∷◌, ◌++◌, length, length-append, replicate, encode_utf8_all, refl, sym, ap, subst, ◌∙◌, ⊎_elim, append_assoc, append-nil, arith}
-use Rattle.std.specs.Prelude.{◌==◌, ◌&&◌, ◌||◌, nat_le, nat_lt, unwrap_or}
+use Rattle.std.specs.Prelude.{◌==◌, unwrap_or}
 use Rattle.std.specs.List.{AllByRecursion, flat_map}
 use Rattle.std.proofs.lemmas.Bool.{eqb-true}
 use Rattle.std.proofs.lemmas.Bool.Decides.{nat_tests}
@@ -11,9 +11,8 @@ use Rattle.csicodec_names.specs.declared.color.Intensity.{Intensity}
 use Rattle.csicodec_names.specs.declared.color.Intensity.TheVariants as intensity
 use Rattle.csicodec_names.specs.declared.color.Underline.{Underline}
 use Rattle.csicodec_names.specs.declared.color.Underline.TheVariants as underline
-use Rattle.csicodec_clean.specs.Bytes.{IsPlainByte}
 use Rattle.csicodec_clean.proofs.Shows.{encoded_on}
-use Rattle.csicodec_clean.proofs.Told.{all_shown, encoded, is_shown}
+use Rattle.csicodec_clean.proofs.Told.{encoded, is_shown}
 use Rattle.csicodec_html.specs.declared.look.Look.{Look}
 use Rattle.csicodec_html.specs.Look.{plain}
 use Rattle.csicodec_overwrite.specs.declared.cells.Cell.{Cell}
@@ -30,11 +29,12 @@ use Rattle.csicodec_overwrite.specs.Steps.{of_char, of_chars}
 use Rattle.csicodec_overwrite.specs.Reading.{most}
 use Rattle.csicodec_overwrite.specs.Stream.{Now, Passes, Reads, none_held}
 use Rattle.csicodec_overwrite.specs.Private.Front.{AreLooks, IsFront, IsLook, Sets, drawn, last_look, last_of_run, run_text, turned}
-use Rattle.csicodec_overwrite.specs.Private.Plain.{AreFull, IsLineByte, closed, line_byte}
+use Rattle.csicodec_overwrite.specs.Private.Plain.{AreFull, IsLineByte, closed, end_of, line_byte}
+use Rattle.csicodec_overwrite.proofs.Ends.{end_passes}
 use Rattle.csicodec_overwrite.proofs.Read.{reads_none, reads_on}
 use Rattle.csicodec_overwrite.proofs.Stays.{cells, cells_full, cells_length, full_trimmed, put_cells, puts}
-use Rattle.csicodec_overwrite.proofs.Straight.{few_cells, narrow, pens_kept, reads_plain}
-use Rattle.csicodec_overwrite.proofs.Written.{line_on, lines_on, pen_on}
+use Rattle.csicodec_overwrite.proofs.Straight.{few_cells, line_plain, lines_plain, narrow, reads_plain}
+use Rattle.csicodec_overwrite.proofs.Written.{line_on, lines_on, passes_on, pen_on}
 
 -- ---- a look is itself
 
@@ -122,17 +122,6 @@ module _ (painted : Bool) (g : Glyph) (left : List Cell) where
 
 -- ---- text of ASCII
 
-line_plain : (b : ℕ) → IsLineByte b → IsPlainByte b
-line_plain b h = by (b == 10) (b == 9) (nat_le 32 b && nat_lt b 127) h
-  where
-    by : (line tab other : Bool) → (tab || other) ≡ true → (line || tab || other) ≡ true
-    by true tab other h = refl
-    by false tab other h = h
-
-pub lines_plain : (bs : List ℕ) → AllByRecursion IsLineByte bs → AllByRecursion IsPlainByte bs
-lines_plain [] h = tt
-lines_plain (b ∷ bs) h = (line_plain b h.0, lines_plain bs h.1)
-
 no_newline : (b : ℕ) → IsLineByte b → (b == 10) ≡ true → ⊥
 no_newline b h e = let g : line_byte 10 ≡ true = subst IsLineByte (eqb-true b 10 e) h in cc
 
@@ -149,6 +138,7 @@ record Runs (limit : ℕ) (painted : Bool) (pen : Pen) (cs : List ℕ) (left : L
   full : AreFull more
   few : length more ≤ length left + 8 * length cs
   lines : (do_all limit pen (of_chars cs) (line left [])).lines ≡ []
+  pens : closed (pen_behind_all limit pen (of_chars cs) (line left [])) ≡ closed pen
   line : (do_all limit pen (of_chars cs) (line left [])).line ≡ line more []
   look : last_look more ≡ last_of_run (last_look left) pen.look cs
   text : drawn painted more ≡ drawn painted left ++ run_text painted (last_look left) pen.look cs
@@ -169,6 +159,7 @@ runs limit painted pen [] left over h full few = record {
   few = omega arith;
   lines = refl;
   line = refl;
+  pens = refl;
   look = refl;
   text = sym (append-nil (drawn painted left));
 }
@@ -197,6 +188,8 @@ runs limit painted pen (c ∷ cs) left over h full few = ⊎_elim
           ∙ ap (λ (d : Done). (before d.lines (do_all limit then (of_chars cs) d.line)).lines) one ∙ r.lines;
       line = ap (λ (x : List Step). (do_all limit pen (x ++ of_chars cs) (line left [])).line) of
           ∙ ap (λ (d : Done). (before d.lines (do_all limit then (of_chars cs) d.line)).line) one ∙ r.line;
+      pens = ap (λ (x : List Step). closed (pen_behind_all limit pen (x ++ of_chars cs) (line left []))) of
+          ∙ ap (λ (d : Done). closed (pen_behind_all limit then (of_chars cs) d.line)) one ∙ r.pens ∙ kept (columns left);
       look = r.look ∙ ap (λ (l : Look). last_of_run l then.look cs) (char_look painted g left w)
           ∙ ap (λ (l : Look). last_of_run pen.look l cs) look ∙ run_look pen.look cs;
       text = r.text ∙ ap (λ (l : Look). drawn painted next ++ run_text painted l then.look cs) (char_look painted g left w)
@@ -289,7 +282,7 @@ module _ (painted : Bool) (pen : Pen) (bytes text : List ℕ) (last now : Look) 
       let r = runs most painted then run f.cells (ap (λ (p : Pen). p.inserts) f.pens ∙ over) h f.full
       (omega (arith, few, f.few, length-append bytes run)) in
       on run (of_chars run) r.more (text ++ run_text painted last now run) (last_of_run last now run) now (reads_plain run plains) r.lines
-      r.line (pens_kept most then run (line f.cells []) (all_shown run plains) ∙ f.pens) r.full r.few
+      r.line (r.pens ∙ f.pens) r.full r.few
       (ap (λ (l : Look). last_of_run l now run) f.looks ∙ ap (λ (l : Look). last_of_run (last_look f.cells) l run) (sym look_is)
       ∙ sym r.look)
       (ap (λ (t : List ℕ). t ++ run_text painted last now run) f.drawn
@@ -304,32 +297,32 @@ module _ (painted : Bool) (pen : Pen) (bytes text : List ℕ) (last now : Look) 
 
 -- ---- the end of the line
 
-pub line_passes : (old new : Now) (bytes text : List ℕ) (last now : Look) → old.reader ≡ none_held → new.reader ≡ old.reader
+pub line_passes : (old new : Now) (bytes text : List ℕ) (last now : Look) (returned : Bool) → old.reader ≡ none_held → new.reader ≡ old.reader
     → old.line ≡ blank → new.line ≡ old.line → new.painted ≡ old.painted → new.pen ≡ closed (record old.pen { look = now })
     → IsFront old.painted old.pen bytes text last now
-    → Passes old (bytes ++ 10 ∷ []) (text ++ (turned old.painted last plain ++ 10 ∷ [])) new
-line_passes old new bytes text last now bare reader is same painted pen f =
-    let end = step.NewLine ∷ [] in
-    let steps = f.steps ++ end in
-    let then = pen_behind_all most old.pen f.steps blank in
+    → Passes old (bytes ++ end_of returned) (text ++ (turned old.painted last plain ++ 10 ∷ [])) new
+line_passes old new bytes text last now returned bare reader is same painted pen f =
     let left = f.cells in
-    let reads = reads_on none_held none_held none_held bytes (10 ∷ []) f.steps end f.reads (reads_plain (10 ∷ []) (refl, tt)) in
-    record {
-      steps = steps;
-      reads = rw (reader, bare) reads;
-      pen = pen ∙ sym f.pens ∙ sym (pen_on most f.steps end old.pen blank)
-          ∙ ap (λ (l : Line). pen_behind_all most old.pen steps l) (sym is);
-      painted = painted;
-      line = same ∙ is ∙ sym (line_on most f.steps end old.pen blank) ∙ ap (λ (l : Line). (do_all most old.pen steps l).line) (sym is);
-      all = ap (λ (t : List ℕ). t ++ (turned old.painted last plain ++ 10 ∷ [])) f.drawn
-          ∙ ap (λ (l : Look). drawn old.painted left ++ (turned old.painted l plain ++ 10 ∷ [])) f.looks
-          ∙ sym (append_assoc (drawn old.painted left) (turned old.painted (last_look left) plain) (10 ∷ []))
-          ∙ ap (λ (t : List ℕ). t ++ 10 ∷ []) (sym (all_drawn old.painted left))
-          ∙ ap (λ (cells : List Cell). ended old.painted (onto cells [])) (sym (full_trimmed left f.full))
-          ∙ sym (append-nil (ended old.painted (cells_of (line left []))))
-          ∙ ap (λ (l : Line). texts_of old.painted (do_all most then end l).lines) (sym f.line)
-          ∙ ap (λ (t : List (List Cell)). texts_of old.painted (t ++ (do_all most then end (do_all most old.pen f.steps blank).line).lines))
-          (sym f.lines)
-          ∙ ap (texts_of old.painted) (sym (lines_on most f.steps end old.pen blank))
-          ∙ ap (λ (l : Line). texts_of old.painted (do_all most old.pen steps l).lines) (sym is);
-    }
+    let mid : Now = record {
+      reader = none_held;
+      pen = pen_behind_all most old.pen f.steps blank;
+      painted = old.painted;
+      line = line left [];
+    } in
+    let front : Passes old bytes [] mid = record {
+      steps = f.steps;
+      reads = rw bare f.reads;
+      pen = ap (pen_behind_all most old.pen f.steps) (sym is);
+      painted = refl;
+      line = sym f.line ∙ ap (λ (l : Line). (do_all most old.pen f.steps l).line) (sym is);
+      all = ap (texts_of old.painted) (sym f.lines) ∙ ap (λ (l : Line). texts_of old.painted (do_all most old.pen f.steps l).lines) (sym is);
+    } in
+    let whole : ended old.painted (cells_of (line left [])) ≡ text ++ (turned old.painted last plain ++ 10 ∷ []) =
+    ap (λ (cells : List Cell). ended old.painted (onto cells [])) (full_trimmed left f.full)
+    ∙ ap (λ (t : List ℕ). t ++ 10 ∷ []) (all_drawn old.painted left)
+    ∙ append_assoc (drawn old.painted left) (turned old.painted (last_look left) plain) (10 ∷ [])
+    ∙ ap (λ (l : Look). drawn old.painted left ++ (turned old.painted l plain ++ 10 ∷ [])) (sym f.looks)
+    ∙ ap (λ (t : List ℕ). t ++ (turned old.painted last plain ++ 10 ∷ [])) (sym f.drawn) in
+    subst (λ (t : List ℕ). Passes old (bytes ++ end_of returned) t new) whole
+    (passes_on old mid new bytes (end_of returned) [] (ended old.painted (cells_of (line left []))) front
+    (end_passes mid new refl (reader ∙ bare) painted (same ∙ is) (pen ∙ sym f.pens) returned))

@@ -15,4 +15,5 @@ pub mod Room
 pub mod Lost
 pub mod Came
 pub mod Straight
+pub mod Ends
 pub mod Fronts

@@ -12,6 +12,7 @@ use Rattle.csicodec_overwrite.specs.Paint.{text_of, texts_of}
 use Rattle.csicodec_overwrite.specs.Steps.{of_run}
 use Rattle.csicodec_overwrite.specs.Reading.{Shows, most, shown_by}
 use Rattle.csicodec_overwrite.specs.Stream.{AreTaken, Ending, Now, Passes, Reads, begun_as, none_held}
+use Rattle.csicodec_overwrite.specs.Private.Seen.{PassesFront}
 use Rattle.csicodec_overwrite.proofs.Read.{reads_none, reads_on, whole_reads}
 use Rattle.csicodec_overwrite.proofs.Texts.{texts_on}
 
@@ -73,6 +74,16 @@ passes_on old mid new first second one two p q =
 
 pub goes : (old new : Now) (bytes text : List ℕ) → Passes old bytes text new → GoesOn Passes old bytes text new
 goes old new bytes text q first read written p = passes_on first old new read bytes written text p q
+
+-- what is taken in front, and then of the rest
+pub front_on : (old mid new : Now) (bytes between rest before now after : List ℕ) → PassesFront old bytes between mid before now → PassesFront mid between rest new now after → PassesFront old bytes rest new before after
+front_on old mid new bytes between rest before now after (front, text, split, passes, out) (here, more, next, then, longer) = (
+  front ++ here,
+  text ++ more,
+  split ∙ ap (λ (t : List ℕ). front ++ t) next ∙ sym (append_assoc front here rest),
+  passes_on old mid new front here text more passes then,
+  longer ∙ ap (λ (t : List ℕ). t ++ more) out ∙ append_assoc before text more,
+)
 
 -- the end
 pub shows : (painted : Bool) (bytes text rest : List ℕ) (last : Now) → Passes (begun_as painted) bytes text last → Ending last rest → Shows painted bytes (text ++ rest)

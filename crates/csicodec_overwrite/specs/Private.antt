@@ -1,4 +1,5 @@
 -- Parts of the private functions' contracts. No promise rests on these files.
 pub mod Spans
+pub mod Seen
 pub mod Plain
 pub mod Front

@@ -1,13 +1,15 @@
 //! Text of ASCII, which takes no reading.
-ghost use Rattle.std.specs.Prelude.{◌≡◌, ◌∷◌, [], ◌≤◌, length, min, true, IfSome};
-ghost use Rattle.csicodec_clean.specs.Bytes.{IsPlainByte};
-ghost use Rattle.csicodec_overwrite.specs.Private.Plain.{IsShortLine};
+ghost use Rattle.std.specs.Prelude.{◌≡◌, ◌∷◌, ◌++◌, [], ◌≤◌, length, min, IfSome};
+ghost use Rattle.csicodec_overwrite.specs.Private.Plain.{IsLineByte, end_of};
 ghost use Rattle.csicodec_overwrite.specs.Steps.{of_char};
 
 use crate::step::Step;
-use csicodec_clean::{ByteClass, first_set};
-use memchr::{memchr, memrchr};
+use csicodec_clean::{ByteClass, first_set, split_front};
+use memchr::memchr;
 use std::simd::prelude::*;
+
+/// How far away the end of a line with attributes is looked for.
+const NEAR: usize = 1024;
 
 /// A tab, and the characters of ASCII that are no controls.
 pub(crate) struct InLine;
@@ -31,63 +33,30 @@ impl ByteClass for InLine {
     }
 }
 
-/// How much of the text is put at once: up to the last newline among so many bytes, or else up to the first, if there is one.
-pub(crate) fn lines_len(text: &[u8], most: usize) -> usize
-    ensures within { result ≤ length text.now }
-    ensures some { min 1 (length text.now) ≤ result }
+/// What is behind the end of a line in front, if one stands there: a newline, or a return and a newline.
+pub(crate) fn behind_end(bytes: &[u8]) -> Option<&[u8]>
+    ensures { IfSome result (λ rest. (returned : _) × (bytes.now ≡ end_of returned ++ rest.now)) }
 {
-    let near = text.split_at(most.min(text.len())).0;
-    if let Some(last) = memrchr(b'\n', near) {
-        return last + 1;
-    }
-    match memchr(b'\n', text) {
-        Some(first) => first + 1,
-        None => text.len(),
+    match bytes {
+        [b'\n', rest @ ..] => Some(rest),
+        [b'\r', b'\n', rest @ ..] => Some(rest),
+        _ => None,
     }
 }
 
-/// Whether a line ends among the bytes, with a newline alone.
-pub(crate) fn has_line(bytes: &[u8]) -> bool {
-    let Some(end) = memchr(b'\n', bytes) else {
-        return false;
-    };
-    match bytes.split_at(end).0.last() {
-        Some(byte) => *byte != b'\r',
-        None => true,
+/// Whether the line in front may be one that is written as it comes, by what is behind its text: its end, or a sequence with its end near.
+pub(crate) fn begins_straight(bytes: &[u8]) -> bool {
+    let behind = split_front::<InLine>(bytes).1;
+    if style_len(behind) == 0 {
+        return behind_end(behind).is_some();
     }
-}
-
-/// What is behind the newline in front, if one stands there.
-pub(crate) fn behind_newline(bytes: &[u8]) -> Option<&[u8]>
-    ensures { IfSome result (λ rest. bytes.now ≡ 10 ∷ rest.now) }
-{
-    let (end, rest) = bytes.split_first()?;
-    if *end == b'\n' {
-        return Some(rest);
-    }
-    None
-}
-
-/// Whether such text ends its line, and a line of so many cells has room for all of it: no character takes more than 8, as a tab does.
-pub(crate) fn is_short_line(limit: usize, text: &[u8]) -> bool
-    ensures { result ≡ true → IsShortLine limit text.now }
-{
-    let Some((end, _front)) = text.split_last() else {
-        return false;
-    };
-    if *end == b'\n' {
-        return text.len() <= limit / 8;
-    }
-    false
+    memchr(b'\n', behind.get(..NEAR).unwrap_or(behind)).is_some()
 }
 
 /// What such a byte does.
 pub(crate) fn plain_step(byte: u8) -> Step
-    ensures { IsPlainByte byte → of_char byte ≡ result ∷ [] }
+    ensures { IsLineByte byte → of_char byte ≡ result ∷ [] }
 {
-    if byte == b'\n' {
-        return Step::NewLine;
-    }
     if byte == b'\t' {
         return Step::Tab;
     }

@@ -1,7 +1,8 @@
 //! The front of a line that is written as it comes: text of ASCII, and sequences that do no more than to set how it looks.
-ghost use Rattle.std.specs.Prelude.{◌≡◌, ◌<◌, ◌++◌, ℕ, List, false, length, IfOk, IfSome};
+ghost use Rattle.std.specs.Prelude.{◌≡◌, ◌<◌, ◌++◌, ℕ, List, false, length, IfOk, IfSome, OnOk};
 ghost use Rattle.std.specs.List.{AllByRecursion};
 ghost use Rattle.csicodec_overwrite.specs.Private.Front.{AreLooks, IsFront, IsLook, Sets, last_of_run, run_text};
+ghost use Rattle.csicodec_overwrite.specs.Stream.{none_held};
 
 use crate::ascii::{InLine, style_len};
 use crate::paint::append_turned;
@@ -11,7 +12,7 @@ use crate::step::Step;
 use csicodec_clean::split_front;
 use csicodec_html::Look;
 use csicodec_spans::LIMIT;
-use std::alloc::{AllocError, Global};
+use std::alloc::AllocError;
 
 /// How characters look behind a step that does no more than to set that, where nothing stands right of the cursor.
 fn look_behind(look: Look, step: Step) -> Option<Look>
@@ -37,40 +38,28 @@ fn look_behind_all(look: Look, steps: &[Step]) -> Option<Look>
     Some(now)
 }
 
-/// Tells how characters look behind a control sequence.
-#[derive(Drop)]
-pub(crate) struct Looks {
-    /// It reads each sequence by itself.
-    reader: Reader,
-    /// A place that is kept for its steps.
-    steps: Vec<Step>,
-}
-
-impl Looks {
-    /// Which has read nothing.
-    pub(crate) fn new(alloc: Global) -> Looks {
-        Looks {
-            reader: Reader::new(alloc),
-            steps: Vec::new(alloc),
-        }
+/// How characters look behind these bytes, if there are some, and all that they do is to set that. `steps` is a place for their steps.
+fn look_behind_bytes(
+    reader: &mut Reader,
+    steps: &mut Vec<Step>,
+    look: Look,
+    bytes: &[u8],
+) -> Result<Option<Look>, AllocError>
+    requires { reader.old ≡ none_held }
+    ensures sets { IfOk result (λ o. IfSome o (λ after. Sets bytes.now look after)) }
+    ensures some { IfOk result (λ o. IfSome o (λ after. 0 < length bytes.now)) }
+    ensures bare { OnOk result (reader.new ≡ none_held) }
+{
+    if bytes.is_empty() {
+        return Ok(None);
     }
-
-    /// How characters look behind these bytes, if there are some, and all that they do is to set that.
-    fn behind(&mut self, look: Look, bytes: &[u8]) -> Result<Option<Look>, AllocError>
-        ensures sets { IfOk result (λ o. IfSome o (λ after. Sets bytes.now look after)) }
-        ensures some { IfOk result (λ o. IfSome o (λ after. 0 < length bytes.now)) }
-    {
-        if bytes.is_empty() {
-            return Ok(None);
-        }
-        self.reader.clear();
-        self.steps.clear();
-        self.reader.push(bytes, &mut self.steps)?;
-        if !self.reader.is_bare() {
-            return Ok(None);
-        }
-        Ok(look_behind_all(look, &self.steps))
+    steps.clear();
+    reader.push(bytes, steps)?;
+    if !reader.is_bare() {
+        reader.clear();
+        return Ok(None);
     }
+    Ok(look_behind_all(look, steps))
 }
 
 /// The front of a line that is written.
@@ -106,16 +95,19 @@ fn append_run(
 /// Appends the front of a line that was blank, up to the first byte that is no text of ASCII, nor of a sequence that sets how it looks.
 /// A line has room for it.
 pub(crate) fn append_front<'a>(
-    looks: &mut Looks,
+    reader: &mut Reader,
+    steps: &mut Vec<Step>,
     pen: Pen,
     painted: bool,
     bytes: &'a [u8],
     out: &mut Vec<u8>,
 ) -> Result<Front<'a>, AllocError>
-    requires { pen.inserts ≡ false }
-    ensures { IfOk result (λ f. (front : List ℕ) × (text : List ℕ) × (bytes.now ≡ front ++ f.rest.now)
+    requires bare { reader.old ≡ none_held }
+    requires over { pen.inserts ≡ false }
+    ensures written { IfOk result (λ f. (front : List ℕ) × (text : List ℕ) × (bytes.now ≡ front ++ f.rest.now)
         × IsFront painted pen front text f.last f.now
         × (out.new.items ≡ out.old.items ++ text)) }
+    ensures bare { OnOk result (reader.new ≡ none_held) }
 {
     let (mut rest, mut last, mut now) = (bytes, Look::plain(), pen.look);
     loop {
@@ -126,7 +118,7 @@ pub(crate) fn append_front<'a>(
         last = append_run(last, now, run, painted, out)?;
         rest = behind;
         let (sequence, others) = rest.split_at(style_len(rest));
-        let Some(after) = looks.behind(now, sequence)? else {
+        let Some(after) = look_behind_bytes(reader, steps, now, sequence)? else {
             return Ok(Front { rest, last, now });
         };
         now = after;

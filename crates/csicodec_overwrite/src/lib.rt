@@ -12,6 +12,7 @@ mod paint;
 mod pen;
 mod reader;
 mod run;
+mod seen;
 mod sides;
 mod step;
 mod text;

@@ -1,15 +1,14 @@
 //! A line and its cursor.
 ghost use Rattle.std.specs.Prelude.{◌≡◌, ◌-◌, ◌++◌, [], true, OnOk};
 ghost use Rattle.std.specs.List.{AllByRecursion};
-ghost use Rattle.csicodec_clean.specs.Bytes.{IsPlainByte};
 ghost use Rattle.csicodec_overwrite.specs.Cells.{columns, glyph, onto};
 ghost use Rattle.csicodec_overwrite.specs.Line.{at_column, back, behind_columns, blank, cells_of, delete, do_all, does, erase, erase_all, erase_left, erase_right, fits, forward, from_stop, insert, leave, line, lines_of, over, parted, pen_behind, pen_behind_all, placed, put, repeated, restored, size, target, to_stop};
 ghost use Rattle.csicodec_overwrite.specs.Paint.{ended, text_of, texts_of};
-ghost use Rattle.csicodec_overwrite.specs.Private.Plain.{GoesBehind, IsStraight};
+ghost use Rattle.csicodec_overwrite.specs.Private.Plain.{GoesBehind, IsLineByte};
 ghost use Rattle.csicodec_overwrite.specs.Steps.{of_chars};
 ghost use Rattle.csicodec_overwrite.specs.declared.step.Step.TheVariants.{Tab};
 
-use crate::ascii::{is_short_line, plain_step};
+use crate::ascii::plain_step;
 use crate::cells::{Cell, Glyph, Side};
 use crate::paint::append_cells;
 use crate::pen::Pen;
@@ -229,7 +228,7 @@ impl Line {
     }
 
     /// Ends the line.
-    fn end(&mut self, painted: bool, out: &mut Vec<u8>) -> Result<(), AllocError>
+    pub(crate) fn end(&mut self, painted: bool, out: &mut Vec<u8>) -> Result<(), AllocError>
         ensures text { OnOk result
             (out.new.items ≡ out.old.items ++ ended painted (cells_of self.old)) }
         ensures none { OnOk result (self.new ≡ blank) }
@@ -346,10 +345,6 @@ impl Line {
             char,
             look: pen.look,
         };
-        if self.goes_behind(limit, pen, char) {
-            self.left.push(Cell::Char(glyph))?;
-            return Ok(());
-        }
         let columns = width(char, self.left.columns());
         if self.fits(limit, columns) {
             return self.place(pen.inserts, glyph, columns);
@@ -453,9 +448,17 @@ impl Line {
         ensures text { OnOk result
             (out.new.items ≡ out.old.items ++ texts_of painted (does limit pen.old step self.old).lines) }
     {
+        if let Step::Put(char) = step
+            && self.goes_behind(limit, pen, char)
+        {
+            let look = pen.look;
+            self.left.push(Cell::Char(Glyph { char, look }))?;
+            pen.last = Some(char);
+            return Ok(());
+        }
         let column = self.left.columns();
         self.act(limit, pen, step, painted, out)?;
-        *pen = pen.behind(step, column);
+        pen.take(step, column);
         Ok(())
     }
 
@@ -482,17 +485,7 @@ impl Line {
         Ok(())
     }
 
-    /// Whether such text is written as it comes.
-    fn is_straight(&self, limit: usize, pen: &Pen, text: &[u8], painted: bool) -> bool
-        ensures { result ≡ true → IsStraight limit painted pen.now text.now self.now }
-    {
-        if !self.is_blank() {
-            return false;
-        }
-        pen.puts_plain(painted) && is_short_line(limit, text)
-    }
-
-    /// The same of the steps of text of ASCII.
+    /// The same of the steps of text of ASCII without a control but tabs.
     pub(crate) fn put_text(
         &mut self,
         limit: usize,
@@ -501,7 +494,7 @@ impl Line {
         painted: bool,
         out: &mut Vec<u8>,
     ) -> Result<(), AllocError>
-        requires { AllByRecursion IsPlainByte text.now }
+        requires { AllByRecursion IsLineByte text.now }
         ensures line { OnOk result
             (self.new ≡ (do_all limit pen.old (of_chars text.now) self.old).line) }
         ensures pen { OnOk result
@@ -509,11 +502,6 @@ impl Line {
         ensures text { OnOk result (out.new.items ≡ out.old.items
             ++ texts_of painted (do_all limit pen.old (of_chars text.now) self.old).lines) }
     {
-        if self.is_straight(limit, pen, text, painted) {
-            out.extend_from_slice(text)?;
-            *pen = pen.behind(Step::NewLine, 0);
-            return Ok(());
-        }
         let mut rest = text;
         while let Some((byte, behind)) = rest.split_first() {
             self.take(limit, pen, plain_step(*byte), painted, out)?;

@@ -1,18 +1,18 @@
 //! A stream of which each line is overwritten, as it comes.
 ghost use Rattle.std.specs.Prelude.{◌≡◌, ◌≤◌, ◌<◌, ◌++◌, ℕ, List, OnOk, IfOk, false, length, true};
-ghost use Rattle.std.specs.List.{AllByRecursion};
-ghost use Rattle.csicodec_clean.specs.Bytes.{IsPlainByte};
 ghost use Rattle.csicodec_overwrite.specs.Line.{blank};
+ghost use Rattle.csicodec_overwrite.specs.Private.Plain.{end_of};
+ghost use Rattle.csicodec_overwrite.specs.Private.Seen.{PassesFront};
 ghost use Rattle.csicodec_overwrite.specs.Stream.{Ending, Passes, begun, begun_as, none_held};
 
-use crate::ascii::{InLine, behind_newline, has_line, lines_len, odd_len, style_len};
-use crate::front::{Looks, append_front};
+use crate::ascii::{InLine, begins_straight, behind_end, odd_len};
+use crate::front::append_front;
 use crate::line::Line;
 use crate::paint::append_turned;
 use crate::pen::Pen;
 use crate::reader::Reader;
 use crate::step::Step;
-use csicodec_clean::{PlainAscii, split_front};
+use csicodec_clean::split_front;
 use csicodec_filter::Transform;
 use csicodec_html::Look;
 use csicodec_spans::LIMIT;
@@ -33,8 +33,6 @@ pub struct Overwriter {
     line: Line,
     /// A place that is kept for the steps of a slice.
     steps: Vec<Step>,
-    /// Reads the sequences of a line that is written as it comes.
-    looks: Looks,
 }
 
 impl Model for Overwriter {
@@ -70,7 +68,6 @@ impl Overwriter {
             painted,
             line: Line::new(alloc),
             steps: Vec::new(alloc),
-            looks: Looks::new(alloc),
         }
     }
 
@@ -81,36 +78,16 @@ impl Overwriter {
         self.reader.is_bare()
     }
 
-    /// Takes text of ASCII.
-    fn take_text(&mut self, text: &[u8], out: &mut Vec<u8>) -> Result<(), AllocError>
-        requires plain { AllByRecursion IsPlainByte text.now }
-        requires bare { self.old.reader ≡ none_held }
-        ensures passes { OnOk result ((more : List ℕ) × Passes self.old text.now more self.new
-            × (out.new.items ≡ out.old.items ++ more)) }
+    /// Takes the text of ASCII in front, and answers what is behind it.
+    fn take_text<'a>(&mut self, bytes: &'a [u8], out: &mut Vec<u8>) -> Result<&'a [u8], AllocError>
+        requires { self.old.reader ≡ none_held }
+        ensures passes { IfOk result (λ rest. PassesFront self.old bytes.now rest.now self.new
+            out.old.items out.new.items) }
         ensures reader { OnOk result (self.new.reader ≡ none_held) }
     {
+        let (text, rest) = split_front::<InLine>(bytes);
         self.line
             .put_text(LIMIT, &mut self.pen, text, self.painted, out)?;
-        Ok(())
-    }
-
-    /// Takes the text of ASCII in front, up to its last newline if there is one, and answers what is behind it.
-    fn take_texts<'a>(&mut self, bytes: &'a [u8], out: &mut Vec<u8>) -> Result<&'a [u8], AllocError>
-        requires { self.old.reader ≡ none_held }
-        ensures passes { IfOk result (λ rest. (front : List ℕ) × (text : List ℕ)
-            × (bytes.now ≡ front ++ rest.now) × Passes self.old front text self.new
-            × (out.new.items ≡ out.old.items ++ text)) }
-        ensures reader { OnOk result (self.new.reader ≡ none_held) }
-    {
-        let front = split_front::<PlainAscii>(bytes).0;
-        let mut text = front.split_at(lines_len(front, front.len())).0;
-        let rest = bytes.split_at(text.len()).1;
-        while !text.is_empty() {
-            let most = if self.line.is_blank() { LIMIT / 8 } else { 0 };
-            let (lines, behind) = text.split_at(lines_len(text, most));
-            self.take_text(lines, out)?;
-            text = behind;
-        }
         Ok(rest)
     }
 
@@ -130,9 +107,8 @@ impl Overwriter {
 
     /// Takes some bytes in front step by step, and answers the others.
     fn take_odd<'a>(&mut self, bytes: &'a [u8], out: &mut Vec<u8>) -> Result<&'a [u8], AllocError>
-        ensures passes { IfOk result (λ rest. (front : List ℕ) × (text : List ℕ)
-            × (bytes.now ≡ front ++ rest.now) × Passes self.old front text self.new
-            × (out.new.items ≡ out.old.items ++ text)) }
+        ensures passes { IfOk result (λ rest. PassesFront self.old bytes.now rest.now self.new
+            out.old.items out.new.items) }
         ensures fewer { IfOk result
             (λ rest. 0 < length bytes.now → length rest.now < length bytes.now) }
         ensures held { OnOk result
@@ -143,14 +119,27 @@ impl Overwriter {
         Ok(rest)
     }
 
-    /// Whether a line may begin here that is written as it comes, and has a sequence that sets how it looks.
+    /// Whether a line may begin here that is written as it comes.
     fn begins_line(&self, bytes: &[u8]) -> bool
         ensures { result ≡ true → (self.now.line ≡ blank) × (self.now.pen.inserts ≡ false) }
     {
         if !self.line.is_blank() || self.pen.inserts {
             return false;
         }
-        style_len(split_front::<InLine>(bytes).1) > 0 && has_line(bytes)
+        begins_straight(bytes)
+    }
+
+    /// Ends the line.
+    fn take_end(&mut self, out: &mut Vec<u8>) -> Result<(), AllocError>
+        requires { self.old.reader ≡ none_held }
+        ensures passes { OnOk result ((text : List ℕ)
+            × ((returned : _) → Passes self.old (end_of returned) text self.new)
+            × (out.new.items ≡ out.old.items ++ text)) }
+        ensures reader { OnOk result (self.new.reader ≡ none_held) }
+    {
+        self.line.end(self.painted, out)?;
+        self.pen.take(Step::NewLine, 0);
+        Ok(())
     }
 
     /// Takes the line in front, written as it comes. Where it can't be, it takes step by step the bytes that might have been written so.
@@ -158,21 +147,18 @@ impl Overwriter {
         requires bare { self.old.reader ≡ none_held }
         requires blank { self.old.line ≡ blank }
         requires over { self.old.pen.inserts ≡ false }
-        ensures passes { IfOk result (λ rest. (front : List ℕ) × (text : List ℕ)
-            × (bytes.now ≡ front ++ rest.now) × Passes self.old front text self.new
-            × (out.new.items ≡ out.old.items ++ text)) }
+        ensures passes { IfOk result (λ rest. PassesFront self.old bytes.now rest.now self.new
+            out.old.items out.new.items) }
         ensures held { OnOk result (length self.new.reader.held ≤ 3) }
     {
         let before = out.len();
-        let front = append_front(&mut self.looks, self.pen, self.painted, bytes, out)?;
-        if let Some(rest) = behind_newline(front.rest) {
+        let (pen, painted) = (self.pen, self.painted);
+        let front = append_front(&mut self.reader, &mut self.steps, pen, painted, bytes, out)?;
+        if let Some(rest) = behind_end(front.rest) {
             append_turned(self.painted, front.last, Look::plain(), out)?;
             out.push(b'\n')?;
-            let pen = Pen {
-                look: front.now,
-                ..self.pen
-            };
-            self.pen = pen.behind(Step::NewLine, 0);
+            self.pen.look = front.now;
+            self.pen.take(Step::NewLine, 0);
             return Ok(rest);
         }
         out.truncate(before);
@@ -181,26 +167,28 @@ impl Overwriter {
         Ok(rest)
     }
 
-    /// Takes the line in front, or the text of ASCII.
+    /// Takes the end of the line in front, or a line, or the text of ASCII.
     fn take_ready<'a>(&mut self, bytes: &'a [u8], out: &mut Vec<u8>) -> Result<&'a [u8], AllocError>
         requires { self.old.reader ≡ none_held }
-        ensures passes { IfOk result (λ rest. (front : List ℕ) × (text : List ℕ)
-            × (bytes.now ≡ front ++ rest.now) × Passes self.old front text self.new
-            × (out.new.items ≡ out.old.items ++ text)) }
+        ensures passes { IfOk result (λ rest. PassesFront self.old bytes.now rest.now self.new
+            out.old.items out.new.items) }
         ensures held { OnOk result (length self.new.reader.held ≤ 3) }
     {
+        if let Some(rest) = behind_end(bytes) {
+            self.take_end(out)?;
+            return Ok(rest);
+        }
         if self.begins_line(bytes) {
             return self.take_line(bytes, out);
         }
-        let rest = self.take_texts(bytes, out)?;
+        let rest = self.take_text(bytes, out)?;
         Ok(rest)
     }
 
     /// Takes a line or the text of ASCII in front, where nothing is open or held, or else some bytes step by step, and answers the others.
     fn take_front<'a>(&mut self, bytes: &'a [u8], out: &mut Vec<u8>) -> Result<&'a [u8], AllocError>
-        ensures passes { IfOk result (λ rest. (front : List ℕ) × (text : List ℕ)
-            × (bytes.now ≡ front ++ rest.now) × Passes self.old front text self.new
-            × (out.new.items ≡ out.old.items ++ text)) }
+        ensures passes { IfOk result (λ rest. PassesFront self.old bytes.now rest.now self.new
+            out.old.items out.new.items) }
         ensures fewer { IfOk result
             (λ rest. 0 < length bytes.now → length rest.now < length bytes.now) }
         ensures held { OnOk result

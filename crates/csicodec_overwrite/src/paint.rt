@@ -92,6 +92,7 @@ fn append_given(set: bool, attribute: Sgr, out: &mut Vec<u8>) -> Result<(), Allo
 }
 
 /// Appends the sequence from which on characters look so.
+#[inline(never)]
 fn append_look(look: Look, out: &mut Vec<u8>) -> Result<(), AllocError>
     ensures { OnOk result (out.new.items ≡ out.old.items ++ look_text look) }
 {
@@ -114,6 +115,7 @@ fn append_look(look: Look, out: &mut Vec<u8>) -> Result<(), AllocError>
 }
 
 /// Appends the sequence between two looks, where they aren't one.
+#[inline(always)]
 fn append_turn(old: Look, new: Look, out: &mut Vec<u8>) -> Result<(), AllocError>
     ensures { OnOk result (out.new.items ≡ out.old.items ++ turn old new) }
 {

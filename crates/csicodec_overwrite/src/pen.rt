@@ -1,7 +1,6 @@
 //! How characters are put, and what is saved.
-ghost use Rattle.std.specs.Prelude.{◌≡◌, true};
+ghost use Rattle.std.specs.Prelude.{◌≡◌};
 ghost use Rattle.csicodec_overwrite.specs.Line.{fresh, last_behind, pen_behind};
-ghost use Rattle.csicodec_overwrite.specs.Private.Plain.{PutsPlain};
 
 use crate::sides::width;
 use crate::step::Step;
@@ -22,6 +21,16 @@ pub struct Pen {
     pub here: bool,
 }
 
+/// What REP repeats behind one more character: a mark isn't repeated.
+fn last_behind(last: Option<char>, char: char) -> Option<char>
+    ensures { result ≡ last_behind last char }
+{
+    if width(char, 0) == 0 {
+        return last;
+    }
+    Some(char)
+}
+
 impl Pen {
     /// With nothing set or saved.
     pub fn new() -> Pen
@@ -36,54 +45,25 @@ impl Pen {
         }
     }
 
-    /// Whether it puts characters in place of others, and without attributes, if lines are painted.
-    pub(crate) fn puts_plain(&self, painted: bool) -> bool
-        ensures { result ≡ true → PutsPlain painted self.now }
-    {
-        if self.inserts {
-            return false;
-        }
-        if painted {
-            return self.look == Look::plain();
-        }
-        true
-    }
-
-    /// What REP repeats behind one more character: a mark isn't repeated.
-    fn last_behind(self, char: char) -> Option<char>
-        ensures { result ≡ last_behind self.last char }
-    {
-        if width(char, 0) == 0 {
-            return self.last;
-        }
-        Some(char)
-    }
-
-    /// What it is behind a step that is done where so many columns are left of the cursor.
+    /// Takes a step that is done where so many columns are left of the cursor.
     #[inline(always)]
-    pub(crate) fn behind(self, step: Step, column: usize) -> Pen
-        ensures { result ≡ pen_behind self step column }
+    pub(crate) fn take(&mut self, step: Step, column: usize)
+        ensures { self.new ≡ pen_behind self.old step column }
     {
-        let pen = Pen { last: None, ..self };
+        let last = self.last;
+        self.last = None;
         match step {
-            Step::Put(char) => Pen {
-                last: self.last_behind(char),
-                ..self
-            },
-            Step::Attribute(attribute) => Pen {
-                look: self.look.behind(&attribute),
-                ..pen
-            },
-            Step::Inserts(inserts) => Pen { inserts, ..pen },
-            Step::Save => Pen {
-                saved: column,
-                here: true,
-                ..pen
-            },
-            Step::Restore => Pen { here: true, ..pen },
-            Step::NewLine | Step::Leave(_) => Pen { here: false, ..pen },
-            Step::Reset => Pen::new(),
-            _ => pen,
+            Step::Put(char) => self.last = last_behind(last, char),
+            Step::Attribute(attribute) => self.look = self.look.behind(&attribute),
+            Step::Inserts(inserts) => self.inserts = inserts,
+            Step::Save => {
+                self.saved = column;
+                self.here = true;
+            }
+            Step::Restore => self.here = true,
+            Step::NewLine | Step::Leave(_) => self.here = false,
+            Step::Reset => *self = Pen::new(),
+            _ => (),
         }
     }
 }

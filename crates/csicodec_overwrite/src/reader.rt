@@ -11,6 +11,7 @@ ghost use Rattle.csicodec_overwrite.specs.Private.Spans.{GoesTo, IsGiven};
 ghost use Rattle.csicodec_overwrite.specs.Steps.{of_run, of_sequence};
 ghost use Rattle.csicodec_overwrite.specs.Stream.{Reads, none_held};
 
+use crate::seen::Seen;
 use crate::step::Step;
 use crate::text::{
     append_actions, append_escape, append_run, append_string, append_text, append_wrong,
@@ -85,14 +86,19 @@ pub(crate) struct Reader {
     /// Places that are kept for the tokens and the actions of a sequence.
     params: Vec<CsiParam>,
     actions: Vec<CSI>,
+    /// What came before.
+    seen: Seen,
 }
 
 impl Model for Reader {
+    ghost use Rattle.csicodec_overwrite.specs.Private.Seen.{AreSlices};
     ghost use Rattle.csicodec_overwrite.specs.Stream.{Held};
 
     ghost Value = { Held };
 
     ghost view = { λ r. record { mode = r.mode; titled = r.titled; bytes = r.pending.items; held = r.held.items } };
+
+    ghost invariant = { λ r. AreSlices r.seen.kept.items };
 }
 
 /// Appends the steps of all spans of the bytes that are sure, and answers the bytes that aren't, and the mode there.
@@ -142,6 +148,7 @@ impl Reader {
             held: Vec::new(alloc),
             params: Vec::new(alloc),
             actions: Vec::new(alloc),
+            seen: Seen::new(alloc),
         }
     }
 
@@ -162,8 +169,8 @@ impl Reader {
         self.held.clear();
     }
 
-    /// Takes the next bytes, and appends the steps of all that is sure now.
-    pub(crate) fn push(&mut self, bytes: &[u8], steps: &mut Vec<Step>) -> Result<(), AllocError>
+    /// Reads the next bytes, and appends the steps of all that is sure now.
+    fn read(&mut self, bytes: &[u8], steps: &mut Vec<Step>) -> Result<(), AllocError>
         ensures reads { OnOk result ((more : _) × Reads self.old bytes.now more self.new
             × (steps.new.items ≡ steps.old.items ++ more)) }
         // What is held of a character is short.
@@ -183,6 +190,25 @@ impl Reader {
         let used = self.pending.len() - rest.len();
         self.mode = mode;
         keep_from(&mut self.pending, used);
+        Ok(())
+    }
+
+    /// Takes the next bytes, and appends the steps of all that is sure now.
+    pub(crate) fn push(&mut self, bytes: &[u8], steps: &mut Vec<Step>) -> Result<(), AllocError>
+        ensures reads { OnOk result ((more : _) × Reads self.old bytes.now more self.new
+            × (steps.new.items ≡ steps.old.items ++ more)) }
+        // What is held of a character is short.
+        ensures held { OnOk result (length self.old.held ≤ 3 → length self.new.held ≤ 3) }
+    {
+        let is_bare = self.is_bare();
+        if is_bare && self.seen.recall(bytes, steps)? {
+            return Ok(());
+        }
+        let before = steps.len();
+        self.read(bytes, steps)?;
+        if is_bare && self.is_bare() {
+            self.seen.keep(bytes, steps.split_at(before).1)?;
+        }
         Ok(())
     }
 

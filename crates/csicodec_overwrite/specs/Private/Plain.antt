@@ -1,24 +1,10 @@
--- Plain text that is put at once. No promise rests on this file.
-use Rattle.std.specs.Prelude.{ℕ, ◌≡◌, ◌≤◌, ◌<◌, ◌*◌, ◌==◌, ◌&&◌, ◌||◌, nat_le, nat_lt, Bool, true, false, List, [], ◌∷◌, ◌++◌, length, None}
+-- Text of ASCII that is put at once. No promise rests on this file.
+use Rattle.std.specs.Prelude.{ℕ, ◌≡◌, ◌≤◌, ◌<◌, ◌==◌, ◌&&◌, ◌||◌, nat_le, nat_lt, Bool, true, false, List, [], ◌∷◌, length, None}
 use Rattle.std.specs.List.{AllByRecursion}
-use Rattle.csicodec_html.specs.Look.{plain}
 use Rattle.csicodec_overwrite.specs.declared.cells.Cell.{Cell}
 use Rattle.csicodec_overwrite.specs.declared.line.Line.{Line}
 use Rattle.csicodec_overwrite.specs.declared.pen.Pen.{Pen}
 use Rattle.csicodec_overwrite.specs.Cells.{is_empty}
-use Rattle.csicodec_overwrite.specs.Line.{blank}
-
--- text that ends its line, and so short that a line of so many cells has room for it
-abbrev pub IsShortLine : ℕ → List ℕ → Type 0
-IsShortLine limit text = (front : List ℕ) × (text ≡ front ++ 10 ∷ []) × (8 * length text ≤ limit)
-
--- characters are put in place of others, without attributes that are painted
-abbrev pub PutsPlain : Bool → Pen → Type 0
-PutsPlain painted pen = (pen.inserts ≡ false) × (painted ≡ true → pen.look ≡ plain)
-
--- nothing stands in the line, and the text stands as it comes
-abbrev pub IsStraight : ℕ → Bool → Pen → List ℕ → Line → Type 0
-IsStraight limit painted pen text l = (l ≡ blank) × PutsPlain painted pen × IsShortLine limit text
 
 -- a character of ASCII that is no control comes behind all cells of a line that has room for it
 abbrev pub GoesBehind : ℕ → Pen → ℕ → Line → Type 0
@@ -41,3 +27,8 @@ AreFull cells = AllByRecursion IsFull cells
 -- behind a newline
 abbrev pub closed : Pen → Pen
 closed pen = record pen { last = None; here = false }
+
+-- the end of a line, behind a return or none
+abbrev pub end_of : Bool → List ℕ
+end_of false = 10 ∷ []
+end_of true = 13 ∷ 10 ∷ []

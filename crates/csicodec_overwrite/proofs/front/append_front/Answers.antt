@@ -11,6 +11,7 @@ pub loop-run-init : goal.loop-run-init
 loop-run-init c = record {
   front =
       ([], [], refl, rw c.plain-last.ensures (front_none c.args.painted c.args.pen), sym (append-nil c.args.out.now.items));
+  bare = c.requires.bare;
 }
 
 pub loop-run-preserved : goal.loop-run-preserved
@@ -36,7 +37,7 @@ loop-run-preserved c =
       length-append run behind,
       length-append front run,
     ) in
-    let g = run_on c.args.painted c.args.pen front text l.last l.now f run c.requires plain few in
+    let g = run_on c.args.painted c.args.pen front text l.last l.now f run c.requires.over plain few in
     let own = run_text c.args.painted l.last l.now run in
     let (looks, longer) = c.in_ok-last.ensures in
     record {
@@ -49,10 +50,11 @@ loop-run-preserved c =
             (rw c.in-Some.is at c.in_ok-after.ensures.sets)),
         longer ∙ ap (λ t. t ++ own) out ∙ append_assoc c.args.out.now.items text own,
       );
+      bare = c.in_ok-after.ensures.bare;
     }
 
-pub returns-in_default : goal.returns-in_default
-returns-in_default c =
+pub returns-in_default-clause-written : goal.returns-in_default-clause-written
+returns-in_default-clause-written c =
     let l = c.loop-run in
     let (front, text, split, f, out) = l.invariant.front in
     let rest = l.rest.now in
@@ -77,6 +79,6 @@ returns-in_default c =
       front ++ run,
       text ++ own,
       split ∙ ap (λ t. front ++ t) parts ∙ sym (append_assoc front run behind),
-      rw looks (run_on c.args.painted c.args.pen front text l.last l.now f run c.requires plain few),
+      rw looks (run_on c.args.painted c.args.pen front text l.last l.now f run c.requires.over plain few),
       longer ∙ ap (λ t. t ++ own) out ∙ append_assoc c.args.out.now.items text own,
     )

@@ -1,15 +1,15 @@
 use Rattle.std.proofs.Common.{◌≡◌, ◌++◌, length}
 use Rattle.std.specs.List.{AllByRecursion}
-use Rattle.csicodec_clean.specs.Bytes.{IsPlainByte}
 use Rattle.csicodec_overwrite.specs.Line.{do_all, pen_behind_all}
 use Rattle.csicodec_overwrite.specs.Paint.{texts_of}
 use Rattle.csicodec_overwrite.specs.Steps.{of_chars}
+use Rattle.csicodec_overwrite.specs.Private.Plain.{IsLineByte}
 use Rattle.csicodec_overwrite.proofs.line.Line.put_text.Given as goal
 
 -- the characters up to here are put
 abbrev pub invariant-loop-byte : goal.invariant-loop-byte
 invariant-loop-byte l = record {
-  plain : AllByRecursion IsPlainByte l.rest;
+  plain : AllByRecursion IsLineByte l.rest;
   line : (do_all l.limit l.pen (of_chars l.rest) l.self).line ≡ (do_all l.limit l.initial.pen (of_chars l.text) l.initial.self).line;
   pen : pen_behind_all l.limit l.pen (of_chars l.rest) l.self ≡ pen_behind_all l.limit l.initial.pen (of_chars l.text) l.initial.self;
   text : l.out.items ++ texts_of l.painted (do_all l.limit l.pen (of_chars l.rest) l.self).lines ≡ l.initial.out.items ++ texts_of l.painted (do_all l.limit l.initial.pen (of_chars l.text) l.initial.self).lines;

@@ -1,7 +1,7 @@
-use Rattle.std.proofs.Common.{◌++◌, rules, sym, ap, subst, ◌∙◌, append_assoc}
+use Rattle.std.proofs.Common.{rules, subst}
 use Rattle.csicodec_filter.proofs.Sent.{none_left}
 use Rattle.csicodec_overwrite.specs.Stream.{Passes}
-use Rattle.csicodec_overwrite.proofs.Written.{passes_on}
+use Rattle.csicodec_overwrite.proofs.Written.{front_on}
 use Rattle.csicodec_overwrite.proofs.overwriter.Overwriter.push.Goals as goal
 
 pub loop-rest-init : goal.loop-rest-init
@@ -10,16 +10,9 @@ loop-rest-init c = record { passes = c.in_ok-rest.ensures.passes; held = c.in_ok
 pub loop-rest-preserved : goal.loop-rest-preserved
 loop-rest-preserved c =
     let l = c.loop-rest in
-    let (front, text, split, passes, out) = l.invariant.passes in
-    let (here, more, next, then, longer) = c.in_ok-rest-2.ensures.passes in
     record {
-      passes = (
-        front ++ here,
-        text ++ more,
-        split ∙ ap (λ t. front ++ t) next ∙ sym (append_assoc front here c.in_ok-rest-2.rest.now),
-        passes_on c.args.self.now l.self c.take_front-in-loop-rest.new.self front here text more passes then,
-        longer ∙ ap (λ t. t ++ more) out ∙ append_assoc c.args.out.now.items text more,
-      );
+      passes = front_on c.args.self.now l.self c.take_front-in-loop-rest.new.self c.args.bytes.now l.rest.now c.in_ok-rest-2.rest.now c.args.out.now.items
+          l.out.items c.take_front-in-loop-rest.new.out.items l.invariant.passes c.in_ok-rest-2.ensures.passes;
       held = λ few. c.in_ok-rest-2.ensures.held (l.invariant.held few);
     }
 

@@ -1,5 +1,5 @@
-use Rattle.std.proofs.Common.{◌++◌, sym, ap, ◌∙◌, append_assoc, arith, length, length-append}
-use Rattle.csicodec_overwrite.proofs.Written.{passes_on}
+use Rattle.std.proofs.Common.{ap, arith, length, length-append}
+use Rattle.csicodec_overwrite.proofs.Written.{front_on}
 use Rattle.csicodec_overwrite.proofs.overwriter.Overwriter.take_front.Goals as goal
 
 pub take_ready-requires : goal.take_ready-requires
@@ -16,14 +16,8 @@ returns-then-rest-bytes-clause-held c = λ few. c.in_ok-rest.ensures.held
 
 pub returns-clause-passes : goal.returns-clause-passes
 returns-clause-passes c =
-    let (front, text, split, passes, out) = c.in_ok-rest.ensures.passes in
-    let (here, more, next, then, longer) = c.in_ok-odd.ensures.passes in (
-      front ++ here,
-      text ++ more,
-      split ∙ ap (λ t. front ++ t) next ∙ sym (append_assoc front here c.in_ok-odd.odd.now),
-      passes_on c.args.self.now c.take_ready.new.self c.take_odd-2.new.self front here text more passes then,
-      longer ∙ ap (λ t. t ++ more) out ∙ append_assoc c.args.out.now.items text more,
-    )
+    front_on c.args.self.now c.take_ready.new.self c.take_odd-2.new.self c.args.bytes.now c.in_ok-rest.rest.now c.in_ok-odd.odd.now c.args.out.now.items
+    c.take_ready.new.out.items c.take_odd-2.new.out.items c.in_ok-rest.ensures.passes c.in_ok-odd.ensures.passes
 
 pub returns-clause-fewer : goal.returns-clause-fewer
 returns-clause-fewer c = λ some.

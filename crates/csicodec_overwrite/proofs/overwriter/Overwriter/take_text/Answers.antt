@@ -1,16 +1,30 @@
-use Rattle.std.proofs.Common.{refl}
+use Rattle.std.proofs.Common.{◌≡◌, ◌++◌, refl, sym, take-append-drop}
+use Rattle.std.specs.List.{AllByRecursion, prefix_len}
+use Rattle.csicodec_clean.proofs.Bytes.{front_in}
 use Rattle.csicodec_overwrite.specs.Steps.{of_chars}
-use Rattle.csicodec_overwrite.proofs.Straight.{reads_text}
+use Rattle.csicodec_overwrite.specs.Private.Plain.{IsLineByte, line_byte}
+use Rattle.csicodec_overwrite.proofs.Straight.{lines_plain, reads_plain}
 use Rattle.csicodec_overwrite.proofs.Written.{pushed}
 use Rattle.csicodec_overwrite.proofs.overwriter.Overwriter.take_text.Goals as goal
 
+pub put_text-requires : goal.put_text-requires
+put_text-requires c = rw c.split_front.ensures.front (front_in line_byte c.args.bytes.now)
+
 pub returns-clause-passes : goal.returns-clause-passes
 returns-clause-passes c =
-    let bare = rw (← c.self.view_is) at c.requires.bare in
-    rw (← c.self.view_is)
-    (pushed (record { reader = c.self.inside.reader; pen = c.self.inside.pen; painted = c.self.inside.painted; line = c.self.inside.line })
-    (record { reader = c.self.inside.reader; pen = c.put_text.new.pen; painted = c.self.inside.painted; line = c.put_text.new.self }) c.args.text.now (of_chars c.args.text.now) c.args.out.now.items c.put_text.new.out.items
-    (reads_text c.self.inside.reader c.args.text.now bare c.requires.plain) c.in_ok-put_text.ensures.pen refl c.in_ok-put_text.ensures.line c.in_ok-put_text.ensures.text)
+    let now = c.self.inside in
+    let bytes = c.args.bytes.now in
+    let text = c.split_front.result.0.now in
+    let bare = rw (← c.self.view_is) at c.requires in
+    let parts : bytes ≡ text ++ c.split_front.result.1.now =
+    rw (c.split_front.ensures.front, c.split_front.ensures.rest) (sym (take-append-drop (prefix_len line_byte bytes) bytes)) in
+    let plain : AllByRecursion IsLineByte text = rw c.split_front.ensures.front (front_in line_byte bytes) in
+    let (more, passes, out) =
+    pushed (record { reader = now.reader; pen = now.pen; painted = now.painted; line = now.line })
+    (record { reader = now.reader; pen = c.put_text.new.pen; painted = now.painted; line = c.put_text.new.self }) text (of_chars text) c.args.out.now.items
+    c.put_text.new.out.items (rw bare (reads_plain text (lines_plain text plain))) c.in_ok-put_text.ensures.pen refl c.in_ok-put_text.ensures.line
+    c.in_ok-put_text.ensures.text in
+    rw (← c.self.view_is) (text, more, parts, passes, out)
 
 pub returns-clause-reader : goal.returns-clause-reader
-returns-clause-reader c = rw (← c.self.view_is) at c.requires.bare
+returns-clause-reader c = rw (← c.self.view_is) at c.requires

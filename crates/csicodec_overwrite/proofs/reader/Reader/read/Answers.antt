@@ -2,7 +2,7 @@ use Rattle.std.proofs.Common.{◌≡◌, ◌++◌, ◌∙◌, arith}
 use Rattle.std.proofs.lemmas.Grind.{common_steps}
 use Rattle.csicodec_spans.proofs.Spanned.{rest_is}
 use Rattle.csicodec_overwrite.proofs.Read.{reads_from}
-use Rattle.csicodec_overwrite.proofs.reader.Reader.push.Goals as goal
+use Rattle.csicodec_overwrite.proofs.reader.Reader.read.Goals as goal
 
 pub returns-clause-reads : goal.returns-clause-reads
 returns-clause-reads c =

@@ -1,0 +1,20 @@
+use Rattle.std.proofs.Common.{refl}
+use Rattle.csicodec_overwrite.specs.Line.{cells_of}
+use Rattle.csicodec_overwrite.specs.Paint.{ended}
+use Rattle.csicodec_overwrite.proofs.Ends.{end_passes}
+use Rattle.csicodec_overwrite.proofs.overwriter.Overwriter.take_end.Goals as goal
+
+pub returns-clause-passes : goal.returns-clause-passes
+returns-clause-passes c =
+    let now = c.self.inside in
+    let bare = rw (← c.self.view_is) at c.requires in
+    rw (← c.self.view_is) (
+      ended now.painted (cells_of now.line),
+      end_passes (record { reader = now.reader; pen = now.pen; painted = now.painted; line = now.line })
+          (record { reader = now.reader; pen = c.take.new.self; painted = now.painted; line = c.end.new.self }) bare refl refl
+          c.in_ok-end.ensures.none c.take.ensures,
+      c.in_ok-end.ensures.text,
+    )
+
+pub returns-clause-reader : goal.returns-clause-reader
+returns-clause-reader c = rw (← c.self.view_is) at c.requires

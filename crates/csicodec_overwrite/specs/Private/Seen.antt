@@ -1,0 +1,18 @@
+-- What a table of slices that came before holds, and what is taken of a slice. No promise rests on this file.
+use Rattle.std.specs.Prelude.{ℕ, ◌≡◌, List, ◌++◌}
+use Rattle.std.specs.List.{All}
+use Rattle.csicodec_overwrite.specs.declared.seen.Slice.{Slice}
+use Rattle.csicodec_overwrite.specs.Stream.{Now, Passes, Reads, none_held}
+
+-- the steps are those of the bytes
+abbrev pub IsSlice : Slice → Type 0
+IsSlice s = Reads none_held s.bytes.items s.steps.items none_held
+
+-- of each that is kept
+abbrev pub AreSlices : List Slice → Type 0
+AreSlices kept = All IsSlice kept
+
+-- the bytes in front of the rest pass, and their text is appended
+abbrev pub PassesFront : Now → List ℕ → List ℕ → Now → List ℕ → List ℕ → Type 0
+PassesFront old bytes rest new before after = (front : List ℕ) × (text : List ℕ) × (bytes ≡ front ++ rest)
+    × Passes old front text new × (after ≡ before ++ text)

@@ -1,0 +1,125 @@
+//! Slices that came before, and their steps: one that comes again is looked up, and not read again.
+ghost use Rattle.std.specs.Prelude.{◌≡◌, ◌++◌, false, true, IfOk};
+ghost use Rattle.csicodec_overwrite.specs.Private.Seen.{AreSlices, IsSlice};
+ghost use Rattle.csicodec_overwrite.specs.Stream.{Reads, none_held};
+
+use crate::step::Step;
+use std::alloc::{AllocError, Global};
+
+/// How many places there are for slices.
+const PLACES: usize = 1024;
+
+/// Of how many bytes one that is kept is at most.
+const LONGEST: usize = 32;
+
+/// A number without a pattern, by which a hash is multiplied.
+const SPREAD: u64 = 0x9e37_79b9_7f4a_7c15;
+
+/// A slice, before which and behind which nothing is open or held, and its steps.
+#[derive(Drop)]
+pub(crate) struct Slice {
+    bytes: Vec<u8>,
+    steps: Vec<Step>,
+}
+
+/// A table of slices that came before. It takes no memory until one comes.
+#[derive(Drop)]
+pub(crate) struct Seen {
+    kept: Vec<Slice>,
+    /// Which of them each place has; one that is empty has none.
+    places: Vec<u16>,
+}
+
+/// The place of a slice; one that is long has none.
+fn place(bytes: &[u8]) -> usize {
+    if bytes.len() > LONGEST {
+        return PLACES;
+    }
+    let mut number = 0u64;
+    for byte in bytes {
+        number = (number ^ u64::from(*byte))
+            .wrapping_mul(SPREAD)
+            .rotate_left(9);
+    }
+    (number >> 54) as usize
+}
+
+impl Seen {
+    /// With nothing kept.
+    pub(crate) fn new(alloc: Global) -> Seen
+        ensures { AreSlices result.kept.items }
+    {
+        Seen {
+            kept: Vec::new(alloc),
+            places: Vec::new(alloc),
+        }
+    }
+
+    /// Which slice a place has.
+    fn at(&self, place: usize) -> usize {
+        match self.places.get(place) {
+            Some(at) => usize::from(*at),
+            None => usize::MAX,
+        }
+    }
+
+    /// Appends the steps of a slice, if it is kept, and answers whether it is.
+    pub(crate) fn recall(&self, bytes: &[u8], steps: &mut Vec<Step>) -> Result<bool, AllocError>
+        requires { AreSlices self.now.kept.items }
+        ensures known { IfOk result (λ known. known ≡ true
+            → (more : _) × Reads none_held bytes.now more none_held
+            × (steps.new.items ≡ steps.old.items ++ more)) }
+        ensures none { IfOk result
+            (λ known. known ≡ false → steps.new.items ≡ steps.old.items) }
+    {
+        let at = self.at(place(bytes));
+        if at >= self.kept.len() {
+            return Ok(false);
+        }
+        let slice = &self.kept[at];
+        if slice.bytes.as_slice() != bytes {
+            return Ok(false);
+        }
+        steps.extend_from_slice(&slice.steps)?;
+        Ok(true)
+    }
+
+    /// Keeps a slice and its steps, unless it is long.
+    pub(crate) fn keep(&mut self, bytes: &[u8], steps: &[Step]) -> Result<(), AllocError>
+        requires kept { AreSlices self.old.kept.items }
+        requires read { Reads none_held bytes.now steps.now none_held }
+        ensures { AreSlices self.new.kept.items }
+    {
+        let place = place(bytes);
+        if place >= PLACES {
+            return Ok(());
+        }
+        let alloc = *self.places.allocator();
+        let mut slice = Slice {
+            bytes: Vec::new(alloc),
+            steps: Vec::new(alloc),
+        };
+        slice.bytes.extend_from_slice(bytes)?;
+        slice.steps.extend_from_slice(steps)?;
+        self.places.resize(PLACES, u16::MAX)?;
+        self.put(place, slice)
+    }
+
+    /// Puts a slice into its place.
+    fn put(&mut self, place: usize, slice: Slice) -> Result<(), AllocError>
+        requires kept { AreSlices self.old.kept.items }
+        requires read { IsSlice slice }
+        ensures { AreSlices self.new.kept.items }
+    {
+        let Some(own) = self.places.get_mut(place) else {
+            return Ok(());
+        };
+        let at = usize::from(*own);
+        if at < self.kept.len() {
+            self.kept[at] = slice;
+            return Ok(());
+        }
+        *own = self.kept.len() as u16;
+        Ok(self.kept.push(slice)?)
+    }
+}

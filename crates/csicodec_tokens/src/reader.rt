@@ -227,6 +227,7 @@ fn tokens_from(bytes: &[u8], start: &[u8]) -> Result<usize, ReadError>
 /// ```text
 /// let rest = behind_csi(b"\x1b[0001;?m!")?;                     // b"!"
 /// ```
+#[inline(always)]
 pub fn behind_csi(bytes: &[u8]) -> Result<&[u8], ReadError>
     // What stands before them is a sequence.
     ensures found { IfOk result (λ rest. (list : List CsiParam) × (final : ℕ)

@@ -1,5 +1,5 @@
 //! A stream of which each line is overwritten, as it comes.
-ghost use Rattle.std.specs.Prelude.{◌≡◌, ◌≤◌, ◌<◌, ◌++◌, ℕ, List, OnOk, IfOk, false, length, true};
+ghost use Rattle.std.specs.Prelude.{◌≡◌, ◌≤◌, ◌<◌, ◌++◌, ℕ, List, OnOk, IfNone, IfOk, IfSome, false, length, true};
 ghost use Rattle.csicodec_overwrite.specs.Line.{blank};
 ghost use Rattle.csicodec_overwrite.specs.Private.Plain.{end_of};
 ghost use Rattle.csicodec_overwrite.specs.Private.Seen.{PassesFront};
@@ -33,6 +33,8 @@ pub struct Overwriter {
     line: Line,
     /// A place that is kept for the steps of a slice.
     steps: Vec<Step>,
+    /// Where more bytes than so many are left, the line can't be written as it comes.
+    crooked: usize,
 }
 
 impl Model for Overwriter {
@@ -68,7 +70,15 @@ impl Overwriter {
             painted,
             line: Line::new(alloc),
             steps: Vec::new(alloc),
+            crooked: usize::MAX,
         }
+    }
+
+    /// Before the next bytes, no line is known that can't be written as it comes.
+    fn begin(&mut self)
+        ensures { self.new ≡ self.old }
+    {
+        self.crooked = usize::MAX;
     }
 
     /// Whether nothing is open or held.
@@ -123,7 +133,7 @@ impl Overwriter {
     fn begins_line(&self, bytes: &[u8]) -> bool
         ensures { result ≡ true → (self.now.line ≡ blank) × (self.now.pen.inserts ≡ false) }
     {
-        if !self.line.is_blank() || self.pen.inserts {
+        if bytes.len() > self.crooked || !self.line.is_blank() || self.pen.inserts {
             return false;
         }
         begins_straight(bytes)
@@ -142,29 +152,34 @@ impl Overwriter {
         Ok(())
     }
 
-    /// Takes the line in front, written as it comes. Where it can't be, it takes step by step the bytes that might have been written so.
-    fn take_line<'a>(&mut self, bytes: &'a [u8], out: &mut Vec<u8>) -> Result<&'a [u8], AllocError>
+    /// Takes the line in front, written as it comes, and answers what is behind it. Where it can't be, it takes nothing.
+    fn take_line<'a>(
+        &mut self,
+        bytes: &'a [u8],
+        out: &mut Vec<u8>,
+    ) -> Result<Option<&'a [u8]>, AllocError>
         requires bare { self.old.reader ≡ none_held }
         requires blank { self.old.line ≡ blank }
         requires over { self.old.pen.inserts ≡ false }
-        ensures passes { IfOk result (λ rest. PassesFront self.old bytes.now rest.now self.new
-            out.old.items out.new.items) }
-        ensures held { OnOk result (length self.new.reader.held ≤ 3) }
+        ensures passes { IfOk result (λ o. IfSome o
+            (λ rest. PassesFront self.old bytes.now rest.now self.new out.old.items out.new.items)) }
+        ensures none { IfOk result
+            (λ o. IfNone o ((self.new ≡ self.old) × (out.new.items ≡ out.old.items))) }
+        ensures reader { OnOk result (self.new.reader ≡ none_held) }
     {
         let before = out.len();
         let (pen, painted) = (self.pen, self.painted);
         let front = append_front(&mut self.reader, &mut self.steps, pen, painted, bytes, out)?;
-        if let Some(rest) = behind_end(front.rest) {
-            append_turned(self.painted, front.last, Look::plain(), out)?;
-            out.push(b'\n')?;
-            self.pen.look = front.now;
-            self.pen.take(Step::NewLine, 0);
-            return Ok(rest);
-        }
-        out.truncate(before);
-        let (odd, rest) = bytes.split_at(bytes.len().saturating_sub(front.rest.len()));
-        self.take_steps(odd, out)?;
-        Ok(rest)
+        let Some(rest) = behind_end(front.rest) else {
+            out.truncate(before);
+            self.crooked = front.rest.len();
+            return Ok(None);
+        };
+        append_turned(self.painted, front.last, Look::plain(), out)?;
+        out.push(b'\n')?;
+        self.pen.look = front.now;
+        self.pen.take(Step::NewLine, 0);
+        Ok(Some(rest))
     }
 
     /// Takes the end of the line in front, or a line, or the text of ASCII.
@@ -178,8 +193,10 @@ impl Overwriter {
             self.take_end(out)?;
             return Ok(rest);
         }
-        if self.begins_line(bytes) {
-            return self.take_line(bytes, out);
+        if self.begins_line(bytes)
+            && let Some(rest) = self.take_line(bytes, out)?
+        {
+            return Ok(rest);
         }
         let rest = self.take_text(bytes, out)?;
         Ok(rest)
@@ -213,6 +230,7 @@ impl Overwriter {
         ensures held { OnOk result
             (length self.old.reader.held ≤ 3 → length self.new.reader.held ≤ 3) }
     {
+        self.begin();
         let mut rest = self.take_front(bytes, out)?;
         while !rest.is_empty() {
             rest = self.take_front(rest, out)?;

@@ -5,7 +5,7 @@ use Rattle.csicodec_overwrite.proofs.Written.{front_on}
 use Rattle.csicodec_overwrite.proofs.overwriter.Overwriter.push.Goals as goal
 
 pub loop-rest-init : goal.loop-rest-init
-loop-rest-init c = record { passes = c.in_ok-rest.ensures.passes; held = c.in_ok-rest.ensures.held }
+loop-rest-init c = record { passes = rw c.begin.ensures at c.in_ok-rest.ensures.passes; held = rw c.begin.ensures at c.in_ok-rest.ensures.held }
 
 pub loop-rest-preserved : goal.loop-rest-preserved
 loop-rest-preserved c =

@@ -1,14 +1,13 @@
-use Rattle.std.proofs.Common.{◌≡◌, ◌++◌, ◌∷◌, ℕ, [], length, take, refl, rules, sym, ap, subst, ◌∙◌, append_assoc, arith}
+use Rattle.std.proofs.Common.{◌≡◌, ◌++◌, ◌∷◌, ℕ, [], length, take, refl, rules, sym, ap, ◌∙◌, append_assoc}
 use Rattle.std.proofs.Math.Seq.{take-append_seam}
 use Rattle.csicodec_html.specs.Look.{plain}
-use Rattle.csicodec_overwrite.specs.Stream.{Passes}
 use Rattle.csicodec_overwrite.specs.Private.Front.{turned}
 use Rattle.csicodec_overwrite.specs.Private.Plain.{end_of}
 use Rattle.csicodec_overwrite.proofs.Fronts.{line_passes}
 use Rattle.csicodec_overwrite.proofs.overwriter.Overwriter.take_line.Goals as goal
 
-pub returns-in-Some-clause-passes : goal.returns-in-Some-clause-passes
-returns-in-Some-clause-passes c =
+pub returns-clause-passes : goal.returns-clause-passes
+returns-clause-passes c =
     let (front, text, split, f, out) = c.in_ok-front.ensures.written in
     let (returned, ends) = c.in-Some.ensures in
     let line = c.in_ok-front.front in
@@ -30,25 +29,13 @@ returns-in-Some-clause-passes c =
           ∙ append_assoc (before ++ text) end (10 ∷ []) ∙ append_assoc before text (end ++ 10 ∷ []),
     )
 
-pub returns-in-Some-clause-held : goal.returns-in-Some-clause-held
-returns-in-Some-clause-held c =
-    rw c.in_ok-front.ensures.bare (omega arith)
-
-pub returns-clause-passes : goal.returns-clause-passes
-returns-clause-passes c =
+pub returns-in_default-clause-none : goal.returns-in_default-clause-none
+returns-in_default-clause-none c =
     let (front, text, split, f, out) = c.in_ok-front.ensures.written in
     let before = c.args.out.now.items in
-    let (more, passes, longer) = c.in_ok-take_steps.ensures.passes in
-    let all : c.len-before.result ≡ length before = search rules in
-    let same = c.truncate.ensures.items ∙ ap (λ (n : ℕ). take n c.append_front.new.out.items) all ∙ ap (take (length before)) out
-    ∙ take-append_seam before text in
-    let now = c.self.inside in
     let bare = rw (← c.self.view_is) at c.requires.bare in
+    let all : c.len-before.result ≡ length before = search rules in
     rw (← c.self.view_is) (
-      c.split_at.result.0.now,
-      more,
-      c.split_at.ensures.by_index.0,
-      subst (λ r. Passes (record { reader = r; pen = now.pen; painted = now.painted; line = now.line }) c.split_at.result.0.now more c.take_steps.new.self)
-          (c.in_ok-front.ensures.bare ∙ sym bare) passes,
-      longer ∙ ap (λ t. t ++ more) same,
+      rw (c.in_ok-front.ensures.bare, bare) refl,
+      c.truncate.ensures.items ∙ ap (λ (n : ℕ). take n c.append_front.new.out.items) all ∙ ap (take (length before)) out ∙ take-append_seam before text,
     )

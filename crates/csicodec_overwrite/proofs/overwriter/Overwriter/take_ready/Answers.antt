@@ -8,7 +8,7 @@ pub take_line-requires-clause-over : goal.take_line-requires-clause-over
 take_line-requires-clause-over c = (c.begins_line.ensures c.if-begins_line.true).1
 
 pub returns-clause-passes : goal.returns-clause-passes
-returns-clause-passes c = c.in_ok-rest.ensures.passes
+returns-clause-passes c = rw c.in-Some-2.is at c.in_ok-rest.ensures.passes
 
 pub returns-clause-held : goal.returns-clause-held
 returns-clause-held c = rw c.in_ok-rest.ensures.reader (omega arith)

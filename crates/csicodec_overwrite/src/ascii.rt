@@ -84,7 +84,8 @@ pub(crate) fn odd_len(bytes: &[u8], open: bool) -> usize
     ensures some { min 1 (length bytes.now) ≤ result }
 {
     if open {
-        return bytes.len() - behind_range(bytes, b' ', 0xff).len().saturating_sub(1);
+        let len = bytes.len() - behind_range(bytes, b' ', 0xff).len();
+        return len.max(1).min(bytes.len());
     }
     match bytes {
         [0x1b, b'[', rest @ ..] => {

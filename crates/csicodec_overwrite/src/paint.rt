@@ -1,8 +1,8 @@
 //! A line as text: its characters alone, or painted, with the sequences that set how they look.
-ghost use Rattle.std.specs.Prelude.{◌≡◌, ◌++◌, OnOk, encode_utf8_all, not};
+ghost use Rattle.std.specs.Prelude.{◌≡◌, ◌++◌, IfOk, OnOk, encode_utf8_all, not, true};
 ghost use Rattle.std.specs.List.{flat_map};
-ghost use Rattle.csicodec_html.specs.Look.{is_default, is_none, is_normal};
-ghost use Rattle.csicodec_overwrite.specs.Cells.{chars_of};
+ghost use Rattle.csicodec_html.specs.Look.{is_default, is_none, is_normal, plain};
+ghost use Rattle.csicodec_overwrite.specs.Cells.{chars_of, is_empty};
 ghost use Rattle.csicodec_overwrite.specs.Paint.{further, given, look_of, look_text, paint, same, same_color, same_flag, same_intensity, same_underline, text_of, turn};
 ghost use Rattle.csicodec_overwrite.specs.Private.Front.{turned};
 
@@ -35,25 +35,27 @@ fn same_underline(a: Underline, b: Underline) -> bool
 }
 
 /// Whether two colours are one.
-fn same_color(a: ColorSpec, b: ColorSpec) -> bool
-    ensures { result ≡ same_color a b }
+#[inline(always)]
+fn same_color(a: &ColorSpec, b: &ColorSpec) -> bool
+    ensures { result ≡ same_color a.now b.now }
 {
-    a == b
+    *a == *b
 }
 
 /// Whether two looks are one.
-fn same(a: Look, b: Look) -> bool
-    ensures { result ≡ same a b }
+#[inline(always)]
+fn same(a: &Look, b: &Look) -> bool
+    ensures { result ≡ same a.now b.now }
 {
     same_intensity(a.intensity, b.intensity)
         && same_flag(a.italic, b.italic)
         && same_underline(a.underline, b.underline)
-        && same_color(a.line, b.line)
+        && same_color(&a.line, &b.line)
         && same_flag(a.overline, b.overline)
         && same_flag(a.strike, b.strike)
         && same_flag(a.inverse, b.inverse)
-        && same_color(a.foreground, b.foreground)
-        && same_color(a.background, b.background)
+        && same_color(&a.foreground, &b.foreground)
+        && same_color(&a.background, &b.background)
 }
 
 /// Whether strokes are other than normal.
@@ -119,7 +121,7 @@ fn append_look(look: Look, out: &mut Vec<u8>) -> Result<(), AllocError>
 fn append_turn(old: Look, new: Look, out: &mut Vec<u8>) -> Result<(), AllocError>
     ensures { OnOk result (out.new.items ≡ out.old.items ++ turn old new) }
 {
-    if same(old, new) {
+    if same(&old, &new) {
         return Ok(());
     }
     append_look(new, out)
@@ -151,6 +153,27 @@ fn look_of(look: Look, cell: Cell) -> Look
     }
 }
 
+/// Appends what sets how a cell looks behind others that look so, and answers how that is. One empty cell looks as another.
+#[inline(always)]
+fn append_next(
+    look: Look,
+    is_blank: bool,
+    cell: Cell,
+    out: &mut Vec<u8>,
+) -> Result<Look, AllocError>
+    requires { is_blank ≡ true → look ≡ plain }
+    ensures look { IfOk result (λ next. next ≡ look_of look cell) }
+    ensures text { OnOk result (out.new.items ≡ out.old.items ++ turn look (look_of look cell)) }
+    ensures blank { OnOk result (is_empty cell ≡ true → look_of look cell ≡ plain) }
+{
+    let next = look_of(look, cell);
+    if is_blank && cell.is_empty() {
+        return Ok(next);
+    }
+    append_turn(look, next, out)?;
+    Ok(next)
+}
+
 /// Appends the characters of a cell.
 fn append_cell(cell: Cell, out: &mut Vec<u8>) -> Result<(), AllocError>
     ensures { OnOk result (out.new.items ≡ out.old.items ++ encode_utf8_all (chars_of cell)) }
@@ -180,13 +203,12 @@ fn append_plain(cells: &[Cell], out: &mut Vec<u8>) -> Result<(), AllocError>
 fn append_painted(look: Look, cells: &[Cell], out: &mut Vec<u8>) -> Result<(), AllocError>
     ensures { OnOk result (out.new.items ≡ out.old.items ++ paint look cells.now) }
 {
-    let mut now = look;
+    let (mut now, mut is_blank) = (look, false);
     let mut rest = cells;
     while let Some((cell, behind)) = rest.split_first() {
-        let next = look_of(now, *cell);
-        append_turn(now, next, out)?;
+        now = append_next(now, is_blank, *cell, out)?;
         append_cell(*cell, out)?;
-        now = next;
+        is_blank = cell.is_empty();
         rest = behind;
     }
     append_turn(now, Look::plain(), out)

@@ -9,8 +9,9 @@ loop-cell-preserved c =
     let cell = c.in-Some.cell.now in
     let behind = c.in-Some.behind.now in
     let old = c.args.out.now.items ++ paint c.args.look c.args.cells.now in
-    rw c.look_of-next.ensures
-    (record {
-      text = painted_on l.now cell behind l.out.items c.append_turn.new.out.items c.append_cell.new.out.items old (rw c.look_of-next.ensures at c.in_ok-append_turn.ensures) c.in_ok-append_cell.ensures
+    let e = c.in_ok-now.ensures in
+    rw e.look (record {
+      text = painted_on l.now cell behind l.out.items c.append_next.new.out.items c.append_cell.new.out.items old e.text c.in_ok-append_cell.ensures
           (ap (λ cells. l.out.items ++ paint l.now cells) (sym c.in-Some.ensures.cases.0) ∙ l.invariant.text);
+      blank = λ empty. e.blank (sym c.is_empty-is_blank.ensures ∙ empty);
     })

@@ -1,10 +1,14 @@
-use Rattle.std.proofs.Common.{◌≡◌, ◌++◌, length}
+use Rattle.std.proofs.Common.{◌≡◌, ◌++◌, length, true}
+use Rattle.csicodec_html.specs.Look.{plain}
 use Rattle.csicodec_overwrite.specs.Paint.{paint}
 use Rattle.csicodec_overwrite.proofs.paint.append_painted.Given as goal
 
 -- some are painted
 abbrev pub invariant-loop-cell : goal.invariant-loop-cell
-invariant-loop-cell l = record { text : l.out.items ++ paint l.now l.rest ≡ l.initial.out.items ++ paint l.fn.look l.cells }
+invariant-loop-cell l = record {
+  text : l.out.items ++ paint l.now l.rest ≡ l.initial.out.items ++ paint l.fn.look l.cells;
+  blank : l.is_blank ≡ true → l.now ≡ plain;
+}
 
 abbrev pub decreases-loop-cell : goal.decreases-loop-cell
 decreases-loop-cell l = length l.rest

@@ -3,9 +3,8 @@ ghost use Rattle.std.specs.Prelude.{◌≤◌, IfOk, length};
 
 use crate::input::Sending;
 use crate::page::{Modes, Page};
-use crate::stats::stats_of;
 use csicodec_events::Dialect;
-use csicodec_sheet::Style;
+use csicodec_sheet::{Style, stats_of, text_of};
 use csicodec_spans::{Kind, LIMIT, Mode, next_span};
 use csicodec_streams::{CHUNK, RunError, keep_from, receive, send};
 use std::alloc::{AllocError, Global};
@@ -213,8 +212,7 @@ impl<'a> Explainer<'a> {
 
     /// Writes the totals.
     fn send_totals<W: Write>(&self, output: &mut W) -> Result<(), RunError> {
-        let summary = self.page.summary();
-        let told = summary.to_string(self.alloc).map_err(no_memory)?;
+        let told = text_of(self.alloc, &self.page.summary()).map_err(no_memory)?;
         send(output, told.as_bytes())
     }
 

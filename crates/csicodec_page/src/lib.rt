@@ -5,7 +5,6 @@ mod controls;
 mod explain;
 mod input;
 mod page;
-mod stats;
 mod taken;
 
 pub use explain::Explainer;

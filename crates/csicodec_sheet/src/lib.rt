@@ -9,12 +9,14 @@ mod json;
 mod line;
 mod search;
 mod sheet;
+mod stats;
 mod style;
 mod totals;
 
-pub use counts::{Names, Sum};
+pub use counts::Names;
 pub use decode::clipboard_bytes;
 pub use line::{Sort, Told, whole_characters};
-pub use sheet::Sheet;
+pub use sheet::{Sheet, text_of};
+pub use stats::stats_of;
 pub use style::{Style, is_among, name_of};
 pub use totals::{Summary, Totals};

@@ -22,6 +22,11 @@ use std::fmt::{Debug, Display, Write};
 /// So many bytes of a span an object of JSON has at most: 64 KiB.
 const PIECE: usize = 65_536;
 
+/// The words of a value. A text that another crate writes into itself has all words in the program once more.
+pub fn text_of<T: Display>(alloc: Global, value: &T) -> Result<String, AllocError> {
+    format!(in alloc; "{value}")
+}
+
 /// The first piece of a long span, with whole characters.
 fn piece_of(bytes: &[u8]) -> Option<&[u8]> {
     if bytes.len() <= PIECE {

@@ -1,6 +1,6 @@
 //! A table of the names that were told: how often each was, the bytes of its spans, and their share of all bytes.
 
-use csicodec_sheet::{Names, Sum};
+use crate::counts::{Names, Sum};
 use std::alloc::{AllocError, Global};
 use std::fmt::{self, Write};
 

@@ -102,8 +102,7 @@ listed plane color = Integer (pos (code_of plane)) ∷ P 59 ∷ color_tokens col
 
 code_spelled : (plane : Plane) → SpellsToken (plane_byte plane ∷ 56 ∷ []) (Integer (pos (code_of plane)))
 code_spelled Front = (omega arith, ((omega arith, omega arith), ((omega arith, omega arith), tt)), refl)
-code_spelled Back = (omega arith, ((omega arith, omega arith), ((omega arith, omega arith), tt)), refl)
-code_spelled Line = (omega arith, ((omega arith, omega arith), ((omega arith, omega arith), tt)), refl)
+code_spelled _ = (omega arith, ((omega arith, omega arith), ((omega arith, omega arith), tt)), refl)
 
 number_spellable : (n : ℕ) → n < 256 → IsSpellable (Integer (pos n))
 number_spellable n fits = (omega (arith, ints), omega (arith, ints, fits))
@@ -130,11 +129,9 @@ color_piece : (plane : Plane) (color : ColorSpec) → IsOpaque color → piece (
 unfolding piece
 color_piece plane Default o = absurd o
 color_piece Front (PaletteIndex i) fits = rw (lt-ltb i 256 fits) refl
-color_piece Back (PaletteIndex i) fits = rw (lt-ltb i 256 fits) refl
-color_piece Line (PaletteIndex i) fits = rw (lt-ltb i 256 fits) refl
+color_piece _ (PaletteIndex i) fits = rw (lt-ltb i 256 fits) refl
 color_piece Front (TrueColor c) (red, green, blue, opaque) = rw (lt-ltb c.0 256 red, lt-ltb c.1 256 green, lt-ltb c.2 256 blue) (rw (← opaque) refl)
-color_piece Back (TrueColor c) (red, green, blue, opaque) = rw (lt-ltb c.0 256 red, lt-ltb c.1 256 green, lt-ltb c.2 256 blue) (rw (← opaque) refl)
-color_piece Line (TrueColor c) (red, green, blue, opaque) = rw (lt-ltb c.0 256 red, lt-ltb c.1 256 green, lt-ltb c.2 256 blue) (rw (← opaque) refl)
+color_piece _ (TrueColor c) (red, green, blue, opaque) = rw (lt-ltb c.0 256 red, lt-ltb c.1 256 green, lt-ltb c.2 256 blue) (rw (← opaque) refl)
 
 color_spelled : (color : ColorSpec) → IsOpaque color → Spells (color_list color) (color_tokens color)
 color_spelled Default o = absurd o

@@ -62,10 +62,7 @@ begins bytes rest flag xs s list final behind r = go s.sequences s.join
 -- behind the sequences stands what is refused
 pub refuses_at : (bytes rest : List ℕ) (flag : Bool) (xs : List Action) (room : ℕ) (e : ReadError) → IsSplit bytes flag rest xs → 0 < length rest → Refuses rest room e → RefusesDecode bytes flag (refusal_of (length bytes - length rest) e)
 refuses_at bytes rest flag xs room errors.Memory s some r = begins bytes rest flag xs s r.0 r.1 r.2 r.3
-refuses_at bytes rest flag xs room (errors.NotCsi p) s some r = fault_there bytes rest flag xs (errors.NotCsi p) s some r
-refuses_at bytes rest flag xs room (errors.BadByte p) s some r = fault_there bytes rest flag xs (errors.BadByte p) s some r
-refuses_at bytes rest flag xs room (errors.NumberTooLarge p) s some r = fault_there bytes rest flag xs (errors.NumberTooLarge p) s some r
-refuses_at bytes rest flag xs room (errors.Truncated p) s some r = fault_there bytes rest flag xs (errors.Truncated p) s some r
+refuses_at bytes rest flag xs room e s some r = fault_there bytes rest flag xs e s some r
 
 -- bytes with actions are refused only where memory runs out
 pub refused_for_memory : (bytes : List ℕ) (flag : Bool) (e : DecodeError) (actions : List Action) → RefusesDecode bytes flag e → Decodes bytes flag actions → e ≡ decode_errors.Memory

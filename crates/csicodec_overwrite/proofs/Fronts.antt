@@ -1,7 +1,7 @@
 -- The front of a line that is written as it comes, and its end.
-use Rattle.std.proofs.Common.{◌≡◌, ◌≤◌, ◌+◌, ◌-◌, ◌*◌, ℕ, zero, suc, Bool, true, false, cond, List, [], ◌∷◌, ◌++◌, length, length-append, replicate, encode_utf8_all, refl, sym, ap, subst, ◌∙◌, ⊎_elim, append_assoc, append-nil, arith}
+use Rattle.std.proofs.Common.{◌≡◌, ◌≤◌, ◌+◌, ◌-◌, ◌*◌, ℕ, zero, suc, Bool, true, false, cond, List, [], ◌∷◌, ◌++◌, length, length-append, replicate, encode_utf8_all, refl, sym, ap, subst, ◌∙◌, ⊎_elim, append_assoc, append-nil, arith, take, drop, ◌/◌}
 use Rattle.std.specs.Prelude.{◌==◌, unwrap_or}
-use Rattle.std.specs.List.{AllByRecursion, flat_map}
+use Rattle.std.specs.List.{AllByRecursion, flat_map, prefix_len}
 use Rattle.std.proofs.lemmas.Bool.{eqb-true}
 use Rattle.std.proofs.lemmas.Bool.Decides.{nat_tests}
 use Rattle.unicode_width.specs.Width.{char_width}
@@ -33,7 +33,7 @@ use Rattle.csicodec_overwrite.specs.Private.Plain.{AreFull, IsLineByte, closed, 
 use Rattle.csicodec_overwrite.proofs.Ends.{end_passes}
 use Rattle.csicodec_overwrite.proofs.Read.{reads_none, reads_on}
 use Rattle.csicodec_overwrite.proofs.Stays.{cells, cells_full, cells_length, full_trimmed, put_cells, puts}
-use Rattle.csicodec_overwrite.proofs.Straight.{few_cells, line_plain, lines_plain, narrow, reads_plain}
+use Rattle.csicodec_overwrite.proofs.Straight.{few_cells, line_plain, lines_plain, narrow, reads_plain, split_line}
 use Rattle.csicodec_overwrite.proofs.Written.{line_on, lines_on, passes_on, pen_on}
 
 -- ---- a look is itself
@@ -275,7 +275,7 @@ module _ (painted : Bool) (pen : Pen) (bytes text : List ℕ) (last now : Look) 
   look_is : then.look ≡ now
   look_is = ap (λ (p : Pen). p.look) f.pens
 
-  pub run_on : (run : List ℕ) → pen.inserts ≡ false → AllByRecursion IsLineByte run → 8 * length (bytes ++ run) ≤ most
+  run_on : (run : List ℕ) → pen.inserts ≡ false → AllByRecursion IsLineByte run → 8 * length (bytes ++ run) ≤ most
       → IsFront painted pen (bytes ++ run) (text ++ run_text painted last now run) (last_of_run last now run) now
   run_on run over h few =
       let plains = lines_plain run h in
@@ -288,6 +288,15 @@ module _ (painted : Bool) (pen : Pen) (bytes text : List ℕ) (last now : Look) 
       (ap (λ (t : List ℕ). t ++ run_text painted last now run) f.drawn
       ∙ ap (λ (l : Look). drawn painted f.cells ++ run_text painted l now run) f.looks
       ∙ ap (λ (l : Look). drawn painted f.cells ++ run_text painted (last_look f.cells) l run) (sym look_is) ∙ sym r.text)
+
+  -- the run of a rest, which is split there
+  pub front_more : (all rest run behind : List ℕ) → pen.inserts ≡ false → all ≡ bytes ++ rest → run ≡ take (prefix_len line_byte rest) rest
+      → behind ≡ drop (prefix_len line_byte rest) rest → length all - length behind ≤ most / 8
+      → (all ≡ (bytes ++ run) ++ behind) × IsFront painted pen (bytes ++ run) (text ++ run_text painted last now run) (last_of_run last now run) now
+  front_more all rest run behind over split e g few =
+      let (parts, plain) = split_line rest run behind e g in
+      let whole = split ∙ ap (λ (t : List ℕ). bytes ++ t) parts ∙ sym (append_assoc bytes run behind) in
+      (whole, run_on run over plain (omega (arith, few, ap length whole, length-append (bytes ++ run) behind)))
 
   pub sets_on : (sequence : List ℕ) (after : Look) → Sets sequence now after → IsFront painted pen (bytes ++ sequence) text last after
   sets_on sequence after (steps, reads, looks) =

@@ -1,8 +1,8 @@
 -- Text of ASCII, which takes no reading.
-use Rattle.std.proofs.Common.{◌≡◌, ◌≢◌, ◌<◌, ◌≤◌, ℕ, Bool, true, false, cond, List, [], ◌∷◌, ◌++◌, encode_utf8_all, refl, sym, ap, subst, ◌∙◌, append-nil, arith, ne_eqb}
+use Rattle.std.proofs.Common.{drop, take, take-append-drop, ◌≡◌, ◌≢◌, ◌<◌, ◌≤◌, ℕ, Bool, true, false, cond, List, [], ◌∷◌, ◌++◌, encode_utf8_all, refl, sym, ap, subst, ◌∙◌, append-nil, arith, ne_eqb}
 use Rattle.std.specs.Prelude.{◌==◌, ◌&&◌, ◌||◌, nat_le, nat_lt, max, unwrap_or, Some, None}
 use Rattle.std.specs.Char.{encode_utf8}
-use Rattle.std.specs.List.{AllByRecursion}
+use Rattle.std.specs.List.{AllByRecursion, prefix_len}
 use Rattle.std.specs.Str.{all_scalars}
 use Rattle.std.proofs.lemmas.Bool.Decides.{nat_tests}
 use Rattle.unicode_width.specs.Width.{char_width}
@@ -16,6 +16,7 @@ use Rattle.csicodec_spans.proofs.OneSpan.{none_unsure, singles}
 use Rattle.csicodec_clean.specs.Cleaned.{longest}
 use Rattle.csicodec_clean.specs.Private.Steps.{IsOther}
 use Rattle.csicodec_clean.specs.Bytes.{IsPlainByte}
+use Rattle.csicodec_clean.proofs.Bytes.{front_in}
 use Rattle.csicodec_clean.proofs.PlainBytes.{plain_bytes}
 use Rattle.csicodec_clean.proofs.Sure.{read_more}
 use Rattle.csicodec_clean.proofs.Titles.{single_texts}
@@ -32,7 +33,7 @@ use Rattle.csicodec_overwrite.specs.Paint.{texts_of}
 use Rattle.csicodec_overwrite.specs.Steps.{of_char, of_chars}
 use Rattle.csicodec_overwrite.specs.Reading.{AreOfParts}
 use Rattle.csicodec_overwrite.specs.Stream.{Reads, none_held}
-use Rattle.csicodec_overwrite.specs.Private.Plain.{GoesBehind, IsLineByte, end_of}
+use Rattle.csicodec_overwrite.specs.Private.Plain.{GoesBehind, IsLineByte, end_of, line_byte}
 use Rattle.csicodec_overwrite.proofs.Chars.{chars_on}
 use Rattle.csicodec_overwrite.proofs.Same.{not_titled}
 use Rattle.csicodec_overwrite.proofs.Stays.{cells, of_singles, put_cells, put_of}
@@ -76,6 +77,10 @@ line_plain b h = by (b == 10) (b == 9) (nat_le 32 b && nat_lt b 127) h
 pub lines_plain : (bs : List ℕ) → AllByRecursion IsLineByte bs → AllByRecursion IsPlainByte bs
 lines_plain [] h = tt
 lines_plain (b ∷ bs) h = (line_plain b h.0, lines_plain bs h.1)
+
+-- such text in front, and what is behind it
+pub split_line : (bytes text rest : List ℕ) → text ≡ take (prefix_len line_byte bytes) bytes → rest ≡ drop (prefix_len line_byte bytes) bytes → (bytes ≡ text ++ rest) × AllByRecursion IsLineByte text
+split_line bytes text rest e f = rw (e, f) (sym (take-append-drop (prefix_len line_byte bytes) bytes), front_in line_byte bytes)
 
 pub tab_step : (b : ℕ) → b ≡ 9 → of_char b ≡ step.Tab ∷ []
 tab_step b is = rw is refl

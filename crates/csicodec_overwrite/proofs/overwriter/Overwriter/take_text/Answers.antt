@@ -1,14 +1,12 @@
-use Rattle.std.proofs.Common.{◌≡◌, ◌++◌, refl, sym, take-append-drop}
-use Rattle.std.specs.List.{AllByRecursion, prefix_len}
-use Rattle.csicodec_clean.proofs.Bytes.{front_in}
+use Rattle.std.proofs.Common.{refl}
 use Rattle.csicodec_overwrite.specs.Steps.{of_chars}
-use Rattle.csicodec_overwrite.specs.Private.Plain.{IsLineByte, line_byte}
-use Rattle.csicodec_overwrite.proofs.Straight.{lines_plain, reads_plain}
+use Rattle.csicodec_overwrite.proofs.Straight.{lines_plain, reads_plain, split_line}
 use Rattle.csicodec_overwrite.proofs.Written.{pushed}
 use Rattle.csicodec_overwrite.proofs.overwriter.Overwriter.take_text.Goals as goal
 
 pub put_text-requires : goal.put_text-requires
-put_text-requires c = rw c.split_front.ensures.front (front_in line_byte c.args.bytes.now)
+put_text-requires c =
+    (split_line c.args.bytes.now c.split_front.result.0.now c.split_front.result.1.now c.split_front.ensures.front c.split_front.ensures.rest).1
 
 pub returns-clause-passes : goal.returns-clause-passes
 returns-clause-passes c =
@@ -16,9 +14,7 @@ returns-clause-passes c =
     let bytes = c.args.bytes.now in
     let text = c.split_front.result.0.now in
     let bare = rw (← c.self.view_is) at c.requires in
-    let parts : bytes ≡ text ++ c.split_front.result.1.now =
-    rw (c.split_front.ensures.front, c.split_front.ensures.rest) (sym (take-append-drop (prefix_len line_byte bytes) bytes)) in
-    let plain : AllByRecursion IsLineByte text = rw c.split_front.ensures.front (front_in line_byte bytes) in
+    let (parts, plain) = split_line bytes text c.split_front.result.1.now c.split_front.ensures.front c.split_front.ensures.rest in
     let (more, passes, out) =
     pushed (record { reader = now.reader; pen = now.pen; painted = now.painted; line = now.line })
     (record { reader = now.reader; pen = c.put_text.new.pen; painted = now.painted; line = c.put_text.new.self }) text (of_chars text) c.args.out.now.items

@@ -4,12 +4,8 @@ ghost use Rattle.csicodec_overwrite.specs.Private.Plain.{IsLineByte, end_of};
 ghost use Rattle.csicodec_overwrite.specs.Steps.{of_char};
 
 use crate::step::Step;
-use csicodec_clean::{ByteClass, first_set, split_front};
-use memchr::memchr;
+use csicodec_clean::{ByteClass, first_set};
 use std::simd::prelude::*;
-
-/// How far away the end of a line with attributes is looked for.
-const NEAR: usize = 1024;
 
 /// A tab, and the characters of ASCII that are no controls.
 pub(crate) struct InLine;
@@ -42,15 +38,6 @@ pub(crate) fn behind_end(bytes: &[u8]) -> Option<&[u8]>
         [b'\r', b'\n', rest @ ..] => Some(rest),
         _ => None,
     }
-}
-
-/// Whether the line in front may be one that is written as it comes, by what is behind its text: its end, or a sequence with its end near.
-pub(crate) fn begins_straight(bytes: &[u8]) -> bool {
-    let behind = split_front::<InLine>(bytes).1;
-    if style_len(behind) == 0 {
-        return behind_end(behind).is_some();
-    }
-    memchr(b'\n', behind.get(..NEAR).unwrap_or(behind)).is_some()
 }
 
 /// What such a byte does.

@@ -5,7 +5,7 @@ ghost use Rattle.csicodec_overwrite.specs.Private.Plain.{end_of};
 ghost use Rattle.csicodec_overwrite.specs.Private.Seen.{PassesFront};
 ghost use Rattle.csicodec_overwrite.specs.Stream.{Ending, Passes, begun, begun_as, none_held};
 
-use crate::ascii::{InLine, begins_straight, behind_end, odd_len};
+use crate::ascii::{InLine, behind_end, odd_len};
 use crate::front::append_front;
 use crate::line::Line;
 use crate::paint::append_turned;
@@ -133,10 +133,7 @@ impl Overwriter {
     fn begins_line(&self, bytes: &[u8]) -> bool
         ensures { result ≡ true → (self.now.line ≡ blank) × (self.now.pen.inserts ≡ false) }
     {
-        if bytes.len() > self.crooked || !self.line.is_blank() || self.pen.inserts {
-            return false;
-        }
-        begins_straight(bytes)
+        bytes.len() <= self.crooked && self.line.is_blank() && !self.pen.inserts
     }
 
     /// Ends the line.

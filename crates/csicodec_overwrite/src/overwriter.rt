@@ -21,8 +21,8 @@ use std::marker::Model;
 
 /// A stream as it comes, of which each line is written as it stands when it ends, as plain text or painted.
 ///
-/// It holds the line that isn't over, of at most 65,536 cells, and a control sequence that isn't, of fewer than 65,536 bytes. After an
-/// `Err` it and what was appended are of no more use.
+/// It holds the line that isn't over, of at most 65,536 cells, a control sequence that isn't, of fewer than 65,536 bytes, and at most
+/// 1,024 slices of 32 bytes that came before, with their steps. After an `Err` it and what was appended are of no more use.
 #[derive(Drop)]
 pub struct Overwriter {
     reader: Reader,

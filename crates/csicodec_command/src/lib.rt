@@ -13,4 +13,6 @@ pub use command::{ColorWhen, Colors, Command, Request, Task, Wanted, Wrong, comm
 pub use failure::{Failure, Found};
 pub use options::{USAGE, VERSION};
 pub use recording::{Recording, line_front, micros, time_of};
-pub use run::{Worker, asked, failed, is_cast, refused, text_of, words_of, work_through};
+pub use run::{
+    Recordings, Worker, asked, failed, is_cast, refused, text_of, words_of, work_through,
+};

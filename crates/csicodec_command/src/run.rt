@@ -9,16 +9,27 @@ use csicodec_streams::{CHUNK, RunError, receive};
 use std::alloc::{AllocError, Global};
 use std::env::{Env, FillError};
 use std::fs::File;
-use std::io::{self, BufRead, BufReader, ErrorKind, IsTerminal, Read, Stdout, Write};
+use std::io::{self, BufRead, BufReader, ErrorKind, IsTerminal, Read, Stdin, Stdout, Write};
 
 /// The name of standard input.
 const INPUT: &str = "-";
 
+/// Which inputs are recordings of asciinema.
+#[derive(Clone, Copy, PartialEq, Eq)]
+pub enum Recordings {
+    /// None, whatever the input has.
+    Never,
+    /// A file whose name says so.
+    Named,
+    /// That, and standard input that begins as one.
+    Known,
+}
+
 /// What is made of one input after the other.
 pub trait Worker {
-    /// Whether standard input is a recording of asciinema where it begins as one.
-    fn takes_recordings(&self) -> bool {
-        true
+    /// Which inputs are recordings.
+    fn recordings(&self) -> Recordings {
+        Recordings::Known
     }
 
     /// The input of this name comes next, `-` for standard input; it could be opened.
@@ -40,10 +51,14 @@ pub trait Worker {
         alloc: Global,
         input: &mut R,
         output: &mut W,
-    ) -> Result<(), Failure>;
+    ) -> Result<(), Failure> {
+        self.read(alloc, input, output)
+    }
 
     /// There are no more inputs.
-    fn end<W: Write>(&mut self, output: &mut W) -> Result<(), RunError>;
+    fn end<W: Write>(&mut self, _output: &mut W) -> Result<(), RunError> {
+        Ok(())
+    }
 }
 
 /// Whether a write failed since the reader went away.
@@ -80,16 +95,26 @@ impl Write for Output {
     }
 }
 
+/// Where an input comes from.
+#[derive(Drop)]
+enum Source {
+    Standard(Stdin),
+    Named(File),
+}
+
 /// An input, and why its last read failed, if it did.
 #[derive(Drop)]
-struct Input<'a, R> {
-    from: &'a mut R,
+struct Input {
+    from: Source,
     fault: Option<io::Error>,
 }
 
-impl<'a, R: Read> Read for Input<'a, R> {
+impl Read for Input {
     fn read(&mut self, bytes: &mut [u8]) -> io::Result<usize> {
-        let done = self.from.read(bytes);
+        let done = match &mut self.from {
+            Source::Standard(input) => input.read(bytes),
+            Source::Named(file) => file.read(bytes),
+        };
         self.fault = done.err();
         done
     }
@@ -133,6 +158,7 @@ pub fn failed(rt: &HostRuntime, failure: Failure, name: &str, reason: Option<io:
 }
 
 /// Says what failed, unless the reader of the output went away: then there is nobody to tell.
+#[inline(never)]
 fn stopped(
     rt: &HostRuntime,
     failure: Failure,
@@ -175,21 +201,8 @@ pub fn text_of(rt: &HostRuntime, name: &str) -> Result<String, u8> {
     }
 }
 
-/// Works on this recording of asciinema.
-fn work_on_cast<T: Worker, R: Read>(
-    alloc: Global,
-    work: &mut T,
-    input: &mut R,
-    output: &mut Output,
-) -> Result<(), Failure> {
-    let Ok(mut input) = BufReader::new(alloc, input) else {
-        return Err(Failure::Run(RunError::Memory));
-    };
-    work.read_cast(alloc, &mut input, output)
-}
-
 /// Reads the first bytes of an input: at least its first line, if that may be an object of JSON and there is room for it.
-fn receive_front<R: Read>(input: &mut R, chunk: &mut [u8]) -> Result<usize, RunError> {
+fn receive_front(input: &mut Input, chunk: &mut [u8]) -> Result<usize, RunError> {
     let mut len = 0usize;
     for _ in 0..chunk.len() {
         let Some(room) = chunk.get_mut(len..) else {
@@ -209,51 +222,63 @@ fn receive_front<R: Read>(input: &mut R, chunk: &mut [u8]) -> Result<usize, RunE
     Ok(len)
 }
 
-/// Works on standard input, whose first bytes say whether it is a recording.
-fn work_on_either<T: Worker, R: Read>(
+/// Whether the input of this name is a recording, if inputs may be, and how many of its first bytes were read to know it.
+#[inline(never)]
+fn look_ahead(
     alloc: Global,
-    work: &mut T,
-    input: &mut R,
-    output: &mut Output,
-) -> Result<(), Failure> {
-    let mut chunk = [0u8; CHUNK];
-    let len = receive_front(input, &mut chunk)?;
-    let front = chunk.get(..len).unwrap_or(&[]);
-    let is_recording = is_recording(alloc, front)?;
-    let mut whole = front.chain(input);
-    if is_recording {
-        work_on_cast(alloc, work, &mut whole, output)
-    } else {
-        work.read(alloc, &mut whole, output)
+    recordings: Recordings,
+    name: &str,
+    input: &mut Input,
+    chunk: &mut [u8],
+) -> Result<(bool, usize), Failure> {
+    if name != INPUT || recordings != Recordings::Known {
+        return Ok((is_cast(name), 0));
     }
+    let len = receive_front(input, chunk)?;
+    let front = chunk.get(..len).unwrap_or(&[]);
+    Ok((is_recording(alloc, front)?, len))
 }
 
 /// Works on the input of this name, which is read from there.
-fn read_through<T: Worker, R: Read>(
+fn read_through<T: Worker>(
     alloc: Global,
     work: &mut T,
     name: &str,
-    input: &mut R,
+    input: &mut Input,
     output: &mut Output,
 ) -> Result<(), Failure> {
     work.begin(name, output)?;
-    if is_cast(name) {
-        work_on_cast(alloc, work, input, output)
-    } else if name == INPUT && work.takes_recordings() {
-        work_on_either(alloc, work, input, output)
-    } else {
-        work.read(alloc, input, output)
+    let mut chunk = [0u8; CHUNK];
+    let recordings = work.recordings();
+    let (is_recording, len) = look_ahead(alloc, recordings, name, input, &mut chunk)?;
+    let mut whole = chunk.get(..len).unwrap_or(&[]).chain(input);
+    if recordings == Recordings::Never || !is_recording {
+        return work.read(alloc, &mut whole, output);
+    }
+    match BufReader::new(alloc, &mut whole) {
+        Ok(mut lines) => work.read_cast(alloc, &mut lines, output),
+        Err(_) => Err(Failure::Run(RunError::Memory)),
     }
 }
 
-/// The same, with what failed told.
-fn work_on_input<T: Worker, R: Read>(
+/// Where the input of this name comes from; the status, if it can't be opened.
+#[inline(never)]
+fn source_of(rt: &HostRuntime, name: &str) -> Result<Source, u8> {
+    if name == INPUT {
+        Ok(Source::Standard(rt.stdin()))
+    } else {
+        Ok(Source::Named(opened(rt, name)?))
+    }
+}
+
+/// Works on the input of this name, and tells what failed.
+fn work_on<T: Worker>(
     rt: &HostRuntime,
     work: &mut T,
     name: &str,
-    from: &mut R,
     output: &mut Output,
 ) -> Result<(), Ended> {
+    let from = source_of(rt, name).map_err(Ended::Input)?;
     let mut input = Input { from, fault: None };
     match read_through(rt.alloc(), work, name, &mut input, output) {
         Ok(()) => Ok(()),
@@ -264,23 +289,8 @@ fn work_on_input<T: Worker, R: Read>(
     }
 }
 
-/// Works on the input of this name.
-fn work_on<T: Worker>(
-    rt: &HostRuntime,
-    work: &mut T,
-    name: &str,
-    output: &mut Output,
-) -> Result<(), Ended> {
-    if name == INPUT {
-        return work_on_input(rt, work, name, &mut rt.stdin(), output);
-    }
-    match opened(rt, name) {
-        Ok(mut file) => work_on_input(rt, work, name, &mut file, output),
-        Err(status) => Err(Ended::Input(status)),
-    }
-}
-
 /// Says what a run without a file waits for, where that is someone at a terminal.
+#[inline(never)]
 fn say_waits(rt: &HostRuntime) {
     if rt.stdin().is_terminal() {
         let _told = eprintln!(rt; "{WAITS}");

@@ -1,11 +1,11 @@
 //! What lines of JSON stand for, as they come.
 
 use csicodec_assemble::{Assembler, Refusal};
-use csicodec_command::{Failure, Worker};
+use csicodec_command::{Failure, Recordings, Worker};
 use csicodec_remake::Remaker;
 use csicodec_streams::{CHUNK, RunError, receive, send};
 use std::alloc::Global;
-use std::io::{BufRead, Read, Write};
+use std::io::{Read, Write};
 
 /// One input after the other, each of lines of its own.
 #[derive(Drop)]
@@ -52,8 +52,8 @@ fn failure_of(refusal: Refusal, line: u64) -> Failure {
 
 impl Worker for Assembly {
     /// A line of JSON is one, whatever it has.
-    fn takes_recordings(&self) -> bool {
-        false
+    fn recordings(&self) -> Recordings {
+        Recordings::Never
     }
 
     /// Each read's lines are written before the next, those ahead of one that is refused too.
@@ -76,19 +76,5 @@ impl Worker for Assembly {
             }
         }
         Err(Failure::Run(RunError::Read))
-    }
-
-    /// A name that ends in .cast is one as any other.
-    fn read_cast<R: BufRead, W: Write>(
-        &mut self,
-        alloc: Global,
-        input: &mut R,
-        output: &mut W,
-    ) -> Result<(), Failure> {
-        self.read(alloc, input, output)
-    }
-
-    fn end<W: Write>(&mut self, _output: &mut W) -> Result<(), RunError> {
-        Ok(())
     }
 }

@@ -1,10 +1,9 @@
 //! Where a stream may be cut.
 
-use csicodec_command::{Failure, Request, Worker};
+use csicodec_command::{Failure, Recordings, Request, Worker};
 use csicodec_lines::cuts_all;
-use csicodec_streams::RunError;
 use std::alloc::Global;
-use std::io::{BufRead, Read, Write};
+use std::io::{Read, Write};
 
 /// Tells where each input may be cut, with so many bytes at least in each piece.
 #[derive(Drop)]
@@ -23,8 +22,8 @@ impl Cuts {
 
 impl Worker for Cuts {
     /// A piece of a recording is none, so its lines are taken as they are.
-    fn takes_recordings(&self) -> bool {
-        false
+    fn recordings(&self) -> Recordings {
+        Recordings::Never
     }
 
     fn read<R: Read, W: Write>(
@@ -34,18 +33,5 @@ impl Worker for Cuts {
         output: &mut W,
     ) -> Result<(), Failure> {
         Ok(cuts_all(alloc, self.every, input, output)?)
-    }
-
-    fn read_cast<R: BufRead, W: Write>(
-        &mut self,
-        alloc: Global,
-        input: &mut R,
-        output: &mut W,
-    ) -> Result<(), Failure> {
-        self.read(alloc, input, output)
-    }
-
-    fn end<W: Write>(&mut self, _output: &mut W) -> Result<(), RunError> {
-        Ok(())
     }
 }

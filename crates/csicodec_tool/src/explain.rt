@@ -5,7 +5,8 @@ use crate::explained_cast::explain_cast;
 use crate::names::are_known;
 use crate::timing::Timing;
 use csicodec_command::{
-    ColorWhen, Failure, Request, Wanted, Worker, failed, is_cast, refused, text_of, work_through,
+    ColorWhen, Failure, Recordings, Request, Wanted, Worker, failed, is_cast, refused, text_of,
+    work_through,
 };
 use csicodec_events::Dialect;
 use csicodec_page::Explainer;
@@ -58,8 +59,11 @@ struct Explained<'a> {
 
 impl<'a> Worker for Explained<'a> {
     /// With the times of `script` it is no recording of asciinema.
-    fn takes_recordings(&self) -> bool {
-        self.timing.is_none()
+    fn recordings(&self) -> Recordings {
+        match self.timing {
+            Some(_) => Recordings::Named,
+            None => Recordings::Known,
+        }
     }
 
     fn begin<W: Write>(&mut self, name: &str, output: &mut W) -> Result<(), RunError> {

@@ -1,10 +1,10 @@
 //! What `csicodec` does without a word: it reads control sequences from standard input, and writes each action of theirs as a
 //! sequence of its own to standard output.
 
-use csicodec_command::{Failure, Worker};
-use csicodec_streams::{RunError, normalise};
+use csicodec_command::{Failure, Recordings, Worker};
+use csicodec_streams::normalise;
 use std::alloc::Global;
-use std::io::{BufRead, Read, Write};
+use std::io::{Read, Write};
 
 /// The normal form of sequences one after the other.
 #[derive(Drop)]
@@ -12,8 +12,8 @@ pub struct Normaliser;
 
 impl Worker for Normaliser {
     /// A recording is no control sequence.
-    fn takes_recordings(&self) -> bool {
-        false
+    fn recordings(&self) -> Recordings {
+        Recordings::Never
     }
 
     fn read<R: Read, W: Write>(
@@ -23,18 +23,5 @@ impl Worker for Normaliser {
         output: &mut W,
     ) -> Result<(), Failure> {
         Ok(normalise(alloc, input, output)?)
-    }
-
-    fn read_cast<R: BufRead, W: Write>(
-        &mut self,
-        alloc: Global,
-        input: &mut R,
-        output: &mut W,
-    ) -> Result<(), Failure> {
-        self.read(alloc, input, output)
-    }
-
-    fn end<W: Write>(&mut self, _output: &mut W) -> Result<(), RunError> {
-        Ok(())
     }
 }

@@ -14,8 +14,8 @@ def hole_of(text, form, lists):
     places = [place for place, slot in enumerate(form.slots) if found and slot.name == found[1].replace("_", " ")]
     if not places:
         raise ValueError(f"no number is named so: {{{text}}}")
-    place, (_, needed, further, kind, rest) = places[0], found.groups()
-    slot = form.slots[place]
+    place, (_, needed, further, kind, rest) = f"{places[0]:x}", found.groups()
+    slot = form.slots[places[0]]
     zero = ":" + rest if kind == ":" else f":{slot.missing}" if slot.as_zero else ""
     missing = needed if slot.missing is None else slot.missing if not zero or further else None
     left_out = f"{place}={missing}" if missing and missing != "0" or missing is not None and further else place

@@ -25,67 +25,92 @@ pub fn fill<W: fmt::Write>(
     Ok(())
 }
 
+/// A hole is a place, a digit of base 16, and what is told of the number there.
 fn fill_hole<W: fmt::Write>(
     f: &mut fmt::Formatter<W>,
     hole: &str,
     values: Values<'_>,
 ) -> fmt::Result {
-    if let Some((place, code)) = hole.split_once('@') {
-        return tell_by_code(f, code, value(values, place), values);
-    }
-    if let Some((place, list)) = hole.split_once('?') {
-        return match place.strip_suffix("..") {
-            Some(place) => each_told(f, place, list, values),
-            None => told(f, list, value(values, place)),
-        };
-    }
-    match hole.split_once('&') {
-        Some((place, list)) => bits_told(f, list, value(values, place)),
-        None => fill_number(f, hole, values),
+    let mut rest = hole.chars();
+    let place = rest
+        .next()
+        .and_then(|digit| digit.to_digit(16))
+        .unwrap_or(0);
+    let value = values.number(place);
+    match rest.as_str().strip_prefix('=') {
+        Some(rest) => {
+            let (otherwise, kind) = front_number(rest);
+            fill_kind(f, kind, place, value.or(otherwise), values)
+        }
+        None => fill_kind(f, rest.as_str(), place, value, values),
     }
 }
 
-/// A number, or what stands in its place, and what it counts.
-fn fill_number<W: fmt::Write>(
+/// The number that a text begins with, and what is behind it.
+fn front_number(text: &str) -> (Option<i64>, &str) {
+    let len = text.bytes().take_while(u8::is_ascii_digit).count();
+    match text.split_at_checked(len) {
+        Some((digits, rest)) => (digits.parse::<i64>().ok(), rest),
+        None => (None, text),
+    }
+}
+
+/// What is told of a number, by the first character behind its place.
+fn fill_kind<W: fmt::Write>(
     f: &mut fmt::Formatter<W>,
-    hole: &str,
+    kind: &str,
+    place: u32,
+    value: Option<i64>,
     values: Values<'_>,
 ) -> fmt::Result {
-    let (hole, left_out) = hole.split_once('~').unwrap_or((hole, ""));
-    let (hole, unit) = hole.split_once('#').unwrap_or((hole, ""));
-    let (place, zero) = hole.split_once(':').unwrap_or((hole, ""));
+    let mut rest = kind.chars();
+    let first = rest.next();
+    let (rest, number) = (rest.as_str(), value.unwrap_or(0));
+    match first {
+        None => write!(f, "{number}"),
+        Some('@') => tell_by_code(f, rest, number, values),
+        Some('?') => told(f, rest, number),
+        Some('&') => bits_told(f, rest, number),
+        Some('#') => counted(f, rest, number),
+        Some('.') => each_told(f, rest, place, value, values),
+        _ => fill_number(f, kind, value),
+    }
+}
+
+/// A number and what it counts.
+fn counted<W: fmt::Write>(f: &mut fmt::Formatter<W>, unit: &str, number: i64) -> fmt::Result {
+    write!(f, "{number} {unit}")?;
+    if number == 1 {
+        Ok(())
+    } else {
+        f.write_str("s")
+    }
+}
+
+/// A number, or what stands in its place where it is left out or 0.
+fn fill_number<W: fmt::Write>(
+    f: &mut fmt::Formatter<W>,
+    kind: &str,
+    value: Option<i64>,
+) -> fmt::Result {
+    let (kind, left_out) = kind.split_once('~').unwrap_or((kind, ""));
     if !left_out.is_empty() {
         let (otherwise, ahead) = left_out.split_once('|').unwrap_or((left_out, ""));
-        if values.number(place_of(place).0).is_none() {
-            return f.write_str(otherwise);
+        f.write_str(if value.is_none() { otherwise } else { ahead })?;
+        if value.is_none() {
+            return Ok(());
         }
-        f.write_str(ahead)?;
     }
-    let value = value(values, place);
-    if value == 0 && !zero.is_empty() {
-        return f.write_str(zero);
+    let (kind, unit) = kind.split_once('#').unwrap_or((kind, ""));
+    let zero = kind.strip_prefix(':').unwrap_or("");
+    let number = value.unwrap_or(0);
+    if number == 0 && !zero.is_empty() {
+        f.write_str(zero)
+    } else if unit.is_empty() {
+        write!(f, "{number}")
+    } else {
+        counted(f, unit, number)
     }
-    write!(f, "{value}")?;
-    if unit.is_empty() {
-        return Ok(());
-    }
-    write!(f, " {unit}")?;
-    if value == 1 { Ok(()) } else { f.write_str("s") }
-}
-
-/// The place that a hole names, and what the number is where it is left out.
-fn place_of(place: &str) -> (u32, Option<i64>) {
-    let (place, otherwise) = place.split_once('=').unwrap_or((place, ""));
-    (
-        place.parse::<u32>().unwrap_or(0),
-        otherwise.parse::<i64>().ok(),
-    )
-}
-
-/// The number at the place that a hole names.
-fn value(values: Values<'_>, place: &str) -> i64 {
-    let (place, otherwise) = place_of(place);
-    values.number(place).or(otherwise).unwrap_or(0)
 }
 
 /// The words of a value in a list.
@@ -103,16 +128,17 @@ fn told<W: fmt::Write>(f: &mut fmt::Formatter<W>, list: &str, value: i64) -> fmt
     write!(f, "{value}")
 }
 
-/// The words of the values from a place on, up to one that is left out.
+/// The words of a value at a place and of those behind it, up to one that is left out.
 fn each_told<W: fmt::Write>(
     f: &mut fmt::Formatter<W>,
-    from: &str,
     list: &str,
+    from: u32,
+    first: Option<i64>,
     values: Values<'_>,
 ) -> fmt::Result {
-    let (from, otherwise) = place_of(from);
+    let list = list.strip_prefix(".?").unwrap_or(list);
     let mut ahead = ": ";
-    let mut next = values.number(from).or(otherwise);
+    let mut next = first;
     for place in from..32 {
         let Some(value) = next else {
             return Ok(());

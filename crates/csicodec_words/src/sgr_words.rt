@@ -1,47 +1,45 @@
 // Written by tools/table from table/sgr.toml: change that, and run python3 tools/table.
 //! What attributes of text are called.
 
-use crate::values::{Said, alone, color_row, row};
+use crate::values::{Piece, Said, color_row, row};
 use csicodec_base::{Blink, Font, Intensity, Sgr, Underline, VerticalAlign};
 
 /// What an attribute is called.
 pub(crate) fn words_of_attribute(attribute: &Sgr) -> Said<'_> {
     match attribute {
-        Sgr::Reset => alone("SGR  all attributes off"),
-        Sgr::Intensity(Intensity::Bold) => alone("SGR  bold on"),
-        Sgr::Intensity(Intensity::Half) => alone("SGR  faint on"),
-        Sgr::Italic(true) => alone("SGR  italic on"),
-        Sgr::Underline(Underline::Single) => alone("SGR  underline on"),
-        Sgr::Blink(Blink::Slow) => alone("SGR  slow blink on"),
-        Sgr::Blink(Blink::Rapid) => alone("SGR  rapid blink on"),
-        Sgr::Inverse(true) => alone("SGR  inverse on"),
-        Sgr::Invisible(true) => alone("SGR  concealed on"),
-        Sgr::StrikeThrough(true) => alone("SGR  crossed out on"),
-        Sgr::Font(Font::Default) => alone("SGR  primary font"),
-        Sgr::Font(Font::Alternate(number)) => row(
-            "SGR  alternative font {0}",
-            i64::from(*number),
-            0,
+        Sgr::Reset => Said::Alone("SGR  all attributes off"),
+        Sgr::Intensity(Intensity::Bold) => Said::Alone("SGR  bold on"),
+        Sgr::Intensity(Intensity::Half) => Said::Alone("SGR  faint on"),
+        Sgr::Italic(true) => Said::Alone("SGR  italic on"),
+        Sgr::Underline(Underline::Single) => Said::Alone("SGR  underline on"),
+        Sgr::Blink(Blink::Slow) => Said::Alone("SGR  slow blink on"),
+        Sgr::Blink(Blink::Rapid) => Said::Alone("SGR  rapid blink on"),
+        Sgr::Inverse(true) => Said::Alone("SGR  inverse on"),
+        Sgr::Invisible(true) => Said::Alone("SGR  concealed on"),
+        Sgr::StrikeThrough(true) => Said::Alone("SGR  crossed out on"),
+        Sgr::Font(Font::Default) => Said::Alone("SGR  primary font"),
+        Sgr::Font(Font::Alternate(number)) => row(&FONT, i64::from(*number), 0),
+        Sgr::Underline(Underline::Double) => Said::Alone("SGR  double underline on"),
+        Sgr::Intensity(Intensity::Normal) => Said::Alone("SGR  bold and faint off"),
+        Sgr::Italic(false) => Said::Alone("SGR  italic off"),
+        Sgr::Underline(Underline::None) => Said::Alone("SGR  underline off"),
+        Sgr::Blink(Blink::None) => Said::Alone("SGR  blink off"),
+        Sgr::Inverse(false) => Said::Alone("SGR  inverse off"),
+        Sgr::Invisible(false) => Said::Alone("SGR  concealed off"),
+        Sgr::StrikeThrough(false) => Said::Alone("SGR  crossed out off"),
+        Sgr::Foreground(color) => color_row(&FOREGROUND, color),
+        Sgr::Background(color) => color_row(&BACKGROUND, color),
+        Sgr::Overline(true) => Said::Alone("SGR  overline on"),
+        Sgr::Overline(false) => Said::Alone("SGR  overline off"),
+        Sgr::UnderlineColor(color) => color_row(&UNDERLINE_COLOR, color),
+        Sgr::VerticalAlign(VerticalAlign::SuperScript) => Said::Alone("SGR  superscript on"),
+        Sgr::VerticalAlign(VerticalAlign::SubScript) => Said::Alone("SGR  subscript on"),
+        Sgr::VerticalAlign(VerticalAlign::BaseLine) => Said::Alone(
+            "SGR  superscript and subscript off",
         ),
-        Sgr::Underline(Underline::Double) => alone("SGR  double underline on"),
-        Sgr::Intensity(Intensity::Normal) => alone("SGR  bold and faint off"),
-        Sgr::Italic(false) => alone("SGR  italic off"),
-        Sgr::Underline(Underline::None) => alone("SGR  underline off"),
-        Sgr::Blink(Blink::None) => alone("SGR  blink off"),
-        Sgr::Inverse(false) => alone("SGR  inverse off"),
-        Sgr::Invisible(false) => alone("SGR  concealed off"),
-        Sgr::StrikeThrough(false) => alone("SGR  crossed out off"),
-        Sgr::Foreground(color) => color_row("SGR  foreground {0@color}", color),
-        Sgr::Background(color) => color_row("SGR  background {0@color}", color),
-        Sgr::Overline(true) => alone("SGR  overline on"),
-        Sgr::Overline(false) => alone("SGR  overline off"),
-        Sgr::UnderlineColor(color) => color_row("SGR  underline colour {0@color}", color),
-        Sgr::VerticalAlign(VerticalAlign::SuperScript) => alone("SGR  superscript on"),
-        Sgr::VerticalAlign(VerticalAlign::SubScript) => alone("SGR  subscript on"),
-        Sgr::VerticalAlign(VerticalAlign::BaseLine) => alone("SGR  superscript and subscript off"),
-        Sgr::Underline(Underline::Curly) => alone("SGR  curly underline on"),
-        Sgr::Underline(Underline::Dotted) => alone("SGR  dotted underline on"),
-        Sgr::Underline(Underline::Dashed) => alone("SGR  dashed underline on"),
+        Sgr::Underline(Underline::Curly) => Said::Alone("SGR  curly underline on"),
+        Sgr::Underline(Underline::Dotted) => Said::Alone("SGR  dotted underline on"),
+        Sgr::Underline(Underline::Dashed) => Said::Alone("SGR  dashed underline on"),
     }
 }
 
@@ -64,3 +62,11 @@ pub(crate) static COLORS: [&str; 16] = [
     "bright cyan",
     "bright white",
 ];
+
+static FONT: [Piece; 2] = [Piece::Text("SGR  alternative font "), Piece::Number(0)];
+
+static FOREGROUND: [Piece; 2] = [Piece::Text("SGR  foreground "), Piece::Color];
+
+static BACKGROUND: [Piece; 2] = [Piece::Text("SGR  background "), Piece::Color];
+
+static UNDERLINE_COLOR: [Piece; 2] = [Piece::Text("SGR  underline colour "), Piece::Color];

@@ -26,7 +26,7 @@ pub fn fill<W: fmt::Write>(
 }
 
 /// A hole is a place, a digit of base 16, and what is told of the number there.
-fn fill_hole<W: fmt::Write>(
+pub(crate) fn fill_hole<W: fmt::Write>(
     f: &mut fmt::Formatter<W>,
     hole: &str,
     values: Values<'_>,
@@ -78,7 +78,11 @@ fn fill_kind<W: fmt::Write>(
 }
 
 /// A number and what it counts.
-fn counted<W: fmt::Write>(f: &mut fmt::Formatter<W>, unit: &str, number: i64) -> fmt::Result {
+pub(crate) fn counted<W: fmt::Write>(
+    f: &mut fmt::Formatter<W>,
+    unit: &str,
+    number: i64,
+) -> fmt::Result {
     write!(f, "{number} {unit}")?;
     if number == 1 {
         Ok(())

@@ -3,7 +3,6 @@
 use crate::device::{extensions, graphics_values};
 use crate::mode::{mode_name, private_mode_name, tell_turned};
 use crate::mode_words::{RESET, SET, TERMINAL_RESET, TERMINAL_SET};
-use crate::sgr::tell_color;
 use crate::values::Values;
 use std::fmt;
 
@@ -29,8 +28,7 @@ pub(crate) fn tell_by_code<W: fmt::Write>(
         "lines" => margins(f, "line", values.number(0), value),
         "columns" => margins(f, "column", values.number(0), value),
         "f3" => f3(f, values.number(0), value),
-        "values" => graphics_values(f, values),
-        _ => tell_color(f, values),
+        _ => graphics_values(f, values),
     }
 }
 

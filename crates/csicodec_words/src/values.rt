@@ -1,6 +1,9 @@
 //! The numbers that stand in words, and what else is told there.
 
-use crate::template::fill;
+use crate::numbered::{Numbered, words_of};
+use crate::sgr::tell_color;
+use crate::template::{counted, fill_hole};
+use crate::told::tell_by_code;
 use bitflags::Flags;
 use csicodec_actions::{DeviceAttribute, MouseButton, XtSmGraphics};
 use csicodec_base::{ColorSpec, CsiParam, Modifiers, OneBased};
@@ -9,8 +12,6 @@ use std::fmt;
 /// What the holes of words stand for.
 #[derive(Clone, Copy)]
 pub enum Values<'a> {
-    /// Nothing.
-    Nothing,
     /// The numbers of a list, each by the semicolons ahead of it.
     List(&'a [CsiParam]),
     /// Two numbers, of which each may be left out.
@@ -40,7 +41,7 @@ impl<'a> Values<'a> {
                 0 => Some(graphics.action_or_status),
                 _ => Some(graphics.item.number()),
             },
-            Values::Nothing | Values::Extensions(_) | Values::Color(_) => None,
+            Values::Extensions(_) | Values::Color(_) => None,
         }
     }
 }
@@ -63,51 +64,81 @@ fn number(params: &[CsiParam], place: u32) -> Option<i64> {
     None
 }
 
-/// Words with holes, and what they stand for.
+/// A part of words.
+pub(crate) enum Piece {
+    /// A text as it stands.
+    Text(&'static str),
+    /// The number at a place, 0 where it is left out.
+    Number(u32),
+    /// The same with what it counts.
+    Counted(u32, &'static str),
+    /// The words of that number, or itself where it has none.
+    OneOf(u32, Numbered),
+    /// What code tells of it, by what a hole calls that.
+    Code(u32, &'static str),
+    /// The colour.
+    Color,
+    /// What `fill` has between braces.
+    Hole(&'static str),
+}
+
+impl Piece {
+    fn tell<W: fmt::Write>(&self, f: &mut fmt::Formatter<W>, values: Values<'_>) -> fmt::Result {
+        let number = |place: u32| values.number(place).unwrap_or(0);
+        match self {
+            Piece::Text(text) => f.write_str(text),
+            Piece::Number(place) => write!(f, "{}", number(*place)),
+            Piece::Counted(place, unit) => counted(f, unit, number(*place)),
+            Piece::OneOf(place, table) => match words_of(table, number(*place)) {
+                Some(words) => f.write_str(words),
+                None => write!(f, "{}", number(*place)),
+            },
+            Piece::Code(place, code) => tell_by_code(f, code, number(*place), values),
+            Piece::Color => tell_color(f, values),
+            Piece::Hole(hole) => fill_hole(f, hole, values),
+        }
+    }
+}
+
+/// What is said: words alone, or parts and what numbers stand in them.
 #[derive(Clone, Copy)]
-pub(crate) struct Said<'a> {
-    pub(crate) words: &'static str,
-    pub(crate) values: Values<'a>,
+pub(crate) enum Said<'a> {
+    Alone(&'static str),
+    Parts(&'static [Piece], Values<'a>),
 }
 
 impl<'a> Said<'a> {
     /// Writes the words.
     pub(crate) fn tell<W: fmt::Write>(self, f: &mut fmt::Formatter<W>) -> fmt::Result {
-        match self.values {
-            Values::Nothing => f.write_str(self.words),
-            values => fill(f, self.words, values),
+        match self {
+            Said::Alone(words) => f.write_str(words),
+            Said::Parts(pieces, values) => {
+                for piece in pieces {
+                    piece.tell(f, values)?;
+                }
+                Ok(())
+            }
         }
     }
 }
 
-/// Words alone.
-pub(crate) fn alone(words: &'static str) -> Said<'static> {
-    Said {
-        words,
-        values: Values::Nothing,
-    }
-}
-
 /// Words with two numbers.
-pub(crate) fn row(words: &'static str, first: i64, second: i64) -> Said<'static> {
+pub(crate) fn row(words: &'static [Piece], first: i64, second: i64) -> Said<'static> {
     sized_row(words, Some(first), Some(second))
 }
 
 /// Words with two numbers that may be left out.
 pub(crate) fn sized_row(
-    words: &'static str,
+    words: &'static [Piece],
     first: Option<i64>,
     second: Option<i64>,
 ) -> Said<'static> {
-    Said {
-        words,
-        values: Values::Two(first, second),
-    }
+    Said::Parts(words, Values::Two(first, second))
 }
 
 /// Words with a place, a button by its turn in the type, and the bits of the keys that are held.
 pub(crate) fn report_row(
-    words: &'static str,
+    words: &'static [Piece],
     x: u16,
     y: u16,
     button: MouseButton,
@@ -115,49 +146,37 @@ pub(crate) fn report_row(
 ) -> Said<'static> {
     let (x, y) = (i64::from(x), i64::from(y));
     let held = i64::from(modifiers.bits());
-    Said {
-        words,
-        values: Values::Six([x, y, button as i64, held, 0, 0]),
-    }
+    Said::Parts(words, Values::Six([x, y, button as i64, held, 0, 0]))
 }
 
 /// Words with two numbers, and the sides of an area.
 pub(crate) fn area_row(
-    words: &'static str,
+    words: &'static [Piece],
     first: i64,
     second: i64,
     sides: [OneBased; 4],
 ) -> Said<'static> {
     let [top, left, bottom, right] = sides.map(|side| i64::from(side.as_one_based()));
-    Said {
+    Said::Parts(
         words,
-        values: Values::Six([first, second, top, left, bottom, right]),
-    }
+        Values::Six([first, second, top, left, bottom, right]),
+    )
 }
 
 /// Words with what a terminal can do.
 pub(crate) fn extensions_row<'a>(
-    words: &'static str,
+    words: &'static [Piece],
     attributes: &'a [DeviceAttribute],
 ) -> Said<'a> {
-    Said {
-        words,
-        values: Values::Extensions(attributes),
-    }
+    Said::Parts(words, Values::Extensions(attributes))
 }
 
 /// Words with what is asked or answered of graphics.
-pub(crate) fn graphics_row<'a>(words: &'static str, graphics: &'a XtSmGraphics) -> Said<'a> {
-    Said {
-        words,
-        values: Values::Graphics(graphics),
-    }
+pub(crate) fn graphics_row<'a>(words: &'static [Piece], graphics: &'a XtSmGraphics) -> Said<'a> {
+    Said::Parts(words, Values::Graphics(graphics))
 }
 
 /// Words with a colour.
-pub(crate) fn color_row<'a>(words: &'static str, color: &'a ColorSpec) -> Said<'a> {
-    Said {
-        words,
-        values: Values::Color(color),
-    }
+pub(crate) fn color_row<'a>(words: &'static [Piece], color: &'a ColorSpec) -> Said<'a> {
+    Said::Parts(words, Values::Color(color))
 }

@@ -2,9 +2,9 @@
 from bindings.library import BY_NUMBER, IN_TURN, SUBJECTS, low, number_of, of, type_of, used
 from bindings.source import source_name, struct_arm
 from forms import LARGEST, Form, Slot
-from layout import array, pair, string
+from layout import array, low as spelt, pair, string
 from read import first_line, rows_of
-from templates import template_of
+from templates import pieces, template_of
 
 # How the values of an action are given, of these forms; no action here has a flag, and an area has an arm of its own.
 OWN = {
@@ -16,7 +16,7 @@ OWN = {
     "extensions": "extensions_row({}, &flags.attributes)",
     "graphics": "graphics_row({}, graphics)",
 }
-ROWS = ("alone", "area_row", "color_row", "extensions_row", "graphics_row", "report_row", "row", "sized_row")
+ROWS = ("area_row", "color_row", "extensions_row", "graphics_row", "report_row", "row", "sized_row")
 # What holes are called in the words of forms that have no fields, each with its type.
 SLOTS = {"unit": [], "count": ["n"], "place": ["n"], "int": ["n"], "bits": ["flags"], "extensions": ["attributes"], "graphics": ["action", "item", "values"]}
 
@@ -50,26 +50,27 @@ def filled(words, fields, lists):
     """The words with places in the place of names."""
     named = {name: words_of(kind) for name, kind in fields.items() if words_of(kind)}
     form = Form("", tuple(Slot(name.replace("_", " "), 0, LARGEST, 0, False, False) for name in fields), "", "")
-    return string(template_of(words, form, {**lists, **named}))
+    return template_of(words, form, {**lists, **named})
 
 
 def arm(kind, action, lists):
-    """The words of an action, and what they have of it."""
+    """The words of an action and what they have of it, and the parts of the words."""
     number, group, variant, form, names = kind
     name, tail = source_name(group, variant)
     words = filled(f"{action.row.get('shown', action.row['name'])}  {action.row['words']}", slots(action), lists)
     if form == "unit":
-        return f"{name}{tail} => alone({words}),\n"
+        return f"{name}{tail} => Said::Alone({string(words)}),\n", ""
+    parts = spelt("_".join([group, *variant])).upper()
     if form == "area":
         first, second, *sides = action.row["fields"]
-        return f"{name} {{ {', '.join(action.row['fields'])} }} => area_row({words}, *{first}, *{second}, [{', '.join('*' + side for side in sides)}]),\n"
-    return struct_arm((words, group, variant, form, names), OWN)
+        return f"{name} {{ {', '.join(action.row['fields'])} }} => area_row(&{parts}, *{first}, *{second}, [{', '.join('*' + side for side in sides)}]),\n", pieces(parts, words)
+    return struct_arm((f"&{parts}", group, variant, form, names), OWN), pieces(parts, words)
 
 
 def of_subject(subject):
     said, kind = low(subject.name), type_of(subject.name)
-    body = "".join(arm(kind, action, subject.row.get("lists", {})) for kind, action in zip(of(subject.name), subject.actions))
-    return f"\nfn {said}_words({said}: &{kind}) -> Said<'_> {{\n    match {said} {{\n{body}    }}\n}}\n"
+    arms, parts = zip(*(arm(kind, action, subject.row.get("lists", {})) for kind, action in zip(of(subject.name), subject.actions)))
+    return f"\nfn {said}_words({said}: &{kind}) -> Said<'_> {{\n    match {said} {{\n{''.join(arms)}    }}\n}}\n" + "".join("\n" + part for part in parts if part)
 
 
 def words():
@@ -81,10 +82,10 @@ pub(crate) fn words_of_action(action: &CSI) -> Option<Said<'_>> {
         body += f"        CSI::{group}({low(group)}) => {low(group)}_words({low(group)}),\n"
     path = next(variant for variant in rows_of("values.toml")["CSI"]["variants"].items() if variant[0] == "SelectCharacterPath")[1]
     said = filled(path["words"], {"path": "CharacterPath", "effect": ""}, {})
-    body += f"        CSI::SelectCharacterPath(path, effect) => row({said}, i64::from(path.number()), *effect),\n        CSI::Unspecified(_) => return None,\n    }})\n}}\n"
-    body += "".join(of_subject(SUBJECTS[group]) for group in BY_NUMBER if group != "Sgr")
+    body += f"        CSI::SelectCharacterPath(path, effect) => row(&SELECT_CHARACTER_PATH, i64::from(path.number()), *effect),\n        CSI::Unspecified(_) => return None,\n    }})\n}}\n"
+    body += "\n" + pieces("SELECT_CHARACTER_PATH", said) + "".join(of_subject(SUBJECTS[group]) for group in BY_NUMBER if group != "Sgr")
     codes = rows_of("values.toml")["DeviceAttributeCodes"]
     extensions = {row["number"]: row["words"] for row in codes["variants"].values()} | {int(number): words for number, words in codes["others"].items()}
     table = array("Extensions of terminals, by their numbers.", "EXTENSIONS", "(i64, &str)", [pair(str(number), string(extensions[number])) for number in sorted(extensions)])
     held = [type_of(group) for group in BY_NUMBER if group != "Sgr"] + ["DeviceAttributes"]
-    return first_line("actions.toml") + TEXT.format(rows=used([*ROWS, "Said"], body), types=used(held, body)) + body.replace("sgr_words(sgr)", "words_of_attribute(sgr)") + "\n" + table
+    return first_line("actions.toml") + TEXT.format(rows=used([*ROWS, "Piece", "Said"], body), types=used(held, body)) + body.replace("sgr_words(sgr)", "words_of_attribute(sgr)") + "\n" + table

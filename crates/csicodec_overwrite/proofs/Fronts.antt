@@ -11,6 +11,8 @@ use Rattle.csicodec_names.specs.declared.color.Intensity.{Intensity}
 use Rattle.csicodec_names.specs.declared.color.Intensity.TheVariants as intensity
 use Rattle.csicodec_names.specs.declared.color.Underline.{Underline}
 use Rattle.csicodec_names.specs.declared.color.Underline.TheVariants as underline
+use Rattle.csicodec_tokens.proofs.Runs.{All-push}
+use Rattle.csicodec_clean.specs.Bytes.{IsPlainByte}
 use Rattle.csicodec_clean.proofs.Shows.{encoded_on}
 use Rattle.csicodec_clean.proofs.Told.{encoded, is_shown}
 use Rattle.csicodec_html.specs.declared.look.Look.{Look}
@@ -29,7 +31,7 @@ use Rattle.csicodec_overwrite.specs.Steps.{of_char, of_chars}
 use Rattle.csicodec_overwrite.specs.Reading.{most}
 use Rattle.csicodec_overwrite.specs.Stream.{Now, Passes, Reads, none_held}
 use Rattle.csicodec_overwrite.specs.Private.Front.{AreLooks, IsFront, IsLook, Sets, drawn, last_look, last_of_run, run_text, turned}
-use Rattle.csicodec_overwrite.specs.Private.Plain.{AreFull, IsLineByte, closed, end_of, line_byte}
+use Rattle.csicodec_overwrite.specs.Private.Plain.{AreFull, AreLines, IsLineByte, PutsPlain, closed, end_of, line_byte}
 use Rattle.csicodec_overwrite.proofs.Ends.{end_passes}
 use Rattle.csicodec_overwrite.proofs.Read.{reads_none, reads_on}
 use Rattle.csicodec_overwrite.proofs.Stays.{cells, cells_full, cells_length, full_trimmed, put_cells, puts}
@@ -335,3 +337,60 @@ line_passes old new bytes text last now returned bare reader is same painted pen
     subst (λ (t : List ℕ). Passes old (bytes ++ end_of returned) t new) whole
     (passes_on old mid new bytes (end_of returned) [] (ended old.painted (cells_of (line left []))) front
     (end_passes mid new refl (reader ∙ bare) painted (same ∙ is) (pen ∙ sym f.pens) returned))
+
+-- ---- lines of text alone
+
+plain_text : (painted : Bool) (look : Look) (run : List ℕ) → (painted ≡ true → look ≡ plain)
+    → run_text painted plain look run ++ (turned painted (last_of_run plain look run) plain ++ 10 ∷ []) ≡ run ++ 10 ∷ []
+plain_text true look run is =
+    ap (λ (l : Look). run_text true plain l run ++ (turned true (last_of_run plain l run) plain ++ 10 ∷ [])) (is refl)
+    ∙ ap (λ (t : List ℕ). t ++ (turned true (last_of_run plain plain run) plain ++ 10 ∷ [])) (run_same true plain run)
+    ∙ ap (λ (l : Look). run ++ (turned true l plain ++ 10 ∷ [])) (run_look plain run) ∙ ap (λ (t : List ℕ). run ++ (t ++ 10 ∷ [])) (turned_same true plain)
+plain_text false look [] is = refl
+plain_text false look (c ∷ cs) is = refl
+
+abbrev ready : Bool → Pen → Now
+ready painted pen = record { reader = none_held; pen = pen; painted = painted; line = blank }
+
+abbrev Stand : Bool → Pen → List ℕ → Type 0
+Stand painted pen text = Passes (ready painted pen) text text (ready painted (closed pen))
+
+stands : (painted : Bool) (pen : Pen) (run : List ℕ) → PutsPlain painted pen → AllByRecursion IsLineByte run → 8 * length run ≤ most
+    → Stand painted pen (run ++ 10 ∷ [])
+stands painted pen run (over, look) h few =
+    subst (λ (t : List ℕ). Passes (ready painted pen) (run ++ 10 ∷ []) t (ready painted (closed pen))) (plain_text painted pen.look run look)
+    (line_passes (ready painted pen) (ready painted (closed pen)) run (run_text painted plain pen.look run) (last_of_run plain pen.look run) pen.look
+    false refl refl refl refl refl refl (run_on painted pen [] [] plain pen.look (front_none painted pen) run over h few))
+
+stand : (painted : Bool) (pen : Pen) (run front : List ℕ) → PutsPlain painted pen → AllByRecursion IsLineByte run → AllByRecursion IsPlainByte front
+    → 8 * length (run ++ front) ≤ most → Stand painted pen (run ++ (front ++ 10 ∷ []))
+stand painted pen run [] puts h plains few = stands painted pen run puts h (omega (arith, few, length-append run []))
+stand painted pen run (c ∷ cs) puts h plains few =
+    by (c == 10) refl (stand painted (closed pen) [] cs puts tt plains.1 (omega (arith, few, length-append run (c ∷ cs))))
+    (λ (k : IsLineByte c). stand painted pen (run ++ c ∷ []) cs puts (All-push IsLineByte run c h k) plains.1
+    (omega (arith, few, length-append run (c ∷ cs), length-append (run ++ c ∷ []) cs, length-append run (c ∷ []))))
+  where
+    by : (t : Bool) → (c == 10) ≡ t → Stand painted (closed pen) (cs ++ 10 ∷ []) → (IsLineByte c → Stand painted pen ((run ++ c ∷ []) ++ (cs ++ 10 ∷ [])))
+        → Stand painted pen (run ++ (c ∷ cs ++ 10 ∷ []))
+    by true e later same =
+        let line = run ++ 10 ∷ [] in
+        let now = ready painted (closed pen) in
+        subst (Stand painted pen) (append_assoc run (10 ∷ []) (cs ++ 10 ∷ []) ∙ ap (λ (n : ℕ). run ++ n ∷ (cs ++ 10 ∷ [])) (sym (eqb-true c 10 e)))
+        (passes_on (ready painted pen) now now line (cs ++ 10 ∷ []) line (cs ++ 10 ∷ [])
+        (stands painted pen run puts h (omega (arith, few, length-append run (c ∷ cs)))) later)
+    by false e later same = subst (Stand painted pen) (append_assoc run (c ∷ []) (cs ++ 10 ∷ [])) (same (rw e at plains.0))
+
+pub lines_pass : (old new : Now) (bytes lines rest : List ℕ) → old.reader ≡ none_held → new.reader ≡ old.reader → old.line ≡ blank → new.line ≡ old.line
+    → new.painted ≡ old.painted → new.pen ≡ closed old.pen → PutsPlain old.painted old.pen → AreLines (most / 8) bytes lines rest
+    → Passes old lines lines new
+lines_pass old new bytes lines rest bare reader is same painted pen puts (front, ends, split, plains, few) =
+    let p = subst (Stand old.painted old.pen) (sym ends)
+    (stand old.painted old.pen [] front puts tt plains (omega (arith, few, ap length ends, length-append front (10 ∷ [])))) in
+    record {
+      steps = p.steps;
+      reads = rw (reader, bare) p.reads;
+      pen = pen ∙ p.pen ∙ ap (pen_behind_all most old.pen p.steps) (sym is);
+      painted = painted;
+      line = same ∙ is ∙ p.line ∙ ap (λ (l : Line). (do_all most old.pen p.steps l).line) (sym is);
+      all = p.all ∙ ap (λ (l : Line). texts_of old.painted (do_all most old.pen p.steps l).lines) (sym is);
+    }

@@ -1,10 +1,11 @@
 //! Text of ASCII, which takes no reading.
 ghost use Rattle.std.specs.Prelude.{◌≡◌, ◌∷◌, ◌++◌, [], ◌≤◌, length, min, IfSome};
-ghost use Rattle.csicodec_overwrite.specs.Private.Plain.{IsLineByte, end_of};
+ghost use Rattle.csicodec_overwrite.specs.Private.Plain.{AreLines, IsLineByte, end_of};
 ghost use Rattle.csicodec_overwrite.specs.Steps.{of_char};
 
 use crate::step::Step;
-use csicodec_clean::{ByteClass, first_set};
+use csicodec_clean::{ByteClass, PlainAscii, first_set, split_front};
+use memchr::memrchr;
 use std::simd::prelude::*;
 
 /// A tab, and the characters of ASCII that are no controls.
@@ -27,6 +28,30 @@ impl ByteClass for InLine {
         let odd = control | lanes.simd_ge(u8x16::splat(0x7f));
         first_set(odd.to_bitmask())
     }
+}
+
+/// How much of the text its lines are that end in it.
+fn lines_len(text: &[u8]) -> usize
+    ensures { result ≤ length text.now }
+{
+    match memrchr(b'\n', text) {
+        Some(last) => last + 1,
+        None => 0,
+    }
+}
+
+/// The lines of text alone in front, of at most so many bytes, and what is behind them, if there is one.
+pub(crate) fn split_lines(bytes: &[u8], most: usize) -> Option<(&[u8], &[u8])>
+    ensures { IfSome result (λ (lines, rest). AreLines most bytes.now lines.now rest.now) }
+{
+    let near = bytes.split_at(most.min(bytes.len())).0;
+    let text = split_front::<PlainAscii>(near).0;
+    let lines = text.split_at(lines_len(text)).0;
+    let (end, _front) = lines.split_last()?;
+    if *end != b'\n' {
+        return None;
+    }
+    Some((lines, bytes.split_at(lines.len()).1))
 }
 
 /// What is behind the end of a line in front, if one stands there: a newline, or a return and a newline.

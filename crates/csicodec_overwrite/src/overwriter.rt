@@ -1,11 +1,11 @@
 //! A stream of which each line is overwritten, as it comes.
 ghost use Rattle.std.specs.Prelude.{◌≡◌, ◌≤◌, ◌<◌, ◌++◌, ℕ, List, OnOk, IfNone, IfOk, IfSome, false, length, true};
 ghost use Rattle.csicodec_overwrite.specs.Line.{blank};
-ghost use Rattle.csicodec_overwrite.specs.Private.Plain.{end_of};
+ghost use Rattle.csicodec_overwrite.specs.Private.Plain.{PutsPlain, end_of};
 ghost use Rattle.csicodec_overwrite.specs.Private.Seen.{PassesFront};
 ghost use Rattle.csicodec_overwrite.specs.Stream.{Ending, Passes, begun, begun_as, none_held};
 
-use crate::ascii::{InLine, behind_end, odd_len};
+use crate::ascii::{InLine, behind_end, odd_len, split_lines};
 use crate::front::append_front;
 use crate::line::Line;
 use crate::paint::append_turned;
@@ -179,6 +179,37 @@ impl Overwriter {
         Ok(Some(rest))
     }
 
+    /// Whether lines of text alone may begin here that are written as they are.
+    fn is_straight(&self) -> bool
+        ensures { result ≡ true
+            → (self.now.line ≡ blank) × PutsPlain self.now.painted self.now.pen }
+    {
+        self.line.is_blank() && self.pen.puts_plain(self.painted)
+    }
+
+    /// Takes lines of text alone in front that are written as they are, if they are likely, and answers what is behind them.
+    fn take_lines<'a>(
+        &mut self,
+        is_likely: bool,
+        bytes: &'a [u8],
+        out: &mut Vec<u8>,
+    ) -> Result<&'a [u8], AllocError>
+        requires { self.old.reader ≡ none_held }
+        ensures passes { IfOk result (λ rest. PassesFront self.old bytes.now rest.now self.new
+            out.old.items out.new.items) }
+        ensures reader { OnOk result (self.new.reader ≡ none_held) }
+    {
+        if is_likely
+            && self.is_straight()
+            && let Some((lines, rest)) = split_lines(bytes, LIMIT / 8)
+        {
+            out.extend_from_slice(lines)?;
+            self.pen.take(Step::NewLine, 0);
+            return Ok(rest);
+        }
+        Ok(bytes)
+    }
+
     /// Takes the end of the line in front, or a line, or the text of ASCII.
     fn take_ready<'a>(&mut self, bytes: &'a [u8], out: &mut Vec<u8>) -> Result<&'a [u8], AllocError>
         requires { self.old.reader ≡ none_held }
@@ -190,10 +221,15 @@ impl Overwriter {
             self.take_end(out)?;
             return Ok(rest);
         }
+        let before = out.len();
         if self.begins_line(bytes)
             && let Some(rest) = self.take_line(bytes, out)?
         {
-            return Ok(rest);
+            // Behind a line that was written as it is, others are likely.
+            let taken = bytes.len().saturating_sub(rest.len());
+            let is_likely = out.len().saturating_sub(before) == taken;
+            let far = self.take_lines(is_likely, rest, out)?;
+            return Ok(far);
         }
         let rest = self.take_text(bytes, out)?;
         Ok(rest)

@@ -1,6 +1,7 @@
 //! How characters are put, and what is saved.
-ghost use Rattle.std.specs.Prelude.{◌≡◌};
+ghost use Rattle.std.specs.Prelude.{◌≡◌, true};
 ghost use Rattle.csicodec_overwrite.specs.Line.{fresh, last_behind, pen_behind};
+ghost use Rattle.csicodec_overwrite.specs.Private.Plain.{PutsPlain};
 
 use crate::sides::width;
 use crate::step::Step;
@@ -43,6 +44,19 @@ impl Pen {
             saved: 0,
             here: false,
         }
+    }
+
+    /// Whether it puts characters in place of others, and without attributes, if lines are painted.
+    pub(crate) fn puts_plain(&self, painted: bool) -> bool
+        ensures { result ≡ true → PutsPlain painted self.now }
+    {
+        if self.inserts {
+            return false;
+        }
+        if painted {
+            return self.look == Look::plain();
+        }
+        true
     }
 
     /// Takes a step that is done where so many columns are left of the cursor.

@@ -1,10 +1,21 @@
 -- Text of ASCII that is put at once. No promise rests on this file.
-use Rattle.std.specs.Prelude.{ℕ, ◌≡◌, ◌≤◌, ◌<◌, ◌==◌, ◌&&◌, ◌||◌, nat_le, nat_lt, Bool, true, false, List, [], ◌∷◌, length, None}
+use Rattle.std.specs.Prelude.{ℕ, ◌≡◌, ◌≤◌, ◌<◌, ◌==◌, ◌&&◌, ◌||◌, nat_le, nat_lt, Bool, true, false, List, [], ◌∷◌, ◌++◌, length, None}
 use Rattle.std.specs.List.{AllByRecursion}
+use Rattle.csicodec_clean.specs.Bytes.{IsPlainByte}
+use Rattle.csicodec_html.specs.Look.{plain}
 use Rattle.csicodec_overwrite.specs.declared.cells.Cell.{Cell}
 use Rattle.csicodec_overwrite.specs.declared.line.Line.{Line}
 use Rattle.csicodec_overwrite.specs.declared.pen.Pen.{Pen}
 use Rattle.csicodec_overwrite.specs.Cells.{is_empty}
+
+-- characters are put in place of others, without attributes that are painted
+abbrev pub PutsPlain : Bool → Pen → Type 0
+PutsPlain painted pen = (pen.inserts ≡ false) × (painted ≡ true → pen.look ≡ plain)
+
+-- lines of text alone in front of a rest, of at most so many bytes
+abbrev pub AreLines : ℕ → List ℕ → List ℕ → List ℕ → Type 0
+AreLines most bytes lines rest = (front : List ℕ) × (lines ≡ front ++ 10 ∷ []) × (bytes ≡ lines ++ rest)
+    × AllByRecursion IsPlainByte front × (length lines ≤ most)
 
 -- a character of ASCII that is no control comes behind all cells of a line that has room for it
 abbrev pub GoesBehind : ℕ → Pen → ℕ → Line → Type 0

@@ -1,0 +1,24 @@
+use Rattle.std.proofs.Common.{[], refl, sym, append-nil}
+use Rattle.csicodec_overwrite.proofs.Fronts.{lines_pass}
+use Rattle.csicodec_overwrite.proofs.Written.{passes_none}
+use Rattle.csicodec_overwrite.proofs.overwriter.Overwriter.take_lines.Goals as goal
+
+pub returns-clause-passes : goal.returns-clause-passes
+returns-clause-passes c =
+    let now = c.self.inside in
+    let lines = c.in-Some.lines.now in
+    let bare = rw (← c.self.view_is) at c.requires in
+    let (blank, puts) = rw (← c.self.view_is) at (c.is_straight.ensures c.if-is_straight.true) in
+    let (front, ends, split, plains, few) = c.in-Some.ensures in
+    rw (← c.self.view_is) (
+      lines,
+      lines,
+      split,
+      lines_pass (record { reader = now.reader; pen = now.pen; painted = now.painted; line = now.line })
+          (record { reader = now.reader; pen = c.take.new.self; painted = now.painted; line = now.line }) c.args.bytes.now lines
+          c.in-Some.rest.now bare refl blank refl refl c.take.ensures puts c.in-Some.ensures,
+      c.in_ok-extend_from_slice.ensures.items,
+    )
+
+pub returns-2-clause-passes : goal.returns-2-clause-passes
+returns-2-clause-passes c = ([], [], refl, passes_none c.args.self.now c.requires, sym (append-nil c.args.out.now.items))

@@ -459,7 +459,7 @@ function typed() {
 
 function policy() {
     const text = readFileSync(page, 'utf8');
-    wants(text.length < 750_000, `the page has ${text.length} bytes`);
+    wants(text.length < 700_000, `the page has ${text.length} bytes`);
     const [said] = /http-equiv="Content-Security-Policy" content="[^"]*"/.exec(text);
     wants(said.includes("default-src 'none'") && !said.includes('unsafe-inline') && !/https?:|connect-src/.test(said), `the policy: ${said}`);
 }

@@ -101,8 +101,8 @@ def rust(dist, out, room):
     run("cargo", "package", "--workspace", "--offline", "--no-verify", "--exclude-lockfile", "--quiet", "--target-dir", f"{room}/target", cwd=f"{room}/rust")
     for name in ("csicodec-sys", "csicodec"):
         made = f"{name}-{version()}.crate"
-        if os.path.getsize(f"{room}/target/package/{made}") > 1_100_000:
-            raise Stop(f"release: {made} is over 1,100,000 bytes")
+        if os.path.getsize(f"{room}/target/package/{made}") > 1_000_000:
+            raise Stop(f"release: {made} is over 1,000,000 bytes")
         shutil.copy(f"{room}/target/package/{made}", out)
 
 

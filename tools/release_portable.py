@@ -13,8 +13,8 @@ def lacks():
 
 
 def body(module, room):
-    """What wasm2c makes of a module: its struct, and its functions, without what ahead of them is the same for each module, and without
-    what it exports behind them."""
+    """What wasm2c makes of a module: its struct, and its functions, without what ahead of them is the same for each module, without what
+    it exports behind them, and without indentation, which is a sixth of the packed file."""
     with open(f"{room}/module.wasm", "wb") as file:
         file.write(module)
     run("wasm2c", f"{room}/module.wasm", "-n", "csicodec", "-o", f"{room}/module.c")
@@ -25,7 +25,7 @@ def body(module, room):
     functions = re.search(r"^static [a-z0-9]+ w2c_\w+\(.*?(?=^/\* export: 'memory' \*/$)", text, re.M | re.S)
     if not instance or not functions or "CALL_INDIRECT(" in functions[0]:
         raise Stop("release: what this wasm2c made of the module has another form than that of wabt 1.0.32")
-    return f"{instance[0]}\n\n{functions[0]}"
+    return re.sub("^ +", "", f"{instance[0]}\n\n{functions[0]}", flags=re.M)
 
 
 def write(module, to, room):

@@ -1,6 +1,4 @@
 //! A renderer, which builds its actions by hand: the status line of an editor.
-#![tactic(auto)]
-
 ghost use Rattle.std.specs.Prelude.{false, map, IfOk};
 ghost use Rattle.std.specs.List.{All};
 ghost use Rattle.csicodec_parser.specs.ActionOf.{action_of};
@@ -38,14 +36,15 @@ fn checked(alloc: Global, action: &CSI, out: &mut Vec<u8>) -> Result<bool, Alloc
     Ok(true)
 }
 
-fn main(rt: HostRuntime) -> anyhow::Result<()> {
+/// Draws the status line of this file.
+pub(crate) fn run(rt: &HostRuntime, name: &[u8]) -> anyhow::Result<()> {
     let alloc = rt.alloc();
     let mut out = Vec::new(alloc);
     let line = OneBased::from_zero_based(23);
     for action in &status_line(alloc, line, AnsiColor::Navy)? {
         encode(action, &mut out)?;
     }
-    out.extend_from_slice(b"main.rt")?;
+    out.extend_from_slice(name)?;
     encode(&CSI::from(Sgr::Reset), &mut out)?;
     for count in [0, 3] {
         let _drawn = checked(alloc, &CSI::from(Cursor::Up(count)), &mut out)?;
@@ -53,5 +52,6 @@ fn main(rt: HostRuntime) -> anyhow::Result<()> {
     let cursor = DecPrivateMode::from(DecPrivateModeCode::ShowCursor);
     encode(&CSI::from(Mode::SetDecPrivateMode(cursor)), &mut out)?;
     rt.stdout().write_all(&out)?;
+    println!(rt; "")?;
     Ok(())
 }

@@ -1,6 +1,6 @@
 use Rattle.std.proofs.Common.{◌≡◌, ◌<◌, ℕ, List, ◌++◌}
 use Rattle.csicodec_events.specs.Events.{IsMet, left}
-use Rattle.example_keys.proofs.read_events.Given as goal
+use Rattle.example_callers.proofs.keys.read_events.Given as goal
 
 -- what is left is an end of the bytes
 abbrev pub invariant-loop-params : goal.invariant-loop-params

@@ -1,11 +1,9 @@
 //! A recorder: it reads control sequences, writes their normal forms, and then a line that counts their actions by sorts.
-#![tactic(auto)]
-
 ghost use Rattle.std.specs.Prelude.{◌≡◌, length};
-ghost use Rattle.example_recorder.specs.Counts.{total};
+ghost use Rattle.example_callers.specs.Counts.{total};
 
 use csicodec::{CSI, decode_all, encode_all};
-use std::io::{Read, Write};
+use std::io::Write;
 
 /// How many actions of each sort there were.
 #[derive(Clone, Copy, Debug, Default)]
@@ -33,10 +31,9 @@ fn count(actions: &[CSI]) -> Counts
     counts
 }
 
-fn main(rt: HostRuntime) -> anyhow::Result<()> {
-    let mut bytes = Vec::new(rt.alloc());
-    rt.stdin().read_to_end(&mut bytes)?;
-    let actions = decode_all(rt.alloc(), &bytes, false)?;
+/// Writes sequences in their normal form, and how many actions of each sort they have.
+pub(crate) fn run(rt: &HostRuntime, bytes: &[u8]) -> anyhow::Result<()> {
+    let actions = decode_all(rt.alloc(), bytes, false)?;
     rt.stdout().write_all(&encode_all(rt.alloc(), &actions)?)?;
     println!(rt; "\n{:?}", count(&actions))?;
     Ok(())

@@ -1,6 +1,6 @@
 use Rattle.std.proofs.Common.{◌≡◌}
-use Rattle.example_recorder.specs.Counts.{total}
-use Rattle.example_recorder.proofs.count.Given as goal
+use Rattle.example_callers.specs.Counts.{total}
+use Rattle.example_callers.proofs.recorder.count.Given as goal
 
 -- each action up to here is counted once
 abbrev pub invariant-loop-action : goal.invariant-loop-action

@@ -1,14 +1,11 @@
 //! The state of an emulator, which the actions of a stream change: a cursor on a page, and a pen. The program reads a
 //! stream, and tells both at its end.
-#![tactic(auto)]
-
 ghost use Rattle.std.specs.Prelude.{◌<◌};
 
 use csicodec::{CSI, ColorSpec, CsiParam, Cursor, Sgr};
 use csicodec_events::{Event, Events};
 use csicodec_terminal::terminal_actions;
 use std::alloc::{AllocError, Global};
-use std::io::Read;
 
 /// Lines and columns are counted from 0.
 #[derive(Debug, Drop)]
@@ -79,9 +76,8 @@ impl Screen {
     }
 }
 
-fn main(rt: HostRuntime) -> anyhow::Result<()> {
-    let mut bytes = Vec::new(rt.alloc());
-    rt.stdin().read_to_end(&mut bytes)?;
+/// Plays a stream on a page of 24 lines, and tells where the cursor and the pen are then.
+pub(crate) fn run(rt: &HostRuntime, bytes: &[u8]) -> anyhow::Result<()> {
     let mut screen = Screen {
         lines: 24,
         columns: 80,
@@ -89,7 +85,7 @@ fn main(rt: HostRuntime) -> anyhow::Result<()> {
         column: 0,
         pen: ColorSpec::Default,
     };
-    screen.play(rt.alloc(), &bytes)?;
+    screen.play(rt.alloc(), bytes)?;
     println!(rt; "{screen:?}")?;
     Ok(())
 }

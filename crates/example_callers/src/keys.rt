@@ -2,8 +2,6 @@
 //!
 //! All of standard input has come at once, so an ESC at its end is a key. A program that reads from a terminal says so by
 //! `pause`, once nothing came for some time.
-#![tactic(auto)]
-
 ghost use Rattle.std.specs.Prelude.{◌≡◌, ◌++◌, List, ℕ, IfOk};
 
 use bitflags::Flags;
@@ -11,7 +9,6 @@ use csicodec::{CSI, CsiParam, MouseButton, MouseReport};
 use csicodec_events::{Dialect, Event, Events, InputEvent, Sent};
 use csicodec_keys::{KeyCode, KeyModifiers, read};
 use std::alloc::{AllocError, Global};
-use std::io::Read;
 
 /// What a user did.
 #[derive(Clone, Copy, Debug)]
@@ -127,11 +124,10 @@ fn read_events<'a>(
     Ok(rest)
 }
 
-fn main(rt: HostRuntime) -> anyhow::Result<()> {
-    let mut bytes = Vec::new(rt.alloc());
-    rt.stdin().read_to_end(&mut bytes)?;
+/// Tells what a user did who sent these bytes.
+pub(crate) fn run(rt: &HostRuntime, bytes: &[u8]) -> anyhow::Result<()> {
     let mut all = Vec::new(rt.alloc());
-    let rest = read_events(rt.alloc(), &bytes, &mut all)?;
+    let rest = read_events(rt.alloc(), bytes, &mut all)?;
     for did in &all {
         println!(rt; "{did:?}")?;
     }

@@ -288,41 +288,52 @@ def build_files(kit, places, to, kept, room):
 # ---- the list of them
 
 
+def statements():
+    """The sum of the statements that are proved of these sources."""
+    with open(f"{TOP}/docs/STATEMENTS", encoding="utf-8") as file:
+        return file.readline().split()[1]
+
+
 def manifest(kit, to, tools):
     """Writes MANIFEST of what lies in the folder, of which statements are proved of it, and of which other tools made a part of it."""
-    with open(f"{TOP}/docs/STATEMENTS", encoding="utf-8") as file:
-        statements = file.readline().split()[1]
     found = sorted(os.path.relpath(f"{at}/{name}", to) for at, _, names in os.walk(to) for name in names if name != "MANIFEST")
     with open(f"{to}/MANIFEST", "w", encoding="utf-8") as file:
-        file.write(f"version {version()}\nkit {kit.line}\nstatements {statements}\n" + "".join(f"tool {tool}\n" for tool in tools))
+        file.write(f"version {version()}\nkit {kit.line}\nstatements {statements()}\n" + "".join(f"tool {tool}\n" for tool in tools))
         file.writelines(f"sources {contents(name)} {name}\n" for name in [*MADE, "web"])
         file.writelines(f"file {sum_of(f'{to}/{name}')} {os.path.getsize(f'{to}/{name}')} {name}\n" for name in found)
 
 
-def read_manifest(folder):
-    """The sums of the sources, and of the files, that MANIFEST tells, and the tools."""
-    sources, files, tools = {}, {}, []
-    if os.path.isfile(f"{folder}/MANIFEST"):
-        with open(f"{folder}/MANIFEST", encoding="utf-8") as file:
-            for words in map(str.split, file):
-                if words[0] == "sources":
-                    sources[words[2]] = words[1]
-                elif words[0] == "file":
-                    files[words[3]] = words[1]
-                elif words[0] == "tool":
-                    tools.append(" ".join(words[1:]))
-    return sources, files, tools
+class Manifest:
+    """What MANIFEST tells: the sums of the sources and of the files, the other tools, and by one word each the version, the kit and the statements."""
+
+    def __init__(self, folder):
+        self.sources, self.files, self.tools, self.told = {}, {}, [], {}
+        if os.path.isfile(f"{folder}/MANIFEST"):
+            with open(f"{folder}/MANIFEST", encoding="utf-8") as file:
+                for line in file:
+                    self.read(*line.rstrip("\n").split(" ", 1))
+
+    def read(self, word, rest):
+        match word, rest.split():
+            case "sources", [digest, name]:
+                self.sources[name] = digest
+            case "file", [digest, _, name]:
+                self.files[name] = digest
+            case "tool", _:
+                self.tools.append(rest)
+            case _:
+                self.told[word] = rest
 
 
 def is_of_these_sources(folder, names):
     """Whether what lies there was made of the sources as they stand."""
-    sources = read_manifest(folder)[0]
+    sources = Manifest(folder).sources
     return all(sources.get(name) == contents(name) for name in names)
 
 
 def faults(folder):
     """What in the folder isn't as its MANIFEST says."""
-    files = read_manifest(folder)[1]
+    files = Manifest(folder).files
     there = {os.path.relpath(f"{at}/{name}", folder) for at, _, names in os.walk(folder) for name in names} - {"MANIFEST"}
     said = [f"{folder}/{name} is missing" for name in sorted({*files} - there)]
     said += [f"{folder}/{name} isn't told of in MANIFEST" for name in sorted(there - {*files})]

@@ -36,9 +36,15 @@ const whole = least({
 }, 30, 1);
 console.log(`${stream.length} bytes, ms a MB`);
 for (const [name, time] of Object.entries(whole)) console.log(name.padEnd(28), (time * 1000 / stream.length).toFixed(1).padStart(8));
-const short = least({
-    strip: () => codec.strip(SHORT), "strip-ansi's expression": () => SHORT.replace(STRIP_ANSI, ''),
-    'strip of a line': () => codec.strip(LINE), "strip-ansi's of a line": () => LINE.replace(STRIP_ANSI, ''), explain: () => codec.explain(SHORT),
-}, 8, 200);
-console.log('a short text, a line of a log, µs');
-for (const [name, time] of Object.entries(short)) console.log(name.padEnd(28), time.toFixed(2).padStart(8));
+const texts = { 'a short text': SHORT, 'a line of a log': LINE, 'one style in it': LINE.replace('INFO', '\x1b[32m$&\x1b[0m'), 'and a character': LINE.replace('INFO', '\x1b[32m✓\x1b[0m') };
+const calls = { explain: () => codec.explain(SHORT) };
+for (const [name, it] of Object.entries(texts)) Object.assign(calls, { [`strip of ${name}`]: () => codec.strip(it), [`  strip-ansi's of ${name}`]: () => it.replace(STRIP_ANSI, '') });
+console.log('µs');
+for (const [name, time] of Object.entries(least(calls, 12, 200))) console.log(name.padEnd(36), time.toFixed(2).padStart(8));
+// A log of a megabyte, in ASCII, plain and with one style or one character amid it.
+const log = LINE.repeat(Math.ceil(1e6 / LINE.length)), bytes = Buffer.from(log), middle = log.length >> 1;
+const logs = { plain: log, 'one style': `${log.slice(0, middle)}\x1b[1mx\x1b[0m${log.slice(middle)}`, 'one style and é': `${log.slice(0, middle)}\x1b[1mé\x1b[0m${log.slice(middle)}` };
+const whole_logs = { 'strip of bytes': () => codec.strip(bytes) };
+for (const [name, it] of Object.entries(logs)) Object.assign(whole_logs, { [`strip of a string, ${name}`]: () => codec.strip(it), [`  strip-ansi's, ${name}`]: () => it.replace(STRIP_ANSI, '') });
+console.log('a log, ms a MB');
+for (const [name, time] of Object.entries(least(whole_logs, 12, 1))) console.log(name.padEnd(36), (time * 1000 / bytes.length).toFixed(2).padStart(8));

@@ -114,6 +114,17 @@ for (let i = 0; i < 3000; i++) {
     if (!same(await through(codec.overwriteStream({ styles: true }), data, size), codec.overwrite(data, { styles: true }))) wrong(`lines of ${JSON.stringify(data.toString())} in pieces of ${size} are others`);
 }
 
+// A long text, of which what is plain goes by, is what its bytes are: with what stays open, pairs of surrogates and halves of one, and the seams of
+// pieces anywhere.
+const LONG = [...BITS, '\u{1f600}', '\u{1f600}', '\ud800', '\udc00'];
+for (let i = 0; i < 200; i++) {
+    const runs = ['', 'plain\t', 'x'.repeat(65536 - drawn(8)), '─é'.repeat(drawn(9000))];
+    const text = 'x'.repeat(65536) + Array.from({ length: 9 }, () => LONG[drawn(LONG.length)] + LONG[drawn(LONG.length)] + runs[drawn(4)]).join('');
+    for (const call of [it => codec.strip(it), it => codec.clean(it), it => codec.filter(it)]) {
+        if (!same(call(text), call(Buffer.from(text)))) wrong(`${call} of the long text ${i} is another than that of its bytes`);
+    }
+}
+
 const types = new Set();
 for (const [, text, isRead] of readFileSync(kinds, 'utf8').matchAll(/"([^"\n]*)",\s*(true|false),?\s*\)/g)) {
     if (isRead !== 'true') continue;

@@ -1,5 +1,6 @@
-/* Copies for x86-64 in place of musl's, which begin slowly (`rep movsq`): streams are copied in short pieces. All of a short piece is
- * read before any of it is written, so the two may overlap. It is compiled with no header of C. */
+/* Copies in place of those that begin slowly, since streams are copied in short pieces: for x86-64 in place of musl's (`rep movsq`), and for
+ * WebAssembly with vectors in place of the engine's, which it has for long pieces. All of a short piece is read before any of it is written, so
+ * the two may overlap. It is compiled with no header of C. */
 typedef __SIZE_TYPE__ size_t;
 typedef unsigned char byte;
 typedef unsigned short __attribute__((aligned(1), may_alias)) two;
@@ -11,12 +12,19 @@ typedef long long __attribute__((vector_size(16), aligned(1), may_alias)) sixtee
 #define ENDS(type) do { type first = *(const type *)from, last = *(const type *)(from + n - sizeof(type)); \
     *(type *)to = first, *(type *)(to + n - sizeof(type)) = last; return out; } while (0)
 #define AT(place, i) (*(sixteen *)((place) + 16 * (i)))
+#ifdef __wasm__
+#define ENGINE(call, to, from, n) \
+    if ((n) >= 1024) { __asm__("local.get %0\nlocal.get %1\nlocal.get %2\n" call :: "r"(to), "r"(from), "r"(n) : "memory"); return to; }
+#else
+#define ENGINE(call, to, from, n)
+#endif
 
 void *memmove(void *out, const void *in, size_t n) {
     byte *to = out;
     const byte *from = in;
     if (n >= 16) {
         if (n <= 32) ENDS(sixteen);
+        ENGINE("memory.copy 0, 0", out, in, n)
         sixteen last = AT(from + n - 16, 0);
         if (n <= 64) {
             sixteen a = AT(from, 0), b = AT(from, 1), c = AT(from + n - 32, 0);
@@ -57,6 +65,7 @@ void *memset(void *out, int value, size_t n) {
         else if (n) *to = (byte)value;
         return out;
     }
+    ENGINE("memory.fill 0", out, value, n)
     AT(to + n - 16, 0) = all;
     for (; n > 16; n -= 16, to += 16) AT(to, 0) = all;
     return out;

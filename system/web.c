@@ -61,6 +61,7 @@ void rattle_dealloc(void *place) { give(place); }
 EXPORT(csicodec_room) void *room(size_t bytes) { return take(bytes); }
 EXPORT(csicodec_free) void done(void *place) { give(place); }
 
+#ifndef __wasm_simd128__
 void *memcpy(void *to, const void *from, size_t n) {
     __asm__("local.get %0\nlocal.get %1\nlocal.get %2\nmemory.copy 0, 0" :: "r"(to), "r"(from), "r"(n) : "memory");
     return to;
@@ -70,6 +71,7 @@ void *memset(void *to, int value, size_t n) {
     __asm__("local.get %0\nlocal.get %1\nlocal.get %2\nmemory.fill 0" :: "r"(to), "r"(value), "r"(n) : "memory");
     return to;
 }
+#endif
 int memcmp(const void *a, const void *b, size_t n) {
     const byte *x = a, *y = b;
     for (; n; n--, x++, y++) if (*x != *y) return *x - *y;

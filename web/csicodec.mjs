@@ -14,8 +14,15 @@ const STATUS = ['ok', 'not a sequence', 'bad byte', 'number too large', 'truncat
 /** The most bytes that a control sequence may have, and how many of a stream are passed at a time. */
 const LIMIT = 65536n, PIECE = 65536;
 
-/** What strip and clean don't leave as it is: controls, and surrogates, whose pairs they do. */
-const CONTROL = /[\x00-\x08\x0b-\x1f\x7f-\x9f\ud800-\udfff]/;
+/** What strip and clean leave as it is, without pairs of surrogates, which they leave too. */
+const PLAIN = /[\t\n -~\xa0-\ud7ff\ue000-\uffff]*/y;
+
+/** Where that ends in a text, from a place on. */
+function plainEnd(text, at = 0) {
+    PLAIN.lastIndex = at;
+    PLAIN.test(text);
+    return PLAIN.lastIndex;
+}
 
 /** Why bytes were refused, or that memory ran out. */
 export class CodecError extends Error {
@@ -72,9 +79,14 @@ export const joined = parts => {
 
 /** The text of bytes from here to there; a few of ASCII are taken without a decoder. */
 export function textOf(bytes, from = 0, to = bytes.length) {
-    if (to - from > 12) return decoder.decode(bytes.subarray(from, to));
-    let text = '';
-    for (let i = from; i < to; i++) {
+    if (to - from > 16) return decoder.decode(bytes.subarray(from, to));
+    let text = '', i = from;
+    for (; i + 4 <= to; i += 4) {
+        const a = bytes[i], b = bytes[i + 1], c = bytes[i + 2], d = bytes[i + 3];
+        if ((a | b | c | d) > 127) return decoder.decode(bytes.subarray(from, to));
+        text += String.fromCharCode(a, b, c, d);
+    }
+    for (; i < to; i++) {
         if (bytes[i] > 127) return decoder.decode(bytes.subarray(from, to));
         text += String.fromCharCode(bytes[i]);
     }
@@ -116,7 +128,7 @@ class Library {
         if (room.size >= size) return room;
         if (room.at) this.calls.csicodec_free(room.at);
         const at = this.room(size);
-        return { at, place: Number(at), size, length: BigInt(size) };
+        return { at, place: Number(at), size, length: BigInt(size), bytes: new Uint8Array() };
     }
 
     /** Looks at the memory, which has another buffer behind a call that let it grow: the one before it has no bytes then. */
@@ -125,6 +137,8 @@ class Library {
         const { buffer } = this.calls.memory;
         this.all = new Uint8Array(buffer);
         this.view = new DataView(buffer);
+        // Node makes texts of its own kind of bytes more quickly than a decoder does.
+        this.ofNode = globalThis.Buffer?.from(buffer);
     }
 
     get memory() { this.look(); return this.all; }
@@ -141,17 +155,21 @@ class Library {
         this.length = BigInt(bytes.length);
     }
 
-    /** Puts a text where calls find it. */
+    /** Puts a text where calls find it, and answers how many bytes it has. */
     takeText(text) {
-        this.input = this.grown(this.input, text.length * 3 + 1);
-        const all = this.memory, at = this.input.place;
+        const input = this.input = this.grown(this.input, text.length * 3 + 1), all = this.memory;
         let i = text.length > 24 ? -1 : 0;
         for (; i >= 0 && i < text.length; i++) {
             const code = text.charCodeAt(i);
             if (code > 127) break;
-            all[at + i] = code;
+            all[input.place + i] = code;
         }
-        this.length = BigInt(i === text.length ? i : encoder.encodeInto(text, all.subarray(at, at + this.input.size)).written);
+        if (i !== text.length) {
+            if (!input.bytes.length) input.bytes = all.subarray(input.place, input.place + input.size);
+            i = encoder.encodeInto(text, input.bytes).written;
+        }
+        this.length = BigInt(i);
+        return i;
     }
 
     /** Calls with what was taken, and with room, which is tried again where it was too small; answers how many bytes are in `output`. `needed`
@@ -169,16 +187,20 @@ class Library {
         }
     }
 
-    /** A copy of what a call writes. */
-    written(...how) {
+    /** What a call writes, up to the next one. */
+    passing(...how) {
         const length = this.called(...how);
-        return this.bytes(this.output.at, length).slice();
+        return this.bytes(this.output.at, length);
     }
 
-    /** The same as a text. */
-    writtenText(room, needed, call, refused) {
-        const length = this.called(room, needed, call, refused), at = this.output.place;
-        return textOf(this.memory, at, at + length);
+    /** A copy of it. */
+    written(...how) { return this.passing(...how).slice(); }
+
+    /** A text that a call makes of a text. What is made of ASCII is ASCII. */
+    rewritten(text, needed, call, refused) {
+        const isAscii = this.takeText(text) === text.length, length = this.called(text.length * 9 + 64, needed, call, refused);
+        const from = this.output.place, to = from + length;
+        return length > 16 && this.ofNode ? this.ofNode.toString(isAscii ? 'latin1' : 'utf8', from, to) : textOf(this.memory, from, to);
     }
 }
 
@@ -196,25 +218,53 @@ class Steps {
         return true;
     }
 
-    /** What becomes of the next bytes, as far as it doesn't depend on what follows, in pieces. */
-    feed(given) {
-        const parts = [];
+    /** Calls with what becomes of the next bytes, as far as it doesn't depend on what follows, in pieces, each of which the next one overwrites. */
+    pass(given, each) {
         for (let at = 0; at < given.length; at += PIECE) {
             const piece = given.subarray(at, at + PIECE), bytes = this.rest.length ? joined([this.rest, piece]) : piece;
             let used = 0;
             if (!this.waits(bytes)) {
                 const step = this.codec.guarded(library => this.step(library, bytes));
                 used = step.used;
-                if (step.out.length) parts.push(step.out);
+                if (step.out.length) each(step.out);
             }
             this.rest = bytes.slice(used);
             this.looked = this.rest.length;
         }
+    }
+
+    /** The same in pieces that stay. */
+    feed(given) {
+        const parts = [];
+        this.pass(given, part => parts.push(part.slice()));
         return parts;
     }
 
     /** The whole of it. */
-    whole(bytes) { return joined([...this.feed(bytes), this.finish()]); }
+    whole(bytes) {
+        let all = new Uint8Array(bytes.length), length = 0;
+        const put = part => {
+            if (length + part.length > all.length) all = joined([all, new Uint8Array(all.length + part.length)]);
+            all.set(part, length);
+            length += part.length;
+        };
+        this.pass(bytes, put);
+        put(this.finish());
+        return length === all.length ? all : all.slice(0, length);
+    }
+
+    /** The whole of a text. What is plain goes by as it is where nothing is open. */
+    text(text) {
+        let out = '';
+        for (let at = 0, to; at < text.length; at = to) {
+            const from = this.rest.length || this.isOpen ? at : plainEnd(text, at);
+            to = from + PIECE;
+            // No pair of surrogates is cut.
+            if ((text.charCodeAt(to - 1) & 0xfc00) === 0xd800) to++;
+            out += text.slice(at, from) + decoder.decode(joined(this.feed(encoder.encode(text.slice(from, to)))));
+        }
+        return out + decoder.decode(this.finish());
+    }
 }
 
 /** Plain text, or text with the styles of a depth. */
@@ -223,10 +273,13 @@ class Cleaner extends Steps {
 
     begin() { super.begin(); this.state = new Uint8Array(16); }
 
+    /** Whether a control string or a title is open. */
+    get isOpen() { return this.state[0] + this.state[4] > 0; }
+
     step(library, bytes) {
         library.take(bytes);
         library.bytes(library.state, 16).set(this.state);
-        const out = library.written(bytes.length * 3 + 64, 32, (calls, answer, ...words) => this.depth === undefined
+        const out = library.passing(bytes.length * 3 + 64, 32, (calls, answer, ...words) => this.depth === undefined
             ? calls.csicodec_strip_step(answer, library.state, ...words)
             : calls.csicodec_clean_step(answer, this.depth, library.state, ...words));
         this.state = library.bytes(library.answerAt + 4, 16).slice();
@@ -252,9 +305,11 @@ class Filter extends Steps {
 
     begin() { super.begin(); this.mode = 0; }
 
+    get isOpen() { return this.mode > 0; }
+
     step(library, bytes) {
         library.take(bytes);
-        const out = library.written(bytes.length * 2 + 64, 16, (calls, answer, ...words) => calls[this.call](answer, this.mode, LIMIT, ...words));
+        const out = library.passing(bytes.length * 2 + 64, 16, (calls, answer, ...words) => calls[this.call](answer, this.mode, LIMIT, ...words));
         this.mode = library.told(4);
         return { out, used: library.told(8) };
     }
@@ -362,24 +417,18 @@ export class Codec {
     /** A text, or bytes, written by one call. */
     #written(input, needed, call, refused) {
         return this.guarded(library => {
-            if (typeof input === 'string') {
-                library.takeText(input);
-                return library.writtenText(input.length * 9 + 64, needed, call, refused);
-            }
+            if (typeof input === 'string') return library.rewritten(input, needed, call, refused);
             const bytes = bytesOf(input);
             library.take(bytes);
             return library.written(bytes.length * 3 + 64, needed, call, refused);
         });
     }
 
-    #whole(input, steps) {
-        const out = steps.whole(bytesOf(input));
-        return typeof input === 'string' ? decoder.decode(out) : out;
-    }
+    #whole(input, steps) { return typeof input === 'string' ? steps.text(input) : steps.whole(bytesOf(input)); }
 
     /** The visible text: no control but newline and tab. Of a string a string, else bytes. */
     strip(input) {
-        if (typeof input === 'string' && !CONTROL.test(input)) return input;
+        if (typeof input === 'string' && plainEnd(input) === input.length) return input;
         if (typeof input !== 'string' || input.length > PIECE) return this.#whole(input, new Cleaner(this));
         return this.#written(input, 8, stripCall);
     }
@@ -387,7 +436,7 @@ export class Codec {
     /** The visible text with its styles. `colors` is 'all', 256 or 16; `links` keeps links whose address is visible ASCII. */
     clean(input, options) {
         const { colors, links } = optionsOf(options, { colors: 'all', links: false }), depth = depthOf(colors);
-        if (typeof input === 'string' && !CONTROL.test(input)) return input;
+        if (typeof input === 'string' && plainEnd(input) === input.length) return input;
         if (!links && (typeof input !== 'string' || input.length > PIECE)) return this.#whole(input, new Cleaner(this, depth));
         return this.#written(input, 8, (calls, answer, ...words) => calls.csicodec_clean_with(answer, depth, links ? 1 : 0, ...words));
     }

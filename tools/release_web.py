@@ -139,8 +139,8 @@ def plainly(assembly):
     low = r"\t\1\n\ti64x2.splat\n\t"
     for bits, load in ((32, "i64.load32_u"), (64, "i64.load")):
         assembly = re.sub(rf"v128\.load{bits}_zero\t(.*)", rf"{load}{low}v128.const\t-1, 0\n\tv128.and", assembly)
-    for parts, shape in (("8x8", "i16x8.extend_low_i8x16"), ("16x4", "i32x4.extend_low_i16x8"), ("32x2", "i64x2.extend_low_i32x4")):
-        assembly = re.sub(rf"v128\.load{parts}_([su])\t(.*)", rf"i64.load\t\2\n\ti64x2.splat\n\t{shape}_\1", assembly)
+    for shape, parts, few in (("i16x8", "8x8", "i8x16"), ("i32x4", "16x4", "i16x8"), ("i64x2", "32x2", "i32x4")):
+        assembly = re.sub(rf"{shape}\.load{parts}_([su])\t(.*)", rf"i64.load\t\2\n\ti64x2.splat\n\t{shape}.extend_low_{few}_\1", assembly)
     return assembly
 
 
@@ -173,7 +173,7 @@ def table_of_32_bits(held):
 def module(kit, made, name, to, room):
     """The module of a crate, or what was made of the same."""
     source = module_of(made["aarch64-linux", MODULES[name]])
-    read = (source, __file__, *(f"{TOP}/system/{part}.c" for part in PARTS))
+    read = (source, __file__, *(f"{TOP}/system/{part}.c" for part in (*PARTS, "copy")))
     kept, stamp = f"{TOP}/out/release/web/{name}.wasm", " ".join(map(sum_of, read)) + tool()
     os.makedirs(os.path.dirname(kept), exist_ok=True)
     if os.path.isfile(f"{kept}.stamp") and os.path.isfile(kept):

@@ -138,7 +138,7 @@ class Library {
         this.all = new Uint8Array(buffer);
         this.view = new DataView(buffer);
         // Node makes texts of its own kind of bytes more quickly than a decoder does.
-        this.ofNode = globalThis.Buffer?.from(buffer);
+        this.ofNode = globalThis.Buffer?.prototype.latin1Slice && globalThis.Buffer.from(buffer);
     }
 
     get memory() { this.look(); return this.all; }
@@ -200,7 +200,8 @@ class Library {
     rewritten(text, needed, call, refused) {
         const isAscii = this.takeText(text) === text.length, length = this.called(text.length * 9 + 64, needed, call, refused);
         const from = this.output.place, to = from + length;
-        return length > 16 && this.ofNode ? this.ofNode.toString(isAscii ? 'latin1' : 'utf8', from, to) : textOf(this.memory, from, to);
+        if (length <= 16 || !this.ofNode) return textOf(this.memory, from, to);
+        return isAscii ? this.ofNode.latin1Slice(from, to) : this.ofNode.utf8Slice(from, to);
     }
 }
 

@@ -19,7 +19,7 @@ import release_build as build  # noqa: E402
 import release_portable as portable_c  # noqa: E402
 import release_systems as systems  # noqa: E402
 from release_build import HERE, TARGETS, TOP, Stop, run, sum_of, version
-from release_web import NO_VECTORS, library_of, modules_of
+from release_web import PORTABLE, library_of, modules_of
 
 # The files of web/ that are node's package.
 NODE = ("index.mjs", "index.d.ts", "csicodec.mjs", "forms.mjs", "actions.mjs", "actions.d.ts", "package.json", "README.md")
@@ -95,7 +95,7 @@ def rust(dist, out, room):
             copy([f"{dist}/{place}/libcsicodec.a"], f"{room}/rust/sys/lib/{target}")
     if not portable_c.lacks():
         os.makedirs(f"{room}/rust/sys/portable")
-        portable_c.write(library_of(dist, NO_VECTORS), f"{room}/rust/sys/portable/csicodec-portable.c", room)
+        portable_c.write(library_of(dist, PORTABLE), f"{room}/rust/sys/portable/csicodec-portable.c", room)
         copy(HEADERS, f"{room}/rust/sys/portable/include")
     copy([f"{dist}/NOTICE"], f"{room}/rust/sys")
     run("cargo", "package", "--workspace", "--offline", "--no-verify", "--exclude-lockfile", "--quiet", "--target-dir", f"{room}/target", cwd=f"{room}/rust")
@@ -215,7 +215,7 @@ def portable(dist, out, room):
     name = f"csicodec-{version()}-portable"
     folder = f"{room}/{name}"
     os.makedirs(folder)
-    portable_c.write(library_of(dist, NO_VECTORS), f"{folder}/csicodec-portable.c", room)
+    portable_c.write(library_of(dist, PORTABLE), f"{folder}/csicodec-portable.c", room)
     copy(HEADERS, f"{folder}/include")
     checked(folder, dist, room, "csicodec-portable.c")
     copy(["LICENSE", f"{dist}/NOTICE"], folder)

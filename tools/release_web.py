@@ -1,6 +1,6 @@
 """The modules for WebAssembly, and the page. The modules of LLVM that the proofs of the build for ARM gave are rewritten for WebAssembly,
-compiled by the kit's clang and linked by its linker; binaryen then makes the memory one of 32 bits, which every browser has. The modules
-that engines run have vectors (SIMD). The one of which release_portable.py makes C has none.
+compiled by the kit's clang and linked by its linker; binaryen then makes the memory one of 32 bits, which every browser has. The library's
+module for engines has vectors (SIMD). The one of which release_portable.py makes C has none, nor has the program's.
 """
 import lzma
 import os
@@ -21,7 +21,7 @@ PARTS = ("web", "wide")
 # The crate that each module is of: the library's, which the package for node has, the program's, which the page has too, and the library's
 # with no vectors, which becomes the file of C.
 MODULES = {"csicodec": LIBRARY, "explain": PROGRAM, "portable": LIBRARY}
-NO_VECTORS = "portable"
+WITH_VECTORS, PORTABLE = ("csicodec",), "portable"
 # ARM adds neighbours up three times, in lanes of a mask of which it took these bits, where others have one instruction.
 BITS = "<" + ", ".join(f"i8 {bit}" for bit in (1, 2, 4, 8, 16, 32, 64, -128) * 2) + ">"
 
@@ -189,7 +189,7 @@ def module(kit, made, name, to, room):
 
 
 def build_module(kit, source, name, to, room):
-    own, is_program, vectors = tempfile.mkdtemp(dir=room), MODULES[name] == PROGRAM, [] if name == NO_VECTORS else [VECTORS]
+    own, is_program, vectors = tempfile.mkdtemp(dir=room), MODULES[name] == PROGRAM, [VECTORS] if name in WITH_VECTORS else []
     with open(source, encoding="utf-8") as file:
         text = lowered(file.read(), bool(vectors))
     with open(f"{own}/crate.ll", "w", encoding="utf-8") as file:

@@ -483,5 +483,5 @@ try {
     await new Page(engine, JSON.parse(tables), vim).start();
 } catch (fault) {
     const { message } = /** @type {Error} */ (fault);
-    $('said').textContent = `This browser can't run the page: it needs WebAssembly with vectors (SIMD), and streams that unpack, as browsers have since 2023 (${message}).`;
+    $('said').textContent = `This browser can't run the page: it needs WebAssembly, and streams that unpack (${message}).`;
 }

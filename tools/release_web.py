@@ -21,7 +21,7 @@ PARTS = ("web", "wide")
 # The crate that each module is of: the library's, which the package for node has, the program's, which the page has too, and the library's
 # with no vectors, which becomes the file of C.
 MODULES = {"csicodec": LIBRARY, "explain": PROGRAM, "portable": LIBRARY}
-WITH_VECTORS, PORTABLE = ("csicodec",), "portable"
+WITH_VECTORS, PORTABLE = (), "portable"
 # ARM adds neighbours up three times, in lanes of a mask of which it took these bits, where others have one instruction.
 BITS = "<" + ", ".join(f"i8 {bit}" for bit in (1, 2, 4, 8, 16, 32, 64, -128) * 2) + ">"
 

@@ -21,7 +21,7 @@ PARTS = ("web", "wide")
 # The crate that each module is of: the library's, which the package for node has, the program's, which the page has too, and the library's
 # with no vectors, which becomes the file of C.
 MODULES = {"csicodec": LIBRARY, "explain": PROGRAM, "portable": LIBRARY}
-WITH_VECTORS, PORTABLE = (), "portable"
+WITH_VECTORS, PORTABLE = ("csicodec",), "portable"
 # ARM adds neighbours up three times, in lanes of a mask of which it took these bits, where others have one instruction.
 BITS = "<" + ", ".join(f"i8 {bit}" for bit in (1, 2, 4, 8, 16, 32, 64, -128) * 2) + ">"
 
@@ -106,6 +106,19 @@ def with_bits(function):
     return sum_of.sub(instead, function)
 
 
+def in_sixteens(it):
+    """The bits of 8, 32 or 64 lanes by those of 16: LLVM 22 fails where others are compared with 0."""
+    name, lanes, mask, lines, before = it[1], int(it[2]), it[3], [], "0"
+    own, width = f"%of.{mask[1:]}.{it.start()}", max(16, lanes)
+    for i in range(width // 16):
+        places = ", ".join(f"i32 {16 * i + j}" for j in range(16))
+        lines += [f"{own}.p{i} = shufflevector <{lanes} x i1> {mask}, <{lanes} x i1> zeroinitializer, <16 x i32> <{places}>", f"{own}.b{i} = bitcast <16 x i1> {own}.p{i} to i16"]
+        lines += [f"{own}.w{i} = zext i16 {own}.b{i} to i64", f"{own}.s{i} = shl i64 {own}.w{i}, {16 * i}", f"{own}.o{i} = or i64 {before}, {own}.s{i}"]
+        before = f"{own}.o{i}"
+    lines.append(f"{name} = trunc i64 {before} to i{lanes}" if lanes < 64 else f"{name} = or i64 {before}, 0")
+    return "\n".join(f"  {line}" for line in lines)
+
+
 def lowered(text, has_vectors):
     """The module of LLVM for aarch64, for WebAssembly: its layout, no words on processors, and in place of ARM's two instructions those of
     WebAssembly's vectors, or LLVM's terms. A program's main has the name of its entry."""
@@ -117,6 +130,7 @@ def lowered(text, has_vectors):
         text = re.sub(r"^ *uselistorder .*\n", "", text, flags=re.M)
         text = "".join(map(with_bits, re.split(r"^(?=define )", text, flags=re.M)))
         text = text.replace("@llvm.aarch64.neon.tbl1.v16i8", "@llvm.wasm.swizzle")
+        text = re.sub(r"^  (%\S+) = bitcast <(8|32|64) x i1> (%\S+) to i\2$", in_sixteens, text, flags=re.M)
         # Assembly can't be read back with names in quotes.
         numbers = {name: i for i, name in enumerate(dict.fromkeys(re.findall(r'@"[^"]*"', text)))}
         text = re.sub(r'@"[^"]*"', lambda it: f"@numbered.{numbers[it[0]]}", text)
@@ -136,6 +150,12 @@ def plainly(assembly):
                                            (32, "i32x4", "i32.load", "i32.store", ""), (64, "i64x2", "i64.load", "i64.store", "")):
         assembly = re.sub(rf"v128\.load{bits}_splat\t(.*)", rf"{load}\t\1\n\t{shape}.splat", assembly)
         assembly = re.sub(rf"v128\.store{bits}_lane\t(.*), (\d+)", rf"{shape}.extract_lane{sign}\t\2\n\t{store}\t\1", assembly)
+    loads = {}
+    assembly = re.sub(r"v128\.load(32|64)_lane\t(.*), (\d+)", lambda it: f"call\tlane_load_{loads.setdefault(it.groups(), len(loads))}", assembly)
+    for (bits, place, lane), i in loads.items():
+        kind, shape = f"\t.functype lane_load_{i} (i64, v128) -> (v128)\n", "i32x4" if bits == "32" else "i64x2"
+        assembly = f'{kind}{assembly}\n\t.section .text.lane_load_{i},"",@\n\t.type lane_load_{i},@function\nlane_load_{i}:\n{kind}'
+        assembly += f"\tlocal.get 1\n\tlocal.get 0\n\ti{bits}.load {place}\n\t{shape}.replace_lane {lane}\n\tend_function\n"
     low = r"\t\1\n\ti64x2.splat\n\t"
     for bits, load in ((32, "i64.load32_u"), (64, "i64.load")):
         assembly = re.sub(rf"v128\.load{bits}_zero\t(.*)", rf"{load}{low}v128.const\t-1, 0\n\tv128.and", assembly)
@@ -200,7 +220,7 @@ def build_module(kit, source, name, to, room):
     own_flags = [*FEATURES, *(vectors or [BULK])]
     compiled = [kit.clang, f"--target={TARGET}", *own_flags, "-w"]
     if vectors:
-        assembly = run(*compiled, level, "-ffunction-sections", "-S", f"{own}/crate.ll", "-o", "-")
+        assembly = run(*compiled, level, "-Xclang", "-disable-llvm-passes", "-ffunction-sections", "-S", f"{own}/crate.ll", "-o", "-")
         with open(f"{own}/crate.s", "w", encoding="utf-8") as file:
             file.write(plainly(assembly))
         run(*compiled, "-Wa,--no-type-check", "-c", f"{own}/crate.s", "-o", f"{own}/crate.o")

@@ -1,15 +1,19 @@
 -- What is noted of a sequence, and what is left of it then.
-use Rattle.std.proofs.Common.{◌≡◌, ◌-◌, ◌∙◌, ℕ, Bool, true, false, cond, List, ◌++◌, map, length, get_or, take, drop, refl, sym, ap, subst, arith}
+use Rattle.std.proofs.Common.{◌≡◌, ◌+◌, ◌-◌, ◌∙◌, ℕ, suc, Bool, true, false, cond, List, [], ◌∷◌, ◌++◌, map, length, get_or, take, drop, refl, sym, ap, subst, append-nil, arith}
 use Rattle.std.specs.Prelude.{◌==◌}
 use Rattle.std.proofs.Math.Seq.{take-append_seam}
+use Rattle.csicodec_names.specs.declared.color.ColorSpec.{ColorSpec}
+use Rattle.csicodec_base.specs.Shapes.{Plane, Front, Back, Line, painted}
+use Rattle.csicodec_base.specs.SgrText.{sgr_text}
 use Rattle.csicodec_base.specs.declared.sgr.Sgr.{Sgr}
 use Rattle.csicodec_actions.specs.Actions.{Sgr as SgrAction}
 use Rattle.csicodec_actions.specs.Table.{texts}
 use Rattle.csicodec_spans.specs.Parts.{IsSequence}
+use Rattle.csicodec_streams.specs.Colors.{IsColored}
 use Rattle.csicodec_clean.specs.declared.colors.Depth.{Depth}
 use Rattle.csicodec_clean.specs.declared.colors.Depth.TheVariants as depth
-use Rattle.csicodec_clean.specs.Styled.{Keeping, is_open, keeping, keeps, kept}
-use Rattle.csicodec_clean.specs.Private.Notes.{IsLeft, IsNoted, depth_byte, open_byte}
+use Rattle.csicodec_clean.specs.Styled.{IsOf, Keeping, is_open, keeping, keeps, kept}
+use Rattle.csicodec_clean.specs.Private.Notes.{IsLeft, IsNoted, depth_byte, note_of, open_byte}
 
 same_depth : (d e : Depth) → depth_byte d ≡ depth_byte e → d ≡ e
 same_depth depth.Full depth.Full h = refl
@@ -46,3 +50,32 @@ left_given k bytes after old new (actions, is, now, longer) = (
   (actions, is, refl, ap (λ (b : Bool). keeping k.passing b k.linked k.begun) now),
   longer,
 )
+
+-- ---- a colour, where all stay
+
+color_note : (plane : Plane) (color : ColorSpec) → note_of depth.Full (SgrAction (painted plane color) ∷ []) ≡ 0 ∷ 1 ∷ 1 ∷ 27 ∷ 91 ∷ sgr_text (painted plane color)
+color_note Front color = ap (λ l. 0 ∷ 1 ∷ 1 ∷ l) (append-nil (27 ∷ 91 ∷ sgr_text (painted Front color)))
+color_note Back color = ap (λ l. 0 ∷ 1 ∷ 1 ∷ l) (append-nil (27 ∷ 91 ∷ sgr_text (painted Back color)))
+color_note Line color = ap (λ l. 0 ∷ 1 ∷ 1 ∷ l) (append-nil (27 ∷ 91 ∷ sgr_text (painted Line color)))
+
+-- what is noted of it, by what begins with its text
+pub color_noted : (bytes rest own text note : List ℕ) (style : Sgr) (len : ℕ) → IsColored bytes style rest → IsOf own (SgrAction style ∷ []) → take (len + 1) text ≡ 27 ∷ 91 ∷ sgr_text style → note ≡ take (len + 4) (0 ∷ 1 ∷ 1 ∷ text)
+    → IsNoted own note
+color_noted bytes rest own text note style len (plane, color, opaque, paints, stands) is told noted =
+    let longer : len + 4 ≡ suc (suc (suc (len + 1))) = omega arith in
+    let all : note ≡ 0 ∷ 1 ∷ 1 ∷ 27 ∷ 91 ∷ sgr_text style = noted ∙ ap (λ n. take n (0 ∷ 1 ∷ 1 ∷ text)) longer ∙ ap (λ l. 0 ∷ 1 ∷ 1 ∷ l) told in
+    (depth.Full, SgrAction style ∷ [], is, all ∙ subst (λ (s : Sgr). 0 ∷ 1 ∷ 1 ∷ 27 ∷ 91 ∷ sgr_text s ≡ note_of depth.Full (SgrAction s ∷ [])) (sym paints) (sym (color_note plane color)))
+
+color_open : (plane : Plane) (color : ColorSpec) (styled : Bool) → true ≡ is_open styled (kept depth.Full (SgrAction (painted plane color) ∷ []))
+color_open Front color styled = refl
+color_open Back color styled = refl
+color_open Line color styled = refl
+
+-- and what is left of it
+pub color_left : (bytes rest own old new : List ℕ) (style : Sgr) (styled : Bool) → IsColored bytes style rest → IsOf own (SgrAction style ∷ []) → new ≡ old ++ 27 ∷ 91 ∷ sgr_text style → IsLeft depth.Full styled own true old new
+color_left bytes rest own old new style styled (plane, color, opaque, paints, stands) is longer =
+    let text : 27 ∷ 91 ∷ sgr_text style ≡ texts (map SgrAction (kept depth.Full (SgrAction style ∷ []))) =
+    subst (λ (s : Sgr). 27 ∷ 91 ∷ sgr_text s ≡ texts (map SgrAction (kept depth.Full (SgrAction s ∷ [])))) (sym paints) (ap (drop 3) (sym (color_note plane color))) in
+    let opened : true ≡ is_open styled (kept depth.Full (SgrAction style ∷ [])) =
+    subst (λ (s : Sgr). true ≡ is_open styled (kept depth.Full (SgrAction s ∷ []))) (sym paints) (color_open plane color styled) in
+    (SgrAction style ∷ [], is, opened, longer ∙ ap (λ t. old ++ t) text)

@@ -1,13 +1,15 @@
 //! What is noted of control sequences that came before: what stays of each, and whether a style is open behind it.
-ghost use Rattle.std.specs.Prelude.{◌≡◌, ◌<◌, ◌≤◌, ◌++◌, ℕ, List, map, false, if◌then◌else◌, length, slice_index, take, IfOk, IfNone, IfSome, OnOk};
+ghost use Rattle.std.specs.Prelude.{◌≡◌, ◌<◌, ◌≤◌, ◌++◌, ◌∷◌, ℕ, Bool, List, map, true, false, if◌then◌else◌, length, slice_index, take, IfOk, IfNone, IfSome, OnOk};
 ghost use Rattle.csicodec_actions.specs.Actions.{Action, Sgr as SgrAction};
 ghost use Rattle.csicodec_actions.specs.Table.{texts};
 ghost use Rattle.csicodec_parser.specs.ActionOf.{action_of};
 ghost use Rattle.csicodec_parser.specs.Segments.{Actions};
 ghost use Rattle.csicodec_streams.specs.Known.{AreKnown};
+ghost use Rattle.csicodec_clean.specs.declared.colors.Depth.TheVariants.{Full as AllColors};
 ghost use Rattle.csicodec_clean.specs.Styled.{IsOf, is_open, kept};
 ghost use Rattle.csicodec_clean.specs.Private.Notes.{IsLeft, IsNoted, depth_byte, open_byte};
 
+use crate::class::LANES;
 use crate::colors::Depth;
 use crate::styles::{append_styles, is_open};
 use crate::text::append_front;
@@ -15,7 +17,7 @@ use crate::whole::near;
 use csicodec::CSI;
 use csicodec_base::{CsiParam, ReadError, read_csi_into};
 use csicodec_filter::Known;
-use csicodec_streams::{Note, parse_into, position_len, read_color};
+use csicodec_streams::{Note, color_text, parse_into, position_len, read_color};
 use std::alloc::{AllocError, Global};
 
 /// The note that is what stays of a sequence.
@@ -74,8 +76,52 @@ pub(crate) fn append_noted(
         return Ok(None);
     }
     let after = open_in(note, styled);
-    append_front(known.wide().split_at(3).1, note.len() - 3, out)?;
+    append_front::<LANES>(known.wide().split_at(3).1, note.len() - 3, out)?;
     Ok(Some(after == 1))
+}
+
+/// What begins with the note of a colour, where all stay, by what begins with its normal form.
+#[inline(always)]
+fn color_note(text: &[u8; 24]) -> [u8; 27]
+    ensures { result ≡ depth_byte AllColors ∷ open_byte true ∷ open_byte true ∷ text.now }
+{
+    let mut note = [0; 27];
+    note[..3].copy_from_slice(&[depth_byte(Depth::Full), open_byte(true), open_byte(true)]);
+    note[3..].copy_from_slice(text);
+    note
+}
+
+/// Appends the normal form of the true colour in front, and notes it, where all colours stay; answers how many bytes its sequence has,
+/// at most `limit`. A style is open behind it. It answers 0 where it takes none.
+#[inline(always)]
+fn take_color(
+    known: &mut Known<StyleNote>,
+    depth: Depth,
+    limit: usize,
+    bytes: &[u8],
+    out: &mut Vec<u8>,
+) -> Result<usize, AllocError>
+    requires { AreKnown IsNoted known.old.memo.slots.items }
+    ensures within { IfOk result (λ len. (len ≤ limit) × (len ≤ length bytes.now)) }
+    ensures left { IfOk result (λ len. 0 < len → (styled : Bool)
+        → IsLeft depth styled (take len bytes.now) true out.old.items out.new.items) }
+    ensures none { IfOk result (λ len. len ≡ 0 → out.new.items ≡ out.old.items) }
+    ensures known { AreKnown IsNoted known.new.memo.slots.items }
+{
+    let Depth::Full = depth else {
+        return Ok(0);
+    };
+    let front = near(limit, bytes);
+    let Some((_, rest)) = read_color(front) else {
+        return Ok(0);
+    };
+    let Some(text) = color_text(front) else {
+        return Ok(0);
+    };
+    let len = front.len() - rest.len();
+    append_front::<24>(&text, len + 1, out)?;
+    known.keep(bytes, len, color_note(&text).split_at(len + 4).0);
+    Ok(len)
 }
 
 /// Places that are kept for a sequence that is read: its actions, and its note.
@@ -195,6 +241,10 @@ impl Room {
         let moved = position_len(b'1', near(limit, bytes));
         if moved > 0 {
             return Ok((moved, styled));
+        }
+        let colored = take_color(known, depth, limit, bytes, out)?;
+        if colored > 0 {
+            return Ok((colored, true));
         }
         let len = self.read(params, limit, bytes)?;
         if len == 0 {

@@ -60,20 +60,24 @@ pub fn first_sure(bytes: &[u8]) -> Option<(char, usize)>
     }
 }
 
-/// Appends so many of the first bytes, a few of them by one copy of sixteen.
+/// Appends so many of the first bytes, up to `N` of them by one copy of `N`.
 #[inline(always)]
-pub(crate) fn append_front(bytes: &[u8], len: usize, out: &mut Vec<u8>) -> Result<(), AllocError>
+pub(crate) fn append_front<const N: usize>(
+    bytes: &[u8],
+    len: usize,
+    out: &mut Vec<u8>,
+) -> Result<(), AllocError>
     requires { len ≤ length bytes.now }
     ensures { OnOk result (out.new.items ≡ out.old.items ++ take len bytes.now) }
 {
     if len == 0 {
         return Ok(());
     }
-    if len > LANES || bytes.len() < LANES {
+    if len > N || bytes.len() < N {
         return out.extend_from_slice(bytes.split_at(len).0);
     }
     let end = out.len() + len;
-    out.extend_from_slice(bytes.split_at(LANES).0)?;
+    out.extend_from_slice(bytes.split_at(N).0)?;
     out.truncate(end);
     Ok(())
 }
@@ -84,7 +88,7 @@ fn append_plain<'a>(bytes: &'a [u8], out: &mut Vec<u8>) -> Result<&'a [u8], Allo
     ensures { IfOk result (λ rest. Tells bytes.now rest.now out.old.items out.new.items) }
 {
     let rest = behind_shown(bytes);
-    append_front(bytes, bytes.len() - rest.len(), out)?;
+    append_front::<LANES>(bytes, bytes.len() - rest.len(), out)?;
     Ok(rest)
 }
 

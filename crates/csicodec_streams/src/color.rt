@@ -139,7 +139,7 @@ fn append_sgr(sgr: Sgr, out: &mut TextBuffer) -> Result<(), AllocError>
 
 /// What begins with the normal form of a true colour in front, which has one byte more than its sequence. It may be None.
 #[inline(always)]
-fn color_text(bytes: &[u8]) -> Option<[u8; 24]>
+pub fn color_text(bytes: &[u8]) -> Option<[u8; 24]>
     ensures { IfSome result (λ text. (sgr : Attribute) (rest : List ℕ) → IsColored bytes.now sgr rest
         → take (length bytes.now - length rest + 1) text ≡ 27 ∷ 91 ∷ sgr_text sgr) }
 {

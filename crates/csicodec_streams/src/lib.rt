@@ -11,7 +11,7 @@ mod position;
 mod stream;
 mod texts;
 
-pub use color::{read_color, take_simple};
+pub use color::{color_text, read_color, take_simple};
 pub use decode::{decode_all, normal_form, parse_all, parse_all_over, parse_into};
 pub use error::{DecodeError, RunError};
 pub use io::{CHUNK, keep_from, receive, send};

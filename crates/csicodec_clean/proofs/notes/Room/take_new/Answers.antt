@@ -1,7 +1,9 @@
-use Rattle.std.proofs.Common.{◌≤◌, ◌∙◌, ℕ, List, [], ◌∷◌, length, map, take, refl, sym, ap, subst, append-nil, arith}
+use Rattle.std.proofs.Common.{◌≤◌, ◌∙◌, ℕ, List, [], ◌∷◌, ◌++◌, length, map, take, refl, sym, ap, subst, append-nil, arith}
 use Rattle.std.proofs.lemmas.List.{length-take, take-take}
 use Rattle.csicodec_tokens.specs.Sequence.{Seq}
 use Rattle.csicodec_actions.specs.Actions as action
+use Rattle.csicodec_actions.specs.Actions.{Sgr as SgrAction}
+use Rattle.csicodec_actions.specs.Table.{texts}
 use Rattle.csicodec_parser.specs.ActionOf.{action_of}
 use Rattle.csicodec_clean.specs.Styled.{is_open, kept}
 use Rattle.csicodec_clean.proofs.notes.Room.take_new.Goals as goal
@@ -28,9 +30,11 @@ keep-requires-clause-sequence c = c.in_ok-len.ensures.read (omega (arith, c.if-l
 
 pub returns-clause-left : goal.returns-clause-left
 returns-clause-left c = λ some.
-    let actions = c.read.new.self.actions.items in (
+    let actions = c.read.new.self.actions.items in
+    let text = texts (map SgrAction (kept c.args.depth (map action_of actions))) in
+    let same = c.in_ok-colored.ensures.none (omega (arith, c.if-colored-gt0.false)) in (
       map action_of actions,
       c.in_ok-len.ensures.read some,
       c.is_open-after.ensures ∙ ap (λ l. is_open c.args.styled (kept c.args.depth (map action_of l))) c.deref-2.ensures.value,
-      rw c.deref.ensures.value at c.in_ok-append_styles.ensures,
+      (rw c.deref.ensures.value at c.in_ok-append_styles.ensures) ∙ ap (λ l. l ++ text) same,
     )

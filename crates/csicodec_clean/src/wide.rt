@@ -1,5 +1,5 @@
 //! Characters from U+00A0 on, told by their bytes.
-ghost use Rattle.std.specs.Prelude.{◌≡◌, ◌≤◌, ◌<◌, length, take, true};
+ghost use Rattle.std.specs.Prelude.{◌≡◌, ◌≤◌, ◌<◌, ◌++◌, length, take, true};
 ghost use Rattle.bstr.specs.Utf8.{continues, second};
 ghost use Rattle.csicodec_clean.specs.Shown.{IsPlain};
 ghost use Rattle.csicodec_clean.specs.Private.Steps.{IsBehindShown, IsWide};
@@ -96,4 +96,14 @@ pub(crate) fn behind_shown<'a>(bytes: &'a [u8]) -> &'a [u8]
         }
         rest = behind::<PlainAscii>(further);
     }
+}
+
+/// The characters in front that are shown as they are, and what is behind them.
+#[inline(always)]
+pub fn split_shown<'a>(bytes: &'a [u8]) -> (&'a [u8], &'a [u8])
+    ensures whole { bytes.now ≡ result.0.now ++ result.1.now }
+    ensures shown { IsPlain result.0.now }
+{
+    let rest = behind_shown(bytes);
+    bytes.split_at(bytes.len() - rest.len())
 }

@@ -1,21 +1,27 @@
--- Text of ASCII that any line leaves as it is.
-use Rattle.std.proofs.Common.{◌≡◌, ◌<◌, ◌≤◌, ℕ, Bool, true, false, List, [], ◌∷◌, ◌++◌, length, length-append, refl, sym, ap, subst, ◌∙◌, append-nil, arith}
+-- Text that any line leaves as it is.
+use Rattle.std.proofs.Common.{◌≡◌, ◌<◌, ◌≤◌, ℕ, Bool, true, false, List, [], ◌∷◌, ◌++◌, length, length-append, encode_utf8_all, refl, sym, ap, subst, ◌∙◌, append-nil, arith, ⊎_elim, lt-ltb, le-ltb}
+use Rattle.std.specs.Char.{encode_utf8}
 use Rattle.std.specs.List.{AllByRecursion}
+use Rattle.std.specs.Str.{all_scalars}
+use Rattle.std.proofs.lemmas.Bool.{and_from, and_parts, cases_lt}
 use Rattle.std.proofs.lemmas.Bool.Decides.{nat_tests}
+use lib.Utf8.{scalar}
 use Rattle.csicodec_filter.specs.Transform.{GoesOn}
 use Rattle.csicodec_filter.proofs.Sent.{goes_on}
 use Rattle.csicodec_clean.specs.Cleaned.{EndOf, RuleOf, longest}
-use Rattle.csicodec_clean.specs.Bytes.{IsPlainByte}
-use Rattle.csicodec_clean.specs.Shown.{shown_text}
+use Rattle.csicodec_clean.specs.Shown.{IsPlain, IsShown, shown_text}
 use Rattle.csicodec_clean.specs.Stream.{Between, Goes, Takes, start_of}
 use Rattle.csicodec_clean.proofs.Chunks.{takes_none}
 use Rattle.csicodec_clean.proofs.Glances.{over_told}
 use Rattle.csicodec_clean.proofs.Shows.{shown_none}
-use Rattle.csicodec_clean.proofs.Told.{ascii_shown, front_taken, tells_shown}
+use Rattle.csicodec_clean.proofs.Told.{alone, front_taken, tells_shown}
 use Rattle.csicodec_lines.specs.declared.lines.Lines.{Lines}
-use Rattle.csicodec_lines.specs.Lines.{ends_line, lines_from}
+use Rattle.csicodec_lines.specs.Lines.{IsWithin, ends_line, lines_from}
 use Rattle.csicodec_lines.specs.Stream.{Ending, Passes}
 use Rattle.csicodec_lines.proofs.Taken.{goes_over, goes_within}
+
+high : (b : ℕ) → 128 ≤ b → IsWithin b
+high b far = grind (arith, nat_tests)
 
 empty : (l : List ℕ) → length l ≡ 0 → l ≡ []
 empty [] none = refl
@@ -25,18 +31,48 @@ empty (b ∷ l) none = absurd (omega (arith, none))
 pub unchanged : (before more after : List ℕ) → after ≡ before ++ more → length after ≤ length before → after ≡ before
 unchanged before more after out few = out ∙ ap (λ (t : List ℕ). before ++ t) (empty more (omega (arith, ap length out, length-append before more, few))) ∙ append-nil before
 
-newline : (b : ℕ) → IsPlainByte b → ends_line b ≡ true → b ≡ 10
-newline b plain ends = grind (arith, nat_tests)
+newline : (c : ℕ) → IsShown c → ends_line c ≡ true → c ≡ 10
+newline c shown ends = grind (arith, nat_tests)
+
+some_encoded : (c : ℕ) → 0 < length (encode_utf8 c)
+unfolding encode_utf8
+some_encoded c = grind (arith, nat_tests)
+
+-- a byte of a character that is no ASCII
+abbrev IsFar : ℕ → Type 0
+IsFar b = 128 ≤ b
+
+all_far : (c : ℕ) → 128 ≤ c → AllByRecursion IsFar (encode_utf8 c)
+unfolding encode_utf8
+all_far c a =
+    ⊎_elim
+    (λ (b : c < 2048). rw (le-ltb c 128 a, lt-ltb c 2048 b) (omega arith, (omega arith, tt)))
+    (λ (b : 2048 ≤ c). ⊎_elim
+    (λ (d : c < 65536). rw (le-ltb c 128 a, le-ltb c 2048 b, lt-ltb c 65536 d) (omega arith, (omega arith, (omega arith, tt))))
+    (λ (d : 65536 ≤ c). rw (le-ltb c 128 a, le-ltb c 2048 b, le-ltb c 65536 d) (omega arith, (omega arith, (omega arith, (omega arith, tt)))))
+    (cases_lt c 65536))
+    (cases_lt c 2048)
+
+far_within : (bs : List ℕ) → AllByRecursion IsFar bs → AllByRecursion IsWithin bs
+far_within [] all = tt
+far_within (b ∷ bs) all = (high b all.0, far_within bs all.1)
+
+-- the bytes of a character that ends no line end none
+within : (c : ℕ) → ends_line c ≡ false → AllByRecursion IsWithin (encode_utf8 c)
+within c other = ⊎_elim (λ (a : c < 128). subst (AllByRecursion IsWithin) (sym (alone c a)) (other, tt)) (λ (a : 128 ≤ c). far_within (encode_utf8 c) (all_far c a)) (cases_lt c 128)
+
+one_char : (c : ℕ) → IsShown c → scalar c ≡ true → IsPlain (encode_utf8 c)
+one_char c shown is = (c ∷ [], and_from (scalar c) true is refl, (shown, tt), sym (append-nil (encode_utf8 c)))
 
 module _ {S P : Type 0} (Begins : P → S) (Gives : RuleOf S) (Closes : EndOf S) where
   abbrev Step : Lines S P → List ℕ → List ℕ → Lines S P → Type 0
   Step = Passes Begins Gives Closes
 
   -- where nothing is open, such text passes, and nothing is open behind it
-  takes_plain : (s : S) (bytes : List ℕ) → AllByRecursion IsPlainByte bytes → Takes Gives (start_of s) bytes bytes (start_of s)
-  takes_plain s bytes plain =
+  takes_shown : (s : S) (bytes : List ℕ) → IsPlain bytes → Takes Gives (start_of s) bytes bytes (start_of s)
+  takes_shown s bytes plain =
       let whole = sym (append-nil bytes) in
-      let (appended, out, goes) = over_told Gives longest s bytes [] [] bytes (tells_shown bytes [] [] bytes (bytes, whole, ascii_shown bytes plain) (sym (front_taken bytes bytes [] whole))) in
+      let (appended, out, goes) = over_told Gives longest s bytes [] [] bytes (tells_shown bytes [] [] bytes (bytes, whole, plain) (sym (front_taken bytes bytes [] whole))) in
       record { unsure = (takes_none Gives s).unsure; goes = λ run chars read. subst (λ (t : List ℕ). Goes Gives longest (start_of s).mode false s run chars bytes t [] (start_of s).mode false s []) (sym out) (goes run chars read) }
 
   -- a line begins, and its rule ends it without a byte
@@ -53,21 +89,31 @@ module _ {S P : Type 0} (Begins : P → S) (Gives : RuleOf S) (Closes : EndOf S)
       let none : close ≡ [] = empty close (omega (arith, ap length out, length-append before more, length-append (shown_text it.line.held) close, few)) in
       record { line = line; returned = returned; closes = subst (λ (l : Between S). Closes l.rule []) line (subst (Closes it.line.rule) none closes) }
 
-  one_plain : (old new : Lines S P) (b : ℕ) (ends : Bool) → ends_line b ≡ ends → IsPlainByte b → IsBlank old → IsBlank new → new.by ≡ old.by → GoesOn Step old (b ∷ []) (b ∷ []) new
-  one_plain old new b true ends plain old_blank new_blank by =
+  one_shown : (old new : Lines S P) (c : ℕ) (ends : Bool) → ends_line c ≡ ends → IsShown c → scalar c ≡ true → IsBlank old → IsBlank new → new.by ≡ old.by → GoesOn Step old (encode_utf8 c) (encode_utf8 c) new
+  one_shown old new c true ends shown is old_blank new_blank by =
       let line : new.line ≡ start_of (Begins old.by) = new_blank.line ∙ ap (λ (p : P). start_of (Begins p)) by in
       let none : Ending Closes old [] = rw old_blank.line ([], old_blank.closes, sym (append-nil _ ∙ shown_none)) in
-      rw (newline b plain ends) (goes_over Begins Gives Closes old new 10 [] (rw old_blank.returned refl) refl none by new_blank.returned line)
-  one_plain old new b false ends plain old_blank new_blank by =
+      rw (newline c shown ends, alone 10 (omega arith)) (goes_over Begins Gives Closes old new 10 [] (rw old_blank.returned refl) refl none by new_blank.returned line)
+  one_shown old new c false ends shown is old_blank new_blank by =
+      let own = encode_utf8 c in
       let line : new.line ≡ start_of (Begins old.by) = new_blank.line ∙ ap (λ (p : P). start_of (Begins p)) by in
-      let takes : Takes Gives old.line (b ∷ []) (b ∷ []) new.line = rw (old_blank.line, line) (takes_plain (Begins old.by) (b ∷ []) (plain, tt)) in
-      goes_within Begins Gives Closes old new (b ∷ []) (b ∷ []) (omega arith) (ends, tt) by new_blank.returned takes
+      let takes : Takes Gives old.line own own new.line = rw (old_blank.line, line) (takes_shown (Begins old.by) own (one_char c shown is)) in
+      goes_within Begins Gives Closes old new own own (some_encoded c) (within c ends) by new_blank.returned takes
 
-  pub goes_plain : (old new : Lines S P) (bytes : List ℕ) → 0 < length bytes → AllByRecursion IsPlainByte bytes → IsBlank old → IsBlank new → new.by ≡ old.by → GoesOn Step old bytes bytes new
-  goes_plain old new [] some plain old_blank new_blank by = absurd (omega (arith, some))
-  goes_plain old new (b ∷ []) some plain old_blank new_blank by = one_plain old new b (ends_line b) refl plain.0 old_blank new_blank by
-  goes_plain old new (b ∷ c ∷ bytes) some plain old_blank new_blank by =
-      goes_on Step old old new (b ∷ []) (c ∷ bytes) (b ∷ []) (c ∷ bytes) (one_plain old old b (ends_line b) refl plain.0 old_blank old_blank refl) (goes_plain old new (c ∷ bytes) (omega arith) plain.1 old_blank new_blank by)
+  all_shown : (old new : Lines S P) (c : ℕ) (cs : List ℕ) → all_scalars (c ∷ cs) ≡ true → AllByRecursion IsShown (c ∷ cs) → IsBlank old → IsBlank new → new.by ≡ old.by
+      → GoesOn Step old (encode_utf8_all (c ∷ cs)) (encode_utf8_all (c ∷ cs)) new
+  all_shown old new c [] are shown old_blank new_blank by =
+      let both = and_parts (scalar c) true are in
+      subst (λ (t : List ℕ). GoesOn Step old t t new) (sym (append-nil (encode_utf8 c))) (one_shown old new c (ends_line c) refl shown.0 both.0 old_blank new_blank by)
+  all_shown old new c (d ∷ cs) are shown old_blank new_blank by =
+      let both = and_parts (scalar c) (all_scalars (d ∷ cs)) are in
+      let first = encode_utf8 c in
+      let others = encode_utf8_all (d ∷ cs) in
+      goes_on Step old old new first others first others (one_shown old old c (ends_line c) refl shown.0 both.0 old_blank old_blank refl) (all_shown old new d cs both.1 shown.1 old_blank new_blank by)
+
+  pub goes_shown : (old new : Lines S P) (bytes : List ℕ) → 0 < length bytes → IsPlain bytes → IsBlank old → IsBlank new → new.by ≡ old.by → GoesOn Step old bytes bytes new
+  goes_shown old new bytes some ([], are, shown, e) old_blank new_blank by = absurd (omega (arith, some, ap length e))
+  goes_shown old new bytes some (c ∷ cs, are, shown, e) old_blank new_blank by = rw e (all_shown old new c cs are shown old_blank new_blank by)
 
   -- the same state
   pub goes_same : (old new : Lines S P) → new.by ≡ old.by → new.line ≡ old.line → new.returned ≡ old.returned → GoesOn Step old [] [] new

@@ -1,34 +1,37 @@
 -- Where lines end.
-use Rattle.std.proofs.Common.{◌≡◌, ◌<◌, ℕ, zero, suc, Bool, true, false, cond, List, [], ◌∷◌, ◌++◌, length, take, drop, ◌==◌, refl, sym, ap, ◌∙◌, append_assoc, append-nil, arith}
-use Rattle.std.specs.List.{AllByRecursion}
-use Rattle.std.proofs.lemmas.Bool.{or_parts}
-use Rattle.memchr.specs.Find.{Nowhere, Passes, is_byte2}
+use Rattle.std.proofs.Common.{◌≡◌, ◌+◌, ◌<◌, ℕ, Bool, true, false, not, cond, List, [], ◌∷◌, ◌++◌, length, take, drop, ◌==◌, refl, sym, ap, subst, ◌∙◌, append_assoc, append-nil, arith}
+use Rattle.std.specs.List.{AllByRecursion, prefix_len}
+use Rattle.std.proofs.lemmas.Bool.{or_parts, true≢false}
+use Rattle.csicodec_clean.specs.Bytes.{behind}
+use Rattle.csicodec_clean.proofs.Bytes.{behind_one, front_in}
 use Rattle.csicodec_lines.specs.Lines.{IsWithin, ends_line, joins, lines_from}
-use Rattle.csicodec_lines.specs.Private.Cut.{BeginsWithEnd}
+use Rattle.csicodec_lines.specs.Private.Cut.{BeginsWithEnd, is_within}
 
 -- ---- where a line is cut
 
-is_false : (b : Bool) → (b ≡ true → ⊥) → b ≡ false
-is_false true never = absurd (never refl)
-is_false false never = refl
-
 -- ahead of the first end
-pub all_within : (n : ℕ) (bs : List ℕ) → Nowhere (Passes (is_byte2 10 13) bs) 0 n → AllByRecursion IsWithin (take n bs)
-all_within zero bs never = tt
-all_within (suc n) [] never = tt
-all_within (suc n) (b ∷ bs) never =
-    (is_false (ends_line b) (never 0 (omega arith) (omega arith)), all_within n bs (λ k low high found. never (suc k) (omega arith) (omega (arith, high)) found))
+end_none : (b : ℕ) → is_within b ≡ true → IsWithin b
+end_none b is = by (ends_line b) is
+  where
+    by : (ends : Bool) → not ends ≡ true → ends ≡ false
+    by false is = refl
+    by true is = absurd (true≢false (sym is))
+
+none_end : (bs : List ℕ) → AllByRecursion (λ b. is_within b ≡ true) bs → AllByRecursion IsWithin bs
+none_end [] all = tt
+none_end (b ∷ bs) all = (end_none b all.0, none_end bs all.1)
+
+pub all_within : (bs : List ℕ) → AllByRecursion IsWithin (take (prefix_len is_within bs) bs)
+all_within bs = none_end (take (prefix_len is_within bs) bs) (front_in is_within bs)
 
 -- and it
-pub begins_with_end : (n : ℕ) (bs : List ℕ) → n < length bs → Passes (is_byte2 10 13) bs n → BeginsWithEnd (drop n bs)
-begins_with_end n [] low found = absurd (omega (arith, low))
-begins_with_end zero (b ∷ bs) low found = found
-begins_with_end (suc n) (b ∷ bs) low found = begins_with_end n bs (omega (arith, low)) found
-
--- nor is there anything behind all of them
-pub none_behind : (bs : List ℕ) → BeginsWithEnd (drop (length bs) bs)
-none_behind [] = tt
-none_behind (b ∷ bs) = none_behind bs
+pub begins_with_end : (bs : List ℕ) → BeginsWithEnd (behind is_within bs)
+begins_with_end [] = tt
+begins_with_end (b ∷ bs) = by (ends_line b) refl (begins_with_end bs)
+  where
+    by : (ends : Bool) → ends_line b ≡ ends → BeginsWithEnd (behind is_within bs) → BeginsWithEnd (behind is_within (b ∷ bs))
+    by true is later = subst BeginsWithEnd (ap (λ (ends : Bool). drop (cond (not ends) (1 + prefix_len is_within bs) 0) (b ∷ bs)) (sym is)) is
+    by false is later = subst BeginsWithEnd (sym (behind_one is_within b bs (ap not is))) later
 
 -- ---- bytes more
 

@@ -9,10 +9,13 @@ ghost use Rattle.csicodec_clean.specs.Steps.{bare};
 ghost use Rattle.csicodec_clean.specs.Stream.{start_of};
 ghost use Rattle.csicodec_clean.specs.Styled.{first_kept};
 
-use csicodec_clean::{Anew, Cleaner, Dropped, Kept, LANES, Passing, PlainAscii, Rule, split_front};
+use csicodec_clean::{
+    Anew, ByteClass, Cleaner, Dropped, Kept, LANES, Passing, Rule, first_set, split_front,
+    split_shown,
+};
 use csicodec_filter::Transform;
-use memchr::memchr2;
 use std::alloc::{AllocError, Global};
+use std::simd::prelude::*;
 
 /// Whether the byte is the LF of a CR LF, which ends no line of its own.
 fn joins(returned: bool, byte: u8) -> bool
@@ -21,16 +24,35 @@ fn joins(returned: bool, byte: u8) -> bool
     returned && byte == b'\n'
 }
 
+/// The bytes that end no line.
+struct Within;
+
+impl ByteClass for Within {
+    ghost use Rattle.csicodec_lines.specs.Private.Cut.{is_within};
+
+    ghost class = { is_within };
+
+    #[inline(always)]
+    fn has(byte: u8) -> bool {
+        byte != b'\n' && byte != b'\r'
+    }
+
+    #[inline(always)]
+    fn lanes(bytes: &[u8]) -> usize {
+        let lanes = u8x16::from_slice(bytes);
+        let ends = lanes.simd_eq(u8x16::splat(b'\n')) | lanes.simd_eq(u8x16::splat(b'\r'));
+        first_set(ends.to_bitmask())
+    }
+}
+
 /// What stands ahead of the first byte that ends a line, and what from that on.
+#[inline(always)]
 fn split_line(bytes: &[u8]) -> (&[u8], &[u8])
     ensures whole { bytes.now ≡ result.0.now ++ result.1.now }
     ensures front { AllByRecursion IsWithin result.0.now }
     ensures end { BeginsWithEnd result.1.now }
 {
-    match memchr2(b'\n', b'\r', bytes) {
-        Some(end) => bytes.split_at(end),
-        None => bytes.split_at(bytes.len()),
-    }
+    split_front::<Within>(bytes)
 }
 
 /// A stream that is cleaned by a rule, line by line, as it comes: a newline ends what is open, and stands in the output.
@@ -110,16 +132,16 @@ impl<R: Rule + Anew<P> + Drop, P: Copy> Lines<R, P> {
         Ok(true)
     }
 
-    /// Takes the plain text in front, of however many lines, where a line begins that its rule ends without a byte, and answers what
-    /// is behind it.
-    fn take_plain<'a>(&mut self, bytes: &'a [u8], out: &mut Vec<u8>) -> Result<&'a [u8], AllocError>
+    /// Takes the text in front that is shown as it is, of however many lines, where a line begins that its rule ends without a byte, and
+    /// answers what is behind it.
+    fn take_shown<'a>(&mut self, bytes: &'a [u8], out: &mut Vec<u8>) -> Result<&'a [u8], AllocError>
         requires { self.old.line ≡ start_of (R.begins self.old.by) }
         ensures { IfOk result (λ rest. (front : List ℕ) × (more : List ℕ)
             × (bytes.now ≡ front ++ rest.now)
             × GoesOn (Passes R.begins R.gives R.closes) self.old front more self.new
             × (out.new.items ≡ out.old.items ++ more)) }
     {
-        let (front, rest) = split_front::<PlainAscii>(bytes);
+        let (front, rest) = split_shown(bytes);
         if front.len() < LANES || self.returned {
             return Ok(bytes);
         }
@@ -134,7 +156,7 @@ impl<R: Rule + Anew<P> + Drop, P: Copy> Lines<R, P> {
         Ok(rest)
     }
 
-    /// Takes bytes up to the end of a line, and plain text behind that, and answers what is behind it.
+    /// Takes bytes up to the end of a line, and text behind that which is shown as it is, and answers what is behind it.
     fn take_line<'a>(&mut self, bytes: &'a [u8], out: &mut Vec<u8>) -> Result<&'a [u8], AllocError>
         ensures taken { IfOk result (λ rest. (front : List ℕ) × (more : List ℕ)
             × (bytes.now ≡ front ++ rest.now)
@@ -151,7 +173,7 @@ impl<R: Rule + Anew<P> + Drop, P: Copy> Lines<R, P> {
         if !self.take_end(*end, out)? {
             return Ok(rest);
         }
-        let behind = self.take_plain(rest, out)?;
+        let behind = self.take_shown(rest, out)?;
         Ok(behind)
     }
 }

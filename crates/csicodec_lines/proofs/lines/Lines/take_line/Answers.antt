@@ -31,6 +31,6 @@ returns-clause-taken g c =
       (front ++ end) ++ plain,
       (one ++ two) ++ more,
       first ∙ ap (λ t. (front ++ end) ++ t) split ∙ sym (append_assoc (front ++ end) plain c.in_ok-behind.behind.now),
-      goes_on Step c.args.self.now c.take_end.new.self c.take_plain.new.self (front ++ end) plain (one ++ two) more line last,
+      goes_on Step c.args.self.now c.take_end.new.self c.take_shown.new.self (front ++ end) plain (one ++ two) more line last,
       longest ∙ ap (λ t. t ++ more) (longer ∙ ap (λ t. t ++ two) out ∙ append_assoc before one two) ∙ append_assoc before (one ++ two) more,
     )

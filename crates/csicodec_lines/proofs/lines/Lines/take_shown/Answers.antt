@@ -1,13 +1,10 @@
-use Rattle.std.proofs.Common.{◌≡◌, ◌<◌, ◌≤◌, ◌++◌, ◌∙◌, ℕ, List, [], length, take, refl, rules, subst, sym, ap, append-nil, take-append-drop}
-use Rattle.std.specs.List.{prefix_len}
-use Rattle.csicodec_clean.specs.Bytes.{plain_byte}
-use Rattle.csicodec_clean.proofs.Bytes.{front_in}
+use Rattle.std.proofs.Common.{◌≡◌, ◌<◌, ◌≤◌, ◌++◌, ◌∙◌, ℕ, [], length, take, refl, rules, sym, ap, append-nil}
 use Rattle.std.proofs.Math.Seq.{take-append_seam}
 use Rattle.csicodec_filter.proofs.Sent.{goes_none}
 use Rattle.csicodec_clean.specs.Shown.{shown_text}
 use Rattle.csicodec_lines.specs.Stream.{Passes}
-use Rattle.csicodec_lines.proofs.Copied.{goes_plain, goes_same, is_blank, unchanged}
-use Rattle.csicodec_lines.proofs.lines.Lines.take_plain.Goals as goal
+use Rattle.csicodec_lines.proofs.Copied.{goes_same, goes_shown, is_blank, unchanged}
+use Rattle.csicodec_lines.proofs.lines.Lines.take_shown.Goals as goal
 
 pub returns-then-front-lt-LANES : goal.returns-then-front-lt-LANES
 returns-then-front-lt-LANES g c = ([], [], refl, goes_none (Passes g.R.Anew.begins g.R.Rule.gives g.R.Rule.closes) c.args.self.now, sym (append-nil c.args.out.now.items))
@@ -26,17 +23,14 @@ returns g c =
     let old = c.args.self.now in
     let before = c.args.out.now.items in
     let after = c.finish.new.out.items in
-    let bytes = c.args.bytes.now in
-    let len = prefix_len plain_byte bytes in
-    let front = take len bytes in
-    let is = c.split_front.ensures.front in
-    let some : 0 < length front = subst (λ (t : List ℕ). 0 < length t) is (search rules) in
+    let front = c.split_shown.result.0.now in
+    let some : 0 < length front = search rules in
     let few : length after ≤ length before = search rules in
     let blank = is_blank g.R.Anew.begins g.R.Rule.gives g.R.Rule.closes old close before after c.requires c.if-self.false closes out few in
     let same = unchanged before (shown_text old.line.held ++ close) after out few in (
       front,
       front,
-      rw c.split_front.ensures.rest (sym (take-append-drop len bytes)),
-      goes_plain g.R.Anew.begins g.R.Rule.gives g.R.Rule.closes old _ front some (front_in plain_byte bytes) blank (record { line = c.begin.ensures; returned = c.if-self.false; closes = blank.closes }) refl,
-      c.in_ok-extend_from_slice.ensures.items ∙ ap (λ t. after ++ t) is ∙ ap (λ t. t ++ front) same,
+      c.split_shown.ensures.whole,
+      goes_shown g.R.Anew.begins g.R.Rule.gives g.R.Rule.closes old _ front some c.split_shown.ensures.shown blank (record { line = c.begin.ensures; returned = c.if-self.false; closes = blank.closes }) refl,
+      c.in_ok-extend_from_slice.ensures.items ∙ ap (λ t. t ++ front) same,
     )

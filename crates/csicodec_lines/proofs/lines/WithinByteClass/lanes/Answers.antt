@@ -1,0 +1,12 @@
+use Rattle.std.proofs.Common.{◌≡◌, length, length-take-le, refl, take}
+use Rattle.std.proofs.lemmas.Simd.{zip2_of_maps, zip2_splat}
+use Rattle.csicodec_clean.proofs.Lanes.{counted}
+use Rattle.csicodec_lines.specs.Private.Cut.{is_within}
+use Rattle.csicodec_lines.proofs.lines.WithinByteClass.lanes.Goals as goal
+
+pub returns : goal.returns
+returns c =
+    let d = c.args.bytes.now in
+    let v = take 16 d in
+    let long : length v ≡ 16 = length-take-le 16 d c.requires in
+    counted is_within d _ _ c.requires c.type_inv.bytes c.first_set.ensures _ (zip2_of_maps _ _ _ v (zip2_splat _ v 16 10 long) (zip2_splat _ v 16 13 long)) refl

@@ -1,7 +1,7 @@
 -- Cells that are moved or taken, one after the other.
-use Rattle.std.proofs.Common.{◌≡◌, ℕ, zero, suc, ◌-◌, ◌+◌, ◌<◌, ◌≤◌, Bool, true, false, cond, ◌==◌, nat_le, nat_lt, List, [], ◌∷◌, ◌++◌, length, drop, replicate, reverse, take, take-append-drop, refl, sym, ap, ◌∙◌, arith, append_assoc, append-nil}
+use Rattle.std.proofs.Common.{◌≡◌, ℕ, zero, suc, ◌-◌, ◌+◌, ◌<◌, ◌≤◌, Bool, true, false, cond, ◌==◌, nat_le, nat_lt, List, [], ◌∷◌, ◌++◌, length, length-take, drop, replicate, reverse, take, take-append-drop, refl, sym, ap, ◌∙◌, arith, append_assoc, append-nil}
 use Rattle.std.proofs.lemmas.Bool.Decides.{nat_tests}
-use Rattle.std.proofs.lemmas.List.{replicate-append-replicate, reverse-append, reverse-reverse, take-replicate}
+use Rattle.std.proofs.lemmas.List.{length-replicate, replicate-append-replicate, reverse-append, reverse-reverse, take-append-le, take-replicate, take_all}
 use Rattle.csicodec_overwrite.specs.declared.cells.Cell.{Cell}
 use Rattle.csicodec_overwrite.specs.declared.cells.Cell.TheVariants.{Behind, Char, Empty, Mark}
 use Rattle.csicodec_overwrite.specs.declared.cells.Glyph.{Glyph}
@@ -136,6 +136,22 @@ emptied_all n count cells front side is bare same e =
     let some : n ≡ columns (reverse (take n cells)) = (bare_kept n (take n cells) bare).0 in
     let whole : count - n + n ≡ count = omega (arith, is, ap columns split, columns_both (reverse rest) (reverse (take n cells)), some) in
     e ∙ ap (λ (t : List Cell). replicate (count - n) Empty ++ t) (ap reverse (same ∙ bare) ∙ reverse_empty n) ∙ replicate-append-replicate (count - n) n Empty ∙ ap (λ (m : ℕ). replicate m Empty) whole
+
+-- so many empty ones behind others
+module _ (n m k : ℕ) (cells new : List Cell) (e : new ≡ take m cells ++ replicate k Empty) (few : length cells ≤ m) (some : k ≡ n) where
+  longer : new ≡ cells ++ replicate n Empty
+  longer = e ∙ ap (λ (t : List Cell). t ++ replicate k Empty) (take_all m cells few) ∙ ap (λ (j : ℕ). cells ++ replicate j Empty) some
+
+  pub reverse_more : reverse new ≡ replicate n Empty ++ reverse cells
+  reverse_more = ap reverse longer ∙ reverse-append cells (replicate n Empty) ∙ ap (λ (t : List Cell). t ++ reverse cells) (reverse_empty n)
+
+  pub columns_more : columns (reverse new) ≡ columns (reverse cells) + n
+  columns_more = ap columns reverse_more ∙ columns_both (replicate n Empty) (reverse cells) ∙ omega (arith, columns_empty n)
+
+  pub bare_more : (bare : ℕ) → take bare cells ≡ replicate bare Empty → take bare new ≡ replicate bare Empty
+  bare_more bare same =
+      let within : bare ≤ length cells = omega (arith, length-take bare cells, ap length same, length-replicate bare Empty) in
+      ap (take bare) longer ∙ take-append-le bare cells (replicate n Empty) within ∙ same
 
 -- ---- room
 

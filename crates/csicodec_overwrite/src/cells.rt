@@ -171,6 +171,21 @@ impl Side {
         Ok(())
     }
 
+    /// Puts so many empty columns nearest.
+    pub(crate) fn push_empty(&mut self, count: usize) -> Result<(), AllocError>
+        ensures { OnOk result (self.new ≡ replicate count Empty ++ self.old) }
+    {
+        let Some(len) = self.cells.len().checked_add(count) else {
+            return Err(AllocError);
+        };
+        let Some(width) = self.width.checked_add(count) else {
+            return Err(AllocError);
+        };
+        self.cells.resize(len, Cell::Empty)?;
+        self.width = width;
+        Ok(())
+    }
+
     /// Empties all columns: those that are empty stay.
     pub(crate) fn empty(&mut self) -> Result<(), AllocError>
         ensures { OnOk result (self.new ≡ replicate (columns self.old) Empty) }
@@ -179,7 +194,7 @@ impl Side {
         let others = count.saturating_sub(self.bare);
         self.cells.truncate(self.bare);
         self.width = self.bare;
-        self.push_many(Cell::Empty, others)?;
+        self.push_empty(others)?;
         self.bare = count;
         Ok(())
     }
@@ -226,6 +241,6 @@ impl Side {
         ensures { OnOk result ((cells : _) → before ≡ columns cells → self.new ≡ emptied cells self.old) }
     {
         let gone = before.saturating_sub(self.columns());
-        self.push_many(Cell::Empty, gone)
+        self.push_empty(gone)
     }
 }

@@ -87,7 +87,7 @@ fn append_run(
     if run.is_empty() {
         return Ok(last);
     }
-    append_turned(painted, last, now, out)?;
+    append_turned(painted, &last, &now, out)?;
     out.extend_from_slice(run)?;
     Ok(now)
 }

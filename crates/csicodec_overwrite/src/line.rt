@@ -6,7 +6,7 @@ ghost use Rattle.csicodec_overwrite.specs.Line.{at_column, back, behind_columns,
 ghost use Rattle.csicodec_overwrite.specs.Paint.{ended, text_of, texts_of};
 ghost use Rattle.csicodec_overwrite.specs.Private.Plain.{GoesBehind, IsLineByte};
 ghost use Rattle.csicodec_overwrite.specs.Steps.{of_chars};
-ghost use Rattle.csicodec_overwrite.specs.declared.step.Step.TheVariants.{Tab};
+ghost use Rattle.csicodec_overwrite.specs.declared.step.Step.TheVariants.{Put, Tab};
 
 use crate::ascii::plain_step;
 use crate::cells::{Cell, Glyph, Side};
@@ -100,7 +100,7 @@ impl Line {
         let missing = count.saturating_sub(self.right.columns());
         self.pass(count)?;
         let some = missing.min(self.room(limit));
-        self.left.push_many(Cell::Empty, some)
+        self.left.push_empty(some)
     }
 
     /// Behind so many columns.
@@ -195,7 +195,7 @@ impl Line {
     {
         self.part()?;
         let some = (count as usize).min(self.room(limit));
-        self.right.push_many(Cell::Empty, some)
+        self.right.push_empty(some)
     }
 
     /// Puts a character of so many columns at the cursor, in place of what stands there or in front of it.
@@ -402,15 +402,15 @@ impl Line {
         &mut self,
         limit: usize,
         pen: &Pen,
-        step: Step,
+        step: &Step,
         painted: bool,
         out: &mut Vec<u8>,
     ) -> Result<(), AllocError>
-        ensures line { OnOk result (self.new ≡ (does limit pen.now step self.old).line) }
+        ensures line { OnOk result (self.new ≡ (does limit pen.now step.now self.old).line) }
         ensures text { OnOk result
-            (out.new.items ≡ out.old.items ++ texts_of painted (does limit pen.now step self.old).lines) }
+            (out.new.items ≡ out.old.items ++ texts_of painted (does limit pen.now step.now self.old).lines) }
     {
-        match step {
+        match *step {
             Step::Put(char) => self.put(limit, pen, char, painted, out),
             Step::Repeat(count) => self.repeat(limit, pen, count, painted, out),
             Step::Tab => self.tab(limit, pen, painted, out),
@@ -433,32 +433,54 @@ impl Line {
         }
     }
 
-    /// The same, and behind the step characters are put as `pen` says then.
+    /// Puts a character, at once where it takes one cell behind all that stands there, and behind it characters are put as `pen` says then.
     #[inline(always)]
-    fn take(
+    fn take_char(
         &mut self,
         limit: usize,
         pen: &mut Pen,
-        step: Step,
+        char: char,
         painted: bool,
         out: &mut Vec<u8>,
     ) -> Result<(), AllocError>
-        ensures line { OnOk result (self.new ≡ (does limit pen.old step self.old).line) }
-        ensures pen { OnOk result (pen.new ≡ pen_behind pen.old step (columns self.old.left)) }
+        ensures line { OnOk result (self.new ≡ (does limit pen.old (Put char) self.old).line) }
+        ensures pen { OnOk result (pen.new ≡ pen_behind pen.old (Put char) (columns self.old.left)) }
         ensures text { OnOk result
-            (out.new.items ≡ out.old.items ++ texts_of painted (does limit pen.old step self.old).lines) }
+            (out.new.items ≡ out.old.items ++ texts_of painted (does limit pen.old (Put char) self.old).lines) }
     {
-        if let Step::Put(char) = step
-            && self.goes_behind(limit, pen, char)
-        {
+        if self.goes_behind(limit, pen, char) {
             let look = pen.look;
             self.left.push(Cell::Char(Glyph { char, look }))?;
             pen.last = Some(char);
             return Ok(());
         }
         let column = self.left.columns();
+        self.put(limit, pen, char, painted, out)?;
+        pen.take(Step::Put(char), column);
+        Ok(())
+    }
+
+    /// Does a step, and behind it characters are put as `pen` says then.
+    #[inline(always)]
+    fn take(
+        &mut self,
+        limit: usize,
+        pen: &mut Pen,
+        step: &Step,
+        painted: bool,
+        out: &mut Vec<u8>,
+    ) -> Result<(), AllocError>
+        ensures line { OnOk result (self.new ≡ (does limit pen.old step.now self.old).line) }
+        ensures pen { OnOk result (pen.new ≡ pen_behind pen.old step.now (columns self.old.left)) }
+        ensures text { OnOk result
+            (out.new.items ≡ out.old.items ++ texts_of painted (does limit pen.old step.now self.old).lines) }
+    {
+        if let Step::Put(char) = *step {
+            return self.take_char(limit, pen, char, painted, out);
+        }
+        let column = self.left.columns();
         self.act(limit, pen, step, painted, out)?;
-        pen.take(step, column);
+        pen.take(*step, column);
         Ok(())
     }
 
@@ -479,7 +501,7 @@ impl Line {
     {
         let mut rest = steps;
         while let Some((step, behind)) = rest.split_first() {
-            self.take(limit, pen, *step, painted, out)?;
+            self.take(limit, pen, step, painted, out)?;
             rest = behind;
         }
         Ok(())
@@ -504,7 +526,7 @@ impl Line {
     {
         let mut rest = text;
         while let Some((byte, behind)) = rest.split_first() {
-            self.take(limit, pen, plain_step(*byte), painted, out)?;
+            self.take(limit, pen, &plain_step(*byte), painted, out)?;
             rest = behind;
         }
         Ok(())

@@ -19,6 +19,11 @@ use csicodec_spans::LIMIT;
 use std::alloc::{AllocError, Global};
 use std::marker::Model;
 
+/// After so many lines in a row that can't be written as they come, only some are tried: about each `EVERY`th.
+const PATIENCE: u32 = 4;
+
+const EVERY: usize = 8;
+
 /// A stream as it comes, of which each line is written as it stands when it ends, as plain text or painted.
 ///
 /// It holds the line that isn't over, of at most 65,536 cells, a control sequence that isn't, of fewer than 65,536 bytes, and at most
@@ -35,6 +40,8 @@ pub struct Overwriter {
     steps: Vec<Step>,
     /// Where more bytes than so many are left, the line can't be written as it comes.
     crooked: usize,
+    /// How many lines couldn't be, one after the other.
+    missed: u32,
 }
 
 impl Model for Overwriter {
@@ -71,6 +78,7 @@ impl Overwriter {
             line: Line::new(alloc),
             steps: Vec::new(alloc),
             crooked: usize::MAX,
+            missed: 0,
         }
     }
 
@@ -129,11 +137,16 @@ impl Overwriter {
         Ok(rest)
     }
 
-    /// Whether a line may begin here that is written as it comes.
+    /// Whether a line is tried that is written as it comes.
+    fn is_tried(&self, bytes: &[u8]) -> bool {
+        bytes.len() <= self.crooked && (self.missed < PATIENCE || bytes.len() % EVERY == 0)
+    }
+
+    /// Whether such a line may begin here, and is tried.
     fn begins_line(&self, bytes: &[u8]) -> bool
         ensures { result ≡ true → (self.now.line ≡ blank) × (self.now.pen.inserts ≡ false) }
     {
-        bytes.len() <= self.crooked && self.line.is_blank() && !self.pen.inserts
+        self.is_tried(bytes) && self.line.is_blank() && !self.pen.inserts
     }
 
     /// Ends the line.
@@ -170,10 +183,12 @@ impl Overwriter {
         let Some(rest) = behind_end(front.rest) else {
             out.truncate(before);
             self.crooked = front.rest.len();
+            self.missed = self.missed.saturating_add(1);
             return Ok(None);
         };
-        append_turned(self.painted, front.last, Look::plain(), out)?;
+        append_turned(self.painted, &front.last, &Look::plain(), out)?;
         out.push(b'\n')?;
+        self.missed = 0;
         self.pen.look = front.now;
         self.pen.take(Step::NewLine, 0);
         Ok(Some(rest))

@@ -1,5 +1,5 @@
 //! A line as text: its characters alone, or painted, with the sequences that set how they look.
-ghost use Rattle.std.specs.Prelude.{◌≡◌, ◌++◌, IfOk, OnOk, encode_utf8_all, not, true};
+ghost use Rattle.std.specs.Prelude.{◌≡◌, ◌∷◌, ◌++◌, [], IfOk, OnOk, encode_utf8_all, not, true};
 ghost use Rattle.std.specs.List.{flat_map};
 ghost use Rattle.csicodec_html.specs.Look.{is_default, is_none, is_normal, plain};
 ghost use Rattle.csicodec_overwrite.specs.Cells.{chars_of, is_empty};
@@ -79,13 +79,11 @@ fn is_colored(color: ColorSpec) -> bool
     !matches!(color, ColorSpec::Default)
 }
 
-/// Appends an attribute to a sequence that has one before, if it is set.
-fn append_given(set: bool, attribute: Sgr, out: &mut Vec<u8>) -> Result<(), AllocError>
-    ensures { OnOk result (out.new.items ≡ out.old.items ++ flat_map further (given set attribute)) }
+/// Appends an attribute to a sequence that has one before.
+#[inline(never)]
+fn append_further(attribute: Sgr, out: &mut Vec<u8>) -> Result<(), AllocError>
+    ensures { OnOk result (out.new.items ≡ out.old.items ++ further attribute) }
 {
-    if !set {
-        return Ok(());
-    }
     let mut text = Text::new();
     attribute.write_to(&mut text);
     let bytes = text.as_bytes();
@@ -93,10 +91,21 @@ fn append_given(set: bool, attribute: Sgr, out: &mut Vec<u8>) -> Result<(), Allo
     out.extend_from_slice(bytes.split_at(bytes.len().saturating_sub(1)).0)
 }
 
+/// Appends it, if it is set.
+#[inline(always)]
+fn append_given(set: bool, attribute: Sgr, out: &mut Vec<u8>) -> Result<(), AllocError>
+    ensures { OnOk result (out.new.items ≡ out.old.items ++ flat_map further (given set attribute)) }
+{
+    if !set {
+        return Ok(());
+    }
+    append_further(attribute, out)
+}
+
 /// Appends the sequence from which on characters look so.
 #[inline(never)]
-fn append_look(look: Look, out: &mut Vec<u8>) -> Result<(), AllocError>
-    ensures { OnOk result (out.new.items ≡ out.old.items ++ look_text look) }
+fn append_look(look: &Look, out: &mut Vec<u8>) -> Result<(), AllocError>
+    ensures { OnOk result (out.new.items ≡ out.old.items ++ look_text look.now) }
 {
     let (line, text, ground) = (look.line, look.foreground, look.background);
     out.extend_from_slice(b"\x1b[0")?;
@@ -118,10 +127,10 @@ fn append_look(look: Look, out: &mut Vec<u8>) -> Result<(), AllocError>
 
 /// Appends the sequence between two looks, where they aren't one.
 #[inline(always)]
-fn append_turn(old: Look, new: Look, out: &mut Vec<u8>) -> Result<(), AllocError>
-    ensures { OnOk result (out.new.items ≡ out.old.items ++ turn old new) }
+fn append_turn(old: &Look, new: &Look, out: &mut Vec<u8>) -> Result<(), AllocError>
+    ensures { OnOk result (out.new.items ≡ out.old.items ++ turn old.now new.now) }
 {
-    if same(&old, &new) {
+    if same(old, new) {
         return Ok(());
     }
     append_look(new, out)
@@ -130,11 +139,11 @@ fn append_turn(old: Look, new: Look, out: &mut Vec<u8>) -> Result<(), AllocError
 /// The same where lines are painted.
 pub(crate) fn append_turned(
     painted: bool,
-    old: Look,
-    new: Look,
+    old: &Look,
+    new: &Look,
     out: &mut Vec<u8>,
 ) -> Result<(), AllocError>
-    ensures { OnOk result (out.new.items ≡ out.old.items ++ turned painted old new) }
+    ensures { OnOk result (out.new.items ≡ out.old.items ++ turned painted old.now new.now) }
 {
     if painted {
         return append_turn(old, new, out);
@@ -142,31 +151,36 @@ pub(crate) fn append_turned(
     Ok(())
 }
 
-/// How a cell looks behind others that look so.
-fn look_of(look: Look, cell: Cell) -> Look
-    ensures { result ≡ look_of look cell }
+/// How a cell looks behind others that look so; an empty one looks as `none`.
+#[inline(always)]
+fn look_of<'a>(look: &'a Look, none: &'a Look, cell: &'a Cell) -> &'a Look
+    requires { none.now ≡ plain }
+    ensures { result.now ≡ look_of look.now cell.now }
 {
     match cell {
-        Cell::Empty => Look::plain(),
-        Cell::Char(glyph) => glyph.look,
+        Cell::Empty => none,
+        Cell::Char(glyph) => &glyph.look,
         Cell::Behind | Cell::Mark(_) => look,
     }
 }
 
 /// Appends what sets how a cell looks behind others that look so, and answers how that is. One empty cell looks as another.
 #[inline(always)]
-fn append_next(
-    look: Look,
+fn append_next<'a>(
+    look: &'a Look,
+    none: &'a Look,
     is_blank: bool,
-    cell: Cell,
+    cell: &'a Cell,
     out: &mut Vec<u8>,
-) -> Result<Look, AllocError>
-    requires { is_blank ≡ true → look ≡ plain }
-    ensures look { IfOk result (λ next. next ≡ look_of look cell) }
-    ensures text { OnOk result (out.new.items ≡ out.old.items ++ turn look (look_of look cell)) }
-    ensures blank { OnOk result (is_empty cell ≡ true → look_of look cell ≡ plain) }
+) -> Result<&'a Look, AllocError>
+    requires none { none.now ≡ plain }
+    requires blank { is_blank ≡ true → look.now ≡ plain }
+    ensures look { IfOk result (λ next. next.now ≡ look_of look.now cell.now) }
+    ensures text { OnOk result
+        (out.new.items ≡ out.old.items ++ turn look.now (look_of look.now cell.now)) }
+    ensures blank { OnOk result (is_empty cell.now ≡ true → look_of look.now cell.now ≡ plain) }
 {
-    let next = look_of(look, cell);
+    let next = look_of(look, none, cell);
     if is_blank && cell.is_empty() {
         return Ok(next);
     }
@@ -174,14 +188,26 @@ fn append_next(
     Ok(next)
 }
 
+/// Appends a character.
+#[inline(always)]
+fn append_char(char: char, out: &mut Vec<u8>) -> Result<(), AllocError>
+    ensures { OnOk result (out.new.items ≡ out.old.items ++ encode_utf8_all (char ∷ [])) }
+{
+    if char < '\u{80}' {
+        return Ok(out.push(char as u8)?);
+    }
+    out.push_char(char)
+}
+
 /// Appends the characters of a cell.
+#[inline(always)]
 fn append_cell(cell: Cell, out: &mut Vec<u8>) -> Result<(), AllocError>
     ensures { OnOk result (out.new.items ≡ out.old.items ++ encode_utf8_all (chars_of cell)) }
 {
     match cell {
-        Cell::Empty => out.push_char(' '),
-        Cell::Char(glyph) => out.push_char(glyph.char),
-        Cell::Mark(char) => out.push_char(char),
+        Cell::Empty => append_char(' ', out),
+        Cell::Char(glyph) => append_char(glyph.char, out),
+        Cell::Mark(char) => append_char(char, out),
         Cell::Behind => Ok(()),
     }
 }
@@ -199,19 +225,20 @@ fn append_plain(cells: &[Cell], out: &mut Vec<u8>) -> Result<(), AllocError>
     Ok(())
 }
 
-/// The same, painted: behind text that looks so, and at the end nothing is set.
-fn append_painted(look: Look, cells: &[Cell], out: &mut Vec<u8>) -> Result<(), AllocError>
-    ensures { OnOk result (out.new.items ≡ out.old.items ++ paint look cells.now) }
+/// The same, painted: at the end nothing is set.
+fn append_painted(cells: &[Cell], out: &mut Vec<u8>) -> Result<(), AllocError>
+    ensures { OnOk result (out.new.items ≡ out.old.items ++ paint plain cells.now) }
 {
-    let (mut now, mut is_blank) = (look, false);
+    let none = Look::plain();
+    let (mut now, mut is_blank) = (&none, false);
     let mut rest = cells;
     while let Some((cell, behind)) = rest.split_first() {
-        now = append_next(now, is_blank, *cell, out)?;
+        now = append_next(now, &none, is_blank, cell, out)?;
         append_cell(*cell, out)?;
         is_blank = cell.is_empty();
         rest = behind;
     }
-    append_turn(now, Look::plain(), out)
+    append_turn(now, &none, out)
 }
 
 /// Appends cells as text, painted or not.
@@ -223,7 +250,7 @@ pub(crate) fn append_cells(
     ensures { OnOk result (out.new.items ≡ out.old.items ++ text_of painted cells.now) }
 {
     if painted {
-        append_painted(Look::plain(), cells, out)
+        append_painted(cells, out)
     } else {
         append_plain(cells, out)
     }

@@ -170,6 +170,7 @@ impl Reader {
     }
 
     /// Reads the next bytes, and appends the steps of all that is sure now.
+    #[inline(never)]
     fn read(&mut self, bytes: &[u8], steps: &mut Vec<Step>) -> Result<(), AllocError>
         ensures reads { OnOk result ((more : _) × Reads self.old bytes.now more self.new
             × (steps.new.items ≡ steps.old.items ++ more)) }

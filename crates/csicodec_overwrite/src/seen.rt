@@ -37,9 +37,7 @@ fn place(bytes: &[u8]) -> usize {
     }
     let mut number = 0u64;
     for byte in bytes {
-        number = (number ^ u64::from(*byte))
-            .wrapping_mul(SPREAD)
-            .rotate_left(9);
+        number = (number ^ u64::from(*byte)).wrapping_mul(SPREAD);
     }
     (number >> 54) as usize
 }

@@ -39,7 +39,7 @@ pub(crate) fn erase_columns(side: &mut Side, count: usize) -> Result<(), AllocEr
 {
     let some = count.min(side.columns());
     delete_columns(side, count)?;
-    side.push_many(Cell::Empty, some)
+    side.push_empty(some)
 }
 
 /// Moves all cells of one side to the other.

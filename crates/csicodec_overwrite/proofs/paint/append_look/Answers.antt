@@ -8,7 +8,7 @@ use Rattle.csicodec_overwrite.proofs.paint.append_look.Goals as goal
 
 pub returns : goal.returns
 returns c =
-    let l = c.args.look in
+    let l = c.args.look.now in
     let whole = c.args.out.now.items ++ look_text l in
     let i = given (not (is_default l.background)) (sgr.Background l.background) in
     let h = given (not (is_default l.foreground)) (sgr.Foreground l.foreground) in

@@ -9,11 +9,11 @@ use Rattle.csicodec_spans.specs.declared.table.Kind.{Kind}
 use Rattle.csicodec_spans.specs.declared.table.Kind.TheVariants as kind
 use Rattle.csicodec_spans.specs.declared.table.Mode.{Mode}
 use Rattle.csicodec_spans.specs.declared.table.Mode.TheVariants as mode
-use Rattle.csicodec_spans.specs.Parts.{Part, part, left_over, bytes_of, AreAll, Allows, AreFirstParts, IsPlainFront, IsSpan}
+use Rattle.csicodec_spans.specs.Parts.{Part, part, left_over, bytes_of, AreAll, Allows, AreFirstParts, IsPlainFront, IsSpan, IsUnsure}
 use Rattle.csicodec_spans.specs.Table.{Sequence, ahead}
 use Rattle.csicodec_spans.proofs.Agrees.{opens}
 use Rattle.csicodec_spans.proofs.OneSpan.{none_unsure}
-use Rattle.csicodec_spans.proofs.Kept.{unsure_short, parts_more, parts_on}
+use Rattle.csicodec_spans.proofs.Kept.{parts_more, parts_on}
 use Rattle.csicodec_spans.proofs.Once.{parts_front, whole_once}
 use Rattle.csicodec_streams.specs.Decoding.{NormalisesTo}
 use Rattle.csicodec_streams.specs.Known.{IsNormal, IsOne}
@@ -103,13 +103,13 @@ module _ (Writes : List ℕ → List ℕ → Type 0) where
     written = written_on h.parts (left_over rest) text rest h.written (written_left rest);
   }
 
+  -- nothing passes yet
+  pub passes_nothing : (limit : ℕ) (m : Mode) (bytes : List ℕ) → IsUnsure limit m bytes → Passes Writes limit m bytes [] bytes m
+  passes_nothing limit m bytes o = record { parts = []; first = (refl, refl); unsure = o; written = refl }
+
   -- nothing came yet
   pub passes_none : (limit : ℕ) → Passes Writes limit mode.Text [] [] [] mode.Text
-  passes_none limit = record { parts = []; first = (refl, refl); unsure = none_unsure limit mode.Text; written = refl }
-
-  -- what is held is short
-  pub short : (limit : ℕ) (m a : Mode) (bytes text held : List ℕ) → Passes Writes limit m bytes text held a → (length held < limit) ⊎ (length held < 3)
-  short limit m a bytes text held h = unsure_short limit a held h.unsure
+  passes_none limit = passes_nothing limit mode.Text [] (none_unsure limit mode.Text)
 
   -- ---- one text
 

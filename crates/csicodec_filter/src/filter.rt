@@ -10,8 +10,8 @@ ghost use Rattle.csicodec_filter.specs.Private.Front.{PassesFront};
 use crate::known::Known;
 use crate::rewrite::Rewrite;
 use csicodec_base::{CsiParam, TextBuffer};
-use csicodec_spans::{Cutter, Mode, plain_len};
-use csicodec_streams::{Normal, WIDE, append_front, keep_from, take_simple};
+use csicodec_spans::{Cutter, Mode, Waiting, plain_len};
+use csicodec_streams::{Normal, WIDE, append_front, take_simple};
 use std::alloc::{AllocError, Global};
 use std::marker::Model;
 
@@ -242,22 +242,17 @@ pub fn append_spans<T: Rewrite>(
 #[derive(Drop)]
 pub struct Filter<R> {
     rewrite: R,
-    limit: usize,
-    mode: Mode,
-    pending: Vec<u8>,
+    waiting: Waiting,
     params: Vec<CsiParam>,
     text: Vec<u8>,
 }
 
 impl<R> Model for Filter<R> {
-    ghost use Rattle.std.specs.Prelude.{◌<◌};
     ghost use Rattle.csicodec_filter.specs.Filter.{Held};
 
     ghost Value = { Held R };
 
-    ghost view = { λ f. record { rewrite = f.rewrite; limit = f.limit; mode = f.mode; bytes = f.pending.items } };
-
-    ghost invariant = { λ f. 0 < f.limit };
+    ghost view = { λ f. record { rewrite = f.rewrite; limit = f.waiting.limit; mode = f.waiting.mode; bytes = f.waiting.bytes } };
 }
 
 impl<R: Rewrite + Drop> Filter<R> {
@@ -268,9 +263,7 @@ impl<R: Rewrite + Drop> Filter<R> {
     {
         Filter {
             rewrite,
-            limit,
-            mode: Mode::Text,
-            pending: Vec::new(alloc),
+            waiting: Waiting::new(alloc, limit),
             params: Vec::new(alloc),
             text: Vec::new(alloc),
         }
@@ -297,19 +290,20 @@ impl<R: Rewrite + Drop> Filter<R> {
             ((length self.new.bytes < self.new.limit) ⊎ (length self.new.bytes < 3)) }
         ensures known { OnOk result (AreKnown IsNormal known.new.memo.slots.items) }
     {
-        self.pending.extend_from_slice(bytes)?;
+        let Some(all) = self.waiting.add(bytes)? else {
+            return Ok(());
+        };
         let (used, mode) = append_texts(
             &mut self.rewrite,
             &mut self.params,
             &mut self.text,
             known,
-            self.limit,
-            self.mode,
-            &self.pending,
+            self.waiting.limit(),
+            self.waiting.mode(),
+            &all,
             out,
         )?;
-        self.mode = mode;
-        keep_from(&mut self.pending, used);
+        self.waiting.keep(all, used, mode);
         Ok(())
     }
 
@@ -336,6 +330,6 @@ impl<R: Rewrite + Drop> Filter<R> {
     pub fn finish(&mut self, out: &mut Vec<u8>) -> Result<(), AllocError>
         ensures { OnOk result (out.new.items ≡ out.old.items ++ self.old.bytes) }
     {
-        out.extend_from_slice(&self.pending)
+        self.waiting.end(out)
     }
 }

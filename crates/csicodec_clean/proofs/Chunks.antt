@@ -1,12 +1,13 @@
 -- Chunk by chunk.
-use Rattle.std.proofs.Common.{ℕ, Bool, false, List, [], ◌∷◌, ◌++◌, sym, subst, ⊎_elim, append_assoc, append-nil}
+use Rattle.std.proofs.Common.{◌≡◌, ℕ, Bool, false, List, [], ◌∷◌, ◌++◌, sym, subst, ⊎_elim, append_assoc, append-nil}
 use Rattle.std.specs.List.{concat}
 use Rattle.csicodec_spans.specs.declared.table.Mode.{Mode}
 use Rattle.csicodec_spans.specs.declared.table.Mode.TheVariants as mode
+use Rattle.csicodec_spans.specs.Parts.{IsUnsure}
 use Rattle.csicodec_spans.proofs.OneSpan.{none_unsure}
 use Rattle.csicodec_spans.proofs.Kept.{parts_more}
 use Rattle.csicodec_filter.specs.Transform.{Sends, Transforms}
-use Rattle.csicodec_clean.specs.Shown.{shown_text}
+use Rattle.csicodec_clean.specs.Shown.{IsRead, shown_text}
 use Rattle.csicodec_clean.specs.Cleaned.{RuleOf, EndOf, Ends, longest}
 use Rattle.csicodec_clean.specs.Stream.{Between, start_of, Goes, Takes, AreTaken, Closing, Begins}
 use Rattle.csicodec_clean.proofs.Sure.{read_none}
@@ -28,9 +29,18 @@ module _ {S : Type 0} (Gives : RuleOf S) where
     same = g.same;
   }
 
+  -- nothing is sure yet
+  pub takes_nothing : (old : Between S) (bytes : List ℕ) → IsUnsure longest old.mode (old.bytes ++ bytes) → Takes Gives old bytes [] (record old { bytes = old.bytes ++ bytes })
+  takes_nothing old bytes o = record { unsure = o; goes = λ run chars h. goes_none Gives longest old.mode old.titled old.rule run chars (old.bytes ++ bytes) old.held h }
+
+  -- the bytes of a push behind those that waited
+  pub takes_from : (old new : Between S) (bytes text all rest : List ℕ) → all ≡ old.bytes ++ bytes → new.bytes ≡ rest → IsUnsure longest new.mode rest
+      → ((run chars : List ℕ) → IsRead run chars old.held → Goes Gives longest old.mode old.titled old.rule run chars all text rest new.mode new.titled new.rule new.held) → Takes Gives old bytes text new
+  takes_from old new bytes text all rest e f unsure goes = record { unsure = rw f unsure; goes = λ run chars read. rw (← e, f) (goes run chars read) }
+
   -- nothing came yet
   pub takes_none : (s : S) → Takes Gives (start_of s) [] [] (start_of s)
-  takes_none s = record { unsure = none_unsure longest mode.Text; goes = λ run chars h. goes_none Gives longest mode.Text false s run chars [] [] h }
+  takes_none s = takes_nothing (start_of s) [] (none_unsure longest mode.Text)
 
   -- a chunk more
   pub takes_on : (old mid new : Between S) (first second one two : List ℕ) → Takes Gives old first one mid → Takes Gives mid second two new → Takes Gives old (first ++ second) (one ++ two) new

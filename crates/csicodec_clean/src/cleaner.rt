@@ -8,8 +8,7 @@ use crate::rule::{Anew, Rule};
 use crate::spans::append_clean;
 use crate::text::append_shown;
 use csicodec_base::CsiParam;
-use csicodec_spans::{LIMIT, Mode};
-use csicodec_streams::keep_from;
+use csicodec_spans::{LIMIT, Waiting};
 use std::alloc::{AllocError, Global};
 use std::marker::Model;
 
@@ -21,19 +20,22 @@ use std::marker::Model;
 #[derive(Drop)]
 pub struct Cleaner<R> {
     rule: R,
-    mode: Mode,
     titled: bool,
-    pending: Vec<u8>,
+    waiting: Waiting,
     held: Vec<u8>,
     params: Vec<CsiParam>,
 }
 
 impl<R> Model for Cleaner<R> {
+    ghost use Rattle.std.specs.Prelude.{◌≡◌};
+    ghost use Rattle.csicodec_clean.specs.Cleaned.{longest};
     ghost use Rattle.csicodec_clean.specs.Stream.{Between};
 
     ghost Value = { Between R };
 
-    ghost view = { λ c. record { rule = c.rule; mode = c.mode; titled = c.titled; bytes = c.pending.items; held = c.held.items } };
+    ghost view = { λ c. record { rule = c.rule; mode = c.waiting.mode; titled = c.titled; bytes = c.waiting.bytes; held = c.held.items } };
+
+    ghost invariant = { λ c. c.waiting.limit ≡ longest };
 }
 
 impl<R: Rule + Drop> Cleaner<R> {
@@ -43,9 +45,8 @@ impl<R: Rule + Drop> Cleaner<R> {
     {
         Cleaner {
             rule,
-            mode: Mode::Text,
             titled: false,
-            pending: Vec::new(alloc),
+            waiting: Waiting::new(alloc, LIMIT),
             held: Vec::new(alloc),
             params: Vec::new(alloc),
         }
@@ -60,20 +61,21 @@ impl<R: Rule + Drop> Cleaner<R> {
         ensures held { OnOk result (length self.old.held ≤ 3 → length self.new.held ≤ 3) }
         ensures pending { OnOk result (length self.new.bytes < longest) }
     {
-        self.pending.extend_from_slice(bytes)?;
+        let Some(all) = self.waiting.add(bytes)? else {
+            return Ok(());
+        };
         let (rest, mode) = append_clean(
             &mut self.rule,
             &mut self.params,
             &mut self.held,
             &mut self.titled,
             LIMIT,
-            self.mode,
-            &self.pending,
+            self.waiting.mode(),
+            &all,
             out,
         )?;
-        let used = self.pending.len() - rest.len();
-        self.mode = mode;
-        keep_from(&mut self.pending, used);
+        let used = all.len() - rest.len();
+        self.waiting.keep(all, used, mode);
         Ok(())
     }
 
@@ -95,9 +97,8 @@ impl<P, R: Rule + Anew<P> + Drop> Anew<P> for Cleaner<R> {
 
     fn begin(&mut self, by: P) {
         self.rule.begin(by);
-        self.mode = Mode::Text;
         self.titled = false;
-        self.pending.clear();
+        self.waiting.clear();
         self.held.clear();
     }
 }

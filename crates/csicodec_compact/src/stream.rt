@@ -12,8 +12,8 @@ use crate::notes::{Notes, Short, open_note};
 use crate::runs::{Written, take_span};
 use csicodec_base::{CsiParam, TextBuffer};
 use csicodec_filter::Known;
-use csicodec_spans::{Cutter, Mode, plain_len};
-use csicodec_streams::{WIDE, keep_from, position_len, read_color};
+use csicodec_spans::{Cutter, Mode, Waiting, plain_len};
+use csicodec_streams::{WIDE, position_len, read_color};
 use std::alloc::{AllocError, Global};
 use std::marker::Model;
 
@@ -174,21 +174,16 @@ fn append_short(
 #[derive(Drop)]
 pub struct Compactor {
     notes: Notes,
-    limit: usize,
-    mode: Mode,
-    pending: Vec<u8>,
+    waiting: Waiting,
     params: Vec<CsiParam>,
 }
 
 impl Model for Compactor {
-    ghost use Rattle.std.specs.Prelude.{◌<◌};
     ghost use Rattle.csicodec_compact.specs.Runs.{Open};
 
     ghost Value = { Open };
 
-    ghost view = { λ c. record { limit = c.limit; mode = c.mode; bytes = c.pending.items } };
-
-    ghost invariant = { λ c. 0 < c.limit };
+    ghost view = { λ c. record { limit = c.waiting.limit; mode = c.waiting.mode; bytes = c.waiting.bytes } };
 }
 
 impl Compactor {
@@ -199,9 +194,7 @@ impl Compactor {
     {
         Compactor {
             notes: Notes::new(alloc, compact),
-            limit,
-            mode: Mode::Text,
-            pending: Vec::new(alloc),
+            waiting: Waiting::new(alloc, limit),
             params: Vec::new(alloc),
         }
     }
@@ -224,7 +217,9 @@ impl Compactor {
         ensures limit { OnOk result (self.new.limit ≡ self.old.limit) }
         ensures known { OnOk result (AreKnown IsNote known.new.memo.slots.items) }
     {
-        self.pending.extend_from_slice(bytes)?;
+        let Some(all) = self.waiting.add(bytes)? else {
+            return Ok(());
+        };
         let alloc = *out.allocator();
         let mut texts = TextBuffer::of(std::mem::replace(out, Vec::new(alloc)));
         let appended = append_short(
@@ -232,15 +227,14 @@ impl Compactor {
             known,
             written,
             &mut self.params,
-            self.limit,
-            self.mode,
-            &self.pending,
+            self.waiting.limit(),
+            self.waiting.mode(),
+            &all,
             &mut texts,
         );
         *out = texts.into_vec();
         let (used, mode) = appended?;
-        self.mode = mode;
-        keep_from(&mut self.pending, used);
+        self.waiting.keep(all, used, mode);
         Ok(())
     }
 
@@ -266,7 +260,7 @@ impl Compactor {
     pub fn finish(&mut self, out: &mut Vec<u8>) -> Result<(), AllocError>
         ensures { OnOk result (out.new.items ≡ out.old.items ++ self.old.bytes) }
     {
-        out.extend_from_slice(&self.pending)
+        self.waiting.end(out)
     }
 }
 

@@ -160,9 +160,13 @@ goes_more m n t u run chars first left held second one g = record {
   same = g.same;
 }
 
+-- nothing is sure yet
+pub reads_nothing : (old : Held) (bytes : List ℕ) → IsUnsure longest old.mode (old.bytes ++ bytes) → Reads old bytes [] (record old { bytes = old.bytes ++ bytes })
+reads_nothing old bytes o = record { unsure = o; goes = λ run chars h. goes_none old.mode old.titled run chars (old.bytes ++ bytes) old.held h }
+
 -- nothing came yet
 pub reads_none : Reads none_held [] [] none_held
-reads_none = record { unsure = none_unsure longest mode.Text; goes = λ run chars h. goes_none mode.Text false run chars [] [] h }
+reads_none = reads_nothing none_held [] (none_unsure longest mode.Text)
 
 -- a chunk more
 pub reads_on : (old mid new : Held) (first second : List ℕ) (one two : List Step) → Reads old first one mid → Reads mid second two new → Reads old (first ++ second) (one ++ two) new

@@ -19,8 +19,8 @@ use crate::text::{
 use csicodec::CSI;
 use csicodec_base::CsiParam;
 use csicodec_clean::{read_as, title_behind};
-use csicodec_spans::{Cutter, Kind, LIMIT, Mode};
-use csicodec_streams::{keep_from, parse_into};
+use csicodec_spans::{Cutter, Kind, LIMIT, Mode, Waiting};
+use csicodec_streams::parse_into;
 use std::alloc::{AllocError, Global};
 use std::marker::Model;
 
@@ -79,9 +79,8 @@ fn append_span(
 #[derive(Drop)]
 pub(crate) struct Reader {
     alloc: Global,
-    mode: Mode,
     titled: bool,
-    pending: Vec<u8>,
+    waiting: Waiting,
     held: Vec<u8>,
     /// Places that are kept for the tokens and the actions of a sequence.
     params: Vec<CsiParam>,
@@ -91,14 +90,16 @@ pub(crate) struct Reader {
 }
 
 impl Model for Reader {
+    ghost use Rattle.std.specs.Prelude.{◌≡◌};
+    ghost use Rattle.csicodec_clean.specs.Cleaned.{longest};
     ghost use Rattle.csicodec_overwrite.specs.Private.Seen.{AreSlices};
     ghost use Rattle.csicodec_overwrite.specs.Stream.{Held};
 
     ghost Value = { Held };
 
-    ghost view = { λ r. record { mode = r.mode; titled = r.titled; bytes = r.pending.items; held = r.held.items } };
+    ghost view = { λ r. record { mode = r.waiting.mode; titled = r.titled; bytes = r.waiting.bytes; held = r.held.items } };
 
-    ghost invariant = { λ r. AreSlices r.seen.kept.items };
+    ghost invariant = { λ r. (r.waiting.limit ≡ longest) × AreSlices r.seen.kept.items };
 }
 
 /// Appends the steps of all spans of the bytes that are sure, and answers the bytes that aren't, and the mode there.
@@ -142,9 +143,8 @@ impl Reader {
     {
         Reader {
             alloc,
-            mode: Mode::Text,
             titled: false,
-            pending: Vec::new(alloc),
+            waiting: Waiting::new(alloc, LIMIT),
             held: Vec::new(alloc),
             params: Vec::new(alloc),
             actions: Vec::new(alloc),
@@ -156,16 +156,18 @@ impl Reader {
     pub(crate) fn is_bare(&self) -> bool
         ensures { result ≡ true → self.now ≡ none_held }
     {
-        self.mode == Mode::Text && !self.titled && self.pending.is_empty() && self.held.is_empty()
+        self.waiting.mode() == Mode::Text
+            && !self.titled
+            && self.waiting.is_empty()
+            && self.held.is_empty()
     }
 
     /// As if nothing had come.
     pub(crate) fn clear(&mut self)
         ensures { self.new ≡ none_held }
     {
-        self.mode = Mode::Text;
         self.titled = false;
-        self.pending.clear();
+        self.waiting.clear();
         self.held.clear();
     }
 
@@ -177,20 +179,21 @@ impl Reader {
         // What is held of a character is short.
         ensures held { OnOk result (length self.old.held ≤ 3 → length self.new.held ≤ 3) }
     {
-        self.pending.extend_from_slice(bytes)?;
+        let Some(all) = self.waiting.add(bytes)? else {
+            return Ok(());
+        };
         let (rest, mode) = append_steps(
             self.alloc,
             &mut self.actions,
             &mut self.params,
             &mut self.held,
             &mut self.titled,
-            self.mode,
-            &self.pending,
+            self.waiting.mode(),
+            &all,
             steps,
         )?;
-        let used = self.pending.len() - rest.len();
-        self.mode = mode;
-        keep_from(&mut self.pending, used);
+        let used = all.len() - rest.len();
+        self.waiting.keep(all, used, mode);
         Ok(())
     }
 

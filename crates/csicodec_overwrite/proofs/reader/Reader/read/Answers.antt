@@ -1,16 +1,35 @@
-use Rattle.std.proofs.Common.{◌≡◌, ◌++◌, ◌∙◌, arith}
+use Rattle.std.proofs.Common.{◌≡◌, [], ◌++◌, ◌-◌, ◌∙◌, sym, drop, length, append-nil, arith}
 use Rattle.std.proofs.lemmas.Grind.{common_steps}
 use Rattle.csicodec_spans.proofs.Spanned.{rest_is}
-use Rattle.csicodec_overwrite.proofs.Read.{reads_from}
+use Rattle.csicodec_overwrite.proofs.Read.{reads_from, reads_nothing}
 use Rattle.csicodec_overwrite.proofs.reader.Reader.read.Goals as goal
+
+pub returns-in_default-clause-reads : goal.returns-in_default-clause-reads
+returns-in_default-clause-reads c =
+    let (same, unsure) = rw c.in_default.is at c.in_ok-all.ensures.all in
+    let now = c.self.inside in (
+      [],
+      rw (← c.self.view_is, same)
+      (reads_nothing (record { mode = now.waiting.mode; titled = now.titled; bytes = now.waiting.bytes; held = now.held.items }) c.args.bytes.now (rw c.self.invariant.0 at unsure)),
+      sym (append-nil c.args.steps.now.items),
+    )
+
+pub keep-requires-clause-unsure : goal.keep-requires-clause-unsure
+keep-requires-clause-unsure c =
+    let (taken, whole) = rw c.in-Some.is at c.in_ok-all.ensures.all in
+    let rest = c.in_ok-rest.rest.now in
+    let kept = rest_is c.deref.result.now c.in_ok-rest.ensures.parts.0 rest c.in_ok-rest.ensures.parts.1 in
+    let same : drop (c.len.result - length rest) c.in-Some.all.items ≡ rest = grind (arith, common_steps, c.deref.ensures.value, c.len.ensures, kept) in
+    rw (same, taken, c.self.invariant.0) c.in_ok-rest.ensures.unsure
 
 pub returns-clause-reads : goal.returns-clause-reads
 returns-clause-reads c =
+    let (taken, all) = rw c.in-Some.is at c.in_ok-all.ensures.all in
     let rest = c.in_ok-rest.rest.now in
     let kept = rest_is c.deref.result.now c.in_ok-rest.ensures.parts.0 rest c.in_ok-rest.ensures.parts.1 in
-    let same : c.keep_from.new.bytes.items ≡ rest = grind (arith, common_steps, c.keep_from.ensures, c.deref.ensures.value, c.len.ensures, kept) in
-    let whole : c.deref.result.now ≡ c.self.inside.pending.items ++ c.args.bytes.now = c.deref.ensures.value ∙ c.in_ok-extend_from_slice.ensures.items in
+    let same : c.keep.new.self.bytes ≡ rest = grind (arith, common_steps, c.keep.ensures, c.deref.ensures.value, c.len.ensures, kept) in
+    let now = c.self.inside in
     rw (← c.self.view_is)
-    (reads_from (record { mode = c.self.inside.mode; titled = c.self.inside.titled; bytes = c.self.inside.pending.items; held = c.self.inside.held.items })
-    (record { mode = c.in_ok-rest.mode; titled = c.append_steps.new.titled; bytes = c.keep_from.new.bytes.items; held = c.append_steps.new.held.items }) c.args.bytes.now c.deref.result.now rest c.args.steps.now.items
-    c.append_steps.new.steps.items whole same c.in_ok-rest.ensures.unsure c.in_ok-rest.ensures.goes)
+    (reads_from (record { mode = now.waiting.mode; titled = now.titled; bytes = now.waiting.bytes; held = now.held.items })
+    (record { mode = c.keep.new.self.mode; titled = c.append_steps.new.titled; bytes = c.keep.new.self.bytes; held = c.append_steps.new.held.items }) c.args.bytes.now c.deref.result.now rest c.args.steps.now.items
+    c.append_steps.new.steps.items (c.deref.ensures.value ∙ all) same (rw c.keep.ensures c.in_ok-rest.ensures.unsure) (rw c.keep.ensures (rw (c.mode.ensures, taken) at c.in_ok-rest.ensures.goes)))

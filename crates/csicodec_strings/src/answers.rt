@@ -1,76 +1,49 @@
 //! Settings and capabilities that are asked for and told (DEC's DECRQSS; xterm's XTGETTCAP).
 
-use crate::fields::{Body, halves, is_semicolon, write_comma};
+use crate::fields::{Body, halves, is_semicolon, tell, write_comma};
 use crate::shown::Shown;
+use crate::string_rows::SETTINGS;
 use hex::decode_to_slice;
 use std::fmt;
 
-/// Settings by the final bytes of what sets them (VT510 Programmer Reference, DECRQSS; xterm's ctlseqs).
-static SETTINGS: [(&[u8], &str); 14] = [
-    (b"m", "the attributes (SGR)"),
-    (b"r", "the top and bottom margins (DECSTBM)"),
-    (b"s", "the left and right margins (DECSLRM)"),
-    (b"t", "the lines a page (DECSLPP)"),
-    (b" q", "the cursor's shape (DECSCUSR)"),
-    (b"\"p", "the conformance level (DECSCL)"),
-    (b"\"q", "the protection of characters (DECSCA)"),
-    (b"$|", "the columns a page (DECSCPP)"),
-    (b"$}", "the active display (DECSASD)"),
-    (b"$~", "the kind of status line (DECSSDT)"),
-    (b"*x", "what attribute changes extend to (DECSACE)"),
-    (b"*|", "the lines on the screen (DECSNLS)"),
-    (b",|", "the colours (DECAC)"),
-    (b",}", "the alternate colours (DECATC)"),
-];
-
 /// The setting that ends in these bytes.
 fn setting(text: &[u8]) -> Option<&'static str> {
-    let mut longest: &[u8] = &[];
-    let mut found = None;
     for (finals, words) in &SETTINGS {
-        if text.ends_with(*finals) && finals.len() > longest.len() {
-            longest = *finals;
-            found = Some(*words);
+        if text.ends_with(*finals) {
+            return Some(*words);
         }
     }
-    found
+    None
 }
 
-/// DECRQSS.
+/// The setting that DECRQSS asks for.
 pub fn setting_asked<W: fmt::Write>(f: &mut fmt::Formatter<W>, data: Body<'_>) -> fmt::Result {
     let quoted = data.quoted();
     match setting(data.bytes) {
-        Some(words) => write!(f, "DECRQSS  ask for {words}"),
-        None => write!(f, "DECRQSS  ask for the setting {quoted}"),
+        Some(words) => f.write_str(words),
+        None => write!(f, "the setting {quoted}"),
     }
 }
 
-/// DECRPSS: with 1 the setting (xterm; the VT510's manual has 0 for it), else nothing.
+/// What DECRPSS tells: with 1 the setting (xterm; the VT510's manual has 0 for it), else nothing.
 pub fn setting_told<W: fmt::Write>(
     f: &mut fmt::Formatter<W>,
     params: &[u8],
     data: Body<'_>,
 ) -> fmt::Result {
     if data.len() == 0 {
-        return f.write_str("DECRPSS  answer: no such setting");
+        return f.write_str("no such setting");
     }
-    let quoted = data.quoted();
-    let words = setting(data.bytes).unwrap_or("a setting");
-    let valid = if params == b"1".as_slice() {
+    tell(f, setting(data.bytes).unwrap_or("a setting"), data)?;
+    f.write_str(if params == b"1".as_slice() {
         ""
     } else {
         ", not valid"
-    };
-    write!(f, "DECRPSS  answer: {words}: {quoted}{valid}")
+    })
 }
 
 /// XTGETTCAP: names, and behind `=` values, in hexadecimal digits, with semicolons between.
-pub fn capabilities<W: fmt::Write>(
-    f: &mut fmt::Formatter<W>,
-    words: &str,
-    data: Body<'_>,
-) -> fmt::Result {
-    f.write_str(words)?;
+pub fn capabilities<W: fmt::Write>(f: &mut fmt::Formatter<W>, data: Body<'_>) -> fmt::Result {
     for (place, field) in data.bytes.split(is_semicolon).enumerate() {
         write_comma(f, place)?;
         write_capability(f, field)?;

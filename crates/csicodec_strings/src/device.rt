@@ -1,8 +1,9 @@
 //! Device control strings (DCS): parameters and intermediate bytes, a final byte, and data.
 
 use crate::answers::{capabilities, setting_asked, setting_told};
-use crate::fields::{Body, halves, number};
+use crate::fields::{Body, halves, number, tell};
 use crate::shown::Shown;
+use crate::string_rows::CONTROLS;
 use std::fmt;
 
 /// The parts of a DCS.
@@ -43,72 +44,63 @@ fn parts(body: Body<'_>) -> Option<Control<'_>> {
     })
 }
 
-/// Strings with no data, by their parameters and final byte: synchronized updates and tmux.
-static ALONE: [(&[u8], u8, &str); 3] = [
-    (b"=1", b's', "synchronized updates  start of an update"),
-    (b"=2", b's', "synchronized updates  end of an update"),
-    (b"1000", b'p', "tmux  control mode on"),
-];
-
-/// DEC's states, by the parameters and final byte of a string with `$` between.
-static STATES: [(&[u8], u8, &str); 6] = [
-    (b"2", b'p', "DECRSTS  restore the colour table"),
-    (b"2", b's', "DECCTR  answer: the colour table"),
-    (b"1", b't', "DECRSPS  restore the cursor's state"),
-    (b"2", b't', "DECRSPS  restore the tab stops"),
-    (b"1", b'u', "DECCIR  answer: the cursor's state"),
-    (b"2", b'u', "DECTABSR  answer: the tab stops"),
-];
-
-/// What such a table has for these parameters and this final byte.
-fn with_params(
-    table: &'static [(&'static [u8], u8, &'static str)],
-    params: &[u8],
-    last: u8,
-) -> Option<&'static str> {
-    for (known, name, words) in table {
-        if *name == last && *known == params {
-            return Some(*words);
-        }
-    }
-    None
+/// What is told of the data.
+#[derive(Clone, Copy)]
+pub(crate) enum Tells {
+    /// It stands between quotation marks.
+    Data,
+    /// Nothing.
+    Nothing,
+    /// How large the picture is.
+    Picture,
+    /// The setting that is asked for.
+    SettingAsked,
+    /// A setting, and its value.
+    SettingTold,
+    /// Names, and values.
+    Capabilities,
 }
 
-/// DEC's strings that are told by their name (VT510 and VT420 Programmer Reference): intermediate byte, final byte, words.
-static NAMES: [(u8, u8, &str); 20] = [
-    (0, b'p', "ReGIS  drawing"),
-    (0, b'r', "DECLBAN  banner message"),
-    (0, b'v', "DECLANS  answerback message"),
-    (0, b'{', "DECDLD  characters of a font"),
-    (0, b'|', "DECUDK  user-defined keys"),
-    (b'!', b'u', "DECAUPSS  the user's supplemental set"),
-    (b'!', b'z', "DECDMAC  define a macro"),
-    (b'!', b'{', "DECSTUI  set the unit's ID"),
-    (b'!', b'|', "DECRPTUI  answer: the unit's ID"),
-    (b'!', b'~', "DECCKSR  answer: checksum"),
-    (b'"', b'x', "DECPFK  program a function key"),
-    (b'"', b'y', "DECPAK  program an alphanumeric key"),
-    (b'"', b'}', "DECPFKR  answer: function key"),
-    (b'"', b'~', "DECPAKR  answer: alphanumeric key"),
-    (b'$', b'p', "DECRSTS  restore the terminal's state"),
-    (b'$', b's', "DECTSR  answer: the terminal's state"),
-    (b'+', b'p', "XTSETTCAP  set the terminfo entry"),
-    (b'+', b'Q', "XTGETXRES  ask for a resource"),
-    (b'+', b'R', "XTGETXRES  answer: resource"),
-    (
-        b'>',
-        b'|',
-        "XTVERSION  answer: the terminal's name and version",
-    ),
-];
+/// The words of a DCS.
+pub(crate) struct ControlRow {
+    /// Its parameters. No bytes stand for any that don't begin with `>`, and `>` for those that do.
+    pub params: &'static [u8],
+    /// Its intermediate byte, 0 where there is none.
+    pub between: u8,
+    /// Its final byte.
+    pub last: u8,
+    /// The words, and what is told behind them.
+    pub words: &'static str,
+    pub tells: Tells,
+}
 
-fn name_of(between: u8, last: u8) -> Option<&'static str> {
-    for (intermediate, name, words) in &NAMES {
-        if *intermediate == between && *name == last {
-            return Some(*words);
+impl ControlRow {
+    /// Whether it is of a string with these parts. Of one whose data is more than quoted the parameters say nothing.
+    fn is_of(&self, control: Control<'_>) -> bool {
+        let is_marked = control.params.first().copied() == Some(b'>');
+        let is_between = self.between == control.between;
+        self.last == control.last
+            && match self.params {
+                b">" => is_marked,
+                b"" => is_between && !(is_marked && matches!(self.tells, Tells::Data)),
+                params => is_between && params == control.params,
+            }
+    }
+
+    /// Tells a string that it is of.
+    fn tell<W: fmt::Write>(&self, f: &mut fmt::Formatter<W>, control: Control<'_>) -> fmt::Result {
+        if let Tells::Data = self.tells {
+            return tell(f, self.words, control.data);
+        }
+        f.write_str(self.words)?;
+        match self.tells {
+            Tells::Data | Tells::Nothing => Ok(()),
+            Tells::Picture => sixel(f, control.data),
+            Tells::SettingAsked => setting_asked(f, control.data),
+            Tells::SettingTold => setting_told(f, control.params, control.data),
+            Tells::Capabilities => capabilities(f, control.data),
         }
     }
-    None
 }
 
 /// The words of a DCS.
@@ -117,82 +109,19 @@ pub fn device_control<W: fmt::Write>(f: &mut fmt::Formatter<W>, body: Body<'_>) 
         return passed_on(f, inner);
     }
     if let Some(json) = body.behind(b"@kitty-cmd") {
-        let quoted = json.quoted();
-        return write!(f, "kitty  remote control: {quoted}");
+        return tell(f, "kitty  remote control", json);
     }
-    match parts(body) {
-        Some(control) => named(f, control, body),
-        None if body.len() == 0 => f.write_str("DCS  empty"),
-        None => unknown(f, body),
+    if body.len() == 0 {
+        return f.write_str("DCS  empty");
     }
-}
-
-fn unknown<W: fmt::Write>(f: &mut fmt::Formatter<W>, body: Body<'_>) -> fmt::Result {
-    let quoted = body.quoted();
-    write!(f, "DCS  unknown: {quoted}")
-}
-
-fn named<W: fmt::Write>(
-    f: &mut fmt::Formatter<W>,
-    control: Control<'_>,
-    body: Body<'_>,
-) -> fmt::Result {
-    match (control.between, control.last) {
-        (0, b'q') => sixel(f, control.data),
-        (b'$', b'q') => setting_asked(f, control.data),
-        (b'$', b'r') => setting_told(f, control.params, control.data),
-        (b'+', b'q') => capabilities(f, "XTGETTCAP  ask for ", control.data),
-        (b'+', b'r') => capabilities_told(f, control.params, control.data),
-        _ => listed(f, control, body),
+    if let Some(control) = parts(body) {
+        for row in &CONTROLS {
+            if row.is_of(control) {
+                return row.tell(f, control);
+            }
+        }
     }
-}
-
-/// XTGETTCAP's answer: with 1 the values, else names that aren't known.
-fn capabilities_told<W: fmt::Write>(
-    f: &mut fmt::Formatter<W>,
-    params: &[u8],
-    data: Body<'_>,
-) -> fmt::Result {
-    let words = if params == b"1".as_slice() {
-        "XTGETTCAP  answer: "
-    } else {
-        "XTGETTCAP  answer: not known: "
-    };
-    capabilities(f, words, data)
-}
-
-/// A string that one of the tables has.
-fn listed<W: fmt::Write>(
-    f: &mut fmt::Formatter<W>,
-    control: Control<'_>,
-    body: Body<'_>,
-) -> fmt::Result {
-    if control.between == 0
-        && let Some(words) = with_params(&ALONE, control.params, control.last)
-    {
-        return f.write_str(words);
-    }
-    match words_with_data(control) {
-        Some(words) => told(f, words, control.data),
-        None => unknown(f, body),
-    }
-}
-
-/// What a string does whose data is told.
-fn words_with_data(control: Control<'_>) -> Option<&'static str> {
-    let state = with_params(&STATES, control.params, control.last);
-    if control.between == b'$' && state.is_some() {
-        return state;
-    }
-    let marked = control.params.first().copied() == Some(b'>');
-    let between = if marked { b'>' } else { control.between };
-    name_of(between, control.last)
-}
-
-/// Words, and the data between quotation marks.
-fn told<W: fmt::Write>(f: &mut fmt::Formatter<W>, words: &str, data: Body<'_>) -> fmt::Result {
-    let quoted = data.quoted();
-    write!(f, "{words}: {quoted}")
+    tell(f, "DCS  unknown", body)
 }
 
 /// The raster attributes that these bytes begin with.
@@ -215,10 +144,9 @@ fn write_size<W: fmt::Write>(f: &mut fmt::Formatter<W>, attributes: &[u8]) -> fm
     }
 }
 
-/// A picture of sixels (VT330/VT340 Programmer Reference, volume 2): its size, where its raster attributes tell it.
+/// How large a picture of sixels is (VT330/VT340 Programmer Reference, volume 2): its size, where its raster attributes tell it.
 fn sixel<W: fmt::Write>(f: &mut fmt::Formatter<W>, data: Body<'_>) -> fmt::Result {
     let len = data.len();
-    f.write_str("sixel  picture")?;
     if let Some(raster) = data.behind(b"\"") {
         write_size(f, raster_attributes(raster.bytes))?;
     }

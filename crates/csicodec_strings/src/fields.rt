@@ -1,20 +1,7 @@
-//! The parts of a string: what stands between separators, numbers, and words that a table has for them.
+//! The parts of a string: what stands between separators, and numbers.
 
 use crate::shown::Quoted;
 use std::fmt;
-
-/// Names, each with what it stands for.
-pub type Words = &'static [(&'static [u8], &'static str)];
-
-/// What a name stands for, where the table has it.
-pub fn words_of(table: Words, name: &[u8]) -> Option<&'static str> {
-    for (known, words) in table {
-        if *known == name {
-            return Some(*words);
-        }
-    }
-    None
-}
 
 /// Whether a byte is the semicolon that stands between fields.
 pub fn is_semicolon(byte: &u8) -> bool {
@@ -69,6 +56,12 @@ impl<'a> Body<'a> {
             None => (self.bytes, self.with(&[])),
         }
     }
+}
+
+/// Words, and what stands in a string, between quotation marks.
+pub fn tell<W: fmt::Write>(f: &mut fmt::Formatter<W>, words: &str, body: Body<'_>) -> fmt::Result {
+    let quoted = body.quoted();
+    write!(f, "{words}: {quoted}")
 }
 
 /// What is ahead of the first such byte, and what is behind it.

@@ -1,173 +1,46 @@
 //! kitty's Terminal graphics protocol: keys with values, a semicolon, and data in base64.
 
-use crate::fields::{Body, Words, halves, words_of, write_comma};
+use crate::fields::{Body, halves, tell, write_comma};
 use crate::shown::Shown;
+use crate::string_rows::GRAPHICS;
 use std::fmt;
 
-/// Keys with a value of a few, and what they say: the action `a`, the format `f`, where the data is by `t`, and flags.
-static FIELDS: [(&[u8], &str); 21] = [
-    (b"a=t", "send"),
-    (b"a=T", "send and show"),
-    (b"a=q", "ask whether it could be shown"),
-    (b"a=p", "show"),
-    (b"a=d", "delete"),
-    (b"a=f", "send a frame"),
-    (b"a=a", "control an animation"),
-    (b"a=c", "compose frames"),
-    (b"f=24", "RGB"),
-    (b"f=32", "RGBA"),
-    (b"f=100", "PNG"),
-    (b"t=d", "data here"),
-    (b"t=f", "data in a file"),
-    (b"t=t", "data in a temporary file"),
-    (b"t=s", "data in shared memory"),
-    (b"m=0", "last part"),
-    (b"q=1", "no answer where it works"),
-    (b"q=2", "no answer"),
-    (b"o=z", "compressed"),
-    (b"C=1", "the cursor stays"),
-    (b"U=1", "for placeholders"),
-];
-
-/// What a key says with any other value.
-static OTHERS: [(&[u8], &str); 4] = [
-    (b"a", "other action"),
-    (b"f", "other format"),
-    (b"t", "data elsewhere"),
-    (b"m", "more to come"),
-];
-
-/// Words ahead of the value of a key, what it counts, and words behind that.
-type Around = (&'static [u8], &'static str, &'static str, &'static str);
-
-/// Of a picture, or of a part of it that is shown.
-static AROUND: [Around; 13] = [
-    (b"i", "picture ", "", ""),
-    (b"I", "picture number ", "", ""),
-    (b"p", "placement ", "", ""),
-    (b"s", "", " pixel", " wide"),
-    (b"v", "", " pixel", " high"),
-    (b"S", "", " byte", " of the data"),
-    (b"O", "from byte ", "", " of the data"),
-    (b"c", "", " column", ""),
-    (b"r", "", " line", ""),
-    (b"w", "part of ", " pixel", " wide"),
-    (b"h", "part of ", " pixel", " high"),
-    (b"z", "layer ", "", ""),
-    (b"d", "what: ", "", ""),
-];
-
-/// Keys that say something else of an animation: of its control (`a=a`), of a frame that is sent (`a=f`), of frames that are composed
-/// (`a=c`).
-static CONTROL: [Around; 4] = [
-    (b"r", "frame ", "", ""),
-    (b"z", "gap of ", " millisecond", ""),
-    (b"c", "to frame ", "", ""),
-    (b"v", "loops: ", "", ""),
-];
-
-static FRAME: [Around; 6] = [
-    (b"r", "frame ", "", ""),
-    (b"z", "gap of ", " millisecond", ""),
-    (b"c", "on frame ", "", ""),
-    (b"x", "from column ", "", ""),
-    (b"y", "from line ", "", ""),
-    (b"Y", "background colour ", "", ""),
-];
-
-static COMPOSED: [Around; 8] = [
-    (b"c", "from frame ", "", ""),
-    (b"r", "to frame ", "", ""),
-    (b"x", "to column ", "", ""),
-    (b"y", "to line ", "", ""),
-    (b"X", "from column ", "", ""),
-    (b"Y", "from line ", "", ""),
-    (b"w", "", " pixel", " wide"),
-    (b"h", "", " pixel", " high"),
-];
-
-/// Keys with a value of a few of an animation.
-static CONTROL_FIELDS: [(&[u8], &str); 4] = [
-    (b"s=1", "stop"),
-    (b"s=2", "run, and wait for more frames"),
-    (b"s=3", "run"),
-    (b"v=1", "loops without end"),
-];
-
-static FRAME_FIELDS: [(&[u8], &str); 2] = [(b"X=0", "blended"), (b"X=1", "replaced")];
-
-static COMPOSED_FIELDS: [(&[u8], &str); 2] = [(b"C=0", "blended"), (b"C=1", "replaced")];
-
-/// The tables of an action, ahead of those of a picture.
+/// What a key says.
 #[derive(Clone, Copy)]
-struct Tables {
-    fields: Words,
-    around: &'static [Around],
+pub(crate) enum Says {
+    /// These words.
+    Words(&'static str),
+    /// Words ahead of its value, what that counts, and words behind.
+    Value(&'static str, &'static str, &'static str),
 }
 
-/// The tables of the action that these keys name.
-fn tables_of(keys: &[u8]) -> Tables {
-    let is_action = |field: &&[u8]| field.starts_with(b"a=");
-    match keys.split(is_comma).find(is_action) {
-        Some(b"a=a") => Tables {
-            fields: &CONTROL_FIELDS,
-            around: &CONTROL,
-        },
-        Some(b"a=f") => Tables {
-            fields: &FRAME_FIELDS,
-            around: &FRAME,
-        },
-        Some(b"a=c") => Tables {
-            fields: &COMPOSED_FIELDS,
-            around: &COMPOSED,
-        },
-        _ => Tables {
-            fields: &[],
-            around: &[],
-        },
+/// The action that a key is of, no bytes where it is of any; the key, or the key with a value; and what it says.
+pub(crate) type KeyRow = (&'static [u8], &'static [u8], Says);
+
+/// What a key says behind this action, by its value or with any.
+fn said_of(action: &[u8], field: &[u8], key: &[u8]) -> Option<Says> {
+    for (of, known, says) in &GRAPHICS {
+        if (of.is_empty() || *of == action) && (*known == field || *known == key) {
+            return Some(*says);
+        }
     }
+    None
 }
 
-/// The words around the value of a key.
-fn around(rows: &'static [Around], key: &[u8]) -> Option<Around> {
-    rows.iter().find(|row| row.0 == key).copied()
-}
-
-/// A value with the words around it; of a key with none, the key ahead of it.
-fn write_value<W: fmt::Write>(
-    f: &mut fmt::Formatter<W>,
-    rows: &'static [Around],
-    key: &[u8],
-    value: &[u8],
-) -> fmt::Result {
-    let plural = value != b"1".as_slice();
-    let value = Shown(value);
-    match around(rows, key).or(around(&AROUND, key)) {
-        Some((_key, ahead, unit, behind)) => {
-            let ending = if plural && !unit.is_empty() { "s" } else { "" };
+/// A key with its value: what they say, or themselves.
+fn write_key<W: fmt::Write>(f: &mut fmt::Formatter<W>, action: &[u8], field: &[u8]) -> fmt::Result {
+    let (key, value) = halves(field, b'=');
+    match said_of(action, field, key) {
+        Some(Says::Words(words)) => f.write_str(words),
+        Some(Says::Value(ahead, unit, behind)) => {
+            let is_one = unit.is_empty() || value == b"1".as_slice();
+            let (value, ending) = (Shown(value), if is_one { "" } else { "s" });
             write!(f, "{ahead}{value}{unit}{ending}{behind}")
         }
         None => {
-            let key = Shown(key);
+            let (key, value) = (Shown(key), Shown(value));
             write!(f, "{key}={value}")
         }
-    }
-}
-
-/// What a key with a value says.
-fn write_key<W: fmt::Write>(
-    f: &mut fmt::Formatter<W>,
-    tables: Tables,
-    field: &[u8],
-) -> fmt::Result {
-    let words = words_of(tables.fields, field).or(words_of(&FIELDS, field));
-    if let Some(words) = words {
-        return f.write_str(words);
-    }
-    let (key, value) = halves(field, b'=');
-    match words_of(&OTHERS, key) {
-        Some(words) => f.write_str(words),
-        None => write_value(f, tables.around, key, value),
     }
 }
 
@@ -183,10 +56,11 @@ fn may_answer(field: &[u8]) -> bool {
 
 /// The keys, with commas between.
 fn write_keys<W: fmt::Write>(f: &mut fmt::Formatter<W>, keys: &[u8]) -> fmt::Result {
-    let tables = tables_of(keys);
+    let is_action = |field: &&[u8]| field.starts_with(b"a=");
+    let action = keys.split(is_comma).find(is_action).unwrap_or(&[]);
     for (place, field) in keys.split(is_comma).enumerate() {
         write_comma(f, place)?;
-        write_key(f, tables, field)?;
+        write_key(f, action, field)?;
     }
     Ok(())
 }
@@ -198,8 +72,7 @@ pub fn graphics<W: fmt::Write>(f: &mut fmt::Formatter<W>, body: Body<'_>) -> fmt
     if len > 0 && keys.split(is_comma).all(may_answer) {
         f.write_str("kitty graphics  answer: ")?;
         write_keys(f, keys)?;
-        let quoted = data.quoted();
-        return write!(f, ": {quoted}");
+        return tell(f, "", data);
     }
     f.write_str("kitty graphics  ")?;
     write_keys(f, keys)?;

@@ -12,9 +12,10 @@ mod kitty_graphics;
 mod osc;
 mod osc_words;
 mod shown;
+mod string_rows;
 
 use crate::device::device_control;
-use crate::fields::Body;
+use crate::fields::{Body, tell};
 use crate::kitty_graphics::graphics;
 use crate::osc::command;
 pub use escape::append_escaped;
@@ -73,8 +74,8 @@ impl<'a> fmt::Display for ControlString<'a> {
             b']' => command(f, body)?,
             b'P' => device_control(f, body)?,
             b'_' => program_command(f, body)?,
-            b'^' => named(f, "PM  privacy message: ", body)?,
-            _ => named(f, "SOS  string: ", body)?,
+            b'^' => tell(f, "PM  privacy message", body)?,
+            _ => tell(f, "SOS  string", body)?,
         }
         if self.closed {
             Ok(())
@@ -84,16 +85,10 @@ impl<'a> fmt::Display for ControlString<'a> {
     }
 }
 
-/// A name, and what stands in the string.
-fn named<W: fmt::Write>(f: &mut fmt::Formatter<W>, name: &str, body: Body<'_>) -> fmt::Result {
-    let quoted = body.quoted();
-    write!(f, "{name}{quoted}")
-}
-
 /// APC: kitty's graphics, or the command of some other program.
 fn program_command<W: fmt::Write>(f: &mut fmt::Formatter<W>, body: Body<'_>) -> fmt::Result {
     match body.behind(b"G") {
         Some(keys) => graphics(f, keys),
-        None => named(f, "APC  command to a program: ", body),
+        None => tell(f, "APC  command to a program", body),
     }
 }

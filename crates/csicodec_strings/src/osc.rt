@@ -2,7 +2,7 @@
 
 use crate::clipboard::clipboard;
 use crate::colors::{dynamic, dynamic_reset, pairs, resets};
-use crate::fields::{Body, halves, number, split_at};
+use crate::fields::{Body, number, split_at, tell};
 use crate::osc_words::{
     ALONE, Behind, KITTY_NOTICE, POINTER, editor_mark_words, folder_words, mark_words,
     progress_words, title_words,
@@ -40,7 +40,7 @@ fn numbered<W: fmt::Write>(
     rest: Body<'_>,
 ) -> fmt::Result {
     match Osc::read(body.bytes) {
-        Osc::Title(title, text) => told(f, title_words(title), body.with(text)),
+        Osc::Title(title, text) => tell(f, title_words(title), body.with(text)),
         Osc::Colors(palette, list) => pairs(f, palette, list),
         Osc::Color(_, list) => dynamic(f, code, list),
         Osc::ResetColors(palette, list) => resets(f, palette, list),
@@ -52,11 +52,11 @@ fn numbered<W: fmt::Write>(
         Osc::Editor(mark, list) => edited(f, mark, list, body),
         Osc::Progress(progress, list) => done(f, progress, list, rest),
         Osc::Pointer(text) => plain(f, POINTER, body.with(text)),
-        Osc::KittyNotice { .. } => told(f, KITTY_NOTICE, rest),
+        Osc::KittyNotice { .. } => tell(f, KITTY_NOTICE, rest),
         Osc::TitledNotice { title, text } => noticed(f, title, body.with(text)),
         Osc::Notice(_) => match alone(body, rest) {
             Some((words, text)) => plain(f, words, text),
-            None => told(f, "notification", rest),
+            None => tell(f, "notification", rest),
         },
         Osc::Unknown(_) => match (body.behind(b"1337;File="), alone(body, rest)) {
             (Some(file), _) => picture(f, file),
@@ -66,18 +66,12 @@ fn numbered<W: fmt::Write>(
     }
 }
 
-/// Words, and a text.
-fn told<W: fmt::Write>(f: &mut fmt::Formatter<W>, words: &str, text: Body<'_>) -> fmt::Result {
-    let quoted = text.quoted();
-    write!(f, "{words}: {quoted}")
-}
-
 /// Words, and a text where there is one.
 fn plain<W: fmt::Write>(f: &mut fmt::Formatter<W>, words: &str, text: Body<'_>) -> fmt::Result {
     if text.len() == 0 {
         f.write_str(words)
     } else {
-        told(f, words, text)
+        tell(f, words, text)
     }
 }
 
@@ -135,7 +129,7 @@ fn edited<W: fmt::Write>(
     let words = editor_mark_words(mark);
     match mark {
         EditorMark::CommandText | EditorMark::Property => {
-            told(f, words, body.with(list.text.unwrap_or(&[])))
+            tell(f, words, body.with(list.text.unwrap_or(&[])))
         }
         _ => marked(f, words, list, body.more),
     }
@@ -209,6 +203,6 @@ fn lettered<W: fmt::Write>(f: &mut fmt::Formatter<W>, body: Body<'_>) -> fmt::Re
             f.write_str("  ")?;
             plain(f, words, text)
         }
-        _ => told(f, "OSC  unknown", body),
+        _ => tell(f, "OSC  unknown", body),
     }
 }

@@ -63,7 +63,7 @@ def keys(graphics):
     """The rows of keys, those of one action first."""
     for name, table in sorted(graphics.items(), key=lambda item: "action" not in item[1]):
         for key, row in rows_of(f"graphics.{name}", table):
-            yield pair(bytes_of(row.get("action", "")), bytes_of(key), says(row["words"]))
+            yield pair(byte(row.get("action", "")), bytes_of(key), says(row["words"]))
 
 
 def check(controls):

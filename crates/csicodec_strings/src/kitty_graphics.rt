@@ -14,13 +14,13 @@ pub(crate) enum Says {
     Value(&'static str, &'static str, &'static str),
 }
 
-/// The action that a key is of, no bytes where it is of any; the key, or the key with a value; and what it says.
-pub(crate) type KeyRow = (&'static [u8], &'static [u8], Says);
+/// The action that a key is of, 0 where it is of any; the key, or the key with a value; and what it says.
+pub(crate) type KeyRow = (u8, &'static [u8], Says);
 
-/// What a key says behind this action, by its value or with any.
-fn said_of(action: &[u8], field: &[u8], key: &[u8]) -> Option<Says> {
+/// What a key, or a key with a value, says behind this action.
+fn said_of(action: u8, key: &[u8]) -> Option<Says> {
     for (of, known, says) in &GRAPHICS {
-        if (of.is_empty() || *of == action) && (*known == field || *known == key) {
+        if (*of == 0 || *of == action) && *known == key {
             return Some(*says);
         }
     }
@@ -28,9 +28,9 @@ fn said_of(action: &[u8], field: &[u8], key: &[u8]) -> Option<Says> {
 }
 
 /// A key with its value: what they say, or themselves.
-fn write_key<W: fmt::Write>(f: &mut fmt::Formatter<W>, action: &[u8], field: &[u8]) -> fmt::Result {
+fn write_key<W: fmt::Write>(f: &mut fmt::Formatter<W>, action: u8, field: &[u8]) -> fmt::Result {
     let (key, value) = halves(field, b'=');
-    match said_of(action, field, key) {
+    match said_of(action, field).or(said_of(action, key)) {
         Some(Says::Words(words)) => f.write_str(words),
         Some(Says::Value(ahead, unit, behind)) => {
             let is_one = unit.is_empty() || value == b"1".as_slice();
@@ -57,7 +57,10 @@ fn may_answer(field: &[u8]) -> bool {
 /// The keys, with commas between.
 fn write_keys<W: fmt::Write>(f: &mut fmt::Formatter<W>, keys: &[u8]) -> fmt::Result {
     let is_action = |field: &&[u8]| field.starts_with(b"a=");
-    let action = keys.split(is_comma).find(is_action).unwrap_or(&[]);
+    let action = match keys.split(is_comma).find(is_action) {
+        Some([_, _, action]) => *action,
+        _ => 0,
+    };
     for (place, field) in keys.split(is_comma).enumerate() {
         write_comma(f, place)?;
         write_key(f, action, field)?;

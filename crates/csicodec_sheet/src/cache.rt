@@ -152,7 +152,6 @@ impl Remembered {
         };
         slot.len = 0;
         slot.kept.clear();
-        slot.kept.reserve(bytes.len().saturating_add(told.len()))?;
         slot.kept.extend_from_slice(bytes)?;
         slot.kept.extend_from_slice(told)?;
         slot.hash = hash;

@@ -249,6 +249,10 @@ fn append_character(
 
 /// How many bytes the character in front has, where between quotation marks it is shown as it is in one column; else 0.
 fn seen_len(bytes: &[u8]) -> usize {
+    // From U+00C0 to U+05FF all are.
+    if let [0xc3..=0xd7, 0x80..=0xbf, ..] = bytes {
+        return 2;
+    }
     match decode_utf8(bytes) {
         (Some(character), len) if character != '\u{fffd}' && is_seen(character) => len,
         _ => 0,
@@ -376,17 +380,28 @@ pub fn append_margin(text: &mut Vec<u8>, style: &Style<'_>) -> Result<(), AllocE
     )
 }
 
-/// The columns of a short text of ASCII characters that stand for themselves, with no end of a line behind it.
+/// The columns of few bytes with no end of a line behind them: a text of ASCII characters that stand for themselves, or ESC and such
+/// characters behind it.
 #[inline(always)]
-fn short_text(span: Told<'_>) -> Option<[u8; BYTES]> {
-    let bytes = span.bytes;
-    if !span.end.is_empty() || bytes.len() > BYTES - 4 || !are_plain(bytes) {
+fn short_columns(span: Told<'_>) -> Option<[u8; BYTES]> {
+    let (quoted, shown) = match (span.sort, span.bytes) {
+        (Sort::Text, bytes) => (true, bytes),
+        (_, [0x1b, behind @ ..]) => (false, behind),
+        _ => return None,
+    };
+    if !span.end.is_empty() || shown.len() > BYTES - 4 || !are_plain(shown) {
         return None;
     }
     let mut columns = [b' '; BYTES];
-    columns[0] = b'"';
-    columns[1..bytes.len() + 1].copy_from_slice(bytes);
-    columns[bytes.len() + 1] = b'"';
+    if quoted {
+        columns[0] = b'"';
+        columns[1..shown.len() + 1].copy_from_slice(shown);
+        columns[shown.len() + 1] = b'"';
+    } else {
+        columns[0] = b'\\';
+        columns[1] = b'e';
+        columns[2..shown.len() + 2].copy_from_slice(shown);
+    }
     Some(columns)
 }
 
@@ -397,8 +412,8 @@ pub fn append_bytes(
     style: &Style<'_>,
     span: Told<'_>,
 ) -> Result<(), AllocError> {
-    if span.sort == Sort::Text && !style.color && span.len == span.bytes.len() as u64 {
-        if let Some(columns) = short_text(span) {
+    if !style.color && span.len == span.bytes.len() as u64 {
+        if let Some(columns) = short_columns(span) {
             return text.extend_from_slice(&columns);
         }
     }

@@ -297,9 +297,12 @@ fn append_front(
         hidden = hidden.saturating_add(len.saturating_sub(taken));
         room = room.saturating_sub(taken);
         rest = behind;
+        if rest.is_empty() {
+            break;
+        }
         let (character, len) = decode_utf8(rest);
         let taken = columns_of(character.unwrap_or('\u{fffd}'), len, quoted);
-        if rest.is_empty() || taken > room {
+        if taken > room {
             break;
         }
         let (front, behind) = rest.split_at_checked(len).unwrap_or((rest, &[]));
@@ -319,14 +322,15 @@ fn append_most(
     columns: usize,
 ) -> Result<(usize, usize), AllocError> {
     let quoted = span.sort == Sort::Text;
-    // The count is written to see how long it is.
-    let begin = text.len();
-    append_count(text, span.len)?;
-    let few = columns.saturating_sub(text.len().saturating_sub(begin));
-    text.truncate(begin);
+    // The count has a digit at least, and twelve columns with that.
+    let digits = span.len.checked_ilog10().unwrap_or(0) as usize;
+    let few = columns.saturating_sub(digits.saturating_add(12));
     let (len, left, hidden) = append_front(text, span.bytes, quoted, few)?;
     let end = text.len();
     let rest = span.bytes.get(len..).unwrap_or(&[]);
+    if rest.is_empty() {
+        return Ok((len, hidden));
+    }
     let room = left.saturating_add(columns.saturating_sub(few));
     let (more, _left, others) = append_front(text, rest, quoted, room)?;
     if len.saturating_add(more) as u64 == span.len {
@@ -363,7 +367,12 @@ pub fn append_shown(
     if (shown as u64) < span.len {
         append_count(text, span.len)?;
     }
-    append_escaped(text, span.end)?;
+    let end: &[u8] = match span.end.len() {
+        0 => b"",
+        1 => b"\\n",
+        _ => b"\\r\\n",
+    };
+    text.extend_from_slice(end)?;
     Ok(text.len().saturating_sub(begin).saturating_sub(hidden))
 }
 

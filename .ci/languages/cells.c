@@ -53,7 +53,8 @@ int main(void) {
     csicodec_next(B("\033[3m"), actions, 8, params, 8);
     struct csicodec_key key = csicodec_key(1, B("\033[97;5u"), typed, CSICODEC_TYPED);
     says("keys", key.code == CSICODEC_KEY_CHAR && key.value == 'a' && key.modifiers == CSICODEC_KEY_MODIFIERS_CTRL && key.used == 7
-        && csicodec_key(1, B("\033"), NULL, 0).status == CSICODEC_TRUNCATED && csicodec_key(0, B("\033"), NULL, 0).code == CSICODEC_KEY_ESCAPE);
+        && csicodec_key(1, B("\033"), NULL, 0).status == CSICODEC_TRUNCATED && csicodec_key(0, B("\033"), NULL, 0).code == CSICODEC_KEY_ESCAPE
+        && csicodec_key(1, B("\033[\nA"), NULL, 0).used == 3);
     struct csicodec_osc osc = csicodec_osc(B("8;id=1;http://a.example"));
     says("osc", osc.kind == CSICODEC_OSC_LINK && osc.texts == 2 && osc.first == 2 && osc.second == 7);
     struct csicodec_markup markup = {0, 0, 1, 0};

@@ -18,7 +18,7 @@ fn main() -> Result<(), Box<dyn std::error::Error>> {
     says("parser", count == 2);
     says("input", csicodec::inputs(Dialect::Input, b"\x1bOP\x1b").eq([InputEvent::Ss3('P'), InputEvent::Escape]));
     let key = csicodec::keys(b"\x1b[97;5u").next().and_then(Result::ok);
-    says("keys", key.is_some_and(|it| (it.code, it.modifiers) == (KeyCode::Char('a'), KeyModifiers::CTRL)) && Key::read(b"\x1b", true).is_none());
+    says("keys", key.is_some_and(|it| (it.code, it.modifiers) == (KeyCode::Char('a'), KeyModifiers::CTRL)) && Key::read(b"\x1b", true).is_none() && csicodec::keys(b"\x1b[\nA").count() == 2);
     let link = Osc::read(b"8;;http://a.example");
     says("osc", (link.kind, link.second) == (OscKind::Link, Some(b"http://a.example".as_slice())));
     let fragment = Markup { fragment: true, ..Markup::default() };

@@ -286,6 +286,8 @@ class Codec(unittest.TestCase):
         for cut in range(len(held)):
             parser = csicodec.KeyParser()
             self.assertEqual(parser.feed(held[:cut]) + parser.feed(held[cut:]) + parser.finish(), list(csicodec.keys(held)), cut)
+        within = [it if isinstance(it, bytes) else it.value for it in csicodec.keys(b"\x1b[3\n~\x1b[\x01")]
+        self.assertEqual(within, [b"\x1b[3\n", "~", b"\x1b[\x01"])
 
     def test_program(self):
         spans = csicodec.explain("\x1b[1mbold", only=["SGR"])

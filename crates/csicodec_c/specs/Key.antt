@@ -1,5 +1,5 @@
 -- What the call that reads a key answers a C program.
-use Rattle.std.specs.Prelude.{ℕ, ◌≡◌, ◌⊎◌, List, [], length, Option, None, Some, option_and_then}
+use Rattle.std.specs.Prelude.{ℕ, ◌≡◌, ◌⊎◌, List, [], ◌∷◌, length, Option, None, Some, option_and_then}
 use Rattle.bstr.specs.Utf8.{decoded}
 use Rattle.csicodec_tokens.specs.declared.param.CsiParam.{CsiParam}
 use Rattle.csicodec_spans.specs.declared.table.Mode.TheVariants as mode
@@ -68,9 +68,11 @@ without why used = record { status = status_number why; code = 0; value = 0; mod
 abbrev pub fresh : ℕ → Events
 fresh limit = record { limit = limit; mode = mode.Text; looked = 0 }
 
--- the event that stands in front, or, where it waits for more bytes and none come for now, what it is then
-abbrev pub IsFirst : ℕ → ℕ → List ℕ → InputEvent → List ℕ → List CsiParam → Type 0
-IsFirst more limit bytes sent text list = (rest : List ℕ) × (after : Events)
+-- the event that stands in front, or, where it waits for more bytes and none come for now, what it is then; and how many bytes of a
+-- sequence that isn't over were looked at
+abbrev pub IsFirst : ℕ → ℕ → List ℕ → InputEvent → List ℕ → List CsiParam → ℕ → Type 0
+IsFirst more limit bytes sent text list looked = (rest : List ℕ) × (after : Events)
+    × (looked ≡ after.looked)
     × (IsSent dialects.Input (fresh limit) bytes sent text rest list after
     ⊎ ((more ≡ 0) × IsSentBy (paused bytes) (fresh limit) bytes sent text rest list after))
 
@@ -79,12 +81,19 @@ abbrev pub IsRead : Option (Encoding × Stroke) → ℕ → List ℕ → List �
 IsRead (Some (e, s)) used old new answer = (answer ≡ told e s used) × Fills old new s.text
 IsRead None used old new answer = (answer ≡ without status.NoAction used) × (new ≡ old)
 
+-- the same of an event; one that has no bytes is a control within a sequence that isn't over, and up to that control they are no key
+abbrev pub Answers : InputEvent → List CsiParam → List ℕ → ℕ → List ℕ → List ℕ → Keyed → Type 0
+Answers sent list [] looked old new answer = IsRead None looked old new answer
+Answers sent list (b ∷ text) looked old new answer =
+    IsRead (key_of sent list (b ∷ text)) (used_by sent (b ∷ text)) old new answer
+
 pub record IsKey (more limit : ℕ) (bytes old new : List ℕ) (answer : Keyed) : Type 0 where
   pub sent : InputEvent
   pub text : List ℕ
   pub list : List CsiParam
-  pub first : IsFirst more limit bytes sent text list
-  pub reads : IsRead (key_of sent list text) (used_by sent text) old new answer
+  pub looked : ℕ
+  pub first : IsFirst more limit bytes sent text list looked
+  pub answers : Answers sent list text looked old new answer
 
 -- what stands in front depends on later bytes, also if none come for now
 pub record IsOpen (more limit : ℕ) (bytes : List ℕ) : Type 0 where

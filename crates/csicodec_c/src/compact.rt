@@ -52,7 +52,7 @@ pub extern "C" fn csicodec_compact_semicolons(
     )
 }
 
-/// Puts a shorter stream in the place of one that is all there, where it fits: control sequences side by side may go into one.
+/// Puts a stream that is no longer in the place of one that is all there, where it fits: control sequences side by side may go into one.
 #[unsafe(no_mangle)]
 pub extern "C" fn csicodec_compact_whole(
     alloc: Global,

@@ -5,7 +5,7 @@ ghost use Rattle.csicodec_keys.specs.declared.key.Encoding.TheVariants as encodi
 ghost use Rattle.csicodec_keys.specs.Forms.{by, read_char};
 ghost use Rattle.csicodec_keys.specs.Keys.{stroke_of};
 ghost use Rattle.csicodec_structs.specs.declared.status.Status.TheVariants as status;
-ghost use Rattle.csicodec_c.specs.Key.{IsKey, IsNoKey, IsRead, encoding_number, happens, key_of, told, used_by, without};
+ghost use Rattle.csicodec_c.specs.Key.{Answers, IsKey, IsNoKey, encoding_number, happens, key_of, told, used_by, without};
 
 use bitflags::Flags;
 use bstr::decode_utf8;
@@ -134,11 +134,21 @@ fn used_by(sent: InputEvent, bytes: &[u8]) -> usize
     }
 }
 
-/// Puts what the key of an event types, where it fits; nothing where memory ran out.
-fn put_key(alloc: Global, sent: Sent<'_>, params: &[CsiParam], text: &mut [u32]) -> Keyed
-    ensures { IsRead (key_of sent.entry.event params.now sent.entry.bytes.now) (used_by sent.entry.event sent.entry.bytes.now) text.old text.new result
+/// Puts what the key of an event types, where it fits; nothing where memory ran out. Of a sequence that isn't over so many bytes were
+/// looked at.
+fn put_key(
+    alloc: Global,
+    sent: Sent<'_>,
+    params: &[CsiParam],
+    looked: usize,
+    text: &mut [u32],
+) -> Keyed
+    ensures { Answers sent.entry.event params.now sent.entry.bytes.now looked text.old text.new result
         ⊎ ((result ≡ without status.Memory 0) × (text.new ≡ text.old)) }
 {
+    let [_, ..] = sent.bytes else {
+        return without(Status::NoAction, looked);
+    };
     let used = used_by(sent.event, sent.bytes);
     let Some((encoding, key)) = key_of(sent.event, params, sent.bytes) else {
         return without(Status::NoAction, used);
@@ -158,17 +168,19 @@ pub extern "C" fn csicodec_key(alloc: Global, more: u32, bytes: &[u8], text: &mu
         ⊎ IsNoKey more LIMIT bytes.now text.old text.new result }
 {
     let mut params = Vec::new(alloc);
-    let Ok(first) = Events::new(LIMIT).next_in(Dialect::Input, bytes, &mut params) else {
+    let mut events = Events::new(LIMIT);
+    let Ok(first) = events.next_in(Dialect::Input, bytes, &mut params) else {
         return without(Status::Memory, 0);
     };
     if let Some(sent) = first {
-        return put_key(alloc, sent, params.as_slice(), text);
+        return put_key(alloc, sent, params.as_slice(), events.looked, text);
     }
     if more != 0 {
         return without(Status::Truncated, 0);
     }
-    match Events::new(LIMIT).pause(bytes) {
-        Some(sent) => put_key(alloc, sent, &[], text),
+    let mut paused = Events::new(LIMIT);
+    match paused.pause(bytes) {
+        Some(sent) => put_key(alloc, sent, &[], paused.looked, text),
         None => without(Status::Truncated, 0),
     }
 }

@@ -1,4 +1,4 @@
--- What is left of a stream where its styles stay: characters that are shown, styles that hide nothing, and links, where they pass.
+-- What is left of a stream where its styles stay: characters that are shown, known styles but concealed text and fonts, and links, where they pass.
 use Rattle.std.specs.Prelude.{ℕ, ◌≡◌, Bool, true, false, not, List, [], ◌∷◌, ◌++◌, map, filter, if◌then◌else◌, encode_utf8}
 use Rattle.std.specs.List.{AllByRecursion, flat_map}
 use Rattle.std.specs.Char.{IsScalar}
@@ -37,7 +37,7 @@ abbrev pub is_reset : Sgr → Bool
 is_reset sgr.Reset = true
 is_reset s = false
 
--- the styles among the actions that hide nothing, with the colours that stay
+-- the known styles among the actions but concealed text and fonts, with the colours that stay
 abbrev pub kept : Depth → List Action → List Sgr
 kept d [] = []
 kept d (action.Sgr s ∷ actions) = if hides s then kept d actions else reduced d s ∷ kept d actions

@@ -103,7 +103,7 @@ pub struct Passing {
     pub links: bool,
 }
 
-/// The rule that keeps the styles that hide nothing, in their normal form, and ends the output with a reset where one is open; and
+/// The rule that keeps the known styles but concealed text and fonts, in their normal form, and ends the output with a reset where one is open; and
 /// links, where they pass, of which none is left open either.
 #[derive(Drop)]
 pub struct Kept {
@@ -260,7 +260,7 @@ impl Anew<Passing> for Kept {
 /// The text of untrusted bytes and its styles: as [`strip`](crate::strip), but the attributes of text (SGR) stay, in their normal
 /// form, one sequence for each.
 ///
-/// Those that are unknown are dropped, and `ESC [ 8 m`, which hides what follows. Where the last of them is no reset, a reset ends the
+/// Those that are unknown are dropped, and `ESC [ 8 m`, which hides what follows, and the fonts 11 to 19. Where the last of them is no reset, a reset ends the
 /// output, so that nothing of it colours what is written next.
 ///
 /// ```text

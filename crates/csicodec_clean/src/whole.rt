@@ -104,7 +104,7 @@ impl Anew<()> for Dropped {
     fn begin(&mut self, _by: ()) {}
 }
 
-/// The plain text of untrusted bytes: what a terminal would show, and nothing that it would act on but newlines and tabs.
+/// The plain text of untrusted bytes: the characters of its text, and no control but newlines and tabs.
 ///
 /// Every control sequence, escape sequence and control string is dropped, and every control but newline and tab, those of C1 (U+0080
 /// to U+009F) too, and text directly behind `ESC k`, which is a title in tmux and screen. What is no UTF-8 becomes U+FFFD. Each run of text is read by itself, so that no two halves of a character meet

@@ -95,7 +95,7 @@ written as a recording with the same times. A FILE is one if its name ends in
 .cast, and standard input if it begins like one.
 
   --faithful     Leave colours as they are, and each sequence whose normal form
-                 a terminal would read differently.
+                 terminals are known to read differently.
   --text         From a recording, write the filtered stream and no recording.
   -h, --help     Show this text.";
 
@@ -155,7 +155,7 @@ With no FILE, or when FILE is -, read standard input. An asciinema recording is
 written as a recording with the same times. A FILE is one if its name ends in
 .cast, and standard input if it begins like one.
 
-  --colors=256   Replace true colours by the nearest of the palette of 256.
+  --colors=256   Replace true colours by the nearest of the places 16 to 255.
   --colors=16    Replace all colours by the nearest of the first 16.
   --lines        Clean each line by itself, as logs need it. A sequence, string
                  or style that a line leaves open ends with the line. A carriage
@@ -173,7 +173,7 @@ pub const HTML: &str = "\
 usage: csicodec html [OPTION ..] [FILE ..]
 
 Write the FILEs as one HTML page, with their colours and styles. Each line is
-shown as it looks at its end. Nothing from the input gets into a tag, except
+shown as it looks at its end. No text of the input gets into a tag, except
 addresses with --links. The first 16 colours are readable on a light and on a
 dark page. The title is the name of the first FILE.
 

@@ -230,8 +230,8 @@ pub fn append_spans<T: Rewrite>(
 /// A stream that is rewritten as it comes: each control sequence of at most `limit` bytes becomes what `R` writes for it, and
 /// every other byte passes as it is.
 ///
-/// What a control sequence is, and what isn't one, is told by [`Spans`](csicodec_spans::Spans). It doesn't matter how the
-/// stream is cut into the slices that are pushed. After an `Err` the filter and what was appended are of no more use.
+/// What a control sequence is, and what isn't one, is told by [`Spans`](csicodec_spans::Spans). Where its rule writes one text
+/// for each sequence, it doesn't matter how the stream is cut into the slices that are pushed. After an `Err` the filter and what was appended are of no more use.
 ///
 /// ```text
 /// let mut filter = Filter::new(alloc, 65536, NormalForm::new(alloc));

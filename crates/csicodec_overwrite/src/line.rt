@@ -16,7 +16,7 @@ use crate::sides::{delete_columns, erase_columns, loosen, move_all, undo, width}
 use crate::step::Step;
 use std::alloc::{AllocError, Global};
 
-/// The most columns that a movement or an edit goes: no terminal is wider.
+/// The most columns that a movement or an edit goes.
 pub(crate) const WIDEST: u32 = 1024;
 
 /// A line and its cursor, between two of its cells.

@@ -64,7 +64,7 @@ none_again limit (p ∷ ps) m waiting more rest a some o sure left h =
 cut_short : (limit : ℕ) (m a : Mode) (waiting more rest : List ℕ) → IsUnsure limit m waiting → IsUnsure limit a rest → IsCut limit m waiting more rest a → length rest + length waiting ≤ length waiting + length more + 2
 cut_short limit m a waiting more rest o left c = elim (cases_lt (length waiting) 3) [
   | inl few ↦ omega (arith, parts_short limit c.parts m (waiting ++ more) rest a c.first, length-append waiting more)
-  | inr some ↦ omega (arith, none_again limit c.parts m waiting more rest a some o (λ u. omega (arith, some, c.some u)) left c.first)
+  | inr some ↦ omega (arith, none_again limit c.parts m waiting more rest a some o (λ u. omega (arith, some, c.once u)) left c.first)
 ]
 
 handed : (limit again : ℕ) (chunks : List (List ℕ)) (m : Mode) (waiting : List ℕ) → IsUnsure limit m waiting → HandsOut limit m waiting chunks again → again ≤ length waiting + (length (concat chunks) + 2 * length chunks)

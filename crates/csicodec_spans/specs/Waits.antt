@@ -7,11 +7,15 @@ use Rattle.csicodec_spans.specs.Parts.{Part, AreFirstParts, IsUnsure}
 abbrev pub WaitsOn : Mode → List ℕ → List ℕ → List ℕ → Mode → Type 0
 WaitsOn m waiting bytes rest after = (rest ≡ waiting ++ bytes) × (after ≡ m)
 
--- it is handed out, since something can be cut, or since two bytes at most waited: the parts in front are cut, and what isn't sure behind them waits
+-- what waited is handed out again only where something can be cut of it, unless it is two bytes at most
+abbrev pub IsOnce : ℕ → Mode → List ℕ → List ℕ → Type 0
+IsOnce limit m waiting bytes = IsUnsure limit m (waiting ++ bytes) → length waiting < 3
+
+-- it is handed out: the parts in front are cut, and what isn't sure behind them waits
 pub record IsCut (limit : ℕ) (m : Mode) (waiting bytes rest : List ℕ) (after : Mode) : Type 0 where
   pub parts : List Part
   pub first : AreFirstParts limit m (waiting ++ bytes) parts rest after
-  pub some : IsUnsure limit m (waiting ++ bytes) → length waiting < 3
+  pub once : IsOnce limit m waiting bytes
 
 -- a stream that comes in chunks, and how many bytes that waited were handed out again in all
 abbrev pub HandsOut : ℕ → Mode → List ℕ → List (List ℕ) → ℕ → Type 0

@@ -4,6 +4,7 @@ ghost use Rattle.csicodec_tokens.specs.Digits.{IsDigit, largest};
 ghost use Rattle.csicodec_spans.specs.declared.table.Mode.{Mode};
 ghost use Rattle.csicodec_spans.specs.declared.table.Mode.TheVariants.{Text};
 ghost use Rattle.csicodec_spans.specs.Parts.{IsUnsure};
+ghost use Rattle.csicodec_spans.specs.Waits.{IsOnce};
 ghost use Rattle.csicodec_spans.specs.Private.Begun.{Adds, IsBegun, Stops, Tells};
 
 use crate::table::Mode;
@@ -169,8 +170,7 @@ impl Waiting {
             × (all.items ≡ self.old.bytes ++ bytes.now))) }
         // What waited isn't handed out again before something can be cut of it, unless that is two bytes at most.
         ensures once { IfOk result (λ o. IfSome o (λ _.
-            IsUnsure self.old.limit self.old.mode (self.old.bytes ++ bytes.now)
-            → length self.old.bytes < 3)) }
+            IsOnce self.old.limit self.old.mode self.old.bytes bytes.now)) }
         ensures limit { self.new.limit ≡ self.old.limit }
     {
         let room = self.limit.saturating_sub(self.bytes.len());

@@ -81,8 +81,8 @@ impl<T: Drop> From<AllocFailed<T>> for DecodeError {
     }
 }
 
-/// Why a run from a reader to a writer ended early. With any of these but `Write`, `normalise` has written nothing; a filter has
-/// written a prefix of what it makes of the whole input.
+/// Why a run from a reader to a writer ended early. With any of these but `Write`, `normalise` has written nothing; a filter whose
+/// rule writes one text for each sequence has written a prefix of what it makes of the whole input.
 ///
 /// ```text
 /// normalise(alloc, &mut input, &mut output)      // of "\x1b[m\x1b[1", Err(Decode(Read { start: 3, .. }))

@@ -113,7 +113,7 @@ fn refused<R: Read>(input: &mut R, count: usize, error: DecodeError) -> RunError
 }
 
 /// The texts of what was read, and of what the reader still has. Bytes are kept until they are decoded. A sequence that isn't whole
-/// is tried again only once it is twice as long, so that each byte is looked at a bounded number of times.
+/// is tried again only once it is twice as long.
 #[inline(never)]
 fn stream_into<R: Read>(
     alloc: Global,

@@ -7,7 +7,7 @@ ghost use Rattle.csicodec_terminal.specs.Terminal.{Terminal, has_unknown, is_ope
 
 use csicodec_base::CsiParam;
 
-/// A list has one list of actions as terminals take it.
+/// A list has at most one list of actions as terminals take it.
 pub fn one_reading(params: &[CsiParam], parameters_truncated: bool, control: char)
     ensures { (one other : List Action) →
         Terminal params.now parameters_truncated control one →

@@ -20,7 +20,7 @@ pub enum Rewriter {
     Normal(Filter<NormalForm>),
     /// The same, but of what terminals read otherwise.
     Faithful(Filter<Faithful>),
-    /// Each in its shortest spelling, runs of attributes as one.
+    /// Each in the shortest of its spellings that is found, runs of attributes as one.
     Short(Compactor),
     /// Plain text.
     Plain(Cleaner<Dropped>),

@@ -1,4 +1,4 @@
-//! What a terminal would show of each line at its end.
+//! Each line as it stands when it ends.
 
 use crate::spelling::{both, bytes_of, judged};
 use csicodec_clean::strip;

@@ -12,7 +12,7 @@ returns-in_default-clause-takes g c =
     let now = c.self.inside in (
       [],
       rw (← c.self.view_is, same)
-      (takes_nothing g.R.Rule.gives (record { rule = now.rule; mode = now.waiting.mode; titled = now.titled; bytes = now.waiting.bytes; held = now.held.items }) c.args.bytes.now (rw c.self.invariant at unsure)),
+          (takes_nothing g.R.Rule.gives (record { rule = now.rule; mode = now.waiting.mode; titled = now.titled; bytes = now.waiting.bytes; held = now.held.items }) c.args.bytes.now (rw c.self.invariant at unsure)),
       sym (append-nil c.args.out.now.items),
     )
 
@@ -39,9 +39,9 @@ returns-clause-takes g c =
     let same : c.keep.new.self.bytes ≡ rest = grind (arith, common_steps, c.keep.ensures, c.deref.ensures.value, c.len.ensures, kept) in (
       text,
       rw (← c.self.view_is)
-      (takes_from g.R.Rule.gives (record { rule = now.rule; mode = now.waiting.mode; titled = now.titled; bytes = now.waiting.bytes; held = now.held.items })
-      (record { rule = c.append_clean.new.rule; mode = c.keep.new.self.mode; titled = c.append_clean.new.titled; bytes = c.keep.new.self.bytes; held = c.append_clean.new.held.items }) c.args.bytes.now text c.deref.result.now rest
-      (c.deref.ensures.value ∙ whole) same (rw c.keep.ensures c.in_ok-rest.ensures.unsure) (rw (c.keep.ensures) (rw (c.mode.ensures, taken) at goes))),
+          (takes_from g.R.Rule.gives (record { rule = now.rule; mode = now.waiting.mode; titled = now.titled; bytes = now.waiting.bytes; held = now.held.items })
+          (record { rule = c.append_clean.new.rule; mode = c.keep.new.self.mode; titled = c.append_clean.new.titled; bytes = c.keep.new.self.bytes; held = c.append_clean.new.held.items }) c.args.bytes.now text c.deref.result.now rest
+          (c.deref.ensures.value ∙ whole) same (rw c.keep.ensures c.in_ok-rest.ensures.unsure) (rw (c.keep.ensures) (rw (c.mode.ensures, taken) at goes))),
       out,
     )
 

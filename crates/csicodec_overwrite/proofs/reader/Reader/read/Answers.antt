@@ -10,7 +10,7 @@ returns-in_default-clause-reads c =
     let now = c.self.inside in (
       [],
       rw (← c.self.view_is, same)
-      (reads_nothing (record { mode = now.waiting.mode; titled = now.titled; bytes = now.waiting.bytes; held = now.held.items }) c.args.bytes.now (rw c.self.invariant.0 at unsure)),
+          (reads_nothing (record { mode = now.waiting.mode; titled = now.titled; bytes = now.waiting.bytes; held = now.held.items }) c.args.bytes.now (rw c.self.invariant.0 at unsure)),
       sym (append-nil c.args.steps.now.items),
     )
 

@@ -1,6 +1,7 @@
 //! What a program tells of a run that failed: its message, and the status.
 ghost use Rattle.std.specs.Prelude.{◌≡◌, Some};
 ghost use Rattle.csicodec_command.specs.Failure.{found_text, line, status};
+ghost use Rattle.csicodec_command.specs.Runs.{ends_run};
 ghost use Rattle.csicodec_command.specs.declared.failure.Failure.TheVariants.{Run as Ran};
 
 use csicodec_assemble::Fault;
@@ -100,6 +101,13 @@ impl Failure {
             | Failure::NotPlain(_, _, _) => 1,
             Failure::Run(error) => error.status(),
         }
+    }
+
+    /// Whether no other input can be worked on: nothing can be written, or memory ran out.
+    pub fn ends_run(&self) -> bool
+        ensures { result ≡ ends_run self.now }
+    {
+        matches!(self, Failure::Run(RunError::Write | RunError::Memory))
     }
 }
 

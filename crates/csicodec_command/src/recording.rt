@@ -1,5 +1,8 @@
 //! Recordings of asciinema (asciicast, versions 2 and 3): a line of JSON with the version, and one for each event, `[time, "o",
 //! "data"]` for what a program wrote. Times are seconds: in version 2 from the begin, in version 3 from the event before.
+ghost use Rattle.std.specs.Prelude.{◌≡◌, ◌∷◌, ℕ, List, true, IfErr, IfOk, OnSome};
+ghost use Rattle.csicodec_streams.specs.declared.error.RunError.{RunError};
+ghost use Rattle.csicodec_command.specs.declared.failure.Failure.TheVariants.{Run as Ran};
 
 use crate::failure::Failure;
 use csicodec_streams::RunError;
@@ -59,10 +62,12 @@ pub fn line_front(bytes: &[u8]) -> (&[u8], &[u8]) {
 }
 
 /// The first line of an input, where that is whole and may be an object of JSON.
-fn object_front(bytes: &[u8]) -> Option<&str> {
-    if bytes.first().copied() != Some(b'{') {
+fn object_front(bytes: &[u8]) -> Option<&str>
+    ensures { OnSome result ((rest : List ℕ) × (bytes.now ≡ 123 ∷ rest)) }
+{
+    let [b'{', ..] = bytes else {
         return None;
-    }
+    };
     let (line, _behind) = line_front(bytes);
     let line = line.strip_suffix(b"\n".as_slice())?;
     std::str::from_utf8(line).ok()
@@ -77,7 +82,10 @@ fn is_header(object: &Value) -> bool {
 }
 
 /// Whether the first bytes of an input are the first line of a recording, which is an object of JSON with the version.
-pub fn is_recording(alloc: Global, bytes: &[u8]) -> Result<bool, Failure> {
+pub fn is_recording(alloc: Global, bytes: &[u8]) -> Result<bool, Failure>
+    ensures object { IfOk result (λ is. is ≡ true → (rest : List ℕ) × (bytes.now ≡ 123 ∷ rest)) }
+    ensures err { IfErr result (λ e. e ≡ Ran RunError.Memory) }
+{
     let Some(line) = object_front(bytes) else {
         return Ok(false);
     };

@@ -1,4 +1,11 @@
 //! A run of a program: its words, its inputs one after the other, and what it tells of what failed.
+ghost use Rattle.std.specs.Prelude.{◌≡◌, ◌⊎◌, ◌∷◌, [], ℕ, List, Option, None, Some, true, map, eqb, codes, IfErr, IfOk};
+ghost use Rattle.std.specs.List.{ends_with};
+ghost use Rattle.std.specs.Io.KnownBytes.{Consumes};
+ghost use Rattle.csicodec_streams.specs.declared.error.RunError.{RunError};
+ghost use Rattle.csicodec_command.specs.Failure.{status};
+ghost use Rattle.csicodec_command.specs.declared.failure.Failure.TheVariants.{Run as Ran};
+ghost use Rattle.csicodec_command.specs.Runs.{Asked, Closes, HasTurn, IsReadBy, IsRun, IsTold, MayBeRecording, StepsOf, Through, failure_of, first_of, names_of};
 
 use crate::command::{Command, Request, UNREADABLE, Wrong, command_of};
 use crate::failure::{Failure, GONE};
@@ -9,7 +16,7 @@ use csicodec_streams::{CHUNK, RunError, receive};
 use std::alloc::{AllocError, Global};
 use std::env::{Env, FillError};
 use std::fs::File;
-use std::io::{self, BufRead, BufReader, ErrorKind, IsTerminal, Read, Stdin, Stdout, Write};
+use std::io::{self, BufRead, BufReader, ErrorKind, IsTerminal, Read, Stdin, Write};
 
 /// The name of standard input.
 const INPUT: &str = "-";
@@ -27,15 +34,16 @@ pub enum Recordings {
 
 /// What is made of one input after the other.
 pub trait Worker {
+    /// How each step goes that is asked of it.
+    ghost steps: { StepsOf Self };
+
     /// Which inputs are recordings.
-    fn recordings(&self) -> Recordings {
-        Recordings::Known
-    }
+    fn recordings(&self) -> Recordings;
 
     /// The input of this name comes next, `-` for standard input; it could be opened.
-    fn begin<W: Write>(&mut self, _name: &str, _output: &mut W) -> Result<(), RunError> {
-        Ok(())
-    }
+    fn begin<W: Write>(&mut self, name: &str, output: &mut W) -> Result<(), Failure>
+        ensures { steps (Asked.Next name.now) (self.old, W.contents output.old) result
+            (self.new, W.contents output.new) };
 
     /// Works on this input, to its end.
     fn read<R: Read, W: Write>(
@@ -43,7 +51,9 @@ pub trait Worker {
         alloc: Global,
         input: &mut R,
         output: &mut W,
-    ) -> Result<(), Failure>;
+    ) -> Result<(), Failure>
+        ensures { steps (Asked.Stream (R.remaining input.old)) (self.old, W.contents output.old) result
+            (self.new, W.contents output.new) };
 
     /// Works on this recording of asciinema.
     fn read_cast<R: BufRead, W: Write>(
@@ -51,14 +61,27 @@ pub trait Worker {
         alloc: Global,
         input: &mut R,
         output: &mut W,
-    ) -> Result<(), Failure> {
-        self.read(alloc, input, output)
-    }
+    ) -> Result<(), Failure>
+        ensures { steps (Asked.Recording (R.remaining input.old)) (self.old, W.contents output.old) result
+            (self.new, W.contents output.new) };
 
     /// There are no more inputs.
-    fn end<W: Write>(&mut self, _output: &mut W) -> Result<(), RunError> {
-        Ok(())
-    }
+    fn end<W: Write>(&mut self, output: &mut W) -> Result<(), Failure>
+        ensures { steps Asked.End (self.old, W.contents output.old) result
+            (self.new, W.contents output.new) };
+}
+
+/// Where inputs come from, by their names.
+pub trait Inputs {
+    type Input: Read + Drop;
+
+    /// What the input of a name has, where that is known.
+    ghost holds: { Self → List ℕ → Option (List ℕ) };
+
+    /// Opens an input. Where that fails it is told, and this is the status.
+    fn open(&self, name: &str) -> Result<Self::Input, u8>
+        ensures opened { IfOk result (λ input. Self.Input.remaining input ≡ holds self.now name.now) }
+        ensures failed { IfErr result (λ n. n ≡ 2) };
 }
 
 /// Whether a write failed since the reader went away.
@@ -66,24 +89,25 @@ fn is_gone(error: io::Error) -> bool {
     error.kind() == ErrorKind::BrokenPipe
 }
 
-/// Standard output, and why its last write failed, if it did.
+/// An output, and why its last write failed, if it did.
 #[derive(Drop)]
-struct Output {
-    out: Stdout,
+pub struct Output<W> {
+    out: W,
     fault: Option<io::Error>,
 }
 
-impl Output {
-    /// Whether its reader went away.
-    fn is_gone(&self) -> bool {
-        match self.fault {
-            Some(fault) => is_gone(fault),
-            None => false,
-        }
+impl<W> Output<W> {
+    /// To which nothing was written yet.
+    pub fn new(out: W) -> Output<W>
+        ensures { result.out ≡ out }
+    {
+        Output { out, fault: None }
     }
 }
 
-impl Write for Output {
+impl<W: Write> Write for Output<W> {
+    ghost contents = { λ o. W.contents o.out };
+
     fn write(&mut self, bytes: &[u8]) -> io::Result<usize> {
         let done = self.out.write(bytes);
         self.fault = done.err();
@@ -95,56 +119,66 @@ impl Write for Output {
     }
 }
 
-/// Where an input comes from.
+/// A file, or standard input.
 #[derive(Drop)]
-enum Source {
+pub enum Source {
     Standard(Stdin),
     Named(File),
 }
 
+impl Read for Source {
+    fn read(&mut self, bytes: &mut [u8]) -> io::Result<usize> {
+        match self {
+            Source::Standard(input) => input.read(bytes),
+            Source::Named(file) => file.read(bytes),
+        }
+    }
+}
+
+/// Files, and standard input. std says of neither what it has.
+impl Inputs for HostRuntime {
+    type Input = Source;
+
+    ghost holds = { λ _ _. None };
+
+    fn open(&self, name: &str) -> Result<Source, u8> {
+        if name == INPUT {
+            Ok(Source::Standard(self.stdin()))
+        } else {
+            Ok(Source::Named(opened(self, name)?))
+        }
+    }
+}
+
 /// An input, and why its last read failed, if it did.
 #[derive(Drop)]
-struct Input {
-    from: Source,
+struct Input<R> {
+    from: R,
     fault: Option<io::Error>,
 }
 
-impl Read for Input {
+impl<R: Read> Read for Input<R> {
+    ghost remaining = { λ i. R.remaining i.from };
+
     fn read(&mut self, bytes: &mut [u8]) -> io::Result<usize> {
-        let done = match &mut self.from {
-            Source::Standard(input) => input.read(bytes),
-            Source::Named(file) => file.read(bytes),
-        };
+        let done = self.from.read(bytes);
         self.fault = done.err();
         done
     }
 }
 
-/// How the work on an input ended that failed, with the status of that.
-#[derive(Clone, Copy)]
-enum Ended {
-    /// The next input can be worked on.
-    Input(u8),
-    /// Nothing can.
-    Run(u8),
-}
-
-/// The failure of an input, or of the whole run where nothing can be written or memory ran out.
-fn end_of(failure: Failure, status: u8) -> Ended {
-    match failure {
-        Failure::Run(RunError::Write | RunError::Memory) => Ended::Run(status),
-        _ => Ended::Input(status),
-    }
-}
-
 /// Whether a file is a recording of asciinema, by its name.
-pub fn is_cast(name: &str) -> bool {
+pub fn is_cast(name: &str) -> bool
+    ensures { result ≡ ends_with eqb name.now (codes ".cast") }
+{
     name.ends_with(".cast")
 }
 
 /// Says what failed, at which file where it is one that was read, and the system's reason, where there is one; the status that the
 /// program ends with.
-pub fn failed(rt: &HostRuntime, failure: Failure, name: &str, reason: Option<io::Error>) -> u8 {
+pub fn failed(rt: &HostRuntime, failure: Failure, name: &str, reason: Option<io::Error>) -> u8
+    ensures { result ≡ status failure }
+{
     let is_of_file = name != INPUT && !matches!(failure, Failure::Run(RunError::Write));
     let name = name.escape_debug();
     // Where standard error is gone too, the status is all that can be told.
@@ -164,21 +198,23 @@ fn stopped(
     failure: Failure,
     name: &str,
     read: Option<io::Error>,
-    output: &Output,
-) -> u8 {
-    if output.is_gone() {
-        return GONE;
-    }
-    let reason = match failure {
-        Failure::Run(RunError::Read) => read,
-        Failure::Run(RunError::Write) => output.fault,
+    written: Option<io::Error>,
+) -> u8
+    ensures { IsTold failure result }
+{
+    let reason = match (failure, written) {
+        (Failure::Run(RunError::Write), Some(fault)) if is_gone(fault) => return GONE,
+        (Failure::Run(RunError::Write), _) => written,
+        (Failure::Run(RunError::Read), _) => read,
         _ => None,
     };
     failed(rt, failure, name, reason)
 }
 
 /// Opens a file; the status, if that failed.
-fn opened(rt: &HostRuntime, name: &str) -> Result<File, u8> {
+fn opened(rt: &HostRuntime, name: &str) -> Result<File, u8>
+    ensures { IfErr result (λ n. n ≡ 2) }
+{
     if let Some(name) = name.strip_prefix(UNREADABLE) {
         return Err(failed(rt, Failure::Open, name, None));
     }
@@ -201,58 +237,69 @@ pub fn text_of(rt: &HostRuntime, name: &str) -> Result<String, u8> {
     }
 }
 
-/// Reads the first bytes of an input: at least its first line, if that may be an object of JSON and there is room for it.
-fn receive_front(input: &mut Input, chunk: &mut [u8]) -> Result<usize, RunError> {
-    let mut len = 0usize;
-    for _ in 0..chunk.len() {
-        let Some(room) = chunk.get_mut(len..) else {
-            break;
+/// Reads the first bytes of an input: at least its first line, if that may be an object of JSON and isn't longer than a chunk.
+#[tactic(auto, using(crate::proofs::Turns::none_read, crate::proofs::Turns::read_more))]
+fn receive_front<R: Read>(alloc: Global, input: &mut R) -> Result<Vec<u8>, RunError>
+    ensures read { IfOk result (λ front. Consumes (R.remaining input.old) (R.remaining input.new) front.items) }
+    ensures err { IfErr result (λ e. (e ≡ RunError.Read) ⊎ (e ≡ RunError.Memory)) }
+{
+    let mut front = Vec::new(alloc);
+    let mut chunk = [0u8; CHUNK];
+    for _ in 0..CHUNK {
+        let Some(room) = chunk.get_mut(front.len()..) else {
+            return Ok(front);
         };
-        if room.is_empty() {
-            break;
-        }
-        let count = receive(input, room)?;
-        let piece = room.get(..count).unwrap_or(&[]);
-        len = len.saturating_add(count);
-        let is_whole = piece.is_empty() || piece.contains(&b'\n');
-        if is_whole || chunk.first().copied() != Some(b'{') {
-            break;
+        let len = receive(input, room)?;
+        let piece = &room[..len];
+        let Ok(()) = front.extend_from_slice(piece) else {
+            return Err(RunError::Memory);
+        };
+        let is_whole = piece.is_empty() || piece.contains(&b'\n') || front.len() >= CHUNK;
+        if is_whole || front.first().copied() != Some(b'{') {
+            return Ok(front);
         }
     }
-    Ok(len)
+    Ok(front)
 }
 
-/// Whether the input of this name is a recording, if inputs may be, and how many of its first bytes were read to know it.
+/// Whether the input of this name is a recording, if inputs may be, and which of its first bytes were read to know it.
 #[inline(never)]
-fn look_ahead(
+fn look_ahead<R: Read>(
     alloc: Global,
     recordings: Recordings,
     name: &str,
-    input: &mut Input,
-    chunk: &mut [u8],
-) -> Result<(bool, usize), Failure> {
-    if name != INPUT || recordings != Recordings::Known {
-        return Ok((is_cast(name), 0));
+    input: &mut R,
+) -> Result<(bool, Vec<u8>), Failure>
+    ensures front { IfOk result (λ seen. Consumes (R.remaining input.old) (R.remaining input.new) seen.1.items) }
+    ensures known { IfOk result (λ seen. seen.0 ≡ true → MayBeRecording name.now (R.remaining input.old)) }
+    ensures err { IfErr result (λ e. (e ≡ Ran RunError.Read) ⊎ (e ≡ Ran RunError.Memory)) }
+{
+    match recordings {
+        Recordings::Never => Ok((false, Vec::new(alloc))),
+        Recordings::Known if name == INPUT => {
+            let front = receive_front(alloc, input)?;
+            Ok((is_recording(alloc, &front)?, front))
+        }
+        _ => Ok((is_cast(name), Vec::new(alloc))),
     }
-    let len = receive_front(input, chunk)?;
-    let front = chunk.get(..len).unwrap_or(&[]);
-    Ok((is_recording(alloc, front)?, len))
 }
 
 /// Works on the input of this name, which is read from there.
-fn read_through<T: Worker>(
+fn read_through<T: Worker, R: Read, W: Write>(
     alloc: Global,
     work: &mut T,
     name: &str,
-    input: &mut Input,
-    output: &mut Output,
-) -> Result<(), Failure> {
+    input: &mut R,
+    output: &mut W,
+) -> Result<(), Failure>
+    ensures { IsReadBy T.steps name.now (R.remaining input.old) (work.old, W.contents output.old) result
+        (work.new, W.contents output.new) }
+{
     work.begin(name, output)?;
-    let mut chunk = [0u8; CHUNK];
     let recordings = work.recordings();
-    let (is_recording, len) = look_ahead(alloc, recordings, name, input, &mut chunk)?;
-    let mut whole = chunk.get(..len).unwrap_or(&[]).chain(input);
-    if recordings == Recordings::Never || !is_recording {
+    let (is_recording, front) = look_ahead(alloc, recordings, name, input)?;
+    let mut whole = front.as_slice().chain(input);
+    if !is_recording {
         return work.read(alloc, &mut whole, output);
     }
     match BufReader::new(alloc, &mut whole) {
@@ -261,30 +308,28 @@ fn read_through<T: Worker>(
     }
 }
 
-/// Where the input of this name comes from; the status, if it can't be opened.
-#[inline(never)]
-fn source_of(rt: &HostRuntime, name: &str) -> Result<Source, u8> {
-    if name == INPUT {
-        Ok(Source::Standard(rt.stdin()))
-    } else {
-        Ok(Source::Named(opened(rt, name)?))
-    }
-}
-
-/// Works on the input of this name, and tells what failed.
-fn work_on<T: Worker>(
+/// Works on the input of this name, and tells what failed, with the status of that.
+fn work_on<T: Worker, I: Inputs, W: Write>(
     rt: &HostRuntime,
+    inputs: &I,
     work: &mut T,
     name: &str,
-    output: &mut Output,
-) -> Result<(), Ended> {
-    let from = source_of(rt, name).map_err(Ended::Input)?;
+    output: &mut Output<W>,
+) -> Result<(), (Failure, u8)>
+    ensures turn { HasTurn T.steps (I.holds inputs.now) name.now (work.old, W.contents output.old.out)
+        (failure_of result) (work.new, W.contents output.new.out) }
+    ensures told { IfErr result (λ e. IsTold e.0 e.1) }
+{
+    let from = match inputs.open(name) {
+        Ok(from) => from,
+        Err(status) => return Err((Failure::Open, status)),
+    };
     let mut input = Input { from, fault: None };
     match read_through(rt.alloc(), work, name, &mut input, output) {
         Ok(()) => Ok(()),
         Err(failure) => {
-            let status = stopped(rt, failure, name, input.fault, output);
-            Err(end_of(failure, status))
+            let status = stopped(rt, failure, name, input.fault, output.fault);
+            Err((failure, status))
         }
     }
 }
@@ -297,46 +342,103 @@ fn say_waits(rt: &HostRuntime) {
     }
 }
 
-/// Works on these inputs, one after the other, those behind one that failed too; the status of the first that did.
-fn work_on_all<T: Worker>(
+/// Works on these inputs, one after the other, those behind one that failed too; the status of the first that did. The error is the
+/// status of one that ends the run.
+fn work_on_all<T: Worker, I: Inputs, W: Write>(
     rt: &HostRuntime,
+    inputs: &I,
     work: &mut T,
-    files: &[&str],
-    output: &mut Output,
-) -> Result<Option<u8>, u8> {
+    names: &[&str],
+    output: &mut Output<W>,
+) -> Result<Option<u8>, u8>
+    ensures all { IfOk result (λ first. (failed : List ℕ) × (first ≡ first_of failed)
+        × Through T.steps (I.holds inputs.now) (map (λ n. n.now) names.now) (work.old, W.contents output.old.out)
+        failed None (work.new, W.contents output.new.out)) }
+    ensures stopped { IfErr result (λ n. (failed : List ℕ)
+        × Through T.steps (I.holds inputs.now) (map (λ n. n.now) names.now) (work.old, W.contents output.old.out)
+        failed (Some n) (work.new, W.contents output.new.out)) }
+{
     let mut first = None;
-    for name in files {
-        match work_on(rt, work, name, output) {
+    for name in names {
+        match work_on(rt, inputs, work, name, output) {
             Ok(()) => {}
-            Err(Ended::Input(status)) => first = first.or(Some(status)),
-            Err(Ended::Run(status)) => return Err(status),
+            Err((failure, status)) => {
+                if failure.ends_run() {
+                    return Err(status);
+                }
+                first = first.or(Some(status));
+            }
         }
     }
     Ok(first)
 }
 
-/// Works on these inputs, or on standard input where there are none. An input that can't be opened or read, or is refused, doesn't
-/// stop the others; the status of the first that failed.
-pub fn work_through<T: Worker>(rt: &HostRuntime, work: &mut T, files: &[&str]) -> Result<(), u8> {
-    let mut output = Output {
-        out: rt.stdout(),
-        fault: None,
+/// Writes what stands behind the inputs, of which the first that failed has this status; the status of the run.
+fn close<T: Worker, W: Write>(
+    rt: &HostRuntime,
+    work: &mut T,
+    first: Option<u8>,
+    output: &mut Output<W>,
+) -> Result<(), u8>
+    ensures { Closes T.steps first (work.old, W.contents output.old.out) result
+        (work.new, W.contents output.new.out) }
+{
+    match work.end(output) {
+        Err(failure) => Err(stopped(rt, failure, INPUT, None, output.fault)),
+        Ok(()) => match first {
+            Some(status) => Err(status),
+            None => Ok(()),
+        },
+    }
+}
+
+/// Works on these inputs, and writes what stands behind them, unless the only one failed.
+fn run_named<T: Worker, I: Inputs, W: Write>(
+    rt: &HostRuntime,
+    inputs: &I,
+    work: &mut T,
+    names: &[&str],
+    output: &mut Output<W>,
+) -> Result<(), u8>
+    ensures { IsRun T.steps (I.holds inputs.now) (map (λ n. n.now) names.now) (work.old, W.contents output.old.out)
+        result (work.new, W.contents output.new.out) }
+{
+    let first = work_on_all(rt, inputs, work, names, output)?;
+    let Some(status) = first else {
+        return close(rt, work, None, output);
     };
+    if names.len() == 1 {
+        return Err(status);
+    }
+    close(rt, work, first, output)
+}
+
+/// Works on these inputs, or on standard input where there are none, one after the other. One that can't be opened or read, or is
+/// refused, is told, and the others are worked on; the status is that of the first. Where a write fails or memory runs out the run ends,
+/// and the status is that of this.
+pub fn run_through<T: Worker, I: Inputs, W: Write>(
+    rt: &HostRuntime,
+    inputs: &I,
+    work: &mut T,
+    files: &[&str],
+    output: &mut Output<W>,
+) -> Result<(), u8>
+    ensures { IsRun T.steps (I.holds inputs.now) (names_of files.now) (work.old, W.contents output.old.out) result
+        (work.new, W.contents output.new.out) }
+{
+    if files.is_empty() {
+        run_named(rt, inputs, work, &[INPUT], output)
+    } else {
+        run_named(rt, inputs, work, files, output)
+    }
+}
+
+/// The same of files, standard input and standard output.
+pub fn work_through<T: Worker>(rt: &HostRuntime, work: &mut T, files: &[&str]) -> Result<(), u8> {
     if files.is_empty() {
         say_waits(rt);
     }
-    let inputs: &[&str] = if files.is_empty() { &[INPUT] } else { files };
-    let first = work_on_all(rt, work, inputs, &mut output)?;
-    if let (Some(status), [_]) = (first, inputs) {
-        return Err(status);
-    }
-    if let Err(error) = work.end(&mut output) {
-        return Err(stopped(rt, Failure::Run(error), INPUT, None, &output));
-    }
-    match first {
-        Some(status) => Err(status),
-        None => Ok(()),
-    }
+    run_through(rt, rt, work, files, &mut Output::new(rt.stdout()))
 }
 
 /// Whether a word is the path of a file that can be read.

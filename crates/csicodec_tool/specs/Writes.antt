@@ -1,5 +1,5 @@
 -- What `filter`, `compact`, `strip`, `clean` and `html` write of an input.
-use Rattle.std.specs.Prelude.{ℕ, ◌≡◌, ◌⊎◌, ⊤, true, false, List, [], ◌++◌, Option, Result, OnOk, OnErr, IfSome, IsErr}
+use Rattle.std.specs.Prelude.{ℕ, ◌≡◌, ◌⊎◌, ⊤, true, false, List, [], ◌++◌, Option, Result, Ok, OnOk, OnErr, IfSome, IsErr}
 use Rattle.std.specs.Io.KnownBytes.{Appends}
 use Rattle.csicodec_spans.specs.declared.table.Mode.TheVariants.{Text as Plain}
 use Rattle.csicodec_streams.specs.declared.error.RunError.{RunError}
@@ -15,6 +15,8 @@ use Rattle.csicodec_html.specs.declared.markup.Markup.{Markup}
 use Rattle.csicodec_html.specs.declared.sheet.TheConstants.{BODY, HEAD, STYLE}
 use Rattle.csicodec_html.specs.Page.{PageWith}
 use Rattle.csicodec_html.specs.Sheet.{IsTitle, sheet}
+use Rattle.csicodec_command.specs.Runs.{StepsOf, Next, Stream, Recording, End}
+use Rattle.csicodec_tool.specs.declared.rewrite.Job.{Job}
 use Rattle.csicodec_tool.specs.declared.rewrite.Work.{Work}
 use Rattle.csicodec_tool.specs.declared.rewrite.Work.TheVariants as work
 
@@ -104,3 +106,11 @@ pub record WroteBehind {A E : Type 0} (w : Work) (result : Result A E) (new : Wo
   pub heads : IsHeaded w headed new old ahead
   pub wrote : OnOk headed (Wrote new result known ahead out)
   pub failed : OnErr headed (IsErr result × (out ≡ ahead))
+
+-- How the steps of a job go: nothing is done ahead of an input, and a stream is written behind what stands ahead of it. Of a recording and of
+-- what stands behind the last input nothing is said.
+abbrev pub JobSteps : StepsOf Job
+JobSteps (Next name) start result end = (result ≡ Ok tt) × (end ≡ start)
+JobSteps (Stream known) start result end = WroteBehind start.0.work result end.0.work known start.1 end.1
+JobSteps (Recording known) start result end = ⊤
+JobSteps End start result end = ⊤

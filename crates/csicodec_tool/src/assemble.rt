@@ -1,11 +1,12 @@
 //! What lines of JSON stand for, as they come.
+ghost use Rattle.std.specs.Prelude.{⊤};
 
 use csicodec_assemble::{Assembler, Refusal};
 use csicodec_command::{Failure, Recordings, Worker};
 use csicodec_remake::Remaker;
 use csicodec_streams::{CHUNK, RunError, receive, send};
 use std::alloc::Global;
-use std::io::{Read, Write};
+use std::io::{BufRead, Read, Write};
 
 /// One input after the other, each of lines of its own.
 #[derive(Drop)]
@@ -51,9 +52,15 @@ fn failure_of(refusal: Refusal, line: u64) -> Failure {
 }
 
 impl Worker for Assembly {
+    ghost steps = { λ _ _ _ _. ⊤ };
+
     /// A line of JSON is one, whatever it has.
     fn recordings(&self) -> Recordings {
         Recordings::Never
+    }
+
+    fn begin<W: Write>(&mut self, _name: &str, _output: &mut W) -> Result<(), Failure> {
+        Ok(())
     }
 
     /// Each read's lines are written before the next, those ahead of one that is refused too.
@@ -76,5 +83,18 @@ impl Worker for Assembly {
             }
         }
         Err(Failure::Run(RunError::Read))
+    }
+
+    fn read_cast<R: BufRead, W: Write>(
+        &mut self,
+        alloc: Global,
+        input: &mut R,
+        output: &mut W,
+    ) -> Result<(), Failure> {
+        self.read(alloc, input, output)
+    }
+
+    fn end<W: Write>(&mut self, _output: &mut W) -> Result<(), Failure> {
+        Ok(())
     }
 }

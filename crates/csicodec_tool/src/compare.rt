@@ -1,8 +1,9 @@
 //! What differs between two streams in words.
+ghost use Rattle.std.specs.Prelude.{⊤};
 
 use crate::diff::{DiffLine, Origin, lines_of};
 use crate::explained_cast::explain_cast;
-use csicodec_command::{Failure, Worker, work_through};
+use csicodec_command::{Failure, Recordings, Worker, work_through};
 use csicodec_page::Explainer;
 use csicodec_sheet::Style;
 use csicodec_streams::{RunError, send};
@@ -100,6 +101,16 @@ impl<'a> Compared<'a> {
 }
 
 impl<'a> Worker for Compared<'a> {
+    ghost steps = { λ _ _ _ _. ⊤ };
+
+    fn recordings(&self) -> Recordings {
+        Recordings::Known
+    }
+
+    fn begin<W: Write>(&mut self, _name: &str, _output: &mut W) -> Result<(), Failure> {
+        Ok(())
+    }
+
     fn read<R: Read, W: Write>(
         &mut self,
         alloc: Global,
@@ -124,16 +135,16 @@ impl<'a> Worker for Compared<'a> {
         self.keep(&mut explainer, text)
     }
 
-    fn end<W: Write>(&mut self, output: &mut W) -> Result<(), RunError> {
+    fn end<W: Write>(&mut self, output: &mut W) -> Result<(), Failure> {
         let (Some(first), Some(second)) = (self.texts.first(), self.texts.get(1)) else {
             return Ok(());
         };
         match told(self.alloc, first, second) {
             Ok(told) => {
                 self.differs = !told.is_empty();
-                send(output, &told)
+                Ok(send(output, &told)?)
             }
-            Err(_) => Err(RunError::Memory),
+            Err(_) => Err(Failure::Run(RunError::Memory)),
         }
     }
 }

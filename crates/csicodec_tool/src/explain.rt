@@ -1,4 +1,5 @@
 //! What `csicodec explain` does: it tells in words what stands in a stream.
+ghost use Rattle.std.specs.Prelude.{⊤};
 
 use crate::compare::explain_diff;
 use crate::explained_cast::explain_cast;
@@ -11,7 +12,6 @@ use csicodec_command::{
 use csicodec_events::Dialect;
 use csicodec_page::Explainer;
 use csicodec_sheet::Style;
-use csicodec_streams::RunError;
 use std::alloc::Global;
 use std::env;
 use std::io::{self, BufRead, IsTerminal, Read, Write};
@@ -58,6 +58,8 @@ struct Explained<'a> {
 }
 
 impl<'a> Worker for Explained<'a> {
+    ghost steps = { λ _ _ _ _. ⊤ };
+
     /// With the times of `script` it is no recording of asciinema.
     fn recordings(&self) -> Recordings {
         match self.timing {
@@ -66,17 +68,16 @@ impl<'a> Worker for Explained<'a> {
         }
     }
 
-    fn begin<W: Write>(&mut self, name: &str, output: &mut W) -> Result<(), RunError> {
+    fn begin<W: Write>(&mut self, name: &str, output: &mut W) -> Result<(), Failure> {
         self.timed = self.timing.is_some() || is_cast(name);
         let answer = &mut self.answer;
         let mut shown = Watched { output, answer };
         // What is left of the input before is told ahead of the name.
         self.explainer.begin(None, self.timed, &mut shown)?;
         if self.named && !self.answer.quiet {
-            self.explainer.begin(Some(name), self.timed, output)
-        } else {
-            Ok(())
+            self.explainer.begin(Some(name), self.timed, output)?;
         }
+        Ok(())
     }
 
     fn read<R: Read, W: Write>(
@@ -108,10 +109,10 @@ impl<'a> Worker for Explained<'a> {
         explain_cast(alloc, &mut self.explainer, input, &mut shown)
     }
 
-    fn end<W: Write>(&mut self, output: &mut W) -> Result<(), RunError> {
+    fn end<W: Write>(&mut self, output: &mut W) -> Result<(), Failure> {
         let answer = &mut self.answer;
         let mut shown = Watched { output, answer };
-        self.explainer.end(&mut shown)
+        Ok(self.explainer.end(&mut shown)?)
     }
 }
 

@@ -1,14 +1,14 @@
 //! What `csicodec filter`, `compact`, `strip`, `clean` and `html` make of a stream: with `filter` each control sequence in its normal
 //! form and all else as it came, with `compact` in a shorter spelling; with `strip` the plain text alone, with `clean` that and
 //! its styles; with `html` those as a page.
-ghost use Rattle.csicodec_tool.specs.Writes.{IsHeaded, Wrote, WroteBehind};
+ghost use Rattle.csicodec_tool.specs.Writes.{IsHeaded, JobSteps, Wrote, WroteBehind};
 
 use crate::check::{check_cast, check_stream};
 use crate::log::{Log, log_all};
 use crate::palette::palette_of;
 use crate::rewritten_cast::{Rewriter, html_cast, rewrite_cast, unwrap_cast};
 use csicodec_clean::{Cleaner, Depth, Dropped, Kept, Passing, clean_all_with, strip_all};
-use csicodec_command::{Colors, Failure, Request, Worker, Wrong};
+use csicodec_command::{Colors, Failure, Recordings, Request, Worker, Wrong};
 use csicodec_compact::{Compact, Compactor, compact_all};
 use csicodec_filter::{Faithful, Filter, NormalForm, filter_all};
 use csicodec_html::{BEHIND, Markup, Palette, UNNAMED, front, html_all_with};
@@ -268,6 +268,16 @@ pub struct Job<'a> {
 }
 
 impl<'a> Worker for Job<'a> {
+    ghost steps = { JobSteps };
+
+    fn recordings(&self) -> Recordings {
+        Recordings::Known
+    }
+
+    fn begin<W: Write>(&mut self, _name: &str, _output: &mut W) -> Result<(), Failure> {
+        Ok(())
+    }
+
     fn read<R: Read, W: Write>(
         &mut self,
         alloc: Global,
@@ -290,9 +300,9 @@ impl<'a> Worker for Job<'a> {
         }
     }
 
-    fn end<W: Write>(&mut self, output: &mut W) -> Result<(), RunError> {
+    fn end<W: Write>(&mut self, output: &mut W) -> Result<(), Failure> {
         match &self.work {
-            Work::Html { begun: true, .. } => send(output, BEHIND.as_bytes()),
+            Work::Html { begun: true, .. } => Ok(send(output, BEHIND.as_bytes())?),
             _ => Ok(()),
         }
     }

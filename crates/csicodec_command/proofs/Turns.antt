@@ -1,0 +1,300 @@
+-- Turns one after the other, and what an input has behind its first bytes.
+use Rattle.std.proofs.Common.{Bor, Bool, true, false, if◌then◌else◌, ◌==◌, inl, inr, ◌⊎◌, ◌≡◌, ◌∷◌, ◌++◌, ℕ, List, [], Option, None, Some, Result, Ok, Err, ap, drop, length, get_or, arith, refl, sym, subst, append_assoc, append-nil, ◌≤◌, ◌+◌, ◌<◌, ◌≢◌, ◌∙◌}
+use Rattle.std.specs.Prelude.{map, codes, IfSome}
+use Rattle.std.specs.Fmt.{option_append}
+use Rattle.std.specs.Option.{option_or}
+use Rattle.std.proofs.lemmas.List.{at_drop_more, length-map}
+use Rattle.std.proofs.Math.ListN.{drop_of_length-le}
+use Rattle.std.specs.Io.KnownBytes.{Consumes, Keeps, prepend_known}
+use Rattle.std.specs.declared.io.buffered.BufReader.{BufReader}
+use Rattle.std.specs.Io.Buffered.{reader_buffer, reader_capacity, reader_inner, reader_remaining}
+use Rattle.std.specs.Result.{IsErrAnd}
+use Rattle.csicodec_streams.specs.declared.error.RunError.TheVariants as error
+use Rattle.csicodec_command.specs.declared.failure.Failure.TheVariants as failure
+use Rattle.std.proofs.KnownBytes.{Consumes-nil, Consumes-trans, Keeps-refl}
+use Rattle.csicodec_command.specs.declared.failure.Failure.{Failure}
+use Rattle.csicodec_command.specs.Runs.{At, Closes, Ends, HasTurn, IsReadBy, IsRun, IsTold, IsUnread, MayBeRecording, Next, Recording, StepsOf, Stream, Through}
+use Rattle.csicodec_command.specs.Runs.{ends_run, first_of, names_of}
+
+abbrev pub named : List (Bor (List ℕ)) → List (List ℕ)
+named names = map (λ n. n.now) names
+
+-- What goes through the rest from here goes through all, and the statuses of those that failed stand ahead.
+abbrev pub GoesOn : {S : Type 0} → StepsOf S → (List ℕ → Option (List ℕ)) → List (List ℕ) → At S → List ℕ → List (List ℕ)
+    → At S → Type 0
+GoesOn {S} Steps holds names start failed rest at = (more : List ℕ) (stop : Option ℕ) (end : At S)
+    → Through Steps holds rest at more stop end → Through Steps holds names start (failed ++ more) stop end
+
+-- one more, which went well
+pub went_on : {S : Type 0} (Steps : StepsOf S) (holds : List ℕ → Option (List ℕ)) (names : List (List ℕ)) (start : At S)
+    (failed : List ℕ) (name : List ℕ) (rest : List (List ℕ)) (at next : At S)
+    → GoesOn Steps holds names start failed (name ∷ rest) at → HasTurn Steps holds name at (Ok tt) next
+    → GoesOn Steps holds names start failed rest next
+went_on Steps holds names start failed name rest at next goes turn more stop end through =
+    goes more stop end (Ok tt, next, turn, through)
+
+-- one more, which failed
+pub failed_on : {S : Type 0} (Steps : StepsOf S) (holds : List ℕ → Option (List ℕ)) (names : List (List ℕ)) (start : At S)
+    (failed : List ℕ) (name : List ℕ) (rest : List (List ℕ)) (at next : At S) (f : Failure) (n : ℕ)
+    → GoesOn Steps holds names start failed (name ∷ rest) at → HasTurn Steps holds name at (Err f) next
+    → IsTold f n → ends_run f ≡ false → GoesOn Steps holds names start (failed ++ n ∷ []) rest next
+failed_on Steps holds names start failed name rest at next f n goes turn told goes_on more stop end through =
+    subst (λ (all : List ℕ). Through Steps holds names start all stop end) (sym (append_assoc failed (n ∷ []) more))
+    (goes (n ∷ more) stop end (Err f, next, turn, (n, told, inr (goes_on, (more, refl, through)))))
+
+-- one that ended the run
+pub stopped_at : {S : Type 0} (Steps : StepsOf S) (holds : List ℕ → Option (List ℕ)) (names : List (List ℕ)) (start : At S)
+    (failed : List ℕ) (name : List ℕ) (rest : List (List ℕ)) (at next : At S) (f : Failure) (n : ℕ)
+    → GoesOn Steps holds names start failed (name ∷ rest) at → HasTurn Steps holds name at (Err f) next
+    → IsTold f n → ends_run f ≡ true → Through Steps holds names start (failed ++ []) (Some n) next
+stopped_at Steps holds names start failed name rest at next f n goes turn told ends =
+    goes [] (Some n) next (Err f, next, turn, (n, told, inl (ends, refl, refl, refl)))
+
+-- the first that failed, where one more does
+pub first_behind : (failed : List ℕ) (n : ℕ) → first_of (failed ++ n ∷ []) ≡ option_or (first_of failed) (Some n)
+first_behind [] n = refl
+first_behind (m ∷ failed) n = refl
+
+-- what was read ahead and what is left are all that was there
+pub whole_kept : (before after : Option (List ℕ)) (front : List ℕ) → Consumes before after front
+    → Keeps before (option_append (Some front) after)
+whole_kept None after front h = tt
+whole_kept (Some all) None front h = absurd h
+whole_kept (Some all) (Some rest) front h = sym h
+
+-- nothing was read yet
+pub none_read : (before : Option (List ℕ)) (front : List ℕ) → front ≡ [] → Consumes before before front
+none_read before front is = subst (λ (f : List ℕ). Consumes before before f) (sym is) (Consumes-nil before)
+
+-- more was read
+pub read_more : (before mid after : Option (List ℕ)) (front piece all : List ℕ) → Consumes before mid front → Consumes mid after piece
+    → all ≡ front ++ piece → Consumes before after all
+read_more before mid after front piece all first next is =
+    subst (λ (a : List ℕ). Consumes before after a) (sym is) (Consumes-trans before mid after front piece first next)
+
+-- what begins an input begins all of it
+pub begins_all : (before after : Option (List ℕ)) (front rest : List ℕ) → Consumes before after front → front ≡ 123 ∷ rest
+    → IfSome before (λ bytes. (behind : List ℕ) × (bytes ≡ 123 ∷ behind))
+begins_all None after front rest h e = tt
+begins_all (Some all) None front rest h e = absurd h
+begins_all (Some all) (Some left) front rest h e =
+    (rest ++ left, subst (λ (f : List ℕ). all ≡ f ++ left) e h)
+
+-- the names of a command line that has some
+pub names_named : (files : List (Bor (List ℕ))) → 0 < length files → names_of files ≡ named files
+names_named [] h = absurd (omega (arith, h))
+names_named (file ∷ files) h = refl
+
+-- what stands behind the inputs is asked for where none failed
+pub none_failed : {S : Type 0} (Steps : StepsOf S) (names : List (List ℕ)) (start : At S) (result : Result (Unit {0}) ℕ) (end : At S)
+    → Closes Steps None start result end → Ends Steps names None None start result end
+none_failed Steps [] start result end h = h
+none_failed Steps (name ∷ []) start result end h = h
+none_failed Steps (name ∷ next ∷ names) start result end h = h
+
+-- and where there were several
+pub several_failed : {S : Type 0} (Steps : StepsOf S) (names : List (List ℕ)) (n : ℕ) (start : At S) (result : Result (Unit {0}) ℕ)
+    (end : At S) → length names ≢ 1 → Closes Steps (Some n) start result end → Ends Steps names (Some n) None start result end
+several_failed Steps [] n start result end more h = h
+several_failed Steps (name ∷ []) n start result end more h = absurd (more refl)
+several_failed Steps (name ∷ next ∷ names) n start result end more h = h
+
+-- but not where the only one failed
+pub only_failed : {S : Type 0} (Steps : StepsOf S) (names : List (List ℕ)) (n : ℕ) (at : At S)
+    → length names ≡ 1 → Ends Steps names (Some n) None at (Err n) at
+only_failed Steps [] n at one = absurd (omega (arith, one))
+only_failed Steps (name ∷ []) n at one = (refl, refl)
+only_failed Steps (name ∷ next ∷ names) n at one = absurd (omega (arith, one))
+
+-- an input failed where it came next
+pub not_begun : {S : Type 0} (Steps : StepsOf S) (name : List ℕ) (known : Option (List ℕ)) (start ahead : At S)
+    (begun result : Result (Unit {0}) Failure) (f : Failure) → Steps (Next name) start begun ahead → begun ≡ Err f → result ≡ Err f
+    → IsReadBy Steps name known start result ahead
+not_begun Steps name known start ahead begun result f begins is same = record {
+  begun = begun;
+  ahead = ahead;
+  begins = begins;
+  failed = rw is (same, refl);
+  bytes = known;
+  same = Keeps-refl known;
+  reads = rw is tt;
+}
+
+-- its first bytes couldn't be read
+pub not_read : {S : Type 0} (Steps : StepsOf S) (name : List ℕ) (known : Option (List ℕ)) (start ahead : At S)
+    (begun result : Result (Unit {0}) Failure) → Steps (Next name) start begun ahead → begun ≡ Ok tt → IsUnread result
+    → IsReadBy Steps name known start result ahead
+not_read Steps name known start ahead begun result begins is unread = record {
+  begun = begun;
+  ahead = ahead;
+  begins = begins;
+  failed = rw is tt;
+  bytes = known;
+  same = Keeps-refl known;
+  reads = rw is (inl (unread, refl));
+}
+
+-- it was written
+pub streamed : {S : Type 0} (Steps : StepsOf S) (name : List ℕ) (known bytes : Option (List ℕ)) (start ahead end : At S)
+    (begun result : Result (Unit {0}) Failure) → Steps (Next name) start begun ahead → begun ≡ Ok tt → Keeps known bytes
+    → Steps (Stream bytes) ahead result end → IsReadBy Steps name known start result end
+streamed Steps name known bytes start ahead end begun result begins is same step = record {
+  begun = begun;
+  ahead = ahead;
+  begins = begins;
+  failed = rw is tt;
+  bytes = bytes;
+  same = same;
+  reads = rw is (inr (inl step));
+}
+
+-- and as a recording
+pub recorded : {S : Type 0} (Steps : StepsOf S) (name : List ℕ) (known bytes : Option (List ℕ)) (start ahead end : At S)
+    (begun result : Result (Unit {0}) Failure) → Steps (Next name) start begun ahead → begun ≡ Ok tt → Keeps known bytes
+    → MayBeRecording name known → Steps (Recording bytes) ahead result end → IsReadBy Steps name known start result end
+recorded Steps name known bytes start ahead end begun result begins is same may step = record {
+  begun = begun;
+  ahead = ahead;
+  begins = begins;
+  failed = rw is tt;
+  bytes = bytes;
+  same = same;
+  reads = rw is (inr (inr (may, step)));
+}
+
+-- what `?` hands on
+pub handed_on : {A E : Type 0} (result : Result A E) (e : E) → IsErrAnd result (λ y. y ≡ e) → result ≡ Err e
+handed_on (Ok x) e h = absurd h
+handed_on (Err y) e h = ap Err h
+
+pub unread : (result : Result (Unit {0}) Failure) (e : Failure) → result ≡ Err e
+    → (e ≡ failure.Run error.Read) ⊎ (e ≡ failure.Run error.Memory) → IsUnread result
+unread result e is (inl read) = inl (is ∙ ap Err read)
+unread result e is (inr memory) = inr (is ∙ ap Err memory)
+
+-- the front and the rest in one
+pub chained : (before after whole : Option (List ℕ)) (front piece : List ℕ) → Consumes before after front → piece ≡ front
+    → whole ≡ option_append (Some piece) after → Keeps before whole
+chained before after whole front piece seen same is =
+    subst (λ (w : Option (List ℕ)). Keeps before w) (sym is)
+    (subst (λ (p : List ℕ). Keeps before (option_append (Some p) after)) (sym same) (whole_kept before after front seen))
+
+pub nothing_ahead : (known rest : Option (List ℕ)) → Keeps known rest → Keeps known (prepend_known [] rest)
+nothing_ahead None rest h = tt
+nothing_ahead (Some all) None h = h
+nothing_ahead (Some all) (Some left) h = h
+
+-- and with a buffer, of which nothing was filled
+pub buffered : {X A : Type 0} (left : X → Option (List ℕ)) (lines : BufReader X A) (inner : X) (known : Option (List ℕ))
+    → reader_capacity lines ≡ 8192 → reader_buffer lines ≡ [] → reader_inner lines ≡ inner → Keeps known (left inner)
+    → Keeps known (reader_remaining left lines)
+buffered left lines inner known room empty at h =
+    subst (λ (n : ℕ). Keeps known (if n == 0 then None else prepend_known (reader_buffer lines) (left lines.inner))) (sym room)
+    (subst (λ (b : List ℕ). Keeps known (prepend_known b (left lines.inner))) (sym empty)
+    (nothing_ahead known (left lines.inner) (subst (λ i. Keeps known (left i)) (sym at) h)))
+
+-- A run that was ended there.
+pub run_stopped : {S : Type 0} (Steps : StepsOf S) (holds : List ℕ → Option (List ℕ)) (names : List (List ℕ)) (start at : At S)
+    (result : Result (Unit {0}) ℕ) (n : ℕ) → (failed : List ℕ) × Through Steps holds names start failed (Some n) at
+    → result ≡ Err n → IsRun Steps holds names start result at
+run_stopped Steps holds names start at result n (failed, through) is = record {
+  failed = failed;
+  stop = Some n;
+  last = at;
+  through = through;
+  ends = (is, refl);
+}
+
+-- a run whose inputs all had their turns
+abbrev pub HadTurns : {S : Type 0} → StepsOf S → (List ℕ → Option (List ℕ)) → List (List ℕ) → At S → Option ℕ → At S → Type 0
+HadTurns Steps holds names start first at =
+    (failed : List ℕ) × (first ≡ first_of failed) × Through Steps holds names start failed None at
+
+pub run_behind : {S : Type 0} (Steps : StepsOf S) (holds : List ℕ → Option (List ℕ)) (names : List (List ℕ)) (start at end : At S)
+    (result : Result (Unit {0}) ℕ) (first which : Option ℕ) → HadTurns Steps holds names start first at
+    → first ≡ which → Ends Steps names which None at result end → IsRun Steps holds names start result end
+run_behind Steps holds names start at end result first which (failed, is, through) same ends = record {
+  failed = failed;
+  stop = None;
+  last = at;
+  through = through;
+  ends = subst (λ (w : Option ℕ). Ends Steps names w None at result end) (sym same ∙ is) ends;
+}
+
+pub run_well : {S : Type 0} (Steps : StepsOf S) (holds : List ℕ → Option (List ℕ)) (names : List (List ℕ)) (start at end : At S)
+    (result : Result (Unit {0}) ℕ) (first : Option ℕ) → HadTurns Steps holds names start first at
+    → first ≡ None → Closes Steps None at result end → IsRun Steps holds names start result end
+run_well Steps holds names start at end result first had is closes =
+    run_behind Steps holds names start at end result first None had is (none_failed Steps names at result end closes)
+
+pub run_only : {S : Type 0} (Steps : StepsOf S) (holds : List ℕ → Option (List ℕ)) (names : List (Bor (List ℕ))) (start at : At S)
+    (first : Option ℕ) (n : ℕ) → HadTurns Steps holds (named names) start first at
+    → first ≡ Some n → length names ≡ 1 → IsRun Steps holds (named names) start (Err n) at
+run_only Steps holds names start at first n had is one =
+    run_behind Steps holds (named names) start at at (Err n) first (Some n) had is
+    (only_failed Steps (named names) n at (length-map names (λ m. m.now) ∙ one))
+
+pub run_several : {S : Type 0} (Steps : StepsOf S) (holds : List ℕ → Option (List ℕ)) (names : List (Bor (List ℕ))) (start at end : At S)
+    (result : Result (Unit {0}) ℕ) (first : Option ℕ) (n : ℕ) → HadTurns Steps holds (named names) start first at
+    → first ≡ Some n → length names ≢ 1 → Closes Steps (Some n) at result end → IsRun Steps holds (named names) start result end
+run_several Steps holds names start at end result first n had is more closes =
+    run_behind Steps holds (named names) start at end result first (Some n) had is
+    (several_failed Steps (named names) n at result end
+    (λ one. more (sym (length-map names (λ m. m.now)) ∙ one)) closes)
+
+-- Turns up to a place: these failed so far, and what is left goes on behind them.
+abbrev pub TurnsTo : {S : Type 0} → StepsOf S → (List ℕ → Option (List ℕ)) → List (Bor (List ℕ)) → At S → ℕ → Option ℕ → At S → Type 0
+TurnsTo Steps holds names start i first at = (failed : List ℕ) × (first ≡ first_of failed)
+    × GoesOn Steps holds (named names) start failed (named (drop i names)) at
+
+pub next_turn : {S : Type 0} (Steps : StepsOf S) (holds : List ℕ → Option (List ℕ)) (names : List (Bor (List ℕ))) (start at : At S)
+    (failed : List ℕ) (i : ℕ) (name : Bor (List ℕ)) → i < length names
+    → GoesOn Steps holds (named names) start failed (named (drop i names)) at
+    → GoesOn Steps holds (named names) start failed ((get_or names i name).now ∷ named (drop (i + 1) names)) at
+next_turn Steps holds names start at failed i name within goes =
+    subst (λ (rest : List (List ℕ)). GoesOn Steps holds (named names) start failed rest at) (at_drop_more named names i name within) goes
+
+pub turn_went : {S : Type 0} (Steps : StepsOf S) (holds : List ℕ → Option (List ℕ)) (names : List (Bor (List ℕ))) (start at next : At S)
+    (i : ℕ) (name : Bor (List ℕ)) (first then_first : Option ℕ) → i < length names → TurnsTo Steps holds names start i first at
+    → HasTurn Steps holds (get_or names i name).now at (Ok tt) next → then_first ≡ first
+    → TurnsTo Steps holds names start (i + 1) then_first next
+turn_went Steps holds names start at next i name first then_first within (failed, is, goes) turn same = (
+  failed,
+  same ∙ is,
+  went_on Steps holds (named names) start failed (get_or names i name).now (named (drop (i + 1) names)) at next
+      (next_turn Steps holds names start at failed i name within goes) turn,
+)
+
+pub turn_failed : {S : Type 0} (Steps : StepsOf S) (holds : List ℕ → Option (List ℕ)) (names : List (Bor (List ℕ))) (start at next : At S)
+    (i : ℕ) (name : Bor (List ℕ)) (first then_first : Option ℕ) (f : Failure) (n : ℕ) → i < length names
+    → TurnsTo Steps holds names start i first at → HasTurn Steps holds (get_or names i name).now at (Err f) next
+    → IsTold f n → ends_run f ≡ false → then_first ≡ option_or first (Some n)
+    → TurnsTo Steps holds names start (i + 1) then_first next
+turn_failed Steps holds names start at next i name first then_first f n within (failed, is, goes) turn told goes_on same = (
+  failed ++ n ∷ [],
+  same ∙ ap (λ (o : Option ℕ). option_or o (Some n)) is ∙ sym (first_behind failed n),
+  failed_on Steps holds (named names) start failed (get_or names i name).now (named (drop (i + 1) names)) at next f n
+      (next_turn Steps holds names start at failed i name within goes) turn told goes_on,
+)
+
+pub turn_stopped : {S : Type 0} (Steps : StepsOf S) (holds : List ℕ → Option (List ℕ)) (names : List (Bor (List ℕ))) (start at next : At S)
+    (i : ℕ) (name : Bor (List ℕ)) (first : Option ℕ) (f : Failure) (n : ℕ) → i < length names
+    → TurnsTo Steps holds names start i first at → HasTurn Steps holds (get_or names i name).now at (Err f) next
+    → IsTold f n → ends_run f ≡ true
+    → (failed : List ℕ) × Through Steps holds (named names) start failed (Some n) next
+turn_stopped Steps holds names start at next i name first f n within (failed, is, goes) turn told ends = (
+  failed ++ [],
+  stopped_at Steps holds (named names) start failed (get_or names i name).now (named (drop (i + 1) names)) at next f n
+      (next_turn Steps holds names start at failed i name within goes) turn told ends,
+)
+
+-- behind the last one
+pub turns_end : {S : Type 0} (Steps : StepsOf S) (holds : List ℕ → Option (List ℕ)) (names : List (Bor (List ℕ))) (start at : At S)
+    (i : ℕ) (first : Option ℕ) → length names ≤ i → TurnsTo Steps holds names start i first at
+    → HadTurns Steps holds (named names) start first at
+turns_end {S} Steps holds names start at i first behind (failed, is, goes) =
+    let rest = ap (λ (l : List (Bor (List ℕ))). named l) (drop_of_length-le names behind) in (
+      failed ++ [],
+      is ∙ ap first_of (sym (append-nil failed)),
+      goes [] None at (subst (λ (r : List (List ℕ)). Through Steps holds r at [] None at) (sym rest) (refl, refl, refl)),
+    )

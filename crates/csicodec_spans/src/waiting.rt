@@ -84,8 +84,8 @@ fn begun_with(number: Option<u64>, room: usize, bytes: &[u8]) -> Option<u64>
 
 /// The bytes of a stream that wait for more, since nothing can be cut of them yet, and the mode that those before them leave open.
 ///
-/// They can be had in no other way than by [`add`](Waiting::add), which hands them out once what they wait for has come: so a stage of a stream
-/// reads each of them once when it comes, and once more then, in however many slices the stream comes.
+/// They can be had in no other way than by [`add`](Waiting::add) and [`end`](Waiting::end). While nothing can be cut of them, `add` doesn't hand
+/// them out again, unless they are two bytes at most.
 ///
 /// ```text
 /// let mut waiting = Waiting::new(alloc, 4096);
@@ -159,8 +159,6 @@ impl Waiting {
 
     /// Takes the next bytes. Where something can be cut now, it hands out all that waits, to be read from the front; what is left of it is given back
     /// by [`keep`](Waiting::keep). Else it answers none, and they wait.
-    ///
-    /// Of a control sequence that isn't over it looks at the bytes that come alone, and at none that wait.
     #[tactic(auto, using(crate::proofs::OneSpan::none_unsure, crate::proofs::Begun::waits_once))]
     pub fn add(&mut self, bytes: &[u8]) -> Result<Option<Vec<u8>>, AllocError>
         ensures all { IfOk result (λ o. MatchOption o

@@ -1,6 +1,5 @@
 //! The bytes of a stream that wait for more.
-ghost use Rattle.std.specs.Prelude.{◌≡◌, ◌<◌, ◌≤◌, ◌+◌, ◌-◌, ◌*◌, ◌++◌, ◌∷◌, ℕ, List, [], None, IfSome, length, drop, vec_len, MatchOption, OnOk, IfOk, true};
-ghost use Rattle.csicodec_tokens.specs.Digits.{IsDigit, largest};
+ghost use Rattle.std.specs.Prelude.{◌≡◌, ◌<◌, ◌≤◌, ◌+◌, ◌-◌, ◌++◌, ◌∷◌, ℕ, List, [], None, IfSome, length, drop, vec_len, MatchOption, OnOk, IfOk, true};
 ghost use Rattle.csicodec_spans.specs.declared.table.Mode.{Mode};
 ghost use Rattle.csicodec_spans.specs.declared.table.Mode.TheVariants.{Text};
 ghost use Rattle.csicodec_spans.specs.Parts.{IsUnsure};
@@ -8,27 +7,9 @@ ghost use Rattle.csicodec_spans.specs.Waits.{IsOnce};
 ghost use Rattle.csicodec_spans.specs.Private.Begun.{Adds, IsBegun, Stops, Tells};
 
 use crate::table::Mode;
+use csicodec_tokens::with_digit;
 use std::alloc::{AllocError, Global};
 use std::marker::Model;
-
-const LARGEST: u64 = i64::MAX as u64;
-
-/// The number with one more digit, if it isn't too large.
-#[inline(always)]
-fn with_digit(number: u64, digit: u8) -> Option<u64>
-    requires { IsDigit digit }
-    ensures { MatchOption result (largest < 10 * number + (digit - 48)) (λ n.
-        (n ≡ 10 * number + (digit - 48)) × (n ≤ largest)) }
-{
-    let longer = number
-        .checked_mul(10)?
-        .checked_add(u64::from(digit - b'0'))?;
-    if longer <= LARGEST {
-        Some(longer)
-    } else {
-        None
-    }
-}
 
 /// The number that ends a body with one more byte, where the body ends in `number`; none where no body goes on so.
 #[inline(always)]

@@ -13,6 +13,7 @@ pub use fields::Cracked;
 pub use param::{CsiParam, OneBased};
 pub use reader::{
     CsiTail, ReadCsi, ReadError, ShortCsi, behind_csi, read_csi, read_csi_into, read_csi_within,
+    with_digit,
 };
 pub use refusal::{NotOneBased, NotSpelled, ParseRefusal};
 pub use text::{Text, TextBuffer};

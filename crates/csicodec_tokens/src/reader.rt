@@ -108,9 +108,10 @@ fn with_last_digit(number: u64, value: u64) -> Option<u64>
     }
 }
 
-/// The same of a digit. All but the last digits of a very long number cost one test.
+/// The number that the digits of `number` and one digit more write, or `None` where it is larger than `i64::MAX`. All but the last digits of a
+/// very long number cost one test.
 #[inline(always)]
-fn with_digit(number: u64, digit: u8) -> Option<u64>
+pub fn with_digit(number: u64, digit: u8) -> Option<u64>
     requires { IsDigit digit }
     ensures { MatchOption result (largest < 10 * number + (digit - 48)) (λ n.
         (n ≡ 10 * number + (digit - 48)) × (n ≤ largest)) }

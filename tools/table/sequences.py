@@ -91,16 +91,10 @@ def slot_pieces(slots):
 
 
 def row_text(row):
-    """A row in lines of up to 100 columns, but for a first one of up to 107."""
     form = row.form
-    pieces = [f"{row.kind},", f"{string(row.name)},", f"{byte(form.marker)},", *slot_pieces(form.slots), f"{byte(form.between)},", f"{byte(form.final)[1:]},", f"{string(row.means)},", f"{string(row.source)} }},"]
-    lines = ["            $row! {"]
-    for piece in pieces:
-        if len(lines[-1]) + 1 + len(piece) > (107 if len(lines) == 1 else 100):
-            lines.append(" " * 15)
-        lines[-1] += " " + piece
+    pieces = [f"{row.kind},", f"{string(row.name)},", f"{byte(form.marker)},", *slot_pieces(form.slots), f"{byte(form.between)},", f"{byte(form.final)[1:]},", f"{string(row.means)},", f"{string(row.source)}"]
     section = f"\n            // {SECTIONS[row.kind]}\n" if row.kind in SECTIONS else ""
-    return section + "\n".join(lines) + "\n"
+    return f"{section}            $row! {{ {' '.join(pieces)} }},\n"
 
 
 def rows_text(rows, start, about):

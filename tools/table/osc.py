@@ -1,4 +1,4 @@
-"""The commands of OSC: their numbers and forms in csicodec_osc, their words in csicodec_strings."""
+"""The commands of OSC in csicodec_osc: their numbers, forms and words."""
 import sys
 
 from examples import all_examples
@@ -150,9 +150,9 @@ def places_antt(groups):
 
 
 def words_rt(groups, single, alone):
-    """src/osc_words.rt of csicodec_strings."""
+    """src/osc_words.rt of csicodec_osc."""
     worded = [group for group in groups if all("words" in row for row in group.rows.values())]
-    lines = ["//! Words of the commands of OSC.", "", f"use csicodec_osc::{{{', '.join(sorted(group.name for group in worded if not group.further))}}};", ""]
+    lines = ["//! Words of the commands of OSC.", "", f"use crate::command::{{{', '.join(sorted(group.name for group in worded if not group.further))}}};", ""]
     for group in worded:
         if group.further:
             lines += ["/// By their place among the others.", f"pub static {group.snake.upper()}: [&str; {len(group.rows)}] = ["]
@@ -251,5 +251,5 @@ def files(tables):
         "crates/csicodec_osc/proofs/Places.antt": antt + places_antt(groups),
         "crates/csicodec_c/src/osc_kinds.rt": rust + kinds_rt(groups, single),
         "crates/csicodec_c/specs/OscKinds.antt": antt + kinds_antt(groups, single),
-        "crates/csicodec_strings/src/osc_words.rt": rust + words_rt(groups, single, alone),
+        "crates/csicodec_osc/src/osc_words.rt": rust + words_rt(groups, single, alone),
     }

@@ -83,4 +83,4 @@ def files(tables):
         array("Settings, by the last bytes of what sets them, the first that fits.", "SETTINGS", "(&[u8], &str)", settings),
         array("What a key of kitty's graphics says, the first that fits.", "GRAPHICS", "KeyRow", list(keys(tables["graphics"]))),
     ])
-    return {"crates/csicodec_strings/src/string_rows.rt": text}
+    return {"crates/csicodec_osc/src/string_rows.rt": text}

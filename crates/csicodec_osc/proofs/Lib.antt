@@ -3,3 +3,4 @@ pub mod Bodies
 pub mod Reading
 pub mod Places
 pub mod Table
+pub mod Plain

@@ -1,6 +1,6 @@
 //! Control characters that stand in text: the set C0 of ISO 646 (ECMA-48, 8.3; ISO-IR 1), and what terminals do.
 
-use csicodec_strings::text_len;
+use csicodec_osc::text_len;
 
 /// The names of the set C0, by their bytes, and what each does; ESC stands in no text.
 static C0: [&str; 32] = [

@@ -11,7 +11,7 @@ use csicodec_sheet::{
 };
 use csicodec_spans::{Kind, LIMIT, Mode};
 use csicodec_streams::keep_from;
-use csicodec_strings::{ControlString, FRONT};
+use csicodec_osc::{ControlString, FRONT};
 use csicodec_words::Described;
 use std::alloc::{AllocError, Global};
 use std::fmt::{self, Display};

@@ -5,7 +5,7 @@ use bitflags::Flags;
 use csicodec_base::CsiParam;
 use csicodec_events::{Event, InputEvent};
 use csicodec_keys::{Encoding, Key, KeyCode, KeyEvent, KeyModifiers, read};
-use csicodec_strings::{Shown, is_seen};
+use csicodec_osc::{Shown, is_seen};
 use std::fmt;
 
 /// A key. It prints as its words: `key`, two blanks, what is held down, its name, the text that it gives, and whether it is repeated or

@@ -2,7 +2,7 @@
 
 use base64::DecodeAllocError;
 use base64::engine::general_purpose::STANDARD;
-use csicodec_strings::{Quoted, Shown};
+use csicodec_osc::{Quoted, Shown};
 use memchr::memchr;
 use std::alloc::{AllocError, Global};
 use std::fmt;

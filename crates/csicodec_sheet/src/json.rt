@@ -2,7 +2,7 @@
 
 use crate::line::{Offset, Sort, Told, append_time};
 use crate::style::{Style, name_of};
-use csicodec_strings::{are_plain, is_seen};
+use csicodec_osc::{are_plain, is_seen};
 use std::alloc::AllocError;
 
 /// The digits of base sixteen.

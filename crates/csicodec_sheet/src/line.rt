@@ -2,7 +2,7 @@
 
 use crate::style::Style;
 use bstr::decode_utf8;
-use csicodec_strings::{append_escaped, are_plain, is_seen, plain_len};
+use csicodec_osc::{append_escaped, are_plain, is_seen, plain_len};
 use itoa::write_digits;
 use std::alloc::AllocError;
 

@@ -15,7 +15,7 @@ use crate::line::{
 use crate::search::Search;
 use crate::style::{Style, name_of};
 use crate::totals::Totals;
-use csicodec_strings::Shown;
+use csicodec_osc::Shown;
 use std::alloc::{AllocError, Global};
 use std::fmt::{Debug, Display, Write};
 

@@ -3,7 +3,7 @@
 use csicodec_command::{Failure, Recording};
 use csicodec_page::Explainer;
 use csicodec_streams::RunError;
-use csicodec_strings::Quoted;
+use csicodec_osc::Quoted;
 use std::alloc::Global;
 use std::fmt;
 use std::io::{BufRead, Write};

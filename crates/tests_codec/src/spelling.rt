@@ -1,7 +1,7 @@
 //! How a row spells tokens, characters and bytes.
 use bstr::ByteVec;
 use csicodec::CsiParam;
-use csicodec_strings::append_escaped;
+use csicodec_osc::append_escaped;
 use std::alloc::{AllocError, Global};
 
 /// The character that a word is, or that `#` and its number stand for.

@@ -1,6 +1,6 @@
 //! How a row spells bytes.
 use bstr::ByteVec;
-use csicodec_strings::append_escaped;
+use csicodec_osc::append_escaped;
 use std::alloc::{AllocError, Global};
 
 /// The bytes that a word spells: `\e` is ESC, and any other escape is that of `bstr`.

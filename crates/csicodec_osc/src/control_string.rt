@@ -1,25 +1,9 @@
-//! Control strings in words: what an OSC, a DCS or an APC does, as the documents of xterm, DEC, kitty, iTerm2 and others say;
-//! and bytes as they are shown.
-#![tactic(auto)]
+//! Control strings in words: what an OSC, a DCS or an APC does.
 
-mod answers;
-mod clipboard;
-mod colors;
-mod device;
-mod escape;
-mod fields;
-mod kitty_graphics;
-mod osc;
-mod osc_words;
-mod shown;
-mod string_rows;
-
+use crate::body::{Body, tell};
 use crate::device::device_control;
-use crate::fields::{Body, tell};
 use crate::kitty_graphics::graphics;
-use crate::osc::command;
-pub use escape::append_escaped;
-pub use shown::{Quoted, Shown, are_plain, is_seen, plain_len, text_len};
+use crate::osc_told::command;
 use std::fmt;
 
 /// So many of the first bytes of a string are enough for its words.

@@ -1,7 +1,7 @@
 //! Bytes, shown in ASCII.
 ghost use Rattle.std.specs.Prelude.{◌≡◌, ◌++◌, ◌∷◌, ◌≤◌, ◌<◌, [], true, OnOk, drop, length, take};
 ghost use Rattle.std.specs.List.{flat_map};
-ghost use Rattle.csicodec_strings.specs.Escaped.{escaped, hex_digit};
+ghost use Rattle.csicodec_osc.specs.Escaped.{escaped, hex_digit};
 
 use std::alloc::AllocError;
 

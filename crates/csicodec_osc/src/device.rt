@@ -1,7 +1,7 @@
 //! Device control strings (DCS): parameters and intermediate bytes, a final byte, and data.
 
 use crate::answers::{capabilities, setting_asked, setting_told};
-use crate::fields::{Body, halves, number, tell};
+use crate::body::{Body, halves, number, tell};
 use crate::shown::Shown;
 use crate::string_rows::CONTROLS;
 use std::fmt;

@@ -1,7 +1,7 @@
 // Written by tools/table from table/osc.toml: change that, and run python3 tools/table.
 //! Words of the commands of OSC.
 
-use csicodec_osc::{EditorMark, Folder, Mark, Progress, Title};
+use crate::command::{EditorMark, Folder, Mark, Progress, Title};
 
 pub fn title_words(title: Title) -> &'static str {
     match title {

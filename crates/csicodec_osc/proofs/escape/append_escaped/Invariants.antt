@@ -1,7 +1,7 @@
 use Rattle.std.proofs.Common.{◌≡◌, ◌++◌, length}
 use Rattle.std.specs.List.{flat_map}
-use Rattle.csicodec_strings.specs.Escaped.{escaped}
-use Rattle.csicodec_strings.proofs.escape.append_escaped.Given as goal
+use Rattle.csicodec_osc.specs.Escaped.{escaped}
+use Rattle.csicodec_osc.proofs.escape.append_escaped.Given as goal
 
 -- what is appended, and then the rest as it is shown, are all the bytes as they are shown
 abbrev pub invariant-loop-byte : goal.invariant-loop-byte

@@ -1,7 +1,7 @@
 //! The clipboard (xterm's ctlseqs, Operating System Command 52): letters for what is meant, and text in base64.
 
-use crate::fields::{Body, write_comma};
-use csicodec_osc::Asked;
+use crate::asked::Asked;
+use crate::body::{Body, write_comma};
 use std::fmt;
 
 /// What a letter means.

@@ -1,14 +1,16 @@
-//! Operating system commands (OSC) in words: what csicodec_osc reads of them, and words alone for what it doesn't have.
+//! Operating system commands (OSC) in words: those that are read, and words alone for others.
 
+use crate::body::{Body, number, split_at, tell};
 use crate::clipboard::clipboard;
 use crate::colors::{dynamic, dynamic_reset, pairs, resets};
-use crate::fields::{Body, number, split_at, tell};
+use crate::command::{EditorMark, Progress};
+use crate::fields::Fields;
+use crate::osc::Osc;
 use crate::osc_words::{
     ALONE, Behind, KITTY_NOTICE, POINTER, editor_mark_words, folder_words, mark_words,
     progress_words, title_words,
 };
 use crate::shown::Quoted;
-use csicodec_osc::{EditorMark, Fields, Osc, Progress};
 use std::fmt;
 
 /// The words of an OSC.

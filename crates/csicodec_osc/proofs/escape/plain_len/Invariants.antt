@@ -1,7 +1,7 @@
 use Rattle.std.proofs.Common.{◌≡◌, ◌++◌, ◌≤◌, ◌-◌, length, take, drop}
 use Rattle.std.specs.List.{flat_map}
-use Rattle.csicodec_strings.specs.Escaped.{escaped}
-use Rattle.csicodec_strings.proofs.escape.plain_len.Given as goal
+use Rattle.csicodec_osc.specs.Escaped.{escaped}
+use Rattle.csicodec_osc.proofs.escape.plain_len.Given as goal
 
 -- the bytes so far are shown as themselves
 abbrev pub invariant-loop-len : goal.invariant-loop-len

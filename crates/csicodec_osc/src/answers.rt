@@ -1,6 +1,6 @@
 //! Settings and capabilities that are asked for and told (DEC's DECRQSS; xterm's XTGETTCAP).
 
-use crate::fields::{Body, halves, is_semicolon, tell, write_comma};
+use crate::body::{Body, halves, is_semicolon, tell, write_comma};
 use crate::shown::Shown;
 use crate::string_rows::SETTINGS;
 use hex::decode_to_slice;

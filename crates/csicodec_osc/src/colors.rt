@@ -1,9 +1,11 @@
 //! Colours that are set, asked for and reset. The answer to a question has the form in which the colour is set.
 
-use crate::fields::{is_semicolon, number, write_comma};
+use crate::asked::Asked;
+use crate::body::{is_semicolon, number, write_comma};
+use crate::command::Palette;
+use crate::fields::Fields;
 use crate::osc_words::DYNAMIC;
 use crate::shown::Shown;
-use csicodec_osc::{Asked, Fields, Palette};
 use std::fmt;
 
 /// The special colours, from 0 on (xterm's ctlseqs, Operating System Command 5).

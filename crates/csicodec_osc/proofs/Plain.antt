@@ -2,7 +2,7 @@
 use Rattle.std.proofs.Common.{ℕ, ◌≡◌, ◌++◌, ◌<◌, ◌+◌, ◌∙◌, List, [], ◌∷◌, length, take, drop, get_or, ap, sym, append_assoc}
 use Rattle.std.proofs.lemmas.List.{drop_more, take_more}
 use Rattle.std.specs.List.{flat_map}
-use Rattle.csicodec_strings.specs.Escaped.{escaped}
+use Rattle.csicodec_osc.specs.Escaped.{escaped}
 
 -- one byte more in front
 pub plain_more : (xs : List ℕ) (i : ℕ) → i < length xs → escaped (get_or xs i 0) ≡ get_or xs i 0 ∷ []

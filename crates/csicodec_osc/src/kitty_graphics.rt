@@ -1,6 +1,6 @@
 //! kitty's Terminal graphics protocol: keys with values, a semicolon, and data in base64.
 
-use crate::fields::{Body, halves, tell, write_comma};
+use crate::body::{Body, halves, tell, write_comma};
 use crate::shown::Shown;
 use crate::string_rows::GRAPHICS;
 use std::fmt;

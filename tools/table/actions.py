@@ -147,7 +147,7 @@ SENT = "//! What terminals send by the same sequences as actions, in words.\n\n"
 
 
 def sent():
-    """src/sent_rows.rt of csicodec_readings."""
+    """src/sent_rows.rt of csicodec_words."""
     rows = {ord(action.row["final"]): action.row["sent"] for subject in subjects() for action in subject.actions if "sent" in action.row}
     return first_line(TABLE) + SENT + array("What a terminal sends by a list without numbers, by its final byte.", "SENT", "(i64, &str)", [pair(hex(final), string(f" (or {words})")) for final, words in sorted(rows.items())])
 
@@ -162,4 +162,4 @@ def files(rows):
             found[f"crates/{kind.file}"].append(declaration(kind))
     for path, of in core.parts(subjects()).items():
         found.setdefault(path, []).extend(of)
-    return found | {"crates/csicodec_readings/src/sent_rows.rt": sent()}
+    return found | {"crates/csicodec_words/src/sent_rows.rt": sent()}

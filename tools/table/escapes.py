@@ -84,9 +84,10 @@ def said(rows, key):
 
 
 def words(rows):
+    """Those that have a code."""
     pairs = [pair(number(key), string(said(rows, key))) for key in named(rows)]
     about = "Those that the codec has a code for, by their numbers: that of the last character, and 256 times that of the one before it."
-    return "//! Escape sequences in words.\n\n" + array(about, "CODES", "(i64, &str)", pairs)
+    return array(about, "CODES", "(i64, &str)", pairs)
 
 
 def parts(key, row):
@@ -95,7 +96,7 @@ def parts(key, row):
 
 
 def sequences(rows):
-    """Those without a code, and the sets."""
+    """src/escape_rows.rt of csicodec_words: those with a code, those without one, and the sets."""
     kind = "(&[u8], u8, &str)"
     others = [parts(key, row) for key, row in rows["code"].items() if "name" not in row]
     between = [pair(f"b{string(key)}", string(row["words"])) for key, row in rows["other"].items()]
@@ -105,8 +106,9 @@ def sequences(rows):
         ("SETS_OF_SEVERAL", "Sets of which each character has several bytes.", "sets_several"),
     )]
     return "\n".join([
-        "//! Escape sequences that the codec has no code for, and character sets, in words.\n",
-        array("Escape sequences by their intermediate bytes and their last one.", "NAMES", kind, others),
+        "//! Escape sequences and character sets in words.\n",
+        words(rows),
+        array("Those without a code, by their intermediate bytes and their last one.", "NAMES", kind, others),
         array("What any other sequence is that has these intermediate bytes.", "OTHERS", "(&[u8], &str)", between),
         *(array(about, name, kind, pairs) for name, about, pairs in sets),
     ])
@@ -171,7 +173,6 @@ def files(rows):
     return {
         "crates/csicodec_names/src/esc_codes.rt": first_line(TABLE) + codes(rows),
         "crates/csicodec_names/specs/EscCodes.antt": first_line(TABLE, "--") + characters(rows),
-        "crates/csicodec_words/src/esc_words.rt": first_line(TABLE) + words(rows),
-        "crates/csicodec_readings/src/escape_rows.rt": first_line(TABLE) + sequences(rows),
+        "crates/csicodec_words/src/escape_rows.rt": first_line(TABLE) + sequences(rows),
         "docs/ESCAPES.md": page_line(TABLE) + page(rows),
     }

@@ -139,7 +139,7 @@ def named_antt(named):
 
 
 def words_rt(named):
-    """src/key_words.rt of csicodec_readings."""
+    """src/key_words.rt of csicodec_words."""
     lines = ["//! What keys with a name are called.", "", "use csicodec_keys::KeyCode;", "", "/// The words of a key; none of a function key and of one of a character.",
              "pub fn key_words(code: KeyCode) -> Option<&'static str> {", "    Some(match code {", "        KeyCode::Char(_) | KeyCode::F(_) => return None,"]
     return "\n".join([*lines, *(f'        KeyCode::{name} => "{row["words"]}",' for name, row in named.items()), "    })", "}"]) + "\n"
@@ -157,5 +157,5 @@ def files(tables):
         "crates/csicodec_keys/specs/Tables.antt": antt + tables_antt(),
         "crates/csicodec_keys/specs/SameKeys.antt": antt + same_keys_antt(named),
         "crates/csicodec_keys/proofs/Named.antt": antt + named_antt(named),
-        "crates/csicodec_readings/src/key_words.rt": rust + words_rt(named),
+        "crates/csicodec_words/src/key_words.rt": rust + words_rt(named),
     }

@@ -177,4 +177,4 @@ def files(table):
     rows = all_rows(table)
     check(table, rows)
     texts = {f"crates/csicodec_sequences/src/rows/{name}.rt": rows_text(some, *PARTS[name][1:]) for name, some in parts(rows).items()}
-    return {**texts, **tests(rows), "docs/SEQUENCES.md": page(rows), "crates/csicodec_readings/src/sequence_rows.rt": rows_rt(table)}
+    return {**texts, **tests(rows), "docs/SEQUENCES.md": page(rows), "crates/csicodec_words/src/sequence_rows.rt": rows_rt(table)}

@@ -265,7 +265,7 @@ def words(table):
     said = "The first 16 of the palette: the names of ECMA-48 for the first 8, and `bright` ahead for the next."
     holes = {it.variant: f"SGR  {it.ahead} {{0{'@color' * (it.holds == 'ColorSpec')}}}" for it in (*table.sets.values(), *table.further.values()) if it.ahead}
     parts = "".join("\n" + pieces(low(variant).upper(), template) for variant, template in holes.items())
-    return WORDS.replace("TYPES", ", ".join(used)).replace("ARMS", "\n".join(arms(table))) + array(said, "COLORS", "&str", names) + parts
+    return WORDS.replace("TYPES", ", ".join(used)).replace("ARMS", "\n".join(arms(table))) + array(said, "COLORS", "&str", names) + parts + "\n" + unread(table)
 
 
 PAGE = """\
@@ -306,8 +306,7 @@ def page(table):
 
 def unread(table):
     rows = [pair(str(number), string(f"SGR  {row['words']}")) for number, row in table.code.items() if "name" not in row]
-    said = array("Attributes that the codec has no code for, each alone.", "UNREAD", "(i64, &str)", rows)
-    return "//! Attributes of text that no action sets, in words.\n\n" + said
+    return array("Attributes that no action sets, each alone.", "UNREAD", "(i64, &str)", rows)
 
 
 def files(rows):
@@ -316,7 +315,7 @@ def files(rows):
     written = {
         "csicodec_names/src/codes.rt": codes, "csicodec_names/specs/Numbers.antt": numbers,
         "csicodec_base/src/entries.rt": entries, "csicodec_base/specs/Attributes.antt": attributes,
-        "csicodec_c/src/by_number.rt": alone, "csicodec_words/src/sgr_words.rt": words, "csicodec_readings/src/sgr_rows.rt": unread,
+        "csicodec_c/src/by_number.rt": alone, "csicodec_words/src/sgr_words.rt": words,
     }
     texts = {f"crates/{path}": first_line(TABLE, "--" if path.endswith(".antt") else "//") + of(table) for path, of in written.items()}
     return {**texts, **line_parts(table.attributes()), "docs/SGR.md": page_line(TABLE) + page(table)}

@@ -14,7 +14,7 @@ MOST = 60
 TEXT = """\
 //! Control sequences without an action, in words.
 
-use crate::table::{ANY, WordsRow};
+use crate::sequences::{ANY, WordsRow};
 
 macro_rules! row {
     ($kind:literal, $marker:expr, $between:expr, $control:literal, $first:expr, $second:expr, $fields:expr, $words:literal) => {
@@ -107,7 +107,7 @@ pub(crate) fn parts() -> [&'static [WordsRow]; {len(pieces)}] {{
 
 
 def rows_rt(table):
-    """src/sequence_rows.rt of csicodec_readings. Words of one first number stand ahead of those of any."""
+    """src/sequence_rows.rt of csicodec_words. Words of one first number stand ahead of those of any."""
     told = sorted([*of_section(table, "beyond"), *of_rows(table)], key=lambda told: told.first == ANY)
     instead = list(of_section(table, "instead"))
     return first_line(TABLE) + TEXT + parts(told) + "\n" + array("What is said in the place of an action.", "INSTEAD", "WordsRow", [[row.text()] for row in instead])

@@ -5,7 +5,6 @@ ghost use Rattle.csicodec_events.specs.Events.{IsMet};
 use crate::page::{Modes, Page};
 use csicodec_base::CsiParam;
 use csicodec_events::{Dialect, Event, Events, InputEvent, Sent};
-use csicodec_readings::Did;
 use csicodec_sheet::Sort;
 use csicodec_spans::{Kind, LIMIT, Mode};
 use std::alloc::{AllocError, Global};

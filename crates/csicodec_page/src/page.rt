@@ -5,14 +5,13 @@ use crate::controls::{is_control, text_front, words_of};
 use crate::taken::words_with_taken;
 use csicodec_base::{CsiParam, Esc, ReadError, read_csi_into};
 use csicodec_parser::CSI;
-use csicodec_readings::{Did, EscReading, LongEscReading, Reading};
 use csicodec_sheet::{
     Names, Sheet, Sort, Style, Summary, Told, Totals, clipboard_bytes, whole_characters,
 };
 use csicodec_spans::{Kind, LIMIT, Mode};
 use csicodec_streams::keep_from;
 use csicodec_osc::{ControlString, FRONT};
-use csicodec_words::Described;
+use csicodec_words::{Described, Did, EscReading, LongEscReading, Reading};
 use std::alloc::{AllocError, Global};
 use std::fmt::{self, Display};
 

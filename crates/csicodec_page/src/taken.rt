@@ -1,10 +1,9 @@
 //! What terminals take a list for that the table of actions doesn't read.
 
 use csicodec_parser::CSI;
-use csicodec_readings::Reading;
 use csicodec_sheet::{name_of, text_of};
 use csicodec_terminal::terminal_actions;
-use csicodec_words::Described;
+use csicodec_words::{Described, Reading};
 use std::alloc::{AllocError, Global};
 
 /// Appends what terminals do by a list, behind as many actions as the table reads of it, without what is unknown to them too.

@@ -1,15 +1,27 @@
 //! Control sequences and escape sequences in words for people: the name that the standard or the terminal's maker gave, and
-//! what it does.
+//! what it does. And what a terminal sends: keys, the mouse and the focus.
 #![tactic(auto)]
 
 mod action_words;
 mod describe;
 mod device;
-mod esc;
-mod esc_words;
+mod escape_rows;
+mod escapes;
+mod input;
+mod intermediates;
+mod key_words;
+mod keys;
+mod list;
 mod mode;
 mod mode_words;
+mod mouse;
 mod numbered;
+mod other_sets;
+mod otherwise;
+mod reading;
+mod sent_rows;
+mod sequence_rows;
+mod sequences;
 mod sgr;
 mod sgr_words;
 mod template;
@@ -20,10 +32,9 @@ use crate::action_words::words_of_action;
 use csicodec_base::CsiParam;
 use csicodec_parser::{CSI, Unspecified};
 pub use describe::{Describe, Described};
-pub use numbered::{Numbered, words_of};
+pub use input::Did;
+pub use reading::{EscReading, LongEscReading, Reading};
 use std::fmt;
-pub use template::fill;
-pub use values::Values;
 
 impl Describe for CSI {
     fn describe<W: fmt::Write>(&self, f: &mut fmt::Formatter<W>) -> fmt::Result {

@@ -1,6 +1,7 @@
 """Which files follow from the actions, from the values that they have, and from the other tables: whole files of csicodec_structs, of csicodec_words, of csicodec_remake, of include/, of c/,
 of python/, of web/ and of rust/ (FILES), in which nothing else stands, and the numbers of new names in include/numbers.txt. A number that was given
 isn't changed."""
+import functools
 import os
 import subprocess
 import sys
@@ -18,7 +19,8 @@ from bindings.rust import rust_known, rust_rows, rust_types
 from bindings.said import rust_keys, rust_osc
 from bindings.source import candidates, rows
 from bindings.specs import named, ranges, specs
-from bindings.words import words
+from bindings.words import WORDED, subject_words, words
+from layout import low
 
 HEADER = "include/csicodec_kinds.h"
 FILES = {
@@ -29,6 +31,7 @@ FILES = {
     "crates/csicodec_structs/src/rows.rt": rows,
     "crates/csicodec_structs/src/candidates.rt": candidates,
     "crates/csicodec_words/src/action_words.rt": words,
+    **{f"crates/csicodec_words/src/action_words/{low(group)}.rt": functools.partial(subject_words, group) for group in WORDED},
     "crates/csicodec_remake/src/patterns.rt": patterns,
     HEADER: header,
     "include/csicodec_names.h": header_names,
@@ -85,12 +88,13 @@ def laid_out(texts):
     with tempfile.TemporaryDirectory() as room:
         source = os.path.join(room, "crates/kinds/src")
         os.makedirs(source)
-        sources = {path: os.path.join(source, os.path.basename(path)) for path in texts if path.endswith(".rt")}
+        sources = {path: os.path.join(source, path.split("/src/")[1]) for path in texts if path.endswith(".rt")}
         with open(os.path.join(room, "crates.txt"), "w", encoding="utf-8") as file:
             file.write("kinds:\n")
         with open(os.path.join(source, "lib.rt"), "w", encoding="utf-8") as file:
-            file.write("//! The tables.\n" + "".join(f"mod {os.path.basename(path)[:-3]};\n" for path in sources))
+            file.write("//! The tables.\n" + "".join(f"mod {os.path.basename(path)[:-3]};\n" for path, place in sources.items() if os.path.dirname(place) == source))
         for path, place in sources.items():
+            os.makedirs(os.path.dirname(place), exist_ok=True)
             with open(place, "w", encoding="utf-8") as file:
                 file.write(texts[path])
         run(["rt", "fmt"], cwd=os.path.join(room, "crates/kinds"))

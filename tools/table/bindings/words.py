@@ -1,4 +1,4 @@
-"""The source of csicodec_words that has a line for each kind: the words of an action with holes, and what these stand for."""
+"""The sources of csicodec_words that have a line for each kind, a file for each subject: the words of an action with holes, and what these stand for."""
 from bindings.library import BY_NUMBER, IN_TURN, SUBJECTS, low, number_of, of, type_of, used
 from bindings.source import source_name, struct_arm
 from forms import LARGEST, Form, Slot
@@ -16,19 +16,27 @@ OWN = {
     "extensions": "extensions_row({}, &flags.attributes)",
     "graphics": "graphics_row({}, graphics)",
 }
-ROWS = ("area_row", "color_row", "extensions_row", "graphics_row", "report_row", "row", "sized_row")
+# What the words of actions need of csicodec_words.
+VALUES = ("Piece", "Said", "area_row", "color_row", "extensions_row", "graphics_row", "report_row", "row", "sized_row")
+# The subjects with words here; those of SGR are of table/sgr.toml.
+WORDED = [group for group in BY_NUMBER if group != "Sgr"]
 # What holes are called in the words of forms that have no fields, each with its type.
 SLOTS = {"unit": [], "count": ["n"], "place": ["n"], "int": ["n"], "bits": ["flags"], "extensions": ["attributes"], "graphics": ["action", "item", "values"]}
 
 TEXT = """\
-//! Actions in words.
+//! Actions in words, a file for each subject.
 
-use crate::values::{{{rows}}};
-use crate::sgr_words::words_of_attribute;
-use bitflags::Flags;
-use csicodec_actions::{{{types}}};
+{mods}use crate::sgr_words::words_of_attribute;
+use crate::values::{{Piece, Said, row}};
 use csicodec_parser::CSI;
-
+{uses}
+/// The words of an action; none of one that no rule reads.
+pub(crate) fn words_of_action(action: &CSI) -> Option<Said<'_>> {{
+    Some(match action {{
+{arms}        CSI::SelectCharacterPath(path, effect) => row(&SELECT_CHARACTER_PATH, i64::from(path.number()), *effect),
+        CSI::Unspecified(_) => return None,
+    }})
+}}
 """
 
 
@@ -67,25 +75,33 @@ def arm(kind, action, lists):
     return struct_arm((f"&{parts}", group, variant, form, names), OWN), pieces(parts, words)
 
 
-def of_subject(subject):
-    said, kind = low(subject.name), type_of(subject.name)
-    arms, parts = zip(*(arm(kind, action, subject.row.get("lists", {})) for kind, action in zip(of(subject.name), subject.actions)))
-    return f"\nfn {said}_words({said}: &{kind}) -> Said<'_> {{\n    match {said} {{\n{''.join(arms)}    }}\n}}\n" + "".join("\n" + part for part in parts if part)
+def whole(about, body, *needs):
+    """A file, with the imports that its body needs: those of this crate, and of others."""
+    lines = [f"use {path}::{{{used(names, body)}}};" for path, names in needs if used(names, body)]
+    return first_line("actions.toml") + f"//! {about}\n\n" + "\n".join(lines) + "\n\n" + body
+
+
+def extensions():
+    """The words of what a terminal says that it can do."""
+    codes = rows_of("values.toml")["DeviceAttributeCodes"]
+    said = {row["number"]: row["words"] for row in codes["variants"].values()} | {int(number): words for number, words in codes["others"].items()}
+    return array("Extensions of terminals, by their numbers.", "EXTENSIONS", "(i64, &str)", [pair(str(number), string(said[number])) for number in sorted(said)])
+
+
+def subject_words(group):
+    """The file of a subject: the words of its actions."""
+    subject, said, kind = SUBJECTS[group], low(group), type_of(group)
+    arms, parts = zip(*(arm(kind, action, subject.row.get("lists", {})) for kind, action in zip(of(group), subject.actions)))
+    body = f"/// The words of an action.\npub(crate) fn {said}_words({said}: &{kind}) -> Said<'_> {{\n    match {said} {{\n{''.join(arms)}    }}\n}}\n"
+    body += "".join("\n" + part for part in parts if part) + ("\n" + extensions() if group == "Device" else "")
+    return whole(f"Actions of {kind} in words.", body, ("crate::values", VALUES), ("bitflags", ["Flags"]), ("csicodec_actions", [kind, "DeviceAttributes"]))
 
 
 def words():
-    body = """/// The words of an action; none of one that no rule reads.
-pub(crate) fn words_of_action(action: &CSI) -> Option<Said<'_>> {
-    Some(match action {
-"""
-    for group in IN_TURN:
-        body += f"        CSI::{group}({low(group)}) => {low(group)}_words({low(group)}),\n"
+    """The file that knows the subjects, and the one action that CSI has beside them."""
+    mods = "".join(f"{'pub(crate) ' * (group == 'Device')}mod {low(group)};\n" for group in sorted(WORDED)) + "\n"
+    uses = "".join(f"use {low(group)}::{low(group)}_words;\n" for group in sorted(WORDED))
     path = next(variant for variant in rows_of("values.toml")["CSI"]["variants"].items() if variant[0] == "SelectCharacterPath")[1]
     said = filled(path["words"], {"path": "CharacterPath", "effect": ""}, {})
-    body += f"        CSI::SelectCharacterPath(path, effect) => row(&SELECT_CHARACTER_PATH, i64::from(path.number()), *effect),\n        CSI::Unspecified(_) => return None,\n    }})\n}}\n"
-    body += "\n" + pieces("SELECT_CHARACTER_PATH", said) + "".join(of_subject(SUBJECTS[group]) for group in BY_NUMBER if group != "Sgr")
-    codes = rows_of("values.toml")["DeviceAttributeCodes"]
-    extensions = {row["number"]: row["words"] for row in codes["variants"].values()} | {int(number): words for number, words in codes["others"].items()}
-    table = array("Extensions of terminals, by their numbers.", "EXTENSIONS", "(i64, &str)", [pair(str(number), string(extensions[number])) for number in sorted(extensions)])
-    held = [type_of(group) for group in BY_NUMBER if group != "Sgr"] + ["DeviceAttributes"]
-    return first_line("actions.toml") + TEXT.format(rows=used([*ROWS, "Piece", "Said"], body), types=used(held, body)) + body.replace("sgr_words(sgr)", "words_of_attribute(sgr)") + "\n" + table
+    arms = "".join(f"        CSI::{group}({low(group)}) => {'words_of_attribute' if group == 'Sgr' else low(group) + '_words'}({low(group)}),\n" for group in IN_TURN)
+    return first_line("actions.toml") + TEXT.format(mods=mods, uses=uses, arms=arms) + "\n" + pieces("SELECT_CHARACTER_PATH", said)

@@ -2,9 +2,9 @@
 
 use crate::list::{count_fields, intermediate, marker};
 use crate::sequence_rows::{INSTEAD, parts};
+use crate::values::Values;
 use csicodec_base::CsiParam;
 use csicodec_sequences::Known;
-use csicodec_words::Values;
 
 /// From a number to another one.
 pub type Range = (i64, i64);

@@ -1,35 +1,20 @@
 //! What a terminal makes of a control sequence or an escape sequence: the words of its action, and where a terminal reads
-//! it otherwise than the codec, or the codec has no action for it, the words of what terminals make of it. And what a terminal
-//! sends: keys, the mouse and the focus.
-#![tactic(auto)]
+//! it otherwise than the codec, or the codec has no action for it, the words of what terminals make of it.
 
-mod escape_rows;
-mod escapes;
-mod input;
-mod intermediates;
-mod key_words;
-mod keys;
-mod list;
-mod mouse;
-mod other_sets;
-mod otherwise;
-mod sent_rows;
-mod sequence_rows;
-mod sgr_rows;
-mod table;
-
+use crate::describe::Describe;
 use crate::escapes::escape_of;
 use crate::intermediates::escape_of_bytes;
 use crate::keys::{key_by_number, key_of};
 use crate::list::{is_regular, marker};
+use crate::numbered::words_of;
 use crate::other_sets::Escape;
 use crate::otherwise::{Otherwise, read_otherwise};
-use crate::sgr_rows::UNREAD;
-use crate::table::words;
+use crate::sequences::words;
+use crate::sgr_words::UNREAD;
+use crate::template::fill;
+use crate::values::Values;
 use csicodec_base::{CsiParam, Esc};
 use csicodec_parser::{CSI, Unspecified};
-use csicodec_words::{Describe, Values, fill, words_of};
-pub use input::Did;
 use std::fmt;
 
 /// One action of a control sequence, as a terminal reads it.

@@ -1,10 +1,11 @@
 //! Sequences that terminals read otherwise than the codec's table, which is termwiz's.
 
 use crate::list::{intermediate, marker};
+use crate::numbered::words_of;
 use crate::sent_rows::SENT;
-use crate::table::words_instead;
+use crate::sequences::words_instead;
+use crate::values::Values;
 use csicodec_base::CsiParam;
-use csicodec_words::{Values, words_of};
 
 /// How a terminal reads a sequence otherwise.
 #[derive(Clone, Copy)]

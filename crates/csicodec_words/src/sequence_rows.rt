@@ -1,7 +1,7 @@
 // Written by tools/table from table/sequences.toml: change that, and run python3 tools/table.
 //! Control sequences without an action, in words.
 
-use crate::table::{ANY, WordsRow};
+use crate::sequences::{ANY, WordsRow};
 
 macro_rules! row {
     ($kind:literal, $marker:expr, $between:expr, $control:literal, $first:expr, $second:expr, $fields:expr, $words:literal) => {

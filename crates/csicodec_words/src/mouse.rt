@@ -1,6 +1,7 @@
 //! Reports of the mouse in three characters (xterm's ctlseqs, Mouse Tracking; UTF-8 in mode 1005).
 
-use csicodec_words::{Values, fill};
+use crate::template::fill;
+use crate::values::Values;
 use std::fmt;
 
 /// What the mouse did, and where: three numbers, each 32 and more than what it stands for.

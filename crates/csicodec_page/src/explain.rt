@@ -3,8 +3,10 @@ ghost use Rattle.std.specs.Prelude.{◌≤◌, IfOk, length};
 
 use crate::input::Sending;
 use crate::page::{Modes, Page};
+use crate::sheet::text_of;
+use crate::stats::stats_of;
+use crate::style::Style;
 use csicodec_events::Dialect;
-use csicodec_sheet::{Style, stats_of, text_of};
 use csicodec_spans::{Kind, LIMIT, Mode, next_span};
 use csicodec_streams::{CHUNK, RunError, keep_from, receive, send};
 use std::alloc::{AllocError, Global};

@@ -2,10 +2,10 @@
 ghost use Rattle.std.specs.Prelude.{◌≡◌, ◌<◌, ◌≤◌, IfOk, length};
 ghost use Rattle.csicodec_events.specs.Events.{IsMet};
 
+use crate::line::Sort;
 use crate::page::{Modes, Page};
 use csicodec_base::CsiParam;
 use csicodec_events::{Dialect, Event, Events, InputEvent, Sent};
-use csicodec_sheet::Sort;
 use csicodec_spans::{Kind, LIMIT, Mode};
 use std::alloc::{AllocError, Global};
 

@@ -1,10 +1,23 @@
-//! A stream in words, as it comes: a line, or an object of JSON, for each of its spans.
+//! A stream in words, as it comes: a line, or an object of JSON, for each of its spans, with what was asked for; and how often each name
+//! stood.
 #![tactic(auto)]
 
+mod cache;
 mod controls;
+mod counts;
+mod decode;
 mod explain;
+mod fields;
 mod input;
+mod json;
+mod line;
 mod page;
+mod search;
+mod sheet;
+mod stats;
+mod style;
 mod taken;
+mod totals;
 
 pub use explain::Explainer;
+pub use style::{Style, is_among};

@@ -2,15 +2,18 @@
 ghost use Rattle.std.specs.Prelude.{◌≤◌, IfOk, length};
 
 use crate::controls::{is_control, text_front, words_of};
+use crate::counts::Names;
+use crate::decode::clipboard_bytes;
+use crate::line::{Sort, Told, whole_characters};
+use crate::sheet::Sheet;
+use crate::style::Style;
 use crate::taken::words_with_taken;
+use crate::totals::{Summary, Totals};
 use csicodec_base::{CsiParam, Esc, ReadError, read_csi_into};
+use csicodec_osc::{ControlString, FRONT};
 use csicodec_parser::CSI;
-use csicodec_sheet::{
-    Names, Sheet, Sort, Style, Summary, Told, Totals, clipboard_bytes, whole_characters,
-};
 use csicodec_spans::{Kind, LIMIT, Mode};
 use csicodec_streams::keep_from;
-use csicodec_osc::{ControlString, FRONT};
 use csicodec_words::{Described, Did, EscReading, LongEscReading, Reading};
 use std::alloc::{AllocError, Global};
 use std::fmt::{self, Display};

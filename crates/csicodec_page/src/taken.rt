@@ -1,7 +1,8 @@
 //! What terminals take a list for that the table of actions doesn't read.
 
+use crate::sheet::text_of;
+use crate::style::name_of;
 use csicodec_parser::CSI;
-use csicodec_sheet::{name_of, text_of};
 use csicodec_terminal::terminal_actions;
 use csicodec_words::{Described, Reading};
 use std::alloc::{AllocError, Global};

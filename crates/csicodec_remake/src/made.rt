@@ -2,8 +2,7 @@
 
 use crate::fill::append_filled;
 use crate::patterns::PATTERNS;
-use csicodec_page::Explainer;
-use csicodec_sheet::Style;
+use csicodec_page::{Explainer, Style};
 use csicodec_spans::LIMIT;
 use csicodec_streams::RunError;
 use memchr::memmem::find;

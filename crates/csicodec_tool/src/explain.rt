@@ -10,8 +10,7 @@ use csicodec_command::{
     work_through,
 };
 use csicodec_events::Dialect;
-use csicodec_page::Explainer;
-use csicodec_sheet::Style;
+use csicodec_page::{Explainer, Style};
 use std::alloc::Global;
 use std::env;
 use std::io::{self, BufRead, IsTerminal, Read, Write};

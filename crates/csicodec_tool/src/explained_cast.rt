@@ -1,9 +1,9 @@
 //! Recordings of asciinema in words.
 
 use csicodec_command::{Failure, Recording};
+use csicodec_osc::Quoted;
 use csicodec_page::Explainer;
 use csicodec_streams::RunError;
-use csicodec_osc::Quoted;
 use std::alloc::Global;
 use std::fmt;
 use std::io::{BufRead, Write};

@@ -2,8 +2,7 @@
 
 use crate::spelling::{bytes_of, law};
 use csicodec_events::Dialect;
-use csicodec_page::Explainer;
-use csicodec_sheet::Style;
+use csicodec_page::{Explainer, Style};
 use std::alloc::{AllocError, Global};
 
 /// What is told of a stream that comes in these two pieces; nothing where that fails.

@@ -4,9 +4,9 @@
 use crate::spelling::bytes_of;
 use csicodec_actions::{Device, MouseButton, MouseReport, Window};
 use csicodec_base::{Esc, Modifiers};
+use csicodec_osc::ControlString;
 use csicodec_parser::CSI;
 use csicodec_streams::decode_all;
-use csicodec_osc::ControlString;
 use csicodec_words::Described;
 use std::alloc::{AllocError, Global};
 

@@ -14,5 +14,5 @@ pub mod laws;
 mod lines;
 mod object;
 
-pub use lines::Assembler;
+pub use lines::{Assembler, split_line};
 pub use object::{Fault, Refusal, bytes_of, bytes_of_line};

@@ -13,7 +13,7 @@ use std::alloc::Global;
 const MOST: usize = 16_777_216;
 
 /// The line in front, and what is behind its end, if it has one.
-fn split_line(bytes: &[u8]) -> Option<(&[u8], &[u8])>
+pub fn split_line(bytes: &[u8]) -> Option<(&[u8], &[u8])>
     ensures whole { IfSome result (λ (line, behind). bytes.now ≡ line.now ++ 10 ∷ behind.now) }
     ensures first { IfSome result (λ (line, _). list_all (λ b. not (b == 10)) line.now ≡ true) }
     ensures none { IfNone result (list_all (λ b. not (b == 10)) bytes.now ≡ true) }

@@ -1,5 +1,5 @@
 //! A stream in words, as it comes: a line, or an object of JSON, for each of its spans, with what was asked for; and how often each name
-//! stood.
+//! stood. And lines of JSON that have actions and no bytes, remade with the bytes of these.
 #![tactic(auto)]
 
 mod cache;
@@ -8,10 +8,14 @@ mod counts;
 mod decode;
 mod explain;
 mod fields;
+mod fill;
 mod input;
 mod json;
 mod line;
+mod made;
 mod page;
+mod patterns;
+mod remaker;
 mod search;
 mod sheet;
 mod stats;
@@ -20,4 +24,5 @@ mod taken;
 mod totals;
 
 pub use explain::Explainer;
+pub use remaker::Remaker;
 pub use style::{Style, is_among};

@@ -1,16 +1,9 @@
 //! What stands for an action in a pattern.
 
+use crate::line::append_number;
 use crate::patterns::CODES;
-use itoa::write_digits;
 use serde_json::Value;
 use std::alloc::AllocError;
-
-/// A number in decimal digits.
-fn append_number(text: &mut Vec<u8>, number: u64) -> Result<(), AllocError> {
-    let mut digits = [0u8; 20];
-    let begin = write_digits(number, &mut digits, 20);
-    text.extend_from_slice(&digits[begin..])
-}
 
 /// The number that a name stands for.
 fn code_of(name: &str) -> Option<u64> {

@@ -1,13 +1,18 @@
-//! Lines as they come, each as it is or with the bytes of its actions.
-ghost use Rattle.std.specs.Prelude.{◌≡◌, ◌≢◌, ◌==◌, ◌++◌, ◌∷◌, [], Err, IfOk, IfSome, IsSome, IsTrue, OnOk, not, true};
-ghost use Rattle.std.specs.List.{list_all};
+//! Lines of JSON as `csicodec explain --json` writes them, as they come. An object without `text` and `hex` gets `hex`, the bytes that
+//! have its actions. A text is taken only if `explain` says of it what the object does.
+//!
+//! ```text
+//! {"actions":[{"action":"Cursor::Up","value":7}]}            {"hex":"1b5b3741"}, ESC [ 7 A
+//! {"text":"hi","actions":[]}                                  as it is
+//! {"actions":[{"action":"Cursor::Up","value":"seven"}]}      as it is, which csicodec_assemble refuses
+//! ```
+ghost use Rattle.std.specs.Prelude.{◌≡◌, ◌≢◌, ◌++◌, ◌∷◌, [], Err, IfOk, IsSome, IsTrue, OnOk};
 ghost use Rattle.csicodec_assemble.specs.declared.object.Fault.TheVariants.{NoSequence};
 ghost use Rattle.csicodec_assemble.specs.Object.{of_line};
-ghost use Rattle.csicodec_remake.specs.Kept.{AreKept, lines_over};
+ghost use Rattle.csicodec_page.specs.Kept.{AreKept, lines_over};
 
 use crate::made::Maker;
-use csicodec_assemble::{Fault, Refusal, bytes_of_line};
-use memchr::memchr;
+use csicodec_assemble::{Fault, Refusal, bytes_of_line, split_line};
 use memchr::memmem::find;
 use std::alloc::{AllocError, Global};
 
@@ -69,15 +74,6 @@ fn append_line(
         }
         None => out.extend_from_slice(line),
     }
-}
-
-/// The line in front, and what is behind its end, if it has one.
-fn split_line(bytes: &[u8]) -> Option<(&[u8], &[u8])>
-    ensures whole { IfSome result (λ (line, behind). bytes.now ≡ line.now ++ 10 ∷ behind.now) }
-    ensures first { IfSome result (λ (line, _). list_all (λ b. not (b == 10)) line.now ≡ true) }
-{
-    let end = memchr(b'\n', bytes)?;
-    Some((&bytes[..end], &bytes[end + 1..]))
 }
 
 impl Remaker {

@@ -1,28 +1,15 @@
 -- Lines that end in bytes, of which each stays as it is.
-use Rattle.std.proofs.Common.{◌≡◌, ℕ, zero, suc, ◌==◌, Bool, true, false, not, List, [], ◌∷◌, ◌++◌, Err, take, refl, sym, ap, subst, ◌∙◌, append_assoc, append-nil, arith}
+use Rattle.std.proofs.Common.{◌≡◌, ℕ, ◌==◌, Bool, true, false, not, List, [], ◌∷◌, ◌++◌, Err, refl, sym, ap, subst, ◌∙◌, append_assoc, append-nil}
 use Rattle.std.specs.Prelude.{◌≢◌}
 use Rattle.std.specs.List.{list_all}
 use Rattle.std.proofs.lemmas.Bool.{and_parts}
-use Rattle.memchr.specs.Find.{Nowhere, Passes, is_byte}
 use Rattle.csicodec_assemble.specs.declared.object.Fault.TheVariants.{NoSequence}
 use Rattle.csicodec_assemble.specs.Object.{of_line}
-use Rattle.csicodec_remake.specs.Kept.{AreKept, lines_over}
+use Rattle.csicodec_page.specs.Kept.{AreKept, lines_over}
 
 is_false : (t : Bool) → not t ≡ true → t ≡ false
 is_false true e = cc e
 is_false false e = refl
-
-isnt_true : (t : Bool) → (t ≡ true → ⊥) → t ≡ false
-isnt_true true never = absurd (never refl)
-isnt_true false never = refl
-
--- no byte ahead of the first LF is one
-pub none_before : (n : ℕ) (bytes : List ℕ) → Nowhere (Passes (is_byte 10) bytes) 0 n → list_all (λ b. not (b == 10)) (take n bytes) ≡ true
-none_before zero bytes never = refl
-none_before (suc n) [] never = refl
-none_before (suc n) (b ∷ bytes) never =
-    let other : (b == 10) ≡ false = isnt_true (b == 10) (never 0 (omega arith) (omega arith)) in
-    rw other (none_before n bytes (λ k low high found. never (suc k) (omega arith) (omega (arith, high)) found))
 
 goes_on : (line more : List ℕ) (b : ℕ) → (b == 10) ≡ false → lines_over line (b ∷ more) ≡ lines_over (line ++ b ∷ []) more
 goes_on line more b other = rw other refl

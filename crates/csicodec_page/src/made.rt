@@ -1,8 +1,9 @@
 //! The text of an action, found by trying.
 
+use crate::explain::Explainer;
 use crate::fill::append_filled;
 use crate::patterns::PATTERNS;
-use csicodec_page::{Explainer, Style};
+use crate::style::Style;
 use csicodec_spans::LIMIT;
 use csicodec_streams::RunError;
 use memchr::memmem::find;

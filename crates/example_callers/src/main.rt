@@ -1,27 +1,39 @@
-//! Four callers of the library, each in a file of its own.
+//! Five callers of the library, each in a file of its own.
 //!
 //! A line of standard input names one of them, and has the bytes that it gets, with `\e` for ESC and else as `bstr` spells bytes. The program
-//! writes what that caller makes of them.
+//! writes what that caller makes of them. Behind `measure` stand a call, and how often it is done, ahead of the bytes.
 #![tactic(auto)]
 
 mod emulator;
 mod keys;
+mod measure;
 mod recorder;
 mod renderer;
 
 use bstr::ByteVec;
+use std::alloc::{AllocError, Global};
+
+/// The bytes that are spelled so.
+pub(crate) fn bytes_of(alloc: Global, spelled: &str) -> Result<Vec<u8>, AllocError> {
+    let escaped = spelled.replace(alloc, "\\e", "\\x1b")?;
+    Vec::unescape_bytes(alloc, escaped.as_str())
+}
 
 /// Runs the caller that a line names.
 fn run(rt: &HostRuntime, line: &str) -> anyhow::Result<()> {
     let (name, spelled) = line.split_once(' ').unwrap_or((line, ""));
-    let escaped = spelled.replace(rt.alloc(), "\\e", "\\x1b")?;
-    let bytes = Vec::unescape_bytes(rt.alloc(), escaped.as_str())?;
+    if name == "measure" {
+        return measure::run(rt, spelled);
+    }
+    let bytes = bytes_of(rt.alloc(), spelled)?;
     match name {
         "emulator" => emulator::run(rt, &bytes),
         "keys" => keys::run(rt, &bytes),
         "recorder" => recorder::run(rt, &bytes),
         "renderer" => renderer::run(rt, &bytes),
-        _ => Err(anyhow::Error::msg("a line begins with emulator, keys, recorder or renderer")),
+        _ => Err(anyhow::Error::msg(
+            "a line begins with emulator, keys, measure, recorder or renderer",
+        )),
     }
 }
 

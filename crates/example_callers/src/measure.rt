@@ -1,12 +1,8 @@
-//! Runs one call of `csicodec` over control sequences from standard input, as often as it is told, so that anybody can measure
-//! what it costs: `csicodec_bench decode|parse|encode|normalise TIMES < FILE`. It prints how many actions or bytes came out, of all
-//! times.
-#![tactic(auto)]
+//! A call of the library over control sequences, done as often as a line says, so that anybody can measure what it costs.
 
+use crate::bytes_of;
 use csicodec::{CSI, ReadCsi, decode_all, encode_all, normalise, read_csi};
 use std::alloc::Global;
-use std::env;
-use std::io::Read;
 
 /// `decode_all` of all bytes: the actions.
 fn decode(alloc: Global, bytes: &[u8], times: u64) -> anyhow::Result<u64> {
@@ -80,24 +76,18 @@ fn normalised(alloc: Global, bytes: &[u8], times: u64) -> anyhow::Result<u64> {
     Ok(count)
 }
 
-/// How the program is used.
-const USAGE: &str = "usage: csicodec_bench decode|parse|encode|normalise TIMES < FILE";
-
-fn main(rt: HostRuntime) -> anyhow::Result<()> {
-    let mut words = env::args(&rt)?;
-    let _program = words.next();
-    let (call, times) = (words.next(), words.next());
-    let (Some(call), Some(Ok(times))) = (call, times.map(|word| word.parse::<u64>())) else {
-        return Err(anyhow::Error::msg(USAGE));
-    };
-    let mut bytes = Vec::new(rt.alloc());
-    rt.stdin().read_to_end(&mut bytes)?;
-    let count = match call.as_str() {
+/// Writes how many actions or bytes came out, of all times.
+pub(crate) fn run(rt: &HostRuntime, words: &str) -> anyhow::Result<()> {
+    let (call, behind) = words.split_once(' ').unwrap_or((words, ""));
+    let (times, spelled) = behind.split_once(' ').unwrap_or((behind, ""));
+    let times = times.parse::<u64>()?;
+    let bytes = bytes_of(rt.alloc(), spelled)?;
+    let count = match call {
         "decode" => decode(rt.alloc(), &bytes, times)?,
         "parse" => parse(rt.alloc(), &bytes, times)?,
         "encode" => encode(rt.alloc(), &bytes, times)?,
         "normalise" => normalised(rt.alloc(), &bytes, times)?,
-        _ => return Err(anyhow::Error::msg(USAGE)),
+        _ => return Err(anyhow::Error::msg("a call is decode, parse, encode or normalise")),
     };
     println!(rt; "{count}")?;
     Ok(())

@@ -77,7 +77,7 @@ def arm(kind, action, lists):
 
 def whole(about, body, *needs):
     """A file, with the imports that its body needs: those of this crate, and of others."""
-    lines = [f"use {path}::{{{used(names, body)}}};" for path, names in needs if used(names, body)]
+    lines = [f"use {path}::{{{used(names, body)}}};" for path, names in needs] + ["use bitflags::Flags;"] * (".bits()" in body)
     return first_line("actions.toml") + f"//! {about}\n\n" + "\n".join(lines) + "\n\n" + body
 
 
@@ -94,7 +94,7 @@ def subject_words(group):
     arms, parts = zip(*(arm(kind, action, subject.row.get("lists", {})) for kind, action in zip(of(group), subject.actions)))
     body = f"/// The words of an action.\npub(crate) fn {said}_words({said}: &{kind}) -> Said<'_> {{\n    match {said} {{\n{''.join(arms)}    }}\n}}\n"
     body += "".join("\n" + part for part in parts if part) + ("\n" + extensions() if group == "Device" else "")
-    return whole(f"Actions of {kind} in words.", body, ("crate::values", VALUES), ("bitflags", ["Flags"]), ("csicodec_actions", [kind, "DeviceAttributes"]))
+    return whole(f"Actions of {kind} in words.", body, ("crate::values", VALUES), ("csicodec_actions", [kind, "DeviceAttributes"]))
 
 
 def words():

@@ -2,6 +2,7 @@
 //! Actions of Keyboard in words.
 
 use crate::values::{Piece, Said, row};
+use bitflags::Flags;
 use csicodec_actions::Keyboard;
 
 /// The words of an action.

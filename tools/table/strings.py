@@ -17,6 +17,12 @@ TEXT = """\
 use crate::device::{ControlRow, Tells};
 use crate::kitty_graphics::{KeyRow, Says};
 
+macro_rules! row {
+    ($params:literal, $between:expr, $last:literal, $words:literal, $tells:ident) => {
+        ControlRow { params: $params, between: $between, last: $last, words: $words, tells: Tells::$tells }
+    };
+}
+
 """
 
 
@@ -46,8 +52,7 @@ def control(key, row):
     if not found or row["tells"] not in TELLS:
         refuse(TABLE, f"[dcs] {key}", "it is no string's begin, or nothing tells so of its data")
     params, between, last = found.groups()
-    fields = {"params": bytes_of(params), "between": byte(between), "last": byte(last), "words": string(row["words"]), "tells": f"Tells::{TELLS[row['tells']]}"}
-    return ["    ControlRow {", *(f"        {name}: {said}," for name, said in fields.items()), "    },"]
+    return f"    row! {{ {bytes_of(params)}, {byte(between)}, {byte(last)}, {string(row['words'])}, {TELLS[row['tells']]} }},"
 
 
 def says(words):
@@ -79,7 +84,7 @@ def files(tables):
     check(controls)
     settings = [pair(bytes_of(key), string(row["words"])) for key, row in rows_of("settings", tables["settings"])]
     text = first_line(TABLE) + TEXT + "\n".join([
-        array("Device control strings, the first that fits.", "CONTROLS", "ControlRow", [control(*row) for row in controls]),
+        array("Device control strings, the first that fits.", "CONTROLS", "ControlRow", [[control(*row)] for row in controls]),
         array("Settings, by the last bytes of what sets them, the first that fits.", "SETTINGS", "(&[u8], &str)", settings),
         array("What a key of kitty's graphics says, the first that fits.", "GRAPHICS", "KeyRow", list(keys(tables["graphics"]))),
     ])

@@ -59,9 +59,9 @@ def piece_of(hole):
 
 
 def pieces(name, template):
-    """A template as code has it, in parts."""
+    """A template as code has it, in parts, on one line."""
     parts = [f"Piece::{piece_of(part) if at % 2 else f'Text({string(part)})'}" for at, part in enumerate(re.split(r"[{}]", template)) if part]
-    return f"static {name}: [Piece; {len(parts)}] = [{', '.join(parts)}];\n"
+    return f"static {name}: [Piece; {len(parts)}] = pieces! {{ {', '.join(parts)} }};\n"
 
 
 def place_of(form):

@@ -40,16 +40,5 @@ pub(crate) fn words_of_action(action: &CSI) -> Option<Said<'_>> {
     })
 }
 
-static SELECT_CHARACTER_PATH: [Piece; 4] = [
-    Piece::Text("SCP  character path "),
-    Piece::OneOf(
-        0,
-        &[
-            (0, "as the terminal is set up"),
-            (1, "from left to right"),
-            (2, "from right to left"),
-        ],
-    ),
-    Piece::Text(", effect "),
-    Piece::Number(1),
-];
+static SELECT_CHARACTER_PATH: [Piece; 4] =
+    pieces! { Piece::Text("SCP  character path "), Piece::OneOf(0, &[(0, "as the terminal is set up"), (1, "from left to right"), (2, "from right to left")]), Piece::Text(", effect "), Piece::Number(1) };

@@ -2,6 +2,11 @@
 //! what it does. And what a terminal sends: keys, the mouse and the focus.
 #![tactic(auto)]
 
+/// Words in parts, on one line.
+macro_rules! pieces {
+    ($($piece:tt)*) => { [$($piece)*] };
+}
+
 mod action_words;
 mod describe;
 mod device;

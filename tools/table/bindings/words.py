@@ -93,7 +93,7 @@ def subject_words(group):
     subject, said, kind = SUBJECTS[group], low(group), type_of(group)
     arms, parts = zip(*(arm(kind, action, subject.row.get("lists", {})) for kind, action in zip(of(group), subject.actions)))
     body = f"/// The words of an action.\npub(crate) fn {said}_words({said}: &{kind}) -> Said<'_> {{\n    match {said} {{\n{''.join(arms)}    }}\n}}\n"
-    body += "".join("\n" + part for part in parts if part) + ("\n" + extensions() if group == "Device" else "")
+    body += "\n" + "".join(parts) + ("\n" + extensions() if group == "Device" else "")
     return whole(f"Actions of {kind} in words.", body, ("crate::values", VALUES), ("csicodec_actions", [kind, "DeviceAttributes"]))
 
 

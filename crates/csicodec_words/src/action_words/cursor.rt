@@ -85,155 +85,74 @@ pub(crate) fn cursor_words(cursor: &Cursor) -> Said<'_> {
     }
 }
 
-static CURSOR_UP: [Piece; 2] = [Piece::Text("CUU  cursor up "), Piece::Counted(0, "line")];
+static CURSOR_UP: [Piece; 2] =
+    pieces! { Piece::Text("CUU  cursor up "), Piece::Counted(0, "line") };
 
-static CURSOR_DOWN: [Piece; 2] = [Piece::Text("CUD  cursor down "), Piece::Counted(0, "line")];
+static CURSOR_DOWN: [Piece; 2] =
+    pieces! { Piece::Text("CUD  cursor down "), Piece::Counted(0, "line") };
 
-static CURSOR_RIGHT: [Piece; 2] = [
-    Piece::Text("CUF  cursor right "),
-    Piece::Counted(0, "column"),
-];
+static CURSOR_RIGHT: [Piece; 2] =
+    pieces! { Piece::Text("CUF  cursor right "), Piece::Counted(0, "column") };
 
-static CURSOR_LEFT: [Piece; 2] = [
-    Piece::Text("CUB  cursor left "),
-    Piece::Counted(0, "column"),
-];
+static CURSOR_LEFT: [Piece; 2] =
+    pieces! { Piece::Text("CUB  cursor left "), Piece::Counted(0, "column") };
 
-static CURSOR_NEXT_LINE: [Piece; 2] = [
-    Piece::Text("CNL  cursor to column 1, down "),
-    Piece::Counted(0, "line"),
-];
+static CURSOR_NEXT_LINE: [Piece; 2] =
+    pieces! { Piece::Text("CNL  cursor to column 1, down "), Piece::Counted(0, "line") };
 
-static CURSOR_PRECEDING_LINE: [Piece; 2] = [
-    Piece::Text("CPL  cursor to column 1, up "),
-    Piece::Counted(0, "line"),
-];
+static CURSOR_PRECEDING_LINE: [Piece; 2] =
+    pieces! { Piece::Text("CPL  cursor to column 1, up "), Piece::Counted(0, "line") };
 
-static CURSOR_CHARACTER_ABSOLUTE: [Piece; 2] = [
-    Piece::Text("CHA  cursor to column "),
-    Piece::Number(0),
-];
+static CURSOR_CHARACTER_ABSOLUTE: [Piece; 2] =
+    pieces! { Piece::Text("CHA  cursor to column "), Piece::Number(0) };
 
-static CURSOR_CHARACTER_POSITION_ABSOLUTE: [Piece; 2] = [
-    Piece::Text("HPA  cursor to column "),
-    Piece::Number(0),
-];
+static CURSOR_CHARACTER_POSITION_ABSOLUTE: [Piece; 2] =
+    pieces! { Piece::Text("HPA  cursor to column "), Piece::Number(0) };
 
-static CURSOR_POSITION: [Piece; 4] = [
-    Piece::Text("CUP  cursor to line "),
-    Piece::Number(0),
-    Piece::Text(", column "),
-    Piece::Number(1),
-];
+static CURSOR_POSITION: [Piece; 4] =
+    pieces! { Piece::Text("CUP  cursor to line "), Piece::Number(0), Piece::Text(", column "), Piece::Number(1) };
 
-static CURSOR_ACTIVE_POSITION_REPORT: [Piece; 5] = [
-    Piece::Text("CPR  answer: cursor at line "),
-    Piece::Number(0),
-    Piece::Text(", column "),
-    Piece::Number(1),
-    Piece::Code(1, "f3"),
-];
+static CURSOR_ACTIVE_POSITION_REPORT: [Piece; 5] =
+    pieces! { Piece::Text("CPR  answer: cursor at line "), Piece::Number(0), Piece::Text(", column "), Piece::Number(1), Piece::Code(1, "f3") };
 
-static CURSOR_CHARACTER_AND_LINE_POSITION: [Piece; 4] = [
-    Piece::Text("HVP  cursor to line "),
-    Piece::Number(0),
-    Piece::Text(", column "),
-    Piece::Number(1),
-];
+static CURSOR_CHARACTER_AND_LINE_POSITION: [Piece; 4] =
+    pieces! { Piece::Text("HVP  cursor to line "), Piece::Number(0), Piece::Text(", column "), Piece::Number(1) };
 
-static CURSOR_FORWARD_TABULATION: [Piece; 2] = [
-    Piece::Text("CHT  cursor forward "),
-    Piece::Counted(0, "tab stop"),
-];
+static CURSOR_FORWARD_TABULATION: [Piece; 2] =
+    pieces! { Piece::Text("CHT  cursor forward "), Piece::Counted(0, "tab stop") };
 
-static CURSOR_BACKWARD_TABULATION: [Piece; 2] = [
-    Piece::Text("CBT  cursor back "),
-    Piece::Counted(0, "tab stop"),
-];
+static CURSOR_BACKWARD_TABULATION: [Piece; 2] =
+    pieces! { Piece::Text("CBT  cursor back "), Piece::Counted(0, "tab stop") };
 
-static CURSOR_LINE_TABULATION: [Piece; 2] = [
-    Piece::Text("CVT  cursor down "),
-    Piece::Counted(0, "line tab stop"),
-];
+static CURSOR_LINE_TABULATION: [Piece; 2] =
+    pieces! { Piece::Text("CVT  cursor down "), Piece::Counted(0, "line tab stop") };
 
-static CURSOR_CHARACTER_POSITION_FORWARD: [Piece; 2] = [
-    Piece::Text("HPR  cursor right "),
-    Piece::Counted(0, "column"),
-];
+static CURSOR_CHARACTER_POSITION_FORWARD: [Piece; 2] =
+    pieces! { Piece::Text("HPR  cursor right "), Piece::Counted(0, "column") };
 
-static CURSOR_CHARACTER_POSITION_BACKWARD: [Piece; 2] = [
-    Piece::Text("HPB  cursor left "),
-    Piece::Counted(0, "column"),
-];
+static CURSOR_CHARACTER_POSITION_BACKWARD: [Piece; 2] =
+    pieces! { Piece::Text("HPB  cursor left "), Piece::Counted(0, "column") };
 
-static CURSOR_LINE_POSITION_ABSOLUTE: [Piece; 2] = [
-    Piece::Text("VPA  cursor to line "),
-    Piece::Number(0),
-];
+static CURSOR_LINE_POSITION_ABSOLUTE: [Piece; 2] =
+    pieces! { Piece::Text("VPA  cursor to line "), Piece::Number(0) };
 
-static CURSOR_LINE_POSITION_FORWARD: [Piece; 2] = [
-    Piece::Text("VPR  cursor down "),
-    Piece::Counted(0, "line"),
-];
+static CURSOR_LINE_POSITION_FORWARD: [Piece; 2] =
+    pieces! { Piece::Text("VPR  cursor down "), Piece::Counted(0, "line") };
 
-static CURSOR_LINE_POSITION_BACKWARD: [Piece; 2] = [
-    Piece::Text("VPB  cursor up "),
-    Piece::Counted(0, "line"),
-];
+static CURSOR_LINE_POSITION_BACKWARD: [Piece; 2] =
+    pieces! { Piece::Text("VPB  cursor up "), Piece::Counted(0, "line") };
 
-static CURSOR_TABULATION_CONTROL: [Piece; 2] = [
-    Piece::Text("CTC  "),
-    Piece::OneOf(
-        0,
-        &[
-            (0, "set a tab stop at the cursor"),
-            (1, "set a line tab stop at the cursor"),
-            (2, "clear the tab stop at the cursor"),
-            (3, "clear the line tab stop at the cursor"),
-            (4, "clear all tab stops in the line"),
-            (5, "clear all tab stops"),
-            (6, "clear all line tab stops"),
-        ],
-    ),
-];
+static CURSOR_TABULATION_CONTROL: [Piece; 2] =
+    pieces! { Piece::Text("CTC  "), Piece::OneOf(0, &[(0, "set a tab stop at the cursor"), (1, "set a line tab stop at the cursor"), (2, "clear the tab stop at the cursor"), (3, "clear the line tab stop at the cursor"), (4, "clear all tab stops in the line"), (5, "clear all tab stops"), (6, "clear all line tab stops")]) };
 
-static CURSOR_TABULATION_CLEAR: [Piece; 2] = [
-    Piece::Text("TBC  "),
-    Piece::OneOf(
-        0,
-        &[
-            (0, "clear the tab stop at the cursor"),
-            (1, "clear the line tab stop at the cursor"),
-            (2, "clear all tab stops in the line"),
-            (3, "clear all tab stops"),
-            (4, "clear all line tab stops"),
-            (5, "clear all tab stops and line tab stops"),
-        ],
-    ),
-];
+static CURSOR_TABULATION_CLEAR: [Piece; 2] =
+    pieces! { Piece::Text("TBC  "), Piece::OneOf(0, &[(0, "clear the tab stop at the cursor"), (1, "clear the line tab stop at the cursor"), (2, "clear all tab stops in the line"), (3, "clear all tab stops"), (4, "clear all line tab stops"), (5, "clear all tab stops and line tab stops")]) };
 
-static CURSOR_SET_TOP_AND_BOTTOM_MARGINS: [Piece; 2] = [
-    Piece::Text("DECSTBM  scrolling region:"),
-    Piece::Code(1, "lines"),
-];
+static CURSOR_SET_TOP_AND_BOTTOM_MARGINS: [Piece; 2] =
+    pieces! { Piece::Text("DECSTBM  scrolling region:"), Piece::Code(1, "lines") };
 
-static CURSOR_SET_LEFT_AND_RIGHT_MARGINS: [Piece; 2] = [
-    Piece::Text("DECSLRM  left and right margins:"),
-    Piece::Code(1, "columns"),
-];
+static CURSOR_SET_LEFT_AND_RIGHT_MARGINS: [Piece; 2] =
+    pieces! { Piece::Text("DECSLRM  left and right margins:"), Piece::Code(1, "columns") };
 
-static CURSOR_CURSOR_STYLE: [Piece; 2] = [
-    Piece::Text("DECSCUSR  cursor: "),
-    Piece::OneOf(
-        0,
-        &[
-            (0, "as set up (DEC: blinking block)"),
-            (1, "blinking block"),
-            (2, "steady block"),
-            (3, "blinking underline"),
-            (4, "steady underline"),
-            (5, "blinking bar"),
-            (6, "steady bar"),
-        ],
-    ),
-];
+static CURSOR_CURSOR_STYLE: [Piece; 2] =
+    pieces! { Piece::Text("DECSCUSR  cursor: "), Piece::OneOf(0, &[(0, "as set up (DEC: blinking block)"), (1, "blinking block"), (2, "steady block"), (3, "blinking underline"), (4, "steady underline"), (5, "blinking bar"), (6, "steady bar")]) };

@@ -47,37 +47,20 @@ pub(crate) fn device_words(device: &Device) -> Said<'_> {
     }
 }
 
-static DEVICE_DEVICE_ATTRIBUTES_VT220: [Piece; 2] = [
-    Piece::Text("DA1  answer: VT220 class"),
-    Piece::Code(0, "extensions"),
-];
+static DEVICE_DEVICE_ATTRIBUTES_VT220: [Piece; 2] =
+    pieces! { Piece::Text("DA1  answer: VT220 class"), Piece::Code(0, "extensions") };
 
-static DEVICE_DEVICE_ATTRIBUTES_VT320: [Piece; 2] = [
-    Piece::Text("DA1  answer: VT320 class"),
-    Piece::Code(0, "extensions"),
-];
+static DEVICE_DEVICE_ATTRIBUTES_VT320: [Piece; 2] =
+    pieces! { Piece::Text("DA1  answer: VT320 class"), Piece::Code(0, "extensions") };
 
-static DEVICE_DEVICE_ATTRIBUTES_VT420: [Piece; 2] = [
-    Piece::Text("DA1  answer: VT420 class"),
-    Piece::Code(0, "extensions"),
-];
+static DEVICE_DEVICE_ATTRIBUTES_VT420: [Piece; 2] =
+    pieces! { Piece::Text("DA1  answer: VT420 class"), Piece::Code(0, "extensions") };
 
-static DEVICE_REQUEST_TERMINAL_PARAMETERS: [Piece; 2] = [
-    Piece::Text("DECREQTPARM  ask for the serial line's parameters"),
-    Piece::Hole("0?0=, and allow reports unasked|1=, and forbid reports unasked|=, #"),
-];
+static DEVICE_REQUEST_TERMINAL_PARAMETERS: [Piece; 2] =
+    pieces! { Piece::Text("DECREQTPARM  ask for the serial line's parameters"), Piece::Hole("0?0=, and allow reports unasked|1=, and forbid reports unasked|=, #") };
 
-static DEVICE_XT_SM_GRAPHICS: [Piece; 5] = [
-    Piece::Text("XTSMGRAPHICS  "),
-    Piece::Hole(
-        "0?0=answer: |1=ask for |2=set back |3=set |4=ask for the maximum of |=unknown action on ",
-    ),
-    Piece::Hole(
-        "1?1=the number of colour registers|2=the size of sixel images|3=the size of ReGIS images|=item #",
-    ),
-    Piece::Code(2, "values"),
-    Piece::Hole("0?1= (or answer: no such item)|2= (or answer: no such action)|="),
-];
+static DEVICE_XT_SM_GRAPHICS: [Piece; 5] =
+    pieces! { Piece::Text("XTSMGRAPHICS  "), Piece::Hole("0?0=answer: |1=ask for |2=set back |3=set |4=ask for the maximum of |=unknown action on "), Piece::Hole("1?1=the number of colour registers|2=the size of sixel images|3=the size of ReGIS images|=item #"), Piece::Code(2, "values"), Piece::Hole("0?1= (or answer: no such item)|2= (or answer: no such action)|=") };
 
 /// Extensions of terminals, by their numbers.
 pub(crate) static EXTENSIONS: [(i64, &str); 27] = [

@@ -20,55 +20,32 @@ pub(crate) fn edit_words(edit: &Edit) -> Said<'_> {
     }
 }
 
-static EDIT_INSERT_CHARACTER: [Piece; 2] = [
-    Piece::Text("ICH  insert "),
-    Piece::Counted(0, "blank"),
-];
+static EDIT_INSERT_CHARACTER: [Piece; 2] =
+    pieces! { Piece::Text("ICH  insert "), Piece::Counted(0, "blank") };
 
-static EDIT_INSERT_LINE: [Piece; 2] = [Piece::Text("IL  insert "), Piece::Counted(0, "blank line")];
+static EDIT_INSERT_LINE: [Piece; 2] =
+    pieces! { Piece::Text("IL  insert "), Piece::Counted(0, "blank line") };
 
-static EDIT_DELETE_CHARACTER: [Piece; 2] = [
-    Piece::Text("DCH  delete "),
-    Piece::Counted(0, "character"),
-];
+static EDIT_DELETE_CHARACTER: [Piece; 2] =
+    pieces! { Piece::Text("DCH  delete "), Piece::Counted(0, "character") };
 
-static EDIT_DELETE_LINE: [Piece; 2] = [Piece::Text("DL  delete "), Piece::Counted(0, "line")];
+static EDIT_DELETE_LINE: [Piece; 2] =
+    pieces! { Piece::Text("DL  delete "), Piece::Counted(0, "line") };
 
-static EDIT_ERASE_CHARACTER: [Piece; 2] = [
-    Piece::Text("ECH  erase "),
-    Piece::Counted(0, "character"),
-];
+static EDIT_ERASE_CHARACTER: [Piece; 2] =
+    pieces! { Piece::Text("ECH  erase "), Piece::Counted(0, "character") };
 
-static EDIT_SCROLL_UP: [Piece; 2] = [Piece::Text("SU  scroll up "), Piece::Counted(0, "line")];
+static EDIT_SCROLL_UP: [Piece; 2] =
+    pieces! { Piece::Text("SU  scroll up "), Piece::Counted(0, "line") };
 
-static EDIT_SCROLL_DOWN: [Piece; 2] = [Piece::Text("SD  scroll down "), Piece::Counted(0, "line")];
+static EDIT_SCROLL_DOWN: [Piece; 2] =
+    pieces! { Piece::Text("SD  scroll down "), Piece::Counted(0, "line") };
 
-static EDIT_REPEAT: [Piece; 2] = [
-    Piece::Text("REP  repeat the last character "),
-    Piece::Counted(0, "more time"),
-];
+static EDIT_REPEAT: [Piece; 2] =
+    pieces! { Piece::Text("REP  repeat the last character "), Piece::Counted(0, "more time") };
 
-static EDIT_ERASE_IN_DISPLAY: [Piece; 2] = [
-    Piece::Text("ED  erase "),
-    Piece::OneOf(
-        0,
-        &[
-            (0, "to the end of the screen"),
-            (1, "to the start of the screen"),
-            (2, "the screen"),
-            (3, "the scrollback"),
-        ],
-    ),
-];
+static EDIT_ERASE_IN_DISPLAY: [Piece; 2] =
+    pieces! { Piece::Text("ED  erase "), Piece::OneOf(0, &[(0, "to the end of the screen"), (1, "to the start of the screen"), (2, "the screen"), (3, "the scrollback")]) };
 
-static EDIT_ERASE_IN_LINE: [Piece; 2] = [
-    Piece::Text("EL  erase "),
-    Piece::OneOf(
-        0,
-        &[
-            (0, "to the end of the line"),
-            (1, "to the start of the line"),
-            (2, "the line"),
-        ],
-    ),
-];
+static EDIT_ERASE_IN_LINE: [Piece; 2] =
+    pieces! { Piece::Text("EL  erase "), Piece::OneOf(0, &[(0, "to the end of the line"), (1, "to the start of the line"), (2, "the line")]) };

@@ -28,34 +28,14 @@ pub(crate) fn keyboard_words(keyboard: &Keyboard) -> Said<'_> {
     }
 }
 
-static KEYBOARD_SET_KITTY_STATE: [Piece; 5] = [
-    Piece::Text("kitty keyboard  "),
-    Piece::OneOf(1, &[(1, "set"), (2, "add"), (3, "remove")]),
-    Piece::Text(" flags "),
-    Piece::Number(0),
-    Piece::Hole(
-        "0&, |1=unambiguous keys|2=event types|4=alternate keys|8=all keys as escape codes|16=associated text",
-    ),
-];
+static KEYBOARD_SET_KITTY_STATE: [Piece; 5] =
+    pieces! { Piece::Text("kitty keyboard  "), Piece::OneOf(1, &[(1, "set"), (2, "add"), (3, "remove")]), Piece::Text(" flags "), Piece::Number(0), Piece::Hole("0&, |1=unambiguous keys|2=event types|4=alternate keys|8=all keys as escape codes|16=associated text") };
 
-static KEYBOARD_PUSH_KITTY_STATE: [Piece; 4] = [
-    Piece::Text("kitty keyboard  push flags "),
-    Piece::Number(0),
-    Piece::Hole(
-        "0&, |1=unambiguous keys|2=event types|4=alternate keys|8=all keys as escape codes|16=associated text",
-    ),
-    Piece::Hole("1?1=|= (with a second number, which isn't kitty's)"),
-];
+static KEYBOARD_PUSH_KITTY_STATE: [Piece; 4] =
+    pieces! { Piece::Text("kitty keyboard  push flags "), Piece::Number(0), Piece::Hole("0&, |1=unambiguous keys|2=event types|4=alternate keys|8=all keys as escape codes|16=associated text"), Piece::Hole("1?1=|= (with a second number, which isn't kitty's)") };
 
-static KEYBOARD_POP_KITTY_STATE: [Piece; 2] = [
-    Piece::Text("kitty keyboard  pop "),
-    Piece::Counted(0, "time"),
-];
+static KEYBOARD_POP_KITTY_STATE: [Piece; 2] =
+    pieces! { Piece::Text("kitty keyboard  pop "), Piece::Counted(0, "time") };
 
-static KEYBOARD_REPORT_KITTY_STATE: [Piece; 3] = [
-    Piece::Text("kitty keyboard  answer: flags "),
-    Piece::Number(0),
-    Piece::Hole(
-        "0&, |1=unambiguous keys|2=event types|4=alternate keys|8=all keys as escape codes|16=associated text",
-    ),
-];
+static KEYBOARD_REPORT_KITTY_STATE: [Piece; 3] =
+    pieces! { Piece::Text("kitty keyboard  answer: flags "), Piece::Number(0), Piece::Hole("0&, |1=unambiguous keys|2=event types|4=alternate keys|8=all keys as escape codes|16=associated text") };

@@ -43,73 +43,29 @@ pub(crate) fn mode_words(mode: &Mode) -> Said<'_> {
     }
 }
 
-static MODE_SET_DEC_PRIVATE_MODE: [Piece; 4] = [
-    Piece::Text("DECSET "),
-    Piece::Number(0),
-    Piece::Text("  "),
-    Piece::Code(0, "private_on"),
-];
+static MODE_SET_DEC_PRIVATE_MODE: [Piece; 4] =
+    pieces! { Piece::Text("DECSET "), Piece::Number(0), Piece::Text("  "), Piece::Code(0, "private_on") };
 
-static MODE_RESET_DEC_PRIVATE_MODE: [Piece; 4] = [
-    Piece::Text("DECRST "),
-    Piece::Number(0),
-    Piece::Text("  "),
-    Piece::Code(0, "private_off"),
-];
+static MODE_RESET_DEC_PRIVATE_MODE: [Piece; 4] =
+    pieces! { Piece::Text("DECRST "), Piece::Number(0), Piece::Text("  "), Piece::Code(0, "private_off") };
 
-static MODE_SAVE_DEC_PRIVATE_MODE: [Piece; 4] = [
-    Piece::Text("XTSAVE "),
-    Piece::Number(0),
-    Piece::Text("  save the mode: "),
-    Piece::Code(0, "private_mode"),
-];
+static MODE_SAVE_DEC_PRIVATE_MODE: [Piece; 4] =
+    pieces! { Piece::Text("XTSAVE "), Piece::Number(0), Piece::Text("  save the mode: "), Piece::Code(0, "private_mode") };
 
-static MODE_RESTORE_DEC_PRIVATE_MODE: [Piece; 4] = [
-    Piece::Text("XTRESTORE "),
-    Piece::Number(0),
-    Piece::Text("  restore the mode: "),
-    Piece::Code(0, "private_mode"),
-];
+static MODE_RESTORE_DEC_PRIVATE_MODE: [Piece; 4] =
+    pieces! { Piece::Text("XTRESTORE "), Piece::Number(0), Piece::Text("  restore the mode: "), Piece::Code(0, "private_mode") };
 
-static MODE_QUERY_DEC_PRIVATE_MODE: [Piece; 4] = [
-    Piece::Text("DECRQM "),
-    Piece::Number(0),
-    Piece::Text("  ask for the mode: "),
-    Piece::Code(0, "private_mode"),
-];
+static MODE_QUERY_DEC_PRIVATE_MODE: [Piece; 4] =
+    pieces! { Piece::Text("DECRQM "), Piece::Number(0), Piece::Text("  ask for the mode: "), Piece::Code(0, "private_mode") };
 
-static MODE_SET_MODE: [Piece; 4] = [
-    Piece::Text("SM "),
-    Piece::Number(0),
-    Piece::Text("  "),
-    Piece::Code(0, "mode_on"),
-];
+static MODE_SET_MODE: [Piece; 4] =
+    pieces! { Piece::Text("SM "), Piece::Number(0), Piece::Text("  "), Piece::Code(0, "mode_on") };
 
-static MODE_RESET_MODE: [Piece; 4] = [
-    Piece::Text("RM "),
-    Piece::Number(0),
-    Piece::Text("  "),
-    Piece::Code(0, "mode_off"),
-];
+static MODE_RESET_MODE: [Piece; 4] =
+    pieces! { Piece::Text("RM "), Piece::Number(0), Piece::Text("  "), Piece::Code(0, "mode_off") };
 
-static MODE_QUERY_MODE: [Piece; 4] = [
-    Piece::Text("DECRQM "),
-    Piece::Number(0),
-    Piece::Text("  ask for the mode: "),
-    Piece::Code(0, "mode"),
-];
+static MODE_QUERY_MODE: [Piece; 4] =
+    pieces! { Piece::Text("DECRQM "), Piece::Number(0), Piece::Text("  ask for the mode: "), Piece::Code(0, "mode") };
 
-static MODE_XTERM_KEY_MODE: [Piece; 4] = [
-    Piece::Text("XTMODKEYS  set "),
-    Piece::OneOf(
-        0,
-        &[
-            (0, "modifyKeyboard"),
-            (1, "modifyCursorKeys"),
-            (2, "modifyFunctionKeys"),
-            (4, "modifyOtherKeys"),
-        ],
-    ),
-    Piece::Text(" "),
-    Piece::Hole("1~back to its initial value|to "),
-];
+static MODE_XTERM_KEY_MODE: [Piece; 4] =
+    pieces! { Piece::Text("XTMODKEYS  set "), Piece::OneOf(0, &[(0, "modifyKeyboard"), (1, "modifyCursorKeys"), (2, "modifyFunctionKeys"), (4, "modifyOtherKeys")]), Piece::Text(" "), Piece::Hole("1~back to its initial value|to ") };

@@ -86,48 +86,17 @@ pub(crate) fn window_words(window: &Window) -> Said<'_> {
     }
 }
 
-static WINDOW_MOVE_WINDOW: [Piece; 5] = [
-    Piece::Text("XTWINOPS  move the window to pixel "),
-    Piece::Number(0),
-    Piece::Text(", "),
-    Piece::Number(1),
-    Piece::Text(" (or answer: it stands there)"),
-];
+static WINDOW_MOVE_WINDOW: [Piece; 5] =
+    pieces! { Piece::Text("XTWINOPS  move the window to pixel "), Piece::Number(0), Piece::Text(", "), Piece::Number(1), Piece::Text(" (or answer: it stands there)") };
 
-static WINDOW_RESIZE_WINDOW_PIXELS: [Piece; 5] = [
-    Piece::Text("XTWINOPS  resize the window, in pixels: width "),
-    Piece::Hole("0:of the display~as it is"),
-    Piece::Text(", height "),
-    Piece::Hole("1:of the display~as it is"),
-    Piece::Text(" (or answer: its size, or the text area's)"),
-];
+static WINDOW_RESIZE_WINDOW_PIXELS: [Piece; 5] =
+    pieces! { Piece::Text("XTWINOPS  resize the window, in pixels: width "), Piece::Hole("0:of the display~as it is"), Piece::Text(", height "), Piece::Hole("1:of the display~as it is"), Piece::Text(" (or answer: its size, or the text area's)") };
 
-static WINDOW_REPORT_CELL_SIZE_PIXELS_RESPONSE: [Piece; 4] = [
-    Piece::Text("XTWINOPS  answer: a cell's size in pixels: width "),
-    Piece::Hole("0~not told"),
-    Piece::Text(", height "),
-    Piece::Hole("1~not told"),
-];
+static WINDOW_REPORT_CELL_SIZE_PIXELS_RESPONSE: [Piece; 4] =
+    pieces! { Piece::Text("XTWINOPS  answer: a cell's size in pixels: width "), Piece::Hole("0~not told"), Piece::Text(", height "), Piece::Hole("1~not told") };
 
-static WINDOW_RESIZE_WINDOW_CELLS: [Piece; 5] = [
-    Piece::Text("XTWINOPS  resize the text area, in cells: width "),
-    Piece::Hole("0:of the display~as it is"),
-    Piece::Text(", height "),
-    Piece::Hole("1:of the display~as it is"),
-    Piece::Text(" (or answer: its size)"),
-];
+static WINDOW_RESIZE_WINDOW_CELLS: [Piece; 5] =
+    pieces! { Piece::Text("XTWINOPS  resize the text area, in cells: width "), Piece::Hole("0:of the display~as it is"), Piece::Text(", height "), Piece::Hole("1:of the display~as it is"), Piece::Text(" (or answer: its size)") };
 
-static WINDOW_CHECKSUM_RECTANGULAR_AREA: [Piece; 12] = [
-    Piece::Text("DECRQCRA  ask for the checksum of lines "),
-    Piece::Number(2),
-    Piece::Text(" to "),
-    Piece::Number(4),
-    Piece::Text(", columns "),
-    Piece::Number(3),
-    Piece::Text(" to "),
-    Piece::Number(5),
-    Piece::Text(" of page "),
-    Piece::Number(1),
-    Piece::Text(", request "),
-    Piece::Number(0),
-];
+static WINDOW_CHECKSUM_RECTANGULAR_AREA: [Piece; 12] =
+    pieces! { Piece::Text("DECRQCRA  ask for the checksum of lines "), Piece::Number(2), Piece::Text(" to "), Piece::Number(4), Piece::Text(", columns "), Piece::Number(3), Piece::Text(" to "), Piece::Number(5), Piece::Text(" of page "), Piece::Number(1), Piece::Text(", request "), Piece::Number(0) };

@@ -1,7 +1,7 @@
 -- The beginning of a control sequence, byte by byte.
-use Rattle.std.proofs.Common.{Option, Some, None, MatchOption, ◌≡◌, ℕ, ◌+◌, ◌-◌, ◌*◌, ◌<◌, ◌≤◌, ◌⊎◌, List, [], ◌∷◌, ◌++◌, length, drop, refl, sym, ap, subst, ◌∙◌, inl, inr, append_assoc, arith}
+use Rattle.std.proofs.Common.{Option, Some, None, MatchOption, ◌≡◌, ℕ, ◌+◌, ◌-◌, ◌*◌, ◌<◌, ◌≤◌, List, [], ◌∷◌, ◌++◌, length, drop, refl, sym, ap, subst, ◌∙◌, inl, inr, append_assoc, arith}
 use Rattle.std.proofs.lemmas.List.{append-nil, length-append}
-use Rattle.csicodec_tokens.specs.Digits.{IsDigit, value, largest}
+use Rattle.csicodec_tokens.specs.Digits.{IsDigit, largest}
 use Rattle.csicodec_tokens.specs.Sequence.{IsBodyByte}
 use Rattle.csicodec_tokens.specs.Fault.{IsBody, Begins}
 use Rattle.csicodec_tokens.proofs.Runs.{value_push, AreDigits-push, All-back, Ends, Ends-none, Ends-digit, Ends-other}

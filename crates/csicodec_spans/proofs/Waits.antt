@@ -1,5 +1,5 @@
 -- What waited is cut as one part, once anything can be cut of it.
-use Rattle.std.proofs.Common.{◌≡◌, ℕ, ◌+◌, ◌*◌, ◌<◌, ◌≤◌, ◌⊎◌, List, [], ◌∷◌, ◌++◌, length, take, refl, sym, ap, subst, ◌∙◌, inl, inr, arith}
+use Rattle.std.proofs.Common.{◌≡◌, ℕ, ◌+◌, ◌*◌, ◌<◌, ◌≤◌, ◌⊎◌, List, [], ◌∷◌, ◌++◌, length, take, sym, ap, subst, inl, inr, arith}
 use Rattle.std.specs.List.{concat}
 use Rattle.std.proofs.Math.Seq.{take-append_seam}
 use Rattle.std.proofs.lemmas.List.{length-append}
@@ -11,7 +11,7 @@ use Rattle.csicodec_spans.specs.declared.table.Kind.TheVariants as kind
 use Rattle.csicodec_spans.specs.declared.table.Mode.{Mode}
 use Rattle.csicodec_spans.specs.Table.{Answer, Sequence, Undecided, ahead}
 use Rattle.csicodec_spans.specs.Parts.{Part, IsMalformed, AllowsCsi, Allows, IsFirstPart, AreFirstParts, IsUnsureBy, IsUnsure}
-use Rattle.csicodec_spans.specs.Waits.{WaitsOn, IsCut, HandsOut}
+use Rattle.csicodec_spans.specs.Waits.{IsCut, HandsOut, looks_in}
 use Rattle.csicodec_spans.proofs.Fronts.{Sound}
 use Rattle.csicodec_spans.proofs.Agrees.{kept, sound}
 use Rattle.csicodec_spans.proofs.OneSpan.{none_unsure}
@@ -76,3 +76,14 @@ handed limit again (chunk ∷ chunks) m waiting o (rest, after, later, left, mor
 
 pub handed_once : (limit again : ℕ) (m : Mode) (chunks : List (List ℕ)) → HandsOut limit m [] chunks again → again ≤ length (concat chunks) + 2 * length chunks
 handed_once limit again m chunks h = omega (arith, handed limit again chunks m [] (none_unsure limit m) h)
+
+looked : (limit again : ℕ) (chunks : List (List ℕ)) (m : Mode) (waiting : List ℕ) → IsUnsure limit m waiting → (h : HandsOut limit m waiting chunks again)
+    → looks_in limit m waiting chunks again h ≤ length waiting + (3 * length (concat chunks) + 6 * length chunks)
+looked limit again [] m waiting o h = omega arith
+looked limit again (chunk ∷ chunks) m waiting o (rest, after, later, left, more, inl (waits, same)) =
+    omega (arith, looked limit later chunks after rest left more, ap length waits.0, length-append waiting chunk, length-append chunk (concat chunks))
+looked limit again (chunk ∷ chunks) m waiting o (rest, after, later, left, more, inr (cut, same)) =
+    omega (arith, looked limit later chunks after rest left more, cut_short limit m after waiting chunk rest o left cut, length-append chunk (concat chunks))
+
+pub looked_few : (limit again : ℕ) (m : Mode) (chunks : List (List ℕ)) → (h : HandsOut limit m [] chunks again) → looks_in limit m [] chunks again h ≤ 3 * length (concat chunks) + 6 * length chunks
+looked_few limit again m chunks h = omega (arith, looked limit again chunks m [] (none_unsure limit m) h)

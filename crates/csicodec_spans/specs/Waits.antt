@@ -1,7 +1,20 @@
--- How often the bytes of a stream that wait are handed out.
-use Rattle.std.specs.Prelude.{ℕ, ◌≡◌, ◌+◌, ◌<◌, ◌⊎◌, List, [], ◌∷◌, ◌++◌, length}
+-- How often the bytes of a stream that wait are handed out, and looked at.
+use Rattle.std.specs.Prelude.{ℕ, ◌≡◌, ◌+◌, ◌*◌, ◌<◌, ◌⊎◌, List, [], ◌∷◌, ◌++◌, length}
+use mathlib.Core.Logic.{inl, inr}
 use Rattle.csicodec_spans.specs.declared.table.Mode.{Mode}
 use Rattle.csicodec_spans.specs.Parts.{Part, AreFirstParts, IsUnsure}
+
+-- the bytes that wait, and how many looks at them were taken
+pub record Seen : Type 0 where
+  pub bytes : List ℕ
+  pub looks : ℕ
+
+-- a stream between two chunks: the same of its bytes, and the mode that those before them leave open
+pub record Pending : Type 0 where
+  pub limit : ℕ
+  pub mode : Mode
+  pub bytes : List ℕ
+  pub looks : ℕ
 
 -- nothing can be cut of what waits and what comes: all of it waits on
 abbrev pub WaitsOn : Mode → List ℕ → List ℕ → List ℕ → Mode → Type 0
@@ -25,3 +38,13 @@ HandsOut limit m waiting (chunk ∷ chunks) again =
     × HandsOut limit after rest chunks later
     × ((WaitsOn m waiting chunk rest after × (again ≡ later))
     ⊎ (IsCut limit m waiting chunk rest after × (again ≡ length waiting + later)))
+
+-- How many looks at bytes that wait that takes: one at each byte of a chunk that waits on; otherwise one at each that is handed out again,
+-- and two at each that isn't sure behind what is cut, to keep it and to find the number at its end.
+abbrev pub looks_in : (limit : ℕ) (m : Mode) (waiting : List ℕ) (chunks : List (List ℕ)) (again : ℕ)
+    → HandsOut limit m waiting chunks again → ℕ
+looks_in limit m waiting [] again h = 0
+looks_in limit m waiting (chunk ∷ chunks) again (rest, after, later, unsure, others, inl on) =
+    length chunk + looks_in limit after rest chunks later others
+looks_in limit m waiting (chunk ∷ chunks) again (rest, after, later, unsure, others, inr cut) =
+    length waiting + 2 * length rest + looks_in limit after rest chunks later others

@@ -1,0 +1,172 @@
+//! The bytes that wait, and what each look at one costs.
+ghost use Rattle.std.specs.Prelude.{◌≡◌, ◌≤◌, ◌+◌, ◌++◌, ◌∷◌, ℕ, List, [], length, drop, vec_len, MatchOption, OnErr, OnOk, true};
+ghost use Rattle.std.specs.Borrow.{ftrue};
+ghost use Rattle.csicodec_spans.specs.declared.table.Mode.{Mode};
+ghost use Rattle.csicodec_spans.specs.Parts.{IsUnsure};
+ghost use Rattle.csicodec_spans.specs.Private.Begun.{Adds, IsBegun, Stops};
+
+use csicodec_tokens::with_digit;
+use std::alloc::{AllocError, Global};
+use std::marker::Model;
+
+const _: () = prove!(std::mem::size_of::<Looks>() == 0);
+
+/// The number that ends a body with one more byte, where the body ends in `number`; none where no body goes on so.
+#[inline(always)]
+fn with_byte(number: u64, byte: u8) -> Option<u64>
+    ensures { MatchOption result ((more : List ℕ) → Stops number (byte ∷ more)) (Adds number (byte ∷ [])) }
+{
+    match byte {
+        b'0'..=b'9' => with_digit(number, byte),
+        b' '..=b'/' => Some(0),
+        b':'..=b'?' => Some(0),
+        0x00..=0x1f => None,
+        0x40..=0xff => None,
+    }
+}
+
+/// The same with some bytes more.
+#[tactic(auto, using(csicodec_tokens::proofs::Reading::first_cut, crate::proofs::Begun::read_none, crate::proofs::Begun::read_more, crate::proofs::Begun::read_all))]
+pub(crate) fn with_bytes(number: u64, bytes: &[u8]) -> Option<u64>
+    ensures { MatchOption result (Stops number bytes.now) (Adds number bytes.now) }
+{
+    let mut last = number;
+    let mut rest = bytes;
+    while let [byte, others @ ..] = rest {
+        last = with_byte(last, *byte)?;
+        rest = others;
+    }
+    Some(last)
+}
+
+/// The number that ends bytes of which nothing is sure, where they begin a control sequence's body.
+#[tactic(auto, using(crate::proofs::Begun::few_begun, crate::proofs::Begun::long_begun))]
+fn begun(bytes: &[u8]) -> Option<u64>
+    ensures { (limit : ℕ) (mode : Mode) → IsUnsure limit mode bytes.now → IsBegun bytes.now result }
+{
+    if bytes.len() < 3 {
+        return None;
+    }
+    with_bytes(0, bytes.split_at(2).1)
+}
+
+/// A number of looks that only contracts see. It takes no bytes, and does nothing at run time.
+#[derive(Drop)]
+struct Looks {
+    pub ghost total: { ℕ },
+}
+
+impl Model for Looks {
+    ghost also_owns = { λ _. ftrue };
+}
+
+impl Looks {
+    fn new() -> Looks
+        ensures { result.total ≡ 0 }
+    {
+        Looks {}
+    }
+
+    fn charge(&mut self, _looks: usize)
+        ensures { self.new.total ≡ self.old.total + _looks }
+    {}
+}
+
+/// The bytes that wait. Each look at one, and each copy of one, is counted, in a count that contracts alone see.
+///
+/// [`Waiting`](crate::Waiting) can get at the bytes in no other way: so that its looks stay linear in what comes is a promise about all that
+/// it does.
+#[derive(Drop)]
+pub(crate) struct Held {
+    bytes: Vec<u8>,
+    looks: Looks,
+}
+
+impl Model for Held {
+    ghost use Rattle.csicodec_spans.specs.Waits.{Seen};
+
+    ghost Value = { Seen };
+
+    ghost view = { λ h. record { bytes = h.bytes.items; looks = h.looks.total } };
+}
+
+impl Held {
+    /// None, at which no look was taken.
+    pub fn new(alloc: Global) -> Held
+        ensures { result ≡ record { bytes = []; looks = 0 } }
+    {
+        Held {
+            bytes: Vec::new(alloc),
+            looks: Looks::new(),
+        }
+    }
+
+    /// How many they are. It costs nothing.
+    #[inline(always)]
+    pub fn len(&self) -> usize
+        ensures { result ≡ length self.now.bytes }
+    {
+        self.bytes.len()
+    }
+
+    /// Appends bytes that come. It costs a look at each of these; where memory is refused, none is taken.
+    pub fn append(&mut self, bytes: &[u8]) -> Result<(), AllocError>
+        ensures ok { OnOk result (self.new ≡ record { bytes = self.old.bytes ++ bytes.now; looks = self.old.looks + length bytes.now }) }
+        ensures err { OnErr result (self.new ≡ self.old) }
+    {
+        self.bytes.extend_from_slice(bytes)?;
+        self.looks.charge(bytes.len());
+        Ok(())
+    }
+
+    /// Hands them out, so that none waits. It costs a look at each.
+    pub fn take(&mut self) -> Vec<u8>
+        ensures all { result.items ≡ self.old.bytes }
+        ensures costs { self.new ≡ record { bytes = []; looks = self.old.looks + length self.old.bytes } }
+    {
+        self.looks.charge(self.bytes.len());
+        let alloc = *self.bytes.allocator();
+        std::mem::replace(&mut self.bytes, Vec::new(alloc))
+    }
+
+    /// Keeps those behind the first `used` in place of any that wait. It costs a look at each that is kept.
+    pub fn keep(&mut self, all: Vec<u8>, used: usize)
+        requires { used ≤ vec_len all }
+        ensures { self.new ≡ record { bytes = drop used all.items; looks = self.old.looks + length (drop used all.items) } }
+    {
+        let mut rest = all;
+        let len = rest.len();
+        rest.copy_within(used..len, 0);
+        rest.truncate(len - used);
+        self.looks.charge(len - used);
+        self.bytes = rest;
+    }
+
+    /// The number that ends them, where nothing is sure of them and they begin a control sequence's body. It costs a look at each.
+    #[tactic(auto, using(crate::proofs::Begun::few_begun, crate::proofs::Begun::long_begun))]
+    pub(crate) fn begun(&mut self) -> Option<u64>
+        ensures is { (limit : ℕ) (mode : Mode) → IsUnsure limit mode self.old.bytes → IsBegun self.old.bytes result }
+        ensures costs { self.new ≡ record { bytes = self.old.bytes; looks = self.old.looks + length self.old.bytes } }
+    {
+        self.looks.charge(self.bytes.len());
+        begun(&self.bytes)
+    }
+
+    /// Appends them to others, so that none waits. It costs a look at each.
+    pub fn append_to(&mut self, out: &mut Vec<u8>) -> Result<(), AllocError>
+        ensures appended { OnOk result (out.new.items ≡ out.old.items ++ self.old.bytes) }
+        ensures costs { self.new ≡ record { bytes = []; looks = self.old.looks + length self.old.bytes } }
+    {
+        self.looks.charge(self.bytes.len());
+        let appended = out.extend_from_slice(&self.bytes);
+        self.bytes.clear();
+        appended
+    }
+
+    /// Drops them. It costs nothing.
+    pub fn clear(&mut self)
+        ensures { self.new ≡ record { bytes = []; looks = self.old.looks } }
+    {
+        self.bytes.clear();
+    }
+}

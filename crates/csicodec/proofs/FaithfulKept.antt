@@ -1,8 +1,8 @@
 -- What the faithful filter writes for a sequence is read as its actions: before a final of which none stays, no action is special.
-use Rattle.std.proofs.Common.{rules, ◌≡◌, ℕ, List, [], ◌∷◌, ◌+◌, ◌<◌, ◌≤◌, Bool, true, false, Some, refl, sym, ap, subst, ◌∙◌, inl, inr, arith, drop, length, length-append, take}
+use Rattle.std.proofs.Common.{rules, ◌≡◌, ℕ, List, [], ◌∷◌, ◌++◌, ◌+◌, ◌<◌, ◌≤◌, Bool, true, false, Some, refl, sym, ap, subst, ◌∙◌, inl, inr, arith, drop, length, length-append, take}
 use Rattle.std.specs.Prelude.{◌==◌, ◌||◌, ◌-◌, not, slice_get}
 use Rattle.std.specs.List.{AllByRecursion, list_any}
-use Rattle.std.proofs.lemmas.Bool.{cases_Bool, eq-eqb}
+use Rattle.std.proofs.lemmas.Bool.{cases_Bool, cases_lt, eq-eqb}
 use Rattle.std.proofs.lemmas.List.Elements.{All-from_recursion}
 use Rattle.csicodec_tokens.specs.declared.param.CsiParam.{CsiParam}
 use Rattle.csicodec_actions.specs.declared.cursor.Cursor.TheVariants as cursor
@@ -25,14 +25,17 @@ use Rattle.csicodec_parser.specs.Private.Steps.{actions}
 use Rattle.csicodec_parser.proofs.Cuts.{actions_are}
 use Rattle.csicodec_streams.specs.Decoding.{Decodes}
 use Rattle.csicodec_streams.proofs.OneReading.{decodes-one, one_decoding}
-use Rattle.csicodec_filter.specs.Faithful.{IsFaithful, is_kept, has_spelling, staying_finals, stays}
+use Rattle.csicodec_filter.specs.Faithful.{IsFaithful, IsShortForm, is_kept, has_spelling, longest, staying_finals, stays}
 use Rattle.csicodec_filter.specs.Filter.{AreWritten, Filters, IsWritten}
 use Rattle.csicodec_filter.specs.Meaning.{KeepsMeaning, StandInPlace, Within, singles}
 use Rattle.csicodec_filter.proofs.Meaning.{filter_stream_lem}
 use Rattle.csicodec_spans.specs.declared.table.Kind.{Kind as PartKind}
 use Rattle.csicodec_spans.specs.declared.table.Kind.TheVariants as kind
 use Rattle.csicodec_spans.specs.declared.table.Mode.{Mode}
-use Rattle.csicodec_spans.specs.Parts.{IsWhole, Part}
+use Rattle.csicodec_spans.specs.Table.{ahead}
+use Rattle.csicodec_spans.specs.Parts.{AreFirstParts, IsFirstPart, IsWhole, Part, left_over, part}
+use Rattle.csicodec_spans.proofs.Agrees.{sound}
+use Rattle.csicodec_spans.proofs.Missed.{allows_whole}
 use Rattle.csicodec.proofs.RoundTrip.{round_trip_lem}
 
 -- ---- which action may be special
@@ -158,6 +161,14 @@ last-false list final none =
     let behind = neither (is_byte 60 (slice_get list 0)) (end || is_staying final) none in
     (neither end (is_staying final) behind.1).1
 
+short-means : (bytes text : List ℕ) (all : List Action) → Decodes bytes false all → Decodes (texts all) false all → IsShortForm bytes text → Decodes text false all
+short-means bytes text all came back (form, (parsed, decodes, made), short, long) = elim (cases_lt longest (length form)) [
+  | inl more ↦ subst (λ (t : List ℕ). Decodes t false all) (sym (long more)) came
+  | inr fits ↦
+      let written : text ≡ texts all = short fits ∙ made ∙ ap texts (one_decoding bytes false parsed all decodes came) in
+      subst (λ (t : List ℕ). Decodes t false all) (sym written) back
+]
+
 pub faithful_means : KeepsMeaning IsFaithful
 faithful_means bytes text (list, final, seq, kept, other) =
     let all = actions list false final in
@@ -166,11 +177,9 @@ faithful_means bytes text (list, final, seq, kept, other) =
     elim (cases_Bool (is_kept list final)) [
       | inl here ↦ (all, came, subst (λ (t : List ℕ). Decodes t false all) (sym (kept here)) came)
       | inr none ↦
-          let form = other none in
-          let written : text ≡ texts all = form.2 ∙ ap texts (one_decoding bytes false form.0 all form.1 came) in
           let finals : is_staying final ≡ false = last-false list final (neither (stays list final) (has_spelling list final) none).0 in
           let back = ((round_trip_lem list false final seq.spellable seq.ends all are).together (none-special list false final all finals are)).back in
-          (all, came, subst (λ (t : List ℕ). Decodes t false all) (sym written) back)
+          (all, came, short-means bytes text all came back (other none))
     ]
 
 -- ---- of a stream
@@ -196,3 +205,37 @@ all_short limit (p ∷ parts) text (first, others, is, own, later) le =
 
 pub faithful_alone : (limit : ℕ) (m : Mode) (bytes text : List ℕ) (f : Filters IsFaithful limit m bytes text) → 0 < limit → length text ≤ limit → Again limit m f.parts text
 faithful_alone limit m bytes text f l le = faithful_again limit m bytes text f.parts l f.whole (all_short limit f.parts text f.written le)
+
+-- what is written for a sequence of at most `limit` bytes has no more
+form-short : (limit : ℕ) (bytes text : List ℕ) → longest ≤ limit → length bytes ≤ limit → IsShortForm bytes text → length text ≤ limit
+form-short limit bytes text most fits (form, n, short, long) = elim (cases_lt longest (length form)) [
+  | inl more ↦ omega (arith, fits, ap length (long more))
+  | inr le ↦ omega (arith, most, le, ap length (short le))
+]
+
+written-short : (limit : ℕ) (bytes text : List ℕ) → longest ≤ limit → length bytes ≤ limit → IsFaithful bytes text → length text ≤ limit
+written-short limit bytes text most fits (list, final, seq, kept, other) = elim (cases_Bool (is_kept list final)) [
+  | inl here ↦ omega (arith, fits, ap length (kept here))
+  | inr none ↦ form-short limit bytes text most fits (other none)
+]
+
+part-short : (limit : ℕ) (k : PartKind) (m a : Mode) (bytes own rest text : List ℕ) → longest ≤ limit → IsFirstPart limit m bytes (part k own) rest a → IsWritten IsFaithful k own text → IsWritten (Within limit IsFaithful) k own text
+part-short limit kind.Csi m a bytes own rest text most f w = (w, written-short limit own text most (allows_whole (ahead m bytes) limit m bytes own a (sound m bytes) f.1).1 w)
+part-short limit kind.Text m a bytes own rest text most f w = w
+part-short limit kind.Esc m a bytes own rest text most f w = w
+part-short limit kind.Str m a bytes own rest text most f w = w
+part-short limit kind.Other m a bytes own rest text most f w = w
+
+parts-short : (limit : ℕ) (sure : List Part) (m a : Mode) (bytes rest text : List ℕ) → longest ≤ limit → AreFirstParts limit m bytes sure rest a
+    → AreWritten IsFaithful (sure ++ left_over rest) text → AreWritten (Within limit IsFaithful) (sure ++ left_over rest) text
+parts-short limit [] m a bytes [] text most f w = w
+parts-short limit [] m a bytes (b ∷ rest) text most f w = w
+parts-short limit (p ∷ sure) m a bytes rest text most f (first, others, is, own, later) =
+    (first, others, is, part-short limit p.kind m f.1 bytes p.bytes f.0 first most f.2 own, parts-short limit sure f.1 a f.0 rest others most f.3 later)
+
+pub faithful_whole : (limit : ℕ) (m : Mode) (bytes text : List ℕ) (f : Filters IsFaithful limit m bytes text) → longest ≤ limit → Again limit m f.parts text
+faithful_whole limit m bytes text f most =
+    let w = f.whole in
+    let own = subst (λ (ps : List Part). AreWritten IsFaithful ps text) w.whole f.written in
+    let short = parts-short limit w.sure m w.after bytes w.rest text most w.first own in
+    faithful_again limit m bytes text f.parts (omega (arith, most)) w (subst (λ (ps : List Part). AreWritten (Within limit IsFaithful) ps text) (sym w.whole) short)

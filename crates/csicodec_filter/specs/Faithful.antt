@@ -1,5 +1,5 @@
 -- What is written for a terminal: normal forms, but for the sequences that terminals read otherwise than the codec.
-use Rattle.std.specs.Prelude.{ℕ, ◌≡◌, ◌==◌, ◌-◌, ◌&&◌, ◌||◌, Bool, true, false, List, codes, length, slice_get, pos, negsuc}
+use Rattle.std.specs.Prelude.{ℕ, ◌≡◌, ◌<◌, ◌≤◌, ◌==◌, ◌-◌, ◌&&◌, ◌||◌, Bool, true, false, List, codes, length, slice_get, pos, negsuc}
 use Rattle.std.specs.List.{list_any}
 use Rattle.csicodec_tokens.specs.declared.param.CsiParam.{CsiParam}
 use Rattle.csicodec_tokens.specs.declared.param.CsiParam.TheVariants.{Integer, P}
@@ -35,8 +35,18 @@ has_spelling list final = final == 109 && list_any is_spelled list
 abbrev pub is_kept : List CsiParam → ℕ → Bool
 is_kept list final = stays list final || has_spelling list final
 
--- the text is the bytes of such a sequence, and the normal form of any other
+-- how many bytes a control sequence has at most, for the program
+abbrev pub longest : ℕ
+longest = 65536
+
+-- the text is the normal form, unless that has more bytes, of which a sequence could be too long to be cut as one again
+abbrev pub IsShortForm : List ℕ → List ℕ → Type 0
+IsShortForm bytes text = (form : List ℕ) × NormalisesTo bytes form
+    × (length form ≤ longest → text ≡ form)
+    × (longest < length form → text ≡ bytes)
+
+-- the text is the bytes of such a sequence, and the normal form of any other, if that isn't too long
 abbrev pub IsFaithful : List ℕ → List ℕ → Type 0
 IsFaithful bytes text = (list : List CsiParam) × (final : ℕ) × Seq bytes list final
     × (is_kept list final ≡ true → text ≡ bytes)
-    × (is_kept list final ≡ false → NormalisesTo bytes text)
+    × (is_kept list final ≡ false → IsShortForm bytes text)

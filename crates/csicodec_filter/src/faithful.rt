@@ -5,6 +5,7 @@ ghost use Rattle.csicodec_filter.specs.Faithful.{has_spelling, is_kept, is_spell
 
 use crate::rewrite::{NormalForm, Rewrite};
 use csicodec_base::CsiParam;
+use csicodec_spans::LIMIT;
 use std::alloc::{AllocError, Global};
 
 /// Whether a sequence of this list and this final stays as it came in what is written for a terminal: terminals read it otherwise
@@ -49,7 +50,8 @@ fn is_kept(params: &[CsiParam], control: char) -> bool
 }
 
 /// Each control sequence in its normal form, but for those that terminals read otherwise than the codec does (docs/DIFFERENCES.md),
-/// and for styles of which a terminal may know the spelling that came alone: colours, and what has colons. These stay as they came.
+/// and for styles of which a terminal may know the spelling that came alone: colours, and what has colons. These stay as they came, and so does
+/// a sequence whose normal form has more than [`LIMIT`] bytes, since that could be too long to be read as sequences again.
 ///
 /// ```text
 /// filter_all(alloc, 65536, Faithful::new(alloc), &mut input, &mut output)?;
@@ -82,9 +84,14 @@ impl Rewrite for Faithful {
         out: &mut Vec<u8>,
     ) -> Result<(), AllocError> {
         if is_kept(params, control) {
-            out.extend_from_slice(bytes)
-        } else {
-            self.normal.rewrite(bytes, params, control, out)
+            return out.extend_from_slice(bytes);
         }
+        let len = out.len();
+        self.normal.rewrite(bytes, params, control, out)?;
+        if out.len() - len > LIMIT {
+            out.truncate(len);
+            out.extend_from_slice(bytes)?;
+        }
+        Ok(())
     }
 }

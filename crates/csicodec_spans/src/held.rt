@@ -92,7 +92,7 @@ impl Model for Held {
 
 impl Held {
     /// None, at which no look was taken.
-    pub fn new(alloc: Global) -> Held
+    pub(crate) fn new(alloc: Global) -> Held
         ensures { result ≡ record { bytes = []; looks = 0 } }
     {
         Held {
@@ -103,14 +103,14 @@ impl Held {
 
     /// How many they are. It costs nothing.
     #[inline(always)]
-    pub fn len(&self) -> usize
+    pub(crate) fn len(&self) -> usize
         ensures { result ≡ length self.now.bytes }
     {
         self.bytes.len()
     }
 
     /// Appends bytes that come. It costs a look at each of these; where memory is refused, none is taken.
-    pub fn append(&mut self, bytes: &[u8]) -> Result<(), AllocError>
+    pub(crate) fn append(&mut self, bytes: &[u8]) -> Result<(), AllocError>
         ensures ok { OnOk result (self.new ≡ record { bytes = self.old.bytes ++ bytes.now; looks = self.old.looks + length bytes.now }) }
         ensures err { OnErr result (self.new ≡ self.old) }
     {
@@ -120,7 +120,7 @@ impl Held {
     }
 
     /// Hands them out, so that none waits. It costs a look at each.
-    pub fn take(&mut self) -> Vec<u8>
+    pub(crate) fn take(&mut self) -> Vec<u8>
         ensures all { result.items ≡ self.old.bytes }
         ensures costs { self.new ≡ record { bytes = []; looks = self.old.looks + length self.old.bytes } }
     {
@@ -130,7 +130,7 @@ impl Held {
     }
 
     /// Keeps those behind the first `used` in place of any that wait. It costs a look at each that is kept.
-    pub fn keep(&mut self, all: Vec<u8>, used: usize)
+    pub(crate) fn keep(&mut self, all: Vec<u8>, used: usize)
         requires { used ≤ vec_len all }
         ensures { self.new ≡ record { bytes = drop used all.items; looks = self.old.looks + length (drop used all.items) } }
     {
@@ -153,7 +153,7 @@ impl Held {
     }
 
     /// Appends them to others, so that none waits. It costs a look at each.
-    pub fn append_to(&mut self, out: &mut Vec<u8>) -> Result<(), AllocError>
+    pub(crate) fn append_to(&mut self, out: &mut Vec<u8>) -> Result<(), AllocError>
         ensures appended { OnOk result (out.new.items ≡ out.old.items ++ self.old.bytes) }
         ensures costs { self.new ≡ record { bytes = []; looks = self.old.looks + length self.old.bytes } }
     {
@@ -164,7 +164,7 @@ impl Held {
     }
 
     /// Drops them. It costs nothing.
-    pub fn clear(&mut self)
+    pub(crate) fn clear(&mut self)
         ensures { self.new ≡ record { bytes = []; looks = self.old.looks } }
     {
         self.bytes.clear();

@@ -1,14 +1,22 @@
-use Rattle.std.proofs.Common.{List, [], ◌≡◌, ℕ, false, inl, inr, refl, sym, ap, ◌∙◌}
-use Rattle.std.proofs.lemmas.Bool.{cases_Bool}
+use Rattle.std.proofs.Common.{List, [], ◌≡◌, ℕ, false, inl, inr, refl, sym, ap, ◌∙◌, arith, length}
+use Rattle.std.proofs.lemmas.Bool.{cases_Bool, cases_lt}
 use Rattle.csicodec_tokens.proofs.Unique.{one_seq}
 use Rattle.csicodec_actions.specs.Table.{texts}
 use Rattle.csicodec_streams.specs.Decoding.{NormalisesTo}
 use Rattle.csicodec_streams.proofs.OneReading.{one_decoding}
-use Rattle.csicodec_filter.specs.Faithful.{is_kept}
+use Rattle.csicodec_filter.specs.Faithful.{IsShortForm, is_kept, longest}
 use Rattle.csicodec.proofs.laws.one_normal_form.Goals as goal
 
 one_form : (bytes one other : List ℕ) → NormalisesTo bytes one → NormalisesTo bytes other → one ≡ other
 one_form bytes one other x y = x.2 ∙ ap texts (one_decoding bytes false x.0 y.0 x.1 y.1) ∙ sym y.2
+
+one_short : (bytes one other : List ℕ) → IsShortForm bytes one → IsShortForm bytes other → one ≡ other
+one_short bytes one other (form, n, short, long) (again, k, small, large) =
+    let same = one_form bytes form again n k in
+    elim (cases_lt longest (length form)) [
+      | inl more ↦ long more ∙ sym (large (omega (arith, more, ap length same)))
+      | inr fits ↦ short fits ∙ same ∙ sym (small (omega (arith, fits, ap length same)))
+    ]
 
 pub returns-clause-normal : goal.returns-clause-normal
 returns-clause-normal c = one_form
@@ -19,5 +27,5 @@ returns-clause-faithful c = λ bytes one other x y.
     let kept : is_kept y.0 y.1 ≡ is_kept x.0 x.1 = rw (same.1, same.2) refl in
     elim (cases_Bool (is_kept x.0 x.1)) [
       | inl stays ↦ x.3 stays ∙ sym (y.3 (kept ∙ stays))
-      | inr free ↦ one_form bytes one other (x.4 free) (y.4 (kept ∙ free))
+      | inr free ↦ one_short bytes one other (x.4 free) (y.4 (kept ∙ free))
     ]

@@ -2,6 +2,7 @@
 use Rattle.std.proofs.Common.{◌≡◌, ℕ, Bool, true, false, List, [], ◌∷◌, ◌++◌, map, encode_utf8_all, refl, sym, ap, subst, ◌∙◌, append_assoc, append-nil}
 use Rattle.std.specs.Prelude.{filter, not, ◌||◌, if◌then◌else◌}
 use Rattle.csicodec_actions.specs.Actions.{Action}
+use Rattle.csicodec_terminal.proofs.Unique.{taken_once}
 use Rattle.bstr.specs.Utf8.{lossy_chars}
 use Rattle.csicodec_spans.specs.declared.table.Kind.{Kind}
 use Rattle.csicodec_spans.specs.declared.table.Kind.TheVariants as kind
@@ -12,7 +13,6 @@ use Rattle.csicodec_clean.specs.Shown.{shown, shown_text}
 use Rattle.csicodec_clean.specs.Titles.{with_titles}
 use Rattle.csicodec_clean.specs.Cleaned.{Strips, is_text, longest, stripped}
 use Rattle.csicodec_clean.specs.Links.{Address, links_in}
-use Rattle.csicodec_clean.proofs.Again.{of_once}
 use Rattle.csicodec_clean.proofs.Shows.{encoded_on}
 use Rattle.csicodec_html.specs.declared.look.Look.{Look}
 use Rattle.csicodec_html.specs.declared.markup.Markup.{Markup}
@@ -213,7 +213,7 @@ record Same (xs ys : List Piece) (s t : Setting) : Type 0 where
 
 leaves_once : (s one other : Setting) (k : Kind) (bytes : List ℕ) (xs ys : List Piece) → Leaves s k bytes xs one → Leaves s k bytes ys other → Same xs ys one other
 leaves_once s one other kind.Csi bytes xs ys (actions, isof, e, made) (again, isof', f, made') =
-    let same = of_once bytes actions again isof isof' in
+    let same = taken_once bytes actions again isof isof' in
     record { pieces = made ∙ ap (λ (x : List Action). turn s.markup (sets_any x) s.look (behind_all s.look x)) same ∙ sym made'; settings = e ∙ ap (behind_actions s) same ∙ sym f }
 leaves_once s one other kind.Text bytes xs ys h k = record { pieces = h.0 ∙ sym k.0; settings = h.1 ∙ sym k.1 }
 leaves_once s one other _ bytes xs ys h k = record { pieces = h.0 ∙ sym k.0; settings = h.1 ∙ sym k.1 }

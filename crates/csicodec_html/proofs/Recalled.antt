@@ -13,7 +13,7 @@ use Rattle.csicodec_names.specs.declared.color.Underline.{Underline}
 use Rattle.csicodec_tokens.specs.declared.param.CsiParam.{CsiParam}
 use Rattle.csicodec_tokens.specs.Sequence.{Seq}
 use Rattle.csicodec_actions.specs.Actions.{Action}
-use Rattle.csicodec_parser.specs.Segments.{Actions}
+use Rattle.csicodec_terminal.specs.Terminal.{Terminal}
 use Rattle.csicodec_spans.specs.Parts.{IsSequence}
 use Rattle.csicodec_html.specs.contracts.look.LookPartialEq.TheImpl as look_eq
 use Rattle.csicodec_html.specs.declared.look.Look.{Look}
@@ -81,17 +81,15 @@ given s bytes tags new (actions, is, behind, same) =
     ((is.0, is.1, is.2), (actions, is, ap (λ (l : Look). setting s.markup l s.to s.begun) behind, same))
 
 -- from what was read
-pub read : (m : Markup) (bytes : List ℕ) (list : List CsiParam) (final : ℕ) (old new : Look) (comes : Bool) (actions own : List Action)
-    → Seq bytes list final → Actions list false final actions → own ≡ actions
-    → new ≡ behind_all old own → comes ≡ sets_any own → IsTurned m bytes old new (all_marked (turn m comes old new))
-read m bytes list final old new comes actions own seq are same behind sets =
-    let after = behind ∙ ap (behind_all old) same in (
-      actions,
-      (list, final, seq, are),
-      after,
-      ap (λ (b : Bool). all_marked (turn m b old new)) (sets ∙ ap sets_any same)
-          ∙ ap (λ (l : Look). all_marked (turn m (sets_any actions) old l)) after,
-    )
+pub read : (m : Markup) (bytes : List ℕ) (list : List CsiParam) (final : ℕ) (old new : Look) (comes : Bool) (actions : List Action)
+    → Seq bytes list final → Terminal list false final actions
+    → new ≡ behind_all old actions → comes ≡ sets_any actions → IsTurned m bytes old new (all_marked (turn m comes old new))
+read m bytes list final old new comes actions seq are behind sets = (
+  actions,
+  (list, final, seq, are),
+  behind,
+  ap (λ (b : Bool). all_marked (turn m b old new)) sets ∙ ap (λ (l : Look). all_marked (turn m (sets_any actions) old l)) behind,
+)
 
 -- what was appended last
 pub appended : (m : Markup) (bytes : List ℕ) (old new : Look) (text tags before after : List ℕ) (len : ℕ)

@@ -4,6 +4,7 @@ use Rattle.std.specs.List.{AllByRecursion, flat_map, starts_with}
 use Rattle.std.specs.Char.{IsScalar}
 use Rattle.bstr.specs.Utf8.{lossy_chars}
 use Rattle.csicodec_actions.specs.Actions.{Action}
+use Rattle.csicodec_terminal.specs.Terminal.{IsTakenFor}
 use Rattle.csicodec_spans.specs.declared.table.Kind.{Kind}
 use Rattle.csicodec_spans.specs.declared.table.Kind.TheVariants as kind
 use Rattle.csicodec_spans.specs.declared.table.Mode.TheVariants as mode
@@ -12,7 +13,6 @@ use Rattle.csicodec_clean.specs.Shown.{shown, IsShown}
 use Rattle.csicodec_clean.specs.Titles.{with_titles}
 use Rattle.csicodec_clean.specs.Links.{Address, Begun, all_behind, is_visible, links_in, longest_url, start}
 use Rattle.csicodec_clean.specs.Cleaned.{longest}
-use Rattle.csicodec_clean.specs.Styled.{IsOf}
 use Rattle.csicodec_html.specs.declared.look.Look.{Look}
 use Rattle.csicodec_html.specs.declared.markup.Markup.{Markup}
 use Rattle.csicodec_html.specs.Classes.{attributes}
@@ -132,7 +132,7 @@ shown_pieces run = map Char (filter shown (lossy_chars run))
 -- what a part leaves, and the setting behind it: a control sequence the turn to the look behind its actions, a control string, where
 -- links pass, those that are over with it, and any other part nothing
 abbrev pub Leaves : Setting → Kind → List ℕ → List Piece → Setting → Type 0
-Leaves s kind.Csi bytes own after = (actions : List Action) × IsOf bytes actions
+Leaves s kind.Csi bytes own after = (actions : List Action) × IsTakenFor bytes actions
     × (after ≡ behind_actions s actions)
     × (own ≡ turn s.markup (sets_any actions) s.look (behind_all s.look actions))
 Leaves s kind.Str bytes own after =

@@ -1,2 +1,2 @@
-mod Unique
+pub mod Unique
 mod Moves

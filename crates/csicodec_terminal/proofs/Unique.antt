@@ -3,6 +3,7 @@ use Rattle.std.specs.Prelude.{MatchBool}
 use Rattle.std.proofs.Common.{◌≡◌, ℕ, ◌||◌, Bool, true, false, List, [], ◌∷◌, take, refl, sym, ap, subst, ◌∙◌, inl, inr, arith}
 use Rattle.std.proofs.lemmas.Option.{some_pair_parts}
 use Rattle.csicodec_tokens.specs.declared.param.CsiParam.{CsiParam}
+use Rattle.csicodec_tokens.proofs.Unique.{one_seq}
 use Rattle.csicodec_parser.specs.declared.group.Group.{Group}
 use Rattle.csicodec_parser.specs.declared.group.Group.TheVariants.{Whole, Styles, Modes, DecModes}
 use Rattle.csicodec_actions.specs.Actions.{Action, Unspecified}
@@ -11,7 +12,7 @@ use Rattle.csicodec_parser.specs.Segments.{Actions}
 use Rattle.csicodec_parser.proofs.Cuts.{one_segmentation}
 use Rattle.csicodec_parser.proofs.Fronts.{piece_front, front_fits}
 use Rattle.csicodec_terminal.specs.Regular.{regular}
-use Rattle.csicodec_terminal.specs.Terminal.{Anew, Step, Steps, Terminal, behind, has_unknown, is_open, known_or}
+use Rattle.csicodec_terminal.specs.Terminal.{Anew, IsTakenFor, Step, Steps, Terminal, behind, has_unknown, is_open, known_or}
 
 step_one : (g : Group) (flag : Bool) (final : ℕ) (rest : List CsiParam) (k j : ℕ) (x y : Action) → Step g flag final rest k x → Step g flag final rest j y → (k ≡ j) × (x ≡ y)
 step_one g flag final rest k j x y (inl p) (inl q) =
@@ -57,6 +58,11 @@ pub one_reading : (list : List CsiParam) (flag : Bool) (final : ℕ) (xs ys : Li
 one_reading list flag final xs ys s t =
     let same = one_segmentation list flag final s.0 t.0 s.1 t.1 in
     either_one (has_unknown t.0 || is_open (group list final) list) (group list final) list flag final t.0 xs ys (subst (λ first. Second list flag final first xs) same s.2) t.2
+
+pub taken_once : (bytes : List ℕ) (xs ys : List Action) → IsTakenFor bytes xs → IsTakenFor bytes ys → xs ≡ ys
+taken_once bytes xs ys (l, f, s, a) (m, g, t, b) =
+    let same = one_seq bytes bytes [] [] l m f g s t refl in
+    one_reading l false f xs ys a (rw (same.1, same.2) b)
 
 pub agree : (list : List CsiParam) (flag : Bool) (final : ℕ) (first xs : List Action) → Actions list flag final first → has_unknown first ≡ false → is_open (group list final) list ≡ false → Terminal list flag final xs → xs ≡ first
 agree list flag final first xs are known closed t =

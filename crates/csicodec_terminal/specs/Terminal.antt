@@ -3,6 +3,7 @@ use Rattle.std.specs.Prelude.{ℕ, suc, ◌≡◌, ◌⊎◌, ◌-◌, ◌<◌, 
 use Rattle.std.specs.List.{list_any}
 use Rattle.csicodec_tokens.specs.declared.param.CsiParam.{CsiParam}
 use Rattle.csicodec_tokens.specs.declared.param.CsiParam.TheVariants.{Integer, P}
+use Rattle.csicodec_tokens.specs.Sequence.{Seq}
 use Rattle.csicodec_parser.specs.declared.group.Group.{Group}
 use Rattle.csicodec_parser.specs.declared.group.Group.TheVariants.{Whole, Styles}
 use Rattle.csicodec_actions.specs.Actions.{Action, Unspecified}
@@ -93,3 +94,8 @@ Terminal list flag final actions =
     (first : List Action) × Actions list flag final first
     × MatchBool (has_unknown first || is_open (group list final) list)
     (Anew (group list final) list flag final actions) (actions ≡ first)
+
+-- the bytes are one control sequence, and a terminal takes it for these actions
+abbrev pub IsTakenFor : List ℕ → List Action → Type 0
+IsTakenFor bytes actions = (list : List CsiParam) × (final : ℕ) × Seq bytes list final
+    × Terminal list false final actions

@@ -3,11 +3,11 @@
 use Rattle.std.specs.Prelude.{ℕ, ◌≡◌, ◌==◌, nat_le, Bool, true, false, not, ◌&&◌, if◌then◌else◌, List, [], ◌∷◌, ◌++◌, codes, encode_utf8}
 use Rattle.std.specs.List.{flat_map}
 use Rattle.csicodec_actions.specs.Actions.{Action}
+use Rattle.csicodec_terminal.specs.Terminal.{IsTakenFor}
 use Rattle.csicodec_clean.specs.Cleaned.{RuleOf, EndOf}
 use Rattle.csicodec_clean.specs.Links.{links_at, next}
 use Rattle.csicodec_clean.specs.Stream.{Between, Takes}
 use Rattle.csicodec_clean.specs.Shown.{shown_text}
-use Rattle.csicodec_clean.specs.Styled.{IsOf}
 use Rattle.csicodec_html.specs.declared.look.Look.{Look}
 use Rattle.csicodec_html.specs.declared.markup.Markup.{Markup}
 use Rattle.csicodec_html.specs.declared.palette.Palette.{Palette}
@@ -71,7 +71,7 @@ behind_byte s c =
 abbrev pub turns : RuleOf Setting
 turns = record {
   sequence = λ s bytes out after.
-      (actions : List Action) × IsOf bytes actions × (after ≡ behind_actions s actions)
+      (actions : List Action) × IsTakenFor bytes actions × (after ≡ behind_actions s actions)
       × (out ≡ all_marked (turn s.markup (sets_any actions) s.look (behind_all s.look actions)));
   byte = λ s c out after.
       (out ≡ all_marked (switches s.markup s.look s.to (links_at s.markup.links s.begun c)))

@@ -2,7 +2,7 @@
 use Rattle.std.specs.Prelude.{ℕ, ◌≡◌, ◌<◌, ◌≤◌, List, ◌++◌, length, take}
 use Rattle.std.specs.List.{All}
 use Rattle.csicodec_actions.specs.Actions.{Action}
-use Rattle.csicodec_clean.specs.Styled.{IsOf}
+use Rattle.csicodec_terminal.specs.Terminal.{IsTakenFor}
 use Rattle.csicodec_html.specs.declared.look.Look.{Look}
 use Rattle.csicodec_html.specs.declared.markup.Markup.{Markup}
 use Rattle.csicodec_html.specs.declared.turns.Turn.{Turn}
@@ -12,7 +12,7 @@ use Rattle.csicodec_html.specs.Private.Marked.{all_marked}
 
 -- the bytes are one control sequence, from one look to another, and these are the tags between
 abbrev pub IsTurned : Markup → List ℕ → Look → Look → List ℕ → Type 0
-IsTurned m bytes old new tags = (actions : List Action) × IsOf bytes actions
+IsTurned m bytes old new tags = (actions : List Action) × IsTakenFor bytes actions
     × (new ≡ behind_all old actions)
     × (tags ≡ all_marked (turn m (sets_any actions) old (behind_all old actions)))
 

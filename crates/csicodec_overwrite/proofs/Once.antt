@@ -3,6 +3,7 @@ use Rattle.std.proofs.Common.{◌≡◌, ℕ, Bool, false, Option, IfSome, List,
 use Rattle.std.specs.Io.KnownBytes.{Appends, Consumes, IsAtEnd}
 use Rattle.bstr.specs.Utf8.{lossy_chars}
 use Rattle.csicodec_actions.specs.Actions.{Action}
+use Rattle.csicodec_terminal.proofs.Unique.{taken_once}
 use Rattle.csicodec_spans.specs.declared.table.Kind.{Kind}
 use Rattle.csicodec_spans.specs.declared.table.Kind.TheVariants as kind
 use Rattle.csicodec_spans.specs.declared.table.Mode.TheVariants as mode
@@ -15,7 +16,6 @@ use Rattle.csicodec_clean.specs.Cleaned.{longest}
 use Rattle.csicodec_clean.specs.Shown.{IsRead}
 use Rattle.csicodec_clean.specs.Stream.{IsFrontOf}
 use Rattle.csicodec_clean.specs.Titles.{title_open, with_titles}
-use Rattle.csicodec_clean.proofs.Again.{of_once}
 use Rattle.csicodec_clean.proofs.Sure.{read_none}
 use Rattle.csicodec_clean.proofs.Titles.{titles_on}
 use Rattle.csicodec_overwrite.specs.declared.step.Step.{Step}
@@ -35,7 +35,7 @@ record Same (x y : List Step) (a b : List ℕ) : Type 0 where
 part_once : (k : Kind) (run bytes : List ℕ) (x y : List Step) (a b : List ℕ) → IsOfPart k run bytes x a → IsOfPart k run bytes y b → Same x y a b
 part_once kind.Text run bytes x y a b h i = record { steps = h.0 ∙ sym i.0; runs = h.1 ∙ sym i.1 }
 part_once kind.Csi run bytes x y a b (own, of, e, none) (other, is, f, nil) =
-    record { steps = e ∙ ap (λ (actions : List Action). of_run run ++ of_sequence actions) (of_once bytes own other of is) ∙ sym f; runs = none ∙ sym nil }
+    record { steps = e ∙ ap (λ (actions : List Action). of_run run ++ of_sequence actions) (taken_once bytes own other of is) ∙ sym f; runs = none ∙ sym nil }
 part_once kind.Esc run bytes x y a b h i = record { steps = h.0 ∙ sym i.0; runs = h.1 ∙ sym i.1 }
 part_once kind.Str run bytes x y a b h i = record { steps = h.0 ∙ sym i.0; runs = h.1 ∙ sym i.1 }
 part_once kind.Other run bytes x y a b h i = record { steps = h.0 ∙ sym i.0; runs = h.1 ∙ sym i.1 }

@@ -31,13 +31,11 @@ use Rattle.csicodec_base.specs.declared.sgr.Sgr.TheVariants as sgr
 use Rattle.csicodec_actions.specs.Actions.{Action}
 use Rattle.csicodec_actions.specs.Actions as action
 use Rattle.csicodec_actions.specs.Ranges.{InRange, SgrInRange}
-use Rattle.csicodec.proofs.Kept.{Kept}
-use Rattle.csicodec.proofs.Parsed.{parsed-kept}
+use Rattle.csicodec_terminal.specs.Terminal.{IsTakenFor}
 use Rattle.csicodec_spans.specs.declared.table.Kind.{Kind}
 use Rattle.csicodec_spans.specs.declared.table.Kind.TheVariants as kind
 use Rattle.csicodec_spans.specs.Parts.{Part}
 use Rattle.csicodec_clean.specs.Shown.{IsPlain, IsShown, shown}
-use Rattle.csicodec_clean.specs.Styled.{IsOf}
 use Rattle.csicodec_clean.specs.Titles.{with_titles}
 use Rattle.csicodec_clean.proofs.Plain.{scalars_lossy}
 use Rattle.csicodec_html.specs.declared.look.Look.{Look}
@@ -49,6 +47,7 @@ use Rattle.csicodec_overwrite.specs.Paint.{IsInRange}
 use Rattle.csicodec_overwrite.specs.Steps.{by_code, of_action, of_actions, of_char, of_chars, of_code, of_control, of_cursor, of_device, of_display, of_edit, of_escape, of_final, of_mode, of_part, of_reset, of_run, of_sequence, of_set, of_string, of_string_byte, of_terminal_code, of_terminal_mode, of_wrong, of_wrong_byte}
 use Rattle.csicodec_overwrite.specs.Reading.{AreOfParts, IsOfPart, Overwrites, Steps, most}
 use Rattle.csicodec_overwrite.proofs.Kept.{OfStep, of_shown}
+use Rattle.csicodec_overwrite.proofs.Taken.{taken_range}
 use Rattle.csicodec_overwrite.proofs.Texts.{chars_by, shown_plain}
 
 -- a character that is shown
@@ -215,15 +214,15 @@ action_good (action.Edit e) h = edit_good e
 action_good (action.Sgr s) h = (h, tt)
 action_good (action.Mode m) h = mode_good m
 action_good (action.Device d) h = device_good d
-action_good (action.Unspecified params flag final) h = pick (final == 109) [] (step.Leave None ∷ []) tt (tt, tt)
+action_good (action.Unspecified params flag final) h = pick (final == 109 || final == 75) [] (step.Leave None ∷ []) tt (tt, tt)
 action_good _ h = tt
 
-actions_good : (actions : List Action) → AllByRecursion (Kept false) actions → AreGood (of_actions actions)
+actions_good : (actions : List Action) → AllByRecursion InRange actions → AreGood (of_actions actions)
 actions_good [] h = tt
-actions_good (a ∷ actions) h = both (of_action a) (of_actions actions) (action_good a h.0.range) (actions_good actions h.1)
+actions_good (a ∷ actions) h = both (of_action a) (of_actions actions) (action_good a h.0) (actions_good actions h.1)
 
-sequence_good : (bytes : List ℕ) (actions : List Action) → IsOf bytes actions → AreGood (of_sequence actions)
-sequence_good bytes actions (list, final, is, read) = both (of_actions actions) (step.Other ∷ []) (actions_good actions (parsed-kept list false final actions is.spellable is.ends read)) (tt, tt)
+sequence_good : (bytes : List ℕ) (actions : List Action) → IsTakenFor bytes actions → AreGood (of_sequence actions)
+sequence_good bytes actions is = both (of_actions actions) (step.Other ∷ []) (actions_good actions (taken_range bytes actions is)) (tt, tt)
 
 part_steps : (k : Kind) (run bytes left : List ℕ) (steps : List Step) → IsOfPart k run bytes steps left → AreGood steps
 part_steps kind.Text run bytes left steps h = rw h.0 tt

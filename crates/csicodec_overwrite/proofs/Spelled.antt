@@ -1,9 +1,10 @@
 -- The sequence of a look is one control sequence, and is read as a reset and its attributes.
-use Rattle.std.proofs.Common.{◌≡◌, ◌≤◌, ◌<◌, ◌+◌, ◌*◌, ◌-◌, ◌^◌, ◌⊎◌, ℕ, Bool, true, false, cond, List, [], ◌∷◌, ◌++◌, length, length-append, take, drop, map, inl, inr, ⊎_elim, refl, sym, ap, subst, ◌∙◌, append_assoc, append-nil, arith, rules}
-use Rattle.std.specs.Prelude.{◌==◌, codes, nat_lt, not}
+use Rattle.std.proofs.Common.{◌≡◌, ◌≤◌, ◌<◌, ◌+◌, ◌*◌, ◌-◌, ◌^◌, ◌⊎◌, ℕ, suc, Bool, true, false, cond, List, [], ◌∷◌, ◌++◌, length, length-append, take, drop, map, inl, inr, ⊎_elim, refl, sym, ap, subst, ◌∙◌, append_assoc, append-nil, arith, rules}
+use Rattle.std.specs.Prelude.{◌==◌, Some, codes, nat_lt, not, slice_get}
 use Rattle.std.specs.Fmt.{decimal}
 use Rattle.std.specs.List.{AllByRecursion, flat_map}
 use Rattle.std.proofs.Math.Seq.{take-append_seam}
+use Rattle.std.proofs.lemmas.Bool.{cases_Bool, eqb-true}
 use Rattle.std.proofs.lemmas.Fmt.{digits_decimal, decimal_nonempty}
 use Rattle.std.proofs.lemmas.List.{map-append}
 use Rattle.std.proofs.lemmas.Str.Parse.{IsNumeralModel, numerals_by_fold}
@@ -11,7 +12,7 @@ use Rattle.csicodec_tokens.specs.declared.param.CsiParam.{CsiParam}
 use Rattle.csicodec_tokens.specs.declared.param.CsiParam.TheVariants.{Integer, P}
 use Rattle.csicodec_tokens.specs.Digits.{AreDigits, IsDigit, value, value_after}
 use Rattle.csicodec_tokens.specs.Param.{spells}
-use Rattle.csicodec_tokens.specs.Sequence.{Apart, IsSpellable, Spellable, Spells}
+use Rattle.csicodec_tokens.specs.Sequence.{Apart, IsSpellable, Seq, Spellable, Spells}
 use Rattle.csicodec_tokens.proofs.Decimal.{length-decimal_u16}
 use Rattle.csicodec_tokens.proofs.Printed.{printed}
 use Rattle.csicodec_names.specs.declared.color.ColorSpec.{ColorSpec}
@@ -28,13 +29,15 @@ use Rattle.csicodec_actions.specs.Actions as action
 use Rattle.csicodec_actions.specs.Ranges.{ColorInRange, SgrInRange}
 use Rattle.csicodec_parser.specs.Canonical.{IsCanonicalSgr}
 use Rattle.csicodec_parser.specs.Cut.{semicolon}
-use Rattle.csicodec_parser.specs.Groups.{has_odd, is_odd}
+use Rattle.csicodec_parser.specs.Groups.{group, has_odd, is_byte, is_odd}
 use Rattle.csicodec_parser.specs.Segments.{Actions}
+use Rattle.csicodec_parser.specs.declared.group.Group.{Group}
 use Rattle.csicodec_parser.specs.declared.group.Group.TheVariants.{Styles}
 use Rattle.csicodec_parser.proofs.GroupOf.{or-parts}
 use Rattle.csicodec.specs.Compose.{EndsInSemicolon, IsStyleList}
 use Rattle.csicodec.proofs.Compose.{sgr_compose_lem}
 use Rattle.csicodec.proofs.SgrSpelling.{sgr-spelling}
+use Rattle.csicodec_terminal.specs.Terminal.{IsTakenFor, has_unknown, is_open}
 use Rattle.csicodec_clean.specs.Styled.{IsOf}
 use Rattle.csicodec_html.specs.declared.look.Look.{Look}
 use Rattle.csicodec_html.specs.Look.{is_default, is_none, is_normal}
@@ -250,7 +253,7 @@ some_tokens bs (t ∷ list) s some = omega arith
 
 -- ---- lists that are joined at a `;`
 
-semicolon-spellable : IsSpellable semicolon
+pub semicolon-spellable : IsSpellable semicolon
 semicolon-spellable = ((omega arith, omega arith), λ d. omega (arith, d))
 
 apart-semicolon : (t : CsiParam) (list : List CsiParam) → Apart t (semicolon ∷ list)
@@ -351,11 +354,44 @@ all_open (s ∷ styles) bytes done o h =
     let whole = bytes ++ (further s ++ flat_map further styles) in
     subst (Open whole) (append_assoc done (s ∷ []) styles) (subst (λ (t : List ℕ). Open t ((done ++ s ∷ []) ++ styles)) (append_assoc bytes (further s) (flat_map further styles)) all)
 
-pub look_of_one : (l : Look) → IsInRange l → IsOf (look_text l) (map action.Sgr (sgr.Reset ∷ attributes l))
+look_open : (l : Look) → IsInRange l → Open (48 ∷ flat_map further (attributes l)) (sgr.Reset ∷ attributes l)
+look_open l h = all_open (attributes l) (48 ∷ []) (sgr.Reset ∷ []) (one_open sgr.Reset reset_spelled) (all_spelled l h)
+
+look_seq : (l : Look) (h : IsInRange l) → Seq (look_text l) (look_open l h).list 109
 unfolding look_text
-look_of_one l h =
-    let o = all_open (attributes l) (48 ∷ []) (sgr.Reset ∷ []) (one_open sgr.Reset reset_spelled) (all_spelled l h) in
-    (o.list, 109, record { spellable = o.spellable; ends = (omega arith, omega arith); body = 48 ∷ flat_map further (attributes l); spelled = o.spelled; whole = refl }, o.means)
+look_seq l h =
+    let o = look_open l h in
+    record { spellable = o.spellable; ends = (omega arith, omega arith); body = 48 ∷ flat_map further (attributes l); spelled = o.spelled; whole = refl }
+
+pub look_of_one : (l : Look) → IsInRange l → IsOf (look_text l) (map action.Sgr (sgr.Reset ∷ attributes l))
+look_of_one l h = ((look_open l h).list, 109, look_seq l h, (look_open l h).means)
+
+-- ---- also as terminals take it
+
+last_ends : (list : List CsiParam) → is_byte 59 (slice_get list (length list - 1)) ≡ true → EndsInSemicolon list
+last_ends [] e = cc
+last_ends (Integer z ∷ []) e = cc
+last_ends (P b ∷ []) e = ([], rw (eqb-true b 59 e) refl)
+last_ends (t ∷ u ∷ us) e =
+    let next : length (t ∷ u ∷ us) - 1 ≡ suc (length (u ∷ us) - 1) = omega arith in
+    let more = last_ends (u ∷ us) (rw next at e) in
+    (t ∷ more.0, ap (λ (l : List CsiParam). t ∷ l) more.1)
+
+none_open : (g : Group) (list : List CsiParam) → ¬ EndsInSemicolon list → is_open g list ≡ false
+none_open Styles list unended = elim (cases_Bool (is_byte 59 (slice_get list (length list - 1)))) [
+  | inl last ↦ absurd (unended (last_ends list last))
+  | inr other ↦ other
+]
+none_open _ list unended = refl
+
+none_unknown : (styles : List Sgr) → has_unknown (map action.Sgr styles) ≡ false
+none_unknown [] = refl
+none_unknown (s ∷ styles) = none_unknown styles
+
+pub look_taken : (l : Look) → IsInRange l → IsTakenFor (look_text l) (map action.Sgr (sgr.Reset ∷ attributes l))
+look_taken l h =
+    let o = look_open l h in
+    (o.list, 109, look_seq l h, (map action.Sgr (sgr.Reset ∷ attributes l), o.means, rw (none_unknown (sgr.Reset ∷ attributes l), none_open (group o.list 109) o.list o.unended) refl))
 
 -- ---- and short
 

@@ -1,14 +1,14 @@
--- The steps of a stream: those of the characters of its runs of text, each read by itself, of its escape sequences and its control
--- sequences, and of what went wrong. Control strings and titles end a run, and do nothing, but stand behind what was put last.
+-- The steps of a stream: those of the characters of its runs of text, each read by itself, of its escape sequences, of its control
+-- sequences as terminals take them, and of what went wrong. Control strings and titles end a run, and do nothing, but stand behind what was put last.
 use Rattle.std.specs.Prelude.{ℕ, ◌≡◌, Bool, false, true, List, [], ◌∷◌, ◌++◌}
 use Rattle.csicodec_actions.specs.Actions.{Action}
+use Rattle.csicodec_terminal.specs.Terminal.{IsTakenFor}
 use Rattle.csicodec_spans.specs.declared.table.Kind.{Kind}
 use Rattle.csicodec_spans.specs.declared.table.Kind.TheVariants as kind
 use Rattle.csicodec_spans.specs.declared.table.Mode.{Mode}
 use Rattle.csicodec_spans.specs.declared.table.Mode.TheVariants as mode
 use Rattle.csicodec_spans.specs.Parts.{Part, AreFirstParts, IsUnsure}
 use Rattle.csicodec_clean.specs.Cleaned.{longest}
-use Rattle.csicodec_clean.specs.Styled.{IsOf}
 use Rattle.csicodec_clean.specs.Titles.{with_titles}
 use Rattle.csicodec_overwrite.specs.declared.step.Step.{Step}
 use Rattle.csicodec_overwrite.specs.Line.{Done, blank, cells_of, do_all, fresh}
@@ -18,7 +18,7 @@ use Rattle.csicodec_overwrite.specs.Steps.{of_escape, of_run, of_sequence, of_st
 -- one part behind a run of text: text goes on with the run, and any other part ends it
 abbrev pub IsOfPart : Kind → List ℕ → List ℕ → List Step → List ℕ → Type 0
 IsOfPart kind.Text run bytes steps left = (steps ≡ []) × (left ≡ run ++ bytes)
-IsOfPart kind.Csi run bytes steps left = (actions : List Action) × IsOf bytes actions
+IsOfPart kind.Csi run bytes steps left = (actions : List Action) × IsTakenFor bytes actions
     × (steps ≡ of_run run ++ of_sequence actions) × (left ≡ [])
 IsOfPart kind.Esc run bytes steps left = (steps ≡ of_run run ++ of_escape bytes) × (left ≡ [])
 IsOfPart kind.Str run bytes steps left = (steps ≡ of_run run ++ of_string bytes) × (left ≡ [])

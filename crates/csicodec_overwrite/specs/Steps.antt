@@ -181,9 +181,9 @@ abbrev pub of_device : Device → List Step
 of_device device.SoftReset = step.Reset ∷ []
 of_device _ = []
 
--- a list that isn't read, where it isn't of SGR, may move too: terminals read CUP with a row that is left out
+-- a list that terminals take for no action that is known may move too, where it isn't of SGR or EL
 abbrev pub of_unread : ℕ → List Step
-of_unread final = if final == 109 then [] else step.Leave None ∷ []
+of_unread final = if final == 109 || final == 75 then [] else step.Leave None ∷ []
 
 -- and SGR (8.3.117)
 abbrev pub of_action : Action → List Step

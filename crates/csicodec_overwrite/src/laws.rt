@@ -1,6 +1,7 @@
 //! Laws of the definitions. Each is the contract of a function that does nothing.
 ghost use Rattle.std.specs.Prelude.{◌≡◌, ◌≤◌, ℕ, Bool, List};
 ghost use Rattle.csicodec_actions.specs.Actions.{Action};
+ghost use Rattle.csicodec_terminal.specs.Terminal.{IsTakenFor};
 ghost use Rattle.csicodec_clean.specs.Cleaned.{Strips, longest};
 ghost use Rattle.csicodec_clean.specs.Shown.{IsPlain};
 ghost use Rattle.csicodec_clean.specs.Styled.{IsOf};
@@ -42,10 +43,11 @@ pub fn same_text()
         → Strips longest painted text }
 {}
 
-/// The sequence of a look is one control sequence, and what it sets, whatever was set before, is that look.
+/// The sequence of a look is one control sequence, and what it sets, whatever was set before, is that look. Terminals take it so too.
 pub fn looks_back()
     ensures { (old look : Look) → IsInRange look
-        → (actions : List Action) × IsOf (look_text look) actions × (behind_all old actions ≡ look) }
+        → (actions : List Action) × IsOf (look_text look) actions
+        × IsTakenFor (look_text look) actions × (behind_all old actions ≡ look) }
 {}
 
 /// The line that isn't over never holds more than 65,536 cells, whatever comes.

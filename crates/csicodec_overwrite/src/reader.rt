@@ -1,10 +1,9 @@
 //! The steps of a stream, as it comes.
-ghost use Rattle.std.specs.Prelude.{◌≡◌, ◌≢◌, ◌≤◌, ◌++◌, ℕ, List, [], false, true, length, map, MatchOption, OnOk, IfOk};
+ghost use Rattle.std.specs.Prelude.{◌≡◌, ◌≢◌, ◌≤◌, ◌++◌, ℕ, List, false, true, length, MatchOption, OnOk, IfOk};
 ghost use Rattle.csicodec_tokens.specs.Sequence.{Seq};
-ghost use Rattle.csicodec_parser.specs.ActionOf.{action_of};
-ghost use Rattle.csicodec_parser.specs.Segments.{Actions};
 ghost use Rattle.csicodec_spans.specs.declared.table.Kind.TheVariants.{Csi as Sequence};
 ghost use Rattle.csicodec_spans.specs.Parts.{IsUnsure};
+ghost use Rattle.csicodec_terminal.specs.Terminal.{Terminal};
 ghost use Rattle.csicodec_clean.specs.Cleaned.{longest};
 ghost use Rattle.csicodec_clean.specs.Titles.{read_as, title_behind};
 ghost use Rattle.csicodec_overwrite.specs.Private.Spans.{GoesTo, IsGiven};
@@ -16,35 +15,31 @@ use crate::step::Step;
 use crate::text::{
     append_actions, append_escape, append_run, append_string, append_text, append_wrong,
 };
-use csicodec::CSI;
 use csicodec_base::CsiParam;
 use csicodec_clean::{read_as, title_behind};
 use csicodec_spans::{Cutter, Kind, LIMIT, Mode, Waiting};
-use csicodec_streams::parse_into;
+use csicodec_terminal::terminal_actions;
 use std::alloc::{AllocError, Global};
 use std::marker::Model;
 
-/// Appends the steps of a control sequence. `actions` is a place that is kept for its actions.
+/// Appends the steps of a control sequence, as terminals take it.
 fn append_sequence(
     alloc: Global,
-    actions: &mut Vec<CSI>,
     params: &[CsiParam],
     control: char,
     steps: &mut Vec<Step>,
 ) -> Result<(), AllocError>
-    ensures { OnOk result ((all : _) × Actions params.now false control all
+    ensures { OnOk result ((all : _) × Terminal params.now false control all
         × (steps.new.items ≡ steps.old.items ++ of_sequence all)) }
 {
-    actions.clear();
-    parse_into(alloc, params, false, control, actions)?;
-    append_actions(actions, steps)?;
+    let actions = terminal_actions(alloc, params, false, control)?;
+    append_actions(&actions, steps)?;
     Ok(steps.push(Step::Other)?)
 }
 
 /// Appends the steps of a span. A span that is no text ends the run of text before it.
 fn append_span(
     alloc: Global,
-    actions: &mut Vec<CSI>,
     params: &[CsiParam],
     control: Option<char>,
     held: &mut Vec<u8>,
@@ -65,7 +60,7 @@ fn append_span(
     append_run(held, steps)?;
     held.clear();
     if let Some(control) = control {
-        return append_sequence(alloc, actions, params, control, steps);
+        return append_sequence(alloc, params, control, steps);
     }
     match kind {
         Kind::Esc => append_escape(bytes, steps),
@@ -82,9 +77,8 @@ pub(crate) struct Reader {
     titled: bool,
     waiting: Waiting,
     held: Vec<u8>,
-    /// Places that are kept for the tokens and the actions of a sequence.
+    /// A place that is kept for the tokens of a sequence.
     params: Vec<CsiParam>,
-    actions: Vec<CSI>,
     /// What came before.
     seen: Seen,
 }
@@ -107,7 +101,6 @@ impl Model for Reader {
 /// `held` are the bytes of the run of text before them that aren't read yet, three at most; `titled` says whether a title is open.
 fn append_steps<'a>(
     alloc: Global,
-    actions: &mut Vec<CSI>,
     params: &mut Vec<CsiParam>,
     held: &mut Vec<u8>,
     titled: &mut bool,
@@ -130,7 +123,7 @@ fn append_steps<'a>(
         };
         let kind = read_as(span.kind, *titled);
         append_span(
-            alloc, actions, params, control, held, kind, span.bytes, steps,
+            alloc, params, control, held, kind, span.bytes, steps,
         )?;
         *titled = title_behind(*titled, span.kind, span.bytes);
     }
@@ -147,7 +140,6 @@ impl Reader {
             waiting: Waiting::new(alloc, LIMIT),
             held: Vec::new(alloc),
             params: Vec::new(alloc),
-            actions: Vec::new(alloc),
             seen: Seen::new(alloc),
         }
     }
@@ -184,7 +176,6 @@ impl Reader {
         };
         let (rest, mode) = append_steps(
             self.alloc,
-            &mut self.actions,
             &mut self.params,
             &mut self.held,
             &mut self.titled,

@@ -275,11 +275,11 @@ fn append_device(device: &Device, steps: &mut Vec<Step>) -> Result<(), AllocErro
     Ok(())
 }
 
-/// Appends what a list does that isn't read: it may move the cursor.
+/// Appends what a list does that isn't read: it may move the cursor, unless it is one of SGR or EL.
 fn append_unread(control: char, steps: &mut Vec<Step>) -> Result<(), AllocError>
     ensures { OnOk result (steps.new.items ≡ steps.old.items ++ of_unread control) }
 {
-    if control != 'm' {
+    if !matches!(control, 'm' | 'K') {
         steps.push(Step::Leave(None))?;
     }
     Ok(())

@@ -4,8 +4,8 @@ use Rattle.csicodec_actions.specs.Actions.{Action}
 use Rattle.csicodec_spans.specs.declared.table.Kind.{Kind}
 use Rattle.csicodec_spans.specs.declared.table.Kind.TheVariants as kind
 use Rattle.csicodec_spans.specs.declared.table.Mode.{Mode}
+use Rattle.csicodec_terminal.specs.Terminal.{IsTakenFor}
 use Rattle.csicodec_clean.specs.Shown.{IsRead}
-use Rattle.csicodec_clean.specs.Styled.{IsOf}
 use Rattle.csicodec_overwrite.specs.declared.step.Step.{Step}
 use Rattle.csicodec_overwrite.specs.Steps.{of_chars, of_escape, of_run, of_sequence, of_string, of_wrong}
 use Rattle.csicodec_overwrite.specs.Stream.{Goes}
@@ -14,7 +14,7 @@ use Rattle.csicodec_overwrite.specs.Stream.{Goes}
 abbrev pub IsGiven : Kind → List ℕ → List ℕ → List Step → List ℕ → Type 0
 IsGiven kind.Text held bytes steps left = (chars : List ℕ) × IsRead (held ++ bytes) chars left
     × (steps ≡ of_chars chars)
-IsGiven kind.Csi held bytes steps left = (actions : List Action) × IsOf bytes actions
+IsGiven kind.Csi held bytes steps left = (actions : List Action) × IsTakenFor bytes actions
     × (steps ≡ of_run held ++ of_sequence actions) × (left ≡ [])
 IsGiven kind.Esc held bytes steps left = (steps ≡ of_run held ++ of_escape bytes) × (left ≡ [])
 IsGiven kind.Str held bytes steps left = (steps ≡ of_run held ++ of_string bytes) × (left ≡ [])

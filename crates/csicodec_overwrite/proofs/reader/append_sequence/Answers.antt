@@ -1,4 +1,4 @@
-use Rattle.std.proofs.Common.{◌≡◌, ◌++◌, ◌∙◌, ◌∷◌, [], map, ap, append_assoc}
+use Rattle.std.proofs.Common.{◌++◌, ◌∙◌, ◌∷◌, [], map, ap, append_assoc}
 use Rattle.csicodec_parser.specs.ActionOf.{action_of}
 use Rattle.csicodec_overwrite.specs.declared.step.Step.TheVariants as step
 use Rattle.csicodec_overwrite.specs.Steps.{of_actions}
@@ -6,7 +6,7 @@ use Rattle.csicodec_overwrite.proofs.reader.append_sequence.Goals as goal
 
 pub returns : goal.returns
 returns c =
-    let (actions, are, held) = c.in_ok-parse_into.ensures [] (ap (map action_of) c.clear.ensures.items) in
-    let told : map action_of c.deref.result.now ≡ actions = ap (map action_of) c.deref.ensures.value ∙ held in
+    let actions = map action_of c.in_ok-actions.actions.items in
+    let told : map action_of c.deref.result.now ≡ actions = ap (map action_of) c.deref.ensures.value in
     let old = c.args.steps.now.items in
-    (actions, are, c.in_ok-push.ensures.items ∙ ap (λ t. t ++ step.Other ∷ []) (c.in_ok-append_actions.ensures ∙ ap (λ all. old ++ of_actions all) told) ∙ append_assoc old (of_actions actions) (step.Other ∷ []))
+    (actions, c.in_ok-actions.ensures, c.in_ok-push.ensures.items ∙ ap (λ t. t ++ step.Other ∷ []) (c.in_ok-append_actions.ensures ∙ ap (λ all. old ++ of_actions all) told) ∙ append_assoc old (of_actions actions) (step.Other ∷ []))

@@ -7,6 +7,7 @@ use crate::page::{Modes, Page};
 use csicodec_base::CsiParam;
 use csicodec_events::{Dialect, Event, Events, InputEvent, Sent};
 use csicodec_spans::{Kind, LIMIT, Mode};
+use csicodec_words::Did;
 use std::alloc::{AllocError, Global};
 
 /// What comes so many microseconds behind an ESC, or later, doesn't belong to it.

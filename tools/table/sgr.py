@@ -264,7 +264,7 @@ def words(table):
     names = [[f"    {string(color)},"] for color in table.rows["colors"]]
     said = "The first 16 of the palette: the names of ECMA-48 for the first 8, and `bright` ahead for the next."
     holes = {it.variant: f"SGR  {it.ahead} {{0{'@color' * (it.holds == 'ColorSpec')}}}" for it in (*table.sets.values(), *table.further.values()) if it.ahead}
-    parts = "\n" + "".join(pieces(low(variant).upper(), template) for variant, template in holes.items())
+    parts = "".join("\n" + pieces(low(variant).upper(), template) for variant, template in holes.items())
     return WORDS.replace("TYPES", ", ".join(used)).replace("ARMS", "\n".join(arms(table))) + array(said, "COLORS", "&str", names) + parts + "\n" + unread(table)
 
 

@@ -61,7 +61,8 @@ def piece_of(hole):
 def pieces(name, template):
     """A template as code has it, in parts, on one line."""
     parts = [f"Piece::{piece_of(part) if at % 2 else f'Text({string(part)})'}" for at, part in enumerate(re.split(r"[{}]", template)) if part]
-    return f"static {name}: [Piece; {len(parts)}] = pieces! {{ {', '.join(parts)} }};\n"
+    ahead, said = f"static {name}: [Piece; {len(parts)}] =", f"pieces! {{ {', '.join(parts)} }};\n"
+    return f"{ahead} {said}" if len(ahead) + len(said) <= 100 else f"{ahead}\n    {said}"
 
 
 def place_of(form):

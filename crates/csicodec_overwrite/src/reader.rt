@@ -122,9 +122,7 @@ fn append_steps<'a>(
             return Ok((rest, open));
         };
         let kind = read_as(span.kind, *titled);
-        append_span(
-            alloc, params, control, held, kind, span.bytes, steps,
-        )?;
+        append_span(alloc, params, control, held, kind, span.bytes, steps)?;
         *titled = title_behind(*titled, span.kind, span.bytes);
     }
 }

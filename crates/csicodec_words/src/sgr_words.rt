@@ -64,9 +64,13 @@ pub(crate) static COLORS: [&str; 16] = [
 ];
 
 static FONT: [Piece; 2] = pieces! { Piece::Text("SGR  alternative font "), Piece::Number(0) };
+
 static FOREGROUND: [Piece; 2] = pieces! { Piece::Text("SGR  foreground "), Piece::Color };
+
 static BACKGROUND: [Piece; 2] = pieces! { Piece::Text("SGR  background "), Piece::Color };
-static UNDERLINE_COLOR: [Piece; 2] = pieces! { Piece::Text("SGR  underline colour "), Piece::Color };
+
+static UNDERLINE_COLOR: [Piece; 2] =
+    pieces! { Piece::Text("SGR  underline colour "), Piece::Color };
 
 /// Attributes that no action sets, each alone.
 pub(crate) static UNREAD: [(i64, &str); 12] = [

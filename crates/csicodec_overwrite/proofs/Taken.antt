@@ -10,7 +10,6 @@ use Rattle.csicodec_tokens.specs.OneBased.{most}
 use Rattle.csicodec_tokens.specs.Sequence.{IsFinal, IsSpellable, Spellable}
 use Rattle.csicodec_actions.specs.Actions.{Action, Unspecified}
 use Rattle.csicodec_actions.specs.Ranges.{InRange}
-use Rattle.csicodec_lists.proofs.AllRows.{spellable-tokens}
 use Rattle.csicodec_parser.specs.declared.group.Group.{Group}
 use Rattle.csicodec_parser.specs.declared.group.Group.TheVariants.{DecModes, Modes, Styles, Whole}
 use Rattle.csicodec_parser.specs.Cut.{semicolon}
@@ -40,12 +39,12 @@ where_split : (here : Bool) (o : Option (List (Option ℤ))) → AreFields o →
 where_split true o are = are
 where_split false o are = tt
 
-fields_are : (list : List CsiParam) → AllByRecursion IsSpellable list → AreFields (fields_of list)
+fields_are : (list : List CsiParam) → Spellable list → AreFields (fields_of list)
 fields_are [] ok = tt
-fields_are (P b ∷ list) ok = where_split (b == 59) _ (with_one None (fields_of list) tt (fields_are list ok.1))
+fields_are (P b ∷ list) ok = where_split (b == 59) _ (with_one None (fields_of list) tt (fields_are list ok.2))
 fields_are (Integer z ∷ []) ok = (ok.0.0, tt)
-fields_are (Integer z ∷ P b ∷ list) ok = where_split (b == 59) _ (with_one (Some z) (fields_of list) ok.0.0 (fields_are list ok.1.1))
-fields_are (Integer z ∷ Integer y ∷ list) ok = with_one (Some z) (fields_of (Integer y ∷ list)) ok.0.0 (fields_are (Integer y ∷ list) ok.1)
+fields_are (Integer z ∷ P b ∷ list) ok = where_split (b == 59) _ (with_one (Some z) (fields_of list) ok.0.0 (fields_are list ok.2.2))
+fields_are (Integer z ∷ Integer y ∷ list) ok = absurd ok.1
 
 clamped : (small : Bool) (n : ℕ) → nat_lt n (2 ^ 32) ≡ small → IsSpellable (Integer (pos (if small then n else most)))
 clamped true n e = grind (arith, ints, e)
@@ -82,7 +81,7 @@ fields_spellable two list None ok are = ok
 fields_spellable two list (Some fields) ok are = first_spellable two fields are
 
 either_spellable : (has two : Bool) (list : List CsiParam) → Spellable list → Spellable (if has then by_fields two list (fields_of list) else list)
-either_spellable true two list ok = fields_spellable two list (fields_of list) ok (fields_are list (spellable-tokens list ok))
+either_spellable true two list ok = fields_spellable two list (fields_of list) ok (fields_are list ok)
 either_spellable false two list ok = ok
 
 regular_spellable : (list : List CsiParam) (final : ℕ) → Spellable list → Spellable (regular list final)

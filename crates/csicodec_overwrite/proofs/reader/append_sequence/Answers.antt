@@ -1,4 +1,4 @@
-use Rattle.std.proofs.Common.{◌++◌, ◌∙◌, ◌∷◌, [], map, ap, append_assoc}
+use Rattle.std.proofs.Common.{◌≡◌, ◌++◌, ◌∙◌, ◌∷◌, [], map, ap, append_assoc}
 use Rattle.csicodec_parser.specs.ActionOf.{action_of}
 use Rattle.csicodec_overwrite.specs.declared.step.Step.TheVariants as step
 use Rattle.csicodec_overwrite.specs.Steps.{of_actions}

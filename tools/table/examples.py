@@ -2,19 +2,22 @@
 They are typed by hand."""
 import pathlib
 
+from faults import refuse
 from read import TOP, rows_of
 
 
-def of(row):
+def of(table, key, row):
     """Those of a row, or of the rows of a part."""
     if isinstance(row.get("says"), dict):
+        if "source" not in row:
+            refuse(table, key, "it has no source")
         return [[sequence, *said.split("  ", 1), row["source"]] for sequence, said in row["says"].items()]
-    return [example for part in row.values() if isinstance(part, dict) for example in of(part)]
+    return [example for name, part in row.items() if isinstance(part, dict) for example in of(table, name, part)]
 
 
 def examples():
     """The sequence, its name, its words and the document of its row, of each example of each table."""
-    return [example for table in sorted(pathlib.Path(TOP, "table").glob("*.toml")) for example in of(rows_of(table.name))]
+    return [example for table in sorted(pathlib.Path(TOP, "table").glob("*.toml")) for example in of(table.name, "", rows_of(table.name))]
 
 
 def all_examples():

@@ -10,8 +10,11 @@ TABLE = "names.toml"
 def named():
     """The names of rows of other tables."""
     sequences, escapes = rows_of("sequences.toml"), rows_of("escapes.toml")
-    rows = [row for kind, row in sequences.items() if kind.isdigit()]
-    rows += [*section(sequences, "beyond").values(), *section(sequences, "instead").values()]
+    parts = [section(sequences, "beyond"), section(sequences, "instead"), {kind: row for kind, row in sequences.items() if kind.isdigit()}]
+    for key, row in (item for part in parts for item in part.items()):
+        if "name" not in row:
+            refuse("sequences.toml", key, "it has no name")
+    rows = [row for part in parts for row in part.values()]
     rows += [action.row for subject in subjects() for action in subject.actions if "name" in action.row]
     words = [row["words"] for kind in ("code", "other") for row in escapes[kind].values() if "words" in row]
     return {row["name"] for row in rows} | {text.split("  ")[0] for text in words}

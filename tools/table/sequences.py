@@ -171,6 +171,10 @@ def check(table, rows):
         for row in rows:
             if row.form.read(action.text()) is not None:
                 refuse(TABLE, row.kind, f"{action.subject}::{action.variant[0]} has its list: the row goes, and leaves its constant and number in [gone]")
+    names = tuple(action.row["name"] for subject in subjects() for action in subject.actions if "name" in action.row)
+    for constant in table["gone"]:
+        if not any(f"{constant}_".startswith(f"{name}_") for name in names):
+            refuse(TABLE, "gone", f"{constant} was a row's, and no action has a name by which its lists are told")
 
 
 def files(table):

@@ -3,6 +3,7 @@ import re
 import sys
 
 from faults import refuse
+from layout import packed, string
 from read import first_line
 
 TABLE = "keys.toml"
@@ -140,9 +141,8 @@ def named_antt(named):
 
 def words_rt(named):
     """src/key_words.rt of csicodec_words."""
-    lines = ["//! What keys with a name are called.", "", "use csicodec_keys::KeyCode;", "", "/// The words of a key; none of a function key and of one of a character.",
-             "pub fn key_words(code: KeyCode) -> Option<&'static str> {", "    Some(match code {", "        KeyCode::Char(_) | KeyCode::F(_) => return None,"]
-    return "\n".join([*lines, *(f'        KeyCode::{name} => "{row["words"]}",' for name, row in named.items()), "    })", "}"]) + "\n"
+    said = "What keys with a name are called, by their tags from 2 on: 0 is a character, and 1 a function key."
+    return "//! What keys are called.\n\n" + packed(said, "KEYS", "&str", [string(row["words"]) for row in named.values()])
 
 
 def files(tables):

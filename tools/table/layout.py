@@ -31,11 +31,16 @@ def low(name, between="_"):
 
 
 def pair(*parts):
-    """A row of an array: parts between parentheses, on a line each where they are longer than a line may be."""
+    """A row of an array: parts between parentheses, or in braces, which `rt fmt` leaves on their line, where they are longer than a line may be."""
     inside = ", ".join(parts)
-    if len(inside) <= 60:
-        return [f"    ({inside}),"]
-    return ["    (", *(f"        {part}," for part in parts), "    ),"]
+    return [f"    ({inside})," if len(inside) <= 60 else f"    entry! {{ {inside} }},"]
+
+
+def packed(said, name, kind, parts):
+    """An array of what is short, in lines of some 110 columns."""
+    rows = textwrap.wrap(" ".join(part.replace(" ", "\0") + "," for part in parts), 110, break_long_words=False, break_on_hyphens=False)
+    rows = ["    " + row.replace("\0", " ") for row in rows]
+    return "\n".join([*comment(said), f"pub(crate) static {name}: [{kind}; {len(parts)}] = pieces! {{", *rows, "};"]) + "\n"
 
 
 def array(said, name, kind, rows, public="pub(crate)"):

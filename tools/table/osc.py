@@ -2,7 +2,7 @@
 import sys
 
 from examples import all_examples
-from layout import low, string
+from layout import low, packed, pair, string
 from read import first_line
 
 TABLE = "osc.toml"
@@ -10,8 +10,6 @@ TABLE = "osc.toml"
 OF_WORDS = ("ahead", "form", "source")
 OF_TABLE = ("doc", "command", "resets", "further", "source", "form")
 FORMS = ("OneText", "Message", "Several", "TwoTexts", "TextAsked")
-# So wide may be what stands in brackets on a line, as `rt fmt` has it.
-WIDTH = 60
 ALONE = ("Bare", "OneText", "Several", "Value", "Rest", "Whole")
 
 
@@ -107,10 +105,9 @@ def command_rt(groups, single):
     lines += [f'            Command::{name} => b"{row["begins"]}",' for name, row in single.items()]
     all_of = [f"Command::{command}({group.name}::{variant})" for group in groups for command, _, _ in group.commands() for variant in group.rows]
     all_of += [f"Command::{name}" for name in single]
-    lines += ["        }", "    }", "}", "", "/// How many commands there are.", f"pub(crate) const COUNT: usize = {len(all_of)};", "",
-              "/// All of them. The last one has the number that others go on with, and so is tried when none of them is meant.",
-              "pub(crate) static COMMANDS: [Command; COUNT] = [", *(f"    {command}," for command in all_of), "];"]
-    return "\n".join(lines) + "\n"
+    lines += ["        }", "    }", "}", ""]
+    said = "All of them. The last one has the number that others go on with, and so is tried when none of them is meant."
+    return "\n".join(lines) + "\n" + packed(said, "COMMANDS", "Command", all_of)
 
 
 def commands_antt(groups, single):
@@ -155,8 +152,7 @@ def words_rt(groups, single, alone):
     lines = ["//! Words of the commands of OSC.", "", f"use crate::command::{{{', '.join(sorted(group.name for group in worded if not group.further))}}};", ""]
     for group in worded:
         if group.further:
-            lines += ["/// By their place among the others.", f"pub static {group.snake.upper()}: [&str; {len(group.rows)}] = ["]
-            lines += [*(f"    {string(row['words'])}," for row in group.rows.values()), "];", ""]
+            lines.append(packed("By their place among the others.", group.snake.upper(), "&str", [string(row["words"]) for row in group.rows.values()]))
             continue
         lines += [f"pub fn {group.snake}_words({group.snake}: {group.name}) -> &'static str {{", f"    match {group.snake} {{"]
         lines += [f"        {group.name}::{variant} => {string(row['words'])}," for variant, row in group.rows.items()]
@@ -172,8 +168,7 @@ def words_rt(groups, single, alone):
               f"pub static ALONE: [(&[u8], Behind, &str); {len(alone)}] = ["]
     for begins, row in alone.items():
         cells = [f"b{string(begins)}", f"Behind::{row['form']}", string(row["words"])]
-        one = ", ".join(cells)
-        lines += [f"    ({one}),"] if len(one) <= WIDTH else ["    (", *(f"        {cell}," for cell in cells), "    ),"]
+        lines += pair(*cells)
     return "\n".join([*lines, "];"]) + "\n"
 
 

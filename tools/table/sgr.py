@@ -6,9 +6,8 @@ import actions
 from attributes import Attributes, all_attributes, parts as line_parts
 from faults import check_columns, check_once, refuse
 from declared import Variant
-from layout import arm, array, comment, low, page_line, page_table, pair, string
+from layout import arm, array, comment, packed, page_line, page_table, pair, string
 from read import first_line
-from templates import pieces
 
 TABLE = "sgr.toml"
 
@@ -94,7 +93,7 @@ pub(crate) struct Alone(pub u8, pub u8, pub u8);
 WORDS = """\
 //! What attributes of text are called.
 
-use crate::values::{Piece, Said, color_row, row};
+use crate::values::Said;
 use csicodec_base::{TYPES};
 
 /// What an attribute is called.
@@ -251,9 +250,9 @@ def arms(table):
     for key, attribute in (*table.sets.items(), *table.further.items()):
         row = table.code.get(key) or table.rows["further"][key]
         if attribute.ahead and attribute.holds == "ColorSpec":
-            said[f"Sgr::{attribute.variant}(color)"] = "color_row", f"&{low(attribute.variant).upper()}", "color"
+            said[f"Sgr::{attribute.variant}(color)"] = "Said::Color", string(f"SGR  {attribute.ahead} "), "color"
         elif attribute.ahead:
-            said[f"Sgr::{attribute.variant}(Font::{attribute.value}(number))"] = "row", f"&{low(attribute.variant).upper()}", "i64::from(*number)", "0"
+            said[f"Sgr::{attribute.variant}(Font::{attribute.value}(number))"] = "Said::Number", string(f"SGR  {attribute.ahead} "), "*number"
         elif not row.get("also"):
             said[attribute.rust()] = "Said::Alone", string(f"SGR  {row['words']}")
     return [line for pattern, words in said.items() for line in arm(pattern, *words)]
@@ -261,11 +260,8 @@ def arms(table):
 
 def words(table):
     used = sorted(types((*table.sets.values(), *table.further.values())) - {"ColorSpec"} | {"Font", "Sgr"})
-    names = [[f"    {string(color)},"] for color in table.rows["colors"]]
     said = "The first 16 of the palette: the names of ECMA-48 for the first 8, and `bright` ahead for the next."
-    holes = {it.variant: f"SGR  {it.ahead} {{0{'@color' * (it.holds == 'ColorSpec')}}}" for it in (*table.sets.values(), *table.further.values()) if it.ahead}
-    parts = "".join("\n" + pieces(low(variant).upper(), template) for variant, template in holes.items())
-    return WORDS.replace("TYPES", ", ".join(used)).replace("ARMS", "\n".join(arms(table))) + array(said, "COLORS", "&str", names) + parts + "\n" + unread(table)
+    return WORDS.replace("TYPES", ", ".join(used)).replace("ARMS", "\n".join(arms(table))) + packed(said, "COLORS", "&str", [string(color) for color in table.rows["colors"]]) + "\n" + unread(table)
 
 
 PAGE = """\

@@ -54,15 +54,14 @@ def piece_of(hole):
     if kind == "?" and all(number and not words.endswith("#") for number, _, words in entries):
         return f"OneOf({int(place, 16)}, &[{', '.join(f'({number}, {string(words)})' for number, _, words in entries)}])"
     if kind == "@":
-        return "Color" if rest == "color" else f"Code({int(place, 16)}, {string(rest)})"
+        return f"Code({int(place, 16)}, {string(rest)})"
     return f"Hole({string(hole)})"
 
 
-def pieces(name, template):
+def pieces(template):
     """A template as code has it, in parts, on one line."""
     parts = [f"Piece::{piece_of(part) if at % 2 else f'Text({string(part)})'}" for at, part in enumerate(re.split(r"[{}]", template)) if part]
-    ahead, said = f"static {name}: [Piece; {len(parts)}] =", f"pieces! {{ {', '.join(parts)} }};\n"
-    return f"{ahead} {said}" if len(ahead) + len(said) <= 100 else f"{ahead}\n    {said}"
+    return f"&pieces! {{ {', '.join(parts)} }}"
 
 
 def place_of(form):

@@ -90,17 +90,13 @@ def of_section(table, name):
 
 
 def parts(rows):
-    """The rows in arrays that the checker computes at once, with a function for each, and one for all."""
+    """The rows in arrays that the checker computes at once, and all of these."""
     pieces = [rows[at:at + MOST] for at in range(0, len(rows), MOST)]
-    text = "\n".join(array(f"Those from place {at * MOST} on.", f"PART_{at}", "WordsRow", [[row.text()] for row in piece]) + f"""
-fn part_{at}() -> &'static [WordsRow] {{
-    &PART_{at}
-}}
-""" for at, piece in enumerate(pieces))
-    calls = ", ".join(f"part_{at}()" for at in range(len(pieces)))
+    text = "\n".join(array(f"Those from place {at * MOST} on.", f"PART_{at}", "WordsRow", [[row.text()] for row in piece]) for at, piece in enumerate(pieces))
+    calls = ", ".join(f"PART_{at}.as_slice()" for at in range(len(pieces)))
     return f"""/// What sequences without an action are, those that no row reads by the first that has their bytes and numbers.
 pub(crate) fn parts() -> [&'static [WordsRow]; {len(pieces)}] {{
-    [{calls}]
+    pieces! {{ {calls} }}
 }}
 
 """ + text

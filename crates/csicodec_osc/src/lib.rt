@@ -11,6 +11,16 @@
 //! ```
 #![tactic(auto)]
 
+/// A row of a table on one line.
+macro_rules! entry {
+    ($($part:tt)*) => { ($($part)*) };
+}
+
+/// Several rows on one line.
+macro_rules! pieces {
+    ($($row:tt)*) => { [$($row)*] };
+}
+
 mod answers;
 mod asked;
 mod body;

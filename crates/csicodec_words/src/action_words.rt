@@ -31,14 +31,10 @@ pub(crate) fn words_of_action(action: &CSI) -> Option<Said<'_>> {
         CSI::Device(device) => device_words(device),
         CSI::Window(window) => window_words(window),
         CSI::Keyboard(keyboard) => keyboard_words(keyboard),
-        CSI::SelectCharacterPath(path, effect) => row(
-            &SELECT_CHARACTER_PATH,
-            i64::from(path.number()),
-            *effect,
-        ),
+        CSI::SelectCharacterPath(path, effect) => row(PATH, i64::from(path.number()), *effect),
         CSI::Unspecified(_) => return None,
     })
 }
 
-static SELECT_CHARACTER_PATH: [Piece; 4] =
-    pieces! { Piece::Text("SCP  character path "), Piece::OneOf(0, &[(0, "as the terminal is set up"), (1, "from left to right"), (2, "from right to left")]), Piece::Text(", effect "), Piece::Number(1) };
+static PATH: &[Piece] =
+    &pieces! { Piece::Text("SCP  character path "), Piece::OneOf(0, &[(0, "as the terminal is set up"), (1, "from left to right"), (2, "from right to left")]), Piece::Text(", effect "), Piece::Number(1) };

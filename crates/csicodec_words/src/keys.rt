@@ -1,6 +1,6 @@
 //! Keys in words, as csicodec_keys reads them.
 
-use crate::key_words::key_words;
+use crate::key_words::KEYS;
 use bitflags::Flags;
 use csicodec_base::CsiParam;
 use csicodec_events::{Event, InputEvent};
@@ -112,9 +112,6 @@ fn write_held<W: fmt::Write>(f: &mut fmt::Formatter<W>, modifiers: KeyModifiers)
 
 /// The name of a key, or the character that stands on it.
 fn write_code<W: fmt::Write>(f: &mut fmt::Formatter<W>, code: KeyCode) -> fmt::Result {
-    if let Some(words) = key_words(code) {
-        return f.write_str(words);
-    }
     match code {
         KeyCode::F(number) => write!(f, "F{number}"),
         KeyCode::Char(' ') => f.write_str("Space"),
@@ -123,7 +120,10 @@ fn write_code<W: fmt::Write>(f: &mut fmt::Formatter<W>, code: KeyCode) -> fmt::R
             let number = u32::from(character);
             write!(f, "of character {number}")
         }
-        _ => Ok(()),
+        _ => match KEYS.get(usize::from(code.tag()).saturating_sub(2)) {
+            Some(words) => f.write_str(words),
+            None => Ok(()),
+        },
     }
 }
 

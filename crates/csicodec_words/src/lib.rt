@@ -2,9 +2,14 @@
 //! what it does. And what a terminal sends: keys, the mouse and the focus.
 #![tactic(auto)]
 
-/// Words in parts, on one line.
+/// Words, or parts of them, on a line.
 macro_rules! pieces {
     ($($piece:tt)*) => { [$($piece)*] };
+}
+
+/// A row of a table on one line.
+macro_rules! entry {
+    ($($part:tt)*) => { ($($part)*) };
 }
 
 mod action_words;

@@ -15,10 +15,7 @@ pub(crate) static PRIVATE: [(i64, &str); 110] = [
     (10, "tool bar"),
     (12, "blinking cursor"),
     (13, "blinking cursor by resource or menu"),
-    (
-        14,
-        "blinking cursor by either sequence or menu, not by both",
-    ),
+    entry! { 14, "blinking cursor by either sequence or menu, not by both" },
     (18, "form feed behind a printed screen (DECPFF)"),
     (19, "printing of the whole screen (DECPEX)"),
     (25, "visible cursor (DECTCEM)"),

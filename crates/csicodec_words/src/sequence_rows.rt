@@ -11,7 +11,7 @@ macro_rules! row {
 
 /// What sequences without an action are, those that no row reads by the first that has their bytes and numbers.
 pub(crate) fn parts() -> [&'static [WordsRow]; 5] {
-    [part_0(), part_1(), part_2(), part_3(), part_4()]
+    pieces! { PART_0.as_slice(), PART_1.as_slice(), PART_2.as_slice(), PART_3.as_slice(), PART_4.as_slice() }
 }
 
 /// Those from place 0 on.
@@ -78,10 +78,6 @@ pub(crate) static PART_0: [WordsRow; 60] = [
     row! { 10091, 0, 0, 'n', (2, 2), ANY, ANY, "DSR  status report {0}" },
 ];
 
-fn part_0() -> &'static [WordsRow] {
-    &PART_0
-}
-
 /// Those from place 60 on.
 pub(crate) static PART_1: [WordsRow; 60] = [
     row! { 10092, 0, 0, 'n', (3, 3), ANY, ANY, "DSR  answer: malfunction" },
@@ -145,10 +141,6 @@ pub(crate) static PART_1: [WordsRow; 60] = [
     row! { 10217, b'?', 0, 'n', (997, 997), (1, 1), ANY, "colour scheme  answer: dark (contour, kitty)" },
     row! { 10217, b'?', 0, 'n', (997, 997), (2, 2), ANY, "colour scheme  answer: light (contour, kitty)" },
 ];
-
-fn part_1() -> &'static [WordsRow] {
-    &PART_1
-}
 
 /// Those from place 120 on.
 pub(crate) static PART_2: [WordsRow; 60] = [
@@ -214,10 +206,6 @@ pub(crate) static PART_2: [WordsRow; 60] = [
     row! { 10043, 0, b',', '~', ANY, ANY, ANY, "DECPS  play note {2}, volume {0}, duration {1}" },
 ];
 
-fn part_2() -> &'static [WordsRow] {
-    &PART_2
-}
-
 /// Those from place 180 on.
 pub(crate) static PART_3: [WordsRow; 60] = [
     row! { 10044, 0, b'-', 'q', ANY, ANY, ANY, "DECCRTST  time to the screen saver: {0=15}" },
@@ -282,10 +270,6 @@ pub(crate) static PART_3: [WordsRow; 60] = [
     row! { 10130, 0, b' ', 'e', ANY, ANY, ANY, "SCO  orientation of characters: {0}" },
 ];
 
-fn part_3() -> &'static [WordsRow] {
-    &PART_3
-}
-
 /// Those from place 240 on.
 pub(crate) static PART_4: [WordsRow; 44] = [
     row! { 10131, 0, b' ', 'f', ANY, ANY, ANY, "SRCS  reduced character separation: {0}" },
@@ -333,10 +317,6 @@ pub(crate) static PART_4: [WordsRow; 44] = [
     row! { 10231, 0, 0, 'M', ANY, ANY, (1, 0), "mouse  {0@mouse} line {2}, column {1}{0&, with |4=shift|8=alt|16=control} (urxvt form)" },
     row! { 10232, 0, 0, '_', ANY, ANY, (1, 6), "key  virtual key {0}, scan code {1}, character {2}, {3?1=pressed|=released}{4&, with |16=shift|3=alt|12=control} (Win32 input mode)" },
 ];
-
-fn part_4() -> &'static [WordsRow] {
-    &PART_4
-}
 
 /// What is said in the place of an action.
 pub(crate) static INSTEAD: [WordsRow; 5] = [

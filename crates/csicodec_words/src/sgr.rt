@@ -1,7 +1,6 @@
 //! Colours, in words.
 
 use crate::sgr_words::COLORS;
-use crate::values::Values;
 use csicodec_base::ColorSpec;
 use std::fmt;
 
@@ -9,12 +8,12 @@ use std::fmt;
 /// blue, each 0 to 255.
 pub(crate) fn tell_color<W: fmt::Write>(
     f: &mut fmt::Formatter<W>,
-    values: Values<'_>,
+    color: &ColorSpec,
 ) -> fmt::Result {
-    match values {
-        Values::Color(ColorSpec::PaletteIndex(index)) => tell_place(f, *index),
-        Values::Color(ColorSpec::TrueColor(parts)) => tell_parts(f, parts.to_srgb_u8()),
-        _ => f.write_str("default"),
+    match color {
+        ColorSpec::PaletteIndex(index) => tell_place(f, *index),
+        ColorSpec::TrueColor(parts) => tell_parts(f, parts.to_srgb_u8()),
+        ColorSpec::Default => f.write_str("default"),
     }
 }
 

@@ -1,7 +1,7 @@
 // Written by tools/table from table/sgr.toml: change that, and run python3 tools/table.
 //! What attributes of text are called.
 
-use crate::values::{Piece, Said, color_row, row};
+use crate::values::Said;
 use csicodec_base::{Blink, Font, Intensity, Sgr, Underline, VerticalAlign};
 
 /// What an attribute is called.
@@ -18,7 +18,7 @@ pub(crate) fn words_of_attribute(attribute: &Sgr) -> Said<'_> {
         Sgr::Invisible(true) => Said::Alone("SGR  concealed on"),
         Sgr::StrikeThrough(true) => Said::Alone("SGR  crossed out on"),
         Sgr::Font(Font::Default) => Said::Alone("SGR  primary font"),
-        Sgr::Font(Font::Alternate(number)) => row(&FONT, i64::from(*number), 0),
+        Sgr::Font(Font::Alternate(number)) => Said::Number("SGR  alternative font ", *number),
         Sgr::Underline(Underline::Double) => Said::Alone("SGR  double underline on"),
         Sgr::Intensity(Intensity::Normal) => Said::Alone("SGR  bold and faint off"),
         Sgr::Italic(false) => Said::Alone("SGR  italic off"),
@@ -27,11 +27,11 @@ pub(crate) fn words_of_attribute(attribute: &Sgr) -> Said<'_> {
         Sgr::Inverse(false) => Said::Alone("SGR  inverse off"),
         Sgr::Invisible(false) => Said::Alone("SGR  concealed off"),
         Sgr::StrikeThrough(false) => Said::Alone("SGR  crossed out off"),
-        Sgr::Foreground(color) => color_row(&FOREGROUND, color),
-        Sgr::Background(color) => color_row(&BACKGROUND, color),
+        Sgr::Foreground(color) => Said::Color("SGR  foreground ", color),
+        Sgr::Background(color) => Said::Color("SGR  background ", color),
         Sgr::Overline(true) => Said::Alone("SGR  overline on"),
         Sgr::Overline(false) => Said::Alone("SGR  overline off"),
-        Sgr::UnderlineColor(color) => color_row(&UNDERLINE_COLOR, color),
+        Sgr::UnderlineColor(color) => Said::Color("SGR  underline colour ", color),
         Sgr::VerticalAlign(VerticalAlign::SuperScript) => Said::Alone("SGR  superscript on"),
         Sgr::VerticalAlign(VerticalAlign::SubScript) => Said::Alone("SGR  subscript on"),
         Sgr::VerticalAlign(VerticalAlign::BaseLine) => Said::Alone(
@@ -44,33 +44,10 @@ pub(crate) fn words_of_attribute(attribute: &Sgr) -> Said<'_> {
 }
 
 /// The first 16 of the palette: the names of ECMA-48 for the first 8, and `bright` ahead for the next.
-pub(crate) static COLORS: [&str; 16] = [
-    "black",
-    "red",
-    "green",
-    "yellow",
-    "blue",
-    "magenta",
-    "cyan",
-    "white",
-    "bright black",
-    "bright red",
-    "bright green",
-    "bright yellow",
-    "bright blue",
-    "bright magenta",
-    "bright cyan",
-    "bright white",
-];
-
-static FONT: [Piece; 2] = pieces! { Piece::Text("SGR  alternative font "), Piece::Number(0) };
-
-static FOREGROUND: [Piece; 2] = pieces! { Piece::Text("SGR  foreground "), Piece::Color };
-
-static BACKGROUND: [Piece; 2] = pieces! { Piece::Text("SGR  background "), Piece::Color };
-
-static UNDERLINE_COLOR: [Piece; 2] =
-    pieces! { Piece::Text("SGR  underline colour "), Piece::Color };
+pub(crate) static COLORS: [&str; 16] = pieces! {
+    "black", "red", "green", "yellow", "blue", "magenta", "cyan", "white", "bright black", "bright red",
+    "bright green", "bright yellow", "bright blue", "bright magenta", "bright cyan", "bright white",
+};
 
 /// Attributes that no action sets, each alone.
 pub(crate) static UNREAD: [(i64, &str); 12] = [
@@ -81,15 +58,9 @@ pub(crate) static UNREAD: [(i64, &str); 12] = [
     (52, "SGR  encircled on"),
     (54, "SGR  framed and encircled off"),
     (60, "SGR  ideogram underline or right side line on"),
-    (
-        61,
-        "SGR  ideogram double underline or double right side line on",
-    ),
+    entry! { 61, "SGR  ideogram double underline or double right side line on" },
     (62, "SGR  ideogram overline or left side line on"),
-    (
-        63,
-        "SGR  ideogram double overline or double left side line on",
-    ),
+    entry! { 63, "SGR  ideogram double overline or double left side line on" },
     (64, "SGR  ideogram stress marking on"),
     (65, "SGR  ideogram lines off"),
 ];

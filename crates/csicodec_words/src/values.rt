@@ -5,7 +5,7 @@ use crate::sgr::tell_color;
 use crate::template::{counted, fill_hole};
 use crate::told::tell_by_code;
 use bitflags::Flags;
-use csicodec_actions::{DeviceAttribute, MouseButton, XtSmGraphics};
+use csicodec_actions::{DeviceAttribute, DeviceAttributeFlags, MouseButton, XtSmGraphics};
 use csicodec_base::{ColorSpec, CsiParam, Modifiers, OneBased};
 use std::fmt;
 
@@ -22,8 +22,6 @@ pub enum Values<'a> {
     Extensions(&'a [DeviceAttribute]),
     /// What is asked or answered of graphics.
     Graphics(&'a XtSmGraphics),
-    /// A colour.
-    Color(&'a ColorSpec),
 }
 
 impl<'a> Values<'a> {
@@ -41,7 +39,7 @@ impl<'a> Values<'a> {
                 0 => Some(graphics.action_or_status),
                 _ => Some(graphics.item.number()),
             },
-            Values::Extensions(_) | Values::Color(_) => None,
+            Values::Extensions(_) => None,
         }
     }
 }
@@ -76,8 +74,6 @@ pub(crate) enum Piece {
     OneOf(u32, Numbered),
     /// What code tells of it, by what a hole calls that.
     Code(u32, &'static str),
-    /// The colour.
-    Color,
     /// What `fill` has between braces.
     Hole(&'static str),
 }
@@ -94,16 +90,17 @@ impl Piece {
                 None => write!(f, "{}", number(*place)),
             },
             Piece::Code(place, code) => tell_by_code(f, code, number(*place), values),
-            Piece::Color => tell_color(f, values),
             Piece::Hole(hole) => fill_hole(f, hole, values),
         }
     }
 }
 
-/// What is said: words alone, or parts and what numbers stand in them.
+/// What is said: words alone, with a number or a colour behind them, or parts and what numbers stand in them.
 #[derive(Clone, Copy)]
 pub(crate) enum Said<'a> {
     Alone(&'static str),
+    Number(&'static str, u8),
+    Color(&'static str, &'a ColorSpec),
     Parts(&'static [Piece], Values<'a>),
 }
 
@@ -112,6 +109,11 @@ impl<'a> Said<'a> {
     pub(crate) fn tell<W: fmt::Write>(self, f: &mut fmt::Formatter<W>) -> fmt::Result {
         match self {
             Said::Alone(words) => f.write_str(words),
+            Said::Number(words, number) => write!(f, "{words}{number}"),
+            Said::Color(words, color) => {
+                f.write_str(words)?;
+                tell_color(f, color)
+            }
             Said::Parts(pieces, values) => {
                 for piece in pieces {
                     piece.tell(f, values)?;
@@ -125,6 +127,21 @@ impl<'a> Said<'a> {
 /// Words with two numbers.
 pub(crate) fn row(words: &'static [Piece], first: i64, second: i64) -> Said<'static> {
     sized_row(words, Some(first), Some(second))
+}
+
+/// Words with a count or a place.
+pub(crate) fn count_row(words: &'static [Piece], count: u32) -> Said<'static> {
+    row(words, i64::from(count), 0)
+}
+
+/// Words with two places.
+pub(crate) fn places_row(
+    words: &'static [Piece],
+    first: OneBased,
+    second: OneBased,
+) -> Said<'static> {
+    let (first, second) = (first.as_one_based(), second.as_one_based());
+    row(words, i64::from(first), i64::from(second))
 }
 
 /// Words with two numbers that may be left out.
@@ -166,17 +183,12 @@ pub(crate) fn area_row(
 /// Words with what a terminal can do.
 pub(crate) fn extensions_row<'a>(
     words: &'static [Piece],
-    attributes: &'a [DeviceAttribute],
+    flags: &'a DeviceAttributeFlags,
 ) -> Said<'a> {
-    Said::Parts(words, Values::Extensions(attributes))
+    Said::Parts(words, Values::Extensions(&flags.attributes))
 }
 
 /// Words with what is asked or answered of graphics.
 pub(crate) fn graphics_row<'a>(words: &'static [Piece], graphics: &'a XtSmGraphics) -> Said<'a> {
     Said::Parts(words, Values::Graphics(graphics))
-}
-
-/// Words with a colour.
-pub(crate) fn color_row<'a>(words: &'static [Piece], color: &'a ColorSpec) -> Said<'a> {
-    Said::Parts(words, Values::Color(color))
 }

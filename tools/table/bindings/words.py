@@ -2,7 +2,7 @@
 from bindings.library import BY_NUMBER, IN_TURN, SUBJECTS, low, number_of, of, type_of, used
 from bindings.source import source_name, struct_arm
 from forms import LARGEST, Form, Slot
-from layout import array, low as spelt, pair, string
+from layout import array, pair, string
 from read import first_line, rows_of
 from templates import pieces, template_of
 
@@ -13,11 +13,11 @@ OWN = {
     "enum": lambda names: number_of(names[0])[1],
     "keys": "i64::from(resource.number())",
     "state": "i64::from(mode.number())",
-    "extensions": "extensions_row({}, &flags.attributes)",
+    "extensions": "extensions_row({}, flags)",
     "graphics": "graphics_row({}, graphics)",
 }
 # What the words of actions need of csicodec_words.
-VALUES = ("Piece", "Said", "area_row", "color_row", "extensions_row", "graphics_row", "report_row", "row", "sized_row")
+VALUES = ("Piece", "Said", "area_row", "count_row", "extensions_row", "graphics_row", "places_row", "report_row", "row", "sized_row")
 # The subjects with words here; those of SGR are of table/sgr.toml.
 WORDED = [group for group in BY_NUMBER if group != "Sgr"]
 # What holes are called in the words of forms that have no fields, each with its type.
@@ -33,7 +33,7 @@ use csicodec_parser::CSI;
 /// The words of an action; none of one that no rule reads.
 pub(crate) fn words_of_action(action: &CSI) -> Option<Said<'_>> {{
     Some(match action {{
-{arms}        CSI::SelectCharacterPath(path, effect) => row(&SELECT_CHARACTER_PATH, i64::from(path.number()), *effect),
+{arms}        CSI::SelectCharacterPath(path, effect) => row(PATH, i64::from(path.number()), *effect),
         CSI::Unspecified(_) => return None,
     }})
 }}
@@ -61,18 +61,21 @@ def filled(words, fields, lists):
     return template_of(words, form, {**lists, **named})
 
 
-def arm(kind, action, lists):
-    """The words of an action and what they have of it, and the parts of the words."""
+def arm(kind, action, lists, parts):
+    """The words of an action and what they have of it; the parts of the words are added to those that the subject has."""
     number, group, variant, form, names = kind
     name, tail = source_name(group, variant)
     words = filled(f"{action.row.get('shown', action.row['name'])}  {action.row['words']}", slots(action), lists)
     if form == "unit":
-        return f"{name}{tail} => Said::Alone({string(words)}),\n", ""
-    parts = spelt("_".join([group, *variant])).upper()
+        return f"{name}{tail} => Said::Alone({string(words)}),\n"
+    parts.append(f"    {pieces(words)},\n")
+    at, fields = f"WORDS[{len(parts) - 1}]", list(action.row.get("fields", []))
     if form == "area":
-        first, second, *sides = action.row["fields"]
-        return f"{name} {{ {', '.join(action.row['fields'])} }} => area_row(&{parts}, *{first}, *{second}, [{', '.join('*' + side for side in sides)}]),\n", pieces(parts, words)
-    return struct_arm((f"&{parts}", group, variant, form, names), OWN), pieces(parts, words)
+        first, second, *sides = fields
+        return f"{name} {{ {', '.join(fields)} }} => area_row({at}, *{first}, *{second}, [{', '.join('*' + side for side in sides)}]),\n"
+    short = {"count": "(count) => count_row({}, *count)", "place": "(place) => count_row({}, place.as_one_based())",
+             "places": " {{ {1}, {2} }} => places_row({0}, *{1}, *{2})"}
+    return f"{name}{short[form].format(at, *fields)},\n" if form in short else struct_arm((at, group, variant, form, names), OWN)
 
 
 def whole(about, body, *needs):
@@ -91,9 +94,10 @@ def extensions():
 def subject_words(group):
     """The file of a subject: the words of its actions."""
     subject, said, kind = SUBJECTS[group], low(group), type_of(group)
-    arms, parts = zip(*(arm(kind, action, subject.row.get("lists", {})) for kind, action in zip(of(group), subject.actions)))
+    parts = []
+    arms = [arm(kind, action, subject.row.get("lists", {}), parts) for kind, action in zip(of(group), subject.actions)]
     body = f"/// The words of an action.\npub(crate) fn {said}_words({said}: &{kind}) -> Said<'_> {{\n    match {said} {{\n{''.join(arms)}    }}\n}}\n"
-    body += "\n" + "".join(parts) + ("\n" + extensions() if group == "Device" else "")
+    body += f"\nstatic WORDS: [&[Piece]; {len(parts)}] = [\n{''.join(parts)}];\n" + ("\n" + extensions() if group == "Device" else "")
     return whole(f"Actions of {kind} in words.", body, ("crate::values", VALUES), ("csicodec_actions", [kind, "DeviceAttributes"]))
 
 
@@ -104,4 +108,4 @@ def words():
     path = next(variant for variant in rows_of("values.toml")["CSI"]["variants"].items() if variant[0] == "SelectCharacterPath")[1]
     said = filled(path["words"], {"path": "CharacterPath", "effect": ""}, {})
     arms = "".join(f"        CSI::{group}({low(group)}) => {'words_of_attribute' if group == 'Sgr' else low(group) + '_words'}({low(group)}),\n" for group in IN_TURN)
-    return first_line("actions.toml") + TEXT.format(mods=mods, uses=uses, arms=arms) + "\n" + pieces("SELECT_CHARACTER_PATH", said)
+    return first_line("actions.toml") + TEXT.format(mods=mods, uses=uses, arms=arms) + f"\nstatic PATH: &[Piece] = {pieces(said)};\n"

@@ -14,18 +14,9 @@ pub(crate) fn device_words(device: &Device) -> Said<'_> {
             "DA1  answer: VT101",
         ),
         Device::DeviceAttributes(DeviceAttributes::Vt102) => Said::Alone("DA1  answer: VT102"),
-        Device::DeviceAttributes(DeviceAttributes::Vt220(flags)) => extensions_row(
-            &DEVICE_DEVICE_ATTRIBUTES_VT220,
-            &flags.attributes,
-        ),
-        Device::DeviceAttributes(DeviceAttributes::Vt320(flags)) => extensions_row(
-            &DEVICE_DEVICE_ATTRIBUTES_VT320,
-            &flags.attributes,
-        ),
-        Device::DeviceAttributes(DeviceAttributes::Vt420(flags)) => extensions_row(
-            &DEVICE_DEVICE_ATTRIBUTES_VT420,
-            &flags.attributes,
-        ),
+        Device::DeviceAttributes(DeviceAttributes::Vt220(flags)) => extensions_row(WORDS[0], flags),
+        Device::DeviceAttributes(DeviceAttributes::Vt320(flags)) => extensions_row(WORDS[1], flags),
+        Device::DeviceAttributes(DeviceAttributes::Vt420(flags)) => extensions_row(WORDS[2], flags),
         Device::SoftReset => Said::Alone("DECSTR  soft reset"),
         Device::RequestPrimaryDeviceAttributes => Said::Alone(
             "DA1  ask for the terminal's class and extensions",
@@ -37,30 +28,19 @@ pub(crate) fn device_words(device: &Device) -> Said<'_> {
         Device::RequestTerminalNameAndVersion => Said::Alone(
             "XTVERSION  ask for the terminal's name and version",
         ),
-        Device::RequestTerminalParameters(number) => row(
-            &DEVICE_REQUEST_TERMINAL_PARAMETERS,
-            *number,
-            0,
-        ),
+        Device::RequestTerminalParameters(number) => row(WORDS[3], *number, 0),
         Device::StatusReport => Said::Alone("DSR  ask for the terminal's status"),
-        Device::XtSmGraphics(graphics) => graphics_row(&DEVICE_XT_SM_GRAPHICS, graphics),
+        Device::XtSmGraphics(graphics) => graphics_row(WORDS[4], graphics),
     }
 }
 
-static DEVICE_DEVICE_ATTRIBUTES_VT220: [Piece; 2] =
-    pieces! { Piece::Text("DA1  answer: VT220 class"), Piece::Code(0, "extensions") };
-
-static DEVICE_DEVICE_ATTRIBUTES_VT320: [Piece; 2] =
-    pieces! { Piece::Text("DA1  answer: VT320 class"), Piece::Code(0, "extensions") };
-
-static DEVICE_DEVICE_ATTRIBUTES_VT420: [Piece; 2] =
-    pieces! { Piece::Text("DA1  answer: VT420 class"), Piece::Code(0, "extensions") };
-
-static DEVICE_REQUEST_TERMINAL_PARAMETERS: [Piece; 2] =
-    pieces! { Piece::Text("DECREQTPARM  ask for the serial line's parameters"), Piece::Hole("0?0=, and allow reports unasked|1=, and forbid reports unasked|=, #") };
-
-static DEVICE_XT_SM_GRAPHICS: [Piece; 5] =
-    pieces! { Piece::Text("XTSMGRAPHICS  "), Piece::Hole("0?0=answer: |1=ask for |2=set back |3=set |4=ask for the maximum of |=unknown action on "), Piece::Hole("1?1=the number of colour registers|2=the size of sixel images|3=the size of ReGIS images|=item #"), Piece::Code(2, "values"), Piece::Hole("0?1= (or answer: no such item)|2= (or answer: no such action)|=") };
+static WORDS: [&[Piece]; 5] = [
+    &pieces! { Piece::Text("DA1  answer: VT220 class"), Piece::Code(0, "extensions") },
+    &pieces! { Piece::Text("DA1  answer: VT320 class"), Piece::Code(0, "extensions") },
+    &pieces! { Piece::Text("DA1  answer: VT420 class"), Piece::Code(0, "extensions") },
+    &pieces! { Piece::Text("DECREQTPARM  ask for the serial line's parameters"), Piece::Hole("0?0=, and allow reports unasked|1=, and forbid reports unasked|=, #") },
+    &pieces! { Piece::Text("XTSMGRAPHICS  "), Piece::Hole("0?0=answer: |1=ask for |2=set back |3=set |4=ask for the maximum of |=unknown action on "), Piece::Hole("1?1=the number of colour registers|2=the size of sixel images|3=the size of ReGIS images|=item #"), Piece::Code(2, "values"), Piece::Hole("0?1= (or answer: no such item)|2= (or answer: no such action)|=") },
+];
 
 /// Extensions of terminals, by their numbers.
 pub(crate) static EXTENSIONS: [(i64, &str); 27] = [

@@ -1,7 +1,7 @@
 // Written by tools/table from table/actions.toml: change that, and run python3 tools/table.
 //! Actions of Keyboard in words.
 
-use crate::values::{Piece, Said, row};
+use crate::values::{Piece, Said, count_row, row};
 use bitflags::Flags;
 use csicodec_actions::Keyboard;
 
@@ -9,33 +9,24 @@ use csicodec_actions::Keyboard;
 pub(crate) fn keyboard_words(keyboard: &Keyboard) -> Said<'_> {
     match keyboard {
         Keyboard::SetKittyState { flags, mode } => row(
-            &KEYBOARD_SET_KITTY_STATE,
+            WORDS[0],
             i64::from(flags.bits()),
             i64::from(mode.number()),
         ),
         Keyboard::PushKittyState { flags, mode } => row(
-            &KEYBOARD_PUSH_KITTY_STATE,
+            WORDS[1],
             i64::from(flags.bits()),
             i64::from(mode.number()),
         ),
-        Keyboard::PopKittyState(count) => row(&KEYBOARD_POP_KITTY_STATE, i64::from(*count), 0),
+        Keyboard::PopKittyState(count) => count_row(WORDS[2], *count),
         Keyboard::QueryKittySupport => Said::Alone("kitty keyboard  ask for the flags"),
-        Keyboard::ReportKittyState(flags) => row(
-            &KEYBOARD_REPORT_KITTY_STATE,
-            i64::from(flags.bits()),
-            0,
-        ),
+        Keyboard::ReportKittyState(flags) => row(WORDS[3], i64::from(flags.bits()), 0),
     }
 }
 
-static KEYBOARD_SET_KITTY_STATE: [Piece; 5] =
-    pieces! { Piece::Text("kitty keyboard  "), Piece::OneOf(1, &[(1, "set"), (2, "add"), (3, "remove")]), Piece::Text(" flags "), Piece::Number(0), Piece::Hole("0&, |1=unambiguous keys|2=event types|4=alternate keys|8=all keys as escape codes|16=associated text") };
-
-static KEYBOARD_PUSH_KITTY_STATE: [Piece; 4] =
-    pieces! { Piece::Text("kitty keyboard  push flags "), Piece::Number(0), Piece::Hole("0&, |1=unambiguous keys|2=event types|4=alternate keys|8=all keys as escape codes|16=associated text"), Piece::Hole("1?1=|= (with a second number, which isn't kitty's)") };
-
-static KEYBOARD_POP_KITTY_STATE: [Piece; 2] =
-    pieces! { Piece::Text("kitty keyboard  pop "), Piece::Counted(0, "time") };
-
-static KEYBOARD_REPORT_KITTY_STATE: [Piece; 3] =
-    pieces! { Piece::Text("kitty keyboard  answer: flags "), Piece::Number(0), Piece::Hole("0&, |1=unambiguous keys|2=event types|4=alternate keys|8=all keys as escape codes|16=associated text") };
+static WORDS: [&[Piece]; 4] = [
+    &pieces! { Piece::Text("kitty keyboard  "), Piece::OneOf(1, &[(1, "set"), (2, "add"), (3, "remove")]), Piece::Text(" flags "), Piece::Number(0), Piece::Hole("0&, |1=unambiguous keys|2=event types|4=alternate keys|8=all keys as escape codes|16=associated text") },
+    &pieces! { Piece::Text("kitty keyboard  push flags "), Piece::Number(0), Piece::Hole("0&, |1=unambiguous keys|2=event types|4=alternate keys|8=all keys as escape codes|16=associated text"), Piece::Hole("1?1=|= (with a second number, which isn't kitty's)") },
+    &pieces! { Piece::Text("kitty keyboard  pop "), Piece::Counted(0, "time") },
+    &pieces! { Piece::Text("kitty keyboard  answer: flags "), Piece::Number(0), Piece::Hole("0&, |1=unambiguous keys|2=event types|4=alternate keys|8=all keys as escape codes|16=associated text") },
+];

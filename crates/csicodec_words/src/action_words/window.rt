@@ -11,25 +11,15 @@ pub(crate) fn window_words(window: &Window) -> Said<'_> {
             "XTWINOPS  restore the window from its icon (or answer: it is no icon)",
         ),
         Window::Iconify => Said::Alone("XTWINOPS  make the window an icon (or answer: it is one)"),
-        Window::MoveWindow { x, y } => row(&WINDOW_MOVE_WINDOW, *x, *y),
-        Window::ResizeWindowPixels { width, height } => sized_row(
-            &WINDOW_RESIZE_WINDOW_PIXELS,
-            *width,
-            *height,
-        ),
+        Window::MoveWindow { x, y } => row(WORDS[0], *x, *y),
+        Window::ResizeWindowPixels { width, height } => sized_row(WORDS[1], *width, *height),
         Window::RaiseWindow => Said::Alone("XTWINOPS  raise the window"),
         Window::LowerWindow => Said::Alone("XTWINOPS  lower the window"),
         Window::ReportCellSizePixelsResponse { width, height } => sized_row(
-            &WINDOW_REPORT_CELL_SIZE_PIXELS_RESPONSE,
-            *width,
-            *height,
+            WORDS[2], *width, *height,
         ),
         Window::RefreshWindow => Said::Alone("XTWINOPS  refresh the window"),
-        Window::ResizeWindowCells { width, height } => sized_row(
-            &WINDOW_RESIZE_WINDOW_CELLS,
-            *width,
-            *height,
-        ),
+        Window::ResizeWindowCells { width, height } => sized_row(WORDS[3], *width, *height),
         Window::RestoreMaximizedWindow => Said::Alone("XTWINOPS  restore a maximized window"),
         Window::MaximizeWindow => Said::Alone("XTWINOPS  maximize the window"),
         Window::MaximizeWindowVertically => Said::Alone("XTWINOPS  maximize the window vertically"),
@@ -78,7 +68,7 @@ pub(crate) fn window_words(window: &Window) -> Said<'_> {
             bottom,
             right,
         } => area_row(
-            &WINDOW_CHECKSUM_RECTANGULAR_AREA,
+            WORDS[4],
             *request_id,
             *page_number,
             [*top, *left, *bottom, *right],
@@ -86,17 +76,10 @@ pub(crate) fn window_words(window: &Window) -> Said<'_> {
     }
 }
 
-static WINDOW_MOVE_WINDOW: [Piece; 5] =
-    pieces! { Piece::Text("XTWINOPS  move the window to pixel "), Piece::Number(0), Piece::Text(", "), Piece::Number(1), Piece::Text(" (or answer: it stands there)") };
-
-static WINDOW_RESIZE_WINDOW_PIXELS: [Piece; 5] =
-    pieces! { Piece::Text("XTWINOPS  resize the window, in pixels: width "), Piece::Hole("0:of the display~as it is"), Piece::Text(", height "), Piece::Hole("1:of the display~as it is"), Piece::Text(" (or answer: its size, or the text area's)") };
-
-static WINDOW_REPORT_CELL_SIZE_PIXELS_RESPONSE: [Piece; 4] =
-    pieces! { Piece::Text("XTWINOPS  answer: a cell's size in pixels: width "), Piece::Hole("0~not told"), Piece::Text(", height "), Piece::Hole("1~not told") };
-
-static WINDOW_RESIZE_WINDOW_CELLS: [Piece; 5] =
-    pieces! { Piece::Text("XTWINOPS  resize the text area, in cells: width "), Piece::Hole("0:of the display~as it is"), Piece::Text(", height "), Piece::Hole("1:of the display~as it is"), Piece::Text(" (or answer: its size)") };
-
-static WINDOW_CHECKSUM_RECTANGULAR_AREA: [Piece; 12] =
-    pieces! { Piece::Text("DECRQCRA  ask for the checksum of lines "), Piece::Number(2), Piece::Text(" to "), Piece::Number(4), Piece::Text(", columns "), Piece::Number(3), Piece::Text(" to "), Piece::Number(5), Piece::Text(" of page "), Piece::Number(1), Piece::Text(", request "), Piece::Number(0) };
+static WORDS: [&[Piece]; 5] = [
+    &pieces! { Piece::Text("XTWINOPS  move the window to pixel "), Piece::Number(0), Piece::Text(", "), Piece::Number(1), Piece::Text(" (or answer: it stands there)") },
+    &pieces! { Piece::Text("XTWINOPS  resize the window, in pixels: width "), Piece::Hole("0:of the display~as it is"), Piece::Text(", height "), Piece::Hole("1:of the display~as it is"), Piece::Text(" (or answer: its size, or the text area's)") },
+    &pieces! { Piece::Text("XTWINOPS  answer: a cell's size in pixels: width "), Piece::Hole("0~not told"), Piece::Text(", height "), Piece::Hole("1~not told") },
+    &pieces! { Piece::Text("XTWINOPS  resize the text area, in cells: width "), Piece::Hole("0:of the display~as it is"), Piece::Text(", height "), Piece::Hole("1:of the display~as it is"), Piece::Text(" (or answer: its size)") },
+    &pieces! { Piece::Text("DECRQCRA  ask for the checksum of lines "), Piece::Number(2), Piece::Text(" to "), Piece::Number(4), Piece::Text(", columns "), Piece::Number(3), Piece::Text(" to "), Piece::Number(5), Piece::Text(" of page "), Piece::Number(1), Piece::Text(", request "), Piece::Number(0) },
+];

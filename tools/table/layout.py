@@ -53,10 +53,9 @@ def array(said, name, kind, rows, public="pub(crate)"):
 
 def arm(pattern, function, *arguments):
     """An arm that answers what a function makes of these arguments."""
-    line = f"        {pattern} => {function}({', '.join(arguments)}),"
-    if len(line) <= 100:
-        return [line]
-    return [f"        {pattern} => {function}(", *(f"            {argument}," for argument in arguments), "        ),"]
+    call = f"{function}({', '.join(arguments)})"
+    line = f"        {pattern} => {call},"
+    return [line] if len(line) <= 100 else [f"        {pattern} =>", f"            whole! {{ {call} }},"]
 
 
 def page_line(table):

@@ -12,6 +12,11 @@ macro_rules! entry {
     ($($part:tt)*) => { ($($part)*) };
 }
 
+/// An expression on one line.
+macro_rules! whole {
+    ($($part:tt)*) => { $($part)* };
+}
+
 mod action_words;
 mod describe;
 mod device;

@@ -34,9 +34,8 @@ pub(crate) fn words_of_attribute(attribute: &Sgr) -> Said<'_> {
         Sgr::UnderlineColor(color) => Said::Color("SGR  underline colour ", color),
         Sgr::VerticalAlign(VerticalAlign::SuperScript) => Said::Alone("SGR  superscript on"),
         Sgr::VerticalAlign(VerticalAlign::SubScript) => Said::Alone("SGR  subscript on"),
-        Sgr::VerticalAlign(VerticalAlign::BaseLine) => Said::Alone(
-            "SGR  superscript and subscript off",
-        ),
+        Sgr::VerticalAlign(VerticalAlign::BaseLine) =>
+            whole! { Said::Alone("SGR  superscript and subscript off") },
         Sgr::Underline(Underline::Curly) => Said::Alone("SGR  curly underline on"),
         Sgr::Underline(Underline::Dotted) => Said::Alone("SGR  dotted underline on"),
         Sgr::Underline(Underline::Dashed) => Said::Alone("SGR  dashed underline on"),

@@ -2,7 +2,7 @@
 from bindings.library import BY_NUMBER, IN_TURN, SUBJECTS, low, number_of, of, type_of, used
 from bindings.source import source_name, struct_arm
 from forms import LARGEST, Form, Slot
-from layout import array, pair, string
+from layout import packed, string
 from read import first_line, rows_of
 from templates import pieces, template_of
 
@@ -78,6 +78,13 @@ def arm(kind, action, lists, parts):
     return f"{name}{short[form].format(at, *fields)},\n" if form in short else struct_arm((at, group, variant, form, names), OWN)
 
 
+def in_line(arm):
+    """An arm whose answer stays on a line. A pattern of more than two fields has lines of its own."""
+    pattern, answer = arm.removesuffix(",\n").split(" => ", 1)
+    fits = len(answer) <= 72 if pattern.count(",") > 1 else len(arm) <= 93
+    return arm if fits else f"{pattern} => whole! {{ {answer} }},\n"
+
+
 def whole(about, body, *needs):
     """A file, with the imports that its body needs: those of this crate, and of others."""
     lines = [f"use {path}::{{{used(names, body)}}};" for path, names in needs] + ["use bitflags::Flags;"] * (".bits()" in body)
@@ -88,14 +95,14 @@ def extensions():
     """The words of what a terminal says that it can do."""
     codes = rows_of("values.toml")["DeviceAttributeCodes"]
     said = {row["number"]: row["words"] for row in codes["variants"].values()} | {int(number): words for number, words in codes["others"].items()}
-    return array("Extensions of terminals, by their numbers.", "EXTENSIONS", "(i64, &str)", [pair(str(number), string(said[number])) for number in sorted(said)])
+    return packed("Extensions of terminals, by their numbers.", "EXTENSIONS", "(i64, &str)", [f"({number}, {string(said[number])})" for number in sorted(said)])
 
 
 def subject_words(group):
     """The file of a subject: the words of its actions."""
     subject, said, kind = SUBJECTS[group], low(group), type_of(group)
     parts = []
-    arms = [arm(kind, action, subject.row.get("lists", {}), parts) for kind, action in zip(of(group), subject.actions)]
+    arms = [in_line(arm(kind, action, subject.row.get("lists", {}), parts)) for kind, action in zip(of(group), subject.actions)]
     body = f"/// The words of an action.\npub(crate) fn {said}_words({said}: &{kind}) -> Said<'_> {{\n    match {said} {{\n{''.join(arms)}    }}\n}}\n"
     body += f"\nstatic WORDS: [&[Piece]; {len(parts)}] = [\n{''.join(parts)}];\n" + ("\n" + extensions() if group == "Device" else "")
     return whole(f"Actions of {kind} in words.", body, ("crate::values", VALUES), ("csicodec_actions", [kind, "DeviceAttributes"]))

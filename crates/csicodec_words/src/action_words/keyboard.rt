@@ -8,16 +8,10 @@ use csicodec_actions::Keyboard;
 /// The words of an action.
 pub(crate) fn keyboard_words(keyboard: &Keyboard) -> Said<'_> {
     match keyboard {
-        Keyboard::SetKittyState { flags, mode } => row(
-            WORDS[0],
-            i64::from(flags.bits()),
-            i64::from(mode.number()),
-        ),
-        Keyboard::PushKittyState { flags, mode } => row(
-            WORDS[1],
-            i64::from(flags.bits()),
-            i64::from(mode.number()),
-        ),
+        Keyboard::SetKittyState { flags, mode } =>
+            whole! { row(WORDS[0], i64::from(flags.bits()), i64::from(mode.number())) },
+        Keyboard::PushKittyState { flags, mode } =>
+            whole! { row(WORDS[1], i64::from(flags.bits()), i64::from(mode.number())) },
         Keyboard::PopKittyState(count) => count_row(WORDS[2], *count),
         Keyboard::QueryKittySupport => Said::Alone("kitty keyboard  ask for the flags"),
         Keyboard::ReportKittyState(flags) => row(WORDS[3], i64::from(flags.bits()), 0),

@@ -15,11 +15,8 @@ pub(crate) fn mode_words(mode: &Mode) -> Said<'_> {
         Mode::SetMode(value) => row(WORDS[5], i64::from(value.number()), 0),
         Mode::ResetMode(value) => row(WORDS[6], i64::from(value.number()), 0),
         Mode::QueryMode(value) => row(WORDS[7], i64::from(value.number()), 0),
-        Mode::XtermKeyMode { resource, value } => sized_row(
-            WORDS[8],
-            Some(i64::from(resource.number())),
-            *value,
-        ),
+        Mode::XtermKeyMode { resource, value } =>
+            whole! { sized_row(WORDS[8], Some(i64::from(resource.number())), *value) },
     }
 }
 

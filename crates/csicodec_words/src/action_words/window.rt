@@ -7,57 +7,47 @@ use csicodec_actions::Window;
 /// The words of an action.
 pub(crate) fn window_words(window: &Window) -> Said<'_> {
     match window {
-        Window::DeIconify => Said::Alone(
-            "XTWINOPS  restore the window from its icon (or answer: it is no icon)",
-        ),
+        Window::DeIconify =>
+            whole! { Said::Alone("XTWINOPS  restore the window from its icon (or answer: it is no icon)") },
         Window::Iconify => Said::Alone("XTWINOPS  make the window an icon (or answer: it is one)"),
         Window::MoveWindow { x, y } => row(WORDS[0], *x, *y),
         Window::ResizeWindowPixels { width, height } => sized_row(WORDS[1], *width, *height),
         Window::RaiseWindow => Said::Alone("XTWINOPS  raise the window"),
         Window::LowerWindow => Said::Alone("XTWINOPS  lower the window"),
-        Window::ReportCellSizePixelsResponse { width, height } => sized_row(
-            WORDS[2], *width, *height,
-        ),
+        Window::ReportCellSizePixelsResponse { width, height } =>
+            whole! { sized_row(WORDS[2], *width, *height) },
         Window::RefreshWindow => Said::Alone("XTWINOPS  refresh the window"),
         Window::ResizeWindowCells { width, height } => sized_row(WORDS[3], *width, *height),
         Window::RestoreMaximizedWindow => Said::Alone("XTWINOPS  restore a maximized window"),
         Window::MaximizeWindow => Said::Alone("XTWINOPS  maximize the window"),
         Window::MaximizeWindowVertically => Said::Alone("XTWINOPS  maximize the window vertically"),
-        Window::MaximizeWindowHorizontally => Said::Alone(
-            "XTWINOPS  maximize the window horizontally",
-        ),
+        Window::MaximizeWindowHorizontally =>
+            whole! { Said::Alone("XTWINOPS  maximize the window horizontally") },
         Window::UndoFullScreenMode => Said::Alone("XTWINOPS  full screen off"),
         Window::ChangeToFullScreenMode => Said::Alone("XTWINOPS  full screen on"),
         Window::ToggleFullScreen => Said::Alone("XTWINOPS  toggle full screen"),
         Window::ReportWindowState => Said::Alone("XTWINOPS  ask whether the window is an icon"),
         Window::ReportWindowPosition => Said::Alone("XTWINOPS  ask for the window's position"),
         Window::ReportTextAreaPosition => Said::Alone("XTWINOPS  ask for the text area's position"),
-        Window::ReportTextAreaSizePixels => Said::Alone(
-            "XTWINOPS  ask for the text area's size in pixels",
-        ),
-        Window::ReportWindowSizePixels => Said::Alone(
-            "XTWINOPS  ask for the window's size in pixels",
-        ),
-        Window::ReportScreenSizePixels => Said::Alone(
-            "XTWINOPS  ask for the display's size in pixels",
-        ),
+        Window::ReportTextAreaSizePixels =>
+            whole! { Said::Alone("XTWINOPS  ask for the text area's size in pixels") },
+        Window::ReportWindowSizePixels =>
+            whole! { Said::Alone("XTWINOPS  ask for the window's size in pixels") },
+        Window::ReportScreenSizePixels =>
+            whole! { Said::Alone("XTWINOPS  ask for the display's size in pixels") },
         Window::ReportCellSizePixels => Said::Alone("XTWINOPS  ask for a cell's size in pixels"),
-        Window::ReportTextAreaSizeCells => Said::Alone(
-            "XTWINOPS  ask for the text area's size in cells",
-        ),
-        Window::ReportScreenSizeCells => Said::Alone(
-            "XTWINOPS  ask for the display's size in cells",
-        ),
+        Window::ReportTextAreaSizeCells =>
+            whole! { Said::Alone("XTWINOPS  ask for the text area's size in cells") },
+        Window::ReportScreenSizeCells =>
+            whole! { Said::Alone("XTWINOPS  ask for the display's size in cells") },
         Window::ReportIconLabel => Said::Alone("XTWINOPS  ask for the icon name"),
         Window::ReportWindowTitle => Said::Alone("XTWINOPS  ask for the window title"),
-        Window::PushIconAndWindowTitle => Said::Alone(
-            "XTWINOPS  push the icon name and the window title",
-        ),
+        Window::PushIconAndWindowTitle =>
+            whole! { Said::Alone("XTWINOPS  push the icon name and the window title") },
         Window::PushIconTitle => Said::Alone("XTWINOPS  push the icon name"),
         Window::PushWindowTitle => Said::Alone("XTWINOPS  push the window title"),
-        Window::PopIconAndWindowTitle => Said::Alone(
-            "XTWINOPS  pop the icon name and the window title",
-        ),
+        Window::PopIconAndWindowTitle =>
+            whole! { Said::Alone("XTWINOPS  pop the icon name and the window title") },
         Window::PopIconTitle => Said::Alone("XTWINOPS  pop the icon name"),
         Window::PopWindowTitle => Said::Alone("XTWINOPS  pop the window title"),
         Window::ChecksumRectangularArea {
@@ -67,12 +57,8 @@ pub(crate) fn window_words(window: &Window) -> Said<'_> {
             left,
             bottom,
             right,
-        } => area_row(
-            WORDS[4],
-            *request_id,
-            *page_number,
-            [*top, *left, *bottom, *right],
-        ),
+        } =>
+            whole! { area_row(WORDS[4], *request_id, *page_number, [*top, *left, *bottom, *right]) },
     }
 }
 

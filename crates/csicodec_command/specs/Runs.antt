@@ -25,6 +25,17 @@ At S = S × Option (List ℕ)
 abbrev pub StepsOf : Type 0 → Type 1
 StepsOf S = Asked → At S → Result (Unit {0}) Failure → At S → Type 0
 
+-- how an input goes whose bytes these are where they are known, from where, how it ended, and to where
+abbrev pub GoesOf : Type 0 → Type 1
+GoesOf S = Option (List ℕ) → At S → Result (Unit {0}) Failure → At S → Type 0
+
+-- each input by itself: a recording goes as any other, and nothing is done ahead of an input or behind the last
+abbrev pub AloneSteps : {S : Type 0} → GoesOf S → StepsOf S
+AloneSteps Goes (Next name) start result end = (result ≡ Ok tt) × (end ≡ start)
+AloneSteps Goes (Stream known) start result end = Goes known start result end
+AloneSteps Goes (Recording known) start result end = Goes known start result end
+AloneSteps Goes End start result end = (result ≡ Ok tt) × (end ≡ start)
+
 -- Which inputs may be recordings: those whose names say so, and standard input that begins with `{`.
 abbrev pub MayBeRecording : List ℕ → Option (List ℕ) → Type 0
 MayBeRecording name known = (ends_with eqb name (codes ".cast") ≡ true)

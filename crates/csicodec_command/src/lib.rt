@@ -14,6 +14,6 @@ pub use failure::{Failure, Found};
 pub use options::{USAGE, VERSION};
 pub use recording::{Recording, line_front, micros, time_of};
 pub use run::{
-    Inputs, Output, Recordings, Source, Worker, asked, failed, is_cast, refused, run_through,
-    text_of, words_of, work_through,
+    Alone, Inputs, Output, Recordings, Source, Worker, asked, failed, is_cast, refused,
+    run_through, text_of, words_of, work_through,
 };

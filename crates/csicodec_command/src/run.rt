@@ -5,7 +5,7 @@ ghost use Rattle.std.specs.Io.KnownBytes.{Consumes};
 ghost use Rattle.csicodec_streams.specs.declared.error.RunError.{RunError};
 ghost use Rattle.csicodec_command.specs.Failure.{status};
 ghost use Rattle.csicodec_command.specs.declared.failure.Failure.TheVariants.{Run as Ran};
-ghost use Rattle.csicodec_command.specs.Runs.{Asked, Closes, HasTurn, IsReadBy, IsRun, IsTold, MayBeRecording, StepsOf, Through, failure_of, first_of, names_of};
+ghost use Rattle.csicodec_command.specs.Runs.{Asked, Closes, GoesOf, HasTurn, IsReadBy, IsRun, IsTold, MayBeRecording, StepsOf, Through, failure_of, first_of, names_of};
 
 use crate::command::{Command, Request, UNREADABLE, Wrong, command_of};
 use crate::failure::{Failure, GONE};
@@ -69,6 +69,59 @@ pub trait Worker {
     fn end<W: Write>(&mut self, output: &mut W) -> Result<(), Failure>
         ensures { steps Asked.End (self.old, W.contents output.old) result
             (self.new, W.contents output.new) };
+}
+
+/// What is made of each input by itself, whatever it has: a recording is read as it is, and nothing stands ahead of an input or behind
+/// the last.
+pub trait Alone {
+    /// How that goes.
+    ghost goes: { GoesOf Self };
+
+    /// Works on this input, to its end.
+    fn work<R: Read, W: Write>(
+        &mut self,
+        alloc: Global,
+        input: &mut R,
+        output: &mut W,
+    ) -> Result<(), Failure>
+        ensures { goes (R.remaining input.old) (self.old, W.contents output.old) result
+            (self.new, W.contents output.new) };
+}
+
+impl<T: Alone> Worker for T {
+    ghost use Rattle.csicodec_command.specs.Runs.{AloneSteps};
+
+    ghost steps = { AloneSteps T.goes };
+
+    fn recordings(&self) -> Recordings {
+        Recordings::Never
+    }
+
+    fn begin<W: Write>(&mut self, _name: &str, _output: &mut W) -> Result<(), Failure> {
+        Ok(())
+    }
+
+    fn read<R: Read, W: Write>(
+        &mut self,
+        alloc: Global,
+        input: &mut R,
+        output: &mut W,
+    ) -> Result<(), Failure> {
+        self.work(alloc, input, output)
+    }
+
+    fn read_cast<R: BufRead, W: Write>(
+        &mut self,
+        alloc: Global,
+        input: &mut R,
+        output: &mut W,
+    ) -> Result<(), Failure> {
+        self.work(alloc, input, output)
+    }
+
+    fn end<W: Write>(&mut self, _output: &mut W) -> Result<(), Failure> {
+        Ok(())
+    }
 }
 
 /// Where inputs come from, by their names.

@@ -12,7 +12,7 @@ use Rattle.csicodec_clean.specs.Styled.{StylesIn}
 use Rattle.csicodec_lines.specs.Lines.{ByLines}
 use Rattle.csicodec_overwrite.specs.Reading.{Overwrites, Paints}
 use Rattle.csicodec_html.specs.declared.markup.Markup.{Markup}
-use Rattle.csicodec_html.specs.declared.sheet.TheConstants.{BODY, HEAD, STYLE}
+use Rattle.csicodec_html.specs.declared.sheet.TheConstants.{BEHIND, BODY, HEAD, STYLE}
 use Rattle.csicodec_html.specs.Page.{PageWith}
 use Rattle.csicodec_html.specs.Sheet.{IsTitle, sheet}
 use Rattle.csicodec_command.specs.Runs.{StepsOf, Next, Stream, Recording, End}
@@ -83,7 +83,12 @@ abbrev pub Heads : Work → List ℕ → Type 0
 Heads (work.Html name markup overwrite false false) text = IsPageFront markup name.now text
 Heads w text = text ≡ []
 
--- the work behind that
+-- what stands behind the last input: behind a page that has begun its end, and else nothing
+abbrev pub Tails : Work → List ℕ → Type 0
+Tails (work.Html name markup overwrite fragment true) text = text ≡ BEHIND.now
+Tails w text = text ≡ []
+
+-- the work behind what stands ahead
 abbrev pub begun_of : Work → Work
 begun_of (work.Html name markup overwrite false begun) = work.Html name markup overwrite false true
 begun_of w = w
@@ -107,10 +112,11 @@ pub record WroteBehind {A E : Type 0} (w : Work) (result : Result A E) (new : Wo
   pub wrote : OnOk headed (Wrote new result known ahead out)
   pub failed : OnErr headed (IsErr result × (out ≡ ahead))
 
--- How the steps of a job go: nothing is done ahead of an input, and a stream is written behind what stands ahead of it. Of a recording and of
--- what stands behind the last input nothing is said.
+-- How the steps of a job go: nothing is done ahead of an input, a stream is written behind what stands ahead of it, and behind the last
+-- input stands what ends a page. Of what is written of a recording nothing is said, but that a page has begun with it.
 abbrev pub JobSteps : StepsOf Job
 JobSteps (Next name) start result end = (result ≡ Ok tt) × (end ≡ start)
 JobSteps (Stream known) start result end = WroteBehind start.0.work result end.0.work known start.1 end.1
-JobSteps (Recording known) start result end = ⊤
-JobSteps End start result end = ⊤
+JobSteps (Recording known) start result end = end.0.work ≡ begun_of start.0.work
+JobSteps End start result end = (end.0 ≡ start.0) × OnOk result (IsAppended (Tails start.0.work) start.1 end.1)
+    × OnErr result (IsAppended (BeginsWith (Tails start.0.work)) start.1 end.1)

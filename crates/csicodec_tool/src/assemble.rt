@@ -2,13 +2,13 @@
 ghost use Rattle.std.specs.Prelude.{⊤};
 
 use csicodec_assemble::{Assembler, Refusal};
-use csicodec_command::{Failure, Recordings, Worker};
+use csicodec_command::{Alone, Failure};
 use csicodec_page::Remaker;
 use csicodec_streams::{CHUNK, RunError, receive, send};
 use std::alloc::Global;
-use std::io::{BufRead, Read, Write};
+use std::io::{Read, Write};
 
-/// One input after the other, each of lines of its own.
+/// One input after the other, each of lines of its own. A line of JSON is one, whatever it has.
 #[derive(Drop)]
 pub struct Assembly;
 
@@ -51,20 +51,11 @@ fn failure_of(refusal: Refusal, line: u64) -> Failure {
     }
 }
 
-impl Worker for Assembly {
-    ghost steps = { λ _ _ _ _. ⊤ };
-
-    /// A line of JSON is one, whatever it has.
-    fn recordings(&self) -> Recordings {
-        Recordings::Never
-    }
-
-    fn begin<W: Write>(&mut self, _name: &str, _output: &mut W) -> Result<(), Failure> {
-        Ok(())
-    }
+impl Alone for Assembly {
+    ghost goes = { λ _ _ _ _. ⊤ };
 
     /// Each read's lines are written before the next, those ahead of one that is refused too.
-    fn read<R: Read, W: Write>(
+    fn work<R: Read, W: Write>(
         &mut self,
         alloc: Global,
         input: &mut R,
@@ -83,18 +74,5 @@ impl Worker for Assembly {
             }
         }
         Err(Failure::Run(RunError::Read))
-    }
-
-    fn read_cast<R: BufRead, W: Write>(
-        &mut self,
-        alloc: Global,
-        input: &mut R,
-        output: &mut W,
-    ) -> Result<(), Failure> {
-        self.read(alloc, input, output)
-    }
-
-    fn end<W: Write>(&mut self, _output: &mut W) -> Result<(), Failure> {
-        Ok(())
     }
 }

@@ -1,7 +1,8 @@
 //! What `csicodec filter`, `compact`, `strip`, `clean` and `html` make of a stream: with `filter` each control sequence in its normal
 //! form and all else as it came, with `compact` in a shorter spelling; with `strip` the plain text alone, with `clean` that and
 //! its styles; with `html` those as a page.
-ghost use Rattle.csicodec_tool.specs.Writes.{IsHeaded, JobSteps, Wrote, WroteBehind};
+ghost use Rattle.std.specs.Prelude.{◌≡◌, IfSome};
+ghost use Rattle.csicodec_tool.specs.Writes.{IsHeaded, JobSteps, Wrote, WroteBehind, begun_of};
 
 use crate::check::{check_cast, check_stream};
 use crate::log::{Log, log_all};
@@ -133,7 +134,9 @@ impl<'a> Work<'a> {
     }
 
     /// What the data of a recording go through, if a recording is made of it.
-    fn stage(&self, alloc: Global) -> Option<Rewriter> {
+    fn stage(&self, alloc: Global) -> Option<Rewriter>
+        ensures { IfSome result (λ _. self.now ≡ begun_of self.now) }
+    {
         Some(match self {
             Work::Filter { faithful: true } => {
                 let rule = Faithful::new(alloc);
@@ -247,7 +250,9 @@ impl<'a> Work<'a> {
         alloc: Global,
         input: &mut R,
         output: &mut W,
-    ) -> Result<(), Failure> {
+    ) -> Result<(), Failure>
+        ensures { self.new ≡ begun_of self.old }
+    {
         self.begin(alloc, output)?;
         match self {
             Work::Html {

@@ -1,5 +1,5 @@
 -- What the program does with each input by itself: the normal form of sequences, and where a stream may be cut.
-use Rattle.std.specs.Prelude.{◌≡◌, ◌≢◌, Option, List, ℕ, OnOk, IfErr, IfSome}
+use Rattle.std.specs.Prelude.{◌≡◌, ◌≢◌, IfErr, IfSome, OnOk}
 use Rattle.csicodec_streams.specs.declared.error.RunError.{RunError}
 use Rattle.csicodec_streams.specs.declared.error.RunError.TheVariants as error
 use Rattle.csicodec_streams.specs.Decoding.{NormalisesTo}

@@ -10,6 +10,7 @@ mod cuts;
 mod diff;
 mod explain;
 mod explained_cast;
+mod laws;
 mod log;
 mod names;
 mod normal;

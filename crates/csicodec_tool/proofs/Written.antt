@@ -199,4 +199,4 @@ ran_well Out Front before after old new (bytes, text, consumed, end, out, append
 -- what stands behind a page
 pub page_ended : (w : Work) (name : Bor (List ℕ)) (markup : Markup) (overwrite fragment begun : Bool) (text : List ℕ)
     → w ≡ work.Html name markup overwrite fragment begun → begun ≡ true → text ≡ BEHIND.now → Tails w text
-page_ended w name markup overwrite fragment begun text is open same = rw (is, open) same
+page_ended w name markup overwrite fragment begun text is opened same = rw (is, opened) same

@@ -99,6 +99,7 @@ turn_written holds name bytes at next is never (inr r) = read r.ahead r.bytes r.
   where
     kept : Keeps (Some bytes) r.bytes
     kept = subst (λ (k : Option (List ℕ)). Keeps k r.bytes) is r.same
+
     read : (ahead : At Job) (known : Option (List ℕ)) → ahead ≡ at → Keeps (Some bytes) known
         → (IsUnread (Ok tt) × (next ≡ ahead)) ⊎ (JobSteps (Stream known) ahead (Ok tt) next
         ⊎ (MayBeRecording name (holds name) × JobSteps (Recording known) ahead (Ok tt) next)) → Wrote at.0.work bytes next.0.work at.1 next.1

@@ -11,11 +11,10 @@ use Rattle.std.proofs.lemmas.Result.{on_ok_weaker}
 use Rattle.csicodec_overwrite.specs.Reading.{Paints}
 use Rattle.csicodec_html.specs.Page.{IsPageWith, PageWith}
 use Rattle.csicodec_html.specs.declared.markup.Markup.{Markup}
-use Rattle.csicodec_html.specs.declared.sheet.TheConstants.{BEHIND}
 use Rattle.csicodec_tool.specs.declared.rewrite.Work.{Work}
 use Rattle.csicodec_tool.specs.declared.rewrite.Work.TheVariants as work
 use Rattle.csicodec_tool.specs.Writes.{FrontsOf, FrontsOfPainted, IsHeaded, IsPageFront, IsWrittenBy}
-use Rattle.csicodec_tool.specs.Writes.{PaintedPage, Tails, Wrote, WroteBehind}
+use Rattle.csicodec_tool.specs.Writes.{PaintedPage, Wrote, WroteBehind}
 
 pub known_so : {X : Type 0} {P Q : X → Type 0} (known : Option X) → ((x : X) → P x → Q x)
     → IfSome known P → IfSome known Q
@@ -187,16 +186,11 @@ headed_failed w new headed written error result known old ahead out heads went i
     headed_whole w new headed result known old ahead out heads went (not_ok _ result failed, on_err_all result (rw is at wrote.1))
 
 -- all was read, and its text was written
-pub ran_well : {E : Type 0} (Out Front : List ℕ → List ℕ → Type 0) (before after old new : Option (List ℕ))
+pub ran_well : (E : Type 0) (Out Front : List ℕ → List ℕ → Type 0) (before after old new : Option (List ℕ))
     → (bytes : List ℕ) × (text : List ℕ) × Consumes before after bytes × IsAtEnd after × Out bytes text × Appends old new text
     → IsWrittenBy {A = Unit {0}} {E = E} Out Front (Ok tt) before old new
-ran_well Out Front before after old new (bytes, text, consumed, end, out, appended) = (
+ran_well E Out Front before after old new (bytes, text, consumed, end, out, appended) = (
   known_so before (λ all same. (text, subst (λ (b : List ℕ). Out b text) same out, appended))
       (given_all before after bytes consumed end),
   tt,
 )
-
--- what stands behind a page
-pub page_ended : (w : Work) (name : Bor (List ℕ)) (markup : Markup) (overwrite fragment begun : Bool) (text : List ℕ)
-    → w ≡ work.Html name markup overwrite fragment begun → begun ≡ true → text ≡ BEHIND.now → Tails w text
-page_ended w name markup overwrite fragment begun text is opened same = rw (is, opened) same

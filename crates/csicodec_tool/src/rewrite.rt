@@ -307,7 +307,10 @@ impl<'a> Worker for Job<'a> {
 
     fn end<W: Write>(&mut self, output: &mut W) -> Result<(), Failure> {
         match &self.work {
-            Work::Html { begun: true, .. } => Ok(send(output, BEHIND.as_bytes())?),
+            Work::Html { begun: true, .. } => match send(output, BEHIND.as_bytes()) {
+                Ok(()) => Ok(()),
+                Err(error) => Err(Failure::Run(error)),
+            },
             _ => Ok(()),
         }
     }

@@ -1,6 +1,7 @@
 //! What one token and one control sequence is, the fields of a list of tokens, and a short text to build one in.
 #![tactic(auto)]
 
+mod count;
 mod fields;
 pub mod laws;
 mod param;
@@ -9,6 +10,7 @@ mod refusal;
 mod text;
 mod words;
 
+pub use count::Count;
 pub use fields::Cracked;
 pub use param::{CsiParam, OneBased};
 pub use reader::{

@@ -6,7 +6,6 @@ pub mod Spelled
 pub mod Chars
 pub mod Read
 pub mod Written
-pub mod Taken
 pub mod Kept
 pub mod Plain
 pub mod Once

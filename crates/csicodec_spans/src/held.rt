@@ -1,39 +1,23 @@
 //! The bytes that wait, and what each look at one costs.
-ghost use Rattle.std.specs.Prelude.{◌≡◌, ◌≤◌, ◌+◌, ◌++◌, ◌∷◌, ℕ, List, [], length, drop, vec_len, MatchOption, OnErr, OnOk, true};
+ghost use Rattle.std.specs.Prelude.{◌≡◌, ◌≤◌, ◌+◌, ◌++◌, ℕ, List, [], length, drop, vec_len, MatchOption, OnErr, OnOk, true};
 ghost use Rattle.csicodec_spans.specs.declared.table.Mode.{Mode};
 ghost use Rattle.csicodec_spans.specs.Parts.{IsUnsure};
-ghost use Rattle.csicodec_spans.specs.Private.Begun.{Adds, IsBegun, Stops};
+ghost use Rattle.csicodec_tokens.specs.Body.{Adds, Stops};
+ghost use Rattle.csicodec_spans.specs.Private.Begun.{IsBegun};
 
-use csicodec_tokens::{Count, with_digit};
+use csicodec_tokens::{Count, walk_body};
 use std::alloc::{AllocError, Global};
 use std::marker::Model;
 
-/// The number that ends a body with one more byte, where the body ends in `number`; none where no body goes on so.
-#[inline(always)]
-fn with_byte(number: u64, byte: u8) -> Option<u64>
-    ensures { MatchOption result ((more : List ℕ) → Stops number (byte ∷ more)) (Adds number (byte ∷ [])) }
-{
-    match byte {
-        b'0'..=b'9' => with_digit(number, byte),
-        b' '..=b'/' => Some(0),
-        b':'..=b'?' => Some(0),
-        0x00..=0x1f => None,
-        0x40..=0xff => None,
-    }
-}
-
-/// The same with some bytes more.
-#[tactic(auto, using(csicodec_tokens::proofs::Reading::first_cut, crate::proofs::Begun::read_none, crate::proofs::Begun::read_more, crate::proofs::Begun::read_all))]
+/// The number that ends a body with some bytes more, where the body ends in `number`; none where no body goes on so.
+#[tactic(auto, using(crate::proofs::Begun::stops))]
 pub(crate) fn with_bytes(number: u64, bytes: &[u8]) -> Option<u64>
     ensures { MatchOption result (Stops number bytes.now) (Adds number bytes.now) }
 {
-    let mut last = number;
-    let mut rest = bytes;
-    while let [byte, others @ ..] = rest {
-        last = with_byte(last, *byte)?;
-        rest = others;
+    match walk_body(number, bytes) {
+        Ok(last) => Some(last),
+        Err(_) => None,
     }
-    Some(last)
 }
 
 /// The number that ends bytes of which nothing is sure, where they begin a control sequence's body.

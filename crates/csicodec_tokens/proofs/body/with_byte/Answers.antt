@@ -1,6 +1,6 @@
 use Rattle.std.proofs.Common.{arith}
-use Rattle.csicodec_spans.proofs.Begun.{digit_step, other_step, stop_step}
-use Rattle.csicodec_spans.proofs.held.with_byte.Goals as goal
+use Rattle.csicodec_tokens.proofs.Walks.{digit_step, other_step, stop_step}
+use Rattle.csicodec_tokens.proofs.body.with_byte.Goals as goal
 
 pub returns-in-48-to-57 : goal.returns-in-48-to-57
 returns-in-48-to-57 c = digit_step c.with_digit.result c.args.number c.args.byte (omega arith, omega arith) c.with_digit.ensures

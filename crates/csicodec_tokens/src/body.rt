@@ -66,7 +66,7 @@ fn with_byte(number: u64, byte: u8) -> Option<u64>
 }
 
 /// A step of such a walk over these bytes, of which the first is `byte`: the number and the bytes behind those that it passed, or the bytes from the
-/// first on that is no more of the body. Behind a byte that is no digit, 16 bytes are told at once.
+/// first on that is no more of the body. Where no number is begun, 16 bytes are told at once. Leading zeros begin none, and are told one by one.
 #[inline(always)]
 fn walk_some<'a>(
     number: u64,
@@ -84,9 +84,11 @@ fn walk_some<'a>(
         if len < LANES {
             return Err(bytes.split_at(len).1);
         }
-        let len = whole_len(bytes);
-        if len > 0 {
-            return Ok((0, bytes.split_at(len).1));
+        if byte != b'0' {
+            let len = whole_len(bytes);
+            if len > 0 {
+                return Ok((0, bytes.split_at(len).1));
+            }
         }
     }
     match with_byte(number, byte) {

@@ -279,6 +279,10 @@ impl<'a> Worker for Job<'a> {
         Recordings::Known
     }
 
+    fn tells_reasons(&self) -> bool {
+        true
+    }
+
     fn begin<W: Write>(&mut self, _name: &str, _output: &mut W) -> Result<(), Failure> {
         Ok(())
     }

@@ -1,4 +1,5 @@
 pub mod Texts
+pub mod Alike
 pub mod Moved
 pub mod Painted
 pub mod Looks
@@ -11,6 +12,7 @@ pub mod Plain
 pub mod Once
 pub mod Stays
 pub mod Same
+pub mod Paged
 pub mod Room
 pub mod Lost
 pub mod Came

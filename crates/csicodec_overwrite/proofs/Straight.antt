@@ -25,6 +25,7 @@ use Rattle.csicodec_clean.proofs.Twice.{all_text}
 use Rattle.csicodec_overwrite.specs.declared.cells.Cell.{Cell}
 use Rattle.csicodec_overwrite.specs.declared.cells.Cell.TheVariants.{Char}
 use Rattle.csicodec_overwrite.specs.declared.line.Line.{Line}
+use Rattle.csicodec_overwrite.specs.declared.marking.Marking.{Marking}
 use Rattle.csicodec_overwrite.specs.declared.pen.Pen.{Pen}
 use Rattle.csicodec_overwrite.specs.declared.step.Step.TheVariants as step
 use Rattle.csicodec_overwrite.specs.Cells.{columns, glyph, to_tab_stop, width}
@@ -117,5 +118,5 @@ goes_line limit pen c l (low, high, over, none, few) =
 pub goes_pen : (limit : ℕ) (pen : Pen) (c : ℕ) (l : Line) → GoesBehind limit pen c l → record pen { last = Some c } ≡ pen_behind pen (step.Put c) (columns l.left)
 goes_pen limit pen c l (low, high, over, none, few) = ap (λ (n : ℕ). record pen { last = cond (n == 0) pen.last (Some c) }) (sym (narrow c 0 low high))
 
-pub goes_text : (limit : ℕ) (painted : Bool) (pen : Pen) (c : ℕ) (l : Line) (out : List ℕ) → GoesBehind limit pen c l → out ≡ out ++ texts_of painted (put limit pen.inserts (glyph c pen.look) l).lines
-goes_text limit painted pen c l out s = sym (append-nil out) ∙ sym (ap (λ (d : Done). out ++ texts_of painted d.lines) (goes limit pen c l s))
+pub goes_text : (limit : ℕ) (marking : Marking) (pen : Pen) (c : ℕ) (l : Line) (out : List ℕ) → GoesBehind limit pen c l → out ≡ out ++ texts_of marking (put limit pen.inserts (glyph c pen.look) l).lines
+goes_text limit marking pen c l out s = sym (append-nil out) ∙ sym (ap (λ (d : Done). out ++ texts_of marking d.lines) (goes limit pen c l s))

@@ -10,6 +10,7 @@ ghost use Rattle.csicodec_overwrite.specs.declared.step.Step.TheVariants.{Put, T
 
 use crate::ascii::plain_step;
 use crate::cells::{Cell, Glyph, Side};
+use crate::marking::Marking;
 use crate::paint::append_cells;
 use crate::pen::Pen;
 use crate::sides::{delete_columns, erase_columns, loosen, move_all, undo, width};
@@ -214,26 +215,26 @@ impl Line {
         delete_columns(&mut self.right, columns)
     }
 
-    /// Takes all that stands there, and appends its text, painted or not.
-    pub fn take_text(&mut self, painted: bool, out: &mut Vec<u8>) -> Result<(), AllocError>
+    /// Takes all that stands there, and appends its text.
+    pub fn take_text(&mut self, marking: &Marking, out: &mut Vec<u8>) -> Result<(), AllocError>
         ensures text { OnOk result
-            (out.new.items ≡ out.old.items ++ text_of painted (cells_of self.old)) }
+            (out.new.items ≡ out.old.items ++ text_of marking.now (cells_of self.old)) }
         ensures none { OnOk result (self.new ≡ blank) }
     {
         move_all(&mut self.right, &mut self.left)?;
         self.left.trim();
-        append_cells(self.left.from_farthest(), painted, out)?;
+        append_cells(self.left.from_farthest(), marking, out)?;
         self.left.clear();
         Ok(())
     }
 
     /// Ends the line.
-    pub(crate) fn end(&mut self, painted: bool, out: &mut Vec<u8>) -> Result<(), AllocError>
+    pub(crate) fn end(&mut self, marking: &Marking, out: &mut Vec<u8>) -> Result<(), AllocError>
         ensures text { OnOk result
-            (out.new.items ≡ out.old.items ++ ended painted (cells_of self.old)) }
+            (out.new.items ≡ out.old.items ++ ended marking.now (cells_of self.old)) }
         ensures none { OnOk result (self.new ≡ blank) }
     {
-        self.take_text(painted, out)?;
+        self.take_text(marking, out)?;
         out.push(b'\n')?;
         Ok(())
     }
@@ -250,22 +251,22 @@ impl Line {
     }
 
     /// Appends what stands on the left, the farthest first, and a newline.
-    fn end_left(&mut self, painted: bool, out: &mut Vec<u8>) -> Result<(), AllocError>
+    fn end_left(&mut self, marking: &Marking, out: &mut Vec<u8>) -> Result<(), AllocError>
         requires { self.old.right ≡ [] }
         ensures text { OnOk result
-            (out.new.items ≡ out.old.items ++ ended painted (onto self.old.left [])) }
+            (out.new.items ≡ out.old.items ++ ended marking.now (onto self.old.left [])) }
         ensures none { OnOk result (self.new ≡ blank) }
     {
-        append_cells(self.left.from_farthest(), painted, out)?;
+        append_cells(self.left.from_farthest(), marking, out)?;
         self.left.clear();
         out.push(b'\n')?;
         Ok(())
     }
 
     /// Ends the line, if anything stands in it.
-    fn end_some(&mut self, painted: bool, out: &mut Vec<u8>) -> Result<(), AllocError>
+    fn end_some(&mut self, marking: &Marking, out: &mut Vec<u8>) -> Result<(), AllocError>
         ensures text { OnOk result
-            (out.new.items ≡ out.old.items ++ texts_of painted (lines_of self.old)) }
+            (out.new.items ≡ out.old.items ++ texts_of marking.now (lines_of self.old)) }
         ensures none { OnOk result (self.new ≡ blank) }
     {
         move_all(&mut self.right, &mut self.left)?;
@@ -274,7 +275,7 @@ impl Line {
             self.left.clear();
             return Ok(());
         }
-        self.end_left(painted, out)
+        self.end_left(marking, out)
     }
 
     /// To another row, or maybe so: to this column, or to the same.
@@ -282,15 +283,15 @@ impl Line {
         &mut self,
         limit: usize,
         to: Option<u32>,
-        painted: bool,
+        marking: &Marking,
         out: &mut Vec<u8>,
     ) -> Result<(), AllocError>
         ensures line { OnOk result (self.new ≡ (leave limit to self.old).line) }
         ensures text { OnOk result
-            (out.new.items ≡ out.old.items ++ texts_of painted (leave limit to self.old).lines) }
+            (out.new.items ≡ out.old.items ++ texts_of marking.now (leave limit to self.old).lines) }
     {
         let column = self.target(to);
-        self.end_some(painted, out)?;
+        self.end_some(marking, out)?;
         self.forward(limit, column)
     }
 
@@ -299,17 +300,17 @@ impl Line {
         &mut self,
         limit: usize,
         pen: &Pen,
-        painted: bool,
+        marking: &Marking,
         out: &mut Vec<u8>,
     ) -> Result<(), AllocError>
         ensures line { OnOk result (self.new ≡ (restored limit pen.now self.old).line) }
         ensures text { OnOk result
-            (out.new.items ≡ out.old.items ++ texts_of painted (restored limit pen.now self.old).lines) }
+            (out.new.items ≡ out.old.items ++ texts_of marking.now (restored limit pen.now self.old).lines) }
     {
         if pen.here {
             return self.behind_columns(limit, pen.saved);
         }
-        self.end_some(painted, out)?;
+        self.end_some(marking, out)?;
         self.forward(limit, pen.saved.min(WIDEST as usize - 1))
     }
 
@@ -333,13 +334,13 @@ impl Line {
         limit: usize,
         pen: &Pen,
         char: char,
-        painted: bool,
+        marking: &Marking,
         out: &mut Vec<u8>,
     ) -> Result<(), AllocError>
         ensures line { OnOk result
             (self.new ≡ (put limit pen.now.inserts (glyph char pen.now.look) self.old).line) }
         ensures text { OnOk result (out.new.items ≡ out.old.items
-            ++ texts_of painted (put limit pen.now.inserts (glyph char pen.now.look) self.old).lines) }
+            ++ texts_of marking.now (put limit pen.now.inserts (glyph char pen.now.look) self.old).lines) }
     {
         let glyph = Glyph {
             char,
@@ -349,7 +350,7 @@ impl Line {
         if self.fits(limit, columns) {
             return self.place(pen.inserts, glyph, columns);
         }
-        self.end(painted, out)?;
+        self.end(marking, out)?;
         self.place(pen.inserts, glyph, width(char, 0))
     }
 
@@ -359,20 +360,20 @@ impl Line {
         limit: usize,
         pen: &Pen,
         count: u32,
-        painted: bool,
+        marking: &Marking,
         out: &mut Vec<u8>,
     ) -> Result<(), AllocError>
         ensures line { OnOk result
             (self.new ≡ (repeated limit pen.now pen.now.last count self.old).line) }
         ensures text { OnOk result (out.new.items ≡ out.old.items
-            ++ texts_of painted (repeated limit pen.now pen.now.last count self.old).lines) }
+            ++ texts_of marking.now (repeated limit pen.now pen.now.last count self.old).lines) }
     {
         let Some(char) = pen.last else {
             return Ok(());
         };
         let mut left = count;
         while left > 0 {
-            self.put(limit, pen, char, painted, out)?;
+            self.put(limit, pen, char, marking, out)?;
             left -= 1;
         }
         Ok(())
@@ -383,15 +384,15 @@ impl Line {
         &mut self,
         limit: usize,
         pen: &Pen,
-        painted: bool,
+        marking: &Marking,
         out: &mut Vec<u8>,
     ) -> Result<(), AllocError>
         ensures line { OnOk result (self.new ≡ (does limit pen.now Tab self.old).line) }
         ensures text { OnOk result
-            (out.new.items ≡ out.old.items ++ texts_of painted (does limit pen.now Tab self.old).lines) }
+            (out.new.items ≡ out.old.items ++ texts_of marking.now (does limit pen.now Tab self.old).lines) }
     {
         if self.right.len() == 0 {
-            return self.put(limit, pen, '\t', painted, out);
+            return self.put(limit, pen, '\t', marking, out);
         }
         let count = width('\t', self.left.columns());
         self.forward(limit, count)
@@ -403,20 +404,20 @@ impl Line {
         limit: usize,
         pen: &Pen,
         step: &Step,
-        painted: bool,
+        marking: &Marking,
         out: &mut Vec<u8>,
     ) -> Result<(), AllocError>
         ensures line { OnOk result (self.new ≡ (does limit pen.now step.now self.old).line) }
         ensures text { OnOk result
-            (out.new.items ≡ out.old.items ++ texts_of painted (does limit pen.now step.now self.old).lines) }
+            (out.new.items ≡ out.old.items ++ texts_of marking.now (does limit pen.now step.now self.old).lines) }
     {
         match *step {
-            Step::Put(char) => self.put(limit, pen, char, painted, out),
-            Step::Repeat(count) => self.repeat(limit, pen, count, painted, out),
-            Step::Tab => self.tab(limit, pen, painted, out),
+            Step::Put(char) => self.put(limit, pen, char, marking, out),
+            Step::Repeat(count) => self.repeat(limit, pen, count, marking, out),
+            Step::Tab => self.tab(limit, pen, marking, out),
             Step::Tabs(count) => self.tabs(limit, count),
             Step::TabsBack(count) => self.tabs_back(count),
-            Step::NewLine => self.end(painted, out),
+            Step::NewLine => self.end(marking, out),
             Step::Right(count) => self.forward(limit, count as usize),
             Step::Left(count) => self.back(count as usize),
             Step::Column(column) => self.to_column(limit, column),
@@ -426,8 +427,8 @@ impl Line {
             Step::Erase(count) => self.erase(count),
             Step::Delete(count) => self.delete(count),
             Step::Insert(count) => self.insert(limit, count),
-            Step::Restore => self.restore(limit, pen, painted, out),
-            Step::Leave(to) => self.leave(limit, to, painted, out),
+            Step::Restore => self.restore(limit, pen, marking, out),
+            Step::Leave(to) => self.leave(limit, to, marking, out),
             Step::Attribute(_) | Step::Inserts(_) => Ok(()),
             Step::Save | Step::Reset | Step::Other => Ok(()),
         }
@@ -440,13 +441,13 @@ impl Line {
         limit: usize,
         pen: &mut Pen,
         char: char,
-        painted: bool,
+        marking: &Marking,
         out: &mut Vec<u8>,
     ) -> Result<(), AllocError>
         ensures line { OnOk result (self.new ≡ (does limit pen.old (Put char) self.old).line) }
         ensures pen { OnOk result (pen.new ≡ pen_behind pen.old (Put char) (columns self.old.left)) }
         ensures text { OnOk result
-            (out.new.items ≡ out.old.items ++ texts_of painted (does limit pen.old (Put char) self.old).lines) }
+            (out.new.items ≡ out.old.items ++ texts_of marking.now (does limit pen.old (Put char) self.old).lines) }
     {
         if self.goes_behind(limit, pen, char) {
             let look = pen.look;
@@ -455,7 +456,7 @@ impl Line {
             return Ok(());
         }
         let column = self.left.columns();
-        self.put(limit, pen, char, painted, out)?;
+        self.put(limit, pen, char, marking, out)?;
         pen.take(Step::Put(char), column);
         Ok(())
     }
@@ -467,19 +468,19 @@ impl Line {
         limit: usize,
         pen: &mut Pen,
         step: &Step,
-        painted: bool,
+        marking: &Marking,
         out: &mut Vec<u8>,
     ) -> Result<(), AllocError>
         ensures line { OnOk result (self.new ≡ (does limit pen.old step.now self.old).line) }
         ensures pen { OnOk result (pen.new ≡ pen_behind pen.old step.now (columns self.old.left)) }
         ensures text { OnOk result
-            (out.new.items ≡ out.old.items ++ texts_of painted (does limit pen.old step.now self.old).lines) }
+            (out.new.items ≡ out.old.items ++ texts_of marking.now (does limit pen.old step.now self.old).lines) }
     {
         if let Step::Put(char) = *step {
-            return self.take_char(limit, pen, char, painted, out);
+            return self.take_char(limit, pen, char, marking, out);
         }
         let column = self.left.columns();
-        self.act(limit, pen, step, painted, out)?;
+        self.act(limit, pen, step, marking, out)?;
         pen.take(*step, column);
         Ok(())
     }
@@ -490,18 +491,18 @@ impl Line {
         limit: usize,
         pen: &mut Pen,
         steps: &[Step],
-        painted: bool,
+        marking: &Marking,
         out: &mut Vec<u8>,
     ) -> Result<(), AllocError>
         ensures line { OnOk result
             (self.new ≡ (do_all limit pen.old steps.now self.old).line) }
         ensures pen { OnOk result (pen.new ≡ pen_behind_all limit pen.old steps.now self.old) }
         ensures text { OnOk result (out.new.items
-            ≡ out.old.items ++ texts_of painted (do_all limit pen.old steps.now self.old).lines) }
+            ≡ out.old.items ++ texts_of marking.now (do_all limit pen.old steps.now self.old).lines) }
     {
         let mut rest = steps;
         while let Some((step, behind)) = rest.split_first() {
-            self.take(limit, pen, step, painted, out)?;
+            self.take(limit, pen, step, marking, out)?;
             rest = behind;
         }
         Ok(())
@@ -513,7 +514,7 @@ impl Line {
         limit: usize,
         pen: &mut Pen,
         text: &[u8],
-        painted: bool,
+        marking: &Marking,
         out: &mut Vec<u8>,
     ) -> Result<(), AllocError>
         requires { AllByRecursion IsLineByte text.now }
@@ -522,11 +523,11 @@ impl Line {
         ensures pen { OnOk result
             (pen.new ≡ pen_behind_all limit pen.old (of_chars text.now) self.old) }
         ensures text { OnOk result (out.new.items ≡ out.old.items
-            ++ texts_of painted (do_all limit pen.old (of_chars text.now) self.old).lines) }
+            ++ texts_of marking.now (do_all limit pen.old (of_chars text.now) self.old).lines) }
     {
         let mut rest = text;
         while let Some((byte, behind)) = rest.split_first() {
-            self.take(limit, pen, &plain_step(*byte), painted, out)?;
+            self.take(limit, pen, &plain_step(*byte), marking, out)?;
             rest = behind;
         }
         Ok(())

@@ -20,5 +20,5 @@ loop-byte-preserved c =
       plain = all.1;
       line = rw (e.line, e.pen) (rw split at l.invariant.line);
       pen = rw (e.line, e.pen) (rw split at l.invariant.pen);
-      text = rw (e.line, e.pen) (step_text c.args.painted l.out.items c.take.new.out.items d.lines later.lines _ e.text (rw split at l.invariant.text));
+      text = rw (e.line, e.pen) (step_text c.args.marking.now l.out.items c.take.new.out.items d.lines later.lines _ e.text (rw split at l.invariant.text));
     }

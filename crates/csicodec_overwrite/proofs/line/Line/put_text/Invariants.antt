@@ -12,7 +12,7 @@ invariant-loop-byte l = record {
   plain : AllByRecursion IsLineByte l.rest;
   line : (do_all l.limit l.pen (of_chars l.rest) l.self).line ≡ (do_all l.limit l.initial.pen (of_chars l.text) l.initial.self).line;
   pen : pen_behind_all l.limit l.pen (of_chars l.rest) l.self ≡ pen_behind_all l.limit l.initial.pen (of_chars l.text) l.initial.self;
-  text : l.out.items ++ texts_of l.painted (do_all l.limit l.pen (of_chars l.rest) l.self).lines ≡ l.initial.out.items ++ texts_of l.painted (do_all l.limit l.initial.pen (of_chars l.text) l.initial.self).lines;
+  text : l.out.items ++ texts_of l.marking (do_all l.limit l.pen (of_chars l.rest) l.self).lines ≡ l.initial.out.items ++ texts_of l.marking (do_all l.limit l.initial.pen (of_chars l.text) l.initial.self).lines;
 }
 
 abbrev pub decreases-loop-byte : goal.decreases-loop-byte

@@ -8,4 +8,4 @@ pub returns-then-goes_behind-clause-pen : goal.returns-then-goes_behind-clause-p
 returns-then-goes_behind-clause-pen c = goes_pen c.args.limit c.args.pen.now c.args.char c.args.self.now (c.goes_behind.ensures c.if-goes_behind.true)
 
 pub returns-then-goes_behind-clause-text : goal.returns-then-goes_behind-clause-text
-returns-then-goes_behind-clause-text c = goes_text c.args.limit c.args.painted c.args.pen.now c.args.char c.args.self.now c.args.out.now.items (c.goes_behind.ensures c.if-goes_behind.true)
+returns-then-goes_behind-clause-text c = goes_text c.args.limit c.args.marking.now c.args.pen.now c.args.char c.args.self.now c.args.out.now.items (c.goes_behind.ensures c.if-goes_behind.true)

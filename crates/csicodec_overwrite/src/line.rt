@@ -1,14 +1,14 @@
 //! A line and its cursor.
-ghost use Rattle.std.specs.Prelude.{◌≡◌, ◌-◌, ◌++◌, [], true, OnOk};
+ghost use Rattle.std.specs.Prelude.{◌≡◌, ◌-◌, ◌++◌, [], false, true, IfOk, OnOk};
 ghost use Rattle.std.specs.List.{AllByRecursion};
 ghost use Rattle.csicodec_overwrite.specs.Cells.{columns, glyph, onto};
 ghost use Rattle.csicodec_overwrite.specs.Line.{at_column, back, behind_columns, blank, cells_of, delete, do_all, does, erase, erase_all, erase_left, erase_right, fits, forward, from_stop, insert, leave, line, lines_of, over, parted, pen_behind, pen_behind_all, placed, put, repeated, restored, size, target, to_stop};
 ghost use Rattle.csicodec_overwrite.specs.Paint.{ended, text_of, texts_of};
-ghost use Rattle.csicodec_overwrite.specs.Private.Plain.{GoesBehind, IsLineByte};
+ghost use Rattle.csicodec_overwrite.specs.Private.Plain.{IsLineByte, PutsRun};
 ghost use Rattle.csicodec_overwrite.specs.Steps.{of_chars};
-ghost use Rattle.csicodec_overwrite.specs.declared.step.Step.TheVariants.{Put, Tab};
+ghost use Rattle.csicodec_overwrite.specs.declared.step.Step.TheVariants.{Tab};
 
-use crate::ascii::plain_step;
+use crate::ascii::{next_char, plain_step};
 use crate::cells::{Cell, Glyph, Side};
 use crate::marking::Marking;
 use crate::paint::append_cells;
@@ -314,20 +314,6 @@ impl Line {
         self.forward(limit, pen.saved.min(WIDEST as usize - 1))
     }
 
-    /// Whether the character takes one cell, behind all that stands there.
-    #[tactic(auto, using(crate::proofs::Moved::no_cells))]
-    fn goes_behind(&self, limit: usize, pen: &Pen, char: char) -> bool
-        ensures { result ≡ true → GoesBehind limit pen.now char self.now }
-    {
-        if char < ' ' || char >= '\u{7f}' || pen.inserts {
-            return false;
-        }
-        if self.right.len() > 0 {
-            return false;
-        }
-        self.left.len() < limit
-    }
-
     /// Puts a character, on a line of its own where this has no room for it.
     fn put(
         &mut self,
@@ -434,33 +420,6 @@ impl Line {
         }
     }
 
-    /// Puts a character, at once where it takes one cell behind all that stands there, and behind it characters are put as `pen` says then.
-    #[inline(always)]
-    fn take_char(
-        &mut self,
-        limit: usize,
-        pen: &mut Pen,
-        char: char,
-        marking: &Marking,
-        out: &mut Vec<u8>,
-    ) -> Result<(), AllocError>
-        ensures line { OnOk result (self.new ≡ (does limit pen.old (Put char) self.old).line) }
-        ensures pen { OnOk result (pen.new ≡ pen_behind pen.old (Put char) (columns self.old.left)) }
-        ensures text { OnOk result
-            (out.new.items ≡ out.old.items ++ texts_of marking.now (does limit pen.old (Put char) self.old).lines) }
-    {
-        if self.goes_behind(limit, pen, char) {
-            let look = pen.look;
-            self.left.push(Cell::Char(Glyph { char, look }))?;
-            pen.last = Some(char);
-            return Ok(());
-        }
-        let column = self.left.columns();
-        self.put(limit, pen, char, marking, out)?;
-        pen.take(Step::Put(char), column);
-        Ok(())
-    }
-
     /// Does a step, and behind it characters are put as `pen` says then.
     #[inline(always)]
     fn take(
@@ -476,12 +435,18 @@ impl Line {
         ensures text { OnOk result
             (out.new.items ≡ out.old.items ++ texts_of marking.now (does limit pen.old step.now self.old).lines) }
     {
-        if let Step::Put(char) = *step {
-            return self.take_char(limit, pen, char, marking, out);
+        match *step {
+            Step::Other => pen.last = None,
+            Step::Attribute(attribute) => {
+                pen.last = None;
+                pen.look = pen.look.behind(&attribute);
+            }
+            _ => {
+                let column = self.left.columns();
+                self.act(limit, pen, step, marking, out)?;
+                pen.take(*step, column);
+            }
         }
-        let column = self.left.columns();
-        self.act(limit, pen, step, marking, out)?;
-        pen.take(*step, column);
         Ok(())
     }
 
@@ -508,6 +473,47 @@ impl Line {
         Ok(())
     }
 
+    /// Whether characters go behind all that stands there.
+    #[tactic(auto, using(crate::proofs::Moved::no_cells))]
+    fn goes_behind(&self, pen: &Pen) -> bool
+        ensures { result ≡ true → (pen.now.inserts ≡ false) × (self.now.right ≡ []) }
+    {
+        if pen.inserts {
+            return false;
+        }
+        if self.right.len() > 0 {
+            return false;
+        }
+        true
+    }
+
+    /// Puts the characters in front that take one cell each, behind all that stands there, and answers the others.
+    #[inline(always)]
+    #[tactic(auto, using(crate::proofs::Straight::run_none))]
+    fn put_run<'a>(
+        &mut self,
+        limit: usize,
+        pen: &mut Pen,
+        text: &'a [u8],
+    ) -> Result<&'a [u8], AllocError>
+        requires { AllByRecursion IsLineByte text.now }
+        ensures { IfOk result
+            (λ rest. PutsRun limit pen.old self.old text.now rest.now pen.new self.new) }
+    {
+        if !self.goes_behind(pen) {
+            return Ok(text);
+        }
+        let (look, mut room) = (pen.look, self.room(limit));
+        let mut rest = text;
+        while let Some((char, behind)) = next_char(rest, room) {
+            self.left.push(Cell::Char(Glyph { char, look }))?;
+            pen.last = Some(char);
+            room -= 1;
+            rest = behind;
+        }
+        Ok(rest)
+    }
+
     /// The same of the steps of text of ASCII without a control but tabs.
     pub(crate) fn put_text(
         &mut self,
@@ -525,10 +531,10 @@ impl Line {
         ensures text { OnOk result (out.new.items ≡ out.old.items
             ++ texts_of marking.now (do_all limit pen.old (of_chars text.now) self.old).lines) }
     {
-        let mut rest = text;
+        let mut rest = self.put_run(limit, pen, text)?;
         while let Some((byte, behind)) = rest.split_first() {
             self.take(limit, pen, &plain_step(*byte), marking, out)?;
-            rest = behind;
+            rest = self.put_run(limit, pen, behind)?;
         }
         Ok(())
     }

@@ -63,7 +63,7 @@ impl Rewriter {
             Rewriter::PlainLines(lines) => lines.take(bytes, out),
             Rewriter::StyledLines(lines) => lines.take(bytes, out),
             Rewriter::Overwritten(lines) => lines.take(bytes, out),
-            Rewriter::Logged(log) => log.push(bytes, out),
+            Rewriter::Logged(log) => log.take(bytes, out),
         }
     }
 
@@ -96,7 +96,7 @@ impl Rewriter {
             Rewriter::PlainLines(lines) => lines.end(out),
             Rewriter::StyledLines(lines) => lines.end(out),
             Rewriter::Overwritten(lines) => lines.finish(out),
-            Rewriter::Logged(log) => log.finish(out),
+            Rewriter::Logged(log) => log.end(out),
         }
     }
 }

@@ -16,7 +16,7 @@ use Rattle.csicodec_overwrite.proofs.Written.{passes_on, shows}
 use Rattle.csicodec_tool.specs.declared.log.Log.{Log}
 use Rattle.csicodec_tool.specs.declared.log.Styles.{Styles}
 use Rattle.csicodec_tool.specs.Log.{IsLine, IsLogged, IsLoggedFront, LogOf, Logs, LogsSome}
-use Rattle.csicodec_tool.specs.Private.Log.{EndsLog, GoesIn, IsBegun, IsIn, PassesLog, passing_of}
+use Rattle.csicodec_tool.specs.Stream.{EndsLog, GoesIn, IsBegun, IsIn, PassesLog, passing_of}
 
 -- a part of a line behind another
 line_on : (line part : List ℕ) → IsLine line → IsLine part → IsLine (line ++ part)

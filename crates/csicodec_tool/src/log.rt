@@ -3,7 +3,7 @@ ghost use Rattle.std.specs.Prelude.{◌≡◌, ◌==◌, ◌++◌, ◌∷◌, []
 ghost use Rattle.std.specs.Io.KnownBytes.{Appends, Consumes, IsAtEnd};
 ghost use Rattle.csicodec_filter.specs.Transform.{GoesOn};
 ghost use Rattle.csicodec_tool.specs.Log.{IsLine, Logs, LogsSome};
-ghost use Rattle.csicodec_tool.specs.Private.Log.{EndsLog, GoesIn, IsIn, PassesLog, passing_of};
+ghost use Rattle.csicodec_tool.specs.Stream.{EndsLog, GoesIn, IsIn, PassesLog, passing_of};
 
 use csicodec_assemble::split_line;
 use csicodec_clean::{Cleaner, Kept, Passing};
@@ -111,7 +111,7 @@ impl Log {
 
 impl Transform for Log {
     ghost use Rattle.std.specs.Prelude.{⊤};
-    ghost use Rattle.csicodec_tool.specs.Private.Log.{EndsLog, PassesLog};
+    ghost use Rattle.csicodec_tool.specs.Stream.{EndsLog, PassesLog};
 
     ghost stands = { λ _. ⊤ };
 

@@ -1,6 +1,6 @@
 use Rattle.std.proofs.Common.{◌++◌, ◌∙◌, [], ◌∷◌, sym, ap, append_assoc}
 use Rattle.csicodec_filter.proofs.Sent.{goes_on}
-use Rattle.csicodec_tool.specs.Private.Log.{PassesLog}
+use Rattle.csicodec_tool.specs.Stream.{PassesLog}
 use Rattle.csicodec_tool.proofs.Logged.{line_over, part_on}
 use Rattle.csicodec_tool.proofs.log.Log.take_line.Goals as goal
 

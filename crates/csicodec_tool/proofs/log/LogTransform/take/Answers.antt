@@ -2,7 +2,7 @@ use Rattle.std.proofs.Common.{◌++◌, ◌∙◌, [], ◌∷◌, refl, sym, ap,
 use Rattle.std.proofs.lemmas.Result.{on_ok_weaker}
 use Rattle.csicodec_filter.specs.Transform.{GoesOn}
 use Rattle.csicodec_filter.proofs.Sent.{goes_none, goes_on}
-use Rattle.csicodec_tool.specs.Private.Log.{PassesLog}
+use Rattle.csicodec_tool.specs.Stream.{PassesLog}
 use Rattle.csicodec_tool.proofs.Logged.{part_on}
 use Rattle.csicodec_tool.proofs.log.LogTransform.take.Goals as goal
 

@@ -1,6 +1,6 @@
 use Rattle.std.proofs.Common.{◌≡◌, ℕ, List, ◌++◌, length}
 use Rattle.csicodec_filter.specs.Transform.{GoesOn}
-use Rattle.csicodec_tool.specs.Private.Log.{PassesLog}
+use Rattle.csicodec_tool.specs.Stream.{PassesLog}
 use Rattle.csicodec_tool.proofs.log.LogTransform.take.Given as goal
 
 -- the lines in front were taken

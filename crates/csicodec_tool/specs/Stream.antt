@@ -1,4 +1,4 @@
--- A log as it comes. No promise rests on this file.
+-- A log as it comes, chunk by chunk.
 use Rattle.std.specs.Prelude.{ℕ, ◌≡◌, true, false, List, [], ◌++◌, Option, None, Some}
 use Rattle.csicodec_filter.specs.Transform.{EndsOf, PassesOf}
 use Rattle.csicodec_clean.specs.Stream.{Takes, start_of}

@@ -18,7 +18,7 @@ use csicodec::CSI;
 use csicodec_base::{CsiParam, ReadError, read_csi_into};
 use csicodec_filter::Known;
 use csicodec_streams::{Note, color_text, position_len, read_color};
-use csicodec_terminal::terminal_actions;
+use csicodec_terminal::terminal_actions_into;
 use std::alloc::{AllocError, Global};
 
 /// The note that is what stays of a sequence.
@@ -157,7 +157,7 @@ impl Room {
             ≡ out.old.items
             ++ texts (map SgrAction (kept depth (map action_of self.new.actions.items)))) }
     {
-        self.actions = terminal_actions(self.alloc, params, false, control)?;
+        terminal_actions_into(self.alloc, params, false, control, &mut self.actions)?;
         append_styles(depth, &self.actions, out)?;
         Ok(())
     }
@@ -209,7 +209,8 @@ impl Room {
         }
         match read_csi_into(params, front) {
             Ok(tail) => {
-                self.actions = terminal_actions(self.alloc, params, false, tail.control)?;
+                let actions = &mut self.actions;
+                terminal_actions_into(self.alloc, params, false, tail.control, actions)?;
                 Ok(front.len() - tail.rest.len())
             }
             Err(ReadError::Memory) => Err(AllocError),

@@ -11,6 +11,7 @@ use Rattle.csicodec_clean.proofs.PlainBytes.{all_both}
 use Rattle.csicodec_clean.proofs.Styled.{styles as styled_as}
 use Rattle.csicodec_lines.specs.Stream.{ended}
 use Rattle.csicodec_lines.proofs.Texts.{ended_on, of_on}
+use Rattle.csicodec_overwrite.specs.declared.marking.Marking.TheVariants.{Plain, Styled}
 use Rattle.csicodec_overwrite.specs.Stream.{Ending, Now, Passes, begun_as}
 use Rattle.csicodec_overwrite.proofs.Written.{passes_on, shows}
 use Rattle.csicodec_tool.specs.declared.log.Log.{Log}
@@ -46,16 +47,16 @@ pub plain_part : (old new : Log) (part text : List ℕ) → old.styles ≡ None 
 plain_part old new part text is now passes = (
   ap passing_of now ∙ sym (ap passing_of is),
   λ line own at.
-      let before : Passes (begun_as false) line own old.line = subst (λ (o : Option Styles). IsIn o old.line line own) is at in
+      let before : Passes (begun_as Plain) line own old.line = subst (λ (o : Option Styles). IsIn o old.line line own) is at in
       subst (λ (o : Option Styles). IsIn o new.line (line ++ part) (own ++ text)) (sym now)
-      (passes_on (begun_as false) old.line new.line line part own text before passes),
+      (passes_on (begun_as Plain) old.line new.line line part own text before passes),
 )
 
 -- and its end
 pub plain_end : (old : Log) (rest : List ℕ) → old.styles ≡ None → Ending old.line rest → EndsLog old rest
 plain_end old rest is ends line own at =
-    let before : Passes (begun_as false) line own old.line = subst (λ (o : Option Styles). IsIn o old.line line own) is at in
-    subst (λ (o : Option Styles). IsLogged (passing_of o) line (own ++ rest)) (sym is) (shows false line own rest old.line before ends)
+    let before : Passes (begun_as Plain) line own old.line = subst (λ (o : Option Styles). IsIn o old.line line own) is at in
+    subst (λ (o : Option Styles). IsLogged (passing_of o) line (own ++ rest)) (sym is) (shows Plain line own rest old.line before ends)
 
 -- the same with its styles
 pub styled_part : (old new : Log) (s t : Styles) (part text more : List ℕ) → old.styles ≡ Some s → new.styles ≡ Some t → t.passing ≡ s.passing
@@ -66,7 +67,7 @@ styled_part old new s t part text more is now same passes takes = (
       let (painted, before, taken) = subst (λ (o : Option Styles). IsIn o old.line line own) is at in
       subst (λ (o : Option Styles). IsIn o new.line (line ++ part) (own ++ more)) (sym now) (
         painted ++ text,
-        passes_on (begun_as true) old.line new.line line part painted text before passes,
+        passes_on (begun_as Styled) old.line new.line line part painted text before passes,
         subst (λ (p : Passing). Takes (keeps (λ (k : Keeping). k)) (start_of (first_kept p)) (painted ++ text) (own ++ more) t.cleaner) (sym same)
             (takes_on (keeps (λ (k : Keeping). k)) (start_of (first_kept s.passing)) s.cleaner t.cleaner painted text own more taken takes),
       ),
@@ -83,7 +84,7 @@ styled_end old s mid text more close is ends takes closes line own at =
     let left = shown_text mid.held ++ close in
     subst (λ (o : Option Styles). IsLogged (passing_of o) line (own ++ (more ++ left))) (sym is) (
       painted ++ text,
-      shows true line painted text old.line before ends,
+      shows Styled line painted text old.line before ends,
       subst (StylesIn s.passing (painted ++ text)) (append_assoc own more left)
           (styled_as (λ (k : Keeping). k) s.passing (first_kept s.passing) (painted ++ text) ((own ++ more) ++ left) refl
           (at_end Gives (resets (λ (k : Keeping). k)) (first_kept s.passing) (painted ++ text) (own ++ more) close mid whole closes)),
@@ -144,13 +145,13 @@ logged first bytes text (last, sure, rest, (kept, log), ends, split) =
 
 -- what stands in a line is more than is sure of it
 told_front : (styles : Option Styles) (at : Now) (line own : List ℕ) → IsIn styles at line own → (more : List ℕ) × IsLoggedFront (passing_of styles) line (own ++ more)
-told_front None at line own passes = (_, shows false line own _ at passes refl)
+told_front None at line own passes = (_, shows Plain line own _ at passes refl)
 told_front (Some s) at line own (painted, passes, takes) = (
   _,
   (
     painted,
     _,
-    shows true line painted _ at passes refl,
+    shows Styled line painted _ at passes refl,
     styled_as (λ (k : Keeping). k) s.passing (first_kept s.passing) painted _ refl
         (at_end (keeps (λ (k : Keeping). k)) (resets (λ (k : Keeping). k)) (first_kept s.passing) painted own _ s.cleaner takes refl),
   ),

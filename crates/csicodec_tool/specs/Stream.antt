@@ -1,9 +1,10 @@
 -- A log as it comes, chunk by chunk.
-use Rattle.std.specs.Prelude.{ℕ, ◌≡◌, true, false, List, [], ◌++◌, Option, None, Some}
+use Rattle.std.specs.Prelude.{ℕ, ◌≡◌, List, [], ◌++◌, Option, None, Some}
 use Rattle.csicodec_filter.specs.Transform.{EndsOf, PassesOf}
 use Rattle.csicodec_clean.specs.Stream.{Takes, start_of}
 use Rattle.csicodec_clean.specs.Styled.{Keeping, first_kept, keeps}
 use Rattle.csicodec_clean.specs.declared.styles.Passing.{Passing}
+use Rattle.csicodec_overwrite.specs.declared.marking.Marking.TheVariants.{Plain, Styled}
 use Rattle.csicodec_overwrite.specs.Stream.{Now, Passes, begun_as}
 use Rattle.csicodec_tool.specs.declared.log.Log.{Log}
 use Rattle.csicodec_tool.specs.declared.log.Styles.{Styles}
@@ -15,8 +16,8 @@ passing_of (Some s) = Some s.passing
 
 -- the line that isn't over has these bytes, and of them this text is sure
 abbrev pub IsIn : Option Styles → Now → List ℕ → List ℕ → Type 0
-IsIn None at line text = Passes (begun_as false) line text at
-IsIn (Some s) at line text = (painted : List ℕ) × Passes (begun_as true) line painted at
+IsIn None at line text = Passes (begun_as Plain) line text at
+IsIn (Some s) at line text = (painted : List ℕ) × Passes (begun_as Styled) line painted at
     × Takes (keeps (λ (k : Keeping). k)) (start_of (first_kept s.passing)) painted text s.cleaner
 
 -- that line goes on with these bytes, of which this text is sure

@@ -152,7 +152,7 @@ pub fn rewrite_cast<R: BufRead, W: Write>(
         let Some(text) = reading.next_line(input, &mut line)? else {
             break;
         };
-        let Some(data) = reading.take(text)? else {
+        let Some(data) = reading.take(text.as_bytes())? else {
             send_line(alloc, stage, text, output)?;
             continue;
         };
@@ -188,7 +188,7 @@ pub fn unwrap_cast<R: BufRead, W: Write>(
         let Some(text) = reading.next_line(input, &mut line)? else {
             break;
         };
-        if let Some(data) = reading.take(text)? {
+        if let Some(data) = reading.take(text.as_bytes())? {
             out.clear();
             stage.push(data.as_bytes(), &mut out).map_err(no_memory)?;
             send(output, &out)?;
@@ -209,7 +209,7 @@ pub(crate) fn written_of<R: BufRead>(alloc: Global, input: &mut R) -> Result<Vec
         let Some(text) = reading.next_line(input, &mut line)? else {
             break;
         };
-        if let Some(data) = reading.take(text)? {
+        if let Some(data) = reading.take(text.as_bytes())? {
             written
                 .extend_from_slice(data.as_bytes())
                 .map_err(no_memory)?;

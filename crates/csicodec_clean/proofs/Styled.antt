@@ -1,17 +1,21 @@
 -- Styles and links that stay between the runs of text.
 use Rattle.std.proofs.Common.{◌≡◌, ℕ, Bool, true, false, List, [], ◌∷◌, ◌++◌, map, encode_utf8, encode_utf8_all, length, refl, sym, ap, subst, ◌∙◌, append_assoc, append-nil, arith}
 use Rattle.std.specs.Prelude.{filter, not, ◌==◌, if◌then◌else◌}
-use Rattle.std.specs.List.{AllByRecursion}
+use Rattle.std.specs.List.{AllByRecursion, Contains}
 use Rattle.std.specs.Str.{all_scalars}
 use Rattle.std.proofs.lemmas.Bool.{and_parts}
+use Rattle.std.proofs.lemmas.List.Elements.{Contains-append_right}
 use Rattle.std.proofs.lemmas.Grind.{flat_map-append}
 use lib.Utf8.{scalar}
 use Rattle.bstr.specs.Utf8.{lossy_chars}
+use Rattle.csicodec_tokens.specs.declared.param.CsiParam.{CsiParam}
+use Rattle.csicodec_tokens.specs.Sequence.{Seq}
 use Rattle.csicodec_base.specs.declared.sgr.Sgr.{Sgr}
 use Rattle.csicodec_base.specs.declared.sgr.Sgr.TheVariants as sgr
 use Rattle.csicodec_actions.specs.Actions.{Action}
 use Rattle.csicodec_actions.specs.Actions as action
 use Rattle.csicodec_actions.specs.Table.{text, texts}
+use Rattle.csicodec_parser.specs.Segments.{Actions}
 use Rattle.csicodec.specs.Exact.{ReadsAlone}
 use Rattle.csicodec.proofs.RoundTrip.{round_trip_lem}
 use Rattle.csicodec_spans.specs.declared.table.Kind.{Kind}
@@ -29,7 +33,6 @@ use Rattle.csicodec_clean.proofs.Linked.{fine_behind, fine_links, linked_on, lin
 use Rattle.csicodec_clean.proofs.Reduced.{reduced_alone, reduced_hides, reduced_twice}
 use Rattle.csicodec_clean.proofs.Plain.{kept_shown, scalars_lossy}
 use Rattle.csicodec_clean.proofs.PlainBytes.{all_both}
-use Rattle.csicodec_clean.proofs.Taken.{StyleAlone, taken_alone}
 
 -- ---- one action behind the other
 
@@ -272,14 +275,17 @@ safe_chars d (c ∷ cs) a h = let both = and_parts (scalar c) (all_scalars cs) a
 safe_run : (d : Passing) (run : List ℕ) → AllByRecursion (IsSafe d) (shown_items run)
 safe_run d run = let k = kept_shown (lossy_chars run) (scalars_lossy run) in safe_chars d (filter shown (lossy_chars run)) k.0 k.1
 
-safe_kept : (d : Passing) (actions : List Action) → AllByRecursion StyleAlone actions → AllByRecursion (IsSafe d) (map Style (kept d.depth actions))
-safe_kept d [] all = tt
-safe_kept d (action.Sgr s ∷ xs) all = by (safe_kept d xs all.1) (hides s) refl
+safe_kept : (d : Passing) (actions : List Action) → ((s : Sgr) → Contains actions (action.Sgr s) → ReadsAlone (action.Sgr s) false) → AllByRecursion (IsSafe d) (map Style (kept d.depth actions))
+safe_kept d [] f = tt
+safe_kept d (action.Sgr s ∷ xs) f = by (safe_kept d xs (λ t h. f t (Contains-append_right (action.Sgr s ∷ []) xs (action.Sgr t) h))) (hides s) refl
   where
     by : AllByRecursion (IsSafe d) (map Style (kept d.depth xs)) → (b : Bool) → hides s ≡ b → AllByRecursion (IsSafe d) (map Style (if b then kept d.depth xs else reduced d.depth s ∷ kept d.depth xs))
     by rest true e = rest
-    by rest false e = ((reduced_hides d.depth s ∙ e, reduced_alone d.depth s all.0, reduced_twice d.depth s), rest)
-safe_kept d (x ∷ xs) all = safe_kept d xs all.1
+    by rest false e = ((reduced_hides d.depth s ∙ e, reduced_alone d.depth s (f s (0, omega arith, refl)), reduced_twice d.depth s), rest)
+safe_kept d (x ∷ xs) f = safe_kept d xs (λ t h. f t (Contains-append_right (x ∷ []) xs (action.Sgr t) h))
+
+alone : (list : List CsiParam) (final : ℕ) (bytes : List ℕ) (actions : List Action) → Seq bytes list final → Actions list false final actions → (s : Sgr) → Contains actions (action.Sgr s) → ReadsAlone (action.Sgr s) false
+alone list final bytes actions seq read s one = (round_trip_lem list false final seq.spellable seq.ends actions read).attributes s one
 
 safe_links : (d : Passing) (bytes : List ℕ) (b : Begun) → IsLink b.address → AllByRecursion (IsSafe d) (map Link (links_in d.links b bytes))
 safe_links d bytes b h = by d.links refl
@@ -293,7 +299,7 @@ safe_links d bytes b h = by d.links refl
     by false e = rw (links_none bytes b) tt
 
 safe_part : (d : Passing) (b : Begun) (k : Kind) (bytes : List ℕ) (own : List Item) → IsLink b.address → Leaves d b k bytes own → AllByRecursion (IsSafe d) own
-safe_part d b kind.Csi bytes own h (actions, is, e) = rw e (safe_kept d actions (taken_alone bytes actions is))
+safe_part d b kind.Csi bytes own h (actions, (list, final, seq, read), e) = rw e (safe_kept d actions (alone list final bytes actions seq read))
 safe_part d b kind.Str bytes own h e = rw e (safe_links d bytes b h)
 safe_part d b _ bytes own h e = rw e tt
 

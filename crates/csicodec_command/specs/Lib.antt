@@ -1,4 +1,3 @@
 pub mod Failure
 pub mod Overwrites
-pub mod Recorded
 pub mod Runs

@@ -11,7 +11,6 @@ pub mod laws;
 mod lists;
 mod notes;
 mod runs;
-mod shortener;
 mod spell;
 mod stream;
 

@@ -1,2 +1,3 @@
 pub mod Marked
+pub mod Through
 pub mod Turns

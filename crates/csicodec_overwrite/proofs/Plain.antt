@@ -47,7 +47,7 @@ use Rattle.csicodec_overwrite.specs.Paint.{IsInRange}
 use Rattle.csicodec_overwrite.specs.Steps.{by_code, of_action, of_actions, of_char, of_chars, of_code, of_control, of_cursor, of_device, of_display, of_edit, of_escape, of_final, of_mode, of_part, of_reset, of_run, of_sequence, of_set, of_string, of_string_byte, of_terminal_code, of_terminal_mode, of_wrong, of_wrong_byte}
 use Rattle.csicodec_overwrite.specs.Reading.{AreOfParts, IsOfPart, Overwrites, Steps, most}
 use Rattle.csicodec_overwrite.proofs.Kept.{OfStep, of_shown}
-use Rattle.csicodec_clean.proofs.Taken.{taken_range}
+use Rattle.csicodec_overwrite.proofs.Taken.{taken_range}
 use Rattle.csicodec_overwrite.proofs.Texts.{chars_by, shown_plain}
 
 -- a character that is shown

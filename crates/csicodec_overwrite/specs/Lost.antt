@@ -12,7 +12,6 @@ use Rattle.csicodec_overwrite.specs.declared.step.Step.{Step}
 use Rattle.csicodec_overwrite.specs.declared.step.Step.TheVariants as step
 use Rattle.csicodec_overwrite.specs.Cells.{begins_behind, belongs, chars_of, columns, glyph, is_empty, outside, takes, width, without}
 use Rattle.csicodec_overwrite.specs.Line.{blank, does, fits, fresh, parted, pen_behind, put}
-use Rattle.csicodec_overwrite.specs.Paint.{as_text}
 use Rattle.csicodec_overwrite.specs.Reading.{Shows, most}
 
 -- ---- parts of a line
@@ -111,14 +110,14 @@ times c chars = count_by (λ x. x == c) chars
 
 -- each character that `strip` leaves of the bytes, but for tabs and newlines, is as often in that text or taken in its line
 abbrev pub NothingLost : Type 0
-NothingLost = (painted : Bool) (bytes kept out text : List ℕ) (s : Shows (as_text painted) bytes out) (c : ℕ)
+NothingLost = (painted : Bool) (bytes kept out text : List ℕ) (s : Shows painted bytes out) (c : ℕ)
     → Strips longest bytes kept → Strips longest out text → c ≢ 9 → c ≢ 10
     → times c (lossy_chars kept)
     ≤ times c (lossy_chars text) + times c (all_taken most fresh s.steps blank)
 
 -- and no character, but for blanks and newlines, is more often there or taken than it came
 abbrev pub NothingMade : Type 0
-NothingMade = (painted : Bool) (bytes out text : List ℕ) (s : Shows (as_text painted) bytes out) (c : ℕ)
+NothingMade = (painted : Bool) (bytes out text : List ℕ) (s : Shows painted bytes out) (c : ℕ)
     → Strips longest out text → c ≢ 32 → c ≢ 10
     → times c (lossy_chars text) + times c (all_taken most fresh s.steps blank)
     ≡ times c (all_came most fresh s.steps blank)

@@ -11,7 +11,6 @@ mod fields;
 mod fill;
 mod input;
 mod json;
-mod keyed;
 mod line;
 mod made;
 mod page;

@@ -4,6 +4,7 @@
 
 mod actions;
 mod canonical;
+mod count;
 mod group;
 mod list;
 mod look;
@@ -13,6 +14,7 @@ mod tokens;
 mod xtsmgraphics;
 
 pub use actions::{CSI, Unspecified, append_text};
+pub use count::Count;
 pub use group::Group;
 pub use list::list_into;
 pub use look::Look;

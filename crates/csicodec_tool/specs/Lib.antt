@@ -1,5 +1,3 @@
 pub mod Alone
-pub mod Log
-pub mod Stream
 pub mod Whole
 pub mod Writes

@@ -279,10 +279,6 @@ impl<'a> Worker for Job<'a> {
         Recordings::Known
     }
 
-    fn tells_reasons(&self) -> bool {
-        true
-    }
-
     fn begin<W: Write>(&mut self, _name: &str, _output: &mut W) -> Result<(), Failure> {
         Ok(())
     }

@@ -63,7 +63,7 @@ impl Rewriter {
             Rewriter::PlainLines(lines) => lines.take(bytes, out),
             Rewriter::StyledLines(lines) => lines.take(bytes, out),
             Rewriter::Overwritten(lines) => lines.take(bytes, out),
-            Rewriter::Logged(log) => log.take(bytes, out),
+            Rewriter::Logged(log) => log.push(bytes, out),
         }
     }
 
@@ -96,7 +96,7 @@ impl Rewriter {
             Rewriter::PlainLines(lines) => lines.end(out),
             Rewriter::StyledLines(lines) => lines.end(out),
             Rewriter::Overwritten(lines) => lines.finish(out),
-            Rewriter::Logged(log) => log.end(out),
+            Rewriter::Logged(log) => log.finish(out),
         }
     }
 }
@@ -152,7 +152,7 @@ pub fn rewrite_cast<R: BufRead, W: Write>(
         let Some(text) = reading.next_line(input, &mut line)? else {
             break;
         };
-        let Some(data) = reading.take(text.as_bytes())? else {
+        let Some(data) = reading.take(text)? else {
             send_line(alloc, stage, text, output)?;
             continue;
         };
@@ -188,7 +188,7 @@ pub fn unwrap_cast<R: BufRead, W: Write>(
         let Some(text) = reading.next_line(input, &mut line)? else {
             break;
         };
-        if let Some(data) = reading.take(text.as_bytes())? {
+        if let Some(data) = reading.take(text)? {
             out.clear();
             stage.push(data.as_bytes(), &mut out).map_err(no_memory)?;
             send(output, &out)?;
@@ -209,7 +209,7 @@ pub(crate) fn written_of<R: BufRead>(alloc: Global, input: &mut R) -> Result<Vec
         let Some(text) = reading.next_line(input, &mut line)? else {
             break;
         };
-        if let Some(data) = reading.take(text.as_bytes())? {
+        if let Some(data) = reading.take(text)? {
             written
                 .extend_from_slice(data.as_bytes())
                 .map_err(no_memory)?;

@@ -1,7 +1,6 @@
 //! Colours, in words.
 
 use crate::sgr_words::COLORS;
-use crate::values::tell_number;
 use csicodec_base::ColorSpec;
 use std::fmt;
 
@@ -29,12 +28,7 @@ fn tell_parts<W: fmt::Write>(
     f: &mut fmt::Formatter<W>,
     (red, green, blue, alpha): (u8, u8, u8, u8),
 ) -> fmt::Result {
-    let mut ahead = "rgb ";
-    for part in [red, green, blue] {
-        f.write_str(ahead)?;
-        tell_number(f, i64::from(part))?;
-        ahead = ",";
-    }
+    write!(f, "rgb {red},{green},{blue}")?;
     if alpha == 255 {
         return Ok(());
     }

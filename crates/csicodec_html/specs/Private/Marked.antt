@@ -35,18 +35,6 @@ marked Shut = 1 ∷ (codes "/a" ++ 2 ∷ [])
 abbrev pub all_marked : List Piece → List ℕ
 all_marked pieces = flat_map marked pieces
 
--- the same as it stands on the page
-abbrev pub classed_tag : Look → List ℕ
-classed_tag l = codes "<span" ++ (names 34 false (classes_of l) ++ (rest_attribute 34 l ++ 62 ∷ []))
-
-abbrev pub styled_tag : Palette → Look → List ℕ
-styled_tag p l = codes "<span style=\"" ++ (css p l ++ codes "\">")
-
-abbrev pub begin_tag : Markup → Look → List ℕ
-begin_tag m l =
-    if m.classes then classed_tag (settled m.palette l)
-    else styled_tag m.palette (settled m.palette l)
-
 -- a byte on the page
 abbrev pub page_byte : ℕ → List ℕ
 page_byte b =

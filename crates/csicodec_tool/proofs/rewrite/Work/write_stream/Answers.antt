@@ -2,7 +2,7 @@ use Rattle.csicodec_clean.specs.Styled.{StylesIn}
 use Rattle.csicodec_lines.specs.Lines.{ByLines}
 use Rattle.csicodec_html.specs.Page.{PageWith}
 use Rattle.csicodec_tool.specs.Writes.{FrontsOf, FrontsOfPainted, PaintedPage}
-use Rattle.csicodec_tool.proofs.Written.{by_same, painted_written, run_written, streams_written}
+use Rattle.csicodec_tool.proofs.Written.{by_same, painted_written, run_written, some_written, streams_written}
 use Rattle.csicodec_tool.proofs.rewrite.Work.write_stream.Goals as goal
 
 pub returns-in-Filter-true : goal.returns-in-Filter-true
@@ -20,7 +20,7 @@ returns-in-Filter g c =
 pub returns-in-Compact : goal.returns-in-Compact
 returns-in-Compact g c =
     let run = c.compact_all.ensures in
-    rw c.in-Compact.is (run_written _ _ c.compact_all.result _ _ _ _ run.ok run.end run.front)
+    rw c.in-Compact.is (run_written _ c.compact_all.result _ _ _ _ run.ok run.end run.front)
 
 pub returns-in-Strip-true : goal.returns-in-Strip-true
 returns-in-Strip-true g c =
@@ -38,9 +38,7 @@ returns-in-Overwrite g c =
     rw c.in-Overwrite.is (streams_written _ _ c.overwrite_all.result _ _ _ _ c.overwrite_all.ensures.streams)
 
 pub returns-in-Log : goal.returns-in-Log
-returns-in-Log g c =
-    let run = c.log_all.ensures in
-    rw c.in-Log.is (run_written _ _ c.log_all.result _ _ _ _ run.ok run.end run.front)
+returns-in-Log g c = rw c.in-Log.is (some_written c.log_all.result _ _ _ c.log_all.ensures)
 
 pub returns-in-Clean-default-true : goal.returns-in-Clean-default-true
 returns-in-Clean-default-true g c =

@@ -1,0 +1,3 @@
+-- What private steps say of each other. No promise rests on these files.
+pub mod Front
+pub mod Run

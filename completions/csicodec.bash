@@ -23,7 +23,7 @@ _csicodec() {
         filter) of="--faithful --text --help" ;;
         compact) of="--semicolons --text --help" ;;
         strip) of="--check --lines --log --overwrite --text --help" ;;
-        clean) of="--colors --lines --links --log --text --help" ;;
+        clean) of="--colors --lines --links --log --overwrite --text --help" ;;
         html) of="--classes --fragment --links --no-overwrite --overwrite --palette --help" ;;
         explain) of="--at --color --count --decode --diff --full --grep --ignore-case --input --json --only --quiet --stats --timing --unknown --utf8-mouse --help" ;;
         assemble) of="--help" ;;

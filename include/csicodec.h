@@ -302,15 +302,15 @@ enum csicodec_depth {
 };
 
 /* As csicodec_clean, with the colours of a depth (enum csicodec_depth), and with links if `links` is 1, without if it is 0. A link is
- * an OSC 8 whose address is at most 2,083 visible ASCII characters, and its parameters at most 256. If a link is open at the end, a
- * link without an address closes it. For another depth, and for links above 1, the status is CSICODEC_BAD_STATE. */
+ * an OSC 8 to a host by http or https whose address is at most 2,083 visible ASCII characters, without a user's name, and its parameters
+ * at most 256. One with another address is written without it, and ends the link before it. If a link is open at the end, a link without
+ * an address closes it. For another depth, and for links above 1, the status is CSICODEC_BAD_STATE. */
 struct csicodec_stripped csicodec_clean_with(uint32_t depth, uint32_t links, const uint8_t *bytes, size_t len, uint8_t *out,
                                              size_t room);
 
 /* What a page of HTML is asked to be. Zeros ask for what `csicodec html` writes without options; a number above 1 is CSICODEC_BAD_STATE. */
 struct csicodec_markup {
-    /* 1: links (OSC 8) become links, if the address is one of http or https, of visible ASCII and at most 2,083 bytes. Text is then kept as
-     * with no_overwrite. */
+    /* 1: links (OSC 8) become links, those that csicodec_clean_with keeps. Text is then kept as with no_overwrite. */
     uint32_t links;
     /* 1: attributes become CSS classes in place of styles. A page has the style sheet, a fragment doesn't. */
     uint32_t classes;

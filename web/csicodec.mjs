@@ -434,7 +434,7 @@ export class Codec {
         return this.#written(input, 8, stripCall);
     }
 
-    /** The visible text with its styles. `colors` is 'all', 256 or 16; `links` keeps links whose address is visible ASCII. */
+    /** The visible text with its styles. `colors` is 'all', 256 or 16; `links` keeps links to hosts by http or https. */
     clean(input, options) {
         const { colors, links } = optionsOf(options, { colors: 'all', links: false }), depth = depthOf(colors);
         if (typeof input === 'string' && plainEnd(input) === input.length) return input;

@@ -134,7 +134,7 @@ export interface ExplainOptions {
 }
 
 export interface HtmlOptions {
-    /** Links (OSC 8) become links, if the address is one of http or https; text then stays that was written over. */
+    /** Links (OSC 8) to hosts by http or https become links; text then stays that was written over. */
     links?: boolean;
     /** CSS classes in place of styles. */
     classes?: boolean;
@@ -158,7 +158,7 @@ export class Codec {
     readonly modules: { library: Module; explain: Module };
     /** The visible text: no control but newline and tab. Of a string a string, of bytes bytes. */
     strip<T extends Input>(input: T): T extends string ? string : Uint8Array;
-    /** The visible text with its styles; with `links` also links whose address is visible ASCII. */
+    /** The visible text with its styles; with `links` also links to hosts by http or https. */
     clean<T extends Input>(input: T, options?: { colors?: Colors; links?: boolean }): T extends string ? string : Uint8Array;
     /** A page of HTML with the text, its colours and styles, each line as it stands when it ends. */
     html<T extends Input>(input: T, options?: HtmlOptions): T extends string ? string : Uint8Array;

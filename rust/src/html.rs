@@ -26,8 +26,7 @@ pub struct Palette {
 #[derive(Clone, Copy, Debug, Default, PartialEq, Eq, Hash)]
 #[cfg_attr(feature = "serde", derive(serde::Serialize, serde::Deserialize))]
 pub struct Markup {
-    /// Whether links (OSC 8) become links, if the address is one of http or https, of visible ASCII and at most 2,083 bytes. Text is then
-    /// kept as with `no_overwrite`.
+    /// Whether links (OSC 8) become links, those that [`clean_with`](crate::clean_with) keeps. Text is then kept as with `no_overwrite`.
     pub links: bool,
     /// Whether attributes become CSS classes in place of styles. A page has the style sheet, a fragment doesn't.
     pub classes: bool,

@@ -56,7 +56,8 @@ impl Depth {
 pub struct Passing {
     /// Which colours stay.
     pub depth: Depth,
-    /// Whether links (OSC 8) pass, if the address is at most 2,083 bytes of visible ASCII, and the parameters at most 256.
+    /// Whether links (OSC 8) pass, to a host by http or https, if the address is at most 2,083 bytes of visible ASCII, without a user's
+    /// name, and the parameters at most 256. One with another address is written without it, and ends the link before it.
     pub links: bool,
 }
 

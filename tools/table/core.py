@@ -108,7 +108,7 @@ def written_lines(actions):
         yield f"written_{action.subject.lower()} ({value(action)} {numbers(action)}) = {said}"
 
 
-# ---- csicodec_lists and csicodec_c
+# ---- the lists of csicodec_actions, and csicodec_c
 
 
 def read_arms(actions):
@@ -219,7 +219,7 @@ def of_subject(subject, said):
     yield table, Part(list(row_lines(actions)), (f"{name_of}_rows =",), said["row"])
     yield table, Part(list(written_lines(actions)), (f"abbrev pub written_{name_of} : {name_of}_type.{subject.name} → Written",), said["written"])
     head = f"pub fn {name_of}_action(params: &[CsiParam], control: char) -> Option<{subject.name}>"
-    yield f"crates/csicodec_lists/src/{name_of}.rt", Part("\n".join(read_arms(actions)).split("\n"), (head, "    match control {"), said["read"])
+    yield f"crates/csicodec_actions/src/lists/{name_of}.rt", Part("\n".join(read_arms(actions)).split("\n"), (head, "    match control {"), said["read"])
     yield from tests(actions, name_of)
 
 
@@ -230,7 +230,7 @@ def of_cursor(actions):
     yield front, Part(list(front_arms(two)), ("fn moved_to(first: u32, second: u32, control: u8) -> Option<Cursor>", "    match control {"), "        b'r' => Some(Cursor::SetTopAndBottomMargins {")
     lists = "TwoCounts final make = (list : List CsiParam) → as_cursor list final ≡ option_map (λ (p : ℕ × ℕ). Cursor (make p.0 p.1)) (given (paired (λ a b. (a, b))) list)"
     counts = [*proofs(one + two, "-", ("Counts", "TwoCounts"), ("one-count", "two-counts"), "Cursor"), ruleset("finals", map(name, one + two))]
-    yield "crates/csicodec_lists/proofs/Finals.antt", Part("\n".join(counts).split("\n"), (lists, ""), None)
+    yield "crates/csicodec_actions/proofs/Finals.antt", Part("\n".join(counts).split("\n"), (lists, ""), None)
     types, makes = ("OneMove", "TwoMoves"), ("one_count", "two_counts")
     named = lambda actions: [name(action, "_") for action in actions]
     moves = [*proofs(one, "_", types, makes, "Moves"), ruleset("counted", named(one)) + "\n", *proofs(two, "_", types, makes, "Moves")]

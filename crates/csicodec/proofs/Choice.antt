@@ -22,7 +22,7 @@ use Rattle.csicodec_actions.specs.Table.Path.{path_rows, as_path}
 use Rattle.csicodec_actions.specs.Table.Window.{areas, windows, window_fields, as_window}
 use Rattle.csicodec_actions.specs.Table.{all_subjects, whole}
 use Rattle.csicodec_actions.proofs.Found.{guarded, map-some, one-of}
-use Rattle.csicodec_lists.proofs.AllRows.{AllRows, row-in}
+use Rattle.csicodec_actions.proofs.AllRows.{AllRows, row-in}
 use Rattle.csicodec_parser.specs.declared.group.Group.TheVariants as groups
 use Rattle.csicodec_parser.specs.Groups.{dec_group, group, is_byte, plain_group}
 use Rattle.csicodec.specs.WhichRules as rule

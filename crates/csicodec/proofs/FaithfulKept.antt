@@ -15,7 +15,7 @@ use Rattle.csicodec_actions.specs.Special.{IsSpecial, NoneSpecial}
 use Rattle.csicodec_actions.specs.Table.{table, field_table, texts, whole}
 use Rattle.csicodec_actions.proofs.AllFieldRows.{FieldRowsKeep, fields-keep}
 use Rattle.csicodec_actions.proofs.Found.{one-of}
-use Rattle.csicodec_lists.proofs.AllRows.{AllRows, Keeps, all-append, no-tokens, row-in, table-keeps, whole-table}
+use Rattle.csicodec_actions.proofs.AllRows.{AllRows, Keeps, all-append, no-tokens, row-in, table-keeps, whole-table}
 use Rattle.csicodec_parser.specs.declared.group.Group.{Group}
 use Rattle.csicodec_parser.specs.declared.group.Group.TheVariants as groups
 use Rattle.csicodec_parser.specs.Groups.{group, has_odd, is_byte, Piece}

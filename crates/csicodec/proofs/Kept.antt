@@ -38,7 +38,7 @@ use Rattle.csicodec_actions.specs.Table.Window.{window_fields}
 use Rattle.csicodec_actions.specs.Table.{table, field_table, whole}
 use Rattle.csicodec_actions.specs.declared.device.DeviceAttribute.{DeviceAttribute}
 use Rattle.csicodec_actions.proofs.AllFieldRows.{FieldsKeep, FieldRowsKeep, KeepsRest}
-use Rattle.csicodec_lists.proofs.AllRows.{KeepsTail, TableKeeps, all-append, table-append, spellable-tokens, whole-keeps}
+use Rattle.csicodec_actions.proofs.AllRows.{KeepsTail, TableKeeps, all-append, table-append, spellable-tokens, whole-keeps}
 use Rattle.csicodec.proofs.Twins.{IsParsedSpecial}
 use Rattle.csicodec_actions.proofs.Values.{dec-read, terminal-read, good-read, one-fits, most-fits, zero-said}
 

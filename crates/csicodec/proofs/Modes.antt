@@ -17,8 +17,8 @@ use Rattle.csicodec_actions.specs.Modes.{changed, switched, dec_number, terminal
 use Rattle.csicodec_parser.specs.Segments.{Actions}
 use Rattle.csicodec_actions.specs.Table.Mode.{written_mode}
 use Rattle.csicodec_actions.specs.Written.{tokens, AllGood}
-use Rattle.csicodec_lists.proofs.Back.{IsPiece, read-back}
-use Rattle.csicodec_lists.proofs.Items.{is_sound, sound}
+use Rattle.csicodec_actions.proofs.Back.{IsPiece, read-back}
+use Rattle.csicodec_actions.proofs.Items.{is_sound, sound}
 use Rattle.csicodec.proofs.Spelling.{Spelling, written-spelling, cut-one, stuck-empty}
 use Rattle.csicodec_actions.proofs.Values.{read-good}
 

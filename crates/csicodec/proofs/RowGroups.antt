@@ -9,7 +9,7 @@ use Rattle.csicodec_actions.specs.Rows.{Slot, Byte, Number, One, fits, has_shape
 use Rattle.csicodec_actions.specs.FieldRows.{read_fields}
 use Rattle.csicodec_actions.specs.Table.{table, field_table, whole}
 use Rattle.csicodec_actions.proofs.AllFieldRows.{over-in}
-use Rattle.csicodec_lists.proofs.AllRows.{AllRows, row-in, whole-table}
+use Rattle.csicodec_actions.proofs.AllRows.{AllRows, row-in, whole-table}
 use Rattle.csicodec_actions.proofs.Found.{guarded, one-of}
 use Rattle.csicodec_parser.specs.declared.group.Group.TheVariants as groups
 use Rattle.csicodec_parser.specs.Groups.{group_by, group, is_byte, dec_group, plain_group}

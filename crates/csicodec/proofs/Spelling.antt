@@ -16,7 +16,7 @@ use Rattle.csicodec_parser.specs.Segments.{Actions}
 use Rattle.csicodec_actions.specs.Table.{text, whole}
 use Rattle.csicodec_actions.specs.Written.{Written, tokens, written_text, AllGood}
 use Rattle.csicodec_parser.proofs.Fronts.{front_stuck, front_empty}
-use Rattle.csicodec_lists.proofs.Items.{sound, IsRead}
+use Rattle.csicodec_actions.proofs.Items.{sound, IsRead}
 use Rattle.csicodec.proofs.RowGroups.{whole-group}
 use Rattle.csicodec_streams.proofs.OneReading.{decodes-one, Alone}
 

@@ -19,7 +19,7 @@ use Rattle.csicodec_parser.specs.Segments.{remainder, empty_action, BodyActions,
 use Rattle.csicodec.specs.Suffix.{IsSuffix, changes_private, EndsUnknown, SuffixLaw}
 use Rattle.csicodec_actions.specs.Table.{table, field_table, Whole}
 use Rattle.csicodec_actions.proofs.AllFieldRows.{FieldRowsKeep}
-use Rattle.csicodec_lists.proofs.AllRows.{TableKeeps, no-tokens, whole-keeps}
+use Rattle.csicodec_actions.proofs.AllRows.{TableKeeps, no-tokens, whole-keeps}
 use Rattle.csicodec_parser.proofs.GroupOf.{marked-body}
 
 -- whether a `?` is put ahead of what is unknown behind a piece

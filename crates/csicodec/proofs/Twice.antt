@@ -8,7 +8,7 @@ use Rattle.csicodec_parser.specs.Canonical.{Canonical}
 use Rattle.csicodec_streams.specs.Decoding.{Joins, AreActions, Decodes}
 use Rattle.csicodec.specs.Streams.{IsNormal, NormaliseTwice, Join}
 use Rattle.csicodec_actions.specs.Table.{text, texts}
-use Rattle.csicodec_lists.proofs.AllRows.{all-append}
+use Rattle.csicodec_actions.proofs.AllRows.{all-append}
 use Rattle.csicodec.proofs.Alone.{canonical-alone}
 use Rattle.csicodec.proofs.Kept.{Kept}
 use Rattle.csicodec_streams.proofs.OneReading.{decodes-append}

@@ -14,8 +14,8 @@ use Rattle.csicodec_actions.specs.Ranges.{InRange}
 use Rattle.csicodec_actions.specs.Special.{IsSpecial}
 use Rattle.csicodec_actions.specs.Table.Device.{written_parameters}
 use Rattle.csicodec_actions.specs.Table.{text, whole}
-use Rattle.csicodec_lists.proofs.AllRows.{whole-table}
-use Rattle.csicodec_lists.proofs.Items.{is_sound, sound}
+use Rattle.csicodec_actions.proofs.AllRows.{whole-table}
+use Rattle.csicodec_actions.proofs.Items.{is_sound, sound}
 
 -- the special actions that parsing makes
 abbrev pub IsParsedSpecial : Action → Type 0

@@ -2,7 +2,7 @@
 use Rattle.std.proofs.Common.{Bool, refl}
 use Rattle.csicodec_actions.specs.Actions.{Action, Sgr, Mode, Unspecified}
 use Rattle.csicodec_actions.specs.Table.{written}
-use Rattle.csicodec_lists.proofs.Back.{read-back}
+use Rattle.csicodec_actions.proofs.Back.{read-back}
 use Rattle.csicodec_parser.specs.Canonical.{IsCanonicalWritten}
 use Rattle.csicodec.proofs.Modes.{mode-spelling}
 use Rattle.csicodec.proofs.Spelling.{Spelling, written-spelling}

@@ -20,9 +20,10 @@ pub use csicodec_base::{
 };
 pub use csicodec_filter::{Faithful, Filter, NormalForm, Rewrite, append_spans, filter_all};
 pub use csicodec_parser::{
-    ActionRef, CSI, CSIParser, Count, Look, ParseGraphics, Run, Tokens, Unspecified,
+    ActionRef, CSI, CSIParser, Look, ParseGraphics, Run, Tokens, Unspecified,
 };
 pub use csicodec_streams::{
     DecodeError, RunError, decode_all, encode, encode_all, normal_form, normalise, parse_all,
     parse_all_over,
 };
+pub use csicodec_tokens::Count;

@@ -6,3 +6,10 @@ pub mod FieldsAt
 pub mod AllFieldRows
 pub mod GraphicsBehind
 pub mod OwnNumbers
+pub mod AllRows
+pub mod Boxed
+pub mod Disjoint
+pub mod FieldsApart
+pub mod Finals
+pub mod Items
+pub mod Back

@@ -33,7 +33,7 @@ use Rattle.csicodec_actions.specs.Actions as action
 -- ---- lists that are read whole
 
 -- The action of a list before a final character, subject by subject, where it is made without memory. The order of the subjects doesn't
--- matter, here and below: no list is read by two (law `rows` of csicodec_lists).
+-- matter, here and below: no list is read by two (law `rows`).
 unfoldable pub unboxed : List CsiParam → ℕ → Option Action
 unboxed list final =
     option_or (as_cursor list final)
@@ -64,7 +64,7 @@ table = cursor_rows ++ (edit_rows ++ (mode_rows ++ (mouse_rows ++ (keyboard_rows
 abbrev pub field_table : List (Over Action)
 field_table = window_fields ++ graphics_fields
 
--- The order of rows and subjects doesn't matter (law `rows` of csicodec_lists): what any row of the final gives is the action, and so is what
+-- The order of rows and subjects doesn't matter (law `rows`): what any row of the final gives is the action, and so is what
 -- any row over fields gives.
 abbrev pub RowsDecide : List CsiParam → ℕ → Type 0
 RowsDecide list final = (r : Row Action) (action : Action) → Contains (rows_before table final) r

@@ -1,5 +1,5 @@
-//! The actions of control sequences, subject by subject: the table of the lists that stand for them, how they are written, and
-//! which of them are read back from their own texts.
+//! The actions of control sequences, subject by subject: the table of the lists that stand for them, which list is read whole as which
+//! action, how they are written, and which of them are read back from their own texts. `csicodec` exports what is for users.
 #![tactic(auto)]
 
 mod canonical;
@@ -9,6 +9,8 @@ mod edit;
 mod encode;
 pub mod fields;
 mod keyboard;
+pub mod laws;
+mod lists;
 mod mode;
 mod mouse;
 mod path;
@@ -20,6 +22,10 @@ pub use cursor::Cursor;
 pub use device::{Device, DeviceAttribute, DeviceAttributeFlags, DeviceAttributes};
 pub use edit::Edit;
 pub use keyboard::{Keyboard, KittyKeyboardMode};
+pub use lists::{
+    cursor_action, device_action, edit_action, keyboard_action, mode_action, mouse_action,
+    path_action, window_action,
+};
 pub use mode::{Change, DecPrivateMode, Mode, Switch, TerminalMode, XtermKeyModifierResource};
 pub use mouse::{MouseButton, MouseReport};
 pub use path::{CharacterPath, write_path};

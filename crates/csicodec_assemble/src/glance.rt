@@ -27,6 +27,7 @@ fn is_small(number: &str) -> bool
 
 /// Passes a value in which arrays and objects nest no deeper than that.
 #[cycle(pass)]
+#[inline(always)]
 fn pass(reader: &mut Reader<'_>, depth: usize) -> Result<(), Invalid>
     ensures value { OnOk result ((d : Data)
         × (converted of_json (value depth reader.old) ≡ Some (d, reader.new))) }
@@ -45,6 +46,7 @@ fn pass(reader: &mut Reader<'_>, depth: usize) -> Result<(), Invalid>
 }
 
 #[cycle(pass)]
+#[inline(never)]
 fn pass_items(reader: &mut Reader<'_>, depth: usize) -> Result<(), Invalid>
     ensures value { OnOk result ((ds : Items)
         × (converted of_items (items (value depth) (length reader.old) reader.old)
@@ -58,6 +60,7 @@ fn pass_items(reader: &mut Reader<'_>, depth: usize) -> Result<(), Invalid>
 }
 
 #[cycle(pass)]
+#[inline(never)]
 fn pass_members(reader: &mut Reader<'_>, depth: usize) -> Result<(), Invalid>
     ensures value { OnOk result ((found : Members)
         × (converted (λ ms. of_members ms no_members)

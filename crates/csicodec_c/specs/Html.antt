@@ -7,6 +7,7 @@ use Rattle.csicodec_html.specs.declared.palette.Palette.{Palette}
 use Rattle.csicodec_html.specs.Given.{given_palette}
 use Rattle.csicodec_html.specs.Page.{IsPageWith, PageWith, simple}
 use Rattle.csicodec_html.specs.Sheet.{IsTitle, sheet}
+use Rattle.csicodec_overwrite.specs.Paint.{as_text}
 use Rattle.csicodec_overwrite.specs.Reading.{Paints, Shows}
 use Rattle.csicodec_structs.specs.Room.{Fills}
 use Rattle.csicodec_structs.specs.declared.status.Status.TheVariants as status
@@ -81,7 +82,7 @@ pub record IsLined (styles : ℕ) (bytes old new : List ℕ) (answer : Stripped)
   pub painted : Bool
   pub is : styles ≡ bit painted
   pub text : List ℕ
-  pub shows : Shows painted bytes text
+  pub shows : Shows (as_text painted) bytes text
   pub tells : answer ≡ stripped (length text)
   pub fills : Fills old new text
 

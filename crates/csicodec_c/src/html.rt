@@ -1,18 +1,18 @@
 //! Pages of HTML, and each line as it stands when it ends.
-ghost use Rattle.std.specs.Prelude.{◌≡◌, ◌++◌, ◌⊎◌, List, ℕ, IfOk, IfSome, IfNone, map};
+ghost use Rattle.std.specs.Prelude.{◌≡◌, ◌++◌, ◌⊎◌, List, ℕ, false, IfOk, IfSome, IfNone, map};
 ghost use Rattle.csicodec_html.specs.Page.{IsPageWith};
+ghost use Rattle.csicodec_overwrite.specs.Paint.{as_text};
 ghost use Rattle.csicodec_overwrite.specs.Reading.{Shows};
-ghost use Rattle.csicodec_overwrite.specs.Stream.{begun_as};
 ghost use Rattle.csicodec_c.specs.declared.html.Asked.{Asked};
 ghost use Rattle.csicodec_c.specs.Strip.{IsRefused};
-ghost use Rattle.csicodec_c.specs.Html.{IsAsked, IsHtml, IsHtmlRefused, IsLined, IsLinesRefused, IsFramed, IsPieceOf, IsPut, IsWhole, color_of, palette_of};
+ghost use Rattle.csicodec_c.specs.Html.{IsAsked, IsHtml, IsHtmlRefused, IsLined, IsLinesRefused, IsFramed, IsPiece, IsPieceOf, IsPut, IsWhole, color_of, palette_of};
 
 use crate::strip::{Stripped, bit_at, put, refused};
 use csicodec_base::SrgbaTuple;
 use csicodec_html::{
     BEHIND, BODY, HEAD, Markup, Palette, STYLE, UNNAMED, front, given_palette, html_with,
 };
-use csicodec_overwrite::Overwriter;
+use csicodec_overwrite::{Marking, Overwriter};
 use csicodec_structs::Status;
 use std::alloc::{AllocError, Global};
 
@@ -106,25 +106,34 @@ fn choices_of(choices: &Choices, palette: Palette) -> Option<Asked>
     })
 }
 
-/// What writes lines, as plain text or painted.
-fn writer_of(alloc: Global, painted: bool) -> Overwriter
-    ensures { result ≡ begun_as painted }
+/// As what lines are written that are text, painted or not.
+fn as_text(painted: bool) -> Marking
+    ensures { result ≡ as_text painted }
 {
     if painted {
-        return Overwriter::painting(alloc);
+        Marking::Styled
+    } else {
+        Marking::Plain
     }
-    Overwriter::new(alloc)
 }
 
-/// Each line as it stands when it ends, as plain text or painted.
-fn lines_of(alloc: Global, painted: bool, bytes: &[u8]) -> Result<Vec<u8>, AllocError>
-    ensures { IfOk result (λ text. Shows painted bytes.now text.items) }
+/// Each line as it stands when it ends, as what lines are to be written.
+fn lines_of(alloc: Global, marking: Marking, bytes: &[u8]) -> Result<Vec<u8>, AllocError>
+    ensures { IfOk result (λ text. Shows marking bytes.now text.items) }
 {
-    let mut writer = writer_of(alloc, painted);
+    let mut writer = Overwriter::writing(alloc, marking);
     let mut text = Vec::new(alloc);
     writer.push(bytes, &mut text)?;
     writer.finish(&mut text)?;
     Ok(text)
+}
+
+/// The piece of a page that lines become, each as it stands when it ends.
+fn piece_of_lines(alloc: Global, markup: Markup, bytes: &[u8]) -> Result<Vec<u8>, AllocError>
+    ensures piece { IfOk result (λ piece. IsPiece false markup bytes.now piece.items) }
+    ensures safe { IfOk result (λ piece. IsPageWith markup piece.items) }
+{
+    lines_of(alloc, Marking::Page(markup), bytes)
 }
 
 /// The piece of a page that the bytes become.
@@ -135,8 +144,7 @@ fn piece_of(alloc: Global, asked: Asked, bytes: &[u8]) -> Result<Vec<u8>, AllocE
     if asked.no_overwrite || asked.markup.links {
         return html_with(alloc, asked.markup, bytes);
     }
-    let painted = lines_of(alloc, true, bytes)?;
-    html_with(alloc, asked.markup, &painted)
+    piece_of_lines(alloc, asked.markup, bytes)
 }
 
 /// A page of its own.
@@ -214,7 +222,7 @@ pub extern "C" fn csicodec_overwrite(
     let Some(painted) = bit_at(styles) else {
         return refused(Status::BadState);
     };
-    let Ok(text) = lines_of(alloc, painted, bytes) else {
+    let Ok(text) = lines_of(alloc, as_text(painted), bytes) else {
         return refused(Status::Memory);
     };
     put(text.as_slice(), out)

@@ -17,8 +17,8 @@ use Rattle.csicodec_base.specs.SgrText.{sgr_text}
 use Rattle.csicodec_actions.specs.Actions.{Action}
 use Rattle.csicodec_actions.specs.Actions as action
 use Rattle.csicodec_actions.specs.Table.{text}
-use Rattle.csicodec_streams.proofs.OneReading.{one_decoding, one_sequence}
 use Rattle.csicodec.specs.Exact.{ReadsAlone}
+use Rattle.csicodec_terminal.proofs.Unique.{taken_once}
 use Rattle.csicodec_spans.specs.declared.table.Kind.{Kind}
 use Rattle.csicodec_spans.specs.declared.table.Kind.TheVariants as kind
 use Rattle.csicodec_spans.specs.declared.table.Mode.TheVariants as mode
@@ -34,16 +34,17 @@ use Rattle.csicodec_clean.specs.Shown.{shown, shown_text, IsShown}
 use Rattle.csicodec_clean.specs.Titles.{title_open, with_titles}
 use Rattle.csicodec_clean.specs.declared.styles.Passing.{Passing}
 use Rattle.csicodec_clean.specs.declared.links.Place.TheVariants as place
-use Rattle.csicodec_clean.specs.Links.{Address, Begun, IsLink, all_behind, begun, is_linked, is_param, is_visible, link_body, link_text, links_at, links_in, next, start}
+use Rattle.csicodec_clean.specs.Links.{Address, Begun, IsLink, admitted, all_behind, begun, is_linked, is_param, is_visible, link_body, link_text, links_at, links_in, next, start}
 use Rattle.csicodec_clean.specs.Palette.{reduced}
 use Rattle.csicodec_clean.specs.Cleaned.{Strips, stripped, is_text, longest}
-use Rattle.csicodec_clean.specs.Styled.{kept, Item, Shown, Style, Link, item_texts, shown_items, IsOf, Leaves, begun_behind, run_behind, items_behind, AreLeft, is_open, styles_of, links_of, ends_of, closed, StylesIn, IsSafe, IsStyledIn}
+use Rattle.csicodec_clean.specs.Styled.{kept, Item, Shown, Style, Link, item_texts, shown_items, hides, Leaves, begun_behind, run_behind, items_behind, AreLeft, is_open, styles_of, links_of, ends_of, closed, StylesIn, IsSafe, IsStyledIn}
 use Rattle.csicodec_clean.proofs.Shows.{encoded_on, shown_none}
-use Rattle.csicodec_clean.proofs.Linked.{body_read}
+use Rattle.csicodec_clean.proofs.Linked.{body_read, itself}
 use Rattle.csicodec_clean.proofs.Pieces.{piece}
 use Rattle.csicodec_clean.proofs.Plain.{scalars_on}
 use Rattle.csicodec_clean.proofs.PlainBytes.{all_both, one_char}
 use Rattle.csicodec_clean.proofs.Styled.{safe_closed, styled}
+use Rattle.csicodec_clean.proofs.Taken.{style_taken}
 use Rattle.csicodec_clean.proofs.Titles.{single_texts, titles_on}
 use Rattle.csicodec_clean.proofs.Twice.{all_kept, all_text}
 
@@ -56,10 +57,10 @@ parts_of (Shown c ∷ items) = singles kind.Text (encode_utf8 c) ++ parts_of ite
 parts_of (Style s ∷ items) = part kind.Csi (text (action.Sgr s)) ∷ parts_of items
 parts_of (Link a ∷ items) = part kind.Str (27 ∷ 93 ∷ []) ∷ (singles kind.Str (link_body a) ++ part kind.Str (27 ∷ 92 ∷ []) ∷ parts_of items)
 
-style_first : (s : Sgr) (more : List ℕ) → ReadsAlone (action.Sgr s) false → IsFirstPart longest mode.Text (text (action.Sgr s) ++ more) (part kind.Csi (text (action.Sgr s))) more mode.Text
-style_first s more r =
+style_first : (s : Sgr) (more : List ℕ) → ReadsAlone (action.Sgr s) false → hides s ≡ false → IsFirstPart longest mode.Text (text (action.Sgr s) ++ more) (part kind.Csi (text (action.Sgr s))) more mode.Text
+style_first s more r shown =
     let t = text (action.Sgr s) in
-    let p = piece s r in
+    let p = piece s r shown in
     (refl, subst (λ (f : Answer). Allows f longest (t ++ more) kind.Csi t mode.Text) (sym (opens mode.Text (sgr_text s ++ more))) (p.one, p.short, refl))
 
 -- a link opens an OSC, its bytes stay in it, and ST closes it
@@ -87,7 +88,7 @@ params_visible [] h = tt
 params_visible (b ∷ ps) h = ((and_parts (is_visible b) (not (b == 59)) h.0).0, params_visible ps h.1)
 
 body_visible : (a : Address) → IsLink a → AllByRecursion IsVisible (link_body a)
-body_visible a h = (refl, (refl, all_both IsVisible a.params (59 ∷ a.url) (params_visible a.params h.params) (refl, h.url)))
+body_visible a h = (refl, (refl, all_both IsVisible a.params (59 ∷ a.url) (params_visible a.params h.within.params) (refl, h.within.url)))
 
 link_first : (a : Address) (more rest : List ℕ) (ps : List Part) (after : Mode) → IsLink a → AreFirstParts longest mode.Text more ps rest after
     → AreFirstParts longest mode.Text (link_text a ++ more) (part kind.Str (27 ∷ 93 ∷ []) ∷ (singles kind.Str (link_body a) ++ part kind.Str (27 ∷ 92 ∷ []) ∷ ps)) rest after
@@ -106,7 +107,7 @@ first_parts d (Shown c ∷ items) h =
     let more = item_texts items in
     parts_on longest (singles kind.Text bs) (parts_of items) mode.Text (bs ++ more) more [] mode.Text mode.Text
     (parts_more longest (singles kind.Text bs) mode.Text bs more [] mode.Text (all_text longest bs (one_char c h.0.0))) (first_parts d items h.1)
-first_parts d (Style s ∷ items) h = (item_texts items, mode.Text, style_first s (item_texts items) h.0.1, first_parts d items h.1)
+first_parts d (Style s ∷ items) h = (item_texts items, mode.Text, style_first s (item_texts items) h.0.1 h.0.0, first_parts d items h.1)
 first_parts d (Link a ∷ items) h = link_first a (item_texts items) [] (parts_of items) mode.Text h.0.1 (first_parts d items h.1)
 
 whole_items : (d : Passing) (items : List Item) → AllByRecursion (IsSafe d) items → IsWhole longest mode.Text (item_texts items) (parts_of items)
@@ -253,11 +254,8 @@ strip_cleaned d bytes styles plain other s p t =
 
 -- ---- cleaned
 
-pub of_once : (bytes : List ℕ) (xs ys : List Action) → IsOf bytes xs → IsOf bytes ys → xs ≡ ys
-of_once bytes xs ys (l, f, s, a) (m, g, t, b) = one_decoding bytes false xs ys (one_sequence bytes l f xs s a) (one_sequence bytes m g ys t b)
-
 leaves_once : (d : Passing) (b : Begun) (k : Kind) (bytes : List ℕ) (xs ys : List Item) → Leaves d b k bytes xs → Leaves d b k bytes ys → xs ≡ ys
-leaves_once d b kind.Csi bytes xs ys (own, one, e) (others, two, f) = e ∙ ap (λ (x : List Action). map Style (kept d.depth x)) (of_once bytes own others one two) ∙ sym f
+leaves_once d b kind.Csi bytes xs ys (own, one, e) (others, two, f) = e ∙ ap (λ (x : List Action). map Style (kept d.depth x)) (taken_once bytes own others one two) ∙ sym f
 leaves_once d b _ bytes xs ys e f = e ∙ sym f
 
 left_once : (d : Passing) (b : Begun) (ps : List Part) (run : List ℕ) (xs ys : List Item) → AreLeft d b run ps xs → AreLeft d b run ps ys → xs ≡ ys
@@ -325,7 +323,7 @@ left_link d a params url cs ps out fine h =
     let body = link_body a in
     let end = part kind.Str (27 ∷ 92 ∷ []) ∷ ps in
     let run = encode_utf8_all cs in
-    let read = body_read a params url fine in
+    let read = body_read a params url fine.within in
     let (first, e, rest) = left_part p (begun place.Outside params url) (27 ∷ 93 ∷ []) run (singles kind.Str body ++ end) out h in
     let mid = left_bytes p (begun place.Opened params url) body end first rest in
     let none : first ≡ mid.others = mid.links ∙ ap (λ (x : List Address). map Link x ++ mid.others) read.0 in
@@ -333,7 +331,7 @@ left_link d a params url cs ps out fine h =
     let (others, f, last) = left_part p (begun place.Url a.params a.url) (27 ∷ 92 ∷ []) [] ps mid.others inside in
     record {
       others = others;
-      link = e ∙ ap (λ (x : List Item). shown_items run ++ x) (none ∙ f ∙ ap (λ (x : List Item). x ++ (Link a ∷ others)) none_items);
+      link = e ∙ ap (λ (x : List Item). shown_items run ++ x) (none ∙ f ∙ ap (λ (x : List Item). x ++ (Link (admitted a) ∷ others)) none_items ∙ ap (λ (x : Address). Link x ∷ others) (itself a fine));
       left = last;
     }
 
@@ -348,9 +346,9 @@ left_again d (Shown c ∷ items) params url cs out a h safe l =
     let grown : AreLeft d b (encode_utf8_all (cs ++ c ∷ [])) (parts_of items) out = subst (λ (r : List ℕ). AreLeft d b r (parts_of items) out) (sym (more_encoded cs c)) moved in
     left_again d items params url (cs ++ c ∷ []) out (more_scalars cs c a one) (all_both IsShown cs (c ∷ []) h (here, tt)) safe.1 grown ∙ ap (λ (x : List Item). x ++ items) (map-append Shown cs (c ∷ []))
     ∙ append_assoc (map Shown cs) (Shown c ∷ []) items
-left_again d (Style s ∷ items) params url cs out a h safe (own, others, (actions, (list, final, seq, read), k), e, rest) =
+left_again d (Style s ∷ items) params url cs out a h safe (own, others, (actions, is, k), e, rest) =
     let (stays, alone, same_color) = safe.0 in
-    let same : actions ≡ action.Sgr s ∷ [] = alone.only actions (one_sequence (text (action.Sgr s)) list final actions seq read) in
+    let same : actions ≡ action.Sgr s ∷ [] = style_taken s actions alone stays is in
     let one : own ≡ Style s ∷ [] = k ∙ ap (λ (x : List Action). map Style (kept d.depth x)) same ∙ ap (λ (b : Bool). map Style (cond b [] (reduced d.depth s ∷ []))) stays ∙ ap (λ (x : Sgr). Style x ∷ []) same_color in
     e ∙ ap (λ (x : List ℕ). map Shown x ++ (own ++ others)) (read_back cs a h) ∙ ap (λ (x : List Item). map Shown cs ++ (x ++ others)) one
     ∙ ap (λ (x : List Item). map Shown cs ++ (Style s ∷ x)) (left_again d items params url [] others refl tt safe.1 rest)

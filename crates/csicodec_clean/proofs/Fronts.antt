@@ -4,6 +4,7 @@ use Rattle.std.specs.Prelude.{filter}
 use Rattle.std.specs.Io.KnownBytes.{Appends, Consumes, IsAtEnd}
 use Rattle.bstr.specs.Utf8.{lossy_chars}
 use Rattle.csicodec_actions.specs.Actions.{Action}
+use Rattle.csicodec_terminal.proofs.Unique.{taken_once}
 use Rattle.csicodec_spans.specs.declared.table.Kind.{Kind}
 use Rattle.csicodec_spans.specs.declared.table.Kind.TheVariants as kind
 use Rattle.csicodec_spans.specs.declared.table.Mode.TheVariants as mode
@@ -19,7 +20,7 @@ use Rattle.csicodec_clean.specs.Titles.{title_open, with_titles}
 use Rattle.csicodec_clean.specs.Cleaned.{RuleOf, IsStep, AreSteps, Ends, Strips, stripped, drops, ends_bare, is_text, longest}
 use Rattle.csicodec_clean.specs.Stream.{Begins, Between, Goes, IsFrontOf, Takes, start_of}
 use Rattle.csicodec_clean.specs.Styled.{kept, Item, Style, item_texts, shown_items, Leaves, begun_behind, run_behind, items_behind, AreLeft, is_open, styles_of, links_of, ends_of, StylesIn, Keeping, first_kept, keeps, resets}
-use Rattle.csicodec_clean.proofs.Again.{of_once, one_styled}
+use Rattle.csicodec_clean.proofs.Again.{one_styled}
 use Rattle.csicodec_clean.proofs.Plain.{steps_stripped, strips}
 use Rattle.csicodec_clean.proofs.Shows.{shown_read}
 use Rattle.csicodec_clean.proofs.Streams.{SentFront}
@@ -125,7 +126,7 @@ module _ {S : Type 0} (of : S → Keeping) where
       record { text = rw (none, l) refl; next_run = on; passing = ap (λ (x : S). (of x).passing) same; begun = ap (λ (x : S). (of x).begun) same }
   step_left kind.Csi s mid run bytes first next own others (given, (actions, one, same, state), e, left) (more, other, l) =
       let d = (of s).passing.depth in
-      let text : item_texts own ≡ given = ap item_texts (l ∙ ap (λ (x : List Action). map Style (kept d x)) (of_once bytes more actions other one)) ∙ texts_styles (kept d actions) ∙ sym same in
+      let text : item_texts own ≡ given = ap item_texts (l ∙ ap (λ (x : List Action). map Style (kept d x)) (taken_once bytes more actions other one)) ∙ texts_styles (kept d actions) ∙ sym same in
       record { text = ended run first given own others e text; next_run = left; passing = ap (λ (x : Keeping). x.passing) state; begun = ap (λ (x : Keeping). x.begun) state }
   step_left kind.Str s mid run bytes first next own others (given, steps, e, left) l =
       let g = given_string of bytes s mid given steps in

@@ -7,7 +7,8 @@ use Rattle.std.proofs.lemmas.Grind.{flat_map-append}
 use Rattle.std.proofs.lemmas.Bool.Decides.{nat_tests}
 use Rattle.csicodec_clean.specs.declared.links.Place.{Place}
 use Rattle.csicodec_clean.specs.declared.links.Place.TheVariants as place
-use Rattle.csicodec_clean.specs.Links.{Address, Begun, IsLink, all_behind, anew, begun, behind, behind_at, ends_at, is_linked, is_param, is_visible, link_body, link_text, link_texts, links_at, links_in, longest_params, longest_url, next}
+use Rattle.csicodec_clean.specs.Links.{Address, Begun, IsLink, IsWithin, admitted, all_behind, anew, begun, behind, behind_at, ends_at, is_linked, is_param, is_visible, link_body, link_text, link_texts, links_at, links_in, longest_params, longest_url, next}
+use Rattle.csicodec_clean.proofs.Hosts.{led_all, led_few, led_twice}
 
 -- ---- bytes behind bytes
 
@@ -58,7 +59,7 @@ all_more P [] c h k = (k, tt)
 all_more P (x ∷ xs) c h k = (h.0, all_more P xs c h.1 k)
 
 abbrev IsFine : Begun → Type 0
-IsFine b = IsLink b.address
+IsFine b = IsWithin b.address
 
 one_longer : (xs : List ℕ) (c n : ℕ) → nat_lt (length xs) n ≡ true → length (xs ++ c ∷ []) ≤ n
 one_longer xs c n h = grind (arith, nat_tests, length-append xs (c ∷ []), h)
@@ -90,16 +91,22 @@ fine_next : (passing : Bool) (b : Begun) (c : ℕ) → IsFine b → IsFine (next
 fine_next true b c h = fine_at b.place b.address.params b.address.url c h
 fine_next false b c h = h
 
-pub fine_behind : (passing : Bool) (bytes : List ℕ) (b : Begun) → IsLink b.address → IsLink (all_behind passing b bytes).address
+pub fine_behind : (passing : Bool) (bytes : List ℕ) (b : Begun) → IsWithin b.address → IsWithin (all_behind passing b bytes).address
 fine_behind passing [] b h = h
 fine_behind passing (c ∷ bytes) b h = fine_behind passing bytes (next passing b c) (fine_next passing b c h)
 
-pub fine_links : (passing : Bool) (bytes : List ℕ) (b : Begun) → IsLink b.address → AllByRecursion IsLink (links_in passing b bytes)
+fine_admitted : (a : Address) → IsWithin a → IsLink (admitted a)
+fine_admitted a h = record {
+  within = record { params = h.params; few = h.few; url = led_all (λ b. is_visible b ≡ true) a.url h.url; short = led_few a.url longest_url h.short };
+  leads = led_twice a.url;
+}
+
+pub fine_links : (passing : Bool) (bytes : List ℕ) (b : Begun) → IsWithin b.address → AllByRecursion IsLink (links_in passing b bytes)
 fine_links passing [] b h = tt
 fine_links passing (c ∷ bytes) b h = by (passing && ends_at b.place c) (fine_links passing bytes (next passing b c) (fine_next passing b c h))
   where
-    by : (over : Bool) → AllByRecursion IsLink (links_in passing (next passing b c) bytes) → AllByRecursion IsLink ((if over then b.address ∷ [] else []) ++ links_in passing (next passing b c) bytes)
-    by true rest = (h, rest)
+    by : (over : Bool) → AllByRecursion IsLink (links_in passing (next passing b c) bytes) → AllByRecursion IsLink ((if over then admitted b.address ∷ [] else []) ++ links_in passing (next passing b c) bytes)
+    by true rest = (fine_admitted b.address h, rest)
     by false rest = rest
 
 -- ---- a link is read as it is
@@ -159,12 +166,12 @@ url_read (c ∷ us) params url h room =
     let one = one_url params url c h.0 (omega (arith, room)) in
     let later = url_read us params (url ++ c ∷ []) h.1 (omega (arith, room, length-append url (c ∷ []))) in
     let here : Begun = behind_at place.Url params url c in (
-      ap (λ (t : List Address). t ++ links_in true here us) (no_link (c == 7) (record { params = params; url = url } ∷ []) (no_bell c h.0)) ∙ ap (λ (t : Begun). links_in true t us) one ∙ later.0,
+      ap (λ (t : List Address). t ++ links_in true here us) (no_link (c == 7) (admitted (record { params = params; url = url }) ∷ []) (no_bell c h.0)) ∙ ap (λ (t : Begun). links_in true t us) one ∙ later.0,
       ap (λ (t : Begun). all_behind true t us) one ∙ later.1 ∙ ap (λ (t : List ℕ). begun place.Url params t) (append_assoc url (c ∷ []) us),
     )
 
 -- behind `ESC ]`
-pub body_read : (a : Address) (params url : List ℕ) → IsLink a → Reads (begun place.Opened params url) (link_body a) (begun place.Url a.params a.url)
+pub body_read : (a : Address) (params url : List ℕ) → IsWithin a → Reads (begun place.Opened params url) (link_body a) (begun place.Url a.params a.url)
 body_read a params url h =
     let first : Reads (begun place.Opened params url) (56 ∷ 59 ∷ []) (begun place.Params [] url) = (refl, refl) in
     let named = params_read a.params [] url h.params (omega (arith, h.few)) in
@@ -175,9 +182,16 @@ body_read a params url h =
     reads_on (begun place.Opened params url) (begun place.Params [] url) end (56 ∷ 59 ∷ []) (a.params ++ 59 ∷ a.url) first
     (reads_on (begun place.Params [] url) (begun place.Params a.params url) end a.params (59 ∷ a.url) named later)
 
--- a link passes, whatever link came before
-pub passes : (a : Address) (params url end : List ℕ) → IsLink a → links_in true (begun place.Url a.params a.url) end ≡ a ∷ [] → links_in true (begun place.Outside params url) (27 ∷ 93 ∷ (link_body a ++ end)) ≡ a ∷ []
+-- what passes of a link does, whatever link came before
+pub passes : (a : Address) (params url end : List ℕ) → IsWithin a → links_in true (begun place.Url a.params a.url) end ≡ admitted a ∷ [] → links_in true (begun place.Outside params url) (27 ∷ 93 ∷ (link_body a ++ end)) ≡ admitted a ∷ []
 passes a params url end h over =
     let body = body_read a params url h in
     links_on true (link_body a) end (begun place.Opened params url) ∙ ap (λ (t : List Address). t ++ links_in true (all_behind true (begun place.Opened params url) (link_body a)) end) body.0
     ∙ ap (λ (t : Begun). links_in true t end) body.1 ∙ over
+
+abbrev begun_address : List ℕ → List ℕ → Address
+begun_address params url = record { params = params; url = url }
+
+-- one that may pass is that itself
+pub itself : (a : Address) → IsLink a → admitted a ≡ a
+itself a h = ap (λ (t : List ℕ). begun_address a.params t) h.leads

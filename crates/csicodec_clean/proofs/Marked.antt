@@ -2,29 +2,21 @@
 use Rattle.std.proofs.Common.{◌≡◌, ◌≢◌, ◌<◌, ◌≤◌, ◌+◌, ◌/◌, ◌%◌, ℕ, Bool, true, false, cond, List, [], ◌∷◌, ◌++◌, ◌⊎◌, inl, inr, length, refl, sym, ap, subst, ◌∙◌, append_assoc, arith, ⊎_elim, lt-ltb, le-ltb}
 use Rattle.std.specs.Prelude.{codes, nat_lt, not, ◌==◌, ◌&&◌, if◌then◌else◌}
 use Rattle.std.specs.Char.{encode_utf8}
-use Rattle.std.specs.Fmt.{decimal}
 use Rattle.std.specs.List.{AllByRecursion}
 use Rattle.std.proofs.lemmas.Bool.{and_parts, cases_lt, le-leb, ne_eqb, not-true}
 use Rattle.std.proofs.lemmas.Bool.Decides.{nat_tests}
-use Rattle.std.proofs.lemmas.Fmt.{decimal_by_steps}
-use Rattle.csicodec_names.specs.declared.color.Intensity.TheVariants.{Normal}
-use Rattle.csicodec_names.specs.declared.color.Underline.TheVariants as underline
-use Rattle.csicodec_names.specs.declared.color.Blink.TheVariants as blink
-use Rattle.csicodec_names.specs.declared.color.VerticalAlign.TheVariants as align
-use Rattle.csicodec_names.specs.declared.color.ColorSpec.TheVariants as color
-use Rattle.csicodec_names.specs.declared.color.SrgbaTuple.{SrgbaTuple}
-use Rattle.csicodec_base.specs.declared.sgr.Font.TheVariants as font
 use Rattle.csicodec_base.specs.declared.sgr.Sgr.{Sgr}
 use Rattle.csicodec_base.specs.declared.sgr.Sgr.TheVariants as sgr
-use Rattle.csicodec_base.specs.SgrText.{palette_text, sgr_text, true_color_text}
+use Rattle.csicodec_base.specs.SgrText.{sgr_text}
 use Rattle.csicodec_actions.specs.Actions as action
-use Rattle.csicodec_actions.specs.Ranges.{ColorInRange, SgrInRange}
+use Rattle.csicodec_actions.specs.Ranges.{SgrInRange}
 use Rattle.csicodec_actions.specs.Table.{text}
 use Rattle.csicodec_clean.specs.Shown.{IsShown}
 use Rattle.csicodec_clean.specs.Links.{Address, IsLink, is_linked, is_param, is_visible, link_text}
 use Rattle.csicodec_clean.specs.declared.styles.Passing.{Passing}
 use Rattle.csicodec_clean.specs.Styled.{hides, is_open, is_reset, Item, Shown, Style, Link, item_texts, links_of, styles_of, IsSafe, IsStyledIn, StylesIn}
 use Rattle.csicodec_clean.specs.Marked.{Stand, Text, Lead, Numbers, Params, Url, is_text_byte, is_number_byte, stand_behind, is_marked, IsMarked}
+use Rattle.csicodec_clean.proofs.Coded.{AreCodes, IsCode, coded}
 use Rattle.csicodec_clean.proofs.Pieces.{style_range}
 use Rattle.csicodec_clean.proofs.Styled.{styled}
 
@@ -98,99 +90,26 @@ char_marked links styled linked c more h = by (spells c h)
 
 -- ---- styles
 
-abbrev is_nil : List ℕ → Bool
-is_nil [] = true
-is_nil (b ∷ bs) = false
-
--- numbers, and `m` at the end
-abbrev numbered : List ℕ → Bool
-numbered [] = false
-numbered (b ∷ bs) = if is_number_byte b then numbered bs else (b == 109 && is_nil bs)
-
-number_byte : (b : ℕ) → 48 ≤ b → b ≤ 59 → is_number_byte b ≡ true
-number_byte b h k = rw (le-leb 48 b h, le-leb b 59 k) refl
-
-number_more : (b : ℕ) (bs : List ℕ) → 48 ≤ b → b ≤ 59 → numbered bs ≡ true → numbered (b ∷ bs) ≡ true
-number_more b bs h k r = rw (number_byte b h k) r
-
-abbrev GoesOn : ℕ → List ℕ → Type 0
-GoesOn n ds = (rest : List ℕ) → numbered rest ≡ true → numbered (ds ++ rest) ≡ true
-
-one_digit : (n : ℕ) → n < 10 → GoesOn n ((48 + n) ∷ [])
-one_digit n h rest r = number_more (48 + n) rest (omega arith) (omega (arith, h)) r
-
-digit_more : (n : ℕ) (ds : List ℕ) → 10 ≤ n → GoesOn (n / 10) ds → GoesOn n (ds ++ ((48 + n % 10) ∷ []))
-digit_more n ds h on rest r = rw append_assoc (on ((48 + n % 10) ∷ rest) (number_more (48 + n % 10) rest (omega arith) (omega arith) r))
-
-number : (n : ℕ) (rest : List ℕ) → n < 1000 → numbered rest ≡ true → numbered (decimal n ++ rest) ≡ true
-number n rest h r = decimal_by_steps GoesOn one_digit digit_more n (omega (arith, h)) rest r
-
-either : (b : Bool) (s t : List ℕ) → numbered s ≡ true → numbered t ≡ true → numbered (cond b s t) ≡ true
-either true s t h k = h
-either false s t h k = k
-
-palette : (first i : ℕ) → first < 100 → i < 256 → numbered (palette_text first i) ≡ true
-palette first i f h =
-    let named = decimal (first + 8) ++ (codes ":5:" ++ (decimal i ++ codes "m")) in
-    let bright = decimal (i + first + 52) ++ codes "m" in
-    either (nat_lt i 8) (decimal (i + first) ++ codes "m") (cond (nat_lt i 16) bright named) (number (i + first) (codes "m") (omega (arith, f, h)) refl)
-    (either (nat_lt i 16) bright named (number (i + first + 52) (codes "m") (omega (arith, f, h)) refl) (number (first + 8) (codes ":5:" ++ (decimal i ++ codes "m")) (omega (arith, f)) (number i (codes "m") (omega (arith, h)) refl)))
-
-true_color : (code : ℕ) (c : SrgbaTuple) → code < 100 → ColorInRange (color.TrueColor c) → numbered (true_color_text code c) ≡ true
-true_color code c f (r, g, b, a) =
-    let blue = decimal c.2 ++ codes "m" in
-    let alpha = decimal c.2 ++ (codes ":" ++ (decimal c.3 ++ codes "m")) in
-    let clear : numbered alpha ≡ true = number c.2 (codes ":" ++ (decimal c.3 ++ codes "m")) (omega (arith, b)) (number c.3 (codes "m") (omega (arith, a)) refl) in
-    let three : numbered (decimal c.0 ++ (codes ":" ++ (decimal c.1 ++ (codes ":" ++ blue)))) ≡ true = number c.0 (codes ":" ++ (decimal c.1 ++ (codes ":" ++ blue))) (omega (arith, r)) (number c.1 (codes ":" ++ blue) (omega (arith, g)) (number c.2 (codes "m") (omega (arith, b)) refl)) in
-    let four : numbered (decimal c.0 ++ (codes ":" ++ (decimal c.1 ++ (codes ":" ++ alpha)))) ≡ true = number c.0 (codes ":" ++ (decimal c.1 ++ (codes ":" ++ alpha))) (omega (arith, r)) (number c.1 (codes ":" ++ alpha) (omega (arith, g)) clear) in
-    either (c.3 == 255) (decimal code ++ (codes ":2::" ++ (decimal c.0 ++ (codes ":" ++ (decimal c.1 ++ (codes ":" ++ blue))))))
-    (decimal code ++ (codes ":6::" ++ (decimal c.0 ++ (codes ":" ++ (decimal c.1 ++ (codes ":" ++ alpha))))))
-    (number code (codes ":2::" ++ (decimal c.0 ++ (codes ":" ++ (decimal c.1 ++ (codes ":" ++ blue))))) (omega (arith, f)) three)
-    (number code (codes ":6::" ++ (decimal c.0 ++ (codes ":" ++ (decimal c.1 ++ (codes ":" ++ alpha))))) (omega (arith, f)) four)
-
-style_numbered : (s : Sgr) → SgrInRange s → hides s ≡ false → numbered (sgr_text s) ≡ true
-style_numbered (sgr.UnderlineColor (color.PaletteIndex i)) h k = number i (codes "m") (omega (arith, h)) refl
-style_numbered (sgr.UnderlineColor (color.TrueColor c)) h k = true_color 58 c (omega arith) h
-style_numbered (sgr.Foreground (color.PaletteIndex i)) h k = palette 30 i (omega arith) h
-style_numbered (sgr.Foreground (color.TrueColor c)) h k = true_color 38 c (omega arith) h
-style_numbered (sgr.Background (color.PaletteIndex i)) h k = palette 40 i (omega arith) h
-style_numbered (sgr.Background (color.TrueColor c)) h k = true_color 48 c (omega arith) h
-style_numbered (sgr.Font (font.Alternate n)) h k = absurd cc
-style_numbered (sgr.Intensity Normal) h k = refl
-style_numbered (sgr.Underline underline.None) h k = refl
-style_numbered (sgr.Blink blink.None) h k = refl
-style_numbered (sgr.VerticalAlign align.BaseLine) h k = refl
-style_numbered (sgr.Italic true) h k = refl
-style_numbered (sgr.Inverse true) h k = refl
-style_numbered (sgr.Invisible true) h k = refl
-style_numbered (sgr.StrikeThrough true) h k = refl
-style_numbered (sgr.Overline true) h k = refl
-style_numbered s h k = refl
-
 -- behind such, a style may be open
 abbrev Behind : Bool → Stand → Bool → Bool → List ℕ → List ℕ → Type 0
 Behind links s styled linked t more = (opened : Bool) × (is_marked links s styled linked (t ++ more) ≡ is_marked links Text opened linked more)
 
-on_number : (links zeros styled linked : Bool) (b : ℕ) (more : List ℕ) → is_number_byte b ≡ true → b ≢ 109 → is_marked links (Numbers zeros) styled linked (b ∷ more) ≡ is_marked links (Numbers (zeros && b == 48)) styled linked more
-on_number links zeros styled linked b more e o = rw (ne_eqb b 109 o, e) refl
+number_byte : (b : ℕ) → IsCode b → is_number_byte b ≡ true
+number_byte b (inl digit) = rw (le-leb 48 b digit.0, le-leb b 59 (omega (arith, digit.1))) refl
+number_byte b (inr colon) = rw colon refl
 
-on_end : (links zeros styled linked : Bool) (b : ℕ) (more : List ℕ) → (b == 109) ≡ true → is_marked links (Numbers zeros) styled linked (b ∷ more) ≡ is_marked links Text (not zeros) linked more
-on_end links zeros styled linked b more e = rw e refl
+no_final : (b : ℕ) → IsCode b → b ≢ 109
+no_final b (inl digit) = λ e. absurd (omega (arith, e, digit.1))
+no_final b (inr colon) = λ e. absurd (omega (arith, e, colon))
 
-numbers_marked : (links zeros styled linked : Bool) (t more : List ℕ) → numbered t ≡ true → Behind links (Numbers zeros) styled linked t more
-numbers_marked links zeros styled linked [] more h = absurd cc
-numbers_marked links zeros styled linked (b ∷ bs) more h = by (is_number_byte b) refl h (λ z r. numbers_marked links z styled linked bs more r)
-  where
-    ended : (rest : List ℕ) → (b == 109) ≡ true → is_nil rest ≡ true → Behind links (Numbers zeros) styled linked (b ∷ rest) more
-    ended [] e n = (not zeros, on_end links zeros styled linked b more e)
-    ended (c ∷ rest) e n = absurd cc
+on_number : (links zeros styled linked : Bool) (b : ℕ) (more : List ℕ) → IsCode b → is_marked links (Numbers zeros) styled linked (b ∷ more) ≡ is_marked links (Numbers (zeros && b == 48)) styled linked more
+on_number links zeros styled linked b more h = rw (ne_eqb b 109 (no_final b h), number_byte b h) refl
 
-    by : (n : Bool) → is_number_byte b ≡ n → (if n then numbered bs else (b == 109 && is_nil bs)) ≡ true → ((z : Bool) → numbered bs ≡ true → Behind links (Numbers z) styled linked bs more)
-        → Behind links (Numbers zeros) styled linked (b ∷ bs) more
-    by true e r on =
-        let later = on (zeros && b == 48) r in
-        (later.0, on_number links zeros styled linked b (bs ++ more) e (λ same. absurd (grind (arith, nat_tests))) ∙ later.1)
-    by false e r on = let both = and_parts (b == 109) (is_nil bs) r in ended bs both.0 both.1
+numbers_marked : (links zeros styled linked : Bool) (body more : List ℕ) → AreCodes body → Behind links (Numbers zeros) styled linked (body ++ 109 ∷ []) more
+numbers_marked links zeros styled linked [] more h = (not zeros, refl)
+numbers_marked links zeros styled linked (b ∷ body) more h =
+    let later = numbers_marked links (zeros && b == 48) styled linked body more h.1 in
+    (later.0, on_number links zeros styled linked b ((body ++ 109 ∷ []) ++ more) h.0 ∙ later.1)
 
 only_reset : (s : Sgr) → (s ≡ sgr.Reset) ⊎ (is_reset s ≡ false)
 only_reset sgr.Reset = inl refl
@@ -205,7 +124,8 @@ style_marked : (links styled linked : Bool) (s : Sgr) (more : List ℕ) → SgrI
 style_marked links styled linked s more h k = elim (only_reset s) [
   | inl e ↦ record { opened = false; closed = λ c. refl; on = rw e refl }
   | inr e ↦
-      let r = numbers_marked links true styled linked (sgr_text s) more (style_numbered s h k) in
+      let (body, is, are, some, few) = coded s h k in
+      let r = subst (λ (t : List ℕ). Behind links (Numbers true) styled linked t more) (sym is) (numbers_marked links true styled linked body more are) in
       record { opened = r.0; closed = λ c. (let clash : true ≡ false = sym (ap not e) ∙ c in absurd cc); on = r.1 }
 ]
 
@@ -240,8 +160,8 @@ link_marked : (styled linked : Bool) (a : Address) (more : List ℕ) → IsLink 
 link_marked styled linked a more h =
     let parts : ((a.params ++ 59 ∷ a.url) ++ 27 ∷ 92 ∷ []) ++ more ≡ a.params ++ 59 ∷ (a.url ++ 27 ∷ 92 ∷ more) =
     append_assoc (a.params ++ 59 ∷ a.url) (27 ∷ 92 ∷ []) more ∙ append_assoc a.params (59 ∷ a.url) (27 ∷ 92 ∷ more) in
-    ap (λ (t : List ℕ). is_marked true Params styled linked t) parts ∙ params_marked styled linked a.params (59 ∷ (a.url ++ 27 ∷ 92 ∷ more)) h.params
-    ∙ address_marked styled linked a.url more h.url
+    ap (λ (t : List ℕ). is_marked true Params styled linked t) parts ∙ params_marked styled linked a.params (59 ∷ (a.url ++ 27 ∷ 92 ∷ more)) h.within.params
+    ∙ address_marked styled linked a.url more h.within.url
 
 -- ---- all of it
 

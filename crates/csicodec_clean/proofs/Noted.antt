@@ -1,18 +1,28 @@
 -- What is noted of a sequence, and what is left of it then.
 use Rattle.std.proofs.Common.{◌≡◌, ◌+◌, ◌-◌, ◌∙◌, ℕ, suc, Bool, true, false, cond, List, [], ◌∷◌, ◌++◌, map, length, get_or, take, drop, refl, sym, ap, subst, append-nil, arith}
-use Rattle.std.specs.Prelude.{◌==◌}
+use Rattle.std.specs.Prelude.{◌==◌, MatchBool}
 use Rattle.std.proofs.Math.Seq.{take-append_seam}
 use Rattle.csicodec_names.specs.declared.color.ColorSpec.{ColorSpec}
 use Rattle.csicodec_base.specs.Shapes.{Plane, Front, Back, Line, painted}
 use Rattle.csicodec_base.specs.SgrText.{sgr_text}
 use Rattle.csicodec_base.specs.declared.sgr.Sgr.{Sgr}
-use Rattle.csicodec_actions.specs.Actions.{Sgr as SgrAction}
+use Rattle.csicodec_tokens.specs.declared.param.CsiParam.{CsiParam}
+use Rattle.csicodec_tokens.specs.Sequence.{Seq}
+use Rattle.csicodec_actions.specs.declared.cursor.Cursor.{Cursor}
+use Rattle.csicodec_actions.specs.Actions.{Action, Cursor as Move, Sgr as SgrAction, Unspecified}
 use Rattle.csicodec_actions.specs.Table.{texts}
 use Rattle.csicodec_spans.specs.Parts.{IsSequence}
 use Rattle.csicodec_streams.specs.Colors.{IsColored}
 use Rattle.csicodec_clean.specs.declared.colors.Depth.{Depth}
 use Rattle.csicodec_clean.specs.declared.colors.Depth.TheVariants as depth
-use Rattle.csicodec_clean.specs.Styled.{IsOf, Keeping, is_open, keeping, keeps, kept}
+use Rattle.csicodec_parser.specs.declared.group.Group.{Group}
+use Rattle.csicodec_parser.specs.declared.group.Group.TheVariants.{Styles}
+use Rattle.csicodec_parser.specs.Cut.{Cut, body}
+use Rattle.csicodec_parser.specs.Groups.{group, has_odd}
+use Rattle.csicodec_parser.specs.Segments.{Actions, ActionsIn, BodyActions, remainder}
+use Rattle.csicodec_terminal.specs.Terminal.{IsTakenFor, has_unknown}
+use Rattle.csicodec_terminal.specs.Terminal.{is_open as leaves_out}
+use Rattle.csicodec_clean.specs.Styled.{Keeping, is_open, keeping, keeps, kept}
 use Rattle.csicodec_clean.specs.Private.Notes.{IsLeft, IsNoted, depth_byte, note_of, open_byte}
 
 same_depth : (d e : Depth) → depth_byte d ≡ depth_byte e → d ≡ e
@@ -59,7 +69,7 @@ color_note Back color = ap (λ l. 0 ∷ 1 ∷ 1 ∷ l) (append-nil (27 ∷ 91 �
 color_note Line color = ap (λ l. 0 ∷ 1 ∷ 1 ∷ l) (append-nil (27 ∷ 91 ∷ sgr_text (painted Line color)))
 
 -- what is noted of it, by what begins with its text
-pub color_noted : (bytes rest own text note : List ℕ) (style : Sgr) (len : ℕ) → IsColored bytes style rest → IsOf own (SgrAction style ∷ []) → take (len + 1) text ≡ 27 ∷ 91 ∷ sgr_text style → note ≡ take (len + 4) (0 ∷ 1 ∷ 1 ∷ text)
+pub color_noted : (bytes rest own text note : List ℕ) (style : Sgr) (len : ℕ) → IsColored bytes style rest → IsTakenFor own (SgrAction style ∷ []) → take (len + 1) text ≡ 27 ∷ 91 ∷ sgr_text style → note ≡ take (len + 4) (0 ∷ 1 ∷ 1 ∷ text)
     → IsNoted own note
 color_noted bytes rest own text note style len (plane, color, opaque, paints, stands) is told noted =
     let longer : len + 4 ≡ suc (suc (suc (len + 1))) = omega arith in
@@ -72,10 +82,36 @@ color_open Back color styled = refl
 color_open Line color styled = refl
 
 -- and what is left of it
-pub color_left : (bytes rest own old new : List ℕ) (style : Sgr) (styled : Bool) → IsColored bytes style rest → IsOf own (SgrAction style ∷ []) → new ≡ old ++ 27 ∷ 91 ∷ sgr_text style → IsLeft depth.Full styled own true old new
+pub color_left : (bytes rest own old new : List ℕ) (style : Sgr) (styled : Bool) → IsColored bytes style rest → IsTakenFor own (SgrAction style ∷ []) → new ≡ old ++ 27 ∷ 91 ∷ sgr_text style → IsLeft depth.Full styled own true old new
 color_left bytes rest own old new style styled (plane, color, opaque, paints, stands) is longer =
     let text : 27 ∷ 91 ∷ sgr_text style ≡ texts (map SgrAction (kept depth.Full (SgrAction style ∷ []))) =
     subst (λ (s : Sgr). 27 ∷ 91 ∷ sgr_text s ≡ texts (map SgrAction (kept depth.Full (SgrAction s ∷ [])))) (sym paints) (ap (drop 3) (sym (color_note plane color))) in
     let opened : true ≡ is_open styled (kept depth.Full (SgrAction style ∷ [])) =
     subst (λ (s : Sgr). true ≡ is_open styled (kept depth.Full (SgrAction s ∷ []))) (sym paints) (color_open plane color styled) in
     (SgrAction style ∷ [], is, opened, longer ∙ ap (λ t. old ++ t) text)
+
+-- ---- what the table reads of it, as terminals take it
+
+pub closed_taken : (bytes : List ℕ) (list : List CsiParam) (final : ℕ) (actions : List Action) → Seq bytes list final → Actions list false final actions → has_unknown actions ≡ false → leaves_out (group list final) list ≡ false → IsTakenFor bytes actions
+closed_taken bytes list final actions seq are known closed = (list, final, seq, (actions, are, rw (known, closed) refl))
+
+no_style : (pieces : List Action) (body rest : List CsiParam) (final : ℕ) (to : Cursor) → Cut Styles body pieces rest → Move to ∷ [] ≡ pieces ++ remainder Styles rest false final → ⊥
+no_style [] body [] final to cut e = absurd cc
+no_style [] body (t ∷ ts) final to cut e = absurd cc
+no_style (a ∷ pieces) body rest final to (block, more, is, one, others) e =
+    let (s, p, same) = one.piece in
+    let moves : Move to ≡ a = cc in
+    absurd (cc (moves, same))
+
+no_styles : (odd : Bool) (list body : List CsiParam) (final : ℕ) (to : Cursor)
+    → MatchBool odd (Move to ∷ [] ≡ Unspecified list false final ∷ []) (BodyActions Styles list body false final (Move to ∷ [])) → ⊥
+no_styles true list body final to e = absurd cc
+no_styles false list [] final to e = absurd cc
+no_styles false list (t ∷ ts) final to s = no_style s.pieces (t ∷ ts) s.rest final to s.cut s.all
+
+move_closed : (g : Group) (list : List CsiParam) (final : ℕ) (to : Cursor) → ActionsIn g list false final (Move to ∷ []) → leaves_out g list ≡ false
+move_closed Styles list final to h = absurd (no_styles (has_odd Styles list) list (body Styles list) final to h)
+move_closed _ list final to h = refl
+
+pub move_taken : (bytes : List ℕ) (list : List CsiParam) (final : ℕ) (to : Cursor) → Seq bytes list final → Actions list false final (Move to ∷ []) → IsTakenFor bytes (Move to ∷ [])
+move_taken bytes list final to seq are = closed_taken bytes list final (Move to ∷ []) seq are refl (move_closed (group list final) list final to are)

@@ -18,7 +18,7 @@ use Rattle.csicodec_clean.specs.declared.links.Place.{Place}
 use Rattle.csicodec_clean.specs.declared.links.Place.TheVariants as place
 use Rattle.csicodec_clean.specs.declared.styles.Passing.{Passing}
 use Rattle.csicodec_clean.specs.Cleaned.{longest}
-use Rattle.csicodec_clean.specs.Links.{Address, Begun, IsLink, Spells, Stood, StoodIn, all_behind, anew, begun, behind, behind_at, ends_at, is_linked, is_param, is_visible, link_body, links_in, longest_params, longest_url, opened, start}
+use Rattle.csicodec_clean.specs.Links.{Address, Begun, IsAdmitted, IsWithin, Spells, Stood, StoodIn, admitted, all_behind, anew, begun, behind, behind_at, ends_at, is_linked, is_param, is_visible, link_body, links_in, longest_params, longest_url, opened, start}
 use Rattle.csicodec_clean.specs.Shown.{shown}
 use Rattle.csicodec_clean.specs.Styled.{kept, Item, Link, shown_items, Leaves, begun_behind, run_behind, items_behind, AreLeft, links_of, ends_of, is_open, styles_of, IsSafe, StylesIn}
 use Rattle.csicodec_clean.specs.Titles.{read_as, title_behind, with_titles}
@@ -110,16 +110,16 @@ stood_at done later all b c whole (before, e) over = record {
   link = over_at b.place b.address.params b.address.url c over;
 }
 
-stood_in : (bytes done all : List ℕ) (b : Begun) → all ≡ done ++ bytes → EndsWith done b → AllByRecursion (Stood all) (links_in true b bytes)
+stood_in : (bytes done all : List ℕ) (b : Begun) → all ≡ done ++ bytes → EndsWith done b → AllByRecursion (IsAdmitted (Stood all)) (links_in true b bytes)
 stood_in [] done all b whole h = tt
 stood_in (c ∷ bytes) done all b whole h =
     by (ends_at b.place c) (stood_at done bytes all b c whole h) (stood_in bytes (done ++ c ∷ []) all (behind b c) (whole ∙ sym (append_assoc done (c ∷ []) bytes)) (byte_more done b c h))
   where
-    by : (over : Bool) → (over ≡ true → Stood all b.address) → AllByRecursion (Stood all) (links_in true (behind b c) bytes) → AllByRecursion (Stood all) ((if over then b.address ∷ [] else []) ++ links_in true (behind b c) bytes)
-    by true f rest = (f refl, rest)
+    by : (over : Bool) → (over ≡ true → Stood all b.address) → AllByRecursion (IsAdmitted (Stood all)) (links_in true (behind b c) bytes) → AllByRecursion (IsAdmitted (Stood all)) ((if over then admitted b.address ∷ [] else []) ++ links_in true (behind b c) bytes)
+    by true f rest = ((b.address, f refl, refl), rest)
     by false f rest = rest
 
-pub in_bytes : (bytes : List ℕ) → AllByRecursion (Stood bytes) (links_in true start bytes)
+pub in_bytes : (bytes : List ℕ) → AllByRecursion (IsAdmitted (Stood bytes)) (links_in true start bytes)
 in_bytes bytes = stood_in bytes [] bytes start refl ([], refl)
 
 -- ---- what a piece makes of what was read
@@ -174,13 +174,13 @@ rest_behind m b bytes (inr (c, e, other)) rest =
     let same = anew_at b.place b.address.params b.address.url c rest in
     subst (λ (t : List ℕ). IsAtRest (all_behind true b t).place) (sym e) (subst (λ (x : Begun). IsAtRest x.place) (sym same) (opened_rest b.address.params b.address.url c).0)
 
--- the link that is over, where one is
-if_over : (P : Address → Type 0) (over : Bool) (a : Address) → (over ≡ true → P a) → AllByRecursion P ((if over then a ∷ [] else []) ++ [])
-if_over P true a f = (f refl, tt)
+-- what passes of the link that is over, where one is
+if_over : (P : Address → Type 0) (over : Bool) (a : Address) → (over ≡ true → P a) → AllByRecursion (IsAdmitted P) ((if over then admitted a ∷ [] else []) ++ [])
+if_over P true a f = ((a, f refl, refl), tt)
 if_over P false a f = tt
 
 over_two : (P : Address → Type 0) (p : Place) (params url : List ℕ) (c : ℕ) → IsAtRest p → ((c == 92) ≡ true → Spells (read_of p params url ++ 27 ∷ c ∷ []) (address params url) → P (address params url))
-    → AllByRecursion P (links_in true (begun p params url) (27 ∷ c ∷ []))
+    → AllByRecursion (IsAdmitted P) (links_in true (begun p params url) (27 ∷ c ∷ []))
 over_two P place.Escape params url c rest f = absurd rest
 over_two P place.Ending params url c rest f = absurd rest
 over_two P place.Url params url c rest f = if_over P (c == 92) (address params url) (λ e. f e (inr (ap (λ (x : ℕ). 27 ∷ 93 ∷ (link_body (address params url) ++ 27 ∷ x ∷ [])) (eqb-true c 92 e))))
@@ -243,7 +243,7 @@ record Held (m : Mode) (done : List Part) (b : Begun) : Type 0 where
   open_or_shut : Open done b ⊎ (in_string m ≡ false)
 
 record After (whole done : List Part) (b : Begun) (bytes : List ℕ) : Type 0 where
-  links : AllByRecursion (StoodIn whole) (links_in true b bytes)
+  links : AllByRecursion (IsAdmitted (StoodIn whole)) (links_in true b bytes)
   opens : Open (done ++ part kind.Str bytes ∷ []) (all_behind true b bytes)
 
 after_one : (whole done later : List Part) (b : Begun) (c : ℕ) → whole ≡ done ++ (part kind.Str (c ∷ []) ∷ later) → IsAtRest b.place → Open done b → (c == 27) ≡ false → After whole done b (c ∷ [])
@@ -301,22 +301,22 @@ string_left d b run bytes own others items leaves e =
 -- one part, and then the others
 one_part : (d : Depth) (k : Kind) (text : List ℕ) (m a : Mode) (bytes rest : List ℕ) (b : Begun) (t : Bool) (run : List ℕ) (done later whole : List Part) (items own others : List Item) → IsFirstPart longest m bytes (part k text) rest a → Held m done b
     → whole ≡ done ++ (part k text ∷ later) → Leaves (with_links d) b (read_as k t) text own → items ≡ items_behind (read_as k t) run ++ (own ++ others)
-    → (Held a (done ++ part k text ∷ []) (begun_behind (with_links d) b (read_as k t) text) → AllByRecursion (StoodIn whole) (links_of others)) → AllByRecursion (StoodIn whole) (links_of items)
+    → (Held a (done ++ part k text ∷ []) (begun_behind (with_links d) b (read_as k t) text) → AllByRecursion (IsAdmitted (StoodIn whole)) (links_of others)) → AllByRecursion (IsAdmitted (StoodIn whole)) (links_of items)
 one_part d kind.Text text m a bytes rest b true run done later whole items own others first h split leaves e f =
-    subst (AllByRecursion (StoodIn whole)) (sym (ap links_of e ∙ none_left d b kind.Other run text own others refl leaves)) (f record { at_rest = h.at_rest; open_or_shut = inr (fit longest m bytes kind.Text text rest a first).0 })
+    subst (AllByRecursion (IsAdmitted (StoodIn whole))) (sym (ap links_of e ∙ none_left d b kind.Other run text own others refl leaves)) (f record { at_rest = h.at_rest; open_or_shut = inr (fit longest m bytes kind.Text text rest a first).0 })
 one_part d kind.Text text m a bytes rest b false run done later whole items own others first h split leaves e f =
-    subst (AllByRecursion (StoodIn whole)) (sym (ap links_of e ∙ none_left d b kind.Text run text own others refl leaves)) (f record { at_rest = h.at_rest; open_or_shut = inr (fit longest m bytes kind.Text text rest a first).0 })
+    subst (AllByRecursion (IsAdmitted (StoodIn whole))) (sym (ap links_of e ∙ none_left d b kind.Text run text own others refl leaves)) (f record { at_rest = h.at_rest; open_or_shut = inr (fit longest m bytes kind.Text text rest a first).0 })
 one_part d kind.Csi text m a bytes rest b t run done later whole items own others first h split leaves e f =
-    subst (AllByRecursion (StoodIn whole)) (sym (ap links_of e ∙ none_left d b kind.Csi run text own others refl leaves)) (f record { at_rest = h.at_rest; open_or_shut = inr (fit longest m bytes kind.Csi text rest a first) })
+    subst (AllByRecursion (IsAdmitted (StoodIn whole))) (sym (ap links_of e ∙ none_left d b kind.Csi run text own others refl leaves)) (f record { at_rest = h.at_rest; open_or_shut = inr (fit longest m bytes kind.Csi text rest a first) })
 one_part d kind.Esc text m a bytes rest b t run done later whole items own others first h split leaves e f =
-    subst (AllByRecursion (StoodIn whole)) (sym (ap links_of e ∙ none_left d b kind.Esc run text own others refl leaves)) (f record { at_rest = h.at_rest; open_or_shut = inr (fit longest m bytes kind.Esc text rest a first).0 })
+    subst (AllByRecursion (IsAdmitted (StoodIn whole))) (sym (ap links_of e ∙ none_left d b kind.Esc run text own others refl leaves)) (f record { at_rest = h.at_rest; open_or_shut = inr (fit longest m bytes kind.Esc text rest a first).0 })
 one_part d kind.Other text m a bytes rest b t run done later whole items own others first h split leaves e f =
-    subst (AllByRecursion (StoodIn whole)) (sym (ap links_of e ∙ none_left d b kind.Other run text own others refl leaves)) (f record { at_rest = h.at_rest; open_or_shut = inr (fit longest m bytes kind.Other text rest a first) })
+    subst (AllByRecursion (IsAdmitted (StoodIn whole))) (sym (ap links_of e ∙ none_left d b kind.Other run text own others refl leaves)) (f record { at_rest = h.at_rest; open_or_shut = inr (fit longest m bytes kind.Other text rest a first) })
 one_part d kind.Str text m a bytes rest b t run done later whole items own others first h split leaves e f =
     let fits = fit longest m bytes kind.Str text rest a first in
     let now = after_piece whole done later m b text split h fits in
-    subst (AllByRecursion (StoodIn whole)) (sym (string_left d b run text own others items leaves e))
-    (all_both (StoodIn whole) (links_in true b text) (links_of others) now.links (f record { at_rest = rest_behind m b text fits h.at_rest; open_or_shut = inl now.opens }))
+    subst (AllByRecursion (IsAdmitted (StoodIn whole))) (sym (string_left d b run text own others items leaves e))
+    (all_both (IsAdmitted (StoodIn whole)) (links_in true b text) (links_of others) now.links (f record { at_rest = rest_behind m b text fits h.at_rest; open_or_shut = inl now.opens }))
 
 -- what is left where nothing follows
 end_links : (d : Depth) (rest : List ℕ) (b : Begun) (t : Bool) (run : List ℕ) (items : List Item) → AreLeft (with_links d) b run (with_titles t (left_over rest)) items → links_of items ≡ []
@@ -324,7 +324,7 @@ end_links d [] b t run items e = ap links_of e ∙ run_links run
 end_links d (c ∷ rest) b t run items (own, others, leaves, e, last) = ap links_of e ∙ none_left d b kind.Other run (c ∷ rest) own others refl leaves ∙ ap links_of last ∙ run_links []
 
 all_parts : (d : Depth) (sure : List Part) (m a : Mode) (bytes rest : List ℕ) (b : Begun) (t : Bool) (run : List ℕ) (done whole : List Part) (items : List Item) → AreFirstParts longest m bytes sure rest a → Held m done b
-    → whole ≡ done ++ (sure ++ left_over rest) → AreLeft (with_links d) b run (with_titles t (sure ++ left_over rest)) items → AllByRecursion (StoodIn whole) (links_of items)
+    → whole ≡ done ++ (sure ++ left_over rest) → AreLeft (with_links d) b run (with_titles t (sure ++ left_over rest)) items → AllByRecursion (IsAdmitted (StoodIn whole)) (links_of items)
 all_parts d [] m a bytes rest b t run done whole items first h split left = rw (end_links d rest b t run items left) tt
 all_parts d (p ∷ sure) m a bytes rest b t run done whole items (behind, mid, one, later) h split (own, others, leaves, e, left) =
     one_part d p.kind p.bytes m mid bytes behind b t run done (sure ++ left_over rest) whole items own others one h split leaves e
@@ -337,16 +337,16 @@ none_pass d P [] more e h = tt
 none_pass d P (Link a ∷ items) more e h = absurd (both_ways d.links e h.0.0)
 none_pass d P (_ ∷ items) more e h = none_pass d P items more e h.1
 
-stream : (depth : Depth) (links : Bool) (bytes text : List ℕ) (s : StylesIn (record { depth = depth; links = links }) bytes text) → AllByRecursion (StoodIn s.parts) (links_of s.items)
+stream : (depth : Depth) (links : Bool) (bytes text : List ℕ) (s : StylesIn (record { depth = depth; links = links }) bytes text) → AllByRecursion (IsAdmitted (StoodIn s.parts)) (links_of s.items)
 stream depth true bytes text s =
     let w = s.whole in
     all_parts depth w.sure mode.Text w.after bytes w.rest start false [] [] s.parts s.items w.first (record { at_rest = tt; open_or_shut = inr refl }) w.whole
     (subst (λ (ps : List Part). AreLeft (with_links depth) start [] (with_titles false ps) s.items) w.whole s.left)
 stream depth false bytes text s =
     let d : Passing = record { depth = depth; links = false } in
-    none_pass d (StoodIn s.parts) s.items (ends_of (is_linked false (links_of s.items)) (is_open false (styles_of s.items))) refl (safe_closed d bytes text s)
+    none_pass d (IsAdmitted (StoodIn s.parts)) s.items (ends_of (is_linked false (links_of s.items)) (is_open false (styles_of s.items))) refl (safe_closed d bytes text s)
 
-pub in_stream : (d : Passing) (bytes text : List ℕ) (s : StylesIn d bytes text) → AllByRecursion (StoodIn s.parts) (links_of s.items)
+pub in_stream : (d : Passing) (bytes text : List ℕ) (s : StylesIn d bytes text) → AllByRecursion (IsAdmitted (StoodIn s.parts)) (links_of s.items)
 in_stream d bytes text s = stream d.depth d.links bytes text s
 
 -- ---- and each that stood there and may pass does
@@ -363,11 +363,11 @@ opens_any place.Escape params url bytes rest = absurd rest
 opens_any place.Ending params url bytes rest = absurd rest
 opens_any _ params url bytes rest = refl
 
-passes_any : (b : Begun) (a : Address) (end : List ℕ) → IsAtRest b.place → IsLink a → links_in true (begun place.Url a.params a.url) end ≡ a ∷ [] → links_in true b (27 ∷ 93 ∷ (link_body a ++ end)) ≡ a ∷ []
+passes_any : (b : Begun) (a : Address) (end : List ℕ) → IsAtRest b.place → IsWithin a → links_in true (begun place.Url a.params a.url) end ≡ admitted a ∷ [] → links_in true b (27 ∷ 93 ∷ (link_body a ++ end)) ≡ admitted a ∷ []
 passes_any b a end rest h over =
     opens_any b.place b.address.params b.address.url (link_body a ++ end) rest ∙ passes a b.address.params b.address.url end h over
 
-spelled : (b : Begun) (a : Address) (text : List ℕ) → IsAtRest b.place → IsLink a → Spells text a → links_in true b text ≡ a ∷ []
+spelled : (b : Begun) (a : Address) (text : List ℕ) → IsAtRest b.place → IsWithin a → Spells text a → links_in true b text ≡ admitted a ∷ []
 spelled b a text rest h (inl e) = ap (links_in true b) e ∙ passes_any b a (7 ∷ []) rest h refl
 spelled b a text rest h (inr e) = ap (links_in true b) e ∙ passes_any b a (27 ∷ 92 ∷ []) rest h refl
 
@@ -395,11 +395,11 @@ strings d (p ∷ ps) later b t run items h (own, others, leaves, e, left) =
 found_first : (links : List Address) (a : Address) → BeginsBy links (a ∷ []) → Contains links a
 found_first links a (more, e) = subst (λ (x : List Address). Contains x a) (sym e) (0, omega arith, refl)
 
-found_here : (d : Depth) (own later : List Part) (b : Begun) (t : Bool) (run text : List ℕ) (items : List Item) (a : Address) → IsAtRest b.place → IsSpan kind.Str text own → Spells text a → IsLink a
-    → AreLeft (with_links d) b run (with_titles t (own ++ later)) items → Contains (links_of items) a
+found_here : (d : Depth) (own later : List Part) (b : Begun) (t : Bool) (run text : List ℕ) (items : List Item) (a : Address) → IsAtRest b.place → IsSpan kind.Str text own → Spells text a → IsWithin a
+    → AreLeft (with_links d) b run (with_titles t (own ++ later)) items → Contains (links_of items) (admitted a)
 found_here d own later b t run text items a rest span spells h left =
     let all = strings d own later b t run items span.all left in
-    found_first (links_of items) a (subst (BeginsBy (links_of items)) (ap (links_in true b) span.joined ∙ spelled b a text rest h spells) all)
+    found_first (links_of items) (admitted a) (subst (BeginsBy (links_of items)) (ap (links_in true b) span.joined ∙ spelled b a text rest h spells) all)
 
 found_later : (k : Kind) (run : List ℕ) (own others items : List Item) (a : Address) → items ≡ items_behind k run ++ (own ++ others) → Contains (links_of others) a → Contains (links_of items) a
 found_later k run own others items a e h =
@@ -418,22 +418,22 @@ none_over rest q before own later e some =
     omega (arith, ap length none, length-append before (own ++ later), length-append own later)
 
 found_among : (d : Depth) (before sure own later : List Part) (m a : Mode) (bytes rest : List ℕ) (b : Begun) (t : Bool) (run text : List ℕ) (items : List Item) (link : Address) → AreFirstParts longest m bytes sure rest a → IsAtRest b.place
-    → sure ++ left_over rest ≡ before ++ (own ++ later) → IsSpan kind.Str text own → Spells text link → IsLink link → AreLeft (with_links d) b run (with_titles t (sure ++ left_over rest)) items → Contains (links_of items) link
+    → sure ++ left_over rest ≡ before ++ (own ++ later) → IsSpan kind.Str text own → Spells text link → IsWithin link → AreLeft (with_links d) b run (with_titles t (sure ++ left_over rest)) items → Contains (links_of items) (admitted link)
 found_among d [] sure own later m a bytes rest b t run text items link first h e span spells fine left =
     found_here d own later b t run text items link h span spells fine (subst (λ (ps : List Part). AreLeft (with_links d) b run (with_titles t ps) items) e left)
 found_among d (q ∷ before) [] own later m a bytes rest b t run text items link first h e span spells fine left = absurd (none_over rest q before own later e span.some)
 found_among d (q ∷ before) (p ∷ sure) own later m a bytes rest b t run text items link (behind, mid, one, next) h e span spells fine (mine, others, leaves, split, left) =
     let tail : sure ++ left_over rest ≡ before ++ (own ++ later) = cc in
-    found_later (read_as p.kind t) run mine others items link split
+    found_later (read_as p.kind t) run mine others items (admitted link) split
     (found_among d before sure own later mid a behind rest (begun_behind (with_links d) b (read_as p.kind t) p.bytes) (title_behind t p.kind p.bytes) (run_behind (read_as p.kind t) run p.bytes) text others link next
     (part_rests d p.kind p.bytes m mid bytes behind b t one h) tail span spells fine left)
 
-found_in : (depth : Depth) (links : Bool) (bytes text : List ℕ) (s : StylesIn (record { depth = depth; links = links }) bytes text) (a : Address) → links ≡ true → StoodIn s.parts a → IsLink a → Contains (links_of s.items) a
+found_in : (depth : Depth) (links : Bool) (bytes text : List ℕ) (s : StylesIn (record { depth = depth; links = links }) bytes text) (a : Address) → links ≡ true → StoodIn s.parts a → IsWithin a → Contains (links_of s.items) (admitted a)
 found_in depth true bytes text s a e stood h =
     let w = s.whole in
     found_among depth stood.before w.sure stood.own stood.rest mode.Text w.after bytes w.rest start false [] stood.text s.items a w.first tt (sym w.whole ∙ stood.whole) stood.string stood.link h
     (subst (λ (ps : List Part). AreLeft (with_links depth) start [] (with_titles false ps) s.items) w.whole s.left)
 found_in depth false bytes text s a e stood h = absurd cc
 
-pub passes_in_stream : (d : Passing) (bytes text : List ℕ) (s : StylesIn d bytes text) (a : Address) → d.links ≡ true → StoodIn s.parts a → IsLink a → Contains (links_of s.items) a
+pub passes_in_stream : (d : Passing) (bytes text : List ℕ) (s : StylesIn d bytes text) (a : Address) → d.links ≡ true → StoodIn s.parts a → IsWithin a → Contains (links_of s.items) (admitted a)
 passes_in_stream d bytes text s a e stood h = found_in d.depth d.links bytes text s a e stood h

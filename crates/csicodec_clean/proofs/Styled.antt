@@ -1,21 +1,17 @@
 -- Styles and links that stay between the runs of text.
 use Rattle.std.proofs.Common.{◌≡◌, ℕ, Bool, true, false, List, [], ◌∷◌, ◌++◌, map, encode_utf8, encode_utf8_all, length, refl, sym, ap, subst, ◌∙◌, append_assoc, append-nil, arith}
 use Rattle.std.specs.Prelude.{filter, not, ◌==◌, if◌then◌else◌}
-use Rattle.std.specs.List.{AllByRecursion, Contains}
+use Rattle.std.specs.List.{AllByRecursion}
 use Rattle.std.specs.Str.{all_scalars}
 use Rattle.std.proofs.lemmas.Bool.{and_parts}
-use Rattle.std.proofs.lemmas.List.Elements.{Contains-append_right}
 use Rattle.std.proofs.lemmas.Grind.{flat_map-append}
 use lib.Utf8.{scalar}
 use Rattle.bstr.specs.Utf8.{lossy_chars}
-use Rattle.csicodec_tokens.specs.declared.param.CsiParam.{CsiParam}
-use Rattle.csicodec_tokens.specs.Sequence.{Seq}
 use Rattle.csicodec_base.specs.declared.sgr.Sgr.{Sgr}
 use Rattle.csicodec_base.specs.declared.sgr.Sgr.TheVariants as sgr
 use Rattle.csicodec_actions.specs.Actions.{Action}
 use Rattle.csicodec_actions.specs.Actions as action
 use Rattle.csicodec_actions.specs.Table.{text, texts}
-use Rattle.csicodec_parser.specs.Segments.{Actions}
 use Rattle.csicodec.specs.Exact.{ReadsAlone}
 use Rattle.csicodec.proofs.RoundTrip.{round_trip_lem}
 use Rattle.csicodec_spans.specs.declared.table.Kind.{Kind}
@@ -27,12 +23,13 @@ use Rattle.csicodec_clean.specs.Cleaned.{AreGiven, IsStep, AreSteps, Ends, longe
 use Rattle.csicodec_clean.specs.declared.colors.Depth.{Depth}
 use Rattle.csicodec_clean.specs.Palette.{reduced}
 use Rattle.csicodec_clean.specs.declared.styles.Passing.{Passing}
-use Rattle.csicodec_clean.specs.Links.{Address, Begun, IsLink, all_behind, is_linked, link_text, link_texts, links_at, links_in, next, no_address, start}
+use Rattle.csicodec_clean.specs.Links.{Address, Begun, IsLink, IsWithin, all_behind, is_linked, link_text, link_texts, links_at, links_in, next, no_address, start}
 use Rattle.csicodec_clean.specs.Styled.{hides, is_reset, kept, Item, Shown, Style, Link, item_text, item_texts, shown_items, Leaves, begun_behind, run_behind, items_behind, AreLeft, is_open, styles_of, links_of, ends_of, closed, StylesIn, IsSafe, IsStyledIn, Keeping, keeping, first_kept, behind_styles, behind_byte, keeps, resets}
 use Rattle.csicodec_clean.proofs.Linked.{fine_behind, fine_links, linked_on, links_none}
 use Rattle.csicodec_clean.proofs.Reduced.{reduced_alone, reduced_hides, reduced_twice}
 use Rattle.csicodec_clean.proofs.Plain.{kept_shown, scalars_lossy}
 use Rattle.csicodec_clean.proofs.PlainBytes.{all_both}
+use Rattle.csicodec_clean.proofs.Taken.{StyleAlone, taken_alone}
 
 -- ---- one action behind the other
 
@@ -275,19 +272,16 @@ safe_chars d (c ∷ cs) a h = let both = and_parts (scalar c) (all_scalars cs) a
 safe_run : (d : Passing) (run : List ℕ) → AllByRecursion (IsSafe d) (shown_items run)
 safe_run d run = let k = kept_shown (lossy_chars run) (scalars_lossy run) in safe_chars d (filter shown (lossy_chars run)) k.0 k.1
 
-safe_kept : (d : Passing) (actions : List Action) → ((s : Sgr) → Contains actions (action.Sgr s) → ReadsAlone (action.Sgr s) false) → AllByRecursion (IsSafe d) (map Style (kept d.depth actions))
-safe_kept d [] f = tt
-safe_kept d (action.Sgr s ∷ xs) f = by (safe_kept d xs (λ t h. f t (Contains-append_right (action.Sgr s ∷ []) xs (action.Sgr t) h))) (hides s) refl
+safe_kept : (d : Passing) (actions : List Action) → AllByRecursion StyleAlone actions → AllByRecursion (IsSafe d) (map Style (kept d.depth actions))
+safe_kept d [] all = tt
+safe_kept d (action.Sgr s ∷ xs) all = by (safe_kept d xs all.1) (hides s) refl
   where
     by : AllByRecursion (IsSafe d) (map Style (kept d.depth xs)) → (b : Bool) → hides s ≡ b → AllByRecursion (IsSafe d) (map Style (if b then kept d.depth xs else reduced d.depth s ∷ kept d.depth xs))
     by rest true e = rest
-    by rest false e = ((reduced_hides d.depth s ∙ e, reduced_alone d.depth s (f s (0, omega arith, refl)), reduced_twice d.depth s), rest)
-safe_kept d (x ∷ xs) f = safe_kept d xs (λ t h. f t (Contains-append_right (x ∷ []) xs (action.Sgr t) h))
+    by rest false e = ((reduced_hides d.depth s ∙ e, reduced_alone d.depth s all.0, reduced_twice d.depth s), rest)
+safe_kept d (x ∷ xs) all = safe_kept d xs all.1
 
-alone : (list : List CsiParam) (final : ℕ) (bytes : List ℕ) (actions : List Action) → Seq bytes list final → Actions list false final actions → (s : Sgr) → Contains actions (action.Sgr s) → ReadsAlone (action.Sgr s) false
-alone list final bytes actions seq read s one = (round_trip_lem list false final seq.spellable seq.ends actions read).attributes s one
-
-safe_links : (d : Passing) (bytes : List ℕ) (b : Begun) → IsLink b.address → AllByRecursion (IsSafe d) (map Link (links_in d.links b bytes))
+safe_links : (d : Passing) (bytes : List ℕ) (b : Begun) → IsWithin b.address → AllByRecursion (IsSafe d) (map Link (links_in d.links b bytes))
 safe_links d bytes b h = by d.links refl
   where
     all : (links : List Address) → d.links ≡ true → AllByRecursion IsLink links → AllByRecursion (IsSafe d) (map Link links)
@@ -298,8 +292,8 @@ safe_links d bytes b h = by d.links refl
     by true e = all (links_in true b bytes) e (fine_links true bytes b h)
     by false e = rw (links_none bytes b) tt
 
-safe_part : (d : Passing) (b : Begun) (k : Kind) (bytes : List ℕ) (own : List Item) → IsLink b.address → Leaves d b k bytes own → AllByRecursion (IsSafe d) own
-safe_part d b kind.Csi bytes own h (actions, (list, final, seq, read), e) = rw e (safe_kept d actions (alone list final bytes actions seq read))
+safe_part : (d : Passing) (b : Begun) (k : Kind) (bytes : List ℕ) (own : List Item) → IsWithin b.address → Leaves d b k bytes own → AllByRecursion (IsSafe d) own
+safe_part d b kind.Csi bytes own h (actions, is, e) = rw e (safe_kept d actions (taken_alone bytes actions is))
 safe_part d b kind.Str bytes own h e = rw e (safe_links d bytes b h)
 safe_part d b _ bytes own h e = rw e tt
 
@@ -307,11 +301,11 @@ safe_behind : (d : Passing) (k : Kind) (run : List ℕ) → AllByRecursion (IsSa
 safe_behind d kind.Text run = tt
 safe_behind d _ run = safe_run d run
 
-fine_part : (d : Passing) (b : Begun) (k : Kind) (bytes : List ℕ) → IsLink b.address → IsLink (begun_behind d b k bytes).address
+fine_part : (d : Passing) (b : Begun) (k : Kind) (bytes : List ℕ) → IsWithin b.address → IsWithin (begun_behind d b k bytes).address
 fine_part d b kind.Str bytes h = fine_behind d.links bytes b h
 fine_part d b _ bytes h = h
 
-safe_left : (d : Passing) (b : Begun) (parts : List Part) (run : List ℕ) (items : List Item) → IsLink b.address → AreLeft d b run parts items → AllByRecursion (IsSafe d) items
+safe_left : (d : Passing) (b : Begun) (parts : List Part) (run : List ℕ) (items : List Item) → IsWithin b.address → AreLeft d b run parts items → AllByRecursion (IsSafe d) items
 safe_left d b [] run items h e = rw e (safe_run d run)
 safe_left d b (p ∷ parts) run items h (own, others, leaves, e, rest) =
     let later = safe_left d (begun_behind d b p.kind p.bytes) parts (run_behind p.kind run p.bytes) others (fine_part d b p.kind p.bytes h) rest in
@@ -320,8 +314,11 @@ safe_left d b (p ∷ parts) run items h (own, others, leaves, e, rest) =
 reset_alone : ReadsAlone (action.Sgr sgr.Reset) false
 reset_alone = (round_trip_lem [] false 109 tt (omega arith, omega arith) (action.Sgr sgr.Reset ∷ []) refl).attributes sgr.Reset (0, omega arith, refl)
 
+none_within : IsWithin no_address
+none_within = record { params = tt; few = omega arith; url = tt; short = omega arith }
+
 none_fine : IsLink no_address
-none_fine = record { params = tt; few = omega arith; url = tt; short = omega arith }
+none_fine = record { within = none_within; leads = refl }
 
 -- a link is open only where links pass
 linked_passes : (d : Passing) (items : List Item) (linked : Bool) → (linked ≡ true → d.links ≡ true) → AllByRecursion (IsSafe d) items → is_linked linked (links_of items) ≡ true → d.links ≡ true
@@ -350,7 +347,7 @@ safe_ends d false false f = tt
 
 pub safe_closed : (d : Passing) (bytes text : List ℕ) (s : StylesIn d bytes text) → AllByRecursion (IsSafe d) (closed s.items)
 safe_closed d bytes text s =
-    let safe = safe_left d start (with_titles false s.parts) [] s.items none_fine s.left in
+    let safe = safe_left d start (with_titles false s.parts) [] s.items none_within s.left in
     let linked = is_linked false (links_of s.items) in
     let styled = is_open false (styles_of s.items) in
     all_both (IsSafe d) s.items (ends_of linked styled) safe (safe_ends d linked styled (λ e. linked_passes d s.items false (λ no. absurd cc) safe e))

@@ -4,6 +4,7 @@ use Rattle.std.specs.Prelude.{ℕ, ◌≡◌, ◌≤◌, ◌⊎◌, ◌==◌, Bo
 use Rattle.std.specs.List.{AllByRecursion, flat_map}
 use Rattle.csicodec_spans.specs.declared.table.Kind.TheVariants as kind
 use Rattle.csicodec_spans.specs.Parts.{Part, IsSpan}
+use Rattle.csicodec_clean.specs.Addresses.{led}
 use Rattle.csicodec_clean.specs.declared.links.Place.{Place}
 use Rattle.csicodec_clean.specs.declared.links.Place.TheVariants as place
 
@@ -26,12 +27,25 @@ longest_params = 256
 abbrev pub longest_url : ℕ
 longest_url = 2083
 
--- the link may pass
-pub record IsLink (a : Address) : Type 0 where
+-- the link is read: of such bytes, and of so many
+pub record IsWithin (a : Address) : Type 0 where
   pub params : AllByRecursion (λ b. is_param b ≡ true) a.params
   pub few : length a.params ≤ longest_params
   pub url : AllByRecursion (λ b. is_visible b ≡ true) a.url
   pub short : length a.url ≤ longest_url
+
+-- what passes of it: where it may not lead, it leads nowhere, and ends the one before it
+abbrev pub admitted : Address → Address
+admitted a = record { params = a.params; url = led a.url }
+
+-- the link may pass as it is
+pub record IsLink (a : Address) : Type 0 where
+  pub within : IsWithin a
+  pub leads : led a.url ≡ a.url
+
+-- it is what passes of such a link
+abbrev pub IsAdmitted : (Address → Type 0) → Address → Type 0
+IsAdmitted Such a = (whole : Address) × Such whole × (a ≡ admitted whole)
 
 -- what stands between `ESC ]` and the end
 abbrev pub link_body : Address → List ℕ
@@ -127,9 +141,9 @@ ends_at place.Params c = false
 ends_at place.Url c = c == 7
 ends_at place.Ending c = c == 92
 
--- the link that is over with the byte, where links pass
+-- what passes of the link that is over with the byte, where links pass
 abbrev pub links_at : Bool → Begun → ℕ → List Address
-links_at passing b c = if passing && ends_at b.place c then b.address ∷ [] else []
+links_at passing b c = if passing && ends_at b.place c then admitted b.address ∷ [] else []
 
 abbrev pub next : Bool → Begun → ℕ → Begun
 next passing b c = if passing then behind b c else b

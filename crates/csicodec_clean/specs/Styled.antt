@@ -13,6 +13,7 @@ use Rattle.csicodec_actions.specs.Actions as action
 use Rattle.csicodec_actions.specs.Table.{text, texts}
 use Rattle.csicodec_parser.specs.Segments.{Actions}
 use Rattle.csicodec.specs.Exact.{ReadsAlone}
+use Rattle.csicodec_terminal.specs.Terminal.{IsTakenFor}
 use Rattle.csicodec_spans.specs.declared.table.Kind.{Kind}
 use Rattle.csicodec_spans.specs.declared.table.Kind.TheVariants as kind
 use Rattle.csicodec_spans.specs.declared.table.Mode.TheVariants as mode
@@ -43,7 +44,7 @@ kept d [] = []
 kept d (action.Sgr s ∷ actions) = if hides s then kept d actions else reduced d s ∷ kept d actions
 kept d (a ∷ actions) = kept d actions
 
--- the bytes are one control sequence, of these actions
+-- the bytes are one control sequence, of these actions by the table
 abbrev pub IsOf : List ℕ → List Action → Type 0
 IsOf bytes actions = (list : List CsiParam) × (final : ℕ) × Seq bytes list final
     × Actions list false final actions
@@ -66,10 +67,10 @@ item_texts items = flat_map item_text items
 abbrev pub shown_items : List ℕ → List Item
 shown_items run = map Shown (filter shown (lossy_chars run))
 
--- what a part leaves: a control sequence the styles that stay, a control string, where links pass, the link that is over with it,
+-- what a part leaves: a control sequence the styles that stay of what terminals take it for, a control string, where links pass, the link that is over with it,
 -- and any other nothing
 abbrev pub Leaves : Passing → Begun → Kind → List ℕ → List Item → Type 0
-Leaves d b kind.Csi bytes own = (actions : List Action) × IsOf bytes actions
+Leaves d b kind.Csi bytes own = (actions : List Action) × IsTakenFor bytes actions
     × (own ≡ map Style (kept d.depth actions))
 Leaves d b kind.Str bytes own = own ≡ map Link (links_in d.links b bytes)
 Leaves d b kind.Text bytes own = own ≡ []
@@ -184,7 +185,7 @@ behind_byte k c = keeping k.passing k.styled
 abbrev pub keeps : {S : Type 0} → (S → Keeping) → RuleOf S
 keeps of = record {
   sequence = λ s bytes out after.
-      (actions : List Action) × IsOf bytes actions
+      (actions : List Action) × IsTakenFor bytes actions
       × (out ≡ texts (map action.Sgr (kept (of s).passing.depth actions)))
       × (of after ≡ behind_styles (of s) (kept (of s).passing.depth actions));
   byte = λ s c out after. (out ≡ link_texts (links_at (of s).passing.links (of s).begun c))

@@ -1,7 +1,8 @@
 //! Laws of the definitions. Each is the contract of a function that does nothing.
-ghost use Rattle.std.specs.Prelude.{◌≡◌, ◌≢◌, ◌∷◌, ◌++◌, [], ℕ, List, false, length, slice_get, true};
+ghost use Rattle.std.specs.Prelude.{◌≡◌, ◌≢◌, ◌∷◌, ◌++◌, [], ℕ, List, codes, false, length, slice_get, true};
 ghost use Rattle.std.specs.List.{AllByRecursion, Contains, concat};
-ghost use Rattle.csicodec_clean.specs.Links.{Address, IsLink, Stood, StoodIn, begun, link_body, links_in, start};
+ghost use Rattle.csicodec_clean.specs.Addresses.{ends_host, is_web, led};
+ghost use Rattle.csicodec_clean.specs.Links.{Address, IsAdmitted, IsLink, IsWithin, Stood, StoodIn, admitted, begun, link_body, links_in, start};
 ghost use Rattle.csicodec_clean.specs.declared.links.Place.TheVariants.{Outside};
 ghost use Rattle.csicodec_names.specs.declared.color.SrgbaTuple.{SrgbaTuple};
 ghost use Rattle.csicodec_clean.specs.Cleaned.{Ends, Strips, drops, ends_bare, longest};
@@ -109,24 +110,38 @@ pub fn strip_cleaned()
         → Strips longest bytes plain → Strips longest styles other → other ≡ plain }
 {}
 
-/// A link that may pass does, with BEL at its end or with ST, whatever came before it: wherever it stands in a stream as a control
-/// string.
-#[tactic(auto, using(crate::proofs::Linked::passes, crate::proofs::Stood::passes_in_stream))]
-pub fn links_pass()
-    ensures bel { (a : Address) (params url : List ℕ) → IsLink a
-        → links_in true (begun Outside params url) (27 ∷ 93 ∷ (link_body a ++ 7 ∷ [])) ≡ a ∷ [] }
-    ensures st { (a : Address) (params url : List ℕ) → IsLink a
-        → links_in true (begun Outside params url) (27 ∷ 93 ∷ (link_body a ++ 27 ∷ 92 ∷ []))
-        ≡ a ∷ [] }
-    ensures stream { (d : Passing) (bytes text : List ℕ) (s : StylesIn d bytes text) (a : Address)
-        → d.links ≡ true → StoodIn s.parts a → IsLink a → Contains (links_of s.items) a }
+/// An address with a user's name in front of its host leads nowhere, and what leads there is no other address.
+pub fn no_user()
+    ensures http { (user rest : List ℕ) → AllByRecursion (λ b. ends_host b ≡ false) user
+        → is_web (codes "http://" ++ (user ++ 64 ∷ rest)) ≡ false }
+    ensures https { (user rest : List ℕ) → AllByRecursion (λ b. ends_host b ≡ false) user
+        → is_web (codes "https://" ++ (user ++ 64 ∷ rest)) ≡ false }
+    ensures led { (url : List ℕ) → led (led url) ≡ led url }
 {}
 
-/// And each link that passes stood there: in the bytes of control strings, and in a stream as a control string of its own.
+/// What passes of a link does, with BEL at its end or with ST, whatever came before it: wherever it stands in a stream as a control
+/// string. Of one that may pass that is the link itself.
+#[tactic(auto, using(crate::proofs::Linked::itself, crate::proofs::Linked::passes))]
+pub fn links_pass()
+    ensures bel { (a : Address) (params url : List ℕ) → IsWithin a
+        → links_in true (begun Outside params url) (27 ∷ 93 ∷ (link_body a ++ 7 ∷ []))
+        ≡ admitted a ∷ [] }
+    ensures st { (a : Address) (params url : List ℕ) → IsWithin a
+        → links_in true (begun Outside params url) (27 ∷ 93 ∷ (link_body a ++ 27 ∷ 92 ∷ []))
+        ≡ admitted a ∷ [] }
+    ensures stream { (d : Passing) (bytes text : List ℕ) (s : StylesIn d bytes text) (a : Address)
+        → d.links ≡ true → StoodIn s.parts a → IsWithin a
+        → Contains (links_of s.items) (admitted a) }
+    ensures itself { (a : Address) → IsLink a → admitted a ≡ a }
+{}
+
+/// And each link that passes is what passes of one that stood there: in the bytes of control strings, and in a stream as a control
+/// string of its own.
 pub fn links_stood()
-    ensures bytes { (bytes : List ℕ) → AllByRecursion (Stood bytes) (links_in true start bytes) }
+    ensures bytes { (bytes : List ℕ)
+        → AllByRecursion (IsAdmitted (Stood bytes)) (links_in true start bytes) }
     ensures stream { (d : Passing) (bytes text : List ℕ) (s : StylesIn d bytes text)
-        → AllByRecursion (StoodIn s.parts) (links_of s.items) }
+        → AllByRecursion (IsAdmitted (StoodIn s.parts)) (links_of s.items) }
 {}
 
 /// The place that a colour becomes is the nearest of the palette, and of those that are as near the first.

@@ -1,8 +1,9 @@
 //! Links, read byte by byte.
 ghost use Rattle.std.specs.Prelude.{◌≡◌, ◌++◌, ℕ, List, Bool, true, [], OnOk, IfOk};
 ghost use Rattle.csicodec_clean.specs.declared.links.Place.TheVariants.{Params as InParams, Url as InUrl};
-ghost use Rattle.csicodec_clean.specs.Links.{all_behind, anew, begun, behind, ends_at, is_linked, is_param, is_visible, link_text, link_texts, links_at, links_in, no_address, opened, start};
+ghost use Rattle.csicodec_clean.specs.Links.{admitted, all_behind, anew, begun, behind, ends_at, is_linked, is_param, is_visible, link_text, link_texts, links_at, links_in, no_address, opened, start};
 
+use crate::addresses::led;
 use std::alloc::{AllocError, Global};
 
 /// How far a control string is that of a link, `ESC ] 8 ; PARAMS ; URL` and then ST or BEL.
@@ -179,21 +180,22 @@ impl LinkReader {
         Ok(())
     }
 
-    /// Appends the link in its normal form.
+    /// Appends what passes of the link, in its normal form.
     fn append(&self, out: &mut Vec<u8>) -> Result<(), AllocError>
         ensures { OnOk result
             (out.new.items
             ≡ out.old.items
-            ++ link_text (record { params = self.now.params.items; url = self.now.url.items })) }
+            ++ link_text
+            (admitted (record { params = self.now.params.items; url = self.now.url.items }))) }
     {
         out.extend_from_slice(b"\x1b]8;")?;
         out.extend_from_slice(&self.params)?;
         out.push(b';')?;
-        out.extend_from_slice(&self.url)?;
+        out.extend_from_slice(led(&self.url))?;
         out.extend_from_slice(b"\x1b\\")
     }
 
-    /// Takes the next byte of a control string, appends the link that is over with it, and answers whether one is open then.
+    /// Takes the next byte of a control string, appends what passes of the link that is over with it, and answers whether one is open then.
     fn append_byte(&mut self, byte: u8, linked: bool, out: &mut Vec<u8>) -> Result<bool, AllocError>
         ensures text { OnOk result
             (out.new.items
@@ -211,13 +213,13 @@ impl LinkReader {
         let mut linked = linked;
         if ends_link(self.place, byte) {
             self.append(out)?;
-            linked = !self.url.is_empty();
+            linked = !led(&self.url).is_empty();
         }
         self.take(byte)?;
         Ok(linked)
     }
 
-    /// Takes bytes of a control string in turn, appends the links that are over with them, and answers whether one is open then.
+    /// Takes bytes of a control string in turn, appends what passes of those that are over with them, and answers whether one is open then.
     pub(crate) fn append_links(
         &mut self,
         bytes: &[u8],

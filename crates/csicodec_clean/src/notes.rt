@@ -3,10 +3,10 @@ ghost use Rattle.std.specs.Prelude.{◌≡◌, ◌<◌, ◌≤◌, ◌++◌, ◌
 ghost use Rattle.csicodec_actions.specs.Actions.{Action, Sgr as SgrAction};
 ghost use Rattle.csicodec_actions.specs.Table.{texts};
 ghost use Rattle.csicodec_parser.specs.ActionOf.{action_of};
-ghost use Rattle.csicodec_parser.specs.Segments.{Actions};
 ghost use Rattle.csicodec_streams.specs.Known.{AreKnown};
 ghost use Rattle.csicodec_clean.specs.declared.colors.Depth.TheVariants.{Full as AllColors};
-ghost use Rattle.csicodec_clean.specs.Styled.{IsOf, is_open, kept};
+ghost use Rattle.csicodec_terminal.specs.Terminal.{IsTakenFor, Terminal};
+ghost use Rattle.csicodec_clean.specs.Styled.{is_open, kept};
 ghost use Rattle.csicodec_clean.specs.Private.Notes.{IsLeft, IsNoted, depth_byte, open_byte};
 
 use crate::class::LANES;
@@ -17,7 +17,8 @@ use crate::whole::near;
 use csicodec::CSI;
 use csicodec_base::{CsiParam, ReadError, read_csi_into};
 use csicodec_filter::Known;
-use csicodec_streams::{Note, color_text, parse_into, position_len, read_color};
+use csicodec_streams::{Note, color_text, position_len, read_color};
+use csicodec_terminal::terminal_actions_into;
 use std::alloc::{AllocError, Global};
 
 /// The note that is what stays of a sequence.
@@ -151,13 +152,12 @@ impl Room {
         out: &mut Vec<u8>,
     ) -> Result<(), AllocError>
         ensures actions { OnOk result
-            (Actions params.now false control (map action_of self.new.actions.items)) }
+            (Terminal params.now false control (map action_of self.new.actions.items)) }
         ensures text { OnOk result (out.new.items
             ≡ out.old.items
             ++ texts (map SgrAction (kept depth (map action_of self.new.actions.items)))) }
     {
-        self.actions.clear();
-        parse_into(self.alloc, params, false, control, &mut self.actions)?;
+        terminal_actions_into(self.alloc, params, false, control, &mut self.actions)?;
         append_styles(depth, &self.actions, out)?;
         Ok(())
     }
@@ -172,7 +172,7 @@ impl Room {
         text: &[u8],
     ) -> Result<(), AllocError>
         requires known { AreKnown IsNoted known.old.memo.slots.items }
-        requires sequence { IsOf (take len bytes.now) (map action_of self.old.actions.items) }
+        requires sequence { IsTakenFor (take len bytes.now) (map action_of self.old.actions.items) }
         requires text { text.now
             ≡ texts (map SgrAction (kept depth (map action_of self.old.actions.items))) }
         ensures known { AreKnown IsNoted known.new.memo.slots.items }
@@ -199,7 +199,7 @@ impl Room {
     ) -> Result<usize, AllocError>
         ensures within { IfOk result (λ len. (len ≤ limit) × (len ≤ length bytes.now)) }
         ensures read { IfOk result (λ len. 0 < len
-            → IsOf (take len bytes.now) (map action_of self.new.actions.items)) }
+            → IsTakenFor (take len bytes.now) (map action_of self.new.actions.items)) }
     {
         let front = near(limit, bytes);
         self.actions.clear();
@@ -209,7 +209,8 @@ impl Room {
         }
         match read_csi_into(params, front) {
             Ok(tail) => {
-                parse_into(self.alloc, params, false, tail.control, &mut self.actions)?;
+                let actions = &mut self.actions;
+                terminal_actions_into(self.alloc, params, false, tail.control, actions)?;
                 Ok(front.len() - tail.rest.len())
             }
             Err(ReadError::Memory) => Err(AllocError),

@@ -99,7 +99,8 @@ pub(crate) fn is_open(depth: Depth, actions: &[CSI], styled: bool) -> bool
 pub struct Passing {
     /// Which colours stay.
     pub depth: Depth,
-    /// Whether links pass (OSC 8) whose address is visible ASCII, of at most 2,083 bytes, with at most 256 bytes of parameters.
+    /// Whether links pass (OSC 8) to a host by http or https whose address is visible ASCII, of at most 2,083 bytes, and has no user's
+    /// name, with at most 256 bytes of parameters. Any other address passes as none, and ends the link before it.
     pub links: bool,
 }
 

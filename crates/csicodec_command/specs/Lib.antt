@@ -1,3 +1,4 @@
 pub mod Failure
 pub mod Overwrites
+pub mod Recorded
 pub mod Runs

@@ -6,12 +6,14 @@ mod command;
 mod failure;
 mod note;
 mod options;
+mod recorded;
 mod recording;
 mod run;
 
 pub use command::{ColorWhen, Colors, Command, Request, Task, Wanted, Wrong, command_of, nearest};
 pub use failure::{Failure, Found};
 pub use options::{USAGE, VERSION};
+pub use recorded::Recorded;
 pub use recording::{Recording, line_front, micros, time_of};
 pub use run::{
     Alone, Inputs, Output, Recordings, Source, Worker, asked, failed, is_cast, refused,

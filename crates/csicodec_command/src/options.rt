@@ -44,7 +44,7 @@ pub(crate) static OPTIONS: [(&str, &str, &str); 32] = [
     ("--log", "strip clean", ""),
     ("--no-overwrite", "html", ""),
     ("--only", "explain", "names such as SGR,CUP"),
-    ("--overwrite", "strip html", ""),
+    ("--overwrite", "strip clean html", ""),
     (
         "--palette",
         "html",
@@ -160,11 +160,15 @@ written as a recording with the same times. A FILE is one if its name ends in
   --lines        Clean each line by itself, as logs need it. A sequence, string
                  or style that a line leaves open ends with the line. A carriage
                  return also ends a line.
-  --links        Keep links (OSC 8) whose address is at most 2,083 bytes of
-                 visible ASCII. A link that is still open at the end is closed.
+  --links        Keep links (OSC 8) to http and https addresses of at most
+                 2,083 bytes of visible ASCII, without a user's name. A link
+                 that is still open at the end is closed.
   --log          Clean each line by itself, and write it as it looks at its end.
-                 This is for build logs. It can't be combined with --lines or
-                 --links.
+                 This is for build logs. It can't be combined with --lines,
+                 --links or --overwrite.
+  --overwrite    Write each line as it looks at its end, such as a progress bar,
+                 with its colours and styles. It can't be combined with --lines
+                 or --links.
   --text         From a recording, write the cleaned text and no recording.
   -h, --help     Show this text.";
 
@@ -185,7 +189,8 @@ ends in .cast, and standard input if it begins like one.
                      the style sheet, and a fragment doesn't.
   --fragment         Write only what goes into a <pre> of your own page.
   --links            Keep links (OSC 8) to http and https addresses of at most
-                     2,083 bytes of visible ASCII. This implies --no-overwrite.
+                     2,083 bytes of visible ASCII, without a user's name. This
+                     implies --no-overwrite.
   --no-overwrite     Keep text that a carriage return or an erase would hide.
                      Use it for the output of full-screen programs.
   --overwrite        Write each line as it looks at its end, which is the

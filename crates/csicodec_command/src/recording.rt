@@ -1,8 +1,12 @@
 //! Recordings of asciinema (asciicast, versions 2 and 3): a line of JSON with the version, and one for each event, `[time, "o",
 //! "data"]` for what a program wrote. Times are seconds: in version 2 from the begin, in version 3 from the event before.
-ghost use Rattle.std.specs.Prelude.{◌≡◌, ◌∷◌, ℕ, List, true, IfErr, IfOk, OnSome};
+ghost use Rattle.std.specs.Prelude.{◌≡◌, ◌≢◌, ◌∷◌, ℕ, List, None, Some, true, IfErr, IfOk, IsUtf8, OnErr, OnOk, OnSome, option_map, string_bytes};
+ghost use Rattle.std.specs.Str.{trim};
+ghost use Rattle.serde_json.specs.Read.{read};
+ghost use Rattle.serde_json.specs.View.{view};
 ghost use Rattle.csicodec_streams.specs.declared.error.RunError.{RunError};
-ghost use Rattle.csicodec_command.specs.declared.failure.Failure.TheVariants.{Run as Ran};
+ghost use Rattle.csicodec_command.specs.declared.failure.Failure.TheVariants.{Recording as Refused, Run as Ran};
+ghost use Rattle.csicodec_command.specs.Recorded.{data_or_none, event_of, is_passed, line_says, says, texts_of, version_behind, version_in, written};
 
 use crate::failure::Failure;
 use csicodec_streams::RunError;
@@ -45,7 +49,9 @@ pub fn time_of(line: &str) -> &str {
 }
 
 /// What went wrong where memory ran out.
-fn no_memory(_: AllocError) -> Failure {
+fn no_memory(_: AllocError) -> Failure
+    ensures { result ≡ Ran RunError.Memory }
+{
     Failure::Run(RunError::Memory)
 }
 
@@ -73,12 +79,22 @@ fn object_front(bytes: &[u8]) -> Option<&str>
     std::str::from_utf8(line).ok()
 }
 
-/// Whether an object is the first line of a recording.
-fn is_header(object: &Value) -> bool {
-    match object.get("version") {
-        Some(version) => matches!(version.as_u64(), Some(2 | 3)),
-        None => false,
+/// The version of a recording of which this is the first line.
+fn version_of(object: &Value) -> Option<u64>
+    ensures { result ≡ version_in (view object.now) }
+{
+    match object.get("version").and_then(Value::as_u64) {
+        Some(2) => Some(2),
+        Some(3) => Some(3),
+        _ => None,
     }
+}
+
+/// Whether a line has no event: it is blank, or a comment.
+fn is_passed(line: &str) -> bool
+    ensures { result ≡ is_passed line.now }
+{
+    matches!(line.as_bytes(), [] | [b'#', ..])
 }
 
 /// Whether the first bytes of an input are the first line of a recording, which is an object of JSON with the version.
@@ -90,15 +106,29 @@ pub fn is_recording(alloc: Global, bytes: &[u8]) -> Result<bool, Failure>
         return Ok(false);
     };
     match Value::from_str(alloc, line) {
-        Ok(object) => Ok(is_header(&object)),
+        Ok(object) => Ok(version_of(&object).is_some()),
         Err(error) if error.is_memory() => Err(Failure::Run(RunError::Memory)),
         Err(_) => Ok(false),
     }
 }
 
+/// The data of an event, where a program wrote them.
+fn data_of(event: Option<(String, String)>) -> Option<String>
+    ensures { data_or_none result ≡ written (option_map texts_of event) }
+{
+    let (code, text) = event?;
+    if code.as_str() == "o" {
+        Some(text)
+    } else {
+        None
+    }
+}
+
 impl Recording {
     /// Of which nothing was read.
-    pub fn new(alloc: Global) -> Recording {
+    pub fn new(alloc: Global) -> Recording
+        ensures { result.version ≡ 0 }
+    {
         Recording {
             alloc,
             version: 0,
@@ -118,7 +148,9 @@ impl Recording {
     }
 
     /// There are no more lines; one at least must have been there.
-    pub fn end(&self) -> Result<(), Failure> {
+    pub fn end(&self) -> Result<(), Failure>
+        ensures { OnOk result (self.now.version ≢ 0) }
+    {
         if self.version == 0 {
             Err(self.refusal())
         } else {
@@ -127,7 +159,9 @@ impl Recording {
     }
 
     /// What refuses a line.
-    fn refusal(&self) -> Failure {
+    fn refusal(&self) -> Failure
+        ensures { result ≡ Refused self.now.lines }
+    {
         Failure::Recording(self.lines)
     }
 
@@ -148,45 +182,65 @@ impl Recording {
         }
     }
 
-    fn value_of(&self, line: &str) -> Result<Value, Failure> {
+    /// The object or the array of a line.
+    fn value_of(&self, line: &str) -> Result<Value, Failure>
+        ensures ok { IfOk result (λ v. read line.now ≡ Some (view v)) }
+        ensures err { IfErr result (λ f. f ≢ Ran RunError.Memory → read line.now ≡ None) }
+    {
         match Value::from_str(self.alloc, line) {
             Ok(value) => Ok(value),
-            Err(error) => Err(if error.is_memory() {
-                Failure::Run(RunError::Memory)
-            } else {
-                self.refusal()
-            }),
+            Err(error) if error.is_memory() => Err(Failure::Run(RunError::Memory)),
+            Err(_) => Err(self.refusal()),
         }
     }
 
-    /// The next line; the data of its event, where a program wrote them.
-    pub fn take(&mut self, line: &str) -> Result<Option<String>, Failure> {
-        match self.take_any(line)? {
-            Some((code, data)) if code.as_str() == "o" => Ok(Some(data)),
-            _ => Ok(None),
-        }
+    /// The next line, with its end; the data of its event, where a program wrote them.
+    pub fn take(&mut self, line: &[u8]) -> Result<Option<String>, Failure>
+        ensures ok { IfOk result (λ text.
+            option_map written (line_says self.old.version line.now) ≡ Some (data_or_none text)) }
+        ensures version { OnOk result
+            (self.new.version ≡ version_behind self.old.version (trim line.now)) }
+        ensures kept { OnErr result (self.new.version ≡ self.old.version) }
+        ensures refused { IfErr result (λ f. f ≢ Ran RunError.Memory
+            → line_says self.old.version line.now ≡ None) }
+    {
+        let Ok(text) = std::str::from_utf8(line) else {
+            self.lines = self.lines.saturating_add(1);
+            return Err(self.refusal());
+        };
+        let event = self.take_any(text)?;
+        Ok(data_of(event))
     }
 
     /// The next line; the code of its event, `o` where a program wrote data, and the data.
-    pub fn take_any(&mut self, line: &str) -> Result<Option<(String, String)>, Failure> {
+    pub fn take_any(&mut self, line: &str) -> Result<Option<(String, String)>, Failure>
+        ensures ok { IfOk result (λ e.
+            says self.old.version (trim line.now) ≡ Some (option_map texts_of e)) }
+        ensures version { OnOk result
+            (self.new.version ≡ version_behind self.old.version (trim line.now)) }
+        ensures kept { OnErr result (self.new.version ≡ self.old.version) }
+        ensures refused { IfErr result (λ f. f ≢ Ran RunError.Memory
+            → says self.old.version (trim line.now) ≡ None) }
+    {
         self.lines = self.lines.saturating_add(1);
         let line = line.trim();
         if self.version == 0 {
             let header = self.value_of(line)?;
-            self.version = header.get("version").and_then(Value::as_u64).unwrap_or(0);
-            return if self.version == 2 || self.version == 3 {
-                Ok(None)
-            } else {
-                Err(self.refusal())
-            };
-        }
-        if line.is_empty() || line.starts_with('#') {
+            self.version = version_of(&header).ok_or(self.refusal())?;
             return Ok(None);
         }
-        self.take_event(line)
+        if is_passed(line) {
+            return Ok(None);
+        }
+        Ok(Some(self.take_event(line)?))
     }
 
-    fn take_event(&mut self, line: &str) -> Result<Option<(String, String)>, Failure> {
+    /// The code and the data of an event.
+    fn take_event(&mut self, line: &str) -> Result<(String, String), Failure>
+        ensures ok { IfOk result (λ e. event_of line.now ≡ Some (texts_of e)) }
+        ensures version { self.new.version ≡ self.old.version }
+        ensures refused { IfErr result (λ f. f ≢ Ran RunError.Memory → event_of line.now ≡ None) }
+    {
         let event = self.value_of(line)?;
         let code = event.get(1usize).and_then(Value::as_str);
         let data = event.get(2usize).and_then(Value::as_str);
@@ -201,6 +255,6 @@ impl Recording {
         };
         let code = String::from_str(self.alloc, code).map_err(no_memory)?;
         let data = String::from_str(self.alloc, data).map_err(no_memory)?;
-        Ok(Some((code, data)))
+        Ok((code, data))
     }
 }

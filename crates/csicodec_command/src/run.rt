@@ -40,6 +40,9 @@ pub trait Worker {
     /// Which inputs are recordings.
     fn recordings(&self) -> Recordings;
 
+    /// Whether the system's reason is told behind a read or a write that failed.
+    fn tells_reasons(&self) -> bool;
+
     /// The input of this name comes next, `-` for standard input; it could be opened.
     fn begin<W: Write>(&mut self, name: &str, output: &mut W) -> Result<(), Failure>
         ensures { steps (Asked.Next name.now) (self.old, W.contents output.old) result
@@ -77,6 +80,9 @@ pub trait Alone {
     /// How that goes.
     ghost goes: { GoesOf Self };
 
+    /// Whether the system's reason is told behind a read or a write that failed.
+    fn gives_reasons(&self) -> bool;
+
     /// Works on this input, to its end.
     fn work<R: Read, W: Write>(
         &mut self,
@@ -95,6 +101,10 @@ impl<T: Alone> Worker for T {
 
     fn recordings(&self) -> Recordings {
         Recordings::Never
+    }
+
+    fn tells_reasons(&self) -> bool {
+        self.gives_reasons()
     }
 
     fn begin<W: Write>(&mut self, _name: &str, _output: &mut W) -> Result<(), Failure> {
@@ -244,21 +254,25 @@ pub fn failed(rt: &HostRuntime, failure: Failure, name: &str, reason: Option<io:
     failure.status()
 }
 
-/// Says what failed, unless the reader of the output went away: then there is nobody to tell.
-#[inline(never)]
-fn stopped(
-    rt: &HostRuntime,
-    failure: Failure,
-    name: &str,
+/// Why the last read and the last write failed, if they did.
+#[derive(Clone, Copy)]
+struct Faults {
+    /// Whether they are told.
+    told: bool,
     read: Option<io::Error>,
     written: Option<io::Error>,
-) -> u8
+}
+
+/// Says what failed, unless the reader of the output went away: then there is nobody to tell.
+#[inline(never)]
+fn stopped(rt: &HostRuntime, failure: Failure, name: &str, faults: Faults) -> u8
     ensures { IsTold failure result }
 {
-    let reason = match (failure, written) {
+    let reason = match (failure, faults.written) {
         (Failure::Run(RunError::Write), Some(fault)) if is_gone(fault) => return GONE,
-        (Failure::Run(RunError::Write), _) => written,
-        (Failure::Run(RunError::Read), _) => read,
+        _ if !faults.told => None,
+        (Failure::Run(RunError::Write), _) => faults.written,
+        (Failure::Run(RunError::Read), _) => faults.read,
         _ => None,
     };
     failed(rt, failure, name, reason)
@@ -381,8 +395,12 @@ fn work_on<T: Worker, I: Inputs, W: Write>(
     match read_through(rt.alloc(), work, name, &mut input, output) {
         Ok(()) => Ok(()),
         Err(failure) => {
-            let status = stopped(rt, failure, name, input.fault, output.fault);
-            Err((failure, status))
+            let faults = Faults {
+                told: work.tells_reasons(),
+                read: input.fault,
+                written: output.fault,
+            };
+            Err((failure, stopped(rt, failure, name, faults)))
         }
     }
 }
@@ -437,7 +455,14 @@ fn close<T: Worker, W: Write>(
         (work.new, W.contents output.new.out) }
 {
     match work.end(output) {
-        Err(failure) => Err(stopped(rt, failure, INPUT, None, output.fault)),
+        Err(failure) => {
+            let faults = Faults {
+                told: work.tells_reasons(),
+                read: None,
+                written: output.fault,
+            };
+            Err(stopped(rt, failure, INPUT, faults))
+        }
         Ok(()) => match first {
             Some(status) => Err(status),
             None => Ok(()),

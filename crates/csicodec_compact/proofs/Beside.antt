@@ -19,20 +19,20 @@ use Rattle.csicodec_spans.specs.declared.table.Kind.{Kind}
 use Rattle.csicodec_spans.specs.declared.table.Kind.TheVariants as kind
 use Rattle.csicodec_spans.specs.declared.table.Mode.{Mode}
 use Rattle.csicodec_spans.specs.declared.table.Mode.TheVariants as mode
-use Rattle.csicodec_spans.specs.Parts.{Part, part, bytes_of, left_over, AreAll, AreFirstParts, IsPlainFront, IsSpan, IsUnsure}
-use Rattle.csicodec_spans.proofs.OneSpan.{none_unsure}
-use Rattle.csicodec_spans.proofs.Kept.{parts_more, parts_on}
+use Rattle.csicodec_spans.specs.Parts.{Part, part, bytes_of, left_over, AreAll, IsPlainFront, IsSpan, IsUnsure}
 use Rattle.csicodec_filter.specs.Faithful.{stays}
+use Rattle.csicodec_filter.specs.Filter.{Held}
 use Rattle.csicodec_filter.specs.Meaning.{singles}
+use Rattle.csicodec_filter.specs.Written.{Adds, Appends, Leaves, Since, open_at}
 use Rattle.csicodec_filter.specs.Transform.{Begins as BeginsWith, Sends, Transforms}
-use Rattle.csicodec_filter.proofs.Filtered.{one_first}
+use Rattle.csicodec_filter.proofs.Written.{appends, made, makes, one_first}
 use Rattle.csicodec_compact.specs.Compacts.{Compacts, ReadsAlike}
-use Rattle.csicodec_compact.specs.Runs.{IsStaying, NoneStays, Shortens, AreRuns, IsShortened, Open, PassesShort, CompactsAll}
+use Rattle.csicodec_compact.specs.Runs.{IsStaying, NoneStays, Shortens, AreRuns, IsShortened, PassesShort, CompactsAll}
 use Rattle.csicodec_compact.specs.declared.form.Form.{Form}
 use Rattle.csicodec_compact.specs.declared.form.Form.TheVariants as forms
-use Rattle.csicodec_compact.specs.declared.all.Compacting.{Compacting}
-use Rattle.csicodec_compact.specs.Private.Run.{Leaves, PassesSince}
-use Rattle.csicodec_compact.specs.Private.Steps.{Begins, form_of, closing, is_semicolon, joint, behind, is_joined, may_join, opened, list_of, IsTail, IsListed, IsOwn, IsNotedList, IsNoted, IsNote, GoesOnFrom, IsHeld, Extends, GoesOnBy, WritesFront}
+use Rattle.csicodec_compact.specs.declared.shortener.Shortener.{Shortener}
+use Rattle.csicodec_compact.specs.Private.Run.{Holds}
+use Rattle.csicodec_compact.specs.Private.Steps.{Begins, form_of, closing, is_semicolon, joint, behind, is_joined, may_join, opened, list_of, IsTail, IsListed, IsOwn, IsNotedList, IsNoted, IsNote, GoesOnFrom, IsHeld, Extends, GoesOnBy}
 use Rattle.csicodec_compact.proofs.JoinedLists.{tail_joined, tail_decodes, joint_short}
 
 -- ---- bytes in front of others
@@ -308,147 +308,78 @@ extends_own st bytes parts short run before h =
     subst (λ (l : List ℕ). IsHeld (run ++ parts) l forms.Whole) (append_assoc before (closing st) bytes)
     (held_whole (run ++ parts) ((before ++ closing st) ++ bytes) (shortened_on run parts (before ++ closing st) bytes (closed run before st h) short))
 
--- nothing
-extends_none : (st : Form) → Extends st [] [] st
-extends_none st run before h = rw (append-nil run, append-nil before) h
-
--- some, and then others
-extends_on : (f g h : Form) (ps qs : List Part) (s t : List ℕ) → Extends f ps s g → Extends g qs t h → Extends f (ps ++ qs) (s ++ t) h
-extends_on f g h ps qs s t a b run before x = rw (← append_assoc run ps qs, ← append_assoc before s t) (b (run ++ ps) (before ++ s) (a run before x))
+-- no more parts, where the list is closed
+pub extends_close : (st : Form) → Extends st [] (closing st) forms.Whole
+extends_close st run before h = rw (append-nil run) (held_whole run (before ++ closing st) (closed run before st h))
 
 -- ---- the front of a piece
 
-pub front_none : (limit : ℕ) (m : Mode) (bytes : List ℕ) (form : Form) (out : List ℕ) → WritesFront limit m bytes form out out form bytes m
-front_none limit m bytes form out = record { parts = []; first = (refl, refl); goes = ([], sym (append-nil out), extends_none form) }
-
-pub front_on : (limit : ℕ) (m n a : Mode) (bytes mid rest : List ℕ) (f g h : Form) (old now new : List ℕ) → WritesFront limit m bytes f old now g mid n → WritesFront limit n mid g now new h rest a
-    → WritesFront limit m bytes f old new h rest a
-front_on limit m n a bytes mid rest f g h old now new x y =
-    let (s, first, before) = x.goes in
-    let (t, second, behind) = y.goes in
-    record {
-      parts = x.parts ++ y.parts;
-      first = parts_on limit x.parts y.parts m bytes mid rest n a x.first y.first;
-      goes = (s ++ t, second ∙ ap (λ (l : List ℕ). l ++ t) first ∙ append_assoc old s t, extends_on f g h x.parts y.parts s t before behind);
-    }
+-- by the states of what writes
+pub adds : (old new : Shortener) (parts : List Part) (before after : List ℕ) → GoesOnBy old.written.form parts before after new.written.form → Adds Holds old parts before after new
+adds old new parts before after (text, is, goes) = (text, (λ first run held h. goes run held h), is)
 
 -- text, or an escape sequence
-pub front_plain : (limit n : ℕ) (bytes : List ℕ) (f g : Form) (old new : List ℕ) → IsPlainFront bytes n
-    → ((parts : List Part) → IsShortened parts (take n bytes) → GoesOnBy f parts old new g) → WritesFront limit mode.Text bytes f old new g (drop n bytes) mode.Text
-front_plain limit n bytes f g old new (k, other, cuts) goes =
+pub front_plain : (limit n : ℕ) (bytes : List ℕ) (old new : Shortener) (before after : List ℕ) → IsPlainFront bytes n
+    → ((parts : List Part) → IsShortened parts (take n bytes) → GoesOnBy old.written.form parts before after new.written.form)
+    → Appends Holds (open_at old limit mode.Text bytes) before after (open_at new limit mode.Text (drop n bytes))
+front_plain limit n bytes old new before after (k, other, cuts) goes =
     let found = cuts limit in
-    record { parts = found.parts; first = found.first; goes = goes found.parts (shortened_span k (take n bytes) found.parts other found.span) }
+    appends Holds limit old new mode.Text mode.Text bytes (drop n bytes) before after found.parts found.first
+    (adds old new found.parts before after (goes found.parts (shortened_span k (take n bytes) found.parts other found.span)))
 
 -- a sequence that is known
-pub front_known : (limit : ℕ) (m : Mode) (len : ℕ) (bytes : List ℕ) (f g : Form) (old new : List ℕ) → IsOne (take len bytes) → len ≤ limit → len ≤ length bytes
-    → GoesOnBy f (part kind.Csi (take len bytes) ∷ []) old new g → WritesFront limit m bytes f old new g (drop len bytes) mode.Text
-front_known limit m len bytes f g old new one short within goes =
-    record { parts = part kind.Csi (take len bytes) ∷ []; first = one_first limit m bytes len one short within; goes = goes }
+pub front_known : (limit len : ℕ) (bytes : List ℕ) (old new : Shortener) (before after : List ℕ) → IsOne (take len bytes) → len ≤ limit → len ≤ length bytes
+    → GoesOnBy old.written.form (part kind.Csi (take len bytes) ∷ []) before after new.written.form
+    → Appends Holds (open_at old limit mode.Text bytes) before after (open_at new limit mode.Text (drop len bytes))
+front_known limit len bytes old new before after one short within goes =
+    let p = part kind.Csi (take len bytes) ∷ [] in
+    appends Holds limit old new mode.Text mode.Text bytes (drop len bytes) before after p (one_first limit mode.Text bytes len one short within) (adds old new p before after goes)
 
--- at the end of a push the list is over
-pub front_over : (limit : ℕ) (m a : Mode) (bytes old new rest : List ℕ) (form : Form) → WritesFront limit m bytes forms.Whole old new form rest a → IsUnsure limit a rest
-    → (text : List ℕ) × PassesShort limit m bytes text rest a × (new ++ closing form ≡ old ++ text)
-front_over limit m a bytes old new rest form x unsure =
-    let (s, out, goes) = x.goes in (
-      s ++ closing form,
-      record { parts = x.parts; first = x.first; unsure = unsure; shortened = closed x.parts s form (goes [] [] none_held) },
-      ap (λ (l : List ℕ). l ++ closing form) out ∙ append_assoc old s (closing form),
+-- ---- a stream
+
+-- what is held, where nothing goes on
+over : (run : List Part) (held : List ℕ) (form : Form) → IsHeld run held form → form ≡ forms.Whole → IsShortened run held
+over run held form h whole = rw (append-nil held) at (closed run held forms.Whole (rw whole at h))
+
+-- what has passed at the end of a push, where the list is over
+pub passes_over : (old mid : Held Shortener) (new : Shortener) (before between after : List ℕ) → old.rewrite.written.form ≡ forms.Whole → Appends Holds old before between mid
+    → IsUnsure old.limit mid.mode mid.bytes → Adds Holds mid.rewrite [] between after new → new.written.form ≡ forms.Whole
+    → (text : List ℕ) × PassesShort old.limit old.mode old.bytes text mid.bytes mid.mode × (after ≡ before ++ text)
+passes_over old mid new before between after whole (text, x, is) unsure (more, goes, end) rests =
+    let held : IsHeld x.parts text mid.rewrite.written.form = x.goes old.rewrite [] [] (rw whole none_held) in
+    let all : IsHeld x.parts (text ++ more) new.written.form = rw (append-nil x.parts) at (goes old.rewrite x.parts text held) in (
+      text ++ more,
+      record { parts = x.parts; first = x.first; unsure = unsure; written = over x.parts (text ++ more) new.written.form all rests },
+      end ∙ ap (λ (l : List ℕ). l ++ more) is ∙ append_assoc before text more,
     )
 
 -- the end
 pub compacts_all : (limit : ℕ) (m a : Mode) (bytes text rest : List ℕ) → PassesShort limit m bytes text rest a → CompactsAll limit m bytes (text ++ rest)
-compacts_all limit m a bytes text rest h = record {
-  parts = h.parts ++ left_over rest;
-  whole = record { sure = h.parts; rest = rest; after = a; first = h.first; unsure = h.unsure; whole = refl };
-  shortened = shortened_on h.parts (left_over rest) text rest h.shortened (shortened_left rest);
-}
+compacts_all = makes IsShortened shortened_on shortened_left
 
--- ---- a run, from state to state
+abbrev pub Rested : Shortener → Type 0
+Rested s = s.written.form ≡ forms.Whole
 
--- nothing came yet
-pub since_none : (first : Compacting) → first.written.form ≡ forms.Whole → first.compactor.mode ≡ mode.Text → first.compactor.bytes ≡ [] → PassesSince first [] [] first
-since_none first whole text none = record {
-  limit = refl;
-  parts = [];
-  cut = (none, text);
-  unsure = rw (none, text) (none_unsure first.compactor.limit mode.Text);
-  held = rw whole none_held;
-}
+module _ (first : Held Shortener) where
+  -- what passed, where nothing goes on
+  pub since_rests : (last : Held Shortener) (bytes text : List ℕ) → Since Holds first bytes text last → Rested last.rewrite → PassesShort first.limit mode.Text bytes text last.bytes last.mode
+  since_rests last bytes text since rests =
+      record { parts = since.parts; first = since.cut; unsure = since.unsure; written = over since.parts text last.rewrite.written.form since.written rests }
 
--- a piece more
-pub since_on : (first last new : Compacting) (read chunk text old out : List ℕ) → (since : PassesSince first read text last)
-    → (x : WritesFront last.compactor.limit last.compactor.mode (last.compactor.bytes ++ chunk) last.written.form old out new.written.form new.compactor.bytes new.compactor.mode)
-    → IsUnsure last.compactor.limit new.compactor.mode new.compactor.bytes → new.compactor.limit ≡ last.compactor.limit → PassesSince first (read ++ chunk) (text ++ x.goes.0) new
-since_on first last new read chunk text old out since x unsure same =
-    let limit = first.compactor.limit in
-    let later : AreFirstParts limit last.compactor.mode (last.compactor.bytes ++ chunk) x.parts new.compactor.bytes new.compactor.mode = rw since.limit at x.first in
-    record {
-      limit = same ∙ since.limit;
-      parts = since.parts ++ x.parts;
-      cut = parts_on limit since.parts x.parts mode.Text (read ++ chunk) (last.compactor.bytes ++ chunk) new.compactor.bytes last.compactor.mode new.compactor.mode
-          (parts_more limit since.parts mode.Text read chunk last.compactor.bytes last.compactor.mode since.cut) later;
-      unsure = rw since.limit at unsure;
-      held = x.goes.2 since.parts text since.held;
-    }
+  -- all bytes, and what was held
+  pub compacted : (bytes text : List ℕ) → Transforms (Since Holds) (Leaves Holds Rested) first bytes text → CompactsAll first.limit mode.Text bytes text
+  compacted bytes text = made IsShortened shortened_on shortened_left Holds Rested first bytes text (λ parts own last h rests. over parts own last.written.form h rests)
 
--- the list is closed
-pub since_closed : (first last new : Compacting) (read text : List ℕ) → PassesSince first read text last → new.compactor ≡ last.compactor → new.written.form ≡ forms.Whole
-    → PassesSince first (read ++ []) (text ++ closing last.written.form) new
-since_closed first last new read text since same whole = record {
-  limit = ap (λ (c : Open). c.limit) same ∙ since.limit;
-  parts = since.parts;
-  cut = rw (append-nil read, same) since.cut;
-  unsure = rw same since.unsure;
-  held = rw whole (held_whole since.parts (text ++ closing last.written.form) (closed since.parts text last.written.form since.held));
-}
-
--- what passed, with what closes it
-pub since_passes : (first last : Compacting) (bytes text : List ℕ) → PassesSince first bytes text last
-    → PassesShort first.compactor.limit mode.Text bytes (text ++ closing last.written.form) last.compactor.bytes last.compactor.mode
-since_passes first last bytes text since =
-    record { parts = since.parts; first = since.cut; unsure = since.unsure; shortened = closed since.parts text last.written.form since.held }
-
--- what passed, where nothing goes on
-pub since_rests : (first last : Compacting) (bytes text : List ℕ) → PassesSince first bytes text last → last.written.form ≡ forms.Whole
-    → PassesShort first.compactor.limit mode.Text bytes text last.compactor.bytes last.compactor.mode
-since_rests first last bytes text since whole =
-    let none : text ++ closing last.written.form ≡ text = ap (λ (f : Form). text ++ closing f) whole ∙ append-nil text in
-    subst (λ (t : List ℕ). PassesShort first.compactor.limit mode.Text bytes t last.compactor.bytes last.compactor.mode) none (since_passes first last bytes text since)
-
--- all bytes, and what was held
-pub compacted : (first : Compacting) (bytes text : List ℕ) → Transforms PassesSince Leaves first bytes text → CompactsAll first.compactor.limit mode.Text bytes text
-compacted first bytes text (last, sure, rest, since, left, split) =
-    let close = closing last.written.form in
-    let all = compacts_all first.compactor.limit mode.Text last.compactor.mode bytes (sure ++ close) last.compactor.bytes (since_passes first last bytes sure since) in
-    let same : (sure ++ close) ++ last.compactor.bytes ≡ text = append_assoc sure close last.compactor.bytes ∙ ap (λ (t : List ℕ). sure ++ t) (sym left) ∙ sym split in
-    subst (λ (t : List ℕ). CompactsAll first.compactor.limit mode.Text bytes t) same all
-
--- what went out is a front of what is made of the bytes
-pub begun_compacts : (first : Compacting) (AreAll : Type 0) (bytes sent : List ℕ) → BeginsWith (Sends PassesSince first) (Transforms PassesSince Leaves first) AreAll bytes sent
-    → (unsent : List ℕ) × CompactsAll first.compactor.limit mode.Text bytes (sent ++ unsent)
-begun_compacts first AreAll bytes sent (unsent, h) = ⊎_elim
-    (λ (k : Sends PassesSince first bytes (sent ++ unsent)).
-    let (last, since) = k in
-    let close = closing last.written.form in
-    let held = last.compactor.bytes in
-    let all = compacts_all first.compactor.limit mode.Text last.compactor.mode bytes ((sent ++ unsent) ++ close) held (since_passes first last bytes (sent ++ unsent) since) in
-    let same : ((sent ++ unsent) ++ close) ++ held ≡ sent ++ (unsent ++ (close ++ held)) = append_assoc (sent ++ unsent) close held ∙ append_assoc sent unsent (close ++ held) in
-    (unsent ++ (close ++ held), subst (λ (t : List ℕ). CompactsAll first.compactor.limit mode.Text bytes t) same all))
-    (λ (k : AreAll × Transforms PassesSince Leaves first bytes (sent ++ unsent)). (unsent, compacted first bytes (sent ++ unsent) k.1))
-    h
-
--- ---- a span, by its final byte
-
--- its tokens
-pub by_seq : (control : Option ℕ) (k : Kind) (bytes : List ℕ) (list : List CsiParam) → MatchOption control (k ≢ kind.Csi) (λ final. (k ≡ kind.Csi) × Seq bytes list final) → IfSome control (λ final. Seq bytes list final)
-by_seq None k bytes list h = tt
-by_seq (Some final) k bytes list h = h.1
-
--- and its kind
-pub by_kind : (control : Option ℕ) (k : Kind) (bytes : List ℕ) (list : List CsiParam) → MatchOption control (k ≢ kind.Csi) (λ final. (k ≡ kind.Csi) × Seq bytes list final)
-    → MatchOption control (k ≢ kind.Csi) (λ final. k ≡ kind.Csi)
-by_kind None k bytes list h = h
-by_kind (Some final) k bytes list h = h.0
-
-pub one_part : (k : Kind) (bytes : List ℕ) (parts : List Part) → k ≡ kind.Csi → IsSpan k bytes parts → parts ≡ part kind.Csi bytes ∷ []
-one_part k bytes parts e span = rw e at span
+  -- what went out is a front of what is made of the bytes
+  pub begun_compacts : (AreAll : Type 0) (bytes sent : List ℕ) → BeginsWith (Sends (Since Holds) first) (Transforms (Since Holds) (Leaves Holds Rested) first) AreAll bytes sent
+      → (unsent : List ℕ) × CompactsAll first.limit mode.Text bytes (sent ++ unsent)
+  begun_compacts AreAll bytes sent (unsent, h) = ⊎_elim
+      (λ (k : Sends (Since Holds) first bytes (sent ++ unsent)).
+      let (last, since) = k in
+      let close = closing last.rewrite.written.form in
+      let passed : PassesShort first.limit mode.Text bytes ((sent ++ unsent) ++ close) last.bytes last.mode =
+      record { parts = since.parts; first = since.cut; unsure = since.unsure; written = closed since.parts (sent ++ unsent) last.rewrite.written.form since.written } in
+      let same : ((sent ++ unsent) ++ close) ++ last.bytes ≡ sent ++ (unsent ++ (close ++ last.bytes)) = append_assoc (sent ++ unsent) close last.bytes ∙ append_assoc sent unsent (close ++ last.bytes) in
+      (unsent ++ (close ++ last.bytes), rw same at (compacts_all first.limit mode.Text last.mode bytes ((sent ++ unsent) ++ close) last.bytes passed)))
+      (λ (k : AreAll × Transforms (Since Holds) (Leaves Holds Rested) first bytes (sent ++ unsent)). (unsent, compacted bytes (sent ++ unsent) k.1))
+      h

@@ -40,11 +40,11 @@ runs_short (run ∷ runs) parts text r =
 
 pub no_longer : (limit : ℕ) (m : Mode) (bytes text : List ℕ) → CompactsAll limit m bytes text → length text ≤ length bytes
 no_longer limit m bytes text c =
-    omega (arith, runs_short c.shortened.0 c.parts text c.shortened.1, ap length (whole_joined limit m bytes c.parts c.whole))
+    omega (arith, runs_short c.written.0 c.parts text c.written.1, ap length (whole_joined limit m bytes c.parts c.whole))
 
 pub has_again : (limit : ℕ) (m : Mode) (bytes text : List ℕ) (c : CompactsAll limit m bytes text) → 0 < limit → HasShortRows limit c.parts → HasAgain c
 has_again limit m bytes text c l short =
-    let a = again limit c.shortened.0 m bytes text c.parts l c.whole (are_meant limit c.shortened.0 c.parts text short c.shortened.1) in
+    let a = again limit c.written.0 m bytes text c.parts l c.whole (are_meant limit c.written.0 c.parts text short c.written.1) in
     record { others = a.others; whole = a.whole; placed = a.placed }
 
 -- ---- a stream that is short enough

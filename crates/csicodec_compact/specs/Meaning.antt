@@ -16,4 +16,4 @@ pub record HasAgain {limit : ℕ} {m : Mode} {bytes text : List ℕ}
     (c : CompactsAll limit m bytes text) : Type 0 where
   pub others : List Part
   pub whole : IsWhole limit m text others
-  pub placed : StandInPlace c.shortened.0 c.parts others
+  pub placed : StandInPlace c.written.0 c.parts others

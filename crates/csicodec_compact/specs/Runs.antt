@@ -7,8 +7,9 @@ use Rattle.csicodec_actions.specs.Actions.{Action}
 use Rattle.csicodec_streams.specs.Decoding.{Decodes}
 use Rattle.csicodec_spans.specs.declared.table.Kind.TheVariants as kind
 use Rattle.csicodec_spans.specs.declared.table.Mode.{Mode}
-use Rattle.csicodec_spans.specs.Parts.{Part, bytes_of, AreFirstParts, IsUnsure, IsWhole}
+use Rattle.csicodec_spans.specs.Parts.{Part, bytes_of}
 use Rattle.csicodec_filter.specs.Faithful.{stays}
+use Rattle.csicodec_filter.specs.Filter.{MakesBy, PassesBy}
 
 -- a control sequence that stays as it came
 abbrev pub IsStaying : List ℕ → Type 0
@@ -50,15 +51,9 @@ pub record Open : Type 0 where
   pub bytes : List ℕ
 
 -- behind these bytes, the parts that are sure make this text, and the others are held
-pub record PassesShort (limit : ℕ) (m : Mode) (bytes text held : List ℕ)
-    (after : Mode) : Type 0 where
-  pub parts : List Part
-  pub first : AreFirstParts limit m bytes parts held after
-  pub unsure : IsUnsure limit after held
-  pub shortened : IsShortened parts text
+abbrev pub PassesShort : ℕ → Mode → List ℕ → List ℕ → List ℕ → Mode → Type 0
+PassesShort = PassesBy IsShortened
 
 -- a whole stream makes this text
-pub record CompactsAll (limit : ℕ) (m : Mode) (bytes text : List ℕ) : Type 0 where
-  pub parts : List Part
-  pub whole : IsWhole limit m bytes parts
-  pub shortened : IsShortened parts text
+abbrev pub CompactsAll : ℕ → Mode → List ℕ → List ℕ → Type 0
+CompactsAll = MakesBy IsShortened

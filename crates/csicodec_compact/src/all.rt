@@ -7,51 +7,11 @@ ghost use Rattle.csicodec_compact.specs.Runs.{CompactsAll, PassesShort};
 
 use crate::compact::Compact;
 use crate::notes::Short;
-use crate::runs::Written;
-use crate::stream::Compactor;
-use csicodec_filter::{Known, Transform, transform_all};
+use crate::shortener::Shortener;
+use csicodec_filter::{Spanwise, transform_all};
 use csicodec_streams::RunError;
-use std::alloc::{AllocError, Global};
+use std::alloc::Global;
 use std::io::{Read, Write};
-
-/// A compactor, the sequences that came before, and how what was written ends, which it keeps from piece to piece.
-#[derive(Drop)]
-struct Compacting {
-    compactor: Compactor,
-    known: Known<Short>,
-    written: Written,
-}
-
-impl Transform for Compacting {
-    ghost use Rattle.std.specs.Prelude.{◌≡◌};
-    ghost use Rattle.csicodec_streams.specs.Known.{AreKnown};
-    ghost use Rattle.csicodec_compact.specs.declared.form.Form.TheVariants as Form;
-    ghost use Rattle.csicodec_compact.specs.Private.Run.{Leaves, PassesSince};
-    ghost use Rattle.csicodec_compact.specs.Private.Steps.{IsNote};
-
-    ghost stands = { λ now. AreKnown IsNote now.known.memo.slots.items };
-
-    ghost passes = { PassesSince };
-
-    ghost rests = { λ now. now.written.form ≡ Form.Whole };
-
-    ghost ends = { Leaves };
-
-    fn take(&mut self, bytes: &[u8], out: &mut Vec<u8>) -> Result<(), AllocError> {
-        self.compactor
-            .push_on(&mut self.known, &mut self.written, bytes, out)?;
-        Ok(())
-    }
-
-    fn pause(&mut self, out: &mut Vec<u8>) -> Result<(), AllocError> {
-        self.written.close_into(out)
-    }
-
-    fn end(&mut self, out: &mut Vec<u8>) -> Result<(), AllocError> {
-        self.written.close_into(out)?;
-        self.compactor.finish(out)
-    }
-}
 
 /// Reads to the end, and writes what a [`Compactor`] makes of the stream; after each read all that is sure is written and flushed.
 ///
@@ -92,13 +52,10 @@ pub fn compact_all<R: Read, W: Write>(
         × CompactsAll limit Plain bytes (sent ++ unsent)
         × Appends (W.contents output.old) (W.contents output.new) sent) }
 {
-    let compactor = Compactor::new(alloc, limit, compact);
-    let known = Known::new(alloc);
-    let written = Written::new();
-    let compacting = Compacting {
-        compactor,
-        known,
-        written,
-    };
-    transform_all(alloc, compacting, input, output)
+    let stream: Spanwise<Shortener, Short> = Spanwise::new(
+        alloc,
+        limit,
+        Shortener::new(alloc, compact),
+    );
+    transform_all(alloc, stream, input, output)
 }

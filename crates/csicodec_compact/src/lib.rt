@@ -11,6 +11,7 @@ pub mod laws;
 mod lists;
 mod notes;
 mod runs;
+mod shortener;
 mod spell;
 mod stream;
 

@@ -1,18 +1,13 @@
 //! Runs of control sequences side by side.
-ghost use Rattle.std.specs.Prelude.{◌≡◌, ◌≢◌, ◌≤◌, ◌++◌, ℕ, List, [], ◌∷◌, true, drop, length, slice_get, take, MatchOption, OnOk, IfSome};
-ghost use Rattle.csicodec_tokens.specs.Sequence.{Seq};
-ghost use Rattle.csicodec_spans.specs.declared.table.Kind.{Kind};
+ghost use Rattle.std.specs.Prelude.{◌≡◌, ◌≤◌, ◌++◌, ℕ, List, [], ◌∷◌, true, drop, length, slice_get, take, OnOk};
 ghost use Rattle.csicodec_spans.specs.declared.table.Kind.TheVariants.{Csi as Sequence};
-ghost use Rattle.csicodec_spans.specs.Parts.{IsSpan, Part, part};
-ghost use Rattle.csicodec_streams.specs.Known.{AreKnown};
+ghost use Rattle.csicodec_spans.specs.Parts.{Part, part};
 ghost use Rattle.csicodec_compact.specs.Runs.{IsShortened};
 ghost use Rattle.csicodec_compact.specs.Private.Steps.{Begins, GoesOnBy, IsNote, behind, closing, is_semicolon, joint, may_join, opened};
 
 use crate::encode::NUMBERS;
 use crate::form::Form;
-use crate::notes::{Notes, Short};
-use csicodec_base::{CsiParam, TextBuffer};
-use csicodec_filter::Known;
+use csicodec_base::TextBuffer;
 use csicodec_streams::append_front;
 use std::alloc::AllocError;
 
@@ -207,55 +202,5 @@ impl Written {
     {
         self.close(out)?;
         append_front(bytes, len, out)
-    }
-}
-
-/// Writes a control sequence that isn't known, the one in front of the bytes, and keeps what is noted of it.
-fn take_sequence(
-    notes: &mut Notes,
-    known: &mut Known<Short>,
-    written: &mut Written,
-    bytes: &[u8],
-    span: &[u8],
-    params: &[CsiParam],
-    control: char,
-    out: &mut TextBuffer,
-) -> Result<(), AllocError>
-    requires known { AreKnown IsNote known.old.memo.slots.items }
-    requires front { span.now ≡ take (length span.now) bytes.now }
-    requires seq { Seq span.now params.now control }
-    ensures goes { OnOk result
-        (GoesOnBy written.old.form (part Sequence span.now ∷ []) out.old out.new written.new.form) }
-    ensures known { OnOk result (AreKnown IsNote known.new.memo.slots.items) }
-{
-    notes.find(span, params, control)?;
-    written.take(notes.note(), notes.note(), out)?;
-    known.keep(bytes, span.len(), notes.note());
-    Ok(())
-}
-
-/// Writes a span that isn't known. One that is no control sequence ends the list before it.
-#[inline(never)]
-pub(crate) fn take_span(
-    notes: &mut Notes,
-    known: &mut Known<Short>,
-    written: &mut Written,
-    bytes: &[u8],
-    span: &[u8],
-    params: &[CsiParam],
-    control: Option<char>,
-    out: &mut TextBuffer,
-) -> Result<(), AllocError>
-    requires known { AreKnown IsNote known.old.memo.slots.items }
-    requires front { span.now ≡ take (length span.now) bytes.now }
-    requires seq { IfSome control (λ final. Seq span.now params.now final) }
-    ensures goes { OnOk result ((parts : List Part) (kind : Kind) → IsSpan kind span.now parts
-        → MatchOption control (kind ≢ Sequence) (λ _. kind ≡ Sequence)
-        → GoesOnBy written.old.form parts out.old out.new written.new.form) }
-    ensures known { OnOk result (AreKnown IsNote known.new.memo.slots.items) }
-{
-    match control {
-        Some(control) => { take_sequence(notes, known, written, bytes, span, params, control, out) }
-        None => written.pass(span, span.len(), out),
     }
 }

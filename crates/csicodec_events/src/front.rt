@@ -6,8 +6,7 @@ ghost use Rattle.csicodec_tokens.specs.Sequence.{Reads, Seq};
 ghost use Rattle.csicodec_events.specs.Events.{BeginsCsi, stop, without_controls};
 
 use crate::sequence::{near, read_without};
-use csicodec_parser::Count;
-use csicodec_tokens::{CsiParam, ReadError, read_csi_into};
+use csicodec_tokens::{Count, CsiParam, ReadError, read_csi_into};
 use std::alloc::AllocError;
 use std::marker::Model;
 

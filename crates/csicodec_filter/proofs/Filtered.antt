@@ -1,49 +1,29 @@
 -- The texts of parts, span by span.
-use Rattle.std.proofs.Common.{◌≡◌, ◌≢◌, ◌<◌, ◌≤◌, ◌⊎◌, ℕ, Bool, true, Option, None, Some, IfSome, MatchOption, List, [], ◌∷◌, ◌++◌, length, take, drop, refl, sym, ap, subst, ◌∙◌, append_assoc, append-nil, arith}
-use Rattle.std.proofs.lemmas.List.{length-take, take-append-drop}
+use Rattle.std.proofs.Common.{◌≡◌, ◌≢◌, ◌<◌, ◌≤◌, ℕ, zero, suc, Option, IfSome, List, [], ◌∷◌, ◌++◌, length, take, drop, refl, sym, ap, subst, ◌∙◌, append_assoc, append-nil, arith}
+use Rattle.std.specs.Prelude.{⊤}
 use Rattle.std.specs.List.{AllByRecursion, flat_map}
-use Rattle.std.specs.Io.KnownBytes.{Appends, Consumes, IsAtEnd}
-use Rattle.csicodec_tokens.specs.declared.param.CsiParam.{CsiParam}
-use Rattle.csicodec_tokens.specs.Sequence.{Seq}
+use Rattle.std.specs.Io.KnownBytes.{Appends as Gets, Consumes, IsAtEnd}
 use Rattle.csicodec_spans.specs.declared.table.Kind.{Kind}
 use Rattle.csicodec_spans.specs.declared.table.Kind.TheVariants as kind
 use Rattle.csicodec_spans.specs.declared.table.Mode.{Mode}
 use Rattle.csicodec_spans.specs.declared.table.Mode.TheVariants as mode
-use Rattle.csicodec_spans.specs.Parts.{Part, part, left_over, bytes_of, AreAll, Allows, AreFirstParts, IsPlainFront, IsSpan, IsUnsure}
-use Rattle.csicodec_spans.specs.Table.{Sequence, ahead}
-use Rattle.csicodec_spans.proofs.Agrees.{opens}
-use Rattle.csicodec_spans.proofs.OneSpan.{none_unsure}
-use Rattle.csicodec_spans.proofs.Kept.{parts_more, parts_on}
+use Rattle.csicodec_spans.specs.Parts.{Part, part, left_over, bytes_of, IsPlainFront, IsSpan, IsUnsure}
+use Rattle.csicodec_spans.proofs.Kept.{parts_more}
 use Rattle.csicodec_spans.proofs.Once.{parts_front, whole_once}
-use Rattle.csicodec_streams.specs.Decoding.{NormalisesTo}
-use Rattle.csicodec_streams.specs.Known.{IsNormal, IsOne}
-use Rattle.csicodec_filter.specs.declared.run.Filtering.{Filtering}
-use Rattle.csicodec_filter.specs.Filter.{WritesOne, IsWritten, AreWritten, Passes, Filters, IsFrontOf}
-use Rattle.csicodec_filter.specs.Private.Front.{PassesFront, WritesNormal}
-use Rattle.csicodec_filter.specs.Private.Run.{Leaves, PassesSince}
+use Rattle.csicodec_streams.specs.Known.{IsOne}
+use Rattle.csicodec_filter.specs.Filter.{WritesOne, Held, IsWritten, AreWritten, Passes, Filters, IsFrontOf}
+use Rattle.csicodec_filter.specs.Written.{Adds, Appends, ByRule, Leaves, Since, open_at}
 use Rattle.csicodec_filter.specs.Transform.{Begins, Sends, Transforms}
 use Rattle.csicodec_filter.proofs.Sent.{whole_front}
+use Rattle.csicodec_filter.proofs.Written.{appends, appends_none, made, one_first}
 
-pub weaker_part : (V W : List ℕ → List ℕ → Type 0) (k : Kind) (b t : List ℕ) → ((b t : List ℕ) → V b t → W b t) → IsWritten V k b t → IsWritten W k b t
+weaker_part : (V W : List ℕ → List ℕ → Type 0) (k : Kind) (b t : List ℕ) → ((b t : List ℕ) → V b t → W b t) → IsWritten V k b t → IsWritten W k b t
 weaker_part V W kind.Csi b t f h = f b t h
 weaker_part V W _ b t f h = h
 
 weaker : (V W : List ℕ → List ℕ → Type 0) (ps : List Part) (t : List ℕ) → ((b t : List ℕ) → V b t → W b t) → AreWritten V ps t → AreWritten W ps t
 weaker V W [] t f h = h
 weaker V W (p ∷ ps) t f h = (h.0, h.1, h.2, weaker_part V W p.kind p.bytes h.0 f h.3, weaker V W ps h.1 f h.4)
-
-pub passes_weaker : (V W : List ℕ → List ℕ → Type 0) (limit : ℕ) (m : Mode) (bytes text held : List ℕ) (a : Mode) → ((b t : List ℕ) → V b t → W b t) → Passes V limit m bytes text held a → Passes W limit m bytes text held a
-passes_weaker V W limit m bytes text held a f h = record { parts = h.parts; first = h.first; unsure = h.unsure; written = weaker V W h.parts text f h.written }
-
--- a sequence in front is a part, in any mode
-pub one_first : (limit : ℕ) (n : Mode) (rest : List ℕ) (len : ℕ) → IsOne (take len rest) → len ≤ limit → len ≤ length rest → AreFirstParts limit n rest (part kind.Csi (take len rest) ∷ []) (drop len rest) mode.Text
-one_first limit n rest len one short within =
-    let front = take len rest in
-    let long : length front ≤ limit = omega (arith, length-take len rest, short) in
-    let whole : rest ≡ 27 ∷ 91 ∷ ((one.2.body ++ one.1 ∷ []) ++ drop len rest) = sym (take-append-drop len rest) ∙ ap (λ (t : List ℕ). t ++ drop len rest) one.2.whole in
-    let csi : ahead n rest ≡ Sequence = ap (ahead n) whole ∙ opens n ((one.2.body ++ one.1 ∷ []) ++ drop len rest) in
-    let allowed : Allows (ahead n rest) limit rest kind.Csi front mode.Text = rw csi (one, long, refl) in
-    (drop len rest, mode.Text, (sym (take-append-drop len rest), allowed), (refl, refl))
 
 -- ---- what is written for each sequence
 
@@ -57,59 +37,15 @@ module _ (Writes : List ℕ → List ℕ → Type 0) where
   plain k [] f h = refl
   plain k (q ∷ qs) f h = (q.bytes, flat_map bytes_of qs, refl, subst (λ (x : Kind). IsWritten Writes x q.bytes q.bytes) (sym h.0) (f q.bytes), plain k qs f h.1)
 
-  all_plain : (k : Kind) (bytes t : List ℕ) (qs : List Part) → ((b : List ℕ) → IsWritten Writes k b b) → AreAll k bytes qs → t ≡ bytes → AreWritten Writes qs t
-  all_plain k bytes t qs f s e = subst (λ (x : List ℕ). AreWritten Writes qs x) (s.joined ∙ sym e) (plain k qs f s.all)
-
-  one : (k : Kind) (bytes t : List ℕ) (qs : List Part) → qs ≡ part k bytes ∷ [] → IsWritten Writes k bytes t → AreWritten Writes qs t
-  one k bytes t qs e n = rw e (t, [], sym (append-nil t), n, refl)
-
-  pub written_span : (k : Kind) (bytes t : List ℕ) (qs : List Part) → IsSpan k bytes qs → IsWritten Writes k bytes t → AreWritten Writes qs t
-  written_span kind.Csi bytes t qs s n = one kind.Csi bytes t qs s n
-  written_span kind.Esc bytes t qs s n = one kind.Esc bytes t qs s n
-  written_span k bytes t qs s n = all_plain k bytes t qs (λ b. refl) s n
+  pub written_span : (k : Kind) (bytes : List ℕ) (qs : List Part) → k ≢ kind.Csi → IsSpan k bytes qs → AreWritten Writes qs bytes
+  written_span kind.Csi bytes qs ne s = absurd (ne refl)
+  written_span kind.Esc bytes qs ne s = rw s (bytes, [], sym (append-nil bytes), refl, refl)
+  written_span k bytes qs ne s = subst (λ (x : List ℕ). AreWritten Writes qs x) s.joined (plain k qs (λ b. refl) s.all)
 
   -- what is left at the end passes as it is
   written_left : (rest : List ℕ) → AreWritten Writes (left_over rest) rest
   written_left [] = refl
   written_left (b ∷ rest) = (b ∷ rest, [], sym (append-nil (b ∷ rest)), refl, refl)
-
-  -- by its final byte, a span's text
-  pub by_control : (control : Option ℕ) (k : Kind) (bytes text : List ℕ) (list : List CsiParam) → MatchOption control (k ≢ kind.Csi) (λ final. (k ≡ kind.Csi) × Seq bytes list final)
-      → MatchOption control (text ≡ bytes) (λ final. Writes bytes text) → IsWritten Writes k bytes text
-  by_control None kind.Csi bytes text list h w = absurd (h refl)
-  by_control (Some final) k bytes text list h w = rw h.0 w
-  by_control None _ bytes text list h w = w
-
-  -- what is kept of a span, where normal forms are written
-  pub kept_span : (control : Option ℕ) (k : Kind) (bytes text back : List ℕ) (list : List CsiParam) → MatchOption control (k ≢ kind.Csi) (λ final. (k ≡ kind.Csi) × Seq bytes list final)
-      → MatchOption control (text ≡ bytes) (λ final. Writes bytes text) → back ≡ text → ((b t : List ℕ) → Writes b t → NormalisesTo b t) → IfSome control (λ final. NormalisesTo bytes back × IsOne bytes)
-  kept_span None k bytes text back list h w is f = tt
-  kept_span (Some final) k bytes text back list h w is f = (rw is (f bytes text w), (list, final, h.1))
-
-  -- a chunk more
-  pub passes_on : (limit : ℕ) (m n a : Mode) (first second left rest s t : List ℕ) → Passes Writes limit m first s left n → Passes Writes limit n (left ++ second) t rest a → Passes Writes limit m (first ++ second) (s ++ t) rest a
-  passes_on limit m n a first second left rest s t h k = record {
-    parts = h.parts ++ k.parts;
-    first = parts_on limit h.parts k.parts m (first ++ second) (left ++ second) rest n a (parts_more limit h.parts m first second left n h.first) k.first;
-    unsure = k.unsure;
-    written = written_on h.parts k.parts s t h.written k.written;
-  }
-
-  -- the end
-  pub filters : (limit : ℕ) (m a : Mode) (bytes text rest : List ℕ) → Passes Writes limit m bytes text rest a → Filters Writes limit m bytes (text ++ rest)
-  filters limit m a bytes text rest h = record {
-    parts = h.parts ++ left_over rest;
-    whole = record { sure = h.parts; rest = rest; after = a; first = h.first; unsure = h.unsure; whole = refl };
-    written = written_on h.parts (left_over rest) text rest h.written (written_left rest);
-  }
-
-  -- nothing passes yet
-  pub passes_nothing : (limit : ℕ) (m : Mode) (bytes : List ℕ) → IsUnsure limit m bytes → Passes Writes limit m bytes [] bytes m
-  passes_nothing limit m bytes o = record { parts = []; first = (refl, refl); unsure = o; written = refl }
-
-  -- nothing came yet
-  pub passes_none : (limit : ℕ) → Passes Writes limit mode.Text [] [] [] mode.Text
-  passes_none limit = passes_nothing limit mode.Text [] (none_unsure limit mode.Text)
 
   -- ---- one text
 
@@ -147,68 +83,85 @@ module _ (Writes : List ℕ → List ℕ → Type 0) where
       let parts : f.parts ≡ h.parts ++ [] = same ∙ sym (append-nil h.parts) in
       front_text unique h.parts [] text whole h.written (subst (λ (x : List Part). AreWritten Writes x whole) parts f.written)
 
--- ---- from state to state
+-- ---- by a rule
 
-module _ (Writes : List ℕ → List ℕ → Type 0) where
-  -- a chunk more
-  pub one_more : (Now : List ℕ → List ℕ → Type 0) (limit other : ℕ) (n a : Mode) (read chunk text more held rest : List ℕ) → other ≡ limit → ((b t : List ℕ) → Now b t → Writes b t)
-      → Passes Writes limit mode.Text read text held n → Passes Now other n (held ++ chunk) more rest a → Passes Writes limit mode.Text (read ++ chunk) (text ++ more) rest a
-  one_more Now limit other n a read chunk text more held rest e same h k =
-      let later = passes_weaker Now Writes other n (held ++ chunk) more rest a same k in
-      passes_on Writes limit mode.Text n a read chunk held rest text more h (subst (λ (l : ℕ). Passes Writes l n (held ++ chunk) more rest a) e later)
+module _ {R : Type 0} (Rule : R → List ℕ → List ℕ → Type 0) where
+  -- at first
+  pub begun : (r : R) → ByRule Rule r [] [] r
+  begun r = record { written = refl; same = λ bytes own h. h }
 
-module _ {R : Type 0} (Writes : R → List ℕ → List ℕ → Type 0) (first : Filtering R) where
-  -- all bytes, and what was held
-  pub filtered : (bytes text : List ℕ) → Transforms (PassesSince Writes) Leaves first bytes text → Filters (Writes first.filter.rewrite) first.filter.limit mode.Text bytes text
-  filtered bytes text (last, sure, rest, since, left, split) =
-      rw (split, left) (filters (Writes first.filter.rewrite) first.filter.limit mode.Text last.filter.mode bytes sure last.filter.bytes since.passed)
+  -- more is written, by a rule that is still the same
+  pub adds_by : (old new : R) (parts : List Part) (before own after : List ℕ) → AreWritten (Rule old) parts own → ((bytes text : List ℕ) → Rule new bytes text → Rule old bytes text)
+      → after ≡ before ++ own → Adds (ByRule Rule) old parts before after new
+  adds_by old new parts before own after h same is = (
+    own,
+    λ first ps text made. record {
+      written = written_on (Rule first) ps parts text own made.written (weaker (Rule old) (Rule first) parts own made.same h);
+      same = λ bytes x w. made.same bytes x (same bytes x w);
+    },
+    is,
+  )
 
-  -- what went out is a front of what the filter makes of the whole input
-  pub sent_front : (bytes more sent : List ℕ) (i k w y : Option (List ℕ)) → Consumes i k (bytes ++ more)
-      → Begins (Sends (PassesSince Writes) first) (Transforms (PassesSince Writes) Leaves first) ((more ≡ []) × IsAtEnd k) bytes sent → Appends w y sent
-      → IfSome i (λ all. (front : List ℕ) × IsFrontOf (Writes first.filter.rewrite) first.filter.limit mode.Text all front × Appends w y front)
-  sent_front =
-      let Own = Writes first.filter.rewrite in
-      let limit = first.filter.limit in
-      whole_front (Sends (PassesSince Writes) first) (Transforms (PassesSince Writes) Leaves first) (IsFrontOf Own limit mode.Text) (shorter_front Own limit mode.Text)
-      (λ read more text (last, since). passes_front Own limit mode.Text last.filter.mode read more text last.filter.bytes since.passed)
-      (λ bytes text whole. filters_front Own limit mode.Text bytes text (filtered bytes text whole))
+  -- a sequence
+  pub adds_one : (old new : R) (bytes before own after : List ℕ) → Rule old bytes own → ((bytes text : List ℕ) → Rule new bytes text → Rule old bytes text)
+      → after ≡ before ++ own → Adds (ByRule Rule) old (part kind.Csi bytes ∷ []) before after new
+  adds_one old new bytes before own after h same is = adds_by old new (part kind.Csi bytes ∷ []) before own after (own, [], sym (append-nil own), h, refl) same is
 
--- ---- what passes at a glance
+  -- what isn't one
+  pub adds_plain : (r : R) (k : Kind) (bytes before after : List ℕ) (parts : List Part) → k ≢ kind.Csi → IsSpan k bytes parts → after ≡ before ++ bytes → Adds (ByRule Rule) r parts before after r
+  adds_plain r k bytes before after parts ne span is = adds_by r r parts before bytes after (written_span (Rule r) k bytes parts ne span) (λ b x w. w) is
 
-module _ (wanted : Bool) where
-  plain_text : (k : Kind) (bytes : List ℕ) → k ≢ kind.Csi → IsWritten (WritesNormal wanted) k bytes bytes
-  plain_text kind.Csi bytes other = absurd (other refl)
-  plain_text kind.Text bytes other = refl
-  plain_text _ bytes other = refl
-
-  -- a text or an escape sequence
-  pub plain_passes : (limit n : ℕ) (bytes : List ℕ) → IsPlainFront bytes n → PassesFront wanted limit mode.Text bytes (take n bytes) (drop n bytes) mode.Text
-  plain_passes limit n bytes (k, other, cuts) =
+  -- text or an escape sequence in front, if there are some bytes of it
+  pub plain_passes : (r : R) (limit n : ℕ) (bytes before after : List ℕ) → (0 < n → IsPlainFront bytes n) → after ≡ before ++ take n bytes
+      → Appends (ByRule Rule) (open_at r limit mode.Text bytes) before after (open_at r limit mode.Text (drop n bytes))
+  plain_passes r limit zero bytes before after plain is =
+      rw is (rw (append-nil before) (appends_none (ByRule Rule) (open_at r limit mode.Text bytes) before))
+  plain_passes r limit (suc n) bytes before after plain is =
+      let (k, other, cuts) = plain (omega arith) in
       let found = cuts limit in
-      record { parts = found.parts; first = found.first; written = written_span (WritesNormal wanted) k (take n bytes) (take n bytes) found.parts found.span (plain_text k (take n bytes) other) }
+      appends (ByRule Rule) limit r r mode.Text mode.Text bytes (drop (suc n) bytes) before after found.parts found.first
+      (adds_plain r k (take (suc n) bytes) before after found.parts other found.span is)
 
-  -- a sequence that is known
-  pub known_passes : (limit len : ℕ) (bytes text : List ℕ) → wanted ≡ true → IsNormal (take len bytes) text → len ≤ limit → len ≤ length bytes → PassesFront wanted limit mode.Text bytes text (drop len bytes) mode.Text
-  known_passes limit len bytes text is normal short within = record {
-    parts = part kind.Csi (take len bytes) ∷ [];
-    first = one_first limit mode.Text bytes len normal.1 short within;
-    written = (text, [], sym (append-nil text), (is, normal), refl);
-  }
+  -- a sequence in front that is known, if it has some bytes
+  pub known_passes : (r : R) (limit n : ℕ) (bytes before after : List ℕ) → (n ≡ 0 → after ≡ before)
+      → (0 < n → (text : List ℕ) × Rule r (take n bytes) text × IsOne (take n bytes) × (after ≡ before ++ text)) → n ≤ limit → n ≤ length bytes
+      → Appends (ByRule Rule) (open_at r limit mode.Text bytes) before after (open_at r limit mode.Text (drop n bytes))
+  known_passes r limit zero bytes before after none some short within = rw (none refl) (appends_none (ByRule Rule) (open_at r limit mode.Text bytes) before)
+  known_passes r limit (suc n) bytes before after none some short within =
+      let (text, writes, one, is) = some (omega arith) in
+      appends (ByRule Rule) limit r r mode.Text mode.Text bytes (drop (suc n) bytes) before after (part kind.Csi (take (suc n) bytes) ∷ [])
+      (one_first limit mode.Text bytes (suc n) one short within) (adds_one r r (take (suc n) bytes) before text after writes (λ b x w. w) is)
 
-  -- some, and then more
-  pub passes_both : (limit : ℕ) (m n a : Mode) (bytes mid rest s t : List ℕ) → PassesFront wanted limit m bytes s mid n → PassesFront wanted limit n mid t rest a → PassesFront wanted limit m bytes (s ++ t) rest a
-  passes_both limit m n a bytes mid rest s t h k = record {
-    parts = h.parts ++ k.parts;
-    first = parts_on limit h.parts k.parts m bytes mid rest n a h.first k.first;
-    written = written_on (WritesNormal wanted) h.parts k.parts s t h.written k.written;
-  }
+  -- what has passed
+  pub passes_by : (old new : Held R) (before after : List ℕ) → Appends (ByRule Rule) old before after new → IsUnsure old.limit new.mode new.bytes
+      → (text : List ℕ) × Passes (Rule old.rewrite) old.limit old.mode old.bytes text new.bytes new.mode × (after ≡ before ++ text)
+  passes_by old new before after (text, h, is) unsure =
+      (text, record { parts = h.parts; first = h.first; unsure = unsure; written = (h.goes old.rewrite [] [] (begun old.rewrite)).written }, is)
 
--- behind some parts, what passes at a glance where its normal forms are written
-pub passes_ahead : (Writes : List ℕ → List ℕ → Type 0) (wanted : Bool) (limit : ℕ) (m n a : Mode) (bytes mid rest s t : List ℕ) (parts : List Part) → ((b x : List ℕ) → WritesNormal wanted b x → Writes b x)
-    → AreFirstParts limit m bytes parts mid n → AreWritten Writes parts s → (k : PassesFront wanted limit n mid t rest a)
-    → AreFirstParts limit m bytes (parts ++ k.parts) rest a × AreWritten Writes (parts ++ k.parts) (s ++ t)
-passes_ahead Writes wanted limit m n a bytes mid rest s t parts normal first written k = (
-  parts_on limit parts k.parts m bytes mid rest n a first k.first,
-  written_on Writes parts k.parts s t written (weaker (WritesNormal wanted) Writes k.parts t normal k.written),
-)
+  pub same_by : (old new : Held R) (before after : List ℕ) → Appends (ByRule Rule) old before after new → (bytes text : List ℕ) → Rule new.rewrite bytes text → Rule old.rewrite bytes text
+  same_by old new before after (text, h, is) = (h.goes old.rewrite [] [] (begun old.rewrite)).same
+
+  -- ---- from a reader to a writer
+
+  -- what has passed since it has begun
+  pub passed : (first last : Held R) (bytes text : List ℕ) → Since (ByRule Rule) first bytes text last → Passes (Rule first.rewrite) first.limit mode.Text bytes text last.bytes last.mode
+  passed first last bytes text since = record { parts = since.parts; first = since.cut; unsure = since.unsure; written = since.written.written }
+
+  module _ (first : Held R) where
+    abbrev Rested : R → Type 0
+    Rested r = ⊤
+
+    -- all bytes, and what was held
+    pub filtered : (bytes text : List ℕ) → Transforms (Since (ByRule Rule)) (Leaves (ByRule Rule) Rested) first bytes text → Filters (Rule first.rewrite) first.limit mode.Text bytes text
+    filtered bytes text = made (AreWritten (Rule first.rewrite)) (written_on (Rule first.rewrite)) (written_left (Rule first.rewrite)) (ByRule Rule) Rested first bytes text (λ parts own last b rests. b.written)
+
+    -- what went out is a front of what the filter makes of the whole input
+    pub sent_front : (bytes more sent : List ℕ) (i k w y : Option (List ℕ)) → Consumes i k (bytes ++ more)
+        → Begins (Sends (Since (ByRule Rule)) first) (Transforms (Since (ByRule Rule)) (Leaves (ByRule Rule) Rested) first) ((more ≡ []) × IsAtEnd k) bytes sent → Gets w y sent
+        → IfSome i (λ all. (front : List ℕ) × IsFrontOf (Rule first.rewrite) first.limit mode.Text all front × Gets w y front)
+    sent_front =
+        let Own = Rule first.rewrite in
+        let limit = first.limit in
+        whole_front (Sends (Since (ByRule Rule)) first) (Transforms (Since (ByRule Rule)) (Leaves (ByRule Rule) Rested) first) (IsFrontOf Own limit mode.Text) (shorter_front Own limit mode.Text)
+        (λ read more text (last, since). passes_front Own limit mode.Text last.mode read more text last.bytes (passed first last read text since))
+        (λ bytes text whole. filters_front Own limit mode.Text bytes text (filtered bytes text whole))

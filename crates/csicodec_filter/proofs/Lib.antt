@@ -1,3 +1,4 @@
 pub mod Sent
+pub mod Written
 pub mod Filtered
 pub mod Meaning

@@ -32,19 +32,25 @@ pub record Held (R : Type 0) : Type 0 where
   pub bytes : List ℕ
 
 -- behind these bytes, the parts that are sure make this text, and the others are held
-pub record Passes (Writes : List ℕ → List ℕ → Type 0) (limit : ℕ) (m : Mode) (bytes : List ℕ)
+pub record PassesBy (Made : List Part → List ℕ → Type 0) (limit : ℕ) (m : Mode) (bytes : List ℕ)
     (text : List ℕ) (held : List ℕ) (after : Mode) : Type 0 where
   pub parts : List Part
   pub first : AreFirstParts limit m bytes parts held after
   pub unsure : IsUnsure limit after held
-  pub written : AreWritten Writes parts text
+  pub written : Made parts text
+
+abbrev pub Passes : (List ℕ → List ℕ → Type 0) → ℕ → Mode → List ℕ → List ℕ → List ℕ → Mode → Type 0
+Passes Writes = PassesBy (AreWritten Writes)
 
 -- a whole stream of bytes makes this text
-pub record Filters (Writes : List ℕ → List ℕ → Type 0) (limit : ℕ) (m : Mode) (bytes : List ℕ)
+pub record MakesBy (Made : List Part → List ℕ → Type 0) (limit : ℕ) (m : Mode) (bytes : List ℕ)
     (text : List ℕ) : Type 0 where
   pub parts : List Part
   pub whole : IsWhole limit m bytes parts
-  pub written : AreWritten Writes parts text
+  pub written : Made parts text
+
+abbrev pub Filters : (List ℕ → List ℕ → Type 0) → ℕ → Mode → List ℕ → List ℕ → Type 0
+Filters Writes = MakesBy (AreWritten Writes)
 
 -- these bytes are a front of the text of the whole stream, where each sequence has one
 abbrev pub IsFrontOf : (List ℕ → List ℕ → Type 0) → ℕ → Mode → List ℕ → List ℕ → Type 0

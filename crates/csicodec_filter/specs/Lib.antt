@@ -2,4 +2,4 @@ pub mod Faithful
 pub mod Filter
 pub mod Meaning
 pub mod Transform
-pub mod Private
+pub mod Written

@@ -9,10 +9,11 @@ PassesOf S = S → List ℕ → List ℕ → S → Type 0
 abbrev pub EndsOf : Type 0 → Type 1
 EndsOf S = S → List ℕ → Type 0
 
--- a chunk more, and its text, behind all that passed before
-abbrev pub GoesOn : {S : Type 0} → PassesOf S → S → List ℕ → List ℕ → S → Type 0
-GoesOn {S} Passes old chunk more new = (first : S) (bytes text : List ℕ)
-    → Passes first bytes text old → Passes first (bytes ++ chunk) (text ++ more) new
+-- a chunk more, and its text, behind all that passed before, be it bytes or parts
+abbrev pub GoesOn : {S X : Type 0} → (S → List X → List ℕ → S → Type 0) → S → List X → List ℕ → S
+    → Type 0
+GoesOn {S} {X} Passes old chunk more new = (first : S) (before : List X) (text : List ℕ)
+    → Passes first before text old → Passes first (before ++ chunk) (text ++ more) new
 
 -- so far these bytes have this text
 abbrev pub Sends : {S : Type 0} → PassesOf S → S → List ℕ → List ℕ → Type 0

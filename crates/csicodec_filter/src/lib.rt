@@ -7,6 +7,7 @@ mod known;
 pub mod laws;
 mod rewrite;
 mod run;
+mod spanwise;
 mod transform;
 
 pub use faithful::{Faithful, stays};
@@ -14,4 +15,5 @@ pub use filter::{Filter, append_spans};
 pub use known::Known;
 pub use rewrite::{NormalForm, Rewrite};
 pub use run::filter_all;
+pub use spanwise::{Room, Spanwise, WriteSpans};
 pub use transform::{Transform, transform_all};

@@ -5,47 +5,12 @@ ghost use Rattle.csicodec_spans.specs.declared.table.Mode.{Mode};
 ghost use Rattle.csicodec_spans.specs.declared.table.Mode.TheVariants.{Text as Plain};
 ghost use Rattle.csicodec_filter.specs.Filter.{Filters, IsFrontOf, Passes};
 
-use crate::filter::Filter;
-use crate::known::Known;
 use crate::rewrite::Rewrite;
-use crate::transform::{Transform, transform_all};
+use crate::spanwise::Spanwise;
+use crate::transform::transform_all;
 use csicodec_streams::{Normal, RunError};
-use std::alloc::{AllocError, Global};
+use std::alloc::Global;
 use std::io::{Read, Write};
-
-/// A filter, and the sequences that came before, which it keeps from piece to piece.
-#[derive(Drop)]
-struct Filtering<T> {
-    filter: Filter<T>,
-    known: Known<Normal>,
-}
-
-impl<T: Rewrite + Drop> Transform for Filtering<T> {
-    ghost use Rattle.std.specs.Prelude.{⊤};
-    ghost use Rattle.csicodec_streams.specs.Known.{AreKnown, IsNormal};
-    ghost use Rattle.csicodec_filter.specs.Private.Run.{Leaves, PassesSince};
-
-    ghost stands = { λ now. AreKnown IsNormal now.known.memo.slots.items };
-
-    ghost passes = { PassesSince T.writes };
-
-    ghost rests = { λ _. ⊤ };
-
-    ghost ends = { Leaves };
-
-    fn take(&mut self, bytes: &[u8], out: &mut Vec<u8>) -> Result<(), AllocError> {
-        self.filter.push_known(&mut self.known, bytes, out)?;
-        Ok(())
-    }
-
-    fn pause(&mut self, _out: &mut Vec<u8>) -> Result<(), AllocError> {
-        Ok(())
-    }
-
-    fn end(&mut self, out: &mut Vec<u8>) -> Result<(), AllocError> {
-        self.filter.finish(out)
-    }
-}
 
 /// Reads to the end, and writes what a filter makes of the stream; after each read all that is sure is written and flushed.
 ///
@@ -82,7 +47,6 @@ pub fn filter_all<T: Rewrite + Drop, R: Read, W: Write>(
         (sent : List ℕ) × IsFrontOf (T.writes rewrite) limit Plain bytes sent
         × Appends (W.contents output.old) (W.contents output.new) sent)) }
 {
-    let filter = Filter::new(alloc, limit, rewrite);
-    let known = Known::new(alloc);
-    transform_all(alloc, Filtering { filter, known }, input, output)
+    let stream: Spanwise<T, Normal> = Spanwise::new(alloc, limit, rewrite);
+    transform_all(alloc, stream, input, output)
 }

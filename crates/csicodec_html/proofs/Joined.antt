@@ -1,12 +1,12 @@
 -- One text appended behind the other.
 use Rattle.std.proofs.Common.{◌≡◌, ℕ, Bool, List, [], ◌∷◌, ◌++◌, false, true, sym, ap, ◌∙◌, append_assoc, append-nil}
-use Rattle.std.specs.Prelude.{codes, ◌||◌, if◌then◌else◌}
+use Rattle.std.specs.Prelude.{◌||◌, if◌then◌else◌}
 use Rattle.std.proofs.lemmas.Grind.{flat_map-append}
 use Rattle.csicodec_html.specs.declared.look.Look.{Look}
 use Rattle.csicodec_html.specs.declared.markup.Markup.{Markup}
 use Rattle.csicodec_html.specs.Look.{is_plain}
 use Rattle.csicodec_html.specs.Page.{Begin, Piece, begins, ends, leads, opens, shuts, switch}
-use Rattle.csicodec_html.specs.Private.Marked.{all_marked, marked}
+use Rattle.csicodec_html.specs.Private.Marked.{all_marked, link_mark, marked}
 
 pub two : (old mid new a b : List ℕ) → mid ≡ old ++ a → new ≡ mid ++ b → new ≡ old ++ (a ++ b)
 two old mid new a b h k = k ∙ ap (λ (t : List ℕ). t ++ b) h ∙ append_assoc old a b
@@ -34,7 +34,7 @@ turned m old new before mid after h k =
     two before mid after (all_marked (ends old)) (all_marked (begins m new)) h k ∙ ap (λ (t : List ℕ). before ++ t) (sym (flat_map-append marked (ends old) (begins m new)))
 
 -- the tag of a link that leads somewhere
-pub opened : (to : List ℕ) → leads to ≡ true → all_marked (opens to) ≡ (1 ∷ (codes "a href=" ++ 3 ∷ [])) ++ (to ++ 3 ∷ 2 ∷ [])
+pub opened : (to : List ℕ) → leads to ≡ true → all_marked (opens to) ≡ link_mark ++ (to ++ 3 ∷ 2 ∷ [])
 opened to h = rw h (append-nil _)
 
 marked_four : (w x y z : List Piece) → all_marked (w ++ (x ++ (y ++ z))) ≡ all_marked w ++ (all_marked x ++ (all_marked y ++ all_marked z))

@@ -3,22 +3,23 @@ use Rattle.std.proofs.Common.{◌≡◌, ℕ, Bool, true, false, List, [], ◌�
 use Rattle.std.specs.Prelude.{if◌then◌else◌}
 use Rattle.std.proofs.lemmas.Grind.{flat_map-append}
 use Rattle.csicodec_clean.specs.Cleaned.{AreGiven}
-use Rattle.csicodec_clean.specs.Links.{Address, Begun, all_behind, ends_at, links_at, links_in, next}
+use Rattle.csicodec_clean.specs.Addresses.{led}
+use Rattle.csicodec_clean.specs.Links.{Address, Begun, admitted, all_behind, ends_at, links_at, links_in, next}
 use Rattle.csicodec_clean.proofs.Linked.{links_more}
 use Rattle.csicodec_html.specs.declared.look.Look.{Look}
 use Rattle.csicodec_html.specs.declared.markup.Markup.{Markup}
-use Rattle.csicodec_html.specs.Page.{Setting, behind_string, led, led_by, setting, switch, switches}
+use Rattle.csicodec_html.specs.Page.{Setting, behind_string, led_by, setting, switch, switches}
 use Rattle.csicodec_html.specs.Private.Marked.{all_marked, behind_byte, marked, turns}
 
 switches_on : (m : Markup) (l : Look) (to : List ℕ) (xs ys : List Address) → switches m l to (xs ++ ys) ≡ switches m l to xs ++ switches m l (led_by to xs) ys
 switches_on m l to [] ys = refl
 switches_on m l to (a ∷ xs) ys =
-    let mid = led a.url in
+    let mid = a.url in
     ap (λ t. switch m l to mid ++ t) (switches_on m l mid xs ys) ∙ sym (append_assoc (switch m l to mid) (switches m l mid xs) (switches m l (led_by mid xs) ys))
 
 led_on : (to : List ℕ) (xs ys : List Address) → led_by to (xs ++ ys) ≡ led_by (led_by to xs) ys
 led_on to [] ys = refl
-led_on to (a ∷ xs) ys = led_on (led a.url) xs ys
+led_on to (a ∷ xs) ys = led_on a.url xs ys
 
 marked_on : (m : Markup) (l : Look) (to : List ℕ) (xs ys : List Address) → all_marked (switches m l to (xs ++ ys)) ≡ all_marked (switches m l to xs) ++ all_marked (switches m l (led_by to xs) ys)
 marked_on m l to xs ys = ap all_marked (switches_on m l to xs ys) ∙ flat_map-append marked (switches m l to xs) (switches m l (led_by to xs) ys)
@@ -29,14 +30,14 @@ marked_on m l to xs ys = ap all_marked (switches_on m l to xs ys) ∙ flat_map-a
 pub over_text : (m : Markup) (l : Look) (to : List ℕ) (b : Begun) (c : ℕ) → all_marked (if ends_at b.place c then switch m l to (led b.address.url) else []) ≡ all_marked (switches m l to (links_at true b c))
 over_text m l to b c = by (ends_at b.place c)
   where
-    by : (t : Bool) → all_marked (if t then switch m l to (led b.address.url) else []) ≡ all_marked (switches m l to (if t then b.address ∷ [] else []))
+    by : (t : Bool) → all_marked (if t then switch m l to (led b.address.url) else []) ≡ all_marked (switches m l to (if t then admitted b.address ∷ [] else []))
     by true = ap all_marked (sym (append-nil (switch m l to (led b.address.url))))
     by false = refl
 
 pub over_to : (to : List ℕ) (b : Begun) (c : ℕ) → (if ends_at b.place c then led b.address.url else to) ≡ led_by to (links_at true b c)
 over_to to b c = by (ends_at b.place c)
   where
-    by : (t : Bool) → (if t then led b.address.url else to) ≡ led_by to (if t then b.address ∷ [] else [])
+    by : (t : Bool) → (if t then led b.address.url else to) ≡ led_by to (if t then admitted b.address ∷ [] else [])
     by true = refl
     by false = refl
 

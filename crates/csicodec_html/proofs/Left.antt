@@ -13,13 +13,14 @@ use Rattle.csicodec_spans.specs.Parts.{Part}
 use Rattle.csicodec_clean.specs.Shown.{shown, shown_text, IsShown}
 use Rattle.csicodec_clean.specs.Titles.{with_titles}
 use Rattle.csicodec_clean.specs.Cleaned.{IsStep, AreSteps, Ends, longest}
-use Rattle.csicodec_clean.specs.Links.{Address, Begun, IsLink, links_in, start}
+use Rattle.csicodec_clean.specs.Addresses.{is_web}
+use Rattle.csicodec_clean.specs.Links.{Address, Begun, IsLink, IsWithin, links_in, start}
 use Rattle.csicodec_clean.proofs.Linked.{fine_behind, fine_links, links_none}
 use Rattle.csicodec_clean.proofs.Plain.{kept_shown, scalars_lossy}
 use Rattle.csicodec_html.specs.declared.look.Look.{Look}
 use Rattle.csicodec_html.specs.declared.markup.Markup.{Markup}
 use Rattle.csicodec_html.specs.Look.{behind_all, is_plain, sets_any}
-use Rattle.csicodec_html.specs.Page.{AreLeft, Begin, Char, End, IsSafe, Leaves, Open, PageWith, Piece, Setting, Shut, begins, behind_actions, behind_string, closing, ends, first_set, is_web, leads, led, opens, pieces_behind, run_behind, shown_pieces, shuts, switch, switches, turn}
+use Rattle.csicodec_html.specs.Page.{AreLeft, Begin, Char, End, IsSafe, Leaves, Open, PageWith, Piece, Setting, Shut, begins, behind_actions, behind_string, closing, ends, first_set, leads, opens, pieces_behind, run_behind, shown_pieces, shuts, switch, switches, turn}
 use Rattle.csicodec_html.specs.Private.Marked.{all_marked, closes, marked, page_bytes, turns}
 use Rattle.csicodec_html.proofs.Leads.{given}
 use Rattle.csicodec_html.proofs.Marks.{pieces}
@@ -116,16 +117,16 @@ safe_shuts m to = by (leads to)
     by true = (tt, tt)
     by false = tt
 
-safe_opens : (m : Markup) → m.links ≡ true → (a : Address) → IsLink a → Safe m (opens (led a.url))
+safe_opens : (m : Markup) → m.links ≡ true → (a : Address) → IsLink a → Safe m (opens a.url)
 safe_opens m pass a h = by (is_web a.url) refl
   where
     there : is_web a.url ≡ true → (b : Bool) → Safe m (if b then Open a.url ∷ [] else [])
-    there e true = ((pass, record { web = e; visible = h.url; short = h.short }), tt)
+    there e true = ((pass, record { web = e; visible = h.within.url; short = h.within.short }), tt)
     there e false = tt
 
-    by : (b : Bool) → is_web a.url ≡ b → Safe m (opens (if b then a.url else []))
+    by : (b : Bool) → is_web a.url ≡ b → Safe m (opens a.url)
     by true e = there e (leads a.url)
-    by false e = tt
+    by false e = subst (λ (t : List ℕ). Safe m (opens t)) (ap (λ (b : Bool). if b then a.url else []) (sym e) ∙ h.leads) tt
 
 safe_closing : (m : Markup) (s : Setting) → Safe m (closing s)
 safe_closing m s = safe_both m (ends s.look) (shuts s.to) (safe_ends m s.look) (safe_shuts m s.to)
@@ -134,11 +135,11 @@ safe_turn : (m : Markup) (old new : Look) (comes : Bool) → Safe m (turn m come
 safe_turn m old new true = safe_both m (ends old) (begins m new) (safe_ends m old) (safe_begins m new)
 safe_turn m old new false = tt
 
-safe_switch : (m : Markup) → m.links ≡ true → (l : Look) (old : List ℕ) (a : Address) → IsLink a → Safe m (switch m l old (led a.url))
+safe_switch : (m : Markup) → m.links ≡ true → (l : Look) (old : List ℕ) (a : Address) → IsLink a → Safe m (switch m l old a.url)
 safe_switch m pass l old a h = by (leads old || leads new)
   where
     new : List ℕ
-    new = led a.url
+    new = a.url
 
     by : (b : Bool) → Safe m (if b then ends l ++ (shuts old ++ (opens new ++ begins m l)) else [])
     by true = safe_both m (ends l) (shuts old ++ (opens new ++ begins m l)) (safe_ends m l)
@@ -148,16 +149,16 @@ safe_switch m pass l old a h = by (leads old || leads new)
 safe_switches : (m : Markup) → m.links ≡ true → (l : Look) (to : List ℕ) (links : List Address) → AllByRecursion IsLink links → Safe m (switches m l to links)
 safe_switches m pass l to [] h = tt
 safe_switches m pass l to (a ∷ links) h =
-    safe_both m (switch m l to (led a.url)) (switches m l (led a.url) links) (safe_switch m pass l to a h.0) (safe_switches m pass l (led a.url) links h.1)
+    safe_both m (switch m l to a.url) (switches m l a.url links) (safe_switch m pass l to a h.0) (safe_switches m pass l a.url links h.1)
 
-safe_string : (m : Markup) (l : Look) (to : List ℕ) (b : Begun) (bytes : List ℕ) → IsLink b.address → Safe m (switches m l to (links_in m.links b bytes))
+safe_string : (m : Markup) (l : Look) (to : List ℕ) (b : Begun) (bytes : List ℕ) → IsWithin b.address → Safe m (switches m l to (links_in m.links b bytes))
 safe_string m l to b bytes h = by m.links refl
   where
     by : (t : Bool) → m.links ≡ t → Safe m (switches m l to (links_in t b bytes))
     by true pass = safe_switches m pass l to (links_in true b bytes) (fine_links true bytes b h)
     by false pass = subst (λ (links : List Address). Safe m (switches m l to links)) (sym (links_none bytes b)) tt
 
-safe_leaves : (s after : Setting) (k : Kind) (bytes : List ℕ) (own : List Piece) → IsLink s.begun.address → Leaves s k bytes own after → Safe s.markup own
+safe_leaves : (s after : Setting) (k : Kind) (bytes : List ℕ) (own : List Piece) → IsWithin s.begun.address → Leaves s k bytes own after → Safe s.markup own
 safe_leaves s after kind.Csi bytes own h (actions, isof, behind, e) = subst (Safe s.markup) (sym e) (safe_turn s.markup s.look (behind_all s.look actions) (sets_any actions))
 safe_leaves s after kind.Str bytes own h (e, behind) = subst (Safe s.markup) (sym e) (safe_string s.markup s.look s.to s.begun bytes h)
 safe_leaves s after kind.Text bytes own h (e, same) = subst (Safe s.markup) (sym e) tt
@@ -171,19 +172,19 @@ safe_behind m _ run = safe_run m run
 -- behind a part: what becomes markup is as before, and what has come of a link may pass
 record Stays (s after : Setting) : Type 0 where
   markup : after.markup ≡ s.markup
-  fine : IsLink after.begun.address
+  fine : IsWithin after.begun.address
 
-stays : (s after mid : Setting) → after ≡ mid → mid.markup ≡ s.markup → IsLink mid.begun.address → Stays s after
-stays s after mid e same h = record { markup = ap (λ (x : Setting). x.markup) e ∙ same; fine = subst (λ (x : Setting). IsLink x.begun.address) (sym e) h }
+stays : (s after mid : Setting) → after ≡ mid → mid.markup ≡ s.markup → IsWithin mid.begun.address → Stays s after
+stays s after mid e same h = record { markup = ap (λ (x : Setting). x.markup) e ∙ same; fine = subst (λ (x : Setting). IsWithin x.begun.address) (sym e) h }
 
-stays_behind : (s after : Setting) (k : Kind) (bytes : List ℕ) (own : List Piece) → IsLink s.begun.address → Leaves s k bytes own after → Stays s after
+stays_behind : (s after : Setting) (k : Kind) (bytes : List ℕ) (own : List Piece) → IsWithin s.begun.address → Leaves s k bytes own after → Stays s after
 stays_behind s after kind.Csi bytes own h (actions, isof, behind, e) = stays s after (behind_actions s actions) behind refl h
 stays_behind s after kind.Str bytes own h (e, behind) = stays s after (behind_string s bytes) behind refl (fine_behind s.markup.links bytes s.begun h)
 stays_behind s after kind.Text bytes own h (e, same) = stays s after s same refl h
 stays_behind s after kind.Esc bytes own h (e, same) = stays s after s same refl h
 stays_behind s after kind.Other bytes own h (e, same) = stays s after s same refl h
 
-pub safe_left : (parts : List Part) (s : Setting) (run : List ℕ) (ps : List Piece) → IsLink s.begun.address → AreLeft s run parts ps → Safe s.markup ps
+pub safe_left : (parts : List Part) (s : Setting) (run : List ℕ) (ps : List Piece) → IsWithin s.begun.address → AreLeft s run parts ps → Safe s.markup ps
 safe_left [] s run ps h e = subst (Safe s.markup) (sym e) (safe_both s.markup (shown_pieces run) (closing s) (safe_run s.markup run) (safe_closing s.markup s))
 safe_left (p ∷ parts) s run ps h (own, after, others, leaves, e, rest) =
     let stay = stays_behind s after p.kind p.bytes own h leaves in
@@ -192,7 +193,7 @@ safe_left (p ∷ parts) s run ps h (own, after, others, leaves, e, rest) =
     (safe_both s.markup (pieces_behind p.kind run) (own ++ others) (safe_behind s.markup p.kind run) (safe_both s.markup own others (safe_leaves s after p.kind p.bytes own h leaves) later))
 
 -- nothing has come of a link
-pub none_begun : IsLink start.address
+pub none_begun : IsWithin start.address
 none_begun = record { params = tt; few = omega arith; url = tt; short = omega arith }
 
 -- what the rule leaves, byte by byte, is the page

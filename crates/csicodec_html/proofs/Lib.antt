@@ -14,6 +14,6 @@ pub mod Ruled
 pub mod Rules
 pub mod Said
 pub mod Streamed
-pub mod Passed
+pub mod Tagged
 pub mod Turned
 pub mod Stood

@@ -136,7 +136,7 @@ address [] h = refl
 address (c ∷ url) h = ap (λ (t : List ℕ). t ++ page_bytes url) (visible c h.0) ∙ ap (λ (t : List ℕ). escaped c ++ t) (address url h.1)
 
 open_link : (url : List ℕ) → AllByRecursion IsVisible url → page_bytes (marked (Open url)) ≡ piece_text (Open url)
-open_link url h = ap (λ (t : List ℕ). codes "<a href=" ++ (34 ∷ t)) (flat_map-append page_byte url (3 ∷ 2 ∷ []) ∙ ap (λ (t : List ℕ). t ++ 34 ∷ 62 ∷ []) (address url h))
+open_link url h = ap (λ (t : List ℕ). codes "<a rel=\"nofollow noopener noreferrer\" href=\"" ++ t) (flat_map-append page_byte url (3 ∷ 2 ∷ []) ∙ ap (λ (t : List ℕ). t ++ 34 ∷ 62 ∷ []) (address url h))
 
 piece : (m : Markup) (p : Piece) → IsSafe m p → page_bytes (marked p) ≡ piece_text p
 piece m (Char c) h = char c h.0

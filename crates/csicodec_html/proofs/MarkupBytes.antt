@@ -195,7 +195,7 @@ end_markup links linked more = refl
 open_markup : (url more : List ℕ) → AllByRecursion IsQuoted (flat_map escaped url) → is_markup true Inside false false (piece_text (Open url) ++ more) ≡ is_markup true Inside true false more
 open_markup url more h =
     let own = flat_map escaped url in
-    let tag = codes "a href=" ++ 34 ∷ [] in
+    let tag = codes "a rel=\"\" href=\"" in
     ap (λ (t : List ℕ). is_markup true (Tag true tag) false false t) (append_assoc own (34 ∷ 62 ∷ []) more) ∙ value_markup true false false tag own (34 ∷ 62 ∷ more) (values IsQuoted own quoted_value h)
 
 shut_markup : (links : Bool) (more : List ℕ) → is_markup links Inside true false (piece_text Shut ++ more) ≡ is_markup links Inside false false more

@@ -17,7 +17,7 @@ use Rattle.csicodec_clean.proofs.Shows.{encoded_on}
 use Rattle.csicodec_html.specs.declared.look.Look.{Look}
 use Rattle.csicodec_html.specs.declared.markup.Markup.{Markup}
 use Rattle.csicodec_html.specs.Look.{behind_all, is_plain, sets_any}
-use Rattle.csicodec_html.specs.Page.{AreLeft, Begin, Char, End, IsPageWith, Leaves, Open, PageWith, Piece, Setting, Shut, are_paired, begins, behind_actions, chars_of, closing, ends, first_set, leads, led, led_by, opens, piece_texts, pieces_behind, run_behind, shown_pieces, shuts, switch, switches, turn}
+use Rattle.csicodec_html.specs.Page.{AreLeft, Begin, Char, End, IsPageWith, Leaves, Open, PageWith, Piece, Setting, Shut, are_paired, begins, behind_actions, chars_of, closing, ends, first_set, leads, led_by, opens, piece_texts, pieces_behind, run_behind, shown_pieces, shuts, switch, switches, turn}
 use Rattle.csicodec_html.proofs.Left.{none_begun, safe_left}
 use Rattle.csicodec_html.proofs.Turned.{unset}
 
@@ -86,7 +86,7 @@ paired_switch m l old new ps = by (leads old || leads new) refl
 paired_switches : (m : Markup) (l : Look) (to : List ℕ) (links : List Address) (ps : List Piece) → are_paired (leads to) (inside l) (switches m l to links ++ ps) ≡ are_paired (leads (led_by to links)) (inside l) ps
 paired_switches m l to [] ps = refl
 paired_switches m l to (a ∷ links) ps =
-    let mid = led a.url in
+    let mid = a.url in
     ap (are_paired (leads to) (inside l)) (append_assoc (switch m l to mid) (switches m l mid links) ps) ∙ paired_switch m l to mid (switches m l mid links ++ ps) ∙ paired_switches m l mid links ps
 
 -- in a link or not, and in a span or not
@@ -166,7 +166,7 @@ bare_switch m l old new =
 
 bare_switches : (m : Markup) (l : Look) (to : List ℕ) (links : List Address) → IsBare (switches m l to links)
 bare_switches m l to [] = refl
-bare_switches m l to (a ∷ links) = bare_both (switch m l to (led a.url)) (switches m l (led a.url) links) (bare_switch m l to (led a.url)) (bare_switches m l (led a.url) links)
+bare_switches m l to (a ∷ links) = bare_both (switch m l to a.url) (switches m l a.url links) (bare_switch m l to a.url) (bare_switches m l a.url links)
 
 bare_leaves : (s after : Setting) (k : Kind) (bytes : List ℕ) (own : List Piece) → Leaves s k bytes own after → IsBare own
 bare_leaves s after kind.Csi bytes own (actions, isof, behind, e) =

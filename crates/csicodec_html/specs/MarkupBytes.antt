@@ -44,7 +44,7 @@ abbrev pub ends_span : List ℕ → Bool
 ends_span tag = is tag (codes "/span")
 
 abbrev pub is_link : List ℕ → Bool
-is_link tag = is tag (codes "a href=" ++ no_value)
+is_link tag = is tag (codes "a rel=" ++ (no_value ++ (codes " href=" ++ no_value)))
 
 abbrev pub ends_link : List ℕ → Bool
 ends_link tag = is tag (codes "/a")

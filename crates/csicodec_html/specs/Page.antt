@@ -1,6 +1,6 @@
 -- A piece of a page of HTML: the text of a stream, escaped, around what has attributes a span, and around what leads somewhere a link.
-use Rattle.std.specs.Prelude.{ℕ, ◌≡◌, ◌≤◌, ⊤, ◌==◌, nat_eq, Bool, true, false, not, ◌&&◌, ◌||◌, nat_lt, if◌then◌else◌, List, [], ◌∷◌, ◌++◌, length, map, filter, codes, encode_utf8}
-use Rattle.std.specs.List.{AllByRecursion, flat_map, starts_with}
+use Rattle.std.specs.Prelude.{ℕ, ◌≡◌, ◌≤◌, ⊤, ◌==◌, Bool, true, false, not, ◌&&◌, ◌||◌, nat_lt, if◌then◌else◌, List, [], ◌∷◌, ◌++◌, length, map, filter, codes, encode_utf8}
+use Rattle.std.specs.List.{AllByRecursion, flat_map}
 use Rattle.std.specs.Char.{IsScalar}
 use Rattle.bstr.specs.Utf8.{lossy_chars}
 use Rattle.csicodec_actions.specs.Actions.{Action}
@@ -11,6 +11,7 @@ use Rattle.csicodec_spans.specs.declared.table.Mode.TheVariants as mode
 use Rattle.csicodec_spans.specs.Parts.{Part, IsWhole}
 use Rattle.csicodec_clean.specs.Shown.{shown, IsShown}
 use Rattle.csicodec_clean.specs.Titles.{with_titles}
+use Rattle.csicodec_clean.specs.Addresses.{is_web}
 use Rattle.csicodec_clean.specs.Links.{Address, Begun, all_behind, is_visible, links_in, longest_url, start}
 use Rattle.csicodec_clean.specs.Cleaned.{longest}
 use Rattle.csicodec_html.specs.declared.look.Look.{Look}
@@ -29,6 +30,11 @@ escaped c =
     else if c == 39 then codes "&#39;"
     else encode_utf8 c
 
+-- what the tag of a link says of where it leads: it is no word of the page's author, and who follows it brings no address of the page
+-- there, nor a way back into it (HTML, 4.6.6)
+abbrev pub relation : List ℕ
+relation = codes "nofollow noopener noreferrer"
+
 -- a character of the text, the tag that begins a span that looks so, or the one that ends it, the tag that begins a link to there, or
 -- the one that ends it: there are no others
 pub data Piece : Type 0 where
@@ -42,7 +48,7 @@ abbrev pub piece_text : Piece → List ℕ
 piece_text (Char c) = escaped c
 piece_text (Begin m l) = codes "<span" ++ (attributes 34 m l ++ 62 ∷ [])
 piece_text End = codes "</span>"
-piece_text (Open url) = codes "<a href=" ++ (34 ∷ (flat_map escaped url ++ 34 ∷ 62 ∷ []))
+piece_text (Open url) = codes "<a rel=" ++ (34 ∷ (relation ++ (34 ∷ (codes " href=" ++ (34 ∷ (flat_map escaped url ++ 34 ∷ 62 ∷ []))))))
 piece_text Shut = codes "</a>"
 
 abbrev pub piece_texts : List Piece → List ℕ
@@ -68,14 +74,7 @@ ends l = if is_plain l then [] else End ∷ []
 abbrev pub turn : Markup → Bool → Look → Look → List Piece
 turn m comes old new = if comes then ends old ++ begins m new else []
 
--- an address of http or https
-abbrev pub is_web : List ℕ → Bool
-is_web url = starts_with nat_eq url (codes "http://") || starts_with nat_eq url (codes "https://")
-
--- where text leads behind a link: to its address, if that is of http or https, and else nowhere, which is no address
-abbrev pub led : List ℕ → List ℕ
-led url = if is_web url then url else []
-
+-- where text leads behind a link: to its address, or nowhere, which is none
 abbrev pub leads : List ℕ → Bool
 leads to = not (length to == 0)
 
@@ -93,11 +92,11 @@ switch m l old new =
 -- the same of links in turn, and where text leads behind them
 abbrev pub switches : Markup → Look → List ℕ → List Address → List Piece
 switches m l to [] = []
-switches m l to (a ∷ links) = switch m l to (led a.url) ++ switches m l (led a.url) links
+switches m l to (a ∷ links) = switch m l to a.url ++ switches m l a.url links
 
 abbrev pub led_by : List ℕ → List Address → List ℕ
 led_by to [] = to
-led_by to (a ∷ links) = led_by (led a.url) links
+led_by to (a ∷ links) = led_by a.url links
 
 -- what a page goes by: what becomes markup, how text looks, where it leads, and what has come of a link
 pub record Setting : Type 0 where
@@ -175,7 +174,7 @@ simple = record { links = false; classes = false; palette = readable }
 abbrev pub PageOf : List ℕ → List ℕ → Type 0
 PageOf bytes page = PageWith simple bytes page
 
--- an address that a page may lead to: of http or https, and short, of visible characters of ASCII
+-- an address that a page may lead to: of a host by http or https, and short, of visible characters of ASCII
 pub record IsLed (url : List ℕ) : Type 0 where
   pub web : is_web url ≡ true
   pub visible : AllByRecursion (λ b. is_visible b ≡ true) url

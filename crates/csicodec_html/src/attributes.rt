@@ -51,16 +51,17 @@ fn append_true_colors(look: Look, out: &mut Vec<u8>) -> Result<(), AllocError>
     append_true(Part::Line, look.lines_color(), out)
 }
 
-/// Appends the style of what no class says, if there is anything.
-fn append_rest(look: Look, out: &mut Vec<u8>) -> Result<(), AllocError>
-    ensures { OnOk result (out.new.items ≡ out.old.items ++ rest_attribute 3 look) }
+/// Appends the style of what no class says, if there is anything. `quote` stands for a quotation mark.
+pub(crate) fn append_rest(look: Look, quote: u8, out: &mut Vec<u8>) -> Result<(), AllocError>
+    ensures { OnOk result (out.new.items ≡ out.old.items ++ rest_attribute quote look) }
 {
     if !has_true(look) {
         return Ok(());
     }
-    out.extend_from_slice(b" style=\x03")?;
+    out.extend_from_slice(b" style=")?;
+    out.push(quote)?;
     append_true_colors(look, out)?;
-    Ok(out.push(3)?)
+    Ok(out.push(quote)?)
 }
 
 /// Whether a colour is the same on a light and on a dark page.
@@ -98,7 +99,7 @@ fn is_mixed(palette: &Palette, look: Look) -> bool
 }
 
 /// The look with colours that can be read beside each other: where one of them is the same on a light and on a dark page, both are.
-fn settled(palette: &Palette, look: Look) -> Look
+pub(crate) fn settled(palette: &Palette, look: Look) -> Look
     ensures { result ≡ settled palette.now look }
 {
     if is_mixed(palette, look) {
@@ -116,8 +117,8 @@ fn append_classed(look: Look, out: &mut Vec<u8>) -> Result<(), AllocError>
     ensures { OnOk result (out.new.items ≡ out.old.items ++ classed_mark look) }
 {
     out.extend_from_slice(b"\x01span")?;
-    append_classes(&look.classes(), out)?;
-    append_rest(look, out)?;
+    append_classes(&look.classes(), 3, out)?;
+    append_rest(look, 3, out)?;
     Ok(out.push(2)?)
 }
 

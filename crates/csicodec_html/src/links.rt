@@ -1,28 +1,15 @@
 //! Where text leads: links, read byte by byte.
 ghost use Rattle.std.specs.Prelude.{◌≡◌, ◌++◌, ◌||◌, [], true, OnOk, if◌then◌else◌};
+ghost use Rattle.csicodec_clean.specs.Addresses.{led};
 ghost use Rattle.csicodec_clean.specs.Links.{all_behind, begun, behind, links_at, links_in, start};
-ghost use Rattle.csicodec_html.specs.Page.{is_web, leads, led, led_by, switch, switches};
+ghost use Rattle.csicodec_html.specs.Page.{leads, led_by, switch, switches};
 ghost use Rattle.csicodec_html.specs.Private.Marked.{all_marked};
 
 use crate::look::Look;
 use crate::markup::Markup;
 use crate::tags::{append_begin, append_end, append_open, append_shut, leads};
-use csicodec_clean::{LinkReader, ends_link};
+use csicodec_clean::{LinkReader, ends_link, led};
 use std::alloc::{AllocError, Global};
-
-/// Whether the address is one of http or https.
-fn is_web(url: &[u8]) -> bool
-    ensures { result ≡ is_web url.now }
-{
-    url.starts_with(b"http://") || url.starts_with(b"https://")
-}
-
-/// Where a link to the address leads on a page: there, or nowhere, which has no bytes.
-fn led(url: &[u8]) -> &[u8]
-    ensures { result.now ≡ led url.now }
-{
-    if is_web(url) { url } else { &[] }
-}
 
 /// Whether one of two links leads anywhere.
 fn leads_any(old: &[u8], new: &[u8]) -> bool

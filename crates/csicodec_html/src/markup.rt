@@ -7,8 +7,7 @@ use crate::palette::Palette;
 /// What becomes markup, beside attributes, and the colours of those.
 #[derive(Clone, Copy, PartialEq, Eq, Debug)]
 pub struct Markup {
-    /// Whether links (OSC 8) do: those of http and https whose address is visible ASCII, of at most 2,083 bytes, with at most 256 bytes
-    /// of parameters.
+    /// Whether links (OSC 8) do: those that `clean` lets pass, to a host by http or https.
     pub links: bool,
     /// Whether attributes become classes of spans, as `bold` and `fg-1`, which a style sheet gives their meaning, in place of styles;
     /// colours by their parts are styles still.

@@ -69,7 +69,7 @@ pub fn html(alloc: Global, bytes: &[u8]) -> Result<Vec<u8>, AllocError>
 ///
 /// ```text
 /// let markup = Markup { links: true, ..Markup::default() };
-/// html_with(alloc, markup, b"\x1b]8;;http://a.example/?b&c\x07d")?      // "<a href=\"http://a.example/?b&amp;c\">d</a>"
+/// html_with(alloc, markup, b"\x1b]8;;http://a.example/?b&c\x07d")?      // "<a rel=\"nofollow noopener noreferrer\" href=\"http://a.example/?b&amp;c\">d</a>"
 /// ```
 pub fn html_with(alloc: Global, markup: Markup, bytes: &[u8]) -> Result<Vec<u8>, AllocError>
     ensures exact { IfOk result (λ out. PageWith markup bytes.now out.items) }

@@ -13,7 +13,7 @@ use crate::turns::Turns;
 use csicodec::CSI;
 use csicodec_base::CsiParam;
 use csicodec_clean::Rule;
-use csicodec_terminal::terminal_actions;
+use csicodec_terminal::terminal_actions_into;
 use std::alloc::{AllocError, Global};
 use std::marker::Model;
 
@@ -91,6 +91,8 @@ pub(crate) struct Spans {
     markup: Markup,
     look: Look,
     lead: Lead,
+    /// A place that is kept for the actions of a sequence.
+    actions: Vec<CSI>,
     /// Sequences that came before.
     turns: Turns,
 }
@@ -119,6 +121,7 @@ impl Spans {
             markup,
             look: Look::plain(),
             lead: Lead::new(alloc),
+            actions: Vec::new(alloc),
             turns: Turns::new(alloc),
         }
     }
@@ -138,10 +141,10 @@ impl Rule for Spans {
         control: char,
         out: &mut Vec<u8>,
     ) -> Result<(), AllocError> {
-        let actions = terminal_actions(self.alloc, params, false, control)?;
-        let new = behind_each(self.look, &actions);
+        terminal_actions_into(self.alloc, params, false, control, &mut self.actions)?;
+        let new = behind_each(self.look, &self.actions);
         let before = out.len();
-        append_turn(&self.markup, sets_any(&actions), self.look, new, out)?;
+        append_turn(&self.markup, sets_any(&self.actions), self.look, new, out)?;
         let tags = out.split_at(before).1;
         self.turns.keep(&self.markup, bytes, self.look, new, tags)?;
         self.look = new;

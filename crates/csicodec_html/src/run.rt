@@ -16,7 +16,7 @@ use std::marker::Model;
 
 /// A stream that becomes a page as it comes.
 #[derive(Drop)]
-pub(crate) struct Page {
+struct Page {
     cleaner: Cleaner<Spans>,
     /// A place that is kept for what a chunk leaves.
     marked: Vec<u8>,
@@ -33,7 +33,7 @@ impl Model for Page {
 
 impl Page {
     /// Of which nothing has come.
-    pub(crate) fn new(alloc: Global, markup: Markup) -> Page
+    fn new(alloc: Global, markup: Markup) -> Page
         ensures { result ≡ start_of (first_set markup) }
     {
         Page {

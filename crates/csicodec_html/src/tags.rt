@@ -42,7 +42,7 @@ pub(crate) fn append_open(to: &[u8], out: &mut Vec<u8>) -> Result<(), AllocError
     if !leads(to) {
         return Ok(());
     }
-    out.extend_from_slice(b"\x01a href=\x03")?;
+    out.extend_from_slice(b"\x01a rel=\x03nofollow noopener noreferrer\x03 href=\x03")?;
     out.extend_from_slice(to)?;
     out.extend_from_slice(b"\x03\x02")?;
     Ok(())

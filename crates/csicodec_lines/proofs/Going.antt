@@ -3,11 +3,11 @@ use Rattle.std.proofs.Common.{◌≡◌, ℕ, Bool, false, List, [], ◌∷◌, 
 use Rattle.csicodec_spans.specs.declared.table.Kind.{Kind}
 use Rattle.csicodec_spans.specs.declared.table.Mode.{Mode}
 use Rattle.csicodec_spans.specs.declared.table.Mode.TheVariants as mode
-use Rattle.csicodec_spans.specs.Parts.{Part, part, left_over, Cuts}
+use Rattle.csicodec_spans.specs.Parts.{Part, part, left_over, Cuts, IsUnsure}
 use Rattle.csicodec_spans.proofs.Kept.{parts_more, parts_on}
 use Rattle.csicodec_spans.proofs.Once.{parts_front, whole_once}
 use Rattle.csicodec_spans.proofs.OneSpan.{none_unsure}
-use Rattle.csicodec_filter.specs.Transform.{EndsOf, Sends, Transforms}
+use Rattle.csicodec_filter.specs.Transform.{EndsOf, GoesOn, Sends, Transforms}
 use Rattle.csicodec_clean.specs.Cleaned.{longest}
 use Rattle.csicodec_clean.specs.Stream.{IsFrontOf}
 use Rattle.csicodec_clean.specs.Titles.{read_as, title_behind, title_open, with_titles}
@@ -65,18 +65,24 @@ goes_span n a u mid new k rest span later more c finds =
     }
 
 -- a chunk more
-pub goes_then : (m n a : Mode) (t u v : Bool) (old mid new : Search) (bytes chunk text held more rest : List ℕ)
-    → Goes m t old bytes text held n u mid → Goes n u mid (held ++ chunk) more rest a v new
-    → Goes m t old (bytes ++ chunk) (text ++ more) rest a v new
-goes_then m n a t u v old mid new bytes chunk text held more rest g k =
-    goes_on m n a t u v old mid new (bytes ++ chunk) text (held ++ chunk) more rest
-    (record { parts = g.parts; first = parts_more longest g.parts m bytes chunk held n g.first; titles = g.titles; finds = g.finds }) k
+pub takes : (old new : Finder) (chunk more : List ℕ) → IsUnsure longest new.waiting.mode new.waiting.bytes
+    → Goes old.waiting.mode old.titled old.search (old.waiting.bytes ++ chunk) more new.waiting.bytes new.waiting.mode new.titled new.search
+    → GoesOn Passes old chunk more new
+takes old new chunk more unsure k first read text p = record {
+  unsure = unsure;
+  goes = λ every is.
+      let g = p.goes every is in
+      let held = old.waiting.bytes in
+      goes_on mode.Text old.waiting.mode new.waiting.mode false old.titled new.titled first.search old.search new.search
+      (read ++ chunk) text (held ++ chunk) more new.waiting.bytes
+      (record { parts = g.parts; first = parts_more longest g.parts mode.Text read chunk held old.waiting.mode g.first; titles = g.titles; finds = g.finds }) k;
+}
 
 -- nothing came yet
 pub begun : (every : ℕ) (f : Finder) → IsBegun every f → Passes f [] [] f
 begun every f is = record {
-  unsure = rw (is.mode, is.pending) (none_unsure longest mode.Text);
-  goes = λ other h. rw (is.mode, is.pending, is.titled) (goes_none mode.Text false f.search []);
+  unsure = rw is.waiting (none_unsure longest mode.Text);
+  goes = λ other h. rw (is.waiting, is.titled) (goes_none mode.Text false f.search []);
 }
 
 -- ---- the text of a whole stream
@@ -101,14 +107,14 @@ module _ (every : ℕ) (f : Finder) (is : IsBegun every f) where
   of_all : (read : List ℕ) (text : List ℕ) (last : Finder) → Passes f read text last → Tells every read text
   of_all read text last p =
       let g = p.goes every is in
-      let rest = last.pending.items in
+      let rest = last.waiting.bytes in
       let s = start every in
       let all = g.parts ++ left_over rest in
       let same = sure_alone s g.parts rest in (
         cuts s (with_titles false all),
         record {
           parts = all;
-          whole = record { sure = g.parts; rest = rest; after = last.mode; first = g.first; unsure = p.unsure; whole = refl };
+          whole = record { sure = g.parts; rest = rest; after = last.waiting.mode; first = g.first; unsure = p.unsure; whole = refl };
           all = refl;
         },
         (g.finds s is.search).1 ∙ ap told (sym same),
@@ -131,8 +137,8 @@ module _ (every : ℕ) (f : Finder) (is : IsBegun every f) where
       let s = start every in
       let ps = with_titles false g.parts in
       let (others, same) = parts_front longest g.parts w.sure mode.Text (read ++ more)
-      (last.pending.items ++ more) w.rest last.mode w.after
-      (parts_more longest g.parts mode.Text read more last.pending.items last.mode g.first) w.first w.unsure in
+      (last.waiting.bytes ++ more) w.rest last.waiting.mode w.after
+      (parts_more longest g.parts mode.Text read more last.waiting.bytes last.waiting.mode g.first) w.first w.unsure in
       let qs = others ++ left_over w.rest in
       let parts : k.parts ≡ g.parts ++ qs = w.whole ∙ ap (λ (x : List Part). x ++ left_over w.rest) same
       ∙ append_assoc g.parts others (left_over w.rest) in

@@ -7,8 +7,7 @@ ghost use Rattle.csicodec_lines.specs.Private.Finder.{Goes, IsBegun};
 use crate::search::Search;
 use csicodec_clean::{read_as, title_behind};
 use csicodec_filter::Transform;
-use csicodec_spans::{LIMIT, Mode, next_span};
-use csicodec_streams::keep_from;
+use csicodec_spans::{LIMIT, Mode, Waiting, next_span};
 use std::alloc::{AllocError, Global};
 
 /// Appends the places in all spans of the bytes that are sure, and answers the bytes that aren't, and the mode there.
@@ -40,9 +39,8 @@ fn append_places<'a>(
 #[derive(Drop)]
 pub(crate) struct Finder {
     search: Search,
-    mode: Mode,
     titled: bool,
-    pending: Vec<u8>,
+    waiting: Waiting,
 }
 
 impl Finder {
@@ -52,18 +50,18 @@ impl Finder {
     {
         Finder {
             search: Search::new(every),
-            mode: Mode::Text,
             titled: false,
-            pending: Vec::new(alloc),
+            waiting: Waiting::new(alloc, LIMIT),
         }
     }
 }
 
 impl Transform for Finder {
     ghost use Rattle.std.specs.Prelude.{⊤, ◌≡◌, []};
+    ghost use Rattle.csicodec_clean.specs.Cleaned.{longest};
     ghost use Rattle.csicodec_lines.specs.Private.Finder.{Passes};
 
-    ghost stands = { λ now. ⊤ };
+    ghost stands = { λ now. now.waiting.limit ≡ longest };
 
     ghost passes = { Passes };
 
@@ -72,17 +70,18 @@ impl Transform for Finder {
     ghost ends = { λ _ text. text ≡ [] };
 
     fn take(&mut self, bytes: &[u8], out: &mut Vec<u8>) -> Result<(), AllocError> {
-        self.pending.extend_from_slice(bytes)?;
+        let Some(all) = self.waiting.add(bytes)? else {
+            return Ok(());
+        };
         let (rest, mode) = append_places(
             &mut self.search,
             &mut self.titled,
-            self.mode,
-            &self.pending,
+            self.waiting.mode(),
+            &all,
             out,
         )?;
-        let used = self.pending.len() - rest.len();
-        self.mode = mode;
-        keep_from(&mut self.pending, used);
+        let used = all.len() - rest.len();
+        self.waiting.keep(all, used, mode);
         Ok(())
     }
 

@@ -22,13 +22,14 @@ use Rattle.csicodec_clean.proofs.Shows.{encoded_on}
 use Rattle.csicodec_clean.proofs.Titles.{titles_on}
 use Rattle.csicodec_clean.proofs.Twice.{one_text, plain_stays}
 use Rattle.csicodec_overwrite.specs.declared.line.Line.{Line}
+use Rattle.csicodec_overwrite.specs.declared.marking.Marking.TheVariants.{Plain}
 use Rattle.csicodec_overwrite.specs.declared.pen.Pen.{Pen}
 use Rattle.csicodec_overwrite.specs.declared.step.Step.{Step}
 use Rattle.csicodec_overwrite.specs.declared.step.Step.TheVariants as step
 use Rattle.csicodec_overwrite.specs.Cells.{columns}
 use Rattle.csicodec_overwrite.specs.Line.{blank, do_all, does, fresh, pen_behind}
 use Rattle.csicodec_overwrite.specs.Lost.{NothingLost, NothingMade, all_came, came, times}
-use Rattle.csicodec_overwrite.specs.Paint.{IsInRange}
+use Rattle.csicodec_overwrite.specs.Paint.{IsInRange, as_text}
 use Rattle.csicodec_overwrite.specs.Reading.{AreOfParts, IsOfPart, Shows, Steps, most, shown_by}
 use Rattle.csicodec_overwrite.specs.Steps.{of_char, of_chars, of_control, of_escape, of_run, of_sequence, of_string, of_wrong}
 use Rattle.csicodec_overwrite.proofs.Kept.{of_shown}
@@ -159,13 +160,13 @@ scalars_of [] h = refl
 scalars_of (c ∷ cs) h = and_from (scalar c) (all_scalars cs) h.0.1 (scalars_of cs h.1)
 
 -- painted or not, what `strip` leaves of it is the plain text
-left_plain : (painted : Bool) (bytes out text : List ℕ) (s : Shows painted bytes out) → Strips longest out text → text ≡ shown_by false (do_all most fresh s.steps blank)
+left_plain : (painted : Bool) (bytes out text : List ℕ) (s : Shows (as_text painted) bytes out) → Strips longest out text → text ≡ shown_by Plain (do_all most fresh s.steps blank)
 left_plain true bytes out text s k =
-    let plain = shown_by false (do_all most fresh s.steps blank) in
+    let plain = shown_by Plain (do_all most fresh s.steps blank) in
     one_text longest out text plain k (same_text bytes out plain s (record { steps = s.steps; read = s.read; all = refl }))
 left_plain false bytes out text s k = plain_stays longest out text (overwritten_plain bytes out s) k ∙ s.all
 
-left_chars : (painted : Bool) (bytes out text : List ℕ) (s : Shows painted bytes out) → Strips longest out text → lossy_chars text ≡ chars_by (do_all most fresh s.steps blank)
+left_chars : (painted : Bool) (bytes out text : List ℕ) (s : Shows (as_text painted) bytes out) → Strips longest out text → lossy_chars text ≡ chars_by (do_all most fresh s.steps blank)
 left_chars painted bytes out text s k =
     let d = do_all most fresh s.steps blank in
     let good = of_shown IsGood IsInRange SgrInRange (refl, refl) plain_kept kept (refl, refl) (refl, refl) most s.steps (steps_good bytes s.steps s.read) in

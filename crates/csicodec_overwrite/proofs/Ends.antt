@@ -40,22 +40,22 @@ returned_standing limit l =
     ap (λ (n : ℕ). standing (padded limit n now)) missing ∙ ap (λ (n : ℕ). trimmed (onto now.right (replicate n Empty ++ now.left))) some
     ∙ ap trimmed (over_whole 0 [] all ∙ onto_twice l.left l.right)
 
-module _ (old new : Now) (bare : old.reader ≡ none_held) (reader : new.reader ≡ old.reader) (painted : new.painted ≡ old.painted) (is : new.line ≡ blank) (pen : new.pen ≡ closed old.pen) where
-  pub end_passes : (returned : Bool) → Passes old (end_of returned) (ended old.painted (cells_of old.line)) new
+module _ (old new : Now) (bare : old.reader ≡ none_held) (reader : new.reader ≡ old.reader) (marking : new.marking ≡ old.marking) (is : new.line ≡ blank) (pen : new.pen ≡ closed old.pen) where
+  pub end_passes : (returned : Bool) → Passes old (end_of returned) (ended old.marking (cells_of old.line)) new
   end_passes false = record {
     steps = of_chars (end_of false);
     reads = rw (reader, bare) (reads_end false);
     pen = pen;
-    painted = painted;
+    marking = marking;
     line = is;
-    all = sym (append-nil (ended old.painted (cells_of old.line)));
+    all = sym (append-nil (ended old.marking (cells_of old.line)));
   }
   end_passes true = record {
     steps = of_chars (end_of true);
     reads = rw (reader, bare) (reads_end true);
     pen = pen;
-    painted = painted;
+    marking = marking;
     line = is;
-    all = ap (λ (cells : List Cell). ended old.painted (onto cells [])) (sym (returned_standing most old.line))
-        ∙ sym (append-nil (ended old.painted (cells_of (at_column most 1 old.line))));
+    all = ap (λ (cells : List Cell). ended old.marking (onto cells [])) (sym (returned_standing most old.line))
+        ∙ sym (append-nil (ended old.marking (cells_of (at_column most 1 old.line))));
   }

@@ -5,122 +5,77 @@ use Rattle.std.specs.List.{AllByRecursion, flat_map, prefix_len}
 use Rattle.std.proofs.lemmas.Bool.{eqb-true}
 use Rattle.std.proofs.lemmas.Bool.Decides.{nat_tests}
 use Rattle.unicode_width.specs.Width.{char_width}
-use Rattle.csicodec_names.specs.declared.color.ColorSpec.{ColorSpec}
-use Rattle.csicodec_names.specs.declared.color.ColorSpec.TheVariants as color
-use Rattle.csicodec_names.specs.declared.color.Intensity.{Intensity}
-use Rattle.csicodec_names.specs.declared.color.Intensity.TheVariants as intensity
-use Rattle.csicodec_names.specs.declared.color.Underline.{Underline}
-use Rattle.csicodec_names.specs.declared.color.Underline.TheVariants as underline
 use Rattle.csicodec_tokens.proofs.Runs.{All-push}
 use Rattle.csicodec_clean.specs.Bytes.{IsPlainByte}
 use Rattle.csicodec_clean.proofs.Shows.{encoded_on}
-use Rattle.csicodec_clean.proofs.Told.{encoded, is_shown}
+use Rattle.csicodec_clean.proofs.Told.{is_shown}
 use Rattle.csicodec_html.specs.declared.look.Look.{Look}
 use Rattle.csicodec_html.specs.Look.{plain}
 use Rattle.csicodec_overwrite.specs.declared.cells.Cell.{Cell}
 use Rattle.csicodec_overwrite.specs.declared.cells.Cell.TheVariants.{Behind, Char}
 use Rattle.csicodec_overwrite.specs.declared.cells.Glyph.{Glyph}
 use Rattle.csicodec_overwrite.specs.declared.line.Line.{Line}
+use Rattle.csicodec_overwrite.specs.declared.marking.Marking.{Marking}
+use Rattle.csicodec_overwrite.specs.declared.marking.Marking.TheVariants.{Page, Plain, Styled}
 use Rattle.csicodec_overwrite.specs.declared.pen.Pen.{Pen}
 use Rattle.csicodec_overwrite.specs.declared.step.Step.{Step}
 use Rattle.csicodec_overwrite.specs.declared.step.Step.TheVariants as step
-use Rattle.csicodec_overwrite.specs.Cells.{chars_of, columns, glyph, onto, to_tab_stop, width}
+use Rattle.csicodec_overwrite.specs.Cells.{chars_of, columns, glyph, narrowed, onto, to_tab_stop, width}
 use Rattle.csicodec_overwrite.specs.Line.{Done, before, blank, cells_of, do_all, does, done, line, pen_behind, pen_behind_all, put}
-use Rattle.csicodec_overwrite.specs.Paint.{ended, look_of, look_text, paint, same, same_color, same_flag, same_intensity, same_underline, text_of, texts_of, turn}
+use Rattle.csicodec_overwrite.specs.Paint.{ended, look_of, paint, shows_looks, text_of, texts_of, turn, written}
 use Rattle.csicodec_overwrite.specs.Steps.{of_char, of_chars}
 use Rattle.csicodec_overwrite.specs.Reading.{most}
 use Rattle.csicodec_overwrite.specs.Stream.{Now, Passes, Reads, none_held}
-use Rattle.csicodec_overwrite.specs.Private.Front.{AreLooks, IsFront, IsLook, Sets, drawn, last_look, last_of_run, run_text, turned}
+use Rattle.csicodec_overwrite.specs.Private.Front.{AreLooks, IsFront, IsLook, Sets, drawn, last_look, last_of_run, run_text}
 use Rattle.csicodec_overwrite.specs.Private.Plain.{AreFull, AreLines, IsLineByte, PutsPlain, closed, end_of, line_byte}
+use Rattle.csicodec_overwrite.proofs.Alike.{newline_written, turn_same, written_none, written_on}
 use Rattle.csicodec_overwrite.proofs.Ends.{end_passes}
 use Rattle.csicodec_overwrite.proofs.Read.{reads_none, reads_on}
 use Rattle.csicodec_overwrite.proofs.Stays.{cells, cells_full, cells_length, full_trimmed, put_cells, puts}
 use Rattle.csicodec_overwrite.proofs.Straight.{few_cells, line_plain, lines_plain, narrow, reads_plain, split_line}
 use Rattle.csicodec_overwrite.proofs.Written.{line_on, lines_on, passes_on, pen_on}
 
--- ---- a look is itself
-
-number_same : (n : ℕ) → (n == n) ≡ true
-number_same n = grind (arith, nat_tests)
-
-flag_same : (b : Bool) → same_flag b b ≡ true
-flag_same true = refl
-flag_same false = refl
-
-intensity_same : (x : Intensity) → same_intensity x x ≡ true
-intensity_same intensity.Normal = refl
-intensity_same intensity.Bold = refl
-intensity_same intensity.Half = refl
-
-underline_same : (x : Underline) → same_underline x x ≡ true
-underline_same underline.None = refl
-underline_same underline.Single = refl
-underline_same underline.Double = refl
-underline_same underline.Curly = refl
-underline_same underline.Dotted = refl
-underline_same underline.Dashed = refl
-
-color_same : (x : ColorSpec) → same_color x x ≡ true
-color_same color.Default = refl
-color_same (color.PaletteIndex i) = number_same i
-color_same (color.TrueColor c) = rw (number_same c.0, number_same c.1, number_same c.2, number_same c.3) refl
-
-look_same : (l : Look) → same l l ≡ true
-look_same l =
-    rw (
-      intensity_same l.intensity,
-      flag_same l.italic,
-      underline_same l.underline,
-      color_same l.line,
-      flag_same l.overline,
-      flag_same l.strike,
-      flag_same l.inverse,
-      color_same l.foreground,
-      color_same l.background,
-    ) refl
-
-turned_same : (painted : Bool) (l : Look) → turned painted l l ≡ []
-turned_same true l = ap (λ (b : Bool). cond b [] (look_text l)) (look_same l)
-turned_same false l = refl
-
 -- ---- what is written of cells
 
-painted_drawn : (left right : List Cell) → paint plain (onto left right) ≡ drawn true left ++ paint (last_look left) right
-painted_drawn [] right = refl
-painted_drawn (x ∷ left) right =
+painted_drawn : (marking : Marking) (left right : List Cell)
+    → paint marking plain (onto left right) ≡ drawn marking left ++ paint marking (last_look left) right
+painted_drawn marking [] right = refl
+painted_drawn marking (x ∷ left) right =
     let now = last_look left in
     let next = look_of now x in
-    let chars = encode_utf8_all (chars_of x) in
-    painted_drawn left (x ∷ right) ∙ ap (λ (t : List ℕ). drawn true left ++ t) (sym (append_assoc (turn now next) chars (paint next right)))
-    ∙ sym (append_assoc (drawn true left) (turn now next ++ chars) (paint next right))
+    let chars = written marking (chars_of x) in
+    painted_drawn marking left (x ∷ right)
+    ∙ ap (λ (t : List ℕ). drawn marking left ++ t) (sym (append_assoc (turn marking now next) chars (paint marking next right)))
+    ∙ sym (append_assoc (drawn marking left) (turn marking now next ++ chars) (paint marking next right))
 
 plain_drawn : (left right : List Cell)
-    → encode_utf8_all (flat_map chars_of (onto left right)) ≡ drawn false left ++ encode_utf8_all (flat_map chars_of right)
+    → encode_utf8_all (flat_map chars_of (onto left right)) ≡ drawn Plain left ++ encode_utf8_all (flat_map chars_of right)
 plain_drawn [] right = refl
 plain_drawn (x ∷ left) right =
     let chars = encode_utf8_all (chars_of x) in
     let rest = encode_utf8_all (flat_map chars_of right) in
-    plain_drawn left (x ∷ right) ∙ ap (λ (t : List ℕ). drawn false left ++ t) (encoded_on (chars_of x) (flat_map chars_of right))
-    ∙ sym (append_assoc (drawn false left) chars rest)
+    plain_drawn left (x ∷ right) ∙ ap (λ (t : List ℕ). drawn Plain left ++ t) (encoded_on (chars_of x) (flat_map chars_of right))
+    ∙ sym (append_assoc (drawn Plain left) chars rest)
 
-all_drawn : (painted : Bool) (left : List Cell)
-    → text_of painted (onto left []) ≡ drawn painted left ++ turned painted (last_look left) plain
-all_drawn true left = painted_drawn left []
-all_drawn false left = plain_drawn left []
+all_drawn : (marking : Marking) (left : List Cell)
+    → text_of marking (onto left []) ≡ drawn marking left ++ turn marking (last_look left) plain
+all_drawn Plain left = plain_drawn left []
+all_drawn Styled left = painted_drawn Styled left []
+all_drawn (Page m) left = painted_drawn (Page m) left []
 
 -- the cells of a character that takes columns
-module _ (painted : Bool) (g : Glyph) (left : List Cell) where
+module _ (marking : Marking) (g : Glyph) (left : List Cell) where
   char_look : (w : ℕ) → last_look (replicate w Behind ++ Char g ∷ left) ≡ g.look
   char_look zero = refl
   char_look (suc w) = char_look w
 
-  char_drawn : (w : ℕ) → drawn painted (replicate w Behind ++ Char g ∷ left) ≡ drawn painted left
-      ++ (turned painted (last_look left) g.look ++ encode_utf8_all (g.char ∷ []))
+  char_drawn : (w : ℕ) → drawn marking (replicate w Behind ++ Char g ∷ left) ≡ drawn marking left
+      ++ (turn marking (last_look left) g.look ++ written marking (g.char ∷ []))
   char_drawn zero = refl
   char_drawn (suc w) =
       let now = replicate w Behind ++ Char g ∷ left in
-      ap (λ (t : List ℕ). drawn painted now ++ (t ++ [])) (turned_same painted (last_look now)) ∙ append-nil (drawn painted now)
-      ∙ char_drawn w
+      ap (λ (t : List ℕ). drawn marking now ++ (t ++ written marking [])) (turn_same marking (last_look now))
+      ∙ ap (λ (t : List ℕ). drawn marking now ++ t) (written_none marking) ∙ append-nil (drawn marking now) ∙ char_drawn w
 
 -- ---- text of ASCII
 
@@ -131,11 +86,11 @@ wide : (c column : ℕ) → IsLineByte c → (w : ℕ) × (width c column ≡ su
 wide c column h = by (c == 9) refl
   where
     by : (t : Bool) → (c == 9) ≡ t → (w : ℕ) × (width c column ≡ suc w)
-    by true e = (to_tab_stop column - 1, ap (λ (t : Bool). cond t (to_tab_stop column) (unwrap_or (char_width false c) 0)) e ∙ omega arith)
+    by true e = (to_tab_stop column - 1, ap (λ (t : Bool). cond t (to_tab_stop column) (narrowed (unwrap_or (char_width false c) 0))) e ∙ omega arith)
     by false e = (0, narrow c column (grind (arith, nat_tests)) (grind (arith, nat_tests)))
 
 -- behind some cells, a run of it
-record Runs (limit : ℕ) (painted : Bool) (pen : Pen) (cs : List ℕ) (left : List Cell) : Type 0 where
+record Runs (limit : ℕ) (marking : Marking) (pen : Pen) (cs : List ℕ) (left : List Cell) : Type 0 where
   more : List Cell
   full : AreFull more
   few : length more ≤ length left + 8 * length cs
@@ -143,19 +98,18 @@ record Runs (limit : ℕ) (painted : Bool) (pen : Pen) (cs : List ℕ) (left : L
   pens : closed (pen_behind_all limit pen (of_chars cs) (line left [])) ≡ closed pen
   line : (do_all limit pen (of_chars cs) (line left [])).line ≡ line more []
   look : last_look more ≡ last_of_run (last_look left) pen.look cs
-  text : drawn painted more ≡ drawn painted left ++ run_text painted (last_look left) pen.look cs
+  text : drawn marking more ≡ drawn marking left ++ run_text marking (last_look left) pen.look cs
 
 run_look : (l : Look) (cs : List ℕ) → last_of_run l l cs ≡ l
 run_look l [] = refl
 run_look l (c ∷ cs) = refl
 
-run_same : (painted : Bool) (l : Look) (cs : List ℕ) → run_text painted l l cs ≡ cs
-run_same painted l [] = refl
-run_same painted l (c ∷ cs) = ap (λ (t : List ℕ). t ++ c ∷ cs) (turned_same painted l)
+run_same : (marking : Marking) (l : Look) (cs : List ℕ) → run_text marking l l cs ≡ written marking cs
+run_same marking l cs = ap (λ (x : Look). turn marking l x ++ written marking cs) (run_look l cs) ∙ ap (λ (t : List ℕ). t ++ written marking cs) (turn_same marking l)
 
-runs : (limit : ℕ) (painted : Bool) (pen : Pen) (cs : List ℕ) (left : List Cell) → pen.inserts ≡ false → AllByRecursion IsLineByte cs
-    → AreFull left → length left + 8 * length cs ≤ limit → Runs limit painted pen cs left
-runs limit painted pen [] left over h full few = record {
+runs : (limit : ℕ) (marking : Marking) (pen : Pen) (cs : List ℕ) (left : List Cell) → pen.inserts ≡ false → AllByRecursion IsLineByte cs
+    → AreFull left → length left + 8 * length cs ≤ limit → Runs limit marking pen cs left
+runs limit marking pen [] left over h full few = record {
   more = left;
   full = full;
   few = omega arith;
@@ -163,9 +117,10 @@ runs limit painted pen [] left over h full few = record {
   line = refl;
   pens = refl;
   look = refl;
-  text = sym (append-nil (drawn painted left));
+  text = sym (ap (λ (t : List ℕ). drawn marking left ++ (t ++ written marking [])) (turn_same marking (last_look left))
+      ∙ ap (λ (t : List ℕ). drawn marking left ++ t) (written_none marking) ∙ append-nil (drawn marking left));
 }
-runs limit painted pen (c ∷ cs) left over h full few = ⊎_elim
+runs limit marking pen (c ∷ cs) left over h full few = ⊎_elim
     (λ (k : (c == 10 ≡ true) × (of_char c ≡ step.NewLine ∷ [])). absurd (no_newline c h.0 k.0))
     (λ (k : (c == 10 ≡ false) × ((s : Step) × (of_char c ≡ s ∷ []) × ((column : ℕ) → closed (pen_behind pen s column) ≡ closed pen)
     × ((limit : ℕ) (left : List Cell) → does limit pen s (line left []) ≡ put limit pen.inserts (glyph c pen.look) (line left [])))).
@@ -179,9 +134,10 @@ runs limit painted pen (c ∷ cs) left over h full few = ⊎_elim
     let one : does limit pen s (line left []) ≡ done [] (line next []) =
     puts limit left ∙ ap (λ (b : Bool). put limit b g (line left [])) over
     ∙ put_cells limit g left (omega (arith, few_cells c (columns left), few)) ∙ ap (λ (n : ℕ). done [] (line (cells g n left) [])) is in
-    let r = runs limit painted then cs next (ap (λ (p : Pen). p.inserts) (kept (columns left)) ∙ over) h.1 (cells_full g (suc w) left full)
+    let r = runs limit marking then cs next (ap (λ (p : Pen). p.inserts) (kept (columns left)) ∙ over) h.1 (cells_full g (suc w) left full)
     (omega (arith, longer, few)) in
-    let begun = turned painted (last_look left) pen.look in
+    let begun = turn marking (last_look left) pen.look in
+    let one_char = written marking (c ∷ []) in
     record {
       more = r.more;
       full = r.full;
@@ -192,15 +148,15 @@ runs limit painted pen (c ∷ cs) left over h full few = ⊎_elim
           ∙ ap (λ (d : Done). (before d.lines (do_all limit then (of_chars cs) d.line)).line) one ∙ r.line;
       pens = ap (λ (x : List Step). closed (pen_behind_all limit pen (x ++ of_chars cs) (line left []))) of
           ∙ ap (λ (d : Done). closed (pen_behind_all limit then (of_chars cs) d.line)) one ∙ r.pens ∙ kept (columns left);
-      look = r.look ∙ ap (λ (l : Look). last_of_run l then.look cs) (char_look painted g left w)
+      look = r.look ∙ ap (λ (l : Look). last_of_run l then.look cs) (char_look marking g left w)
           ∙ ap (λ (l : Look). last_of_run pen.look l cs) look ∙ run_look pen.look cs;
-      text = r.text ∙ ap (λ (l : Look). drawn painted next ++ run_text painted l then.look cs) (char_look painted g left w)
-          ∙ ap (λ (l : Look). drawn painted next ++ run_text painted pen.look l cs) look
-          ∙ ap (λ (t : List ℕ). drawn painted next ++ t) (run_same painted pen.look cs)
-          ∙ ap (λ (t : List ℕ). t ++ cs) (char_drawn painted g left w)
-          ∙ ap (λ (t : List ℕ). (drawn painted left ++ (begun ++ t)) ++ cs) (sym (encoded (c ∷ []) (line_plain c h.0, tt)))
-          ∙ append_assoc (drawn painted left) (begun ++ c ∷ []) cs
-          ∙ ap (λ (t : List ℕ). drawn painted left ++ t) (append_assoc begun (c ∷ []) cs);
+      text = r.text ∙ ap (λ (l : Look). drawn marking next ++ run_text marking l then.look cs) (char_look marking g left w)
+          ∙ ap (λ (l : Look). drawn marking next ++ run_text marking pen.look l cs) look
+          ∙ ap (λ (t : List ℕ). drawn marking next ++ t) (run_same marking pen.look cs)
+          ∙ ap (λ (t : List ℕ). t ++ written marking cs) (char_drawn marking g left w)
+          ∙ append_assoc (drawn marking left) (begun ++ one_char) (written marking cs)
+          ∙ ap (λ (t : List ℕ). drawn marking left ++ t) (append_assoc begun one_char (written marking cs)
+          ∙ ap (λ (t : List ℕ). begun ++ t) (sym (written_on marking (c ∷ []) cs)));
     })
     (puts pen c (is_shown c (line_plain c h.0)))
 
@@ -236,8 +192,8 @@ looks_none look (s ∷ steps) none = absurd (omega (arith, none))
 
 -- ---- the front
 
-pub front_none : (painted : Bool) (pen : Pen) → IsFront painted pen [] [] plain pen.look
-front_none painted pen = record {
+pub front_none : (marking : Marking) (pen : Pen) → IsFront marking pen [] [] plain pen.look
+front_none marking pen = record {
   steps = [];
   cells = [];
   reads = reads_none;
@@ -250,15 +206,15 @@ front_none painted pen = record {
   drawn = refl;
 }
 
-module _ (painted : Bool) (pen : Pen) (bytes text : List ℕ) (last now : Look) (f : IsFront painted pen bytes text last now) where
+module _ (marking : Marking) (pen : Pen) (bytes text : List ℕ) (last now : Look) (f : IsFront marking pen bytes text last now) where
   abbrev then : Pen
   then = pen_behind_all most pen f.steps blank
 
   on : (more : List ℕ) (steps : List Step) (cells : List Cell) (whole : List ℕ) (next after : Look) → Reads none_held more steps none_held
       → (do_all most then steps (line f.cells [])).lines ≡ [] → (do_all most then steps (line f.cells [])).line ≡ line cells []
       → closed (pen_behind_all most then steps (line f.cells [])) ≡ closed (record pen { look = after }) → AreFull cells
-      → length cells ≤ length f.cells + 8 * length more → next ≡ last_look cells → whole ≡ drawn painted cells
-      → IsFront painted pen (bytes ++ more) whole next after
+      → length cells ≤ length f.cells + 8 * length more → next ≡ last_look cells → whole ≡ drawn marking cells
+      → IsFront marking pen (bytes ++ more) whole next after
   on more steps cells whole next after reads lines is pens full few looks text = record {
     steps = f.steps ++ steps;
     cells = cells;
@@ -278,29 +234,29 @@ module _ (painted : Bool) (pen : Pen) (bytes text : List ℕ) (last now : Look) 
   look_is = ap (λ (p : Pen). p.look) f.pens
 
   run_on : (run : List ℕ) → pen.inserts ≡ false → AllByRecursion IsLineByte run → 8 * length (bytes ++ run) ≤ most
-      → IsFront painted pen (bytes ++ run) (text ++ run_text painted last now run) (last_of_run last now run) now
+      → IsFront marking pen (bytes ++ run) (text ++ run_text marking last now run) (last_of_run last now run) now
   run_on run over h few =
       let plains = lines_plain run h in
-      let r = runs most painted then run f.cells (ap (λ (p : Pen). p.inserts) f.pens ∙ over) h f.full
+      let r = runs most marking then run f.cells (ap (λ (p : Pen). p.inserts) f.pens ∙ over) h f.full
       (omega (arith, few, f.few, length-append bytes run)) in
-      on run (of_chars run) r.more (text ++ run_text painted last now run) (last_of_run last now run) now (reads_plain run plains) r.lines
+      on run (of_chars run) r.more (text ++ run_text marking last now run) (last_of_run last now run) now (reads_plain run plains) r.lines
       r.line (r.pens ∙ f.pens) r.full r.few
       (ap (λ (l : Look). last_of_run l now run) f.looks ∙ ap (λ (l : Look). last_of_run (last_look f.cells) l run) (sym look_is)
       ∙ sym r.look)
-      (ap (λ (t : List ℕ). t ++ run_text painted last now run) f.drawn
-      ∙ ap (λ (l : Look). drawn painted f.cells ++ run_text painted l now run) f.looks
-      ∙ ap (λ (l : Look). drawn painted f.cells ++ run_text painted (last_look f.cells) l run) (sym look_is) ∙ sym r.text)
+      (ap (λ (t : List ℕ). t ++ run_text marking last now run) f.drawn
+      ∙ ap (λ (l : Look). drawn marking f.cells ++ run_text marking l now run) f.looks
+      ∙ ap (λ (l : Look). drawn marking f.cells ++ run_text marking (last_look f.cells) l run) (sym look_is) ∙ sym r.text)
 
   -- the run of a rest, which is split there
   pub front_more : (all rest run behind : List ℕ) → pen.inserts ≡ false → all ≡ bytes ++ rest → run ≡ take (prefix_len line_byte rest) rest
       → behind ≡ drop (prefix_len line_byte rest) rest → length all - length behind ≤ most / 8
-      → (all ≡ (bytes ++ run) ++ behind) × IsFront painted pen (bytes ++ run) (text ++ run_text painted last now run) (last_of_run last now run) now
+      → (all ≡ (bytes ++ run) ++ behind) × IsFront marking pen (bytes ++ run) (text ++ run_text marking last now run) (last_of_run last now run) now
   front_more all rest run behind over split e g few =
       let (parts, plain) = split_line rest run behind e g in
       let whole = split ∙ ap (λ (t : List ℕ). bytes ++ t) parts ∙ sym (append_assoc bytes run behind) in
       (whole, run_on run over plain (omega (arith, few, ap length whole, length-append (bytes ++ run) behind)))
 
-  pub sets_on : (sequence : List ℕ) (after : Look) → Sets sequence now after → IsFront painted pen (bytes ++ sequence) text last after
+  pub sets_on : (sequence : List ℕ) (after : Look) → Sets sequence now after → IsFront marking pen (bytes ++ sequence) text last after
   sets_on sequence after (steps, reads, looks) =
       let (lines, is, pens) = still most steps after then f.cells (subst (λ (l : Look). AreLooks l steps after) (sym look_is) looks) in
       on sequence steps f.cells text last after reads lines is (pens ∙ ap (λ (p : Pen). record p { look = after }) f.pens) f.full
@@ -309,88 +265,100 @@ module _ (painted : Bool) (pen : Pen) (bytes text : List ℕ) (last now : Look) 
 -- ---- the end of the line
 
 pub line_passes : (old new : Now) (bytes text : List ℕ) (last now : Look) (returned : Bool) → old.reader ≡ none_held → new.reader ≡ old.reader
-    → old.line ≡ blank → new.line ≡ old.line → new.painted ≡ old.painted → new.pen ≡ closed (record old.pen { look = now })
-    → IsFront old.painted old.pen bytes text last now
-    → Passes old (bytes ++ end_of returned) (text ++ (turned old.painted last plain ++ 10 ∷ [])) new
-line_passes old new bytes text last now returned bare reader is same painted pen f =
+    → old.line ≡ blank → new.line ≡ old.line → new.marking ≡ old.marking → new.pen ≡ closed (record old.pen { look = now })
+    → IsFront old.marking old.pen bytes text last now
+    → Passes old (bytes ++ end_of returned) (text ++ (turn old.marking last plain ++ 10 ∷ [])) new
+line_passes old new bytes text last now returned bare reader is same marking pen f =
     let left = f.cells in
     let mid : Now = record {
       reader = none_held;
       pen = pen_behind_all most old.pen f.steps blank;
-      painted = old.painted;
+      marking = old.marking;
       line = line left [];
     } in
     let front : Passes old bytes [] mid = record {
       steps = f.steps;
       reads = rw bare f.reads;
       pen = ap (pen_behind_all most old.pen f.steps) (sym is);
-      painted = refl;
+      marking = refl;
       line = sym f.line ∙ ap (λ (l : Line). (do_all most old.pen f.steps l).line) (sym is);
-      all = ap (texts_of old.painted) (sym f.lines) ∙ ap (λ (l : Line). texts_of old.painted (do_all most old.pen f.steps l).lines) (sym is);
+      all = ap (texts_of old.marking) (sym f.lines) ∙ ap (λ (l : Line). texts_of old.marking (do_all most old.pen f.steps l).lines) (sym is);
     } in
-    let whole : ended old.painted (cells_of (line left [])) ≡ text ++ (turned old.painted last plain ++ 10 ∷ []) =
-    ap (λ (cells : List Cell). ended old.painted (onto cells [])) (full_trimmed left f.full)
-    ∙ ap (λ (t : List ℕ). t ++ 10 ∷ []) (all_drawn old.painted left)
-    ∙ append_assoc (drawn old.painted left) (turned old.painted (last_look left) plain) (10 ∷ [])
-    ∙ ap (λ (l : Look). drawn old.painted left ++ (turned old.painted l plain ++ 10 ∷ [])) (sym f.looks)
-    ∙ ap (λ (t : List ℕ). t ++ (turned old.painted last plain ++ 10 ∷ [])) (sym f.drawn) in
+    let whole : ended old.marking (cells_of (line left [])) ≡ text ++ (turn old.marking last plain ++ 10 ∷ []) =
+    ap (λ (cells : List Cell). ended old.marking (onto cells [])) (full_trimmed left f.full)
+    ∙ ap (λ (t : List ℕ). t ++ 10 ∷ []) (all_drawn old.marking left)
+    ∙ append_assoc (drawn old.marking left) (turn old.marking (last_look left) plain) (10 ∷ [])
+    ∙ ap (λ (l : Look). drawn old.marking left ++ (turn old.marking l plain ++ 10 ∷ [])) (sym f.looks)
+    ∙ ap (λ (t : List ℕ). t ++ (turn old.marking last plain ++ 10 ∷ [])) (sym f.drawn) in
     subst (λ (t : List ℕ). Passes old (bytes ++ end_of returned) t new) whole
-    (passes_on old mid new bytes (end_of returned) [] (ended old.painted (cells_of (line left []))) front
-    (end_passes mid new refl (reader ∙ bare) painted (same ∙ is) (pen ∙ sym f.pens) returned))
+    (passes_on old mid new bytes (end_of returned) [] (ended old.marking (cells_of (line left []))) front
+    (end_passes mid new refl (reader ∙ bare) marking (same ∙ is) (pen ∙ sym f.pens) returned))
 
 -- ---- lines of text alone
 
-plain_text : (painted : Bool) (look : Look) (run : List ℕ) → (painted ≡ true → look ≡ plain)
-    → run_text painted plain look run ++ (turned painted (last_of_run plain look run) plain ++ 10 ∷ []) ≡ run ++ 10 ∷ []
-plain_text true look run is =
-    ap (λ (l : Look). run_text true plain l run ++ (turned true (last_of_run plain l run) plain ++ 10 ∷ [])) (is refl)
-    ∙ ap (λ (t : List ℕ). t ++ (turned true (last_of_run plain plain run) plain ++ 10 ∷ [])) (run_same true plain run)
-    ∙ ap (λ (l : Look). run ++ (turned true l plain ++ 10 ∷ [])) (run_look plain run) ∙ ap (λ (t : List ℕ). run ++ (t ++ 10 ∷ [])) (turned_same true plain)
-plain_text false look [] is = refl
-plain_text false look (c ∷ cs) is = refl
+plain_text : (marking : Marking) (look : Look) (run : List ℕ) → (shows_looks marking ≡ true → look ≡ plain)
+    → run_text marking plain look run ++ (turn marking (last_of_run plain look run) plain ++ 10 ∷ []) ≡ written marking (run ++ 10 ∷ [])
+plain_text marking look run is = ahead marking is ∙ close
+  where
+    close : written marking run ++ 10 ∷ [] ≡ written marking (run ++ 10 ∷ [])
+    close = ap (λ (t : List ℕ). written marking run ++ t) (sym (newline_written marking)) ∙ sym (written_on marking run (10 ∷ []))
 
-abbrev ready : Bool → Pen → Now
-ready painted pen = record { reader = none_held; pen = pen; painted = painted; line = blank }
+    one : (m : Marking) → look ≡ plain → run_text m plain look run ++ (turn m (last_of_run plain look run) plain ++ 10 ∷ []) ≡ written m run ++ 10 ∷ []
+    one m e =
+        ap (λ (l : Look). run_text m plain l run ++ (turn m (last_of_run plain l run) plain ++ 10 ∷ [])) e
+        ∙ ap (λ (t : List ℕ). t ++ (turn m (last_of_run plain plain run) plain ++ 10 ∷ [])) (run_same m plain run)
+        ∙ ap (λ (l : Look). written m run ++ (turn m l plain ++ 10 ∷ [])) (run_look plain run) ∙ ap (λ (t : List ℕ). written m run ++ (t ++ 10 ∷ [])) (turn_same m plain)
 
-abbrev Stand : Bool → Pen → List ℕ → Type 0
-Stand painted pen text = Passes (ready painted pen) text text (ready painted (closed pen))
+    ahead : (m : Marking) → (shows_looks m ≡ true → look ≡ plain)
+        → run_text m plain look run ++ (turn m (last_of_run plain look run) plain ++ 10 ∷ []) ≡ written m run ++ 10 ∷ []
+    ahead Plain h = refl
+    ahead Styled h = one Styled (h refl)
+    ahead (Page n) h = one (Page n) (h refl)
 
-stands : (painted : Bool) (pen : Pen) (run : List ℕ) → PutsPlain painted pen → AllByRecursion IsLineByte run → 8 * length run ≤ most
-    → Stand painted pen (run ++ 10 ∷ [])
-stands painted pen run (over, look) h few =
-    subst (λ (t : List ℕ). Passes (ready painted pen) (run ++ 10 ∷ []) t (ready painted (closed pen))) (plain_text painted pen.look run look)
-    (line_passes (ready painted pen) (ready painted (closed pen)) run (run_text painted plain pen.look run) (last_of_run plain pen.look run) pen.look
-    false refl refl refl refl refl refl (run_on painted pen [] [] plain pen.look (front_none painted pen) run over h few))
+abbrev ready : Marking → Pen → Now
+ready marking pen = record { reader = none_held; pen = pen; marking = marking; line = blank }
 
-stand : (painted : Bool) (pen : Pen) (run front : List ℕ) → PutsPlain painted pen → AllByRecursion IsLineByte run → AllByRecursion IsPlainByte front
-    → 8 * length (run ++ front) ≤ most → Stand painted pen (run ++ (front ++ 10 ∷ []))
-stand painted pen run [] puts h plains few = stands painted pen run puts h (omega (arith, few, length-append run []))
-stand painted pen run (c ∷ cs) puts h plains few =
-    by (c == 10) refl (stand painted (closed pen) [] cs puts tt plains.1 (omega (arith, few, length-append run (c ∷ cs))))
-    (λ (k : IsLineByte c). stand painted pen (run ++ c ∷ []) cs puts (All-push IsLineByte run c h k) plains.1
+abbrev Stand : Marking → Pen → List ℕ → Type 0
+Stand marking pen text = Passes (ready marking pen) text (written marking text) (ready marking (closed pen))
+
+stands : (marking : Marking) (pen : Pen) (run : List ℕ) → PutsPlain (shows_looks marking) pen → AllByRecursion IsLineByte run → 8 * length run ≤ most
+    → Stand marking pen (run ++ 10 ∷ [])
+stands marking pen run (over, look) h few =
+    subst (λ (t : List ℕ). Passes (ready marking pen) (run ++ 10 ∷ []) t (ready marking (closed pen))) (plain_text marking pen.look run look)
+    (line_passes (ready marking pen) (ready marking (closed pen)) run (run_text marking plain pen.look run) (last_of_run plain pen.look run) pen.look
+    false refl refl refl refl refl refl (run_on marking pen [] [] plain pen.look (front_none marking pen) run over h few))
+
+stand : (marking : Marking) (pen : Pen) (run front : List ℕ) → PutsPlain (shows_looks marking) pen → AllByRecursion IsLineByte run → AllByRecursion IsPlainByte front
+    → 8 * length (run ++ front) ≤ most → Stand marking pen (run ++ (front ++ 10 ∷ []))
+stand marking pen run [] puts h plains few = stands marking pen run puts h (omega (arith, few, length-append run []))
+stand marking pen run (c ∷ cs) puts h plains few =
+    by (c == 10) refl (stand marking (closed pen) [] cs puts tt plains.1 (omega (arith, few, length-append run (c ∷ cs))))
+    (λ (k : IsLineByte c). stand marking pen (run ++ c ∷ []) cs puts (All-push IsLineByte run c h k) plains.1
     (omega (arith, few, length-append run (c ∷ cs), length-append (run ++ c ∷ []) cs, length-append run (c ∷ []))))
   where
-    by : (t : Bool) → (c == 10) ≡ t → Stand painted (closed pen) (cs ++ 10 ∷ []) → (IsLineByte c → Stand painted pen ((run ++ c ∷ []) ++ (cs ++ 10 ∷ [])))
-        → Stand painted pen (run ++ (c ∷ cs ++ 10 ∷ []))
+    by : (t : Bool) → (c == 10) ≡ t → Stand marking (closed pen) (cs ++ 10 ∷ []) → (IsLineByte c → Stand marking pen ((run ++ c ∷ []) ++ (cs ++ 10 ∷ [])))
+        → Stand marking pen (run ++ (c ∷ cs ++ 10 ∷ []))
     by true e later same =
         let line = run ++ 10 ∷ [] in
-        let now = ready painted (closed pen) in
-        subst (Stand painted pen) (append_assoc run (10 ∷ []) (cs ++ 10 ∷ []) ∙ ap (λ (n : ℕ). run ++ n ∷ (cs ++ 10 ∷ [])) (sym (eqb-true c 10 e)))
-        (passes_on (ready painted pen) now now line (cs ++ 10 ∷ []) line (cs ++ 10 ∷ [])
-        (stands painted pen run puts h (omega (arith, few, length-append run (c ∷ cs)))) later)
-    by false e later same = subst (Stand painted pen) (append_assoc run (c ∷ []) (cs ++ 10 ∷ [])) (same (rw e at plains.0))
+        let rest = cs ++ 10 ∷ [] in
+        let now = ready marking (closed pen) in
+        subst (Stand marking pen) (append_assoc run (10 ∷ []) rest ∙ ap (λ (n : ℕ). run ++ n ∷ rest) (sym (eqb-true c 10 e)))
+        (subst (λ (t : List ℕ). Passes (ready marking pen) (line ++ rest) t now) (sym (written_on marking line rest))
+        (passes_on (ready marking pen) now now line rest (written marking line) (written marking rest)
+        (stands marking pen run puts h (omega (arith, few, length-append run (c ∷ cs)))) later))
+    by false e later same = subst (Stand marking pen) (append_assoc run (c ∷ []) (cs ++ 10 ∷ [])) (same (rw e at plains.0))
 
 pub lines_pass : (old new : Now) (bytes lines rest : List ℕ) → old.reader ≡ none_held → new.reader ≡ old.reader → old.line ≡ blank → new.line ≡ old.line
-    → new.painted ≡ old.painted → new.pen ≡ closed old.pen → PutsPlain old.painted old.pen → AreLines (most / 8) bytes lines rest
-    → Passes old lines lines new
-lines_pass old new bytes lines rest bare reader is same painted pen puts (front, ends, split, plains, few) =
-    let p = subst (Stand old.painted old.pen) (sym ends)
-    (stand old.painted old.pen [] front puts tt plains (omega (arith, few, ap length ends, length-append front (10 ∷ [])))) in
+    → new.marking ≡ old.marking → new.pen ≡ closed old.pen → PutsPlain (shows_looks old.marking) old.pen → AreLines (most / 8) bytes lines rest
+    → Passes old lines (written old.marking lines) new
+lines_pass old new bytes lines rest bare reader is same marking pen puts (front, ends, split, plains, few) =
+    let p = subst (Stand old.marking old.pen) (sym ends)
+    (stand old.marking old.pen [] front puts tt plains (omega (arith, few, ap length ends, length-append front (10 ∷ [])))) in
     record {
       steps = p.steps;
       reads = rw (reader, bare) p.reads;
       pen = pen ∙ p.pen ∙ ap (pen_behind_all most old.pen p.steps) (sym is);
-      painted = painted;
+      marking = marking;
       line = same ∙ is ∙ p.line ∙ ap (λ (l : Line). (do_all most old.pen p.steps l).line) (sym is);
-      all = p.all ∙ ap (λ (l : Line). texts_of old.painted (do_all most old.pen p.steps l).lines) (sym is);
+      all = p.all ∙ ap (λ (l : Line). texts_of old.marking (do_all most old.pen p.steps l).lines) (sym is);
     }

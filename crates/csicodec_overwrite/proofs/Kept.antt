@@ -13,7 +13,7 @@ use Rattle.csicodec_overwrite.specs.declared.pen.Pen.{Pen}
 use Rattle.csicodec_overwrite.specs.declared.step.Step.{Step}
 use Rattle.csicodec_overwrite.specs.declared.step.Step.TheVariants as step
 use Rattle.csicodec_overwrite.specs.Cells.{begins_behind, belongs, chars_of, columns, emptied, erased, glyph, gone, is_empty, onto, outside, takes, to_tab_stop, trimmed, width, without}
-use Rattle.csicodec_overwrite.specs.Line.{Done, back, behind_columns, blank, cells_of, do_all, does, done, fits, forward, fresh, from_stop, last_behind, line, lines_of, over, padded, parted, pen_behind, placed, put, repeat, repeated, restored, size, standing, target, to_stop, widest}
+use Rattle.csicodec_overwrite.specs.Line.{Done, back, behind_columns, blank, cells_of, do_all, does, done, fits, forward, fresh, from_stop, in_row, is_row, last_behind, leave, line, lines_of, over, padded, parted, pen_behind, placed, placed_in, put, repeat, repeated, restored, shows_nothing, size, standing, target, to_stop, widest}
 use Rattle.csicodec_overwrite.proofs.Texts.{chars_by, line_chars}
 
 -- either way of a test
@@ -144,11 +144,21 @@ module _ (P : ℕ → Type 0) (Q : Look → Type 0) (R : Sgr → Type 0) where
     of_behind limit n l h = of_forward limit n (line [] (onto l.left l.right)) (tt, moved l.left l.right h.0 h.1)
 
     of_over_lines : (l : Line) → OfLine l → AllByRecursion OfCells (lines_of l)
-    of_over_lines l h = either (AllByRecursion OfCells) (length (standing l) == 0) [] (cells_of l ∷ []) tt (of_line l h, tt)
+    of_over_lines l h = either (AllByRecursion OfCells) (shows_nothing l) [] (cells_of l ∷ []) tt (of_line l h, tt)
 
     of_restored : (limit : ℕ) (pen : Pen) (l : Line) → OfLine l → OfDone (restored limit pen l)
     of_restored limit pen l h = either OfDone pen.here (done [] (behind_columns limit pen.saved l)) (done (lines_of l) (forward limit (min pen.saved (widest - 1)) blank)) (tt, of_behind limit pen.saved l h)
         (of_over_lines l h, of_forward limit (min pen.saved (widest - 1)) blank (tt, tt))
+
+    of_leave : (limit : ℕ) (to : Option ℕ) (l : Line) → OfLine l → OfDone (leave limit to l)
+    of_leave limit to l h = (of_over_lines l h, of_forward limit (target to l) blank (tt, tt))
+
+    of_in_row : (limit : ℕ) (to : Option ℕ) (l : Line) → OfLine l → OfLine (in_row limit to l)
+    of_in_row limit None l h = h
+    of_in_row limit (Some n) l h = of_behind limit (n - 1) l h
+
+    of_placed_in : (limit : ℕ) (pen : Pen) (row : ℕ) (to : Option ℕ) (l : Line) → OfLine l → OfDone (placed_in limit pen row to l)
+    of_placed_in limit pen row to l h = either OfDone (is_row pen.row row) (done [] (in_row limit to l)) (leave limit to l) (tt, of_in_row limit to l h) (of_leave limit to l h)
 
     of_does : (limit : ℕ) (pen : Pen) (s : Step) (l : Line) → OfPen pen → OfStep s → OfLine l → OfDone (does limit pen s l)
     of_does limit pen (step.Put c) l q p h = of_put limit pen.inserts (glyph c pen.look) l (p, q.0) h
@@ -175,7 +185,8 @@ module _ (P : ℕ → Type 0) (Q : Look → Type 0) (R : Sgr → Type 0) where
     of_does limit pen step.Save l q p h = (tt, h)
     of_does limit pen step.Restore l q p h = of_restored limit pen l h
     of_does limit pen step.Reset l q p h = (tt, h)
-    of_does limit pen (step.Leave to) l q p h = (of_over_lines l h, of_forward limit (target to l) blank (tt, tt))
+    of_does limit pen (step.Leave to) l q p h = of_leave limit to l h
+    of_does limit pen (step.Row row to) l q p h = of_placed_in limit pen row to l h
     of_does limit pen step.Other l q p h = (tt, h)
 
     last_kept : (last : Option ℕ) (c : ℕ) → OfLast last → P c → OfLast (last_behind last c)
@@ -203,6 +214,7 @@ module _ (P : ℕ → Type 0) (Q : Look → Type 0) (R : Sgr → Type 0) where
     pen_kept pen step.Restore column q p = (q.0, tt)
     pen_kept pen step.Reset column q p = (plain_kept, tt)
     pen_kept pen (step.Leave to) column q p = (q.0, tt)
+    pen_kept pen (step.Row row to) column q p = (q.0, tt)
     pen_kept pen step.Other column q p = (q.0, tt)
 
     pub of_all : (limit : ℕ) (pen : Pen) (steps : List Step) (l : Line) → OfPen pen → AllByRecursion OfStep steps → OfLine l → OfDone (do_all limit pen steps l)

@@ -1,4 +1,5 @@
 pub mod Texts
+pub mod Alike
 pub mod Moved
 pub mod Painted
 pub mod Looks
@@ -6,12 +7,12 @@ pub mod Spelled
 pub mod Chars
 pub mod Read
 pub mod Written
-pub mod Taken
 pub mod Kept
 pub mod Plain
 pub mod Once
 pub mod Stays
 pub mod Same
+pub mod Paged
 pub mod Room
 pub mod Lost
 pub mod Came

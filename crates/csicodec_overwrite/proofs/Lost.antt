@@ -13,8 +13,8 @@ use Rattle.csicodec_overwrite.specs.declared.pen.Pen.{Pen}
 use Rattle.csicodec_overwrite.specs.declared.step.Step.{Step}
 use Rattle.csicodec_overwrite.specs.declared.step.Step.TheVariants as step
 use Rattle.csicodec_overwrite.specs.Cells.{begins_behind, belongs, chars_of, columns, emptied, erased, glyph, gone, is_empty, onto, outside, takes, to_tab_stop, trimmed, width, without}
-use Rattle.csicodec_overwrite.specs.Line.{Done, back, behind_columns, blank, cells_of, do_all, does, done, fits, forward, from_stop, line, lines_of, over, parted, pen_behind, placed, put, repeat, repeated, restored, size, standing, target, to_stop, widest}
-use Rattle.csicodec_overwrite.specs.Lost.{again, all_came, all_taken, belonging, came, covered, taken, taken_again, taken_by, taken_by_all, times, touched, under, whole, within, written}
+use Rattle.csicodec_overwrite.specs.Line.{Done, back, behind_columns, blank, cells_of, do_all, does, done, fits, forward, from_stop, in_row, is_row, leave, line, lines_of, over, parted, pen_behind, placed, placed_in, put, repeat, repeated, restored, shows_nothing, size, standing, target, to_stop, widest}
+use Rattle.csicodec_overwrite.specs.Lost.{again, all_came, all_taken, belonging, came, covered, left_out, taken, taken_again, taken_by, taken_by_all, times, touched, under, whole, within, written}
 use Rattle.csicodec_overwrite.proofs.Texts.{chars_by, line_chars}
 
 -- either way of a test
@@ -142,9 +142,9 @@ module _ (c : ℕ) where
   of_cells : (l : Line) → count (cells_of l) ≡ in_line l
   of_cells l = omega (arith, moved (standing l) [], of_trimmed (onto l.right l.left), moved l.right l.left)
 
-  of_lines : (l : Line) → in_lines (lines_of l) ≡ in_line l
-  of_lines l = either (λ (xs : List (List Cell)). in_lines xs ≡ in_line l) (length (standing l) == 0) [] (cells_of l ∷ [])
-      (λ e. omega (arith, ap count (no_cells (standing l) e), of_trimmed (onto l.right l.left), moved l.right l.left)) (λ e. omega (arith, of_cells l))
+  of_lines : (l : Line) → in_lines (lines_of l) + count (left_out l) ≡ in_line l
+  of_lines l = both_ways (λ (xs : List (List Cell)) (a : List Cell). in_lines xs + count a ≡ in_line l) (shows_nothing l) [] (cells_of l ∷ []) (cells_of l) []
+      (λ e. omega (arith, of_cells l)) (λ e. omega (arith, of_cells l))
 
   lines_joined : (xs ys : List (List Cell)) → in_lines (xs ++ ys) ≡ in_lines xs + in_lines ys
   lines_joined [] ys = omega arith
@@ -205,9 +205,17 @@ module _ (c : ℕ) where
 
   -- ---- steps
 
-  of_restored : (limit : ℕ) (pen : Pen) (l : Line) → in_all (restored limit pen l) ≡ in_line l
-  of_restored limit pen l = either (λ (d : Done). in_all d ≡ in_line l) pen.here (done [] (behind_columns limit pen.saved l)) (done (lines_of l) (forward limit (min pen.saved (widest - 1)) blank))
+  of_restored : (limit : ℕ) (pen : Pen) (l : Line) → in_all (restored limit pen l) + count (taken limit pen step.Restore l) ≡ in_line l
+  of_restored limit pen l = both_ways (λ (d : Done) (a : List Cell). in_all d + count a ≡ in_line l) pen.here (done [] (behind_columns limit pen.saved l)) (done (lines_of l) (forward limit (min pen.saved (widest - 1)) blank)) [] (left_out l)
       (λ e. omega (arith, of_behind limit pen.saved l)) (λ e. omega (arith, of_lines l, of_forward limit (min pen.saved (widest - 1)) blank))
+
+  of_in_row : (limit : ℕ) (to : Option ℕ) (l : Line) → in_line (in_row limit to l) ≡ in_line l
+  of_in_row limit None l = refl
+  of_in_row limit (Some n) l = of_behind limit (n - 1) l
+
+  of_placed_in : (limit : ℕ) (pen : Pen) (row : ℕ) (to : Option ℕ) (l : Line) → in_all (placed_in limit pen row to l) + count (taken limit pen (step.Row row to) l) ≡ in_line l
+  of_placed_in limit pen row to l = both_ways (λ (d : Done) (a : List Cell). in_all d + count a ≡ in_line l) (is_row pen.row row) (done [] (in_row limit to l)) (leave limit to l) [] (left_out l)
+      (λ e. omega (arith, of_in_row limit to l)) (λ e. omega (arith, of_lines l, of_forward limit (target to l) blank))
 
   of_does : (limit : ℕ) (pen : Pen) (s : Step) (l : Line) → in_all (does limit pen s l) + count (taken limit pen s l) ≡ in_line l + times c (came pen s l)
   of_does limit pen (step.Put d) l = of_put limit pen.inserts (glyph d pen.look) l
@@ -231,6 +239,7 @@ module _ (c : ℕ) where
   of_does limit pen step.Restore l = omega (arith, of_restored limit pen l)
   of_does limit pen step.Reset l = omega arith
   of_does limit pen (step.Leave to) l = omega (arith, of_lines l, of_forward limit (target to l) blank)
+  of_does limit pen (step.Row row to) l = omega (arith, of_placed_in limit pen row to l)
   of_does limit pen step.Other l = omega arith
 
   of_all : (limit : ℕ) (pen : Pen) (steps : List Step) (l : Line) → in_all (do_all limit pen steps l) + times c (all_taken limit pen steps l) ≡ in_line l + times c (all_came limit pen steps l)

@@ -6,7 +6,8 @@ use Rattle.csicodec_overwrite.specs.declared.cells.Cell.{Cell}
 use Rattle.csicodec_overwrite.specs.declared.cells.Cell.TheVariants.{Behind, Char, Empty, Mark}
 use Rattle.csicodec_overwrite.specs.declared.cells.Glyph.{Glyph}
 use Rattle.csicodec_overwrite.specs.declared.line.Line.{Line}
-use Rattle.csicodec_overwrite.specs.Cells.{columns, onto, takes, without}
+use Rattle.csicodec_overwrite.specs.declared.marking.Marking.{Marking}
+use Rattle.csicodec_overwrite.specs.Cells.{columns, narrowed, onto, takes, without}
 use Rattle.csicodec_overwrite.specs.Line.{back, before, behind_columns, forward, line, over, padded, put, repeat}
 use Rattle.csicodec_overwrite.specs.Paint.{texts_of}
 use Rattle.csicodec_overwrite.proofs.Texts.{texts_on}
@@ -42,6 +43,13 @@ takes_few Empty = omega arith
 takes_few (Char g) = omega arith
 takes_few Behind = omega arith
 takes_few (Mark c) = omega arith
+
+pub narrow_few : (n : ℕ) → narrowed n ≤ 2
+narrow_few n = by (nat_le n 2) refl
+  where
+    by : (t : Bool) → nat_le n 2 ≡ t → cond t n 1 ≤ 2
+    by true e = grind (arith, nat_tests)
+    by false e = omega arith
 
 columns_onto : (left right : List Cell) → columns (onto left right) ≡ columns left + columns right
 columns_onto [] right = omega arith
@@ -171,10 +179,10 @@ pub line_ends : (old text now new : List ℕ) → now ≡ old ++ text → new �
 line_ends old text now new e f = f ∙ ap (λ (t : List ℕ). t ++ 10 ∷ []) e ∙ append_assoc old text (10 ∷ [])
 
 -- the lines of a step, and then of those behind it
-pub step_text : (painted : Bool) (now new : List ℕ) (first later : List (List Cell)) (whole : List ℕ) → new ≡ now ++ texts_of painted first → now ++ texts_of painted (first ++ later) ≡ whole
-    → new ++ texts_of painted later ≡ whole
-step_text painted now new first later whole e f =
-    ap (λ (t : List ℕ). t ++ texts_of painted later) e ∙ append_assoc now (texts_of painted first) (texts_of painted later) ∙ ap (λ (t : List ℕ). now ++ t) (sym (texts_on painted first later)) ∙ f
+pub step_text : (marking : Marking) (now new : List ℕ) (first later : List (List Cell)) (whole : List ℕ) → new ≡ now ++ texts_of marking first → now ++ texts_of marking (first ++ later) ≡ whole
+    → new ++ texts_of marking later ≡ whole
+step_text marking now new first later whole e f =
+    ap (λ (t : List ℕ). t ++ texts_of marking later) e ∙ append_assoc now (texts_of marking first) (texts_of marking later) ∙ ap (λ (t : List ℕ). now ++ t) (sym (texts_on marking first later)) ∙ f
 
 -- ---- so many times
 

@@ -1,5 +1,5 @@
 -- A stream has one text, and what was written of its front begins that.
-use Rattle.std.proofs.Common.{◌≡◌, ℕ, Bool, false, Option, IfSome, List, [], ◌∷◌, ◌++◌, refl, sym, ap, subst, ◌∙◌, append_assoc, append-nil}
+use Rattle.std.proofs.Common.{◌≡◌, ℕ, false, Option, IfSome, List, [], ◌∷◌, ◌++◌, refl, sym, ap, subst, ◌∙◌, append_assoc, append-nil}
 use Rattle.std.specs.Io.KnownBytes.{Appends, Consumes, IsAtEnd}
 use Rattle.bstr.specs.Utf8.{lossy_chars}
 use Rattle.csicodec_actions.specs.Actions.{Action}
@@ -18,6 +18,7 @@ use Rattle.csicodec_clean.specs.Stream.{IsFrontOf}
 use Rattle.csicodec_clean.specs.Titles.{title_open, with_titles}
 use Rattle.csicodec_clean.proofs.Sure.{read_none}
 use Rattle.csicodec_clean.proofs.Titles.{titles_on}
+use Rattle.csicodec_overwrite.specs.declared.marking.Marking.{Marking}
 use Rattle.csicodec_overwrite.specs.declared.step.Step.{Step}
 use Rattle.csicodec_overwrite.specs.Line.{blank, do_all, fresh, pen_behind_all}
 use Rattle.csicodec_overwrite.specs.Steps.{of_chars, of_escape, of_run, of_sequence, of_string, of_wrong}
@@ -65,8 +66,8 @@ one_reading bytes steps others s t =
     let before : t.before ≡ s.before = r.all ∙ ap (λ (x : List Step). s.before ++ x) r.others.0 ∙ append-nil s.before in
     s.all ∙ ap (λ (x : List Step). x ++ of_run s.run) (sym before) ∙ ap (λ (run : List ℕ). t.before ++ of_run run) (sym r.others.1) ∙ sym t.all
 
-pub one_text : (painted : Bool) (bytes text other : List ℕ) → Shows painted bytes text → Shows painted bytes other → text ≡ other
-one_text painted bytes text other o p = o.all ∙ ap (λ (steps : List Step). shown_by painted (do_all most fresh steps blank)) (one_reading bytes o.steps p.steps o.read p.read) ∙ sym p.all
+pub one_text : (marking : Marking) (bytes text other : List ℕ) → Shows marking bytes text → Shows marking bytes other → text ≡ other
+one_text marking bytes text other o p = o.all ∙ ap (λ (steps : List Step). shown_by marking (do_all most fresh steps blank)) (one_reading bytes o.steps p.steps o.read p.read) ∙ sym p.all
 
 -- ---- fronts
 
@@ -114,23 +115,23 @@ goes_front read more steps all last g s =
           ∙ sym (append_assoc g.before (of_chars g.read) later) ∙ ap (λ (x : List Step). x ++ later) (sym g.same),
     )
 
-passes_front : (painted : Bool) (read more text : List ℕ) (last : Now) → Passes (begun_as painted) read text last → IsFrontOf (Shows painted) (read ++ more) text
-passes_front painted read more text last p whole o =
+passes_front : (marking : Marking) (read more text : List ℕ) (last : Now) → Passes (begun_as marking) read text last → IsFrontOf (Shows marking) (read ++ more) text
+passes_front marking read more text last p whole o =
     let (later, e) = goes_front read more p.steps o.steps last.reader (p.reads.goes [] [] (read_none [])) o.read in
-    let behind = shown_by painted (do_all most (pen_behind_all most fresh p.steps blank) later (do_all most fresh p.steps blank).line) in (
+    let behind = shown_by marking (do_all most (pen_behind_all most fresh p.steps blank) later (do_all most fresh p.steps blank).line) in (
       behind,
-      o.all ∙ ap (λ (steps : List Step). shown_by painted (do_all most fresh steps blank)) e ∙ shown_on painted most p.steps later fresh blank ∙ ap (λ (t : List ℕ). t ++ behind) (sym p.all),
+      o.all ∙ ap (λ (steps : List Step). shown_by marking (do_all most fresh steps blank)) e ∙ shown_on marking most p.steps later fresh blank ∙ ap (λ (t : List ℕ). t ++ behind) (sym p.all),
     )
 
-module _ (painted : Bool) where
-  shorter : (bytes sent unsent : List ℕ) → IsFrontOf (Shows painted) bytes (sent ++ unsent) → IsFrontOf (Shows painted) bytes sent
+module _ (marking : Marking) where
+  shorter : (bytes sent unsent : List ℕ) → IsFrontOf (Shows marking) bytes (sent ++ unsent) → IsFrontOf (Shows marking) bytes sent
   shorter bytes sent unsent h whole k = let (more, e) = h whole k in (unsent ++ more, e ∙ append_assoc sent unsent more)
 
-  all_front : (bytes text : List ℕ) → Transforms Passes Ending (begun_as painted) bytes text → IsFrontOf (Shows painted) bytes text
-  all_front bytes text h whole k = ([], one_text painted bytes whole text k (transformed painted bytes text h) ∙ sym (append-nil text))
+  all_front : (bytes text : List ℕ) → Transforms Passes Ending (begun_as marking) bytes text → IsFrontOf (Shows marking) bytes text
+  all_front bytes text h whole k = ([], one_text marking bytes whole text k (transformed marking bytes text h) ∙ sym (append-nil text))
 
   -- what went out of a run is a front of the text of the whole input
   pub shown_sent : (bytes more sent : List ℕ) (i k w y : Option (List ℕ)) → Consumes i k (bytes ++ more)
-      → BeginsWith (Sends Passes (begun_as painted)) (Transforms Passes Ending (begun_as painted)) ((more ≡ []) × IsAtEnd k) bytes sent → Appends w y sent
-      → IfSome i (λ all. (out : List ℕ) × IsFrontOf (Shows painted) all out × Appends w y out)
-  shown_sent = whole_front (Sends Passes (begun_as painted)) (Transforms Passes Ending (begun_as painted)) (IsFrontOf (Shows painted)) shorter (λ read more text (last, p). passes_front painted read more text last p) all_front
+      → BeginsWith (Sends Passes (begun_as marking)) (Transforms Passes Ending (begun_as marking)) ((more ≡ []) × IsAtEnd k) bytes sent → Appends w y sent
+      → IfSome i (λ all. (out : List ℕ) × IsFrontOf (Shows marking) all out × Appends w y out)
+  shown_sent = whole_front (Sends Passes (begun_as marking)) (Transforms Passes Ending (begun_as marking)) (IsFrontOf (Shows marking)) shorter (λ read more text (last, p). passes_front marking read more text last p) all_front

@@ -1,20 +1,31 @@
 -- Cells that are painted, one after the other, and the sequence of a look, attribute by attribute.
-use Rattle.std.proofs.Common.{◌≡◌, ℕ, List, [], ◌∷◌, ◌++◌, encode_utf8_all, sym, ap, ◌∙◌, append_assoc}
+use Rattle.std.proofs.Common.{◌≡◌, ℕ, true, List, [], ◌∷◌, ◌++◌, refl, sym, ap, ◌∙◌, append_assoc}
 use Rattle.std.specs.List.{flat_map}
 use Rattle.std.proofs.lemmas.Grind.{flat_map-append}
 use Rattle.csicodec_base.specs.declared.sgr.Sgr.{Sgr}
 use Rattle.csicodec_html.specs.declared.look.Look.{Look}
+use Rattle.csicodec_html.specs.Look.{plain}
 use Rattle.csicodec_overwrite.specs.declared.cells.Cell.{Cell}
-use Rattle.csicodec_overwrite.specs.Cells.{chars_of}
-use Rattle.csicodec_overwrite.specs.Paint.{attributes, further, look_of, look_text, paint, turn}
+use Rattle.csicodec_overwrite.specs.declared.cells.Cell.TheVariants.{Behind, Char, Empty, Mark}
+use Rattle.csicodec_overwrite.specs.declared.marking.Marking.{Marking}
+use Rattle.csicodec_overwrite.specs.Cells.{chars_of, is_empty}
+use Rattle.csicodec_overwrite.specs.Paint.{attributes, further, look_of, look_text, paint, turn, written}
 
 -- a cell, and then the others
-pub painted_on : (look : Look) (cell : Cell) (cells : List Cell) (old mid new whole : List ℕ) → mid ≡ old ++ turn look (look_of look cell) → new ≡ mid ++ encode_utf8_all (chars_of cell)
-    → old ++ paint look (cell ∷ cells) ≡ whole → new ++ paint (look_of look cell) cells ≡ whole
-painted_on look cell cells old mid new whole e f h =
+pub painted_on : (marking : Marking) (look : Look) (cell : Cell) (cells : List Cell) (old mid new whole : List ℕ) → mid ≡ old ++ turn marking look (look_of look cell)
+    → new ≡ mid ++ written marking (chars_of cell) → old ++ paint marking look (cell ∷ cells) ≡ whole → new ++ paint marking (look_of look cell) cells ≡ whole
+painted_on marking look cell cells old mid new whole e f h =
     let next = look_of look cell in
-    let chars = encode_utf8_all (chars_of cell) in
-    ap (λ (t : List ℕ). t ++ paint next cells) (f ∙ ap (λ (t : List ℕ). t ++ chars) e) ∙ append_assoc (old ++ turn look next) chars (paint next cells) ∙ append_assoc old (turn look next) (chars ++ paint next cells) ∙ h
+    let chars = written marking (chars_of cell) in
+    let rest = paint marking next cells in
+    ap (λ (t : List ℕ). t ++ rest) (f ∙ ap (λ (t : List ℕ). t ++ chars) e) ∙ append_assoc (old ++ turn marking look next) chars rest ∙ append_assoc old (turn marking look next) (chars ++ rest) ∙ h
+
+-- nothing is set in an empty one
+pub none_set : (look : Look) (cell : Cell) → is_empty cell ≡ true → look_of look cell ≡ plain
+none_set look Empty e = refl
+none_set look (Char g) e = cc
+none_set look Behind e = cc
+none_set look (Mark c) e = cc
 
 -- ---- the sequence of a look
 

@@ -44,10 +44,10 @@ use Rattle.csicodec_overwrite.specs.declared.step.Step.{Step}
 use Rattle.csicodec_overwrite.specs.declared.step.Step.TheVariants as step
 use Rattle.csicodec_overwrite.specs.Line.{blank, do_all, fresh}
 use Rattle.csicodec_overwrite.specs.Paint.{IsInRange}
-use Rattle.csicodec_overwrite.specs.Steps.{by_code, of_action, of_actions, of_char, of_chars, of_code, of_control, of_cursor, of_device, of_display, of_edit, of_escape, of_final, of_mode, of_part, of_reset, of_run, of_sequence, of_set, of_string, of_string_byte, of_terminal_code, of_terminal_mode, of_wrong, of_wrong_byte}
+use Rattle.csicodec_overwrite.specs.Steps.{by_code, may_move, of_action, of_actions, of_char, of_chars, of_code, of_control, of_cursor, of_device, of_display, of_edit, of_escape, of_final, of_mode, of_part, of_reset, of_run, of_sequence, of_set, of_string, of_string_byte, of_terminal_code, of_terminal_mode, of_wrong, of_wrong_byte}
 use Rattle.csicodec_overwrite.specs.Reading.{AreOfParts, IsOfPart, Overwrites, Steps, most}
 use Rattle.csicodec_overwrite.proofs.Kept.{OfStep, of_shown}
-use Rattle.csicodec_overwrite.proofs.Taken.{taken_range}
+use Rattle.csicodec_clean.proofs.Taken.{taken_range}
 use Rattle.csicodec_overwrite.proofs.Texts.{chars_by, shown_plain}
 
 -- a character that is shown
@@ -214,7 +214,7 @@ action_good (action.Edit e) h = edit_good e
 action_good (action.Sgr s) h = (h, tt)
 action_good (action.Mode m) h = mode_good m
 action_good (action.Device d) h = device_good d
-action_good (action.Unspecified params flag final) h = pick (final == 109 || final == 75) [] (step.Leave None ∷ []) tt (tt, tt)
+action_good (action.Unspecified params flag final) h = pick (may_move params final) (step.Leave None ∷ []) [] (tt, tt) tt
 action_good _ h = tt
 
 actions_good : (actions : List Action) → AllByRecursion InRange actions → AreGood (of_actions actions)

@@ -3,7 +3,6 @@ use Rattle.std.proofs.Common.{◌≡◌, ◌≤◌, ℕ, ◌+◌, ◌-◌, zero,
 use Rattle.std.specs.Prelude.{◌==◌, max, nat_lt, unwrap_or, Option, Some, None}
 use Rattle.std.proofs.lemmas.List.{length-replicate}
 use Rattle.unicode_width.specs.Width.{char_width}
-use Rattle.unicode_width.proofs.Rules.{width_or_zero-le}
 use Rattle.std.proofs.lemmas.Bool.Decides.{nat_tests}
 use Rattle.csicodec_overwrite.specs.declared.cells.Cell.{Cell}
 use Rattle.csicodec_overwrite.specs.declared.cells.Cell.TheVariants.{Behind, Char, Empty, Mark}
@@ -12,9 +11,9 @@ use Rattle.csicodec_overwrite.specs.declared.line.Line.{Line}
 use Rattle.csicodec_overwrite.specs.declared.pen.Pen.{Pen}
 use Rattle.csicodec_overwrite.specs.declared.step.Step.{Step}
 use Rattle.csicodec_overwrite.specs.declared.step.Step.TheVariants as step
-use Rattle.csicodec_overwrite.specs.Cells.{begins_behind, belongs, columns, emptied, erased, glyph, gone, onto, outside, takes, to_tab_stop, width, without}
-use Rattle.csicodec_overwrite.specs.Line.{Done, back, behind_columns, blank, cells_of, do_all, does, done, fits, forward, from_stop, line, lines_of, over, padded, parted, pen_behind, placed, put, repeat, repeated, restored, size, target, to_stop, widest}
-use Rattle.csicodec_overwrite.proofs.Moved.{takes_few}
+use Rattle.csicodec_overwrite.specs.Cells.{begins_behind, belongs, columns, emptied, erased, glyph, gone, narrowed, onto, outside, takes, to_tab_stop, width, without}
+use Rattle.csicodec_overwrite.specs.Line.{Done, back, behind_columns, blank, cells_of, do_all, does, done, fits, forward, from_stop, in_row, is_row, leave, line, lines_of, over, padded, parted, pen_behind, placed, placed_in, put, repeat, repeated, restored, size, target, to_stop, widest}
+use Rattle.csicodec_overwrite.proofs.Moved.{narrow_few, takes_few}
 
 -- either way of a test
 either : {T : Type 0} (P : T → Type 0) (t : Bool) (x y : T) → (t ≡ true → P x) → (t ≡ false → P y) → P (cond t x y)
@@ -118,7 +117,7 @@ module _ (limit : ℕ) (enough : 8 ≤ limit) where
       (λ e. omega (arith, some_left n e, joined (n - 1) Behind (Char g ∷ p.left), less, few))
 
   first_width : (c : ℕ) → width c 0 ≤ 8
-  first_width c = always (λ (w : ℕ). w ≤ 8) (c == 9) (to_tab_stop 0) (unwrap_or (char_width false c) 0) (omega arith) (omega (arith, width_or_zero-le false c))
+  first_width c = always (λ (w : ℕ). w ≤ 8) (c == 9) (to_tab_stop 0) (narrowed (unwrap_or (char_width false c) 0)) (omega arith) (omega (arith, narrow_few (unwrap_or (char_width false c) 0)))
 
   fits_size : (w : ℕ) (l : Line) → fits limit w l ≡ true → size l + max w 1 ≤ limit
   fits_size w l e = grind (arith, nat_tests)
@@ -144,6 +143,13 @@ module _ (limit : ℕ) (enough : 8 ≤ limit) where
   restored_size pen l h = always (λ (d : Done). size d.line ≤ limit) pen.here (done [] (behind_columns limit pen.saved l)) (done (lines_of l) (forward limit (min pen.saved (widest - 1)) blank)) (behind_size pen.saved l h)
       (forward_size (min pen.saved (widest - 1)) blank (omega arith))
 
+  in_row_size : (to : Option ℕ) (l : Line) → size l ≤ limit → size (in_row limit to l) ≤ limit
+  in_row_size None l h = h
+  in_row_size (Some n) l h = behind_size (n - 1) l h
+
+  placed_in_size : (pen : Pen) (row : ℕ) (to : Option ℕ) (l : Line) → size l ≤ limit → size (placed_in limit pen row to l).line ≤ limit
+  placed_in_size pen row to l h = always (λ (d : Done). size d.line ≤ limit) (is_row pen.row row) (done [] (in_row limit to l)) (leave limit to l) (in_row_size to l h) (forward_size (target to l) blank (omega arith))
+
   does_size : (pen : Pen) (s : Step) (l : Line) → size l ≤ limit → size (does limit pen s l).line ≤ limit
   does_size pen (step.Put c) l h = put_size pen.inserts (glyph c pen.look) l
   does_size pen (step.Repeat n) l h = repeated_size pen pen.last n l h
@@ -167,6 +173,7 @@ module _ (limit : ℕ) (enough : 8 ≤ limit) where
   does_size pen step.Restore l h = restored_size pen l h
   does_size pen step.Reset l h = h
   does_size pen (step.Leave to) l h = forward_size (target to l) blank (omega arith)
+  does_size pen (step.Row row to) l h = placed_in_size pen row to l h
   does_size pen step.Other l h = h
 
   pub all_size : (pen : Pen) (steps : List Step) (l : Line) → size l ≤ limit → size (do_all limit pen steps l).line ≤ limit

@@ -27,11 +27,12 @@ use Rattle.csicodec_html.specs.declared.look.Look.{Look}
 use Rattle.csicodec_html.specs.Look.{plain}
 use Rattle.csicodec_overwrite.specs.declared.cells.Cell.{Cell}
 use Rattle.csicodec_overwrite.specs.declared.cells.Cell.TheVariants.{Behind, Char, Empty, Mark}
+use Rattle.csicodec_overwrite.specs.declared.marking.Marking.TheVariants.{Plain, Styled}
 use Rattle.csicodec_overwrite.specs.declared.step.Step.{Step}
 use Rattle.csicodec_overwrite.specs.Cells.{chars_of}
 use Rattle.csicodec_overwrite.specs.Line.{Done, blank, cells_of, do_all, fresh}
 use Rattle.csicodec_overwrite.specs.Paint.{IsInRange, attributes, ended, further, look_of, look_text, paint, same, texts_of, turn}
-use Rattle.csicodec_overwrite.specs.Reading.{Overwrites, Paints, most, shown_by}
+use Rattle.csicodec_overwrite.specs.Reading.{Overwrites, Paints, Steps, most, shown_by}
 use Rattle.csicodec_overwrite.proofs.Kept.{OfCell, OfCells, of_done}
 use Rattle.csicodec_overwrite.proofs.Once.{one_reading}
 use Rattle.csicodec_overwrite.proofs.Plain.{IsGood, kept, plain_kept, steps_good}
@@ -41,15 +42,15 @@ use Rattle.csicodec_overwrite.proofs.Texts.{chars_by, line_chars, newline, shown
 -- ---- pieces
 
 -- a character, or the sequence of a look
-data Piece : Type 0 where
+pub data Piece : Type 0 where
   One : ℕ → Piece
   Turn : Look → Piece
 
-abbrev piece_text : Piece → List ℕ
+abbrev pub piece_text : Piece → List ℕ
 piece_text (One c) = encode_utf8 c
 piece_text (Turn l) = look_text l
 
-abbrev pieces_text : List Piece → List ℕ
+abbrev pub pieces_text : List Piece → List ℕ
 pieces_text ps = flat_map piece_text ps
 
 abbrev chars_in : List Piece → List ℕ
@@ -57,16 +58,16 @@ chars_in [] = []
 chars_in (One c ∷ ps) = c ∷ chars_in ps
 chars_in (Turn l ∷ ps) = chars_in ps
 
-abbrev IsSafe : Piece → Type 0
+abbrev pub IsSafe : Piece → Type 0
 IsSafe (One c) = IsGood c
 IsSafe (Turn l) = IsInRange l
 
-abbrev AreSafe : List Piece → Type 0
+abbrev pub AreSafe : List Piece → Type 0
 AreSafe ps = AllByRecursion IsSafe ps
 
 -- ---- their parts
 
-abbrev parts_of : List Piece → List Part
+abbrev pub parts_of : List Piece → List Part
 parts_of [] = []
 parts_of (One c ∷ ps) = singles kind.Text (encode_utf8 c) ++ parts_of ps
 parts_of (Turn l ∷ ps) = part kind.Csi (look_text l) ∷ parts_of ps
@@ -90,7 +91,7 @@ first_parts (One c ∷ ps) h =
     (parts_more longest (singles kind.Text bs) mode.Text bs more [] mode.Text (all_text longest bs (one_char c h.0.0))) (first_parts ps h.1)
 first_parts (Turn l ∷ ps) h = (pieces_text ps, mode.Text, look_first l (pieces_text ps) h.0, first_parts ps h.1)
 
-whole_pieces : (ps : List Piece) → AreSafe ps → IsWhole longest mode.Text (pieces_text ps) (parts_of ps)
+pub whole_pieces : (ps : List Piece) → AreSafe ps → IsWhole longest mode.Text (pieces_text ps) (parts_of ps)
 whole_pieces ps h = record {
   sure = parts_of ps;
   rest = [];
@@ -104,7 +105,7 @@ pub not_titled : (bs : List ℕ) → title_open false (singles kind.Text bs) ≡
 not_titled [] = refl
 not_titled (b ∷ bs) = not_titled bs
 
-untitled : (ps : List Piece) → with_titles false (parts_of ps) ≡ parts_of ps
+pub untitled : (ps : List Piece) → with_titles false (parts_of ps) ≡ parts_of ps
 untitled [] = refl
 untitled (One c ∷ ps) =
     let front = singles kind.Text (encode_utf8 c) in
@@ -114,13 +115,13 @@ untitled (Turn l ∷ ps) = ap (λ (x : List Part). part kind.Csi (look_text l) �
 
 -- ---- stripped
 
-shown_back : (cs : List ℕ) → all_scalars cs ≡ true → AllByRecursion IsShown cs → shown_text (encode_utf8_all cs) ≡ encode_utf8_all cs
+pub shown_back : (cs : List ℕ) → all_scalars cs ≡ true → AllByRecursion IsShown cs → shown_text (encode_utf8_all cs) ≡ encode_utf8_all cs
 shown_back cs a h = ap encode_utf8_all (ap (filter shown) (lossy_chars-encode cs a) ∙ all_kept cs h)
 
-more_scalars : (cs : List ℕ) (c : ℕ) → all_scalars cs ≡ true → scalar c ≡ true → all_scalars (cs ++ c ∷ []) ≡ true
+pub more_scalars : (cs : List ℕ) (c : ℕ) → all_scalars cs ≡ true → scalar c ≡ true → all_scalars (cs ++ c ∷ []) ≡ true
 more_scalars cs c a h = scalars_on cs (c ∷ []) a (and_from (scalar c) true h refl)
 
-more_encoded : (cs : List ℕ) (c : ℕ) → encode_utf8_all (cs ++ c ∷ []) ≡ encode_utf8_all cs ++ encode_utf8 c
+pub more_encoded : (cs : List ℕ) (c : ℕ) → encode_utf8_all (cs ++ c ∷ []) ≡ encode_utf8_all cs ++ encode_utf8 c
 more_encoded cs c = encoded_on cs (c ∷ []) ∙ ap (λ (t : List ℕ). encode_utf8_all cs ++ t) (append-nil (encode_utf8 c))
 
 stripped_on : (bs run : List ℕ) (ps : List Part) → stripped run (singles kind.Text bs ++ ps) ≡ stripped (run ++ bs) ps
@@ -141,17 +142,17 @@ strips ps h = record { parts = parts_of ps; whole = whole_pieces ps h; left = sy
 
 -- ---- the pieces of cells
 
-abbrev turned : Look → Look → List Piece
+abbrev pub turned : Look → Look → List Piece
 turned old new = cond (same old new) [] (Turn new ∷ [])
 
-abbrev of_cells : Look → List Cell → List Piece
+abbrev pub of_cells : Look → List Cell → List Piece
 of_cells look [] = turned look plain
 of_cells look (cell ∷ cells) = turned look (look_of look cell) ++ (map One (chars_of cell) ++ of_cells (look_of look cell) cells)
 
-abbrev of_line : List Cell → List Piece
+abbrev pub of_line : List Cell → List Piece
 of_line cells = of_cells plain cells ++ One 10 ∷ []
 
-abbrev of_all : Done → List Piece
+abbrev pub of_all : Done → List Piece
 of_all d = flat_map of_line d.lines ++ of_cells plain (cells_of d.line)
 
 -- ---- their text
@@ -159,7 +160,7 @@ of_all d = flat_map of_line d.lines ++ of_cells plain (cells_of d.line)
 both_text : (xs ys : List Piece) → pieces_text (xs ++ ys) ≡ pieces_text xs ++ pieces_text ys
 both_text xs ys = flat_map-append piece_text xs ys
 
-turned_text : (old new : Look) → pieces_text (turned old new) ≡ turn old new
+turned_text : (old new : Look) → pieces_text (turned old new) ≡ turn Styled old new
 turned_text old new = by (same old new)
   where
     by : (t : Bool) → pieces_text (cond t [] (Turn new ∷ [])) ≡ cond t [] (look_text new)
@@ -170,26 +171,26 @@ ones_text : (cs : List ℕ) → pieces_text (map One cs) ≡ encode_utf8_all cs
 ones_text [] = refl
 ones_text (c ∷ cs) = ap (λ (t : List ℕ). encode_utf8 c ++ t) (ones_text cs)
 
-cells_text : (cells : List Cell) (look : Look) → pieces_text (of_cells look cells) ≡ paint look cells
+cells_text : (cells : List Cell) (look : Look) → pieces_text (of_cells look cells) ≡ paint Styled look cells
 cells_text [] look = turned_text look plain
 cells_text (cell ∷ cells) look =
     let next = look_of look cell in
     let ones = map One (chars_of cell) in
     let later = of_cells next cells in
     both_text (turned look next) (ones ++ later) ∙ ap (λ (t : List ℕ). t ++ pieces_text (ones ++ later)) (turned_text look next)
-    ∙ ap (λ (t : List ℕ). turn look next ++ t) (both_text ones later ∙ ap (λ (t : List ℕ). t ++ pieces_text later) (ones_text (chars_of cell)) ∙ ap (λ (t : List ℕ). encode_utf8_all (chars_of cell) ++ t) (cells_text cells next))
+    ∙ ap (λ (t : List ℕ). turn Styled look next ++ t) (both_text ones later ∙ ap (λ (t : List ℕ). t ++ pieces_text later) (ones_text (chars_of cell)) ∙ ap (λ (t : List ℕ). encode_utf8_all (chars_of cell) ++ t) (cells_text cells next))
 
-line_text : (cells : List Cell) → pieces_text (of_line cells) ≡ ended true cells
-line_text cells = both_text (of_cells plain cells) (One 10 ∷ []) ∙ ap (λ (t : List ℕ). t ++ pieces_text (One 10 ∷ [])) (cells_text cells plain) ∙ ap (λ (t : List ℕ). paint plain cells ++ t) newline
+line_text : (cells : List Cell) → pieces_text (of_line cells) ≡ ended Styled cells
+line_text cells = both_text (of_cells plain cells) (One 10 ∷ []) ∙ ap (λ (t : List ℕ). t ++ pieces_text (One 10 ∷ [])) (cells_text cells plain) ∙ ap (λ (t : List ℕ). paint Styled plain cells ++ t) newline
 
-lines_text : (lines : List (List Cell)) → pieces_text (flat_map of_line lines) ≡ texts_of true lines
+lines_text : (lines : List (List Cell)) → pieces_text (flat_map of_line lines) ≡ texts_of Styled lines
 lines_text [] = refl
-lines_text (x ∷ xs) = both_text (of_line x) (flat_map of_line xs) ∙ ap (λ (t : List ℕ). t ++ pieces_text (flat_map of_line xs)) (line_text x) ∙ ap (λ (t : List ℕ). ended true x ++ t) (lines_text xs)
+lines_text (x ∷ xs) = both_text (of_line x) (flat_map of_line xs) ∙ ap (λ (t : List ℕ). t ++ pieces_text (flat_map of_line xs)) (line_text x) ∙ ap (λ (t : List ℕ). ended Styled x ++ t) (lines_text xs)
 
-all_painted : (d : Done) → pieces_text (of_all d) ≡ shown_by true d
+pub all_painted : (d : Done) → pieces_text (of_all d) ≡ shown_by Styled d
 all_painted d =
     let last = of_cells plain (cells_of d.line) in
-    both_text (flat_map of_line d.lines) last ∙ ap (λ (t : List ℕ). t ++ pieces_text last) (lines_text d.lines) ∙ ap (λ (t : List ℕ). texts_of true d.lines ++ t) (cells_text (cells_of d.line) plain)
+    both_text (flat_map of_line d.lines) last ∙ ap (λ (t : List ℕ). t ++ pieces_text last) (lines_text d.lines) ∙ ap (λ (t : List ℕ). texts_of Styled d.lines ++ t) (cells_text (cells_of d.line) plain)
 
 -- ---- their characters
 
@@ -278,12 +279,16 @@ lines_safe (x ∷ xs) h = both_safe (of_line x) (flat_map of_line xs) (both_safe
 
 -- ---- and so
 
+pub all_safe : (bytes : List ℕ) (steps : List Step) → Steps bytes steps → AreSafe (of_all (do_all most fresh steps blank))
+all_safe bytes steps s =
+    let d = do_all most fresh steps blank in
+    let cells = of_done IsGood IsInRange SgrInRange (refl, refl) plain_kept kept most steps (steps_good bytes steps s) in
+    both_safe (flat_map of_line d.lines) (of_cells plain (cells_of d.line)) (lines_safe d.lines cells.0) (cells_safe (cells_of d.line) plain plain_kept cells.1)
+
 pub same_text : (bytes painted text : List ℕ) → Paints bytes painted → Overwrites bytes text → Strips longest painted text
 same_text bytes painted text o p =
     let d = do_all most fresh o.steps blank in
-    let cells = of_done IsGood IsInRange SgrInRange (refl, refl) plain_kept kept most o.steps (steps_good bytes o.steps o.read) in
-    let safe = both_safe (flat_map of_line d.lines) (of_cells plain (cells_of d.line)) (lines_safe d.lines cells.0) (cells_safe (cells_of d.line) plain plain_kept cells.1) in
     let from : painted ≡ pieces_text (of_all d) = o.all ∙ sym (all_painted d) in
     let left : text ≡ encode_utf8_all (chars_in (of_all d)) =
-    p.all ∙ ap (λ (steps : List Step). shown_by false (do_all most fresh steps blank)) (one_reading bytes p.steps o.steps p.read o.read) ∙ shown_plain d ∙ ap encode_utf8_all (sym (all_chars d)) in
-    subst (λ (t : List ℕ). Strips longest t text) (sym from) (subst (Strips longest (pieces_text (of_all d))) (sym left) (strips (of_all d) safe))
+    p.all ∙ ap (λ (steps : List Step). shown_by Plain (do_all most fresh steps blank)) (one_reading bytes p.steps o.steps p.read o.read) ∙ shown_plain d ∙ ap encode_utf8_all (sym (all_chars d)) in
+    subst (λ (t : List ℕ). Strips longest t text) (sym from) (subst (Strips longest (pieces_text (of_all d))) (sym left) (strips (of_all d) (all_safe bytes o.steps o.read)))

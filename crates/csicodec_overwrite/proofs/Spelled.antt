@@ -38,163 +38,48 @@ use Rattle.csicodec.specs.Compose.{EndsInSemicolon, IsStyleList}
 use Rattle.csicodec.proofs.Compose.{sgr_compose_lem}
 use Rattle.csicodec.proofs.SgrSpelling.{sgr-spelling}
 use Rattle.csicodec_terminal.specs.Terminal.{IsTakenFor, has_unknown, is_open}
-use Rattle.csicodec_clean.specs.Styled.{IsOf}
+use Rattle.csicodec_clean.specs.Styled.{IsOf, hides}
+use Rattle.csicodec_clean.proofs.Coded.{AreCodes, IsCode, coded, codes_parts, none_open, same_ends, unended}
+use Rattle.csicodec_clean.proofs.Taken.{semicolon-spellable}
 use Rattle.csicodec_html.specs.declared.look.Look.{Look}
 use Rattle.csicodec_html.specs.Look.{is_default, is_none, is_normal}
 use Rattle.csicodec_overwrite.specs.Paint.{IsInRange, attributes, further, given, look_text}
-
--- ---- bytes that are digits or `:`
-
-abbrev IsCode : ℕ → Type 0
-IsCode b = IsDigit b ⊎ (b ≡ 58)
-
-abbrev AreCodes : List ℕ → Type 0
-AreCodes bs = AllByRecursion IsCode bs
-
-codes_both : (xs ys : List ℕ) → AreCodes xs → AreCodes ys → AreCodes (xs ++ ys)
-codes_both [] ys h k = k
-codes_both (x ∷ xs) ys h k = (h.0, codes_both xs ys h.1 k)
-
-codes_parts : (xs ys : List ℕ) → AreCodes (xs ++ ys) → AreCodes xs × AreCodes ys
-codes_parts [] ys h = (tt, h)
-codes_parts (x ∷ xs) ys h = let more = codes_parts xs ys h.1 in ((h.0, more.0), more.1)
-
-digit_codes : (bs : List ℕ) → AreDigits bs → AreCodes bs
-digit_codes [] h = tt
-digit_codes (b ∷ bs) h = (inl h.0, digit_codes bs h.1)
-
-own : IsNumeralModel AreDigits value
-own = numerals_by_fold AreDigits (search rules) value_after (search rules)
-
-number_codes : (n : ℕ) → n < 1000 → AreCodes (decimal n)
-number_codes n h = let small : n < 2 ^ 64 = omega (arith, h) in digit_codes (decimal n) (digits_decimal own n small)
-
-some_digits : (n : ℕ) → n < 1000 → 0 < length (decimal n)
-some_digits n h = let small : n < 2 ^ 64 = omega (arith, h) in decimal_nonempty n small
-
-few_digits : (n : ℕ) → n < 1000 → length (decimal n) ≤ 5
-few_digits n h = length-decimal_u16 n (omega (arith, h))
-
--- ---- the text of an attribute: such bytes, so many at most, and then the final byte
-
-abbrev IsCoded : ℕ → List ℕ → Type 0
-IsCoded most text = (body : List ℕ) × (text ≡ body ++ 109 ∷ []) × AreCodes body × (0 < length body) × (length body ≤ most)
-
-wider : (k n : ℕ) (text : List ℕ) → k ≤ n → IsCoded k text → IsCoded n text
-wider k n text h (body, is, codes, some, few) = (body, is, codes, some, omega (arith, h, few))
-
-coded_by : (k : ℕ) (t : Bool) (x y : List ℕ) → IsCoded k x → IsCoded k y → IsCoded k (cond t x y)
-coded_by k true x y h i = h
-coded_by k false x y h i = i
-
-number_coded : (n : ℕ) → n < 1000 → IsCoded 5 (decimal n ++ codes "m")
-number_coded n h = (decimal n, refl, number_codes n h, some_digits n h, few_digits n h)
-
-then_coded : (n most : ℕ) (mark rest : List ℕ) → n < 1000 → AreCodes mark → IsCoded most rest → IsCoded (5 + (length mark + most)) (decimal n ++ (mark ++ rest))
-then_coded n most mark rest h m (body, is, k, some, few) = (
-  decimal n ++ (mark ++ body),
-  ap (λ (t : List ℕ). decimal n ++ (mark ++ t)) is ∙ ap (λ (t : List ℕ). decimal n ++ t) (sym (append_assoc mark body (109 ∷ []))) ∙ sym (append_assoc (decimal n) (mark ++ body) (109 ∷ [])),
-  codes_both (decimal n) (mark ++ body) (number_codes n h) (codes_both mark body m k),
-  omega (arith, length-append (decimal n) (mark ++ body), some_digits n h),
-  omega (arith, length-append (decimal n) (mark ++ body), length-append mark body, few_digits n h, few),
-)
-
-five : AreCodes (codes ":5:")
-five = (inr refl, (inl (omega arith, omega arith), (inr refl, tt)))
-
-palette_coded : (first i : ℕ) → first < 100 → i < 256 → IsCoded 60 (palette_text first i)
-palette_coded first i f h =
-    let named = decimal (first + 8) ++ (codes ":5:" ++ (decimal i ++ codes "m")) in
-    let bright = decimal (i + first + 52) ++ codes "m" in
-    let dark = decimal (i + first) ++ codes "m" in
-    coded_by 60 (nat_lt i 8) dark (cond (nat_lt i 16) bright named) (wider 5 60 dark (omega arith) (number_coded (i + first) (omega (arith, f, h))))
-    (coded_by 60 (nat_lt i 16) bright named (wider 5 60 bright (omega arith) (number_coded (i + first + 52) (omega (arith, f, h))))
-    (wider 13 60 named (omega arith) (then_coded (first + 8) 5 (codes ":5:") (decimal i ++ codes "m") (omega (arith, f)) five (number_coded i (omega (arith, h))))))
-
-colon : AreCodes (codes ":")
-colon = (inr refl, tt)
-
-color_coded : (code : ℕ) (c : SrgbaTuple) → code < 100 → ColorInRange (color.TrueColor c) → IsCoded 60 (true_color_text code c)
-color_coded code c f (r, g, b, a) =
-    let blue = decimal c.2 ++ codes "m" in
-    let alpha = decimal c.2 ++ (codes ":" ++ (decimal c.3 ++ codes "m")) in
-    let opaque = decimal c.0 ++ (codes ":" ++ (decimal c.1 ++ (codes ":" ++ blue))) in
-    let clear = decimal c.0 ++ (codes ":" ++ (decimal c.1 ++ (codes ":" ++ alpha))) in
-    let three : IsCoded 17 opaque = then_coded c.0 11 (codes ":") (decimal c.1 ++ (codes ":" ++ blue)) (omega (arith, r)) colon (then_coded c.1 5 (codes ":") blue (omega (arith, g)) colon (number_coded c.2 (omega (arith, b)))) in
-    let four : IsCoded 23 clear = then_coded c.0 17 (codes ":") (decimal c.1 ++ (codes ":" ++ alpha)) (omega (arith, r)) colon
-    (then_coded c.1 11 (codes ":") alpha (omega (arith, g)) colon (then_coded c.2 5 (codes ":") (decimal c.3 ++ codes "m") (omega (arith, b)) colon (number_coded c.3 (omega (arith, a))))) in
-    let first = decimal code ++ (codes ":2::" ++ opaque) in
-    let other = decimal code ++ (codes ":6::" ++ clear) in
-    coded_by 60 (c.3 == 255) first other
-    (wider 26 60 first (omega arith) (then_coded code 17 (codes ":2::") opaque (omega (arith, f)) (inr refl, (inl (omega arith, omega arith), (inr refl, (inr refl, tt)))) three))
-    (wider 32 60 other (omega arith) (then_coded code 23 (codes ":6::") clear (omega (arith, f)) (inr refl, (inl (omega arith, omega arith), (inr refl, (inr refl, tt)))) four))
-
-one_digit : (b : ℕ) → IsDigit b → IsCoded 60 (b ∷ 109 ∷ [])
-one_digit b h = (b ∷ [], refl, (inl h, tt), omega arith, omega arith)
-
-two_digits : (a b : ℕ) → IsDigit a → IsDigit b → IsCoded 60 (a ∷ b ∷ 109 ∷ [])
-two_digits a b h k = (a ∷ b ∷ [], refl, (inl h, (inl k, tt)), omega arith, omega arith)
-
-line_of : (b : ℕ) → IsDigit b → IsCoded 60 (52 ∷ 58 ∷ b ∷ 109 ∷ [])
-line_of b h = (52 ∷ 58 ∷ b ∷ [], refl, (inl (omega arith, omega arith), (inr refl, (inl h, tt))), omega arith, omega arith)
 
 -- an attribute that stands in a sequence
 record IsSpelled (s : Sgr) : Type 0 where
   range : SgrInRange s
   canonical : IsCanonicalSgr s
-  coded : IsCoded 60 (sgr_text s)
+  shown : hides s ≡ false
 
 reset_spelled : IsSpelled sgr.Reset
-reset_spelled = record { range = tt; canonical = tt; coded = one_digit 48 (omega arith, omega arith) }
+reset_spelled = record { range = tt; canonical = tt; shown = refl }
 
 intensity_spelled : (x : Intensity) → IsSpelled (sgr.Intensity x)
-intensity_spelled intensity.Normal = record { range = tt; canonical = tt; coded = two_digits 50 50 (omega arith, omega arith) (omega arith, omega arith) }
-intensity_spelled intensity.Bold = record { range = tt; canonical = tt; coded = one_digit 49 (omega arith, omega arith) }
-intensity_spelled intensity.Half = record { range = tt; canonical = tt; coded = one_digit 50 (omega arith, omega arith) }
+intensity_spelled x = record { range = tt; canonical = tt; shown = refl }
 
 italic_spelled : IsSpelled (sgr.Italic true)
-italic_spelled = record { range = tt; canonical = tt; coded = one_digit 51 (omega arith, omega arith) }
+italic_spelled = record { range = tt; canonical = tt; shown = refl }
 
 underline_spelled : (x : Underline) → IsSpelled (sgr.Underline x)
-underline_spelled underline.None = record { range = tt; canonical = tt; coded = two_digits 50 52 (omega arith, omega arith) (omega arith, omega arith) }
-underline_spelled underline.Single = record { range = tt; canonical = tt; coded = one_digit 52 (omega arith, omega arith) }
-underline_spelled underline.Double = record { range = tt; canonical = tt; coded = two_digits 50 49 (omega arith, omega arith) (omega arith, omega arith) }
-underline_spelled underline.Curly = record { range = tt; canonical = tt; coded = line_of 51 (omega arith, omega arith) }
-underline_spelled underline.Dotted = record { range = tt; canonical = tt; coded = line_of 52 (omega arith, omega arith) }
-underline_spelled underline.Dashed = record { range = tt; canonical = tt; coded = line_of 53 (omega arith, omega arith) }
+underline_spelled x = record { range = tt; canonical = tt; shown = refl }
 
 line_spelled : (x : ColorSpec) → ColorInRange x → IsSpelled (sgr.UnderlineColor x)
-line_spelled color.Default h = record { range = tt; canonical = tt; coded = two_digits 53 57 (omega arith, omega arith) (omega arith, omega arith) }
-line_spelled (color.PaletteIndex i) h = record { range = h; canonical = tt; coded = number h }
-  where
-    number : i < 256 → IsCoded 60 (codes "58:5:" ++ (decimal i ++ codes "m"))
-    number fits = (
-      codes "58:5:" ++ decimal i,
-      sym (append_assoc (codes "58:5:") (decimal i) (109 ∷ [])),
-      codes_both (codes "58:5:") (decimal i) (inl (omega arith, omega arith), (inl (omega arith, omega arith), five)) (number_codes i (omega (arith, fits))),
-      omega (arith, length-append (codes "58:5:") (decimal i)),
-      omega (arith, length-append (codes "58:5:") (decimal i), few_digits i (omega (arith, fits))),
-    )
-line_spelled (color.TrueColor c) h = record { range = h; canonical = tt; coded = color_coded 58 c (omega arith) h }
+line_spelled x h = record { range = h; canonical = tt; shown = refl }
 
 overline_spelled : IsSpelled (sgr.Overline true)
-overline_spelled = record { range = tt; canonical = tt; coded = two_digits 53 51 (omega arith, omega arith) (omega arith, omega arith) }
+overline_spelled = record { range = tt; canonical = tt; shown = refl }
 
 strike_spelled : IsSpelled (sgr.StrikeThrough true)
-strike_spelled = record { range = tt; canonical = tt; coded = one_digit 57 (omega arith, omega arith) }
+strike_spelled = record { range = tt; canonical = tt; shown = refl }
 
 inverse_spelled : IsSpelled (sgr.Inverse true)
-inverse_spelled = record { range = tt; canonical = tt; coded = one_digit 55 (omega arith, omega arith) }
+inverse_spelled = record { range = tt; canonical = tt; shown = refl }
 
 text_spelled : (x : ColorSpec) → ColorInRange x → IsSpelled (sgr.Foreground x)
-text_spelled color.Default h = record { range = tt; canonical = tt; coded = two_digits 51 57 (omega arith, omega arith) (omega arith, omega arith) }
-text_spelled (color.PaletteIndex i) h = record { range = h; canonical = tt; coded = palette_coded 30 i (omega arith) h }
-text_spelled (color.TrueColor c) h = record { range = h; canonical = tt; coded = color_coded 38 c (omega arith) h }
+text_spelled x h = record { range = h; canonical = tt; shown = refl }
 
 ground_spelled : (x : ColorSpec) → ColorInRange x → IsSpelled (sgr.Background x)
-ground_spelled color.Default h = record { range = tt; canonical = tt; coded = two_digits 52 57 (omega arith, omega arith) (omega arith, omega arith) }
-ground_spelled (color.PaletteIndex i) h = record { range = h; canonical = tt; coded = palette_coded 40 i (omega arith) h }
-ground_spelled (color.TrueColor c) h = record { range = h; canonical = tt; coded = color_coded 48 c (omega arith) h }
+ground_spelled x h = record { range = h; canonical = tt; shown = refl }
 
 abbrev AreSpelled : List Sgr → Type 0
 AreSpelled styles = AllByRecursion IsSpelled styles
@@ -240,21 +125,11 @@ none_odd [] h = refl
 none_odd (Integer z ∷ list) h = none_odd list h.1
 none_odd (P b ∷ list) h = rw h.0 (none_odd list h.1)
 
-never_ends : (front : List CsiParam) → AllByRecursion IsPlainToken (front ++ semicolon ∷ []) → ⊥
-never_ends [] h = omega (arith, h.0)
-never_ends (t ∷ front) h = never_ends front h.1
-
-unclosed : (list : List CsiParam) → AllByRecursion IsPlainToken list → ¬ EndsInSemicolon list
-unclosed list h = λ ends. never_ends ends.0 (subst (AllByRecursion IsPlainToken) ends.1 h)
-
 some_tokens : (bs : List ℕ) (list : List CsiParam) → Spells bs list → 0 < length bs → 0 < length list
 some_tokens bs [] s some = absurd (omega (arith, ap length s, some))
 some_tokens bs (t ∷ list) s some = omega arith
 
 -- ---- lists that are joined at a `;`
-
-pub semicolon-spellable : IsSpellable semicolon
-semicolon-spellable = ((omega arith, omega arith), λ d. omega (arith, d))
 
 apart-semicolon : (t : CsiParam) (list : List CsiParam) → Apart t (semicolon ∷ list)
 apart-semicolon (Integer z) list = tt
@@ -300,16 +175,6 @@ record Open (bytes : List ℕ) (styles : List Sgr) : Type 0 where
 
 -- ---- one attribute
 
-same_ends : (xs ys : List ℕ) (a b : ℕ) → xs ++ a ∷ [] ≡ ys ++ b ∷ [] → (xs ≡ ys) × (a ≡ b)
-same_ends [] [] a b e = (refl, cc)
-same_ends [] (y ∷ ys) a b e = absurd (omega (arith, ap length e, length-append ys (b ∷ [])))
-same_ends (x ∷ xs) [] a b e = absurd (omega (arith, ap length e, length-append xs (a ∷ [])))
-same_ends (x ∷ xs) (y ∷ ys) a b e =
-    let others : xs ++ a ∷ [] ≡ ys ++ b ∷ [] = cc in
-    let first : x ≡ y = cc in
-    let more = same_ends xs ys a b others in
-    (cc (first, more.0), more.1)
-
 taken : (body : List ℕ) → take (length (body ++ 109 ∷ []) - 1) (body ++ 109 ∷ []) ≡ body
 taken body =
     let long : length (body ++ 109 ∷ []) - 1 ≡ length body = omega (arith, length-append body (109 ∷ [])) in
@@ -317,7 +182,7 @@ taken body =
 
 one_open : (s : Sgr) → IsSpelled s → Open (take (length (sgr_text s) - 1) (sgr_text s)) (s ∷ [])
 one_open s h =
-    let (body, is, codes, some, few) = h.coded in
+    let (body, is, codes, some, few) = coded s h.range h.shown in
     let sp = sgr-spelling false s h.range h.canonical in
     let ends = same_ends body (spells sp.list) 109 sp.final (sym is ∙ ap (drop 2) sp.written) in
     let mine : take (length (sgr_text s) - 1) (sgr_text s) ≡ body = ap (λ (t : List ℕ). take (length t - 1) t) is ∙ taken body in
@@ -328,7 +193,7 @@ one_open s h =
       spellable = sp.spellable;
       spelled = subst (λ (t : List ℕ). Spells t sp.list) (sym mine) spelled;
       plain = record { some = some_tokens body sp.list spelled some; plain = none_odd sp.list tokens };
-      unended = unclosed sp.list tokens;
+      unended = unended body sp.list spelled codes;
       means = subst (λ (f : ℕ). Actions sp.list false f (action.Sgr s ∷ [])) (sym ends.1) sp.read;
     }
 
@@ -368,22 +233,6 @@ look_of_one l h = ((look_open l h).list, 109, look_seq l h, (look_open l h).mean
 
 -- ---- also as terminals take it
 
-last_ends : (list : List CsiParam) → is_byte 59 (slice_get list (length list - 1)) ≡ true → EndsInSemicolon list
-last_ends [] e = cc
-last_ends (Integer z ∷ []) e = cc
-last_ends (P b ∷ []) e = ([], rw (eqb-true b 59 e) refl)
-last_ends (t ∷ u ∷ us) e =
-    let next : length (t ∷ u ∷ us) - 1 ≡ suc (length (u ∷ us) - 1) = omega arith in
-    let more = last_ends (u ∷ us) (rw next at e) in
-    (t ∷ more.0, ap (λ (l : List CsiParam). t ∷ l) more.1)
-
-none_open : (g : Group) (list : List CsiParam) → ¬ EndsInSemicolon list → is_open g list ≡ false
-none_open Styles list unended = elim (cases_Bool (is_byte 59 (slice_get list (length list - 1)))) [
-  | inl last ↦ absurd (unended (last_ends list last))
-  | inr other ↦ other
-]
-none_open _ list unended = refl
-
 none_unknown : (styles : List Sgr) → has_unknown (map action.Sgr styles) ≡ false
 none_unknown [] = refl
 none_unknown (s ∷ styles) = none_unknown styles
@@ -415,7 +264,7 @@ few_attributes l =
 
 further_short : (s : Sgr) → IsSpelled s → length (further s) ≤ 61
 further_short s h =
-    let (body, is, codes, some, few) = h.coded in
+    let (body, is, codes, some, few) = coded s h.range h.shown in
     let mine : take (length (sgr_text s) - 1) (sgr_text s) ≡ body = ap (λ (t : List ℕ). take (length t - 1) t) is ∙ taken body in
     omega (arith, ap length mine, few)
 

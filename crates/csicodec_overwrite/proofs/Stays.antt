@@ -19,6 +19,7 @@ use Rattle.csicodec_overwrite.specs.declared.cells.Cell.{Cell}
 use Rattle.csicodec_overwrite.specs.declared.cells.Cell.TheVariants.{Behind, Char, Mark}
 use Rattle.csicodec_overwrite.specs.declared.cells.Glyph.{Glyph}
 use Rattle.csicodec_overwrite.specs.declared.line.Line.{Line}
+use Rattle.csicodec_overwrite.specs.declared.marking.Marking.TheVariants.{Plain}
 use Rattle.csicodec_overwrite.specs.declared.pen.Pen.{Pen}
 use Rattle.csicodec_overwrite.specs.declared.step.Step.{Step}
 use Rattle.csicodec_overwrite.specs.declared.step.Step.TheVariants as step
@@ -216,4 +217,4 @@ plain_overwritten text (cs, scalars, all, e) room = record {
 }
 
 pub plain_stays : (text other : List ℕ) (p : IsPlain text) → HasRoom most 0 0 p.0 → Overwrites text other → other ≡ text
-plain_stays text other p room o = one_text false text other text o (plain_overwritten text p room)
+plain_stays text other p room o = one_text Plain text other text o (plain_overwritten text p room)

@@ -1,5 +1,5 @@
 -- Text of ASCII, which takes no reading.
-use Rattle.std.proofs.Common.{drop, take, take-append-drop, ◌≡◌, ◌≢◌, ◌<◌, ◌≤◌, ℕ, Bool, true, false, cond, List, [], ◌∷◌, ◌++◌, encode_utf8_all, refl, sym, ap, subst, ◌∙◌, append-nil, arith, ne_eqb}
+use Rattle.std.proofs.Common.{drop, take, take-append-drop, ◌≡◌, ◌≢◌, ◌<◌, ◌≤◌, ℕ, Bool, true, false, cond, List, [], ◌∷◌, ◌++◌, length, encode_utf8_all, refl, sym, ap, subst, ◌∙◌, arith, ne_eqb}
 use Rattle.std.specs.Prelude.{◌==◌, ◌&&◌, ◌||◌, nat_le, nat_lt, max, unwrap_or, Some, None}
 use Rattle.std.specs.Char.{encode_utf8}
 use Rattle.std.specs.List.{AllByRecursion, prefix_len}
@@ -7,7 +7,6 @@ use Rattle.std.specs.Str.{all_scalars}
 use Rattle.std.proofs.lemmas.Bool.Decides.{nat_tests}
 use Rattle.unicode_width.specs.Width.{char_width}
 use Rattle.unicode_width.specs.Width.{alone as char_alone}
-use Rattle.unicode_width.proofs.Rules.{width_or_zero-le}
 use Rattle.bstr.specs.Utf8.{lossy_chars}
 use Rattle.csicodec_spans.specs.declared.table.Kind.TheVariants as kind
 use Rattle.csicodec_spans.specs.declared.table.Mode.TheVariants as mode
@@ -26,15 +25,16 @@ use Rattle.csicodec_overwrite.specs.declared.cells.Cell.{Cell}
 use Rattle.csicodec_overwrite.specs.declared.cells.Cell.TheVariants.{Char}
 use Rattle.csicodec_overwrite.specs.declared.line.Line.{Line}
 use Rattle.csicodec_overwrite.specs.declared.pen.Pen.{Pen}
+use Rattle.csicodec_overwrite.specs.declared.step.Step.{Step}
 use Rattle.csicodec_overwrite.specs.declared.step.Step.TheVariants as step
-use Rattle.csicodec_overwrite.specs.Cells.{columns, glyph, to_tab_stop, width}
-use Rattle.csicodec_overwrite.specs.Line.{Done, done, line, pen_behind, put}
-use Rattle.csicodec_overwrite.specs.Paint.{texts_of}
+use Rattle.csicodec_overwrite.specs.Cells.{columns, glyph, narrowed, to_tab_stop, width}
+use Rattle.csicodec_overwrite.specs.Line.{Done, before, do_all, done, line, pen_behind, pen_behind_all, put}
 use Rattle.csicodec_overwrite.specs.Steps.{of_char, of_chars}
 use Rattle.csicodec_overwrite.specs.Reading.{AreOfParts}
 use Rattle.csicodec_overwrite.specs.Stream.{Reads, none_held}
-use Rattle.csicodec_overwrite.specs.Private.Plain.{GoesBehind, IsLineByte, end_of, line_byte}
+use Rattle.csicodec_overwrite.specs.Private.Plain.{IsLineByte, PutsRun, end_of, line_byte}
 use Rattle.csicodec_overwrite.proofs.Chars.{chars_on}
+use Rattle.csicodec_overwrite.proofs.Moved.{narrow_few}
 use Rattle.csicodec_overwrite.proofs.Same.{not_titled}
 use Rattle.csicodec_overwrite.proofs.Stays.{cells, of_singles, put_cells, put_of}
 
@@ -91,17 +91,21 @@ put_step b h tab = put_of b (grind (arith, nat_tests)) (grind (arith, nat_tests)
 pub few_cells : (c column : ℕ) → max (width c column) 1 ≤ 8
 few_cells c column = by (c == 9)
   where
-    by : (t : Bool) → max (cond t (to_tab_stop column) (unwrap_or (char_width false c) 0)) 1 ≤ 8
+    by : (t : Bool) → max (cond t (to_tab_stop column) (narrowed (unwrap_or (char_width false c) 0))) 1 ≤ 8
     by true = omega arith
-    by false = omega (arith, width_or_zero-le false c)
+    by false = omega (arith, narrow_few (unwrap_or (char_width false c) 0))
 
 -- ---- a character behind all others
+
+-- a character of ASCII that is no control comes behind all cells of a line that has room for it
+abbrev GoesBehind : ℕ → Pen → ℕ → Line → Type 0
+GoesBehind limit pen c l = (32 ≤ c) × (c < 127) × (pen.inserts ≡ false) × (l.right ≡ []) × (length l.left < limit)
 
 pub narrow : (c column : ℕ) → 32 ≤ c → c < 127 → width c column ≡ 1
 unfolding char_width
 narrow c column low high = by (c == 9) (nat_lt c 127) (nat_le 32 c) (grind (arith, nat_tests)) (grind (arith, nat_tests)) (grind (arith, nat_tests))
   where
-    by : (t u v : Bool) → t ≡ false → u ≡ true → v ≡ true → cond t (to_tab_stop column) (unwrap_or (cond u (cond v (Some 1) None) (cond (nat_le 160 c) (Some (char_alone false c).0) None)) 0) ≡ 1
+    by : (t u v : Bool) → t ≡ false → u ≡ true → v ≡ true → cond t (to_tab_stop column) (narrowed (unwrap_or (cond u (cond v (Some 1) None) (cond (nat_le 160 c) (Some (char_alone false c).0) None)) 0)) ≡ 1
     by t u v e f g = rw (e, f, g) refl
 
 goes : (limit : ℕ) (pen : Pen) (c : ℕ) (l : Line) → GoesBehind limit pen c l → put limit pen.inserts (glyph c pen.look) l ≡ done [] (line (Char (glyph c pen.look) ∷ l.left) [])
@@ -110,12 +114,31 @@ goes limit pen c l (low, high, over, none, few) =
     let one = narrow c (columns l.left) low high in
     ap (λ (b : Bool). put limit b g l) over ∙ ap (λ (right : List Cell). put limit false g (line l.left right)) none ∙ put_cells limit g l.left (omega (arith, one, few)) ∙ ap (λ (n : ℕ). done [] (line (cells g n l.left) [])) one
 
-pub goes_line : (limit : ℕ) (pen : Pen) (c : ℕ) (l : Line) → GoesBehind limit pen c l → line (Char (glyph c pen.look) ∷ l.left) l.right ≡ (put limit pen.inserts (glyph c pen.look) l).line
-goes_line limit pen c l (low, high, over, none, few) =
-    ap (line (Char (glyph c pen.look) ∷ l.left)) none ∙ sym (ap (λ (d : Done). d.line) (goes limit pen c l (low, high, over, none, few)))
-
-pub goes_pen : (limit : ℕ) (pen : Pen) (c : ℕ) (l : Line) → GoesBehind limit pen c l → record pen { last = Some c } ≡ pen_behind pen (step.Put c) (columns l.left)
+goes_pen : (limit : ℕ) (pen : Pen) (c : ℕ) (l : Line) → GoesBehind limit pen c l → record pen { last = Some c } ≡ pen_behind pen (step.Put c) (columns l.left)
 goes_pen limit pen c l (low, high, over, none, few) = ap (λ (n : ℕ). record pen { last = cond (n == 0) pen.last (Some c) }) (sym (narrow c 0 low high))
 
-pub goes_text : (limit : ℕ) (painted : Bool) (pen : Pen) (c : ℕ) (l : Line) (out : List ℕ) → GoesBehind limit pen c l → out ≡ out ++ texts_of painted (put limit pen.inserts (glyph c pen.look) l).lines
-goes_text limit painted pen c l out s = sym (append-nil out) ∙ sym (ap (λ (d : Done). out ++ texts_of painted d.lines) (goes limit pen c l s))
+-- ---- a run of such characters
+
+pub run_none : (limit : ℕ) (pen : Pen) (l : Line) (text : List ℕ) → AllByRecursion IsLineByte text → PutsRun limit pen l text text pen l
+run_none limit pen l text h = record { plain = h; fewer = omega arith; same = refl; pens = refl }
+
+-- behind others one more is put, and the rest comes
+module _ (limit : ℕ) (first : Pen) (blank : Line) (text : List ℕ) (pen : Pen) (c : ℕ) (cs : List ℕ) (l m : Line) where
+  pub run_on : PutsRun limit first blank text (c ∷ cs) pen l → (c == 9) ≡ false → pen.inserts ≡ false → l.right ≡ [] → length l.left < limit → m ≡ line (Char (glyph c pen.look) ∷ l.left) l.right
+      → PutsRun limit first blank text cs (record pen { last = Some c }) m
+  run_on run other over none few e =
+      let is : IsLineByte c = run.plain.0 in
+      let behind : GoesBehind limit pen c l = (grind (arith, nat_tests), grind (arith, nat_tests), over, none, few) in
+      let of = put_step c is (λ tab. absurd (let yes : (9 == 9) ≡ false = subst (λ (x : ℕ). (x == 9) ≡ false) tab other in cc)) in
+      let next = pen_behind pen (step.Put c) (columns l.left) in
+      let one : put limit pen.inserts (glyph c pen.look) l ≡ done [] m = goes limit pen c l behind ∙ ap (λ (right : List Cell). done [] (line (Char (glyph c pen.look) ∷ l.left) right)) (sym none) ∙ ap (done []) (sym e) in
+      record {
+        plain = run.plain.1;
+        fewer = omega (arith, run.fewer);
+        same = run.same ∙ ap (λ (s : List Step). do_all limit pen (s ++ of_chars cs) l) of
+            ∙ ap (λ (d : Done). before d.lines (do_all limit next (of_chars cs) d.line)) one
+            ∙ ap (λ (p : Pen). do_all limit p (of_chars cs) m) (sym (goes_pen limit pen c l behind));
+        pens = run.pens ∙ ap (λ (s : List Step). pen_behind_all limit pen (s ++ of_chars cs) l) of
+            ∙ ap (λ (d : Done). pen_behind_all limit next (of_chars cs) d.line) one
+            ∙ ap (λ (p : Pen). pen_behind_all limit p (of_chars cs) m) (sym (goes_pen limit pen c l behind));
+      }

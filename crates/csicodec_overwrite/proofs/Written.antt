@@ -1,9 +1,10 @@
 -- What steps write, one behind the other, and what comes of a stream.
-use Rattle.std.proofs.Common.{◌≡◌, ℕ, Bool, List, [], ◌∷◌, ◌++◌, refl, sym, ap, subst, ◌∙◌, ⊎_elim, append_assoc, append-nil}
+use Rattle.std.proofs.Common.{◌≡◌, ℕ, List, [], ◌∷◌, ◌++◌, refl, sym, ap, subst, ◌∙◌, ⊎_elim, append_assoc, append-nil}
 use Rattle.std.specs.List.{concat}
 use Rattle.csicodec_filter.specs.Transform.{Begins, GoesOn, Sends, Transforms}
 use Rattle.csicodec_overwrite.specs.declared.cells.Cell.{Cell}
 use Rattle.csicodec_overwrite.specs.declared.line.Line.{Line}
+use Rattle.csicodec_overwrite.specs.declared.marking.Marking.{Marking}
 use Rattle.csicodec_overwrite.specs.declared.pen.Pen.{Pen}
 use Rattle.csicodec_overwrite.specs.declared.step.Step.{Step}
 use Rattle.csicodec_overwrite.specs.Cells.{columns}
@@ -36,21 +37,21 @@ lines_on limit (x ∷ xs) ys pen l =
     ∙ sym (append_assoc (does limit pen x l).lines (do_all limit behind xs next).lines (do_all limit (pen_behind_all limit behind xs next) ys (do_all limit behind xs next).line).lines)
 
 -- all that they show
-pub shown_on : (painted : Bool) (limit : ℕ) (xs ys : List Step) (pen : Pen) (l : Line)
-    → shown_by painted (do_all limit pen (xs ++ ys) l) ≡ texts_of painted (do_all limit pen xs l).lines ++ shown_by painted (do_all limit (pen_behind_all limit pen xs l) ys (do_all limit pen xs l).line)
-shown_on painted limit xs ys pen l =
+pub shown_on : (marking : Marking) (limit : ℕ) (xs ys : List Step) (pen : Pen) (l : Line)
+    → shown_by marking (do_all limit pen (xs ++ ys) l) ≡ texts_of marking (do_all limit pen xs l).lines ++ shown_by marking (do_all limit (pen_behind_all limit pen xs l) ys (do_all limit pen xs l).line)
+shown_on marking limit xs ys pen l =
     let first = (do_all limit pen xs l).lines in
     let later = do_all limit (pen_behind_all limit pen xs l) ys (do_all limit pen xs l).line in
-    ap (λ (t : List (List Cell)). texts_of painted t ++ text_of painted (cells_of (do_all limit pen (xs ++ ys) l).line)) (lines_on limit xs ys pen l)
-    ∙ ap (λ (m : Line). texts_of painted (first ++ later.lines) ++ text_of painted (cells_of m)) (line_on limit xs ys pen l)
-    ∙ ap (λ (t : List ℕ). t ++ text_of painted (cells_of later.line)) (texts_on painted first later.lines)
-    ∙ append_assoc (texts_of painted first) (texts_of painted later.lines) (text_of painted (cells_of later.line))
+    ap (λ (t : List (List Cell)). texts_of marking t ++ text_of marking (cells_of (do_all limit pen (xs ++ ys) l).line)) (lines_on limit xs ys pen l)
+    ∙ ap (λ (m : Line). texts_of marking (first ++ later.lines) ++ text_of marking (cells_of m)) (line_on limit xs ys pen l)
+    ∙ ap (λ (t : List ℕ). t ++ text_of marking (cells_of later.line)) (texts_on marking first later.lines)
+    ∙ append_assoc (texts_of marking first) (texts_of marking later.lines) (text_of marking (cells_of later.line))
 
 -- ---- a stream
 
 -- nothing comes, where nothing is held
 pub passes_none : (now : Now) → now.reader ≡ none_held → Passes now [] [] now
-passes_none now bare = record { steps = []; reads = rw bare reads_none; pen = refl; painted = refl; line = refl; all = refl }
+passes_none now bare = record { steps = []; reads = rw bare reads_none; pen = refl; marking = refl; line = refl; all = refl }
 
 -- bytes more
 pub passes_on : (old mid new : Now) (first second one two : List ℕ) → Passes old first one mid → Passes mid second two new → Passes old (first ++ second) (one ++ two) new
@@ -59,17 +60,17 @@ passes_on old mid new first second one two p q =
     let now = do_all most old.pen p.steps old.line in
     let behind = pen_behind_all most old.pen p.steps old.line in
     let later = do_all most behind q.steps now.line in
-    let text : two ≡ texts_of old.painted later.lines =
-    q.all ∙ ap (λ (b : Bool). texts_of b (do_all most mid.pen q.steps mid.line).lines) p.painted ∙ ap (λ (pen : Pen). texts_of old.painted (do_all most pen q.steps mid.line).lines) p.pen
-    ∙ ap (λ (l : Line). texts_of old.painted (do_all most behind q.steps l).lines) p.line in
+    let text : two ≡ texts_of old.marking later.lines =
+    q.all ∙ ap (λ (m : Marking). texts_of m (do_all most mid.pen q.steps mid.line).lines) p.marking ∙ ap (λ (pen : Pen). texts_of old.marking (do_all most pen q.steps mid.line).lines) p.pen
+    ∙ ap (λ (l : Line). texts_of old.marking (do_all most behind q.steps l).lines) p.line in
     record {
       steps = steps;
       reads = reads_on old.reader mid.reader new.reader first second p.steps q.steps p.reads q.reads;
       pen = q.pen ∙ ap (λ (pen : Pen). pen_behind_all most pen q.steps mid.line) p.pen ∙ ap (λ (l : Line). pen_behind_all most behind q.steps l) p.line ∙ sym (pen_on most p.steps q.steps old.pen old.line);
-      painted = q.painted ∙ p.painted;
+      marking = q.marking ∙ p.marking;
       line = q.line ∙ ap (λ (pen : Pen). (do_all most pen q.steps mid.line).line) p.pen ∙ ap (λ (l : Line). (do_all most behind q.steps l).line) p.line ∙ sym (line_on most p.steps q.steps old.pen old.line);
-      all = ap (λ (t : List ℕ). t ++ two) p.all ∙ ap (λ (t : List ℕ). texts_of old.painted now.lines ++ t) text ∙ sym (texts_on old.painted now.lines later.lines)
-          ∙ ap (texts_of old.painted) (sym (lines_on most p.steps q.steps old.pen old.line));
+      all = ap (λ (t : List ℕ). t ++ two) p.all ∙ ap (λ (t : List ℕ). texts_of old.marking now.lines ++ t) text ∙ sym (texts_on old.marking now.lines later.lines)
+          ∙ ap (texts_of old.marking) (sym (lines_on most p.steps q.steps old.pen old.line));
     }
 
 pub goes : (old new : Now) (bytes text : List ℕ) → Passes old bytes text new → GoesOn Passes old bytes text new
@@ -86,50 +87,50 @@ front_on old mid new bytes between rest before now after (front, text, split, pa
 )
 
 -- the end
-pub shows : (painted : Bool) (bytes text rest : List ℕ) (last : Now) → Passes (begun_as painted) bytes text last → Ending last rest → Shows painted bytes (text ++ rest)
-shows painted bytes text rest last p e =
+pub shows : (marking : Marking) (bytes text rest : List ℕ) (last : Now) → Passes (begun_as marking) bytes text last → Ending last rest → Shows marking bytes (text ++ rest)
+shows marking bytes text rest last p e =
     let held = of_run last.reader.held in
     let now = do_all most fresh p.steps blank in
     let behind = pen_behind_all most fresh p.steps blank in
-    let end : rest ≡ shown_by painted (do_all most behind held now.line) =
-    e ∙ ap (λ (b : Bool). shown_by b (do_all most last.pen held last.line)) p.painted ∙ ap (λ (pen : Pen). shown_by painted (do_all most pen held last.line)) p.pen
-    ∙ ap (λ (l : Line). shown_by painted (do_all most behind held l)) p.line in
+    let end : rest ≡ shown_by marking (do_all most behind held now.line) =
+    e ∙ ap (λ (m : Marking). shown_by m (do_all most last.pen held last.line)) p.marking ∙ ap (λ (pen : Pen). shown_by marking (do_all most pen held last.line)) p.pen
+    ∙ ap (λ (l : Line). shown_by marking (do_all most behind held l)) p.line in
     record {
       steps = p.steps ++ held;
       read = whole_reads bytes p.steps last.reader p.reads;
-      all = ap (λ (t : List ℕ). t ++ rest) p.all ∙ ap (λ (t : List ℕ). texts_of painted now.lines ++ t) end ∙ sym (shown_on painted most p.steps held fresh blank);
+      all = ap (λ (t : List ℕ). t ++ rest) p.all ∙ ap (λ (t : List ℕ). texts_of marking now.lines ++ t) end ∙ sym (shown_on marking most p.steps held fresh blank);
     }
 
-pub transformed : (painted : Bool) (bytes text : List ℕ) → Transforms Passes Ending (begun_as painted) bytes text → Shows painted bytes text
-transformed painted bytes text (last, sure, rest, passed, ending, split) = rw split (shows painted bytes sure rest last passed ending)
+pub transformed : (marking : Marking) (bytes text : List ℕ) → Transforms Passes Ending (begun_as marking) bytes text → Shows marking bytes text
+transformed marking bytes text (last, sure, rest, passed, ending, split) = rw split (shows marking bytes sure rest last passed ending)
 
 -- what went out is a front of a whole text
-pub begins : (painted : Bool) (AreAll : Type 0) (bytes sent : List ℕ) → Begins (Sends Passes (begun_as painted)) (Transforms Passes Ending (begun_as painted)) AreAll bytes sent
-    → (unsent : List ℕ) × Shows painted bytes (sent ++ unsent)
-begins painted AreAll bytes sent (unsent, h) = ⊎_elim
-    (λ (k : Sends Passes (begun_as painted) bytes (sent ++ unsent)).
+pub begins : (marking : Marking) (AreAll : Type 0) (bytes sent : List ℕ) → Begins (Sends Passes (begun_as marking)) (Transforms Passes Ending (begun_as marking)) AreAll bytes sent
+    → (unsent : List ℕ) × Shows marking bytes (sent ++ unsent)
+begins marking AreAll bytes sent (unsent, h) = ⊎_elim
+    (λ (k : Sends Passes (begun_as marking) bytes (sent ++ unsent)).
     let (last, passed) = k in
-    let rest = shown_by last.painted (do_all most last.pen (of_run last.reader.held) last.line) in
-    (unsent ++ rest, subst (Shows painted bytes) (append_assoc sent unsent rest) (shows painted bytes (sent ++ unsent) rest last passed refl)))
-    (λ (k : AreAll × Transforms Passes Ending (begun_as painted) bytes (sent ++ unsent)). (unsent, transformed painted bytes (sent ++ unsent) k.1))
+    let rest = shown_by last.marking (do_all most last.pen (of_run last.reader.held) last.line) in
+    (unsent ++ rest, subst (Shows marking bytes) (append_assoc sent unsent rest) (shows marking bytes (sent ++ unsent) rest last passed refl)))
+    (λ (k : AreAll × Transforms Passes Ending (begun_as marking) bytes (sent ++ unsent)). (unsent, transformed marking bytes (sent ++ unsent) k.1))
     h
 
 -- ---- what is appended
 
-pub pushed : (old new : Now) (bytes : List ℕ) (steps : List Step) (before after : List ℕ) → Reads old.reader bytes steps new.reader → new.pen ≡ pen_behind_all most old.pen steps old.line → new.painted ≡ old.painted
-    → new.line ≡ (do_all most old.pen steps old.line).line → after ≡ before ++ texts_of old.painted (do_all most old.pen steps old.line).lines → (text : List ℕ) × Passes old bytes text new × (after ≡ before ++ text)
-pushed old new bytes steps before after reads pen painted line out =
-    (texts_of old.painted (do_all most old.pen steps old.line).lines, record { steps = steps; reads = reads; pen = pen; painted = painted; line = line; all = refl }, out)
+pub pushed : (old new : Now) (bytes : List ℕ) (steps : List Step) (before after : List ℕ) → Reads old.reader bytes steps new.reader → new.pen ≡ pen_behind_all most old.pen steps old.line → new.marking ≡ old.marking
+    → new.line ≡ (do_all most old.pen steps old.line).line → after ≡ before ++ texts_of old.marking (do_all most old.pen steps old.line).lines → (text : List ℕ) × Passes old bytes text new × (after ≡ before ++ text)
+pushed old new bytes steps before after reads pen marking line out =
+    (texts_of old.marking (do_all most old.pen steps old.line).lines, record { steps = steps; reads = reads; pen = pen; marking = marking; line = line; all = refl }, out)
 
 pub finished : (last : Now) (steps : List Step) (line : Line) (before now after : List ℕ) → steps ≡ of_run last.reader.held → line ≡ (do_all most last.pen steps last.line).line
-    → now ≡ before ++ texts_of last.painted (do_all most last.pen steps last.line).lines → after ≡ now ++ text_of last.painted (cells_of line) → (rest : List ℕ) × Ending last rest × (after ≡ before ++ rest)
+    → now ≡ before ++ texts_of last.marking (do_all most last.pen steps last.line).lines → after ≡ now ++ text_of last.marking (cells_of line) → (rest : List ℕ) × Ending last rest × (after ≡ before ++ rest)
 finished last steps line before now after held same out shown =
     let d = do_all most last.pen steps last.line in
-    let over = texts_of last.painted d.lines in (
-      shown_by last.painted d,
-      ap (λ (x : List Step). shown_by last.painted (do_all most last.pen x last.line)) held,
-      shown ∙ ap (λ (t : List ℕ). t ++ text_of last.painted (cells_of line)) out ∙ append_assoc before over (text_of last.painted (cells_of line))
-          ∙ ap (λ (l : Line). before ++ (over ++ text_of last.painted (cells_of l))) same,
+    let over = texts_of last.marking d.lines in (
+      shown_by last.marking d,
+      ap (λ (x : List Step). shown_by last.marking (do_all most last.pen x last.line)) held,
+      shown ∙ ap (λ (t : List ℕ). t ++ text_of last.marking (cells_of line)) out ∙ append_assoc before over (text_of last.marking (cells_of line))
+          ∙ ap (λ (l : Line). before ++ (over ++ text_of last.marking (cells_of l))) same,
     )
 
 -- ---- chunks in turn
@@ -140,5 +141,5 @@ taken_on first old last bytes text (chunk ∷ chunks) more p (mid, one, others, 
     let all = taken_on first mid last (bytes ++ chunk) (text ++ one) chunks others (goes first bytes text p) rest in
     rw (← append_assoc bytes chunk (concat chunks), e, ← append_assoc text one others) all
 
-pub any_chunks : (painted : Bool) (chunks : List (List ℕ)) (text rest : List ℕ) (last : Now) → AreTaken (begun_as painted) chunks text last → Ending last rest → Shows painted (concat chunks) (text ++ rest)
-any_chunks painted chunks text rest last taken ending = shows painted (concat chunks) text rest last (taken_on (begun_as painted) (begun_as painted) last [] [] chunks text (passes_none (begun_as painted) refl) taken) ending
+pub any_chunks : (marking : Marking) (chunks : List (List ℕ)) (text rest : List ℕ) (last : Now) → AreTaken (begun_as marking) chunks text last → Ending last rest → Shows marking (concat chunks) (text ++ rest)
+any_chunks marking chunks text rest last taken ending = shows marking (concat chunks) text rest last (taken_on (begun_as marking) (begun_as marking) last [] [] chunks text (passes_none (begun_as marking) refl) taken) ending

@@ -1,5 +1,5 @@
 -- What stands in a line, cell by cell, and how many columns that takes.
-use Rattle.std.specs.Prelude.{ℕ, ◌+◌, ◌-◌, ◌%◌, ◌==◌, min, Bool, true, false, List, [], ◌∷◌, ◌++◌, replicate, unwrap_or, if◌then◌else◌}
+use Rattle.std.specs.Prelude.{ℕ, ◌+◌, ◌-◌, ◌%◌, ◌==◌, nat_le, min, Bool, true, false, List, [], ◌∷◌, ◌++◌, replicate, unwrap_or, if◌then◌else◌, ◌||◌}
 use Rattle.unicode_width.specs.Width.{char_width}
 use Rattle.csicodec_html.specs.declared.look.Look.{Look}
 use Rattle.csicodec_overwrite.specs.declared.cells.Cell.{Cell}
@@ -45,6 +45,13 @@ is_empty (Char g) = false
 is_empty Behind = false
 is_empty (Mark c) = false
 
+-- a blank, whatever it looks like: nothing, a space, or a column of a tab
+abbrev pub is_blank : Cell → Bool
+is_blank Empty = true
+is_blank (Char g) = g.char == 32 || g.char == 9
+is_blank Behind = true
+is_blank (Mark c) = false
+
 -- without so many columns
 abbrev pub without : ℕ → List Cell → List Cell
 without n [] = []
@@ -81,9 +88,13 @@ erased n right = replicate (min n (columns right)) Empty ++ gone n right
 abbrev pub to_tab_stop : ℕ → ℕ
 to_tab_stop column = 8 - column % 8
 
+-- no character of a terminal has more than two columns: U+17D8, which the table gives three, has one
+abbrev pub narrowed : ℕ → ℕ
+narrowed columns = if nat_le columns 2 then columns else 1
+
 -- the columns that a character takes behind so many: a tab goes up to a tab stop
 abbrev pub width : ℕ → ℕ → ℕ
-width c column = if c == 9 then to_tab_stop column else unwrap_or (char_width false c) 0
+width c column = if c == 9 then to_tab_stop column else narrowed (unwrap_or (char_width false c) 0)
 
 -- the characters of a cell: a blank of an empty one
 abbrev pub chars_of : Cell → List ℕ

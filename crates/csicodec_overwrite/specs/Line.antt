@@ -1,5 +1,6 @@
 -- A line of a terminal, its cursor, and what each step does to it.
-use Rattle.std.specs.Prelude.{ℕ, zero, suc, ◌+◌, ◌-◌, ◌*◌, ◌%◌, ◌≤◌, ◌==◌, nat_le, nat_lt, min, max, Bool, true, false, List, [], ◌∷◌, ◌++◌, length, replicate, MatchBool, Option, Some, None, if◌then◌else◌}
+use Rattle.std.specs.Prelude.{ℕ, zero, suc, ◌+◌, ◌-◌, ◌*◌, ◌%◌, ◌≤◌, ◌==◌, nat_le, nat_lt, min, max, Bool, true, false, List, [], ◌∷◌, ◌++◌, length, replicate, MatchBool, Option, Some, None, if◌then◌else◌, ◌&&◌}
+use Rattle.std.specs.List.{list_all}
 use Rattle.csicodec_html.specs.Look.{behind, plain}
 use Rattle.csicodec_overwrite.specs.declared.cells.Cell.{Cell}
 use Rattle.csicodec_overwrite.specs.declared.cells.Cell.TheVariants.{Behind, Char, Empty, Mark}
@@ -8,7 +9,7 @@ use Rattle.csicodec_overwrite.specs.declared.line.Line.{Line}
 use Rattle.csicodec_overwrite.specs.declared.pen.Pen.{Pen}
 use Rattle.csicodec_overwrite.specs.declared.step.Step.{Step}
 use Rattle.csicodec_overwrite.specs.declared.step.Step.TheVariants as step
-use Rattle.csicodec_overwrite.specs.Cells.{begins_behind, columns, emptied, erased, glyph, gone, onto, outside, to_tab_stop, trimmed, takes, width, without}
+use Rattle.csicodec_overwrite.specs.Cells.{begins_behind, columns, emptied, erased, glyph, gone, is_blank, onto, outside, takes, to_tab_stop, trimmed, width, without}
 
 -- the cells left of the cursor and those right of it, on either side the nearest first
 abbrev pub line : List Cell → List Cell → Line
@@ -137,13 +138,31 @@ abbrev pub target : Option ℕ → Line → ℕ
 target None l = min (columns l.left) (widest - 1)
 target (Some column) l = min (column - 1) (widest - 1)
 
--- the line, if anything stands in it
+-- whether no more than blanks stands in the line
+abbrev pub shows_nothing : Line → Bool
+shows_nothing l = list_all is_blank (cells_of l)
+
+-- the line, if more than that stands in it
 abbrev pub lines_of : Line → List (List Cell)
-lines_of l = if length (standing l) == 0 then [] else cells_of l ∷ []
+lines_of l = if shows_nothing l then [] else cells_of l ∷ []
 
 -- to another row, or maybe so: the line is over, and a new one begins in that column
 abbrev pub leave : ℕ → Option ℕ → Line → Done
 leave limit to l = done (lines_of l) (forward limit (target to l) blank)
+
+-- this is the row that was given last
+abbrev pub is_row : Option ℕ → ℕ → Bool
+is_row None row = false
+is_row (Some own) row = own == row
+
+-- to a column of the same row, or to the same column
+abbrev pub in_row : ℕ → Option ℕ → Line → Line
+in_row limit None l = l
+in_row limit (Some column) l = at_column limit column l
+
+-- to a place in a row: where that was given last, and wasn't left since, the line goes on
+abbrev pub placed_in : ℕ → Pen → ℕ → Option ℕ → Line → Done
+placed_in limit pen row to l = if is_row pen.row row then done [] (in_row limit to l) else leave limit to l
 
 -- behind so many columns and cells, each line of these characters has room in one
 abbrev pub HasRoom : ℕ → ℕ → ℕ → List ℕ → Type 0
@@ -156,7 +175,7 @@ HasRoom limit columns cells (c ∷ chars) = MatchBool (c == 10) (HasRoom limit 0
 
 -- at the start
 abbrev pub fresh : Pen
-fresh = record { look = plain; inserts = false; last = None; saved = 0; here = false }
+fresh = record { look = plain; inserts = false; last = None; saved = 0; here = false; row = None }
 
 -- a mark isn't repeated, but the character before it
 abbrev pub last_behind : Option ℕ → ℕ → Option ℕ
@@ -168,9 +187,10 @@ pen_behind pen (step.Put c) column = record pen { last = last_behind pen.last c 
 pen_behind pen (step.Attribute s) column = record pen { look = behind pen.look s; last = None }
 pen_behind pen (step.Inserts inserts) column = record pen { inserts = inserts; last = None }
 pen_behind pen step.Save column = record pen { last = None; saved = column; here = true }
-pen_behind pen step.Restore column = record pen { last = None; here = true }
-pen_behind pen step.NewLine column = record pen { last = None; here = false }
-pen_behind pen (step.Leave to) column = record pen { last = None; here = false }
+pen_behind pen step.Restore column = record pen { last = None; here = true; row = None }
+pen_behind pen step.NewLine column = record pen { last = None; here = false; row = None }
+pen_behind pen (step.Leave to) column = record pen { last = None; here = false; row = None }
+pen_behind pen (step.Row row to) column = record pen { last = None; here = is_row pen.row row && pen.here; row = Some row }
 pen_behind pen step.Reset column = fresh
 pen_behind pen s column = record pen { last = None }
 
@@ -209,6 +229,7 @@ does limit pen step.Save l = done [] l
 does limit pen step.Restore l = restored limit pen l
 does limit pen step.Reset l = done [] l
 does limit pen (step.Leave to) l = leave limit to l
+does limit pen (step.Row row to) l = placed_in limit pen row to l
 does limit pen step.Other l = done [] l
 
 -- one after the other

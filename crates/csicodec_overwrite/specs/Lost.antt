@@ -1,5 +1,5 @@
 -- Which characters come, and which a step takes out of the line that it is done in. No step takes one out of another line, and one that
--- leaves the row takes none.
+-- leaves the row takes none but blanks of a line in which nothing else stands.
 use Rattle.std.specs.Prelude.{ℕ, zero, suc, ◌≡◌, ◌≢◌, ◌≤◌, ◌-◌, ◌+◌, ◌==◌, Bool, List, [], ◌∷◌, ◌++◌, length, replicate, Option, Some, None, if◌then◌else◌}
 use Rattle.std.specs.List.{count_by, flat_map}
 use Rattle.bstr.specs.Utf8.{lossy_chars}
@@ -11,7 +11,8 @@ use Rattle.csicodec_overwrite.specs.declared.pen.Pen.{Pen}
 use Rattle.csicodec_overwrite.specs.declared.step.Step.{Step}
 use Rattle.csicodec_overwrite.specs.declared.step.Step.TheVariants as step
 use Rattle.csicodec_overwrite.specs.Cells.{begins_behind, belongs, chars_of, columns, glyph, is_empty, outside, takes, width, without}
-use Rattle.csicodec_overwrite.specs.Line.{blank, does, fits, fresh, parted, pen_behind, put}
+use Rattle.csicodec_overwrite.specs.Line.{blank, cells_of, does, fits, fresh, is_row, parted, pen_behind, put, shows_nothing}
+use Rattle.csicodec_overwrite.specs.Paint.{as_text}
 use Rattle.csicodec_overwrite.specs.Reading.{Shows, most}
 
 -- ---- parts of a line
@@ -61,7 +62,11 @@ abbrev pub taken_again : ℕ → Pen → Option ℕ → ℕ → Line → List Ce
 taken_again limit pen None n l = []
 taken_again limit pen (Some c) n l = taken_by_all limit pen.inserts (glyph c pen.look) n l
 
--- what is overwritten, erased, deleted or parted: no other step takes anything
+-- the blanks of a line that is left, if nothing else stands in it: it isn't written
+abbrev pub left_out : Line → List Cell
+left_out l = if shows_nothing l then cells_of l else []
+
+-- what is overwritten, erased, deleted, parted or left out: no other step takes anything
 abbrev pub taken : ℕ → Pen → Step → Line → List Cell
 taken limit pen (step.Put c) l = taken_by limit pen.inserts (glyph c pen.look) l
 taken limit pen (step.Repeat n) l = taken_again limit pen pen.last n l
@@ -71,6 +76,9 @@ taken limit pen step.EraseAll l = l.left ++ l.right
 taken limit pen (step.Erase n) l = touched n l
 taken limit pen (step.Delete n) l = touched n l
 taken limit pen (step.Insert n) l = under l
+taken limit pen step.Restore l = if pen.here then [] else left_out l
+taken limit pen (step.Leave to) l = left_out l
+taken limit pen (step.Row row to) l = if is_row pen.row row then [] else left_out l
 taken limit pen s l = []
 
 -- ---- what comes
@@ -110,14 +118,14 @@ times c chars = count_by (λ x. x == c) chars
 
 -- each character that `strip` leaves of the bytes, but for tabs and newlines, is as often in that text or taken in its line
 abbrev pub NothingLost : Type 0
-NothingLost = (painted : Bool) (bytes kept out text : List ℕ) (s : Shows painted bytes out) (c : ℕ)
+NothingLost = (painted : Bool) (bytes kept out text : List ℕ) (s : Shows (as_text painted) bytes out) (c : ℕ)
     → Strips longest bytes kept → Strips longest out text → c ≢ 9 → c ≢ 10
     → times c (lossy_chars kept)
     ≤ times c (lossy_chars text) + times c (all_taken most fresh s.steps blank)
 
 -- and no character, but for blanks and newlines, is more often there or taken than it came
 abbrev pub NothingMade : Type 0
-NothingMade = (painted : Bool) (bytes out text : List ℕ) (s : Shows painted bytes out) (c : ℕ)
+NothingMade = (painted : Bool) (bytes out text : List ℕ) (s : Shows (as_text painted) bytes out) (c : ℕ)
     → Strips longest out text → c ≢ 32 → c ≢ 10
     → times c (lossy_chars text) + times c (all_taken most fresh s.steps blank)
     ≡ times c (all_came most fresh s.steps blank)

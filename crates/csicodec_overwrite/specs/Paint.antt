@@ -1,4 +1,5 @@
--- A line as text: its characters alone, or painted, with the sequences that set how they look (SGR; ECMA-48, 8.3.117).
+-- A line as it is written: its characters alone, or painted, with the sequences that set how they look (SGR; ECMA-48, 8.3.117), or as a
+-- page, with tags.
 use Rattle.std.specs.Prelude.{ℕ, ◌-◌, ◌==◌, Bool, true, false, not, ◌&&◌, List, [], ◌∷◌, ◌++◌, length, take, encode_utf8_all, if◌then◌else◌}
 use Rattle.std.specs.List.{flat_map}
 use Rattle.csicodec_names.specs.declared.color.ColorSpec.{ColorSpec}
@@ -13,8 +14,12 @@ use Rattle.csicodec_base.specs.SgrText.{sgr_text}
 use Rattle.csicodec_actions.specs.Ranges.{ColorInRange}
 use Rattle.csicodec_html.specs.declared.look.Look.{Look}
 use Rattle.csicodec_html.specs.Look.{is_default, is_none, is_normal, plain}
+use Rattle.csicodec_html.specs.Page.{escaped, piece_texts}
+use Rattle.csicodec_html.specs.Page.{turn as tags}
 use Rattle.csicodec_overwrite.specs.declared.cells.Cell.{Cell}
 use Rattle.csicodec_overwrite.specs.declared.cells.Cell.TheVariants.{Behind, Char, Empty, Mark}
+use Rattle.csicodec_overwrite.specs.declared.marking.Marking.{Marking}
+use Rattle.csicodec_overwrite.specs.declared.marking.Marking.TheVariants.{Page, Plain, Styled}
 use Rattle.csicodec_overwrite.specs.Cells.{chars_of}
 
 -- ---- whether two looks are one
@@ -87,9 +92,28 @@ IsInRange l = ColorInRange l.line × ColorInRange l.foreground × ColorInRange l
 
 -- ---- painting
 
--- the sequence between two looks, where they aren't one
-abbrev pub turn : Look → Look → List ℕ
-turn old new = if same old new then [] else look_text new
+-- whether how characters look is written
+abbrev pub shows_looks : Marking → Bool
+shows_looks Plain = false
+shows_looks Styled = true
+shows_looks (Page m) = true
+
+-- as text, painted or not
+abbrev pub as_text : Bool → Marking
+as_text false = Plain
+as_text true = Styled
+
+-- characters
+abbrev pub written : Marking → List ℕ → List ℕ
+written Plain chars = encode_utf8_all chars
+written Styled chars = encode_utf8_all chars
+written (Page m) chars = flat_map escaped chars
+
+-- what is written between two looks, where they aren't one: the sequence of the new one, or the tags
+abbrev pub turn : Marking → Look → Look → List ℕ
+turn Plain old new = []
+turn Styled old new = if same old new then [] else look_text new
+turn (Page m) old new = if same old new then [] else piece_texts (tags m true old new)
 
 -- how a cell looks behind others that look so: nothing is set in an empty one, and what belongs to a character looks as that does
 abbrev pub look_of : Look → Cell → Look
@@ -99,19 +123,20 @@ look_of look Behind = look
 look_of look (Mark c) = look
 
 -- cells in turn, and at the end nothing is set
-abbrev pub paint : Look → List Cell → List ℕ
-paint look [] = turn look plain
-paint look (cell ∷ cells) =
-    turn look (look_of look cell) ++ (encode_utf8_all (chars_of cell) ++ paint (look_of look cell) cells)
+abbrev pub paint : Marking → Look → List Cell → List ℕ
+paint marking look [] = turn marking look plain
+paint marking look (cell ∷ cells) =
+    turn marking look (look_of look cell) ++ (written marking (chars_of cell) ++ paint marking (look_of look cell) cells)
 
--- a line as text, painted or not
-abbrev pub text_of : Bool → List Cell → List ℕ
-text_of false cells = encode_utf8_all (flat_map chars_of cells)
-text_of true cells = paint plain cells
+-- a line as it is written
+abbrev pub text_of : Marking → List Cell → List ℕ
+text_of marking cells =
+    if shows_looks marking then paint marking plain cells
+    else encode_utf8_all (flat_map chars_of cells)
 
 -- lines that are over, each with its newline
-abbrev pub ended : Bool → List Cell → List ℕ
-ended painted cells = text_of painted cells ++ 10 ∷ []
+abbrev pub ended : Marking → List Cell → List ℕ
+ended marking cells = text_of marking cells ++ 10 ∷ []
 
-abbrev pub texts_of : Bool → List (List Cell) → List ℕ
-texts_of painted lines = flat_map (ended painted) lines
+abbrev pub texts_of : Marking → List (List Cell) → List ℕ
+texts_of marking lines = flat_map (ended marking) lines

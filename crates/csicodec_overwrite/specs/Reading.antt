@@ -1,6 +1,6 @@
 -- The steps of a stream: those of the characters of its runs of text, each read by itself, of its escape sequences, of its control
 -- sequences as terminals take them, and of what went wrong. Control strings and titles end a run, and do nothing, but stand behind what was put last.
-use Rattle.std.specs.Prelude.{ℕ, ◌≡◌, Bool, false, true, List, [], ◌∷◌, ◌++◌}
+use Rattle.std.specs.Prelude.{ℕ, ◌≡◌, false, List, [], ◌∷◌, ◌++◌}
 use Rattle.csicodec_actions.specs.Actions.{Action}
 use Rattle.csicodec_terminal.specs.Terminal.{IsTakenFor}
 use Rattle.csicodec_spans.specs.declared.table.Kind.{Kind}
@@ -10,6 +10,9 @@ use Rattle.csicodec_spans.specs.declared.table.Mode.TheVariants as mode
 use Rattle.csicodec_spans.specs.Parts.{Part, AreFirstParts, IsUnsure}
 use Rattle.csicodec_clean.specs.Cleaned.{longest}
 use Rattle.csicodec_clean.specs.Titles.{with_titles}
+use Rattle.csicodec_html.specs.declared.markup.Markup.{Markup}
+use Rattle.csicodec_overwrite.specs.declared.marking.Marking.{Marking}
+use Rattle.csicodec_overwrite.specs.declared.marking.Marking.TheVariants.{Page, Plain, Styled}
 use Rattle.csicodec_overwrite.specs.declared.step.Step.{Step}
 use Rattle.csicodec_overwrite.specs.Line.{Done, blank, cells_of, do_all, fresh}
 use Rattle.csicodec_overwrite.specs.Paint.{text_of, texts_of}
@@ -45,23 +48,27 @@ pub record Steps (bytes : List ℕ) (steps : List Step) : Type 0 where
   pub all : steps ≡ before ++ of_run run
 
 -- the lines that are over, and then what stands in the last
-abbrev pub shown_by : Bool → Done → List ℕ
-shown_by painted d = texts_of painted d.lines ++ text_of painted (cells_of d.line)
+abbrev pub shown_by : Marking → Done → List ℕ
+shown_by marking d = texts_of marking d.lines ++ text_of marking (cells_of d.line)
 
 -- a line holds so many cells at most
 abbrev pub most : ℕ
 most = longest
 
--- the lines of the stream, each as it stands when it ends, as UTF-8, painted or not
-pub record Shows (painted : Bool) (bytes text : List ℕ) : Type 0 where
+-- the lines of the stream, each as it stands when it ends, as UTF-8, as what they are written
+pub record Shows (marking : Marking) (bytes text : List ℕ) : Type 0 where
   pub steps : List Step
   pub read : Steps bytes steps
-  pub all : text ≡ shown_by painted (do_all most fresh steps blank)
+  pub all : text ≡ shown_by marking (do_all most fresh steps blank)
 
 -- as plain text
 abbrev pub Overwrites : List ℕ → List ℕ → Type 0
-Overwrites = Shows false
+Overwrites = Shows Plain
 
 -- with how it looks: the same cells, and sequences that set that
 abbrev pub Paints : List ℕ → List ℕ → Type 0
-Paints = Shows true
+Paints = Shows Styled
+
+-- as a page, with tags in place of those
+abbrev pub Pages : Markup → List ℕ → List ℕ → Type 0
+Pages m = Shows (Page m)

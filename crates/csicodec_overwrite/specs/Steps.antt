@@ -1,7 +1,9 @@
 -- What each character, escape sequence and action does in a line. All others do nothing there, but stand behind what was put last.
-use Rattle.std.specs.Prelude.{ℕ, ◌==◌, ◌&&◌, ◌||◌, min, Bool, true, false, List, [], ◌∷◌, ◌++◌, length, slice_index, Some, None, if◌then◌else◌}
-use Rattle.std.specs.List.{flat_map}
+use Rattle.std.specs.Prelude.{ℕ, ◌==◌, ◌&&◌, ◌||◌, nat_lt, not, min, Bool, true, false, List, [], ◌∷◌, ◌++◌, length, slice_index, Some, None, if◌then◌else◌}
+use Rattle.std.specs.List.{flat_map, list_any}
 use Rattle.bstr.specs.Utf8.{lossy_chars}
+use Rattle.csicodec_tokens.specs.declared.param.CsiParam.{CsiParam}
+use Rattle.csicodec_tokens.specs.declared.param.CsiParam.TheVariants.{Integer, P}
 use Rattle.csicodec_names.specs.declared.enums.EraseInDisplay.{EraseInDisplay}
 use Rattle.csicodec_names.specs.declared.enums.EraseInDisplay.TheVariants as display
 use Rattle.csicodec_names.specs.declared.enums.EraseInLine.{EraseInLine}
@@ -79,9 +81,8 @@ abbrev pub stops : ℕ → ℕ
 stops n = min n 128
 
 -- In the line are CUF (8.3.20), CUB (8.3.18), CHA (8.3.9), HPA (8.3.57), HPR (8.3.59), HPB (8.3.58), CHT (8.3.10) and CBT (8.3.7), and
--- SCOSC and SCORC are as DECSC and DECRC. To another row, or maybe so, go
--- CUP (8.3.21) and HVP (8.3.63), to a column. CUU (8.3.22), CUD (8.3.19), VPA (8.3.158), VPR (8.3.160), VPB (8.3.159) and CVT (8.3.17)
--- go there in the same column. CNL (8.3.12), CPL (8.3.13) and DECSTBM go to the first.
+-- SCOSC and SCORC are as DECSC and DECRC. CUP (8.3.21) and HVP (8.3.63) go to a column of a row, and VPA (8.3.158) to the same column.
+-- To another row, or maybe so, go CUU (8.3.22), CUD (8.3.19), VPR (8.3.160), VPB (8.3.159) and CVT (8.3.17) in the same column. CNL (8.3.12), CPL (8.3.13) and DECSTBM go to the first.
 abbrev pub of_cursor : Cursor → List Step
 of_cursor (cursor.Right n) = step.Right (as_far n) ∷ []
 of_cursor (cursor.Left n) = step.Left (as_far n) ∷ []
@@ -93,11 +94,11 @@ of_cursor (cursor.ForwardTabulation n) = step.Tabs (stops n) ∷ []
 of_cursor (cursor.BackwardTabulation n) = step.TabsBack (stops n) ∷ []
 of_cursor cursor.SaveCursor = step.Save ∷ []
 of_cursor cursor.RestoreCursor = step.Restore ∷ []
-of_cursor (cursor.Position row col) = step.Leave (Some (as_far col)) ∷ []
-of_cursor (cursor.CharacterAndLinePosition row col) = step.Leave (Some (as_far col)) ∷ []
+of_cursor (cursor.Position row col) = step.Row row (Some (as_far col)) ∷ []
+of_cursor (cursor.CharacterAndLinePosition row col) = step.Row row (Some (as_far col)) ∷ []
 of_cursor (cursor.Up n) = step.Leave None ∷ []
 of_cursor (cursor.Down n) = step.Leave None ∷ []
-of_cursor (cursor.LinePositionAbsolute row) = step.Leave None ∷ []
+of_cursor (cursor.LinePositionAbsolute row) = step.Row row None ∷ []
 of_cursor (cursor.LinePositionForward n) = step.Leave None ∷ []
 of_cursor (cursor.LinePositionBackward n) = step.Leave None ∷ []
 of_cursor (cursor.LineTabulation n) = step.Leave None ∷ []
@@ -181,9 +182,22 @@ abbrev pub of_device : Device → List Step
 of_device device.SoftReset = step.Reset ∷ []
 of_device _ = []
 
--- a list that terminals take for no action that is known may move too, where it isn't of SGR or EL
-abbrev pub of_unread : ℕ → List Step
-of_unread final = if final == 109 || final == 75 then [] else step.Leave None ∷ []
+-- ---- a list of which no action is read
+
+-- a private marker or an intermediate byte (5.4)
+abbrev pub is_mark : CsiParam → Bool
+is_mark (Integer z) = false
+is_mark (P b) = nat_lt b 48 || nat_lt 59 b
+
+-- SGR, ED and EL don't move. DECSASD (`$ }`) and private modes that are set, reset or restored may, and of all others those with no such
+-- byte: terminals carry out none that moves with one.
+abbrev pub may_move : List CsiParam → ℕ → Bool
+may_move params final = if final == 109 || (final == 74 || final == 75) then false
+    else if final == 104 || (final == 108 || (final == 114 || final == 125)) then true
+    else not (list_any is_mark params)
+
+abbrev pub of_unread : List CsiParam → ℕ → List Step
+of_unread params final = if may_move params final then step.Leave None ∷ [] else []
 
 -- and SGR (8.3.117)
 abbrev pub of_action : Action → List Step
@@ -192,7 +206,7 @@ of_action (action.Edit e) = of_edit e
 of_action (action.Sgr s) = step.Attribute s ∷ []
 of_action (action.Mode m) = of_mode m
 of_action (action.Device d) = of_device d
-of_action (action.Unspecified params flag final) = of_unread final
+of_action (action.Unspecified params flag final) = of_unread params final
 of_action _ = []
 
 abbrev pub of_chars : List ℕ → List Step

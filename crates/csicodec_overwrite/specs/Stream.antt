@@ -9,6 +9,8 @@ use Rattle.csicodec_clean.specs.Cleaned.{longest}
 use Rattle.csicodec_clean.specs.Shown.{IsRead}
 use Rattle.csicodec_clean.specs.Titles.{title_open, with_titles}
 use Rattle.csicodec_overwrite.specs.declared.line.Line.{Line}
+use Rattle.csicodec_overwrite.specs.declared.marking.Marking.{Marking}
+use Rattle.csicodec_overwrite.specs.declared.marking.Marking.TheVariants.{Plain}
 use Rattle.csicodec_overwrite.specs.declared.pen.Pen.{Pen}
 use Rattle.csicodec_overwrite.specs.declared.step.Step.{Step}
 use Rattle.csicodec_overwrite.specs.Line.{blank, do_all, fresh, pen_behind_all}
@@ -46,33 +48,33 @@ pub record Reads (old : Held) (bytes : List ℕ) (steps : List Step) (new : Held
   pub goes : (run chars : List ℕ) → IsRead run chars old.held
       → Goes old.mode old.titled run chars (old.bytes ++ bytes) steps new.bytes new.mode new.titled new.held
 
--- what a stream is between two pushes: what is held of it, how characters are put, whether lines are painted, and the one that isn't over
+-- what a stream is between two pushes: what is held of it, how characters are put, as what lines are written, and the one that isn't over
 pub record Now : Type 0 where
   pub reader : Held
   pub pen : Pen
-  pub painted : Bool
+  pub marking : Marking
   pub line : Line
 
-abbrev pub begun_as : Bool → Now
-begun_as painted = record { reader = none_held; pen = fresh; painted = painted; line = blank }
+abbrev pub begun_as : Marking → Now
+begun_as marking = record { reader = none_held; pen = fresh; marking = marking; line = blank }
 
 -- as plain text
 abbrev pub begun : Now
-begun = begun_as false
+begun = begun_as Plain
 
 -- these bytes give steps, and these end lines with the text
 pub record Passes (old : Now) (bytes text : List ℕ) (new : Now) : Type 0 where
   pub steps : List Step
   pub reads : Reads old.reader bytes steps new.reader
   pub pen : new.pen ≡ pen_behind_all most old.pen steps old.line
-  pub painted : new.painted ≡ old.painted
+  pub marking : new.marking ≡ old.marking
   pub line : new.line ≡ (do_all most old.pen steps old.line).line
-  pub all : text ≡ texts_of old.painted (do_all most old.pen steps old.line).lines
+  pub all : text ≡ texts_of old.marking (do_all most old.pen steps old.line).lines
 
 -- at the end, with what is held, all that stands in the line is written
 abbrev pub Ending : Now → List ℕ → Type 0
 Ending last text = text
-    ≡ shown_by last.painted (do_all most last.pen (of_run last.reader.held) last.line)
+    ≡ shown_by last.marking (do_all most last.pen (of_run last.reader.held) last.line)
 
 -- chunks in turn, and all that they append
 abbrev pub AreTaken : Now → List (List ℕ) → List ℕ → Now → Type 0
@@ -83,6 +85,6 @@ AreTaken old (chunk ∷ chunks) text new =
 
 -- it doesn't matter how a stream is cut into chunks: what they append, and the end, is the text of all of it
 abbrev pub AnyChunks : Type 0
-AnyChunks = (painted : Bool) (chunks : List (List ℕ)) (text rest : List ℕ) (last : Now)
-    → AreTaken (begun_as painted) chunks text last → Ending last rest
-    → Shows painted (concat chunks) (text ++ rest)
+AnyChunks = (marking : Marking) (chunks : List (List ℕ)) (text rest : List ℕ) (last : Now)
+    → AreTaken (begun_as marking) chunks text last → Ending last rest
+    → Shows marking (concat chunks) (text ++ rest)

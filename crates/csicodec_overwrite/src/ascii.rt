@@ -1,5 +1,5 @@
 //! Text of ASCII, which takes no reading.
-ghost use Rattle.std.specs.Prelude.{◌≡◌, ◌∷◌, ◌++◌, [], ◌≤◌, length, min, IfSome};
+ghost use Rattle.std.specs.Prelude.{◌≡◌, ◌==◌, ◌∷◌, ◌++◌, [], ◌≤◌, ◌<◌, length, min, false, IfSome};
 ghost use Rattle.csicodec_overwrite.specs.Private.Plain.{AreLines, IsLineByte, end_of};
 ghost use Rattle.csicodec_overwrite.specs.Steps.{of_char};
 
@@ -7,6 +7,11 @@ use crate::step::Step;
 use csicodec_clean::{ByteClass, PlainAscii, first_set, split_front};
 use memchr::memrchr;
 use std::simd::prelude::*;
+
+/// Eight blanks, and the bits by which bytes of ASCII are told from those from 20 to 3f.
+const BLANKS: u64 = 0x2020_2020_2020_2020;
+
+const BLOCKS: u64 = 0xe0e0_e0e0_e0e0_e0e0;
 
 /// A tab, and the characters of ASCII that are no controls.
 pub(crate) struct InLine;
@@ -75,6 +80,20 @@ pub(crate) fn plain_step(byte: u8) -> Step
     Step::Put(byte as char)
 }
 
+/// The character of such text in front that takes one cell, if there is room for it, and what is behind it.
+#[inline(always)]
+pub(crate) fn next_char(text: &[u8], room: usize) -> Option<(char, &[u8])>
+    ensures text { IfSome result (λ (char, behind). text.now ≡ char ∷ behind.now) }
+    ensures tab { IfSome result (λ (char, behind). (char == 9) ≡ false) }
+    ensures room { IfSome result (λ (char, behind). 0 < room) }
+{
+    let (byte, behind) = text.split_first()?;
+    if *byte == b'\t' || room == 0 {
+        return None;
+    }
+    Some((char::from(*byte), behind))
+}
+
 /// What is behind the bytes in front from `low` to `high`.
 fn behind_range<'a>(bytes: &'a [u8], low: u8, high: u8) -> &'a [u8]
     ensures { length result.now ≤ length bytes.now }
@@ -89,6 +108,20 @@ fn behind_range<'a>(bytes: &'a [u8], low: u8, high: u8) -> &'a [u8]
     rest
 }
 
+/// How many bytes in front are from 20 to 3f, as those of a list of parameters.
+#[inline(always)]
+fn list_len(bytes: &[u8]) -> usize
+    ensures { result ≤ length bytes.now }
+{
+    if let Some(front) = bytes.first_chunk::<8>() {
+        let others = (u64::from_le_bytes(*front) ^ BLANKS) & BLOCKS;
+        if others != 0 {
+            return others.trailing_zeros() as usize / 8;
+        }
+    }
+    bytes.len() - behind_range(bytes, b' ', b'?').len()
+}
+
 /// How many bytes are read at once where no such text stands in front: a sequence that is introduced there, or characters that aren't of
 /// ASCII; behind what is open, up to the next control.
 pub(crate) fn odd_len(bytes: &[u8], open: bool) -> usize
@@ -100,10 +133,8 @@ pub(crate) fn odd_len(bytes: &[u8], open: bool) -> usize
         return len.max(1).min(bytes.len());
     }
     match bytes {
-        [0x1b, b'[', rest @ ..] => {
-            bytes.len() - behind_range(rest, b' ', b'?').len().saturating_sub(1)
-        }
-        [0x1b, rest @ ..] => bytes.len() - behind_range(rest, b' ', b'?').len().saturating_sub(1),
+        [0x1b, b'[', rest @ ..] => (3 + list_len(rest)).min(bytes.len()),
+        [0x1b, rest @ ..] => (2 + list_len(rest)).min(bytes.len()),
         [_, rest @ ..] => bytes.len() - behind_range(rest, 0x80, 0xff).len(),
         [] => 0,
     }
@@ -117,8 +148,9 @@ pub(crate) fn style_len(bytes: &[u8]) -> usize
     let [0x1b, b'[', list @ ..] = bytes else {
         return 0;
     };
-    match behind_range(list, b'0', b';') {
-        [b'm' | b'K', rest @ ..] => bytes.len().saturating_sub(rest.len()),
+    let len = list_len(list);
+    match list.get(len) {
+        Some(b'm' | b'K') => 3 + len,
         _ => 0,
     }
 }

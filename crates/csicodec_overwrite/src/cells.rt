@@ -1,6 +1,7 @@
 //! What stands in a line, cell by cell.
 ghost use Rattle.std.specs.Prelude.{◌≡◌, ◌++◌, ◌∷◌, [], ℕ, List, OnOk, MatchOption, length, replicate, reverse};
-ghost use Rattle.csicodec_overwrite.specs.Cells.{begins_behind, belongs, columns, emptied, is_empty, onto, outside, takes, trimmed, without};
+ghost use Rattle.std.specs.List.{list_all};
+ghost use Rattle.csicodec_overwrite.specs.Cells.{begins_behind, belongs, columns, emptied, is_blank, is_empty, onto, outside, takes, trimmed, without};
 ghost use Rattle.csicodec_overwrite.specs.declared.cells.Cell.TheVariants.{Empty};
 
 use csicodec_html::Look;
@@ -43,6 +44,17 @@ impl Cell {
         ensures { result ≡ is_empty self }
     {
         matches!(self, Cell::Empty)
+    }
+
+    /// Whether it is a blank, whatever it looks like: nothing, a space, or a column of a tab.
+    fn is_blank(self) -> bool
+        ensures { result ≡ is_blank self }
+    {
+        match self {
+            Cell::Empty | Cell::Behind => true,
+            Cell::Char(glyph) => glyph.char == ' ' || glyph.char == '\t',
+            Cell::Mark(_) => false,
+        }
     }
 
     /// Whether it belongs to the character before it.
@@ -127,6 +139,13 @@ impl Side {
         ensures { result.now ≡ onto self.now [] }
     {
         &self.cells
+    }
+
+    /// Whether no more than blanks stands there.
+    pub(crate) fn shows_nothing(&self) -> bool
+        ensures { result ≡ list_all is_blank (onto self.now []) }
+    {
+        self.from_farthest().iter().all(|cell| cell.is_blank())
     }
 
     /// Puts a cell nearest.

@@ -2,10 +2,12 @@
 ghost use Rattle.std.specs.Prelude.{◌≡◌, ◌<◌, ◌++◌, ℕ, List, false, length, IfOk, IfSome, OnOk};
 ghost use Rattle.std.specs.List.{AllByRecursion};
 ghost use Rattle.csicodec_overwrite.specs.Private.Front.{AreLooks, IsFront, IsLook, Sets, last_of_run, run_text};
+ghost use Rattle.csicodec_overwrite.specs.Private.Plain.{IsLineByte};
 ghost use Rattle.csicodec_overwrite.specs.Stream.{none_held};
 
 use crate::ascii::{InLine, style_len};
-use crate::paint::append_turned;
+use crate::marking::Marking;
+use crate::paint::{append_ascii, append_turn};
 use crate::pen::Pen;
 use crate::reader::Reader;
 use crate::step::Step;
@@ -73,23 +75,30 @@ pub(crate) struct Front<'a> {
     pub(crate) now: Look,
 }
 
+/// How the last character looks, where text of one look comes behind a character of another.
+#[inline(always)]
+fn last_of_run(last: Look, now: Look, run: &[u8]) -> Look
+    ensures { result ≡ last_of_run last now run.now }
+{
+    if run.is_empty() { last } else { now }
+}
+
 /// Appends text that looks so, and answers how the last character looks then.
 fn append_run(
     last: Look,
     now: Look,
     run: &[u8],
-    painted: bool,
+    marking: &Marking,
     out: &mut Vec<u8>,
 ) -> Result<Look, AllocError>
     ensures { IfOk result (λ look. (look ≡ last_of_run last now run.now)
-        × (out.new.items ≡ out.old.items ++ run_text painted last now run.now)) }
+        × (AllByRecursion IsLineByte run.now
+        → out.new.items ≡ out.old.items ++ run_text marking.now last now run.now)) }
 {
-    if run.is_empty() {
-        return Ok(last);
-    }
-    append_turned(painted, &last, &now, out)?;
-    out.extend_from_slice(run)?;
-    Ok(now)
+    let next = last_of_run(last, now, run);
+    append_turn(marking, &last, &next, out)?;
+    append_ascii(marking, run, out)?;
+    Ok(next)
 }
 
 /// Appends the front of a line that was blank, up to the first byte that is no text of ASCII, nor of a sequence that sets how it looks.
@@ -98,14 +107,14 @@ pub(crate) fn append_front<'a>(
     reader: &mut Reader,
     steps: &mut Vec<Step>,
     pen: Pen,
-    painted: bool,
+    marking: &Marking,
     bytes: &'a [u8],
     out: &mut Vec<u8>,
 ) -> Result<Front<'a>, AllocError>
     requires bare { reader.old ≡ none_held }
     requires over { pen.inserts ≡ false }
     ensures written { IfOk result (λ f. (front : List ℕ) × (text : List ℕ) × (bytes.now ≡ front ++ f.rest.now)
-        × IsFront painted pen front text f.last f.now
+        × IsFront marking.now pen front text f.last f.now
         × (out.new.items ≡ out.old.items ++ text)) }
     ensures bare { OnOk result (reader.new ≡ none_held) }
 {
@@ -115,7 +124,7 @@ pub(crate) fn append_front<'a>(
         if LIMIT / 8 < bytes.len().saturating_sub(behind.len()) {
             return Ok(Front { rest, last, now });
         }
-        last = append_run(last, now, run, painted, out)?;
+        last = append_run(last, now, run, marking, out)?;
         rest = behind;
         let (sequence, others) = rest.split_at(style_len(rest));
         let Some(after) = look_behind_bytes(reader, steps, now, sequence)? else {

@@ -1,18 +1,21 @@
 //! Laws of the definitions. Each is the contract of a function that does nothing.
-ghost use Rattle.std.specs.Prelude.{◌≡◌, ◌≤◌, ℕ, Bool, List};
+ghost use Rattle.std.specs.Prelude.{◌≡◌, ◌≤◌, ℕ, List};
 ghost use Rattle.csicodec_actions.specs.Actions.{Action};
 ghost use Rattle.csicodec_terminal.specs.Terminal.{IsTakenFor};
 ghost use Rattle.csicodec_clean.specs.Cleaned.{Strips, longest};
 ghost use Rattle.csicodec_clean.specs.Shown.{IsPlain};
 ghost use Rattle.csicodec_clean.specs.Styled.{IsOf};
 ghost use Rattle.csicodec_html.specs.declared.look.Look.{Look};
+ghost use Rattle.csicodec_html.specs.declared.markup.Markup.{Markup};
 ghost use Rattle.csicodec_html.specs.Look.{behind_all};
+ghost use Rattle.csicodec_html.specs.Page.{PageWith};
+ghost use Rattle.csicodec_overwrite.specs.declared.marking.Marking.{Marking};
 ghost use Rattle.csicodec_overwrite.specs.declared.pen.Pen.{Pen};
 ghost use Rattle.csicodec_overwrite.specs.declared.step.Step.{Step};
 ghost use Rattle.csicodec_overwrite.specs.Line.{HasRoom, blank, do_all, size};
 ghost use Rattle.csicodec_overwrite.specs.Lost.{NothingLost, NothingMade};
 ghost use Rattle.csicodec_overwrite.specs.Paint.{IsInRange, look_text};
-ghost use Rattle.csicodec_overwrite.specs.Reading.{Overwrites, Paints, Shows, most};
+ghost use Rattle.csicodec_overwrite.specs.Reading.{Overwrites, Pages, Paints, Shows, most};
 ghost use Rattle.csicodec_overwrite.specs.Stream.{AnyChunks};
 
 /// What is written has no control but newlines and tabs, as what `strip` writes.
@@ -31,16 +34,22 @@ pub fn any_chunks()
     ensures { AnyChunks }
 {}
 
-/// Bytes have one text, painted or not.
+/// Bytes have one text, as what lines are written.
 pub fn one_text()
-    ensures { (painted : Bool) (bytes text other : List ℕ) → Shows painted bytes text
-        → Shows painted bytes other → text ≡ other }
+    ensures { (marking : Marking) (bytes text other : List ℕ) → Shows marking bytes text
+        → Shows marking bytes other → text ≡ other }
 {}
 
 /// What is painted is the plain text, with sequences that `strip` drops.
 pub fn same_text()
     ensures { (bytes painted text : List ℕ) → Paints bytes painted → Overwrites bytes text
         → Strips longest painted text }
+{}
+
+/// The page is the one that `csicodec_html` makes of what is painted.
+pub fn same_page()
+    ensures { (m : Markup) (bytes painted page : List ℕ) → Paints bytes painted → Pages m bytes page
+        → PageWith m painted page }
 {}
 
 /// The sequence of a look is one control sequence, and what it sets, whatever was set before, is that look. Terminals take it so too.
@@ -56,7 +65,8 @@ pub fn bounded()
 {}
 
 /// Nothing is lost. But for tabs and newlines, each character that `strip` leaves of the bytes is in the text, or was overwritten,
-/// erased, deleted or parted in its line. Nor is anything made: but for blanks and newlines, each came, by itself or by REP.
+/// erased, deleted or parted in its line, or is a blank of a line that was left with blanks alone. Nor is anything made: but for blanks
+/// and newlines, each came, by itself or by REP.
 pub fn nothing_lost()
     ensures lost { NothingLost }
     ensures made { NothingMade }

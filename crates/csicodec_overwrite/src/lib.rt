@@ -6,6 +6,7 @@ mod cells;
 mod front;
 pub mod laws;
 mod line;
+mod marking;
 mod overwriter;
 mod page;
 mod paint;
@@ -17,6 +18,7 @@ mod sides;
 mod step;
 mod text;
 
+pub use marking::Marking;
 pub use overwriter::Overwriter;
 pub use page::html_overwritten_all;
 pub use run::overwrite_all;

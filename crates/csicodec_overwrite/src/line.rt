@@ -1,15 +1,16 @@
 //! A line and its cursor.
-ghost use Rattle.std.specs.Prelude.{◌≡◌, ◌-◌, ◌++◌, [], true, OnOk};
+ghost use Rattle.std.specs.Prelude.{◌≡◌, ◌-◌, ◌++◌, [], false, true, IfOk, OnOk};
 ghost use Rattle.std.specs.List.{AllByRecursion};
 ghost use Rattle.csicodec_overwrite.specs.Cells.{columns, glyph, onto};
-ghost use Rattle.csicodec_overwrite.specs.Line.{at_column, back, behind_columns, blank, cells_of, delete, do_all, does, erase, erase_all, erase_left, erase_right, fits, forward, from_stop, insert, leave, line, lines_of, over, parted, pen_behind, pen_behind_all, placed, put, repeated, restored, size, target, to_stop};
+ghost use Rattle.csicodec_overwrite.specs.Line.{at_column, back, behind_columns, blank, cells_of, delete, do_all, does, erase, erase_all, erase_left, erase_right, fits, forward, from_stop, in_row, insert, leave, line, lines_of, over, parted, pen_behind, pen_behind_all, placed, put, repeated, restored, size, target, to_stop};
 ghost use Rattle.csicodec_overwrite.specs.Paint.{ended, text_of, texts_of};
-ghost use Rattle.csicodec_overwrite.specs.Private.Plain.{GoesBehind, IsLineByte};
+ghost use Rattle.csicodec_overwrite.specs.Private.Plain.{IsLineByte, PutsRun};
 ghost use Rattle.csicodec_overwrite.specs.Steps.{of_chars};
-ghost use Rattle.csicodec_overwrite.specs.declared.step.Step.TheVariants.{Put, Tab};
+ghost use Rattle.csicodec_overwrite.specs.declared.step.Step.TheVariants.{Tab};
 
-use crate::ascii::plain_step;
+use crate::ascii::{next_char, plain_step};
 use crate::cells::{Cell, Glyph, Side};
+use crate::marking::Marking;
 use crate::paint::append_cells;
 use crate::pen::Pen;
 use crate::sides::{delete_columns, erase_columns, loosen, move_all, undo, width};
@@ -214,26 +215,26 @@ impl Line {
         delete_columns(&mut self.right, columns)
     }
 
-    /// Takes all that stands there, and appends its text, painted or not.
-    pub fn take_text(&mut self, painted: bool, out: &mut Vec<u8>) -> Result<(), AllocError>
+    /// Takes all that stands there, and appends its text.
+    pub fn take_text(&mut self, marking: &Marking, out: &mut Vec<u8>) -> Result<(), AllocError>
         ensures text { OnOk result
-            (out.new.items ≡ out.old.items ++ text_of painted (cells_of self.old)) }
+            (out.new.items ≡ out.old.items ++ text_of marking.now (cells_of self.old)) }
         ensures none { OnOk result (self.new ≡ blank) }
     {
         move_all(&mut self.right, &mut self.left)?;
         self.left.trim();
-        append_cells(self.left.from_farthest(), painted, out)?;
+        append_cells(self.left.from_farthest(), marking, out)?;
         self.left.clear();
         Ok(())
     }
 
     /// Ends the line.
-    pub(crate) fn end(&mut self, painted: bool, out: &mut Vec<u8>) -> Result<(), AllocError>
+    pub(crate) fn end(&mut self, marking: &Marking, out: &mut Vec<u8>) -> Result<(), AllocError>
         ensures text { OnOk result
-            (out.new.items ≡ out.old.items ++ ended painted (cells_of self.old)) }
+            (out.new.items ≡ out.old.items ++ ended marking.now (cells_of self.old)) }
         ensures none { OnOk result (self.new ≡ blank) }
     {
-        self.take_text(painted, out)?;
+        self.take_text(marking, out)?;
         out.push(b'\n')?;
         Ok(())
     }
@@ -250,31 +251,31 @@ impl Line {
     }
 
     /// Appends what stands on the left, the farthest first, and a newline.
-    fn end_left(&mut self, painted: bool, out: &mut Vec<u8>) -> Result<(), AllocError>
+    fn end_left(&mut self, marking: &Marking, out: &mut Vec<u8>) -> Result<(), AllocError>
         requires { self.old.right ≡ [] }
         ensures text { OnOk result
-            (out.new.items ≡ out.old.items ++ ended painted (onto self.old.left [])) }
+            (out.new.items ≡ out.old.items ++ ended marking.now (onto self.old.left [])) }
         ensures none { OnOk result (self.new ≡ blank) }
     {
-        append_cells(self.left.from_farthest(), painted, out)?;
+        append_cells(self.left.from_farthest(), marking, out)?;
         self.left.clear();
         out.push(b'\n')?;
         Ok(())
     }
 
-    /// Ends the line, if anything stands in it.
-    fn end_some(&mut self, painted: bool, out: &mut Vec<u8>) -> Result<(), AllocError>
+    /// Ends the line, if more than blanks stands in it.
+    fn end_some(&mut self, marking: &Marking, out: &mut Vec<u8>) -> Result<(), AllocError>
         ensures text { OnOk result
-            (out.new.items ≡ out.old.items ++ texts_of painted (lines_of self.old)) }
+            (out.new.items ≡ out.old.items ++ texts_of marking.now (lines_of self.old)) }
         ensures none { OnOk result (self.new ≡ blank) }
     {
         move_all(&mut self.right, &mut self.left)?;
         self.left.trim();
-        if self.left.len() == 0 {
+        if self.left.shows_nothing() {
             self.left.clear();
             return Ok(());
         }
-        self.end_left(painted, out)
+        self.end_left(marking, out)
     }
 
     /// To another row, or maybe so: to this column, or to the same.
@@ -282,16 +283,26 @@ impl Line {
         &mut self,
         limit: usize,
         to: Option<u32>,
-        painted: bool,
+        marking: &Marking,
         out: &mut Vec<u8>,
     ) -> Result<(), AllocError>
         ensures line { OnOk result (self.new ≡ (leave limit to self.old).line) }
         ensures text { OnOk result
-            (out.new.items ≡ out.old.items ++ texts_of painted (leave limit to self.old).lines) }
+            (out.new.items ≡ out.old.items ++ texts_of marking.now (leave limit to self.old).lines) }
     {
         let column = self.target(to);
-        self.end_some(painted, out)?;
+        self.end_some(marking, out)?;
         self.forward(limit, column)
+    }
+
+    /// To this column of the same row, or to the same column.
+    fn in_row(&mut self, limit: usize, to: Option<u32>) -> Result<(), AllocError>
+        ensures { OnOk result (self.new ≡ in_row limit to self.old) }
+    {
+        match to {
+            Some(column) => self.to_column(limit, column),
+            None => Ok(()),
+        }
     }
 
     /// To the saved place, or to another row.
@@ -299,32 +310,18 @@ impl Line {
         &mut self,
         limit: usize,
         pen: &Pen,
-        painted: bool,
+        marking: &Marking,
         out: &mut Vec<u8>,
     ) -> Result<(), AllocError>
         ensures line { OnOk result (self.new ≡ (restored limit pen.now self.old).line) }
         ensures text { OnOk result
-            (out.new.items ≡ out.old.items ++ texts_of painted (restored limit pen.now self.old).lines) }
+            (out.new.items ≡ out.old.items ++ texts_of marking.now (restored limit pen.now self.old).lines) }
     {
         if pen.here {
             return self.behind_columns(limit, pen.saved);
         }
-        self.end_some(painted, out)?;
+        self.end_some(marking, out)?;
         self.forward(limit, pen.saved.min(WIDEST as usize - 1))
-    }
-
-    /// Whether the character takes one cell, behind all that stands there.
-    #[tactic(auto, using(crate::proofs::Moved::no_cells))]
-    fn goes_behind(&self, limit: usize, pen: &Pen, char: char) -> bool
-        ensures { result ≡ true → GoesBehind limit pen.now char self.now }
-    {
-        if char < ' ' || char >= '\u{7f}' || pen.inserts {
-            return false;
-        }
-        if self.right.len() > 0 {
-            return false;
-        }
-        self.left.len() < limit
     }
 
     /// Puts a character, on a line of its own where this has no room for it.
@@ -333,13 +330,13 @@ impl Line {
         limit: usize,
         pen: &Pen,
         char: char,
-        painted: bool,
+        marking: &Marking,
         out: &mut Vec<u8>,
     ) -> Result<(), AllocError>
         ensures line { OnOk result
             (self.new ≡ (put limit pen.now.inserts (glyph char pen.now.look) self.old).line) }
         ensures text { OnOk result (out.new.items ≡ out.old.items
-            ++ texts_of painted (put limit pen.now.inserts (glyph char pen.now.look) self.old).lines) }
+            ++ texts_of marking.now (put limit pen.now.inserts (glyph char pen.now.look) self.old).lines) }
     {
         let glyph = Glyph {
             char,
@@ -349,7 +346,7 @@ impl Line {
         if self.fits(limit, columns) {
             return self.place(pen.inserts, glyph, columns);
         }
-        self.end(painted, out)?;
+        self.end(marking, out)?;
         self.place(pen.inserts, glyph, width(char, 0))
     }
 
@@ -359,20 +356,20 @@ impl Line {
         limit: usize,
         pen: &Pen,
         count: u32,
-        painted: bool,
+        marking: &Marking,
         out: &mut Vec<u8>,
     ) -> Result<(), AllocError>
         ensures line { OnOk result
             (self.new ≡ (repeated limit pen.now pen.now.last count self.old).line) }
         ensures text { OnOk result (out.new.items ≡ out.old.items
-            ++ texts_of painted (repeated limit pen.now pen.now.last count self.old).lines) }
+            ++ texts_of marking.now (repeated limit pen.now pen.now.last count self.old).lines) }
     {
         let Some(char) = pen.last else {
             return Ok(());
         };
         let mut left = count;
         while left > 0 {
-            self.put(limit, pen, char, painted, out)?;
+            self.put(limit, pen, char, marking, out)?;
             left -= 1;
         }
         Ok(())
@@ -383,15 +380,15 @@ impl Line {
         &mut self,
         limit: usize,
         pen: &Pen,
-        painted: bool,
+        marking: &Marking,
         out: &mut Vec<u8>,
     ) -> Result<(), AllocError>
         ensures line { OnOk result (self.new ≡ (does limit pen.now Tab self.old).line) }
         ensures text { OnOk result
-            (out.new.items ≡ out.old.items ++ texts_of painted (does limit pen.now Tab self.old).lines) }
+            (out.new.items ≡ out.old.items ++ texts_of marking.now (does limit pen.now Tab self.old).lines) }
     {
         if self.right.len() == 0 {
-            return self.put(limit, pen, '\t', painted, out);
+            return self.put(limit, pen, '\t', marking, out);
         }
         let count = width('\t', self.left.columns());
         self.forward(limit, count)
@@ -403,20 +400,20 @@ impl Line {
         limit: usize,
         pen: &Pen,
         step: &Step,
-        painted: bool,
+        marking: &Marking,
         out: &mut Vec<u8>,
     ) -> Result<(), AllocError>
         ensures line { OnOk result (self.new ≡ (does limit pen.now step.now self.old).line) }
         ensures text { OnOk result
-            (out.new.items ≡ out.old.items ++ texts_of painted (does limit pen.now step.now self.old).lines) }
+            (out.new.items ≡ out.old.items ++ texts_of marking.now (does limit pen.now step.now self.old).lines) }
     {
         match *step {
-            Step::Put(char) => self.put(limit, pen, char, painted, out),
-            Step::Repeat(count) => self.repeat(limit, pen, count, painted, out),
-            Step::Tab => self.tab(limit, pen, painted, out),
+            Step::Put(char) => self.put(limit, pen, char, marking, out),
+            Step::Repeat(count) => self.repeat(limit, pen, count, marking, out),
+            Step::Tab => self.tab(limit, pen, marking, out),
             Step::Tabs(count) => self.tabs(limit, count),
             Step::TabsBack(count) => self.tabs_back(count),
-            Step::NewLine => self.end(painted, out),
+            Step::NewLine => self.end(marking, out),
             Step::Right(count) => self.forward(limit, count as usize),
             Step::Left(count) => self.back(count as usize),
             Step::Column(column) => self.to_column(limit, column),
@@ -426,38 +423,12 @@ impl Line {
             Step::Erase(count) => self.erase(count),
             Step::Delete(count) => self.delete(count),
             Step::Insert(count) => self.insert(limit, count),
-            Step::Restore => self.restore(limit, pen, painted, out),
-            Step::Leave(to) => self.leave(limit, to, painted, out),
+            Step::Restore => self.restore(limit, pen, marking, out),
+            Step::Row(row, to) if pen.is_in(row) => self.in_row(limit, to),
+            Step::Row(_, to) | Step::Leave(to) => self.leave(limit, to, marking, out),
             Step::Attribute(_) | Step::Inserts(_) => Ok(()),
             Step::Save | Step::Reset | Step::Other => Ok(()),
         }
-    }
-
-    /// Puts a character, at once where it takes one cell behind all that stands there, and behind it characters are put as `pen` says then.
-    #[inline(always)]
-    fn take_char(
-        &mut self,
-        limit: usize,
-        pen: &mut Pen,
-        char: char,
-        painted: bool,
-        out: &mut Vec<u8>,
-    ) -> Result<(), AllocError>
-        ensures line { OnOk result (self.new ≡ (does limit pen.old (Put char) self.old).line) }
-        ensures pen { OnOk result (pen.new ≡ pen_behind pen.old (Put char) (columns self.old.left)) }
-        ensures text { OnOk result
-            (out.new.items ≡ out.old.items ++ texts_of painted (does limit pen.old (Put char) self.old).lines) }
-    {
-        if self.goes_behind(limit, pen, char) {
-            let look = pen.look;
-            self.left.push(Cell::Char(Glyph { char, look }))?;
-            pen.last = Some(char);
-            return Ok(());
-        }
-        let column = self.left.columns();
-        self.put(limit, pen, char, painted, out)?;
-        pen.take(Step::Put(char), column);
-        Ok(())
     }
 
     /// Does a step, and behind it characters are put as `pen` says then.
@@ -467,20 +438,26 @@ impl Line {
         limit: usize,
         pen: &mut Pen,
         step: &Step,
-        painted: bool,
+        marking: &Marking,
         out: &mut Vec<u8>,
     ) -> Result<(), AllocError>
         ensures line { OnOk result (self.new ≡ (does limit pen.old step.now self.old).line) }
         ensures pen { OnOk result (pen.new ≡ pen_behind pen.old step.now (columns self.old.left)) }
         ensures text { OnOk result
-            (out.new.items ≡ out.old.items ++ texts_of painted (does limit pen.old step.now self.old).lines) }
+            (out.new.items ≡ out.old.items ++ texts_of marking.now (does limit pen.old step.now self.old).lines) }
     {
-        if let Step::Put(char) = *step {
-            return self.take_char(limit, pen, char, painted, out);
+        match *step {
+            Step::Other => pen.last = None,
+            Step::Attribute(attribute) => {
+                pen.last = None;
+                pen.look = pen.look.behind(&attribute);
+            }
+            _ => {
+                let column = self.left.columns();
+                self.act(limit, pen, step, marking, out)?;
+                pen.take(*step, column);
+            }
         }
-        let column = self.left.columns();
-        self.act(limit, pen, step, painted, out)?;
-        pen.take(*step, column);
         Ok(())
     }
 
@@ -490,21 +467,62 @@ impl Line {
         limit: usize,
         pen: &mut Pen,
         steps: &[Step],
-        painted: bool,
+        marking: &Marking,
         out: &mut Vec<u8>,
     ) -> Result<(), AllocError>
         ensures line { OnOk result
             (self.new ≡ (do_all limit pen.old steps.now self.old).line) }
         ensures pen { OnOk result (pen.new ≡ pen_behind_all limit pen.old steps.now self.old) }
         ensures text { OnOk result (out.new.items
-            ≡ out.old.items ++ texts_of painted (do_all limit pen.old steps.now self.old).lines) }
+            ≡ out.old.items ++ texts_of marking.now (do_all limit pen.old steps.now self.old).lines) }
     {
         let mut rest = steps;
         while let Some((step, behind)) = rest.split_first() {
-            self.take(limit, pen, step, painted, out)?;
+            self.take(limit, pen, step, marking, out)?;
             rest = behind;
         }
         Ok(())
+    }
+
+    /// Whether characters go behind all that stands there.
+    #[tactic(auto, using(crate::proofs::Moved::no_cells))]
+    fn goes_behind(&self, pen: &Pen) -> bool
+        ensures { result ≡ true → (pen.now.inserts ≡ false) × (self.now.right ≡ []) }
+    {
+        if pen.inserts {
+            return false;
+        }
+        if self.right.len() > 0 {
+            return false;
+        }
+        true
+    }
+
+    /// Puts the characters in front that take one cell each, behind all that stands there, and answers the others.
+    #[inline(always)]
+    #[tactic(auto, using(crate::proofs::Straight::run_none))]
+    fn put_run<'a>(
+        &mut self,
+        limit: usize,
+        pen: &mut Pen,
+        text: &'a [u8],
+    ) -> Result<&'a [u8], AllocError>
+        requires { AllByRecursion IsLineByte text.now }
+        ensures { IfOk result
+            (λ rest. PutsRun limit pen.old self.old text.now rest.now pen.new self.new) }
+    {
+        if !self.goes_behind(pen) {
+            return Ok(text);
+        }
+        let (look, mut room) = (pen.look, self.room(limit));
+        let mut rest = text;
+        while let Some((char, behind)) = next_char(rest, room) {
+            self.left.push(Cell::Char(Glyph { char, look }))?;
+            pen.last = Some(char);
+            room -= 1;
+            rest = behind;
+        }
+        Ok(rest)
     }
 
     /// The same of the steps of text of ASCII without a control but tabs.
@@ -513,7 +531,7 @@ impl Line {
         limit: usize,
         pen: &mut Pen,
         text: &[u8],
-        painted: bool,
+        marking: &Marking,
         out: &mut Vec<u8>,
     ) -> Result<(), AllocError>
         requires { AllByRecursion IsLineByte text.now }
@@ -522,12 +540,12 @@ impl Line {
         ensures pen { OnOk result
             (pen.new ≡ pen_behind_all limit pen.old (of_chars text.now) self.old) }
         ensures text { OnOk result (out.new.items ≡ out.old.items
-            ++ texts_of painted (do_all limit pen.old (of_chars text.now) self.old).lines) }
+            ++ texts_of marking.now (do_all limit pen.old (of_chars text.now) self.old).lines) }
     {
-        let mut rest = text;
+        let mut rest = self.put_run(limit, pen, text)?;
         while let Some((byte, behind)) = rest.split_first() {
-            self.take(limit, pen, &plain_step(*byte), painted, out)?;
-            rest = behind;
+            self.take(limit, pen, &plain_step(*byte), marking, out)?;
+            rest = self.put_run(limit, pen, behind)?;
         }
         Ok(())
     }

@@ -1,14 +1,17 @@
 //! A stream of which each line is overwritten, as it comes.
 ghost use Rattle.std.specs.Prelude.{◌≡◌, ◌≤◌, ◌<◌, ◌++◌, ℕ, List, OnOk, IfNone, IfOk, IfSome, false, length, true};
 ghost use Rattle.csicodec_overwrite.specs.Line.{blank};
+ghost use Rattle.csicodec_overwrite.specs.Paint.{shows_looks};
 ghost use Rattle.csicodec_overwrite.specs.Private.Plain.{PutsPlain, end_of};
 ghost use Rattle.csicodec_overwrite.specs.Private.Seen.{PassesFront};
 ghost use Rattle.csicodec_overwrite.specs.Stream.{Ending, Passes, begun, begun_as, none_held};
+ghost use Rattle.csicodec_overwrite.specs.declared.marking.Marking.TheVariants.{Styled};
 
 use crate::ascii::{InLine, behind_end, odd_len, split_lines};
 use crate::front::append_front;
 use crate::line::Line;
-use crate::paint::append_turned;
+use crate::marking::Marking;
+use crate::paint::{append_ascii, append_turn};
 use crate::pen::Pen;
 use crate::reader::Reader;
 use crate::step::Step;
@@ -24,7 +27,7 @@ const PATIENCE: u32 = 4;
 
 const EVERY: usize = 8;
 
-/// A stream as it comes, of which each line is written as it stands when it ends, as plain text or painted.
+/// A stream as it comes, of which each line is written as it stands when it ends, as plain text, painted or as a page.
 ///
 /// It holds the line that isn't over, of at most 65,536 cells, a control sequence that isn't, of fewer than 65,536 bytes, and at most
 /// 1,024 slices of 32 bytes that came before, with their steps. After an `Err` it and what was appended are of no more use.
@@ -33,8 +36,8 @@ pub struct Overwriter {
     reader: Reader,
     /// How characters are put that come now.
     pen: Pen,
-    /// Whether lines are written with how they look.
-    painted: bool,
+    /// As what lines are written.
+    marking: Marking,
     line: Line,
     /// A place that is kept for the steps of a slice.
     steps: Vec<Step>,
@@ -49,7 +52,7 @@ impl Model for Overwriter {
 
     ghost Value = { Now };
 
-    ghost view = { λ o. record { reader = o.reader; pen = o.pen; painted = o.painted; line = o.line } };
+    ghost view = { λ o. record { reader = o.reader; pen = o.pen; marking = o.marking; line = o.line } };
 }
 
 impl Overwriter {
@@ -57,24 +60,24 @@ impl Overwriter {
     pub fn new(alloc: Global) -> Overwriter
         ensures { result ≡ begun }
     {
-        Overwriter::writing(alloc, false)
+        Overwriter::writing(alloc, Marking::Plain)
     }
 
     /// The same, painted: with the sequences that set how characters look (SGR), and at the end of each line nothing is set.
     pub fn painting(alloc: Global) -> Overwriter
-        ensures { result ≡ begun_as true }
+        ensures { result ≡ begun_as Styled }
     {
-        Overwriter::writing(alloc, true)
+        Overwriter::writing(alloc, Marking::Styled)
     }
 
-    /// The one or the other.
-    fn writing(alloc: Global, painted: bool) -> Overwriter
-        ensures { result ≡ begun_as painted }
+    /// The same, as what lines are to be written.
+    pub fn writing(alloc: Global, marking: Marking) -> Overwriter
+        ensures { result ≡ begun_as marking }
     {
         Overwriter {
             reader: Reader::new(alloc),
             pen: Pen::new(),
-            painted,
+            marking,
             line: Line::new(alloc),
             steps: Vec::new(alloc),
             crooked: usize::MAX,
@@ -105,7 +108,7 @@ impl Overwriter {
     {
         let (text, rest) = split_front::<InLine>(bytes);
         self.line
-            .put_text(LIMIT, &mut self.pen, text, self.painted, out)?;
+            .put_text(LIMIT, &mut self.pen, text, &self.marking, out)?;
         Ok(rest)
     }
 
@@ -119,7 +122,7 @@ impl Overwriter {
         self.steps.clear();
         self.reader.push(bytes, &mut self.steps)?;
         self.line
-            .take_all(LIMIT, &mut self.pen, &self.steps, self.painted, out)?;
+            .take_all(LIMIT, &mut self.pen, &self.steps, &self.marking, out)?;
         Ok(())
     }
 
@@ -157,7 +160,7 @@ impl Overwriter {
             × (out.new.items ≡ out.old.items ++ text)) }
         ensures reader { OnOk result (self.new.reader ≡ none_held) }
     {
-        self.line.end(self.painted, out)?;
+        self.line.end(&self.marking, out)?;
         self.pen.take(Step::NewLine, 0);
         Ok(())
     }
@@ -178,15 +181,15 @@ impl Overwriter {
         ensures reader { OnOk result (self.new.reader ≡ none_held) }
     {
         let before = out.len();
-        let (pen, painted) = (self.pen, self.painted);
-        let front = append_front(&mut self.reader, &mut self.steps, pen, painted, bytes, out)?;
+        let (pen, marking) = (self.pen, &self.marking);
+        let front = append_front(&mut self.reader, &mut self.steps, pen, marking, bytes, out)?;
         let Some(rest) = behind_end(front.rest) else {
             out.truncate(before);
             self.crooked = front.rest.len();
             self.missed = self.missed.saturating_add(1);
             return Ok(None);
         };
-        append_turned(self.painted, &front.last, &Look::plain(), out)?;
+        append_turn(&self.marking, &front.last, &Look::plain(), out)?;
         out.push(b'\n')?;
         self.missed = 0;
         self.pen.look = front.now;
@@ -197,9 +200,9 @@ impl Overwriter {
     /// Whether lines of text alone may begin here that are written as they are.
     fn is_straight(&self) -> bool
         ensures { result ≡ true
-            → (self.now.line ≡ blank) × PutsPlain self.now.painted self.now.pen }
+            → (self.now.line ≡ blank) × PutsPlain (shows_looks self.now.marking) self.now.pen }
     {
-        self.line.is_blank() && self.pen.puts_plain(self.painted)
+        self.line.is_blank() && self.pen.puts_plain(self.marking.shows_looks())
     }
 
     /// Takes lines of text alone in front that are written as they are, if they are likely, and answers what is behind them.
@@ -218,7 +221,7 @@ impl Overwriter {
             && self.is_straight()
             && let Some((lines, rest)) = split_lines(bytes, LIMIT / 8)
         {
-            out.extend_from_slice(lines)?;
+            append_ascii(&self.marking, lines, out)?;
             self.pen.take(Step::NewLine, 0);
             return Ok(rest);
         }
@@ -240,9 +243,9 @@ impl Overwriter {
         if self.begins_line(bytes)
             && let Some(rest) = self.take_line(bytes, out)?
         {
-            // Behind a line that was written as it is, others are likely.
+            // Behind a line of which all was written, others are likely that are text alone.
             let taken = bytes.len().saturating_sub(rest.len());
-            let is_likely = out.len().saturating_sub(before) == taken;
+            let is_likely = out.len().saturating_sub(before) >= taken;
             let far = self.take_lines(is_likely, rest, out)?;
             return Ok(far);
         }
@@ -294,8 +297,8 @@ impl Overwriter {
         self.steps.clear();
         self.reader.finish(&mut self.steps)?;
         self.line
-            .take_all(LIMIT, &mut self.pen, &self.steps, self.painted, out)?;
-        self.line.take_text(self.painted, out)?;
+            .take_all(LIMIT, &mut self.pen, &self.steps, &self.marking, out)?;
+        self.line.take_text(&self.marking, out)?;
         Ok(())
     }
 }

@@ -4,8 +4,10 @@ ghost use Rattle.std.specs.Io.KnownBytes.{Appends, Consumes, IsAtEnd};
 ghost use Rattle.csicodec_html.specs.Page.{IsPageWith, PageWith};
 ghost use Rattle.csicodec_overwrite.specs.Reading.{Paints};
 
+use crate::marking::Marking;
 use crate::overwriter::Overwriter;
-use csicodec_html::{Markup, html_through};
+use csicodec_filter::transform_all;
+use csicodec_html::Markup;
 use csicodec_streams::RunError;
 use std::alloc::Global;
 use std::io::{Read, Write};
@@ -41,5 +43,6 @@ pub fn html_overwritten_all<R: Read, W: Write>(
         × PageWith markup painted (sent ++ unsent) × IsPageWith markup (sent ++ unsent)
         × Appends (W.contents output.old) (W.contents output.new) sent) }
 {
-    html_through(alloc, markup, Overwriter::painting(alloc), input, output)
+    let pages = Overwriter::writing(alloc, Marking::Page(markup));
+    transform_all(alloc, pages, input, output)
 }

@@ -1,15 +1,18 @@
-//! A line as text: its characters alone, or painted, with the sequences that set how they look.
-ghost use Rattle.std.specs.Prelude.{◌≡◌, ◌∷◌, ◌++◌, [], IfOk, OnOk, encode_utf8_all, not, true};
-ghost use Rattle.std.specs.List.{flat_map};
+//! A line as it is written: its characters alone, or with what says how they look.
+ghost use Rattle.std.specs.Prelude.{◌≡◌, ◌∷◌, ◌++◌, [], OnOk, encode_utf8_all, not, true};
+ghost use Rattle.std.specs.List.{AllByRecursion, flat_map};
+ghost use Rattle.csicodec_clean.specs.Bytes.{IsPlainByte};
 ghost use Rattle.csicodec_html.specs.Look.{is_default, is_none, is_normal, plain};
+ghost use Rattle.csicodec_html.specs.Page.{escaped};
 ghost use Rattle.csicodec_overwrite.specs.Cells.{chars_of, is_empty};
-ghost use Rattle.csicodec_overwrite.specs.Paint.{further, given, look_of, look_text, paint, same, same_color, same_flag, same_intensity, same_underline, text_of, turn};
-ghost use Rattle.csicodec_overwrite.specs.Private.Front.{turned};
+ghost use Rattle.csicodec_overwrite.specs.Paint.{further, given, look_of, look_text, paint, same, same_color, same_flag, same_intensity, same_underline, text_of, turn, written};
+ghost use Rattle.csicodec_overwrite.specs.declared.marking.Marking.TheVariants.{Page, Styled};
 
 use crate::cells::Cell;
+use crate::marking::Marking;
 use bstr::ByteVec;
 use csicodec_base::{ColorSpec, Intensity, Sgr, Underline};
-use csicodec_html::Look;
+use csicodec_html::{Look, Markup, append_text, append_turn as append_tags};
 use csicodec_tokens::Text;
 use std::alloc::AllocError;
 
@@ -127,8 +130,8 @@ fn append_look(look: &Look, out: &mut Vec<u8>) -> Result<(), AllocError>
 
 /// Appends the sequence between two looks, where they aren't one.
 #[inline(always)]
-fn append_turn(old: &Look, new: &Look, out: &mut Vec<u8>) -> Result<(), AllocError>
-    ensures { OnOk result (out.new.items ≡ out.old.items ++ turn old.now new.now) }
+fn append_styled_turn(old: &Look, new: &Look, out: &mut Vec<u8>) -> Result<(), AllocError>
+    ensures { OnOk result (out.new.items ≡ out.old.items ++ turn Styled old.now new.now) }
 {
     if same(old, new) {
         return Ok(());
@@ -136,19 +139,55 @@ fn append_turn(old: &Look, new: &Look, out: &mut Vec<u8>) -> Result<(), AllocErr
     append_look(new, out)
 }
 
-/// The same where lines are painted.
-pub(crate) fn append_turned(
-    painted: bool,
+/// The same with the tags of a page.
+#[inline(always)]
+fn append_paged_turn(
+    markup: &Markup,
     old: &Look,
     new: &Look,
     out: &mut Vec<u8>,
 ) -> Result<(), AllocError>
-    ensures { OnOk result (out.new.items ≡ out.old.items ++ turned painted old.now new.now) }
+    ensures { OnOk result (out.new.items ≡ out.old.items ++ turn (Page markup.now) old.now new.now) }
 {
-    if painted {
-        return append_turn(old, new, out);
+    if same(old, new) {
+        return Ok(());
     }
-    Ok(())
+    append_tags(markup, *old, *new, out)
+}
+
+/// Appends what is written between two looks.
+#[inline(always)]
+pub(crate) fn append_turn(
+    marking: &Marking,
+    old: &Look,
+    new: &Look,
+    out: &mut Vec<u8>,
+) -> Result<(), AllocError>
+    ensures { OnOk result (out.new.items ≡ out.old.items ++ turn marking.now old.now new.now) }
+{
+    match marking {
+        Marking::Plain => Ok(()),
+        Marking::Styled => append_styled_turn(old, new, out),
+        Marking::Page(markup) => append_paged_turn(markup, old, new, out),
+    }
+}
+
+/// The same where it may be known that they are one.
+#[inline(always)]
+fn append_turn_unless(
+    is_one: bool,
+    marking: &Marking,
+    old: &Look,
+    new: &Look,
+    out: &mut Vec<u8>,
+) -> Result<(), AllocError>
+    requires { is_one ≡ true → old.now ≡ new.now }
+    ensures { OnOk result (out.new.items ≡ out.old.items ++ turn marking.now old.now new.now) }
+{
+    if is_one {
+        return Ok(());
+    }
+    append_turn(marking, old, new, out)
 }
 
 /// How a cell looks behind others that look so; an empty one looks as `none`.
@@ -164,31 +203,47 @@ fn look_of<'a>(look: &'a Look, none: &'a Look, cell: &'a Cell) -> &'a Look
     }
 }
 
-/// Appends what sets how a cell looks behind others that look so, and answers how that is. One empty cell looks as another.
+/// Whether a cell is empty, and so is the one before it.
 #[inline(always)]
-fn append_next<'a>(
-    look: &'a Look,
-    none: &'a Look,
-    is_blank: bool,
-    cell: &'a Cell,
-    out: &mut Vec<u8>,
-) -> Result<&'a Look, AllocError>
-    requires none { none.now ≡ plain }
-    requires blank { is_blank ≡ true → look.now ≡ plain }
-    ensures look { IfOk result (λ next. next.now ≡ look_of look.now cell.now) }
-    ensures text { OnOk result
-        (out.new.items ≡ out.old.items ++ turn look.now (look_of look.now cell.now)) }
-    ensures blank { OnOk result (is_empty cell.now ≡ true → look_of look.now cell.now ≡ plain) }
+fn are_blank(is_blank: bool, cell: &Cell) -> bool
+    ensures { result ≡ true → (is_blank ≡ true) × (is_empty cell.now ≡ true) }
 {
-    let next = look_of(look, none, cell);
-    if is_blank && cell.is_empty() {
-        return Ok(next);
-    }
-    append_turn(look, next, out)?;
-    Ok(next)
+    is_blank && cell.is_empty()
 }
 
-/// Appends a character.
+/// Appends text of ASCII as it is.
+fn append_same(text: &[u8], out: &mut Vec<u8>) -> Result<(), AllocError>
+    ensures { OnOk result (AllByRecursion IsPlainByte text.now
+        → out.new.items ≡ out.old.items ++ encode_utf8_all text.now) }
+{
+    out.extend_from_slice(text)?;
+    Ok(())
+}
+
+/// Appends text of ASCII as it stands on a page.
+fn append_escaped(text: &[u8], out: &mut Vec<u8>) -> Result<(), AllocError>
+    ensures { OnOk result (AllByRecursion IsPlainByte text.now
+        → out.new.items ≡ out.old.items ++ flat_map escaped text.now) }
+{
+    append_text(text, out)
+}
+
+/// Appends text of ASCII.
+pub(crate) fn append_ascii(
+    marking: &Marking,
+    text: &[u8],
+    out: &mut Vec<u8>,
+) -> Result<(), AllocError>
+    ensures { OnOk result (AllByRecursion IsPlainByte text.now
+        → out.new.items ≡ out.old.items ++ written marking.now text.now) }
+{
+    match marking {
+        Marking::Plain | Marking::Styled => append_same(text, out),
+        Marking::Page(_) => append_escaped(text, out),
+    }
+}
+
+/// Appends a character of text.
 #[inline(always)]
 fn append_char(char: char, out: &mut Vec<u8>) -> Result<(), AllocError>
     ensures { OnOk result (out.new.items ≡ out.old.items ++ encode_utf8_all (char ∷ [])) }
@@ -199,15 +254,35 @@ fn append_char(char: char, out: &mut Vec<u8>) -> Result<(), AllocError>
     out.push_char(char)
 }
 
-/// Appends the characters of a cell.
+/// Appends a character as it stands on a page.
 #[inline(always)]
-fn append_cell(cell: Cell, out: &mut Vec<u8>) -> Result<(), AllocError>
-    ensures { OnOk result (out.new.items ≡ out.old.items ++ encode_utf8_all (chars_of cell)) }
+fn append_reference(char: char, out: &mut Vec<u8>) -> Result<(), AllocError>
+    ensures { OnOk result (out.new.items ≡ out.old.items ++ flat_map escaped (char ∷ [])) }
+{
+    csicodec_html::append_char(char, out)
+}
+
+/// Appends a character.
+#[inline(always)]
+fn append_written(marking: &Marking, char: char, out: &mut Vec<u8>) -> Result<(), AllocError>
+    ensures { OnOk result (out.new.items ≡ out.old.items ++ written marking.now (char ∷ [])) }
+{
+    match marking {
+        Marking::Plain | Marking::Styled => append_char(char, out),
+        Marking::Page(_) => append_reference(char, out),
+    }
+}
+
+/// Appends the characters of a cell.
+#[tactic(auto, using(crate::proofs::Alike::nothing_written))]
+#[inline(always)]
+fn append_cell(marking: &Marking, cell: Cell, out: &mut Vec<u8>) -> Result<(), AllocError>
+    ensures { OnOk result (out.new.items ≡ out.old.items ++ written marking.now (chars_of cell)) }
 {
     match cell {
-        Cell::Empty => append_char(' ', out),
-        Cell::Char(glyph) => append_char(glyph.char, out),
-        Cell::Mark(char) => append_char(char, out),
+        Cell::Empty => append_written(marking, ' ', out),
+        Cell::Char(glyph) => append_written(marking, glyph.char, out),
+        Cell::Mark(char) => append_written(marking, char, out),
         Cell::Behind => Ok(()),
     }
 }
@@ -219,38 +294,41 @@ fn append_plain(cells: &[Cell], out: &mut Vec<u8>) -> Result<(), AllocError>
 {
     let mut rest = cells;
     while let Some((cell, behind)) = rest.split_first() {
-        append_cell(*cell, out)?;
+        append_cell(&Marking::Plain, *cell, out)?;
         rest = behind;
     }
     Ok(())
 }
 
 /// The same, painted: at the end nothing is set.
-fn append_painted(cells: &[Cell], out: &mut Vec<u8>) -> Result<(), AllocError>
-    ensures { OnOk result (out.new.items ≡ out.old.items ++ paint plain cells.now) }
+fn append_painted(cells: &[Cell], marking: &Marking, out: &mut Vec<u8>) -> Result<(), AllocError>
+    ensures { OnOk result (out.new.items ≡ out.old.items ++ paint marking.now plain cells.now) }
 {
     let none = Look::plain();
     let (mut now, mut is_blank) = (&none, false);
     let mut rest = cells;
     while let Some((cell, behind)) = rest.split_first() {
-        now = append_next(now, &none, is_blank, cell, out)?;
-        append_cell(*cell, out)?;
+        let next = look_of(now, &none, cell);
+        let is_one = are_blank(is_blank, cell);
+        append_turn_unless(is_one, marking, now, next, out)?;
+        append_cell(marking, *cell, out)?;
+        now = next;
         is_blank = cell.is_empty();
         rest = behind;
     }
-    append_turn(now, &none, out)
+    append_turn(marking, now, &none, out)
 }
 
-/// Appends cells as text, painted or not.
+/// Appends cells, as lines are written.
 pub(crate) fn append_cells(
     cells: &[Cell],
-    painted: bool,
+    marking: &Marking,
     out: &mut Vec<u8>,
 ) -> Result<(), AllocError>
-    ensures { OnOk result (out.new.items ≡ out.old.items ++ text_of painted cells.now) }
+    ensures { OnOk result (out.new.items ≡ out.old.items ++ text_of marking.now cells.now) }
 {
-    if painted {
-        append_painted(cells, out)
+    if marking.shows_looks() {
+        append_painted(cells, marking, out)
     } else {
         append_plain(cells, out)
     }

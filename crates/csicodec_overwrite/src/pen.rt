@@ -1,6 +1,6 @@
 //! How characters are put, and what is saved.
 ghost use Rattle.std.specs.Prelude.{◌≡◌, true};
-ghost use Rattle.csicodec_overwrite.specs.Line.{fresh, last_behind, pen_behind};
+ghost use Rattle.csicodec_overwrite.specs.Line.{fresh, is_row, last_behind, pen_behind};
 ghost use Rattle.csicodec_overwrite.specs.Private.Plain.{PutsPlain};
 
 use crate::sides::width;
@@ -20,6 +20,8 @@ pub struct Pen {
     pub saved: usize,
     /// Whether that place is in this row.
     pub here: bool,
+    /// The row that was given last (CUP, HVP, VPA), if it wasn't left since.
+    pub row: Option<u32>,
 }
 
 /// What REP repeats behind one more character: a mark isn't repeated.
@@ -43,6 +45,17 @@ impl Pen {
             last: None,
             saved: 0,
             here: false,
+            row: None,
+        }
+    }
+
+    /// Whether this is the row that was given last.
+    pub(crate) fn is_in(&self, row: u32) -> bool
+        ensures { result ≡ is_row self.now.row row }
+    {
+        match self.row {
+            Some(own) => own == row,
+            None => false,
         }
     }
 
@@ -74,8 +87,18 @@ impl Pen {
                 self.saved = column;
                 self.here = true;
             }
-            Step::Restore => self.here = true,
-            Step::NewLine | Step::Leave(_) => self.here = false,
+            Step::Restore => {
+                self.here = true;
+                self.row = None;
+            }
+            Step::NewLine | Step::Leave(_) => {
+                self.here = false;
+                self.row = None;
+            }
+            Step::Row(row, _) => {
+                self.here = self.is_in(row) && self.here;
+                self.row = Some(row);
+            }
             Step::Reset => *self = Pen::new(),
             _ => (),
         }

@@ -15,16 +15,18 @@ use crate::step::Step;
 use crate::text::{
     append_actions, append_escape, append_run, append_string, append_text, append_wrong,
 };
+use csicodec::CSI;
 use csicodec_base::CsiParam;
 use csicodec_clean::{read_as, title_behind};
 use csicodec_spans::{Cutter, Kind, LIMIT, Mode, Waiting};
-use csicodec_terminal::terminal_actions;
+use csicodec_terminal::terminal_actions_into;
 use std::alloc::{AllocError, Global};
 use std::marker::Model;
 
-/// Appends the steps of a control sequence, as terminals take it.
+/// Appends the steps of a control sequence, as terminals take it. `actions` is a place that is kept for its actions.
 fn append_sequence(
     alloc: Global,
+    actions: &mut Vec<CSI>,
     params: &[CsiParam],
     control: char,
     steps: &mut Vec<Step>,
@@ -32,14 +34,15 @@ fn append_sequence(
     ensures { OnOk result ((all : _) × Terminal params.now false control all
         × (steps.new.items ≡ steps.old.items ++ of_sequence all)) }
 {
-    let actions = terminal_actions(alloc, params, false, control)?;
-    append_actions(&actions, steps)?;
+    terminal_actions_into(alloc, params, false, control, actions)?;
+    append_actions(actions, steps)?;
     Ok(steps.push(Step::Other)?)
 }
 
 /// Appends the steps of a span. A span that is no text ends the run of text before it.
 fn append_span(
     alloc: Global,
+    actions: &mut Vec<CSI>,
     params: &[CsiParam],
     control: Option<char>,
     held: &mut Vec<u8>,
@@ -60,7 +63,7 @@ fn append_span(
     append_run(held, steps)?;
     held.clear();
     if let Some(control) = control {
-        return append_sequence(alloc, params, control, steps);
+        return append_sequence(alloc, actions, params, control, steps);
     }
     match kind {
         Kind::Esc => append_escape(bytes, steps),
@@ -77,8 +80,9 @@ pub(crate) struct Reader {
     titled: bool,
     waiting: Waiting,
     held: Vec<u8>,
-    /// A place that is kept for the tokens of a sequence.
+    /// Places that are kept for the tokens and the actions of a sequence.
     params: Vec<CsiParam>,
+    actions: Vec<CSI>,
     /// What came before.
     seen: Seen,
 }
@@ -101,6 +105,7 @@ impl Model for Reader {
 /// `held` are the bytes of the run of text before them that aren't read yet, three at most; `titled` says whether a title is open.
 fn append_steps<'a>(
     alloc: Global,
+    actions: &mut Vec<CSI>,
     params: &mut Vec<CsiParam>,
     held: &mut Vec<u8>,
     titled: &mut bool,
@@ -122,7 +127,9 @@ fn append_steps<'a>(
             return Ok((rest, open));
         };
         let kind = read_as(span.kind, *titled);
-        append_span(alloc, params, control, held, kind, span.bytes, steps)?;
+        append_span(
+            alloc, actions, params, control, held, kind, span.bytes, steps,
+        )?;
         *titled = title_behind(*titled, span.kind, span.bytes);
     }
 }
@@ -138,6 +145,7 @@ impl Reader {
             waiting: Waiting::new(alloc, LIMIT),
             held: Vec::new(alloc),
             params: Vec::new(alloc),
+            actions: Vec::new(alloc),
             seen: Seen::new(alloc),
         }
     }
@@ -174,6 +182,7 @@ impl Reader {
         };
         let (rest, mode) = append_steps(
             self.alloc,
+            &mut self.actions,
             &mut self.params,
             &mut self.held,
             &mut self.titled,

@@ -31,15 +31,43 @@ pub(crate) struct Seen {
 }
 
 /// The place of a slice; one that is long has none.
+#[inline(always)]
 fn place(bytes: &[u8]) -> usize {
     if bytes.len() > LONGEST {
         return PLACES;
     }
+    (number(bytes).wrapping_mul(SPREAD) >> 54) as usize
+}
+
+/// A number for a slice, by all of its bytes.
+#[inline(always)]
+fn number(bytes: &[u8]) -> u64 {
+    if let Some(end) = bytes.last_chunk::<8>() {
+        return long_number(bytes, u64::from_le_bytes(*end));
+    }
+    if let (Some(front), Some(end)) = (bytes.first_chunk::<4>(), bytes.last_chunk::<4>()) {
+        return u64::from(u32::from_le_bytes(*front)) << 32 ^ u64::from(u32::from_le_bytes(*end));
+    }
     let mut number = 0u64;
     for byte in bytes {
-        number = (number ^ u64::from(*byte)).wrapping_mul(SPREAD);
+        number = number << 8 | u64::from(*byte);
     }
-    (number >> 54) as usize
+    number
+}
+
+/// The same of one of more bytes, of which `end` are the last.
+#[inline(always)]
+fn long_number(bytes: &[u8], end: u64) -> u64 {
+    let mut number = end;
+    let mut rest = bytes;
+    for _ in 0..LONGEST / 8 {
+        let Some((front, behind)) = rest.split_first_chunk::<8>() else {
+            return number;
+        };
+        number = (number ^ u64::from_le_bytes(*front)).wrapping_mul(SPREAD);
+        rest = behind;
+    }
+    number
 }
 
 impl Seen {

@@ -1,6 +1,6 @@
 //! What is erased on one side of the cursor.
 ghost use Rattle.std.specs.Prelude.{◌≡◌, [], OnOk};
-ghost use Rattle.csicodec_overwrite.specs.Cells.{emptied, erased, gone, onto, outside, width, without};
+ghost use Rattle.csicodec_overwrite.specs.Cells.{emptied, erased, gone, narrowed, onto, outside, width, without};
 
 use crate::cells::{Cell, Side};
 use std::alloc::AllocError;
@@ -53,6 +53,13 @@ pub(crate) fn move_all(from: &mut Side, to: &mut Side) -> Result<(), AllocError>
     Ok(())
 }
 
+/// The columns that terminals give a character of which the table gives so many: two at most.
+fn narrowed(columns: usize) -> usize
+    ensures { result ≡ narrowed columns }
+{
+    if columns <= 2 { columns } else { 1 }
+}
+
 /// The columns that a character takes behind so many.
 pub(crate) fn width(char: char, column: usize) -> usize
     ensures { result ≡ width char column }
@@ -60,5 +67,5 @@ pub(crate) fn width(char: char, column: usize) -> usize
     if char == '\t' {
         return 8 - column % 8;
     }
-    char.width().unwrap_or(0)
+    narrowed(char.width().unwrap_or(0))
 }

@@ -47,6 +47,9 @@ pub enum Step {
     Reset,
     /// To another row, or maybe so: to this column, or to the same.
     Leave(Option<u32>),
+    /// To this row, and in it to this column, or to the same. That is in the line if it is the row that was given last, and it wasn't left
+    /// since.
+    Row(u32, Option<u32>),
     /// Nothing, but it stands behind the character that was put last.
     Other,
 }

@@ -1,9 +1,10 @@
 //! The steps of text, of escape sequences and of actions.
 ghost use Rattle.std.specs.Prelude.{◌≡◌, ◌≤◌, ◌++◌, ℕ, List, length, map, OnOk, IfOk};
+ghost use Rattle.std.specs.List.{list_any};
 ghost use Rattle.csicodec_actions.specs.Devices.{device_of};
 ghost use Rattle.csicodec_parser.specs.ActionOf.{action_of};
 ghost use Rattle.csicodec_clean.specs.Shown.{IsCut, IsRead};
-ghost use Rattle.csicodec_overwrite.specs.Steps.{as_far, by_code, of_action, of_actions, of_char, of_chars, of_code, of_control, of_cursor, of_device, of_edit, of_escape, of_final, of_mode, of_reset, of_run, of_set, of_string, of_string_byte, of_terminal_mode, of_unread, of_wrong, of_wrong_byte, stops};
+ghost use Rattle.csicodec_overwrite.specs.Steps.{as_far, by_code, is_mark, may_move, of_action, of_actions, of_char, of_chars, of_code, of_control, of_cursor, of_device, of_edit, of_escape, of_final, of_mode, of_reset, of_run, of_set, of_string, of_string_byte, of_terminal_mode, of_unread, of_wrong, of_wrong_byte, stops};
 
 use crate::line::WIDEST;
 use crate::step::Step;
@@ -11,7 +12,9 @@ use csicodec::{
     CSI, Cursor, DecPrivateMode, DecPrivateModeCode, Device, Edit, EraseInDisplay, EraseInLine,
     Mode, TerminalMode, TerminalModeCode,
 };
+use csicodec_base::CsiParam;
 use csicodec_clean::first_sure;
+use csicodec_parser::Unspecified;
 use csicodec_streams::keep_from;
 use std::alloc::AllocError;
 
@@ -145,12 +148,13 @@ fn append_cursor(cursor: &Cursor, steps: &mut Vec<Step>) -> Result<(), AllocErro
         Cursor::BackwardTabulation(count) => steps.push(Step::TabsBack(stops(*count)))?,
         Cursor::SaveCursor => steps.push(Step::Save)?,
         Cursor::RestoreCursor => steps.push(Step::Restore)?,
-        Cursor::Position { col, .. } | Cursor::CharacterAndLinePosition { col, .. } => {
-            steps.push(Step::Leave(Some(as_far(col.as_one_based()))))?;
+        Cursor::Position { line, col } | Cursor::CharacterAndLinePosition { line, col } => {
+            let column = as_far(col.as_one_based());
+            steps.push(Step::Row(line.as_one_based(), Some(column)))?;
         }
+        Cursor::LinePositionAbsolute(row) => steps.push(Step::Row(*row, None))?,
         Cursor::Up(_)
         | Cursor::Down(_)
-        | Cursor::LinePositionAbsolute(_)
         | Cursor::LinePositionForward(_)
         | Cursor::LinePositionBackward(_)
         | Cursor::LineTabulation(_) => steps.push(Step::Leave(None))?,
@@ -275,11 +279,40 @@ fn append_device(device: &Device, steps: &mut Vec<Step>) -> Result<(), AllocErro
     Ok(())
 }
 
-/// Appends what a list does that isn't read: it may move the cursor, unless it is one of SGR or EL.
-fn append_unread(control: char, steps: &mut Vec<Step>) -> Result<(), AllocError>
-    ensures { OnOk result (steps.new.items ≡ steps.old.items ++ of_unread control) }
+/// Whether a token is a private marker or an intermediate byte.
+fn is_mark(token: &CsiParam) -> bool
+    ensures { result ≡ is_mark token.now }
 {
-    if !matches!(control, 'm' | 'K') {
+    match token {
+        CsiParam::Integer(_) => false,
+        CsiParam::P(byte) => *byte < b'0' || b';' < *byte,
+    }
+}
+
+/// Whether one of these stands in a list.
+fn has_mark(params: &[CsiParam]) -> bool
+    ensures { result ≡ list_any is_mark params.now }
+{
+    params.iter().any(is_mark)
+}
+
+/// Whether a list of which no action is read may move the cursor.
+fn may_move(params: &[CsiParam], control: char) -> bool
+    ensures { result ≡ may_move params.now control }
+{
+    match control {
+        'm' | 'J' | 'K' => false,
+        'h' | 'l' | 'r' | '}' => true,
+        _ => !has_mark(params),
+    }
+}
+
+/// Appends what a list does of which no action is read.
+fn append_unread(unread: &Unspecified, steps: &mut Vec<Step>) -> Result<(), AllocError>
+    ensures { OnOk result
+        (steps.new.items ≡ steps.old.items ++ of_unread unread.now.params.items unread.now.control) }
+{
+    if may_move(&unread.params, unread.control) {
         steps.push(Step::Leave(None))?;
     }
     Ok(())
@@ -296,7 +329,7 @@ fn append_action(action: &CSI, steps: &mut Vec<Step>) -> Result<(), AllocError>
         CSI::Sgr(attribute) => Ok(steps.push(Step::Attribute(*attribute))?),
         CSI::Mode(mode) => append_mode(mode, steps),
         CSI::Device(device) => append_device(device, steps),
-        CSI::Unspecified(unread) => append_unread(unread.control, steps),
+        CSI::Unspecified(unread) => append_unread(unread, steps),
         CSI::Keyboard(_) | CSI::SelectCharacterPath(..) | CSI::Mouse(_) | CSI::Window(_) => Ok(()),
     }
 }

@@ -1,162 +1,149 @@
 //! What was told of sequences that came before: real streams have the same few hundred over and over.
 
+use crate::keyed::{Keyed, SPREAD};
 use std::alloc::{AllocError, Global};
 
-/// So many sequences are kept at most: as many in each bucket, and so many buckets.
-const WAYS: usize = 4;
+/// So many sequences are kept at most. Then all are forgotten.
+const MOST: usize = 4096;
 
-const BUCKETS: usize = 1024;
+/// So many slots are there for them, and so many of those are looked at for one.
+const SLOTS: usize = 8192;
 
-/// A longer sequence isn't kept.
-const LONGEST: usize = 32;
+const TRIES: usize = 16;
 
-/// Nor is one of which more is told.
-const MOST: usize = 512;
+/// A sequence that has more bytes with what is told of it isn't kept.
+const LONGEST: usize = 512;
 
-/// A sequence, and what was told of it.
-#[derive(Drop)]
+/// Behind so many new sequences in a row most are new, and only each sixteenth is looked for and kept.
+const MANY: usize = 1024;
+
+const EACH: usize = 16;
+
+/// What was told of a sequence.
+#[derive(Clone, Copy)]
 struct CacheSlot {
-    /// The bytes of the sequence, and behind them what was told of it.
-    kept: Vec<u8>,
-    /// How many are the sequence's; none where nothing is kept.
-    len: usize,
-    hash: u32,
+    /// The number of the sequence; 0 where nothing is kept.
+    number: u64,
+    /// Where in all that is kept it stands.
+    begin: usize,
+    end: usize,
     actions: u64,
 }
 
-impl CacheSlot {
-    /// Where nothing is kept.
-    fn new(alloc: Global) -> CacheSlot {
-        CacheSlot {
-            kept: Vec::new(alloc),
-            len: 0,
-            hash: 0,
-            actions: 0,
-        }
-    }
+/// Where nothing is kept.
+const EMPTY: CacheSlot = CacheSlot {
+    number: 0,
+    begin: 0,
+    end: 0,
+    actions: 0,
+};
 
-    /// What was told, and of how many actions, where this is the sequence.
-    #[inline(always)]
-    fn recall(&self, hash: u32, bytes: &[u8]) -> Option<(&[u8], u64)> {
-        if self.hash != hash || self.len != bytes.len() {
-            return None;
-        }
-        let told = self.kept.strip_prefix(bytes)?;
-        Some((told, self.actions))
-    }
-}
-
-/// Short sequences with what was told of each, behind its place. Each stands in one bucket, and takes its slot from another.
+/// Short sequences with what was told of each, behind its place.
 #[derive(Drop)]
 pub struct Remembered {
-    alloc: Global,
     slots: Vec<CacheSlot>,
-    /// Which slot of a full bucket the next sequence takes.
-    turn: usize,
+    /// How many slots have something.
+    count: usize,
+    /// What was told of each sequence, and ahead of it the bytes, where these aren't its number.
+    kept: Vec<u8>,
+    /// How many new sequences came in a row.
+    new: usize,
 }
 
-/// A number by another one, and by those before it.
-#[inline(always)]
-fn mixed(hash: u32, number: u32) -> u32 {
-    (hash ^ number).wrapping_mul(0x9e37_79b1)
-}
-
-/// A number for the bytes of a sequence, four at once.
-#[inline(always)]
-fn hash_of(bytes: &[u8]) -> u32 {
-    let (mut hash, mut rest) = (0u32, bytes);
-    for _ in 0..bytes.len() {
-        let Some((four, behind)) = rest.split_first_chunk() else {
-            break;
-        };
-        hash = mixed(hash, u32::from_le_bytes(*four));
-        rest = behind;
-    }
-    for byte in rest {
-        hash = mixed(hash, u32::from(*byte));
-    }
-    hash
-}
-
-/// The first slot of the bucket of sequences with this number.
-#[inline(always)]
-fn bucket_of(hash: u32) -> usize {
-    ((hash >> 22) as usize).saturating_mul(WAYS)
+/// What stands behind these bytes.
+#[inline(never)]
+fn without_front<'a>(kept: &'a [u8], bytes: &[u8]) -> Option<&'a [u8]> {
+    kept.strip_prefix(bytes)
 }
 
 impl Remembered {
     /// Nothing came before.
     pub fn new(alloc: Global) -> Remembered {
         Remembered {
-            alloc,
             slots: Vec::new(alloc),
-            turn: 0,
+            count: 0,
+            kept: Vec::new(alloc),
+            new: 0,
         }
     }
 
     /// Nothing came before, from now on.
     pub fn forget(&mut self) {
         self.slots.clear();
+        self.kept.clear();
+        self.count = 0;
     }
 
-    /// What was told of this sequence, behind its place, and how many actions it has.
+    /// Which slot has the sequence of this number, or is the next one for it.
     #[inline(always)]
-    pub fn recall(&self, bytes: &[u8]) -> Option<(&[u8], u64)> {
-        if bytes.len() > LONGEST {
+    fn place_of(&self, number: u64) -> usize {
+        let mut place = (number.wrapping_mul(SPREAD) >> 51) as usize;
+        for _ in 1..TRIES {
+            match self.slots.get(place) {
+                Some(slot) if slot.number != number && slot.number != 0 => {
+                    place = (place + 1) % SLOTS;
+                }
+                _ => break,
+            }
+        }
+        place
+    }
+
+    /// Whether the next sequence is one of those that aren't looked for.
+    #[inline(always)]
+    fn passes_over(&self) -> bool {
+        self.new >= MANY && self.new % EACH > 0
+    }
+
+    /// What was told of this sequence, behind its place, and how many actions it has, if it is looked for.
+    #[inline(always)]
+    pub fn recall(&mut self, span: Keyed<'_>) -> Option<(&[u8], u64)> {
+        if self.passes_over() {
             return None;
         }
-        let hash = hash_of(bytes);
-        let first = bucket_of(hash);
-        for slot in self.slots.get(first..first.saturating_add(WAYS))? {
-            let known = slot.recall(hash, bytes);
-            if known.is_some() {
-                return known;
-            }
+        let place = self.place_of(span.number);
+        let slot = *self.slots.get(place)?;
+        if slot.number != span.number {
+            return None;
         }
-        None
+        self.new = 0;
+        let kept = self.kept.get(slot.begin..slot.end)?;
+        let told = if span.is_whole() {
+            kept
+        } else {
+            without_front(kept, span.bytes)?
+        };
+        Some((told, slot.actions))
     }
 
-    /// Makes room.
-    fn make_slots(&mut self) -> Result<(), AllocError> {
-        for _ in 0..BUCKETS.saturating_mul(WAYS) {
-            self.slots.push(CacheSlot::new(self.alloc))?;
-        }
-        Ok(())
-    }
-
-    /// The slot of a bucket that the next sequence takes: one where nothing is kept, if there is one.
-    fn place_in(&self, first: usize) -> usize {
-        for way in 0..WAYS {
-            let place = first.saturating_add(way);
-            match self.slots.get(place) {
-                Some(slot) if slot.len == 0 => return place,
-                _ => {}
-            }
-        }
-        first.saturating_add(self.turn)
-    }
-
-    /// Keeps what was told of a sequence of at least one byte.
-    pub fn keep(&mut self, bytes: &[u8], told: &[u8], actions: u64) -> Result<(), AllocError> {
-        if bytes.len() > LONGEST || told.len() > MOST {
+    /// Keeps what was told of a sequence that `recall` didn't find.
+    pub fn keep(&mut self, span: Keyed<'_>, told: &[u8], actions: u64) -> Result<(), AllocError> {
+        let is_passed = self.passes_over();
+        self.new = self.new.saturating_add(1);
+        if is_passed || span.bytes.len().saturating_add(told.len()) > LONGEST {
             return Ok(());
+        }
+        if self.count >= MOST {
+            self.forget();
         }
         if self.slots.is_empty() {
-            self.make_slots()?;
+            self.slots.resize(SLOTS, EMPTY)?;
         }
-        let hash = hash_of(bytes);
-        let place = self.place_in(bucket_of(hash));
-        self.turn = self.turn.wrapping_add(1) % WAYS;
-        let Some(slot) = self.slots.get_mut(place) else {
-            return Ok(());
-        };
-        slot.len = 0;
-        slot.kept.clear();
-        slot.kept.extend_from_slice(bytes)?;
-        slot.kept.extend_from_slice(told)?;
-        slot.hash = hash;
-        slot.actions = actions;
-        slot.len = bytes.len();
+        let begin = self.kept.len();
+        if !span.is_whole() {
+            self.kept.extend_from_slice(span.bytes)?;
+        }
+        self.kept.extend_from_slice(told)?;
+        let place = self.place_of(span.number);
+        if let Some(slot) = self.slots.get_mut(place) {
+            *slot = CacheSlot {
+                number: span.number,
+                begin,
+                end: self.kept.len(),
+                actions,
+            };
+        }
+        self.count = self.count.saturating_add(1);
         Ok(())
     }
 }

@@ -1,6 +1,6 @@
 //! Spans as objects of JSON (RFC 8259), a line each.
 
-use crate::line::{Offset, Sort, Told, append_time};
+use crate::line::{Offset, Sort, append_time};
 use crate::style::{Style, name_of};
 use csicodec_osc::{are_plain, is_seen};
 use std::alloc::AllocError;
@@ -107,7 +107,11 @@ pub fn append_begin_object(
         text.extend_from_slice(b",\"time\":")?;
         append_time(text, time, 0)?;
     }
-    text.extend_from_slice(file)
+    if file.is_empty() {
+        Ok(())
+    } else {
+        text.extend_from_slice(file)
+    }
 }
 
 /// Bytes, as text where they are UTF-8; the names of both members.
@@ -136,10 +140,10 @@ fn append_member(
 }
 
 /// What a span is, and its bytes.
-pub fn append_object(text: &mut Vec<u8>, span: Told<'_>) -> Result<(), AllocError> {
+pub fn append_object(text: &mut Vec<u8>, sort: Sort, bytes: &[u8]) -> Result<(), AllocError> {
     text.extend_from_slice(b",\"kind\":\"")?;
-    text.extend_from_slice(name_of_sort(span.sort))?;
-    append_member(text, span.bytes, b"\",\"text\":", b"\",\"hex\":")
+    text.extend_from_slice(name_of_sort(sort))?;
+    append_member(text, bytes, b"\",\"text\":", b"\",\"hex\":")
 }
 
 /// The end of an object of which the next one has more bytes.

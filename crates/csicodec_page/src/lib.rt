@@ -11,6 +11,7 @@ mod fields;
 mod fill;
 mod input;
 mod json;
+mod keyed;
 mod line;
 mod made;
 mod page;

@@ -86,6 +86,8 @@ pub fn paint(text: &mut Vec<u8>, style: &Style<'_>, color: &[u8]) -> Result<(), 
 #[derive(Clone, Copy)]
 pub struct Offset {
     number: u64,
+    /// The number of the last two of them.
+    low: u8,
     /// The digits up to column 20, with blanks around them.
     text: [u8; 22],
     /// Where the first of them stands.
@@ -99,6 +101,7 @@ impl Offset {
         text[19] = b'0';
         Offset {
             number: 0,
+            low: 0,
             text,
             begin: 19,
         }
@@ -110,20 +113,21 @@ impl Offset {
         let mut text = [b' '; 22];
         let begin = write_digits(number, &mut text, 20);
         self.number = number;
+        self.low = (number % 100) as u8;
         self.text = text;
         self.begin = begin;
     }
 
-    /// A place, most often one that is near behind: then the last two digits alone are others.
+    /// A place, most often one that is near behind: then the last two digits alone are others, where there are more.
     #[inline(always)]
     pub fn go_to(&mut self, number: u64) {
         let more = number.wrapping_sub(self.number).min(100);
-        let tens = u64::from(self.text[18].wrapping_sub(b'0'));
-        let low = tens * 10 + u64::from(self.text[19].wrapping_sub(b'0')) + more;
-        if low > 99 {
+        let low = u64::from(self.low) + more;
+        if low > 99 || number < 100 {
             return self.write(number);
         }
         self.number = number;
+        self.low = low as u8;
         self.text[18] = b'0' + (low / 10) as u8;
         self.text[19] = b'0' + (low % 10) as u8;
     }
@@ -133,17 +137,18 @@ impl Offset {
         self.text.get(self.begin..20).unwrap_or(&[])
     }
 
-    /// The digits and two blanks behind them.
-    fn columns(&self) -> &[u8] {
-        self.text.get(self.begin..).unwrap_or(&[])
+    /// Appends more than eight digits, and two blanks behind them.
+    #[inline(never)]
+    fn append_far(&self, text: &mut Vec<u8>) -> Result<(), AllocError> {
+        text.extend_from_slice(self.text.get(self.begin..).unwrap_or(&[]))
     }
 
-    /// The same with blanks ahead of them, where there are at most eight digits.
-    fn near_columns(&self) -> Option<&[u8; PLACE]> {
-        if self.begin < 12 {
-            None
-        } else {
-            self.text.last_chunk()
+    /// Appends the digits, with blanks ahead of eight at most, and two behind them.
+    #[inline(always)]
+    fn append_columns(&self, text: &mut Vec<u8>) -> Result<(), AllocError> {
+        match self.text.last_chunk::<PLACE>() {
+            Some(columns) if self.begin > 11 => text.extend_from_slice(columns),
+            _ => self.append_far(text),
         }
     }
 }
@@ -178,15 +183,27 @@ pub fn append_begin(
     time: u64,
     place: &Offset,
 ) -> Result<(), AllocError> {
+    if style.color || style.timed {
+        append_painted_begin(text, style, time, place)
+    } else {
+        place.append_columns(text)
+    }
+}
+
+/// The same with colours, or with the time.
+#[inline(never)]
+fn append_painted_begin(
+    text: &mut Vec<u8>,
+    style: &Style<'_>,
+    time: u64,
+    place: &Offset,
+) -> Result<(), AllocError> {
     paint(text, style, GREY)?;
     if style.timed {
         append_time(text, time, TIME.saturating_sub(2))?;
         append_blanks(text, 2)?;
     }
-    match place.near_columns() {
-        Some(columns) => text.extend_from_slice(columns)?,
-        None => text.extend_from_slice(place.columns())?,
-    }
+    place.append_columns(text)?;
     paint(text, style, GREEN)
 }
 
@@ -318,7 +335,7 @@ fn append_front(
 /// and how many bytes of what was appended take no column.
 fn append_most(
     text: &mut Vec<u8>,
-    span: Told<'_>,
+    span: &Told<'_>,
     columns: usize,
 ) -> Result<(usize, usize), AllocError> {
     let quoted = span.sort == Sort::Text;
@@ -343,7 +360,7 @@ fn append_most(
 /// The bytes of a span as a line shows them in so many columns, the first of them where not all have room; how many columns they take.
 pub fn append_shown(
     text: &mut Vec<u8>,
-    span: Told<'_>,
+    span: &Told<'_>,
     columns: usize,
 ) -> Result<usize, AllocError> {
     let (begin, bytes) = (text.len(), span.bytes);
@@ -392,7 +409,7 @@ pub fn append_margin(text: &mut Vec<u8>, style: &Style<'_>) -> Result<(), AllocE
 /// The columns of few bytes with no end of a line behind them: a text of ASCII characters that stand for themselves, or ESC and such
 /// characters behind it.
 #[inline(always)]
-fn short_columns(span: Told<'_>) -> Option<[u8; BYTES]> {
+fn short_columns(span: &Told<'_>) -> Option<[u8; BYTES]> {
     let (quoted, shown) = match (span.sort, span.bytes) {
         (Sort::Text, bytes) => (true, bytes),
         (_, [0x1b, behind @ ..]) => (false, behind),
@@ -419,7 +436,7 @@ fn short_columns(span: Told<'_>) -> Option<[u8; BYTES]> {
 pub fn append_bytes(
     text: &mut Vec<u8>,
     style: &Style<'_>,
-    span: Told<'_>,
+    span: &Told<'_>,
 ) -> Result<(), AllocError> {
     if !style.color && span.len == span.bytes.len() as u64 {
         if let Some(columns) = short_columns(span) {
@@ -460,7 +477,7 @@ fn behind_number(len: u64, end: &[u8]) -> &'static [u8] {
 pub fn append_text_words(
     text: &mut Vec<u8>,
     style: &Style<'_>,
-    span: Told<'_>,
+    span: &Told<'_>,
 ) -> Result<(), AllocError> {
     let len = span.len;
     if style.color {

@@ -4,6 +4,7 @@ ghost use Rattle.std.specs.Prelude.{◌≤◌, IfOk, length};
 use crate::controls::{is_control, text_front, words_of};
 use crate::counts::Names;
 use crate::decode::clipboard_bytes;
+use crate::keyed::{Keyed, sequence_front};
 use crate::line::{Sort, Told, whole_characters};
 use crate::sheet::Sheet;
 use crate::style::Style;
@@ -101,24 +102,6 @@ pub struct Page<'a> {
     totals: Totals,
 }
 
-/// What looks like a control sequence in front: `ESC [`, bytes from 20 to 3f, and one from 40 to 7e; else no bytes.
-#[inline(always)]
-fn sequence_front(bytes: &[u8]) -> &[u8]
-    ensures { length result.now ≤ length bytes.now }
-{
-    let [0x1b, b'[', list @ ..] = bytes else {
-        return &[];
-    };
-    for (at, byte) in list.iter().enumerate() {
-        match *byte {
-            0x20..=0x3f => {}
-            0x40..=0x7e => return bytes.get(..at.saturating_add(3)).unwrap_or(&[]),
-            _ => return &[],
-        }
-    }
-    &[]
-}
-
 /// The escape sequence that a span of that kind is.
 fn escape_of(bytes: &[u8]) -> Esc {
     let between = if bytes.len() > 2 {
@@ -173,7 +156,7 @@ fn sort_of(kind: Kind) -> Sort {
 /// A span of these words.
 fn tell_words<T: Display>(
     sheet: &mut Sheet<'_>,
-    span: Told<'_>,
+    span: &Told<'_>,
     words: &T,
 ) -> Result<(), AllocError> {
     sheet.begin(span)?;
@@ -185,7 +168,7 @@ fn tell_words<T: Display>(
 fn tell_string(
     alloc: Global,
     sheet: &mut Sheet<'_>,
-    span: Told<'_>,
+    span: &Told<'_>,
     string: ControlString<'_>,
 ) -> Result<(), AllocError> {
     sheet.begin(span)?;
@@ -203,26 +186,39 @@ fn tell_wrong(
     sheet: &mut Sheet<'_>,
     totals: &mut Totals,
     kind: Kind,
-    span: Told<'_>,
+    span: &Told<'_>,
 ) -> Result<(), AllocError> {
     let Some(reading) = long_escape(kind, span.bytes, span.len) else {
         return tell_words(sheet, span, &Malformed(span.len));
     };
-    let mut span = span;
-    span.sort = Sort::Escape;
     totals.add_long_escape(span.len);
-    tell_words(sheet, span, &Described(&reading))
+    let sort = Sort::Escape;
+    tell_words(sheet, &Told { sort, ..*span }, &Described(&reading))
+}
+
+/// A line for an action that no table has, behind so many others of its sequence.
+#[inline(never)]
+fn tell_unknown(
+    alloc: Global,
+    sheet: &mut Sheet<'_>,
+    span: &Told<'_>,
+    reading: Reading<'_>,
+    read: usize,
+) -> Result<(), AllocError> {
+    let words = words_with_taken(alloc, reading, read)?;
+    sheet.add_action(span, &words, reading.action)
 }
 
 /// A line for each action of a control sequence of these tokens; how many they are.
 fn tell_actions(
     alloc: Global,
     sheet: &mut Sheet<'_>,
-    span: Told<'_>,
+    span: &Told<'_>,
     params: &[CsiParam],
     control: char,
 ) -> Result<u64, AllocError> {
     sheet.begin(span)?;
+    let sent = sheet.style().dialect.is_some();
     let mut count = 0u64;
     for action in CSI::parse(alloc, params, false, control) {
         let action = action?;
@@ -230,11 +226,10 @@ fn tell_actions(
             action: &action,
             params,
             control,
-            sent: sheet.style().dialect.is_some(),
+            sent,
         };
         if let CSI::Unspecified(_) = &action {
-            let words = words_with_taken(alloc, reading, count as usize)?;
-            sheet.add_action(span, &words, &action)?;
+            tell_unknown(alloc, sheet, span, reading, count as usize)?;
         } else {
             sheet.add_action(span, &Described(&reading), &action)?;
         }
@@ -323,9 +318,19 @@ impl<'a> Page<'a> {
         self.totals.add(kind, spans, len);
     }
 
-    /// Tells what could have gone on: there is no more of it.
+    /// Tells what could have gone on, if anything is: there is no more of it.
     #[inline(always)]
     pub fn close(&mut self) -> Result<(), AllocError> {
+        if self.open.len > 0 || self.held.is_some() {
+            self.close_both()
+        } else {
+            Ok(())
+        }
+    }
+
+    /// Tells the span of which more could have come, and the carriage return that is held.
+    #[inline(never)]
+    fn close_both(&mut self) -> Result<(), AllocError> {
         if self.open.len > 0 {
             self.close_open(&[])?;
         }
@@ -361,10 +366,10 @@ impl<'a> Page<'a> {
             bell,
         };
         match kind {
-            Kind::Text => self.sheet.tell_text(span),
-            Kind::Str => tell_string(self.alloc, &mut self.sheet, span, string),
+            Kind::Text => self.sheet.tell_text(&span),
+            Kind::Str => tell_string(self.alloc, &mut self.sheet, &span, string),
             Kind::Csi | Kind::Esc | Kind::Other => {
-                tell_wrong(&mut self.sheet, &mut self.totals, kind, span)
+                tell_wrong(&mut self.sheet, &mut self.totals, kind, &span)
             }
         }?;
         self.open.len = 0;
@@ -394,16 +399,16 @@ impl<'a> Page<'a> {
 
     /// A line for each action of a control sequence; how many they are, none where it isn't one.
     #[inline(never)]
-    fn tell_sequence(&mut self, bytes: &[u8]) -> Result<Option<u64>, AllocError> {
-        let tail = match read_csi_into(&mut self.params, bytes) {
+    fn tell_sequence(&mut self, front: Keyed<'_>) -> Result<Option<u64>, AllocError> {
+        let tail = match read_csi_into(&mut self.params, front.bytes) {
             Ok(tail) => tail,
             Err(ReadError::Memory) => return Err(AllocError),
             Err(_) => return Ok(None),
         };
-        let span = self.span_here(Sort::Sequence, bytes);
+        let span = self.span_here(Sort::Sequence, front.bytes);
         let params = self.params.as_slice();
-        let count = tell_actions(self.alloc, &mut self.sheet, span, params, tail.control)?;
-        self.sheet.keep(bytes, count)?;
+        let count = tell_actions(self.alloc, &mut self.sheet, &span, params, tail.control)?;
+        self.sheet.keep(front, count)?;
         Ok(Some(count))
     }
 
@@ -416,7 +421,7 @@ impl<'a> Page<'a> {
     ) -> Result<(), AllocError> {
         self.close()?;
         let span = self.span_here(Sort::Sequence, bytes);
-        let actions = tell_actions(self.alloc, &mut self.sheet, span, params, control)?;
+        let actions = tell_actions(self.alloc, &mut self.sheet, &span, params, control)?;
         self.end_sequence(actions, bytes.len());
         Ok(())
     }
@@ -431,9 +436,7 @@ impl<'a> Page<'a> {
     ) -> Result<(), AllocError> {
         self.close()?;
         let span = self.span_here(sort, bytes);
-        self.sheet.begin(span)?;
-        self.sheet.add(span, did)?;
-        self.sheet.end(span)?;
+        tell_words(&mut self.sheet, &span, did)?;
         self.text = false;
         self.advance(kind, 1, bytes.len());
         Ok(())
@@ -452,40 +455,45 @@ impl<'a> Page<'a> {
     pub fn add_front(&mut self, mode: Mode, bytes: &[u8]) -> Result<usize, AllocError>
         ensures { IfOk result (λ used. used ≤ length bytes.now) }
     {
-        let front = sequence_front(bytes);
-        if mode != Mode::Text || front.is_empty() {
+        if mode != Mode::Text {
             return Ok(0);
         }
+        let Some(front) = sequence_front(bytes) else {
+            return Ok(0);
+        };
         self.close()?;
+        let len = front.bytes.len();
         let told = match self.sheet.recall(self.time, self.place, front)? {
-            None if front.len() <= LIMIT => self.tell_sequence(front)?,
+            None if len <= LIMIT => self.tell_sequence(front)?,
             known => known,
         };
         match told {
             Some(actions) => {
-                self.end_sequence(actions, front.len());
-                Ok(front.len())
+                self.end_sequence(actions, len);
+                Ok(len)
             }
             None => Ok(0),
         }
     }
 
     #[inline(never)]
-    fn tell_escape(&mut self, bytes: &[u8]) -> Result<(), AllocError> {
-        let span = self.span_here(Sort::Escape, bytes);
-        self.sheet.begin(span)?;
-        let esc = escape_of(bytes);
+    fn tell_escape(&mut self, escape: Keyed<'_>) -> Result<(), AllocError> {
+        let span = self.span_here(Sort::Escape, escape.bytes);
+        self.sheet.begin(&span)?;
+        let esc = escape_of(escape.bytes);
         self.sheet
-            .add_action(span, &Described(&EscReading(esc)), &Named(esc))?;
-        self.sheet.end(span)?;
-        self.sheet.keep(bytes, 0)
+            .add_action(&span, &Described(&EscReading(esc)), &Named(esc))?;
+        self.sheet.end(&span)?;
+        self.sheet.keep(escape, 0)
     }
 
     /// An escape sequence.
     fn add_escape(&mut self, bytes: &[u8]) -> Result<(), AllocError> {
         self.close()?;
-        if self.sheet.recall(self.time, self.place, bytes)?.is_none() {
-            self.tell_escape(bytes)?;
+        let escape = Keyed::new(bytes);
+        let known = self.sheet.recall(self.time, self.place, escape)?;
+        if known.is_none() {
+            self.tell_escape(escape)?;
         }
         self.text = false;
         self.advance(Kind::Esc, 1, bytes.len());
@@ -503,12 +511,13 @@ impl<'a> Page<'a> {
             len: 0,
             end: &[],
         };
-        tell_words(&mut self.sheet, span, words)
+        tell_words(&mut self.sheet, &span, words)
     }
 
     /// A control character that stands in text, or a carriage return with a line feed.
     fn tell_control(&mut self, place: u64, time: u64, bytes: &[u8]) -> Result<(), AllocError> {
-        if self.sheet.recall(time, place, bytes)?.is_some() {
+        let control = Keyed::new(bytes);
+        if self.sheet.recall(time, place, control)?.is_some() {
             return Ok(());
         }
         let span = Told {
@@ -519,18 +528,16 @@ impl<'a> Page<'a> {
             len: bytes.len() as u64,
             end: &[],
         };
-        self.sheet.begin(span)?;
         let is_input = self.sheet.style().dialect.is_some();
         let did = match bytes.first() {
             Some(byte) if is_input => Did::of_control(*byte),
             _ => None,
         };
         match did {
-            Some(did) => self.sheet.add(span, &did)?,
-            None => self.sheet.add(span, &words_of(bytes))?,
+            Some(did) => tell_words(&mut self.sheet, &span, &did)?,
+            None => tell_words(&mut self.sheet, &span, &words_of(bytes))?,
         }
-        self.sheet.end(span)?;
-        self.sheet.keep(bytes, 0)
+        self.sheet.keep(control, 0)
     }
 
     /// Whether a text is open.
@@ -603,7 +610,7 @@ impl<'a> Page<'a> {
     #[inline(never)]
     fn tell_pieces(&mut self) -> Result<(), AllocError> {
         for _ in 0..self.open.front.len() {
-            let told = self.sheet.tell_piece(self.open.rest())?;
+            let told = self.sheet.tell_piece(&self.open.rest())?;
             if told == 0 {
                 break;
             }
@@ -616,7 +623,7 @@ impl<'a> Page<'a> {
     fn add_whole_text(&mut self, bytes: &[u8]) -> Result<(), AllocError> {
         self.close()?;
         let span = self.span_here(Sort::Text, bytes);
-        self.sheet.tell_text(span)
+        self.sheet.tell_text(&span)
     }
 
     /// Text with at most one control character, its last; whether it is over there else.

@@ -30,9 +30,22 @@ pub struct Remaker {
     long: bool,
 }
 
+/// Whether `"text":` stands near the front of a line, as `explain` mostly writes it.
+fn has_text_near(line: &[u8]) -> bool {
+    let mut rest = line;
+    for _ in 0..64 {
+        match rest {
+            [b'"', b't', b'e', b'x', b't', b'"', b':', ..] => return true,
+            [_, behind @ ..] => rest = behind,
+            [] => return false,
+        }
+    }
+    false
+}
+
 /// Whether a line has bytes as `explain` writes it.
 fn has_bytes(line: &[u8]) -> bool {
-    find(line, b"\"text\":").is_some() || find(line, b"\"hex\":").is_some()
+    has_text_near(line) || find(line, b"\"text\":").is_some() || find(line, b"\"hex\":").is_some()
 }
 
 /// Whether a line is an object with actions, and neither `text` nor `hex`.
@@ -95,8 +108,12 @@ impl Remaker {
         ensures stays { OnOk result (of_line (self.old.line.items ++ bytes.now) ≢ Err NoSequence
             → out.new.items ≡ out.old.items ++ self.old.line.items ++ bytes.now ++ 10 ∷ []) }
     {
-        self.line.extend_from_slice(bytes)?;
-        self.end(out)?;
+        if self.line.is_empty() && !self.long {
+            append_line(self.alloc, &mut self.maker, bytes, out)?;
+        } else {
+            self.line.extend_from_slice(bytes)?;
+            self.end(out)?;
+        }
         Ok(out.push(b'\n')?)
     }
 

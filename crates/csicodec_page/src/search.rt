@@ -63,7 +63,7 @@ impl Search {
     pub fn finds(
         &mut self,
         style: &Style<'_>,
-        span: Told<'_>,
+        span: &Told<'_>,
         words: &str,
     ) -> Result<bool, AllocError> {
         let Some(text) = style.grep else {

@@ -8,6 +8,7 @@ use crate::json::{
     append_action, append_begin_object, append_decoded, append_end, append_more, append_object,
     append_string,
 };
+use crate::keyed::Keyed;
 use crate::line::{
     Offset, Sort, Told, append_begin, append_bytes, append_margin, append_name, append_text_words,
     whole_characters,
@@ -160,36 +161,35 @@ impl<'a> Sheet<'a> {
         &mut self,
         time: u64,
         place: u64,
-        bytes: &[u8],
+        span: Keyed<'_>,
     ) -> Result<Option<u64>, AllocError> {
         if !self.style.recalls() {
             return Ok(None);
         }
-        let Some((told, actions)) = self.known.recall(bytes) else {
+        let Some((told, actions)) = self.known.recall(span) else {
             return Ok(None);
         };
-        if told.is_empty() {
-            return Ok(Some(actions));
+        if !told.is_empty() {
+            self.place.go_to(place);
+            begin_at(&mut self.text, &self.style, &self.file, &self.place, time)?;
+            self.text.extend_from_slice(told)?;
         }
-        self.place.go_to(place);
-        begin_at(&mut self.text, &self.style, &self.file, &self.place, time)?;
-        self.text.extend_from_slice(told)?;
         Ok(Some(actions))
     }
 
     /// Keeps what was told of bytes of so many actions.
-    pub fn keep(&mut self, bytes: &[u8], actions: u64) -> Result<(), AllocError> {
+    pub fn keep(&mut self, span: Keyed<'_>, actions: u64) -> Result<(), AllocError> {
         if !self.style.recalls() {
             return Ok(());
         }
         match self.text.get(self.behind..) {
-            Some(told) => self.known.keep(bytes, told, actions),
-            None => self.known.keep(bytes, &[], actions),
+            Some(told) => self.known.keep(span, told, actions),
+            None => self.known.keep(span, &[], actions),
         }
     }
 
     /// When and where a span begins.
-    fn begin_span(&mut self, span: Told<'_>) -> Result<(), AllocError> {
+    fn begin_span(&mut self, span: &Told<'_>) -> Result<(), AllocError> {
         self.place.go_to(span.place);
         begin_at(
             &mut self.text,
@@ -201,36 +201,36 @@ impl<'a> Sheet<'a> {
     }
 
     /// Tells the first piece of a span that is too long for one object; how many bytes it has, 0 where the span isn't.
-    pub fn tell_piece(&mut self, span: Told<'_>) -> Result<usize, AllocError> {
+    pub fn tell_piece(&mut self, span: &Told<'_>) -> Result<usize, AllocError> {
         let Some(bytes) = piece_of(span.bytes) else {
             return Ok(0);
         };
         self.begin_span(span)?;
-        append_object(&mut self.text, Told { bytes, ..span })?;
+        append_object(&mut self.text, span.sort, bytes)?;
         append_more(&mut self.text)?;
         Ok(bytes.len())
     }
 
     /// The begin of a span's object: ahead of it stands one for each piece of a long span, but for the last.
-    fn begin_object(&mut self, span: Told<'_>) -> Result<(), AllocError> {
-        let mut rest = span;
+    fn begin_object(&mut self, span: &Told<'_>) -> Result<(), AllocError> {
+        let mut rest = *span;
         for _ in 0..span.bytes.len() {
-            let told = self.tell_piece(rest)?;
+            let told = self.tell_piece(&rest)?;
             if told == 0 {
                 break;
             }
             rest.place = rest.place.saturating_add(told as u64);
             rest.bytes = rest.bytes.get(told..).unwrap_or(&[]);
         }
-        self.begin_span(rest)?;
+        self.begin_span(&rest)?;
         self.behind = self.text.len();
-        append_object(&mut self.text, rest)
+        append_object(&mut self.text, rest.sort, rest.bytes)
     }
 
     /// A text.
-    pub fn tell_text(&mut self, span: Told<'_>) -> Result<(), AllocError> {
-        if !self.style.is_plain() {
-            return self.tell_some_text(span);
+    pub fn tell_text(&mut self, span: &Told<'_>) -> Result<(), AllocError> {
+        if !self.style.is_plain() && !self.counts_text(span)? {
+            return Ok(());
         }
         if self.style.json {
             self.begin_object(span)?;
@@ -242,37 +242,43 @@ impl<'a> Sheet<'a> {
     }
 
     /// Whether the words that are there are told of the span.
-    fn is_wanted(&mut self, span: Told<'_>) -> Result<bool, AllocError> {
+    #[inline(always)]
+    fn is_wanted(&mut self, span: &Told<'_>) -> Result<bool, AllocError> {
+        if self.style.tells_all() {
+            Ok(true)
+        } else {
+            self.is_looked_for(span)
+        }
+    }
+
+    /// Whether they are where only some spans are told.
+    #[inline(never)]
+    fn is_looked_for(&mut self, span: &Told<'_>) -> Result<bool, AllocError> {
         if !self.style.tells(&self.words, span.place, span.len) {
             return Ok(false);
         }
         self.search.finds(&self.style, span, &self.words)
     }
 
-    /// A text, if it is one that is asked for. In JSON it has no actions.
-    fn tell_some_text(&mut self, span: Told<'_>) -> Result<(), AllocError> {
+    /// Counts a text where it is one that is asked for; whether it is then told. In JSON it has no actions.
+    fn counts_text(&mut self, span: &Told<'_>) -> Result<bool, AllocError> {
         let len = span.len;
         self.words.clear();
         let unit = if len == 1 { "byte" } else { "bytes" };
         write!(self.words, "text  {len} {unit}")?;
         if !self.is_wanted(span)? {
-            return Ok(());
+            return Ok(false);
         }
         self.totals.add_told(Sort::Text, len, 0);
-        if self.style.is_silent() {
-            return self.names.add("text", len);
+        let silent = self.style.is_silent();
+        if silent {
+            self.names.add("text", len)?;
         }
-        if self.style.json {
-            self.begin_object(span)?;
-            return append_end(&mut self.text, false);
-        }
-        self.begin_span(span)?;
-        append_bytes(&mut self.text, &self.style, span)?;
-        append_text_words(&mut self.text, &self.style, span)
+        Ok(!silent)
     }
 
     /// A span begins.
-    pub fn begin(&mut self, span: Told<'_>) -> Result<(), AllocError> {
+    pub fn begin(&mut self, span: &Told<'_>) -> Result<(), AllocError> {
         self.begin = self.text.len();
         self.actions = 0;
         if self.style.is_silent() {
@@ -287,7 +293,7 @@ impl<'a> Sheet<'a> {
     }
 
     /// The words of the span.
-    pub fn add<T: Display>(&mut self, span: Told<'_>, value: &T) -> Result<(), AllocError> {
+    pub fn add<T: Display>(&mut self, span: &Told<'_>, value: &T) -> Result<(), AllocError> {
         self.fields.clear();
         self.add_words(span, value)
     }
@@ -295,11 +301,10 @@ impl<'a> Sheet<'a> {
     /// The words of an action of the span, which has fields.
     pub fn add_action<T: Display, A: Debug>(
         &mut self,
-        span: Told<'_>,
+        span: &Told<'_>,
         value: &T,
         action: &A,
     ) -> Result<(), AllocError> {
-        self.fields.clear();
         if self.style.json && !self.style.is_silent() {
             self.buffer.clear();
             write!(self.buffer, "{action:?}")?;
@@ -309,7 +314,7 @@ impl<'a> Sheet<'a> {
     }
 
     /// What stands in the span, decoded: a line of its own, or a member of its first action.
-    pub fn add_decoded(&mut self, span: Told<'_>, bytes: &[u8]) -> Result<(), AllocError> {
+    pub fn add_decoded(&mut self, span: &Told<'_>, bytes: &[u8]) -> Result<(), AllocError> {
         if self.style.is_silent() {
             return Ok(());
         }
@@ -323,7 +328,7 @@ impl<'a> Sheet<'a> {
         Ok(())
     }
 
-    fn add_words<T: Display>(&mut self, span: Told<'_>, value: &T) -> Result<(), AllocError> {
+    fn add_words<T: Display>(&mut self, span: &Told<'_>, value: &T) -> Result<(), AllocError> {
         self.words.clear();
         write!(self.words, "{value}")?;
         if !self.is_wanted(span)? {
@@ -363,12 +368,12 @@ impl<'a> Sheet<'a> {
     }
 
     /// The span is over. One of which nothing was wanted is taken back.
-    pub fn end(&mut self, span: Told<'_>) -> Result<(), AllocError> {
-        let some = self.actions > 0;
-        if some {
+    pub fn end(&mut self, span: &Told<'_>) -> Result<(), AllocError> {
+        let (some, tells_all) = (self.actions > 0, self.style.tells_all());
+        if some && !tells_all {
             self.totals.add_told(span.sort, span.len, self.actions);
         }
-        if !some && !(self.style.json && self.style.tells_all()) {
+        if !some && !(self.style.json && tells_all) {
             self.text.truncate(self.begin);
             return Ok(());
         }

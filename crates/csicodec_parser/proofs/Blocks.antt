@@ -21,7 +21,7 @@ use Rattle.csicodec_actions.specs.Table.{unboxed, whole}
 use Rattle.csicodec_parser.specs.Private.Steps.{front, block, block_of, is_semicolon, with_semicolon, segments, segments_at, rest_action, actions_after, body_actions, actions_in, left_at, from_at, GoesBy, CanGo, CutsOn}
 use Rattle.csicodec_parser.proofs.Fronts.{front_empty, front_fits}
 use Rattle.csicodec_parser.proofs.GroupOf.{marked-body}
-use Rattle.csicodec_lists.proofs.Boxed.{unboxed_whole, boxed_whole}
+use Rattle.csicodec_actions.proofs.Boxed.{unboxed_whole, boxed_whole}
 use Rattle.csicodec_parser.proofs.Rests.{rest_unknown}
 
 semicolon_at : (rest : List CsiParam) (len : ℕ) (o : Option CsiParam) → slice_get rest len ≡ o → len ≤ length rest → with_semicolon len o ≤ length rest

@@ -4,7 +4,7 @@ use Rattle.std.specs.Prelude.{unwrap_or}
 use Rattle.csicodec_tokens.specs.declared.param.CsiParam.{CsiParam}
 use Rattle.csicodec_actions.specs.Actions.{Action, Unspecified, TakesMemory}
 use Rattle.csicodec_actions.specs.Table.{boxed}
-use Rattle.csicodec_lists.proofs.Boxed.{boxed-takes}
+use Rattle.csicodec_actions.proofs.Boxed.{boxed-takes}
 use Rattle.csicodec_parser.specs.declared.group.Group.{Group}
 use Rattle.csicodec_parser.specs.declared.group.Group.TheVariants.{Whole, Styles, Modes, DecModes}
 use Rattle.csicodec_parser.specs.Groups.{marked}

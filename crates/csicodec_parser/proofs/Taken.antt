@@ -24,7 +24,7 @@ use Rattle.csicodec_parser.specs.Segments.{Actions}
 use Rattle.csicodec_parser.specs.Private.Steps.{one_token, front, block_of, with_semicolon, rest_action, actions, actions_in, actions_after, body_actions}
 use Rattle.csicodec_actions.specs.Table.{text, texts, unboxed}
 use Rattle.csicodec_parser.proofs.Blocks.{semicolon_from, segments_block, after_unknown, first_cut, odd_unknown, body_some}
-use Rattle.csicodec_lists.proofs.Boxed.{boxed_whole}
+use Rattle.csicodec_actions.proofs.Boxed.{boxed_whole}
 use Rattle.csicodec_parser.proofs.Cuts.{actions_are}
 use Rattle.csicodec_parser.proofs.Rests.{rest_unknown}
 

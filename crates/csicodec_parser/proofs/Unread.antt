@@ -13,7 +13,7 @@ use Rattle.csicodec_parser.specs.Groups.{has_odd}
 use Rattle.csicodec_parser.specs.Segments.{IsUnread}
 use Rattle.csicodec_parser.specs.Private.Steps.{found, front}
 use Rattle.csicodec_actions.specs.Table.{unboxed, boxed}
-use Rattle.csicodec_lists.proofs.Boxed.{unboxed_whole, boxed_whole}
+use Rattle.csicodec_actions.proofs.Boxed.{unboxed_whole, boxed_whole}
 use Rattle.csicodec_parser.proofs.Fronts.{front_stuck, stuck_front}
 
 -- ---- a list that is read whole

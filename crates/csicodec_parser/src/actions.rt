@@ -13,13 +13,11 @@ ghost use Rattle.csicodec_parser.specs.Canonical.{Canonical, IsUnspecified};
 use crate::canonical::{is_canonical_sgr, is_canonical_unknown};
 use crate::sink::{append_displayed, append_unspecified};
 use csicodec_actions::{
-    CharacterPath, Cursor, Device, Edit, Keyboard, Mode, MouseReport, Window, is_said, write_path,
+    CharacterPath, Cursor, Device, Edit, Keyboard, Mode, MouseReport, Window, cursor_action,
+    device_action, edit_action, graphics_action, is_said, keyboard_action, mode_action,
+    mouse_action, path_action, window_action, write_path,
 };
 use csicodec_base::{CsiParam, Sgr, Text, TextBuffer};
-use csicodec_lists::{
-    cursor_action, device_action, edit_action, graphics_action, keyboard_action, mode_action,
-    mouse_action, path_action, window_action,
-};
 use std::alloc::{AllocError, Global};
 use std::fmt;
 

@@ -4,7 +4,6 @@
 
 mod actions;
 mod canonical;
-mod count;
 mod group;
 mod list;
 mod look;
@@ -14,7 +13,6 @@ mod tokens;
 mod xtsmgraphics;
 
 pub use actions::{CSI, Unspecified, append_text};
-pub use count::Count;
 pub use group::Group;
 pub use list::list_into;
 pub use look::Look;

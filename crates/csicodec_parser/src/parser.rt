@@ -11,11 +11,11 @@ ghost use Rattle.csicodec_parser.specs.Private.Steps.{with_semicolon, block, res
 ghost use Rattle.csicodec_parser.specs.Private.Steps.{BeginsAs, IsRestAlone, BodyBeginsAs, BodyIsRestAlone, LeftBeginsAs, LeftIsRestAlone, PaysRest, PaysBlock, PaysAll};
 
 use crate::actions::{CSI, Unspecified, boxed_action, unboxed_action};
-use crate::count::Count;
 use crate::group::{Group, front};
 use crate::look::Look;
 use crate::tokens::Tokens;
 use csicodec_base::{CsiParam, Sgr};
+use csicodec_tokens::Count;
 use std::alloc::{AllocError, Global};
 use std::marker::Model;
 

@@ -1,9 +1,9 @@
 //! The tokens of a slice.
 ghost use Rattle.std.specs.Prelude.{◌≡◌, ℕ, ◌+◌, ◌*◌, ◌≤◌, ◌++◌, length, drop};
 
-use crate::count::Count;
 use crate::look::Look;
 use csicodec_base::CsiParam;
+use csicodec_tokens::Count;
 use std::alloc::AllocError;
 use std::marker::Model;
 

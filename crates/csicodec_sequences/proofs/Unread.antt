@@ -13,7 +13,7 @@ use Rattle.csicodec_actions.specs.Table as actions
 use Rattle.csicodec_actions.specs.Table.{field_table, whole}
 use Rattle.csicodec_actions.specs.Table.Window.{areas, windows}
 use Rattle.csicodec_actions.specs.Table.XtSmGraphics.{graphics_rows}
-use Rattle.csicodec_lists.proofs.AllRows.{whole-table}
+use Rattle.csicodec_actions.proofs.AllRows.{whole-table}
 use Rattle.csicodec_sequences.specs.Known.{rows_of, table}
 use Rattle.csicodec_sequences.specs.Parts.{without_intermediate, without_marker}
 use Rattle.csicodec_sequences.specs.Rows.{Row, read_row, slot_values}

@@ -1,50 +1,16 @@
--- The beginning of a control sequence, byte by byte.
-use Rattle.std.proofs.Common.{Option, Some, None, MatchOption, ◌≡◌, ℕ, ◌+◌, ◌-◌, ◌*◌, ◌<◌, ◌≤◌, List, [], ◌∷◌, ◌++◌, length, drop, refl, sym, ap, subst, ◌∙◌, inl, inr, append_assoc, arith}
-use Rattle.std.proofs.lemmas.List.{append-nil, length-append}
-use Rattle.csicodec_tokens.specs.Digits.{IsDigit, largest}
-use Rattle.csicodec_tokens.specs.Sequence.{IsBodyByte}
+-- The beginning of a control sequence, and the bytes that come behind it.
+use Rattle.std.proofs.Common.{Option, Some, None, MatchOption, ◌≡◌, ℕ, ◌+◌, ◌-◌, ◌<◌, ◌≤◌, List, [], ◌∷◌, ◌++◌, length, drop, refl, sym, ap, subst, ◌∙◌, inl, inr, append_assoc, arith}
+use Rattle.std.proofs.lemmas.List.{length-append}
+use Rattle.csicodec_tokens.specs.Body.{Adds, IsStopped, Stops}
 use Rattle.csicodec_tokens.specs.Fault.{IsBody, Begins}
-use Rattle.csicodec_tokens.proofs.Runs.{value_push, AreDigits-push, All-back, Ends, Ends-none, Ends-digit, Ends-other}
+use Rattle.csicodec_tokens.proofs.Runs.{IsBody-front}
+use Rattle.csicodec_tokens.proofs.Walks.{none_begun}
 use Rattle.csicodec_spans.specs.declared.table.Mode.{Mode}
 use Rattle.csicodec_spans.specs.Table.{Answer, Sequence, Undecided, ahead}
 use Rattle.csicodec_spans.specs.Parts.{IsUnsureBy, IsUnsure}
-use Rattle.csicodec_spans.specs.Private.Begun.{EndsIn, Adds, Stops, IsRead, Tells, IsBegun}
+use Rattle.csicodec_spans.specs.Private.Begun.{Tells, IsBegun}
 use Rattle.csicodec_spans.proofs.Fronts.{Sound}
 use Rattle.csicodec_spans.proofs.Agrees.{opens, sound}
-
-ends : (body : List ℕ) (n : ℕ) → EndsIn body n → Ends body n
-ends body n e = record { body = e.is; bound = e.most }
-
-pub none_begun : EndsIn [] 0
-none_begun = record { is = Ends-none.body; most = Ends-none.bound; before = []; run = []; parts = refl; digits = tt; total = refl }
-
-pub digit_on : (body : List ℕ) (n d m : ℕ) → EndsIn body n → IsDigit d → m ≡ 10 * n + (d - 48) → m ≤ largest → EndsIn (body ++ d ∷ []) m
-digit_on body n d m e p same le =
-    let more = Ends-digit body n d (ends body n e) p (omega arith) in
-    record {
-      is = more.body;
-      most = λ before run parts digits. omega (arith, more.bound before run parts digits, same);
-      before = e.before;
-      run = e.run ++ d ∷ [];
-      parts = ap (λ (t : List ℕ). t ++ d ∷ []) e.parts ∙ append_assoc e.before e.run (d ∷ []);
-      digits = AreDigits-push e.run d e.digits p;
-      total = omega (arith, same, e.total, value_push 0 e.run d);
-    }
-
-pub other_on : (body : List ℕ) (n b : ℕ) → EndsIn body n → IsBodyByte b → ¬ IsDigit b → EndsIn (body ++ b ∷ []) 0
-other_on body n b e p other =
-    let more = Ends-other body n b (ends body n e) p other in
-    record { is = more.body; most = more.bound; before = body ++ b ∷ []; run = []; parts = sym (append-nil (body ++ b ∷ [])); digits = tt; total = refl }
-
-pub too_large : (body more : List ℕ) (n d : ℕ) → EndsIn body n → IsDigit d → largest < 10 * n + (d - 48) → IsBody (body ++ d ∷ more) → ⊥
-too_large body more n d e p large is =
-    let longer = e.run ++ d ∷ [] in
-    let parts : body ++ d ∷ more ≡ e.before ++ (longer ++ more) =
-    ap (λ (t : List ℕ). t ++ d ∷ more) e.parts ∙ append_assoc e.before e.run (d ∷ more) ∙ ap (λ (t : List ℕ). e.before ++ t) (sym (append_assoc e.run (d ∷ []) more)) in
-    omega (arith, large, e.total, value_push 0 e.run d, is.runs e.before longer more parts (AreDigits-push e.run d e.digits p))
-
-pub no_body : (body more : List ℕ) (b : ℕ) → ¬ IsBodyByte b → IsBody (body ++ b ∷ more) → ⊥
-no_body body more b other is = other (All-back IsBodyByte body (b ∷ more) is.bytes).0
 
 -- ---- bytes of which nothing is sure
 
@@ -62,39 +28,15 @@ unsure_body limit m body o =
 pub body_unsure : (limit : ℕ) (m : Mode) (body : List ℕ) → IsBody body → length body + 2 < limit → IsUnsure limit m (27 ∷ 91 ∷ body)
 body_unsure limit m body b lt = subst (λ (f : Answer). IsUnsureBy f limit (27 ∷ 91 ∷ body)) (sym (opens m body)) (inr (inr (body, refl, b)), omega arith)
 
--- ---- one byte more
-
-pub digit_step : (r : Option ℕ) (n d : ℕ) → IsDigit d → MatchOption r (largest < 10 * n + (d - 48)) (λ m. (m ≡ 10 * n + (d - 48)) × (m ≤ largest)) → MatchOption r ((more : List ℕ) → Stops n (d ∷ more)) (Adds n (d ∷ []))
-digit_step None n d p h = λ more. record { none = λ body e is. too_large body more n d e p h is }
-digit_step (Some m) n d p h = record { on = λ body e. digit_on body n d m e p h.0 h.1 }
-
-pub other_step : (b n : ℕ) → IsBodyByte b → ¬ IsDigit b → Adds n (b ∷ []) 0
-other_step b n p other = record { on = λ body e. other_on body n b e p other }
-
-pub stop_step : (b n : ℕ) → ¬ IsBodyByte b → (more : List ℕ) → Stops n (b ∷ more)
-stop_step b n other more = record { none = λ body e is. no_body body more b other is }
-
 -- ---- some bytes more
 
-pub read_none : (first : ℕ) (bytes : List ℕ) → IsRead first bytes first bytes
-read_none first bytes = record { done = []; parts = refl; adds = record { on = λ body e. rw (append-nil body) e } }
-
-pub read_more : (first : ℕ) (bytes : List ℕ) (last : ℕ) (rest : List ℕ) (b : ℕ) (others : List ℕ) (next : ℕ) → IsRead first bytes last rest → rest ≡ b ∷ others → Adds last (b ∷ []) next → IsRead first bytes next others
-read_more first bytes last rest b others next r e a = record {
-  done = r.done ++ b ∷ [];
-  parts = r.parts ∙ ap (λ (t : List ℕ). r.done ++ t) e ∙ sym (append_assoc r.done (b ∷ []) others);
-  adds = record { on = λ body at. subst (λ (t : List ℕ). EndsIn t next) (append_assoc body r.done (b ∷ [])) (a.on (body ++ r.done) (r.adds.on body at)) };
-}
-
-pub read_all : (first : ℕ) (bytes : List ℕ) (last : ℕ) (rest : List ℕ) → IsRead first bytes last rest → length rest < 1 → Adds first bytes last
-read_all first bytes last [] r none = subst (λ (t : List ℕ). Adds first t last) (sym (r.parts ∙ append-nil r.done)) r.adds
-read_all first bytes last (b ∷ rest) r none = absurd (omega arith)
-
-pub read_stops : (first : ℕ) (bytes : List ℕ) (last : ℕ) (rest : List ℕ) (b : ℕ) (others : List ℕ) → IsRead first bytes last rest → rest ≡ b ∷ others → ((more : List ℕ) → Stops last (b ∷ more)) → Stops first bytes
-read_stops first bytes last rest b others r e s = record {
+pub stops : (first : ℕ) (bytes rest : List ℕ) → IsStopped first bytes rest → Stops first bytes
+stops first bytes rest s = record {
   none = λ body at is.
-      let whole : body ++ bytes ≡ (body ++ r.done) ++ b ∷ others = ap (λ (t : List ℕ). body ++ t) (r.parts ∙ ap (λ (t : List ℕ). r.done ++ t) e) ∙ sym (append_assoc body r.done (b ∷ others)) in
-      (s others).none (body ++ r.done) (r.adds.on body at) (subst IsBody whole is);
+      let front = s.done ++ s.byte ∷ [] in
+      let whole : body ++ bytes ≡ (body ++ front) ++ s.others =
+      ap (λ (t : List ℕ). body ++ t) (s.parts ∙ ap (λ (t : List ℕ). s.done ++ t) s.front ∙ sym (append_assoc s.done (s.byte ∷ []) s.others)) ∙ sym (append_assoc body front s.others) in
+      s.stops.none body at (IsBody-front (body ++ front) s.others (subst IsBody whole is));
 }
 
 -- ---- a beginning

@@ -1,42 +1,23 @@
 //! The bytes that wait, and what each look at one costs.
-ghost use Rattle.std.specs.Prelude.{◌≡◌, ◌≤◌, ◌+◌, ◌++◌, ◌∷◌, ℕ, List, [], length, drop, vec_len, MatchOption, OnErr, OnOk, true};
-ghost use Rattle.std.specs.Borrow.{ftrue};
+ghost use Rattle.std.specs.Prelude.{◌≡◌, ◌≤◌, ◌+◌, ◌++◌, ℕ, List, [], length, drop, vec_len, MatchOption, OnErr, OnOk, true};
 ghost use Rattle.csicodec_spans.specs.declared.table.Mode.{Mode};
 ghost use Rattle.csicodec_spans.specs.Parts.{IsUnsure};
-ghost use Rattle.csicodec_spans.specs.Private.Begun.{Adds, IsBegun, Stops};
+ghost use Rattle.csicodec_tokens.specs.Body.{Adds, Stops};
+ghost use Rattle.csicodec_spans.specs.Private.Begun.{IsBegun};
 
-use csicodec_tokens::with_digit;
+use csicodec_tokens::{Count, walk_body};
 use std::alloc::{AllocError, Global};
 use std::marker::Model;
 
-const _: () = prove!(std::mem::size_of::<Looks>() == 0);
-
-/// The number that ends a body with one more byte, where the body ends in `number`; none where no body goes on so.
-#[inline(always)]
-fn with_byte(number: u64, byte: u8) -> Option<u64>
-    ensures { MatchOption result ((more : List ℕ) → Stops number (byte ∷ more)) (Adds number (byte ∷ [])) }
-{
-    match byte {
-        b'0'..=b'9' => with_digit(number, byte),
-        b' '..=b'/' => Some(0),
-        b':'..=b'?' => Some(0),
-        0x00..=0x1f => None,
-        0x40..=0xff => None,
-    }
-}
-
-/// The same with some bytes more.
-#[tactic(auto, using(csicodec_tokens::proofs::Reading::first_cut, crate::proofs::Begun::read_none, crate::proofs::Begun::read_more, crate::proofs::Begun::read_all))]
+/// The number that ends a body with some bytes more, where the body ends in `number`; none where no body goes on so.
+#[tactic(auto, using(crate::proofs::Begun::stops))]
 pub(crate) fn with_bytes(number: u64, bytes: &[u8]) -> Option<u64>
     ensures { MatchOption result (Stops number bytes.now) (Adds number bytes.now) }
 {
-    let mut last = number;
-    let mut rest = bytes;
-    while let [byte, others @ ..] = rest {
-        last = with_byte(last, *byte)?;
-        rest = others;
+    match walk_body(number, bytes) {
+        Ok(last) => Some(last),
+        Err(_) => None,
     }
-    Some(last)
 }
 
 /// The number that ends bytes of which nothing is sure, where they begin a control sequence's body.
@@ -50,28 +31,6 @@ fn begun(bytes: &[u8]) -> Option<u64>
     with_bytes(0, bytes.split_at(2).1)
 }
 
-/// A number of looks that only contracts see. It takes no bytes, and does nothing at run time.
-#[derive(Drop)]
-struct Looks {
-    pub ghost total: { ℕ },
-}
-
-impl Model for Looks {
-    ghost also_owns = { λ _. ftrue };
-}
-
-impl Looks {
-    fn new() -> Looks
-        ensures { result.total ≡ 0 }
-    {
-        Looks {}
-    }
-
-    fn charge(&mut self, _looks: usize)
-        ensures { self.new.total ≡ self.old.total + _looks }
-    {}
-}
-
 /// The bytes that wait. Each look at one, and each copy of one, is counted, in a count that contracts alone see.
 ///
 /// [`Waiting`](crate::Waiting) can get at the bytes in no other way: so that its looks stay linear in what comes is a promise about all that
@@ -79,7 +38,7 @@ impl Looks {
 #[derive(Drop)]
 pub(crate) struct Held {
     bytes: Vec<u8>,
-    looks: Looks,
+    looks: Count,
 }
 
 impl Model for Held {
@@ -97,7 +56,7 @@ impl Held {
     {
         Held {
             bytes: Vec::new(alloc),
-            looks: Looks::new(),
+            looks: Count::new(),
         }
     }
 
@@ -115,7 +74,7 @@ impl Held {
         ensures err { OnErr result (self.new ≡ self.old) }
     {
         self.bytes.extend_from_slice(bytes)?;
-        self.looks.charge(bytes.len());
+        self.looks.charge(1, bytes.len());
         Ok(())
     }
 
@@ -124,7 +83,7 @@ impl Held {
         ensures all { result.items ≡ self.old.bytes }
         ensures costs { self.new ≡ record { bytes = []; looks = self.old.looks + length self.old.bytes } }
     {
-        self.looks.charge(self.bytes.len());
+        self.looks.charge(1, self.bytes.len());
         let alloc = *self.bytes.allocator();
         std::mem::replace(&mut self.bytes, Vec::new(alloc))
     }
@@ -138,7 +97,7 @@ impl Held {
         let len = rest.len();
         rest.copy_within(used..len, 0);
         rest.truncate(len - used);
-        self.looks.charge(len - used);
+        self.looks.charge(1, len - used);
         self.bytes = rest;
     }
 
@@ -148,7 +107,7 @@ impl Held {
         ensures is { (limit : ℕ) (mode : Mode) → IsUnsure limit mode self.old.bytes → IsBegun self.old.bytes result }
         ensures costs { self.new ≡ record { bytes = self.old.bytes; looks = self.old.looks + length self.old.bytes } }
     {
-        self.looks.charge(self.bytes.len());
+        self.looks.charge(1, self.bytes.len());
         begun(&self.bytes)
     }
 
@@ -157,7 +116,7 @@ impl Held {
         ensures appended { OnOk result (out.new.items ≡ out.old.items ++ self.old.bytes) }
         ensures costs { self.new ≡ record { bytes = []; looks = self.old.looks + length self.old.bytes } }
     {
-        self.looks.charge(self.bytes.len());
+        self.looks.charge(1, self.bytes.len());
         let appended = out.extend_from_slice(&self.bytes);
         self.bytes.clear();
         appended

@@ -4,7 +4,8 @@ ghost use Rattle.csicodec_spans.specs.declared.table.Mode.{Mode};
 ghost use Rattle.csicodec_spans.specs.declared.table.Mode.TheVariants.{Text};
 ghost use Rattle.csicodec_spans.specs.Parts.{IsUnsure};
 ghost use Rattle.csicodec_spans.specs.Waits.{IsOnce};
-ghost use Rattle.csicodec_spans.specs.Private.Begun.{Adds, IsBegun, Stops, Tells};
+ghost use Rattle.csicodec_tokens.specs.Body.{Adds, Stops};
+ghost use Rattle.csicodec_spans.specs.Private.Begun.{IsBegun, Tells};
 
 use crate::held::{Held, with_bytes};
 use crate::table::Mode;

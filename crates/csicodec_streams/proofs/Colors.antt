@@ -7,7 +7,7 @@ use Rattle.std.proofs.lemmas.Int.{ints}
 use Rattle.std.proofs.lemmas.Simd.{tops_compared}
 use Rattle.std.proofs.lemmas.List.{map-append, take-map, take-take, take_all}
 use Rattle.std.specs.Fmt.{decimal}
-use Rattle.std.specs.Prelude.{replicate}
+use Rattle.std.specs.Prelude.{Option, None, replicate}
 use Rattle.std.specs.Simd.Lanes.{sel_l, top, zip2}
 use Rattle.csicodec_tokens.specs.declared.param.CsiParam.{CsiParam}
 use Rattle.csicodec_tokens.specs.declared.param.CsiParam.TheVariants.{Integer, P}
@@ -29,7 +29,7 @@ use Rattle.csicodec_streams.proofs.Known.{read_known, read_one, slice_from}
 use Rattle.csicodec_streams.proofs.Positions.{own}
 use Rattle.csicodec_streams.specs.Colors.{IsColored, IsOpaque, color_list, plane_byte}
 use Rattle.csicodec_streams.specs.Known.{IsNormal}
-use Rattle.csicodec_streams.specs.Private.Steps.{IsColor, IsPart, color_tokens, with_colon}
+use Rattle.csicodec_streams.specs.Private.Steps.{IsColor, IsPainted, IsPart, color_tokens, styles, with_colon}
 
 -- ---- parts
 
@@ -171,18 +171,24 @@ listed_spelled plane color o = (
 pub listed_spellable : (plane : Plane) (color : ColorSpec) → IsOpaque color → Spellable (listed plane color)
 listed_spellable plane color o = (code_spellable plane, tt, (mark_spellable, tt, color_spellable color o))
 
-color_actions : (plane : Plane) (color : ColorSpec) → IsOpaque color → actions (listed plane color) false 109 ≡ Sgr (painted plane color) ∷ []
-color_actions plane Default o = absurd o
-color_actions plane (PaletteIndex i) o = rw (color_piece plane (PaletteIndex i) o) refl
-color_actions plane (TrueColor c) o = rw (color_piece plane (TrueColor c) o) refl
+color_actions : (plane : Plane) (color : ColorSpec) (flag : Bool) → IsOpaque color → actions (listed plane color) flag 109 ≡ Sgr (painted plane color) ∷ []
+color_actions plane Default flag o = absurd o
+color_actions plane (PaletteIndex i) flag o = rw (color_piece plane (PaletteIndex i) o) refl
+color_actions plane (TrueColor c) flag o = rw (color_piece plane (TrueColor c) o) refl
+
+colors_mean : (plane : Plane) (color : ColorSpec) (flag : Bool) → IsOpaque color
+    → Actions (listed plane color) flag 109 (Sgr (painted plane color) ∷ [])
+colors_mean plane color flag o = subst (λ (xs : List Action). Actions (listed plane color) flag 109 xs) (color_actions plane color flag o)
+    (actions_are (listed plane color) flag 109)
 
 pub color_means : (plane : Plane) (color : ColorSpec) → IsOpaque color
     → Actions (listed plane color) false 109 (Sgr (painted plane color) ∷ [])
-color_means plane color o = subst (λ (xs : List Action). Actions (listed plane color) false 109 xs) (color_actions plane color o)
-    (actions_are (listed plane color) false 109)
+color_means plane color o = colors_mean plane color false o
 
-pub color_read : (bytes rest : List ℕ) (sgr : sgr_type.Sgr) → IsColored bytes sgr rest
-    → (list : List CsiParam) × Reads bytes list 109 rest × Actions list false 109 (Sgr sgr ∷ [])
+abbrev pub GivesStyles : List ℕ → List ℕ → sgr_type.Sgr → Option sgr_type.Sgr → Type 0
+GivesStyles bytes rest first second = (list : List CsiParam) × Reads bytes list 109 rest × ((flag : Bool) → Actions list flag 109 (styles first second))
+
+pub color_read : (bytes rest : List ℕ) (sgr : sgr_type.Sgr) → IsColored bytes sgr rest → GivesStyles bytes rest sgr None
 color_read bytes rest sgr (plane, color, o, is, e) =
     let body : List ℕ = plane_byte plane ∷ 56 ∷ 59 ∷ color_list color in (
       listed plane color,
@@ -197,7 +203,65 @@ color_read bytes rest sgr (plane, color, o, is, e) =
         },
         e ∙ ap (λ (l : List ℕ). 27 ∷ 91 ∷ plane_byte plane ∷ 56 ∷ 59 ∷ l) (sym (append_assoc (color_list color) (109 ∷ []) rest)),
       ),
-      subst (λ (s : sgr_type.Sgr). Actions (listed plane color) false 109 (Sgr s ∷ [])) (sym is) (color_means plane color o),
+      λ flag. subst (λ (s : sgr_type.Sgr). Actions (listed plane color) flag 109 (Sgr s ∷ [])) (sym is) (colors_mean plane color flag o),
+    )
+
+-- ---- two colours
+
+spells_more : (list more : List CsiParam) (x y : List ℕ) → Spells x list → Spells y more → Spells (x ++ y) (list ++ more)
+spells_more [] more x y e h = rw e h
+spells_more (t ∷ ts) more x y (front, rest, e, s, o) h = (front, rest ++ y, ap (λ (l : List ℕ). l ++ y) e ∙ append_assoc front rest y, s, spells_more ts more rest y o h)
+
+spellable_more : (list more : List CsiParam) → Spellable list → Spellable more → Spellable (list ++ P 59 ∷ more)
+spellable_more [] more h g = (mark_spellable, tt, g)
+spellable_more (P b ∷ ts) more (s, a, h) g = (s, tt, spellable_more ts more h g)
+spellable_more (Integer z ∷ []) more (s, a, h) g = (s, tt, spellable_more [] more h g)
+spellable_more (Integer z ∷ P b ∷ ts) more (s, a, h) g = (s, tt, spellable_more (P b ∷ ts) more h g)
+spellable_more (Integer z ∷ Integer y ∷ ts) more (s, a, h) g = absurd a
+
+-- whatever follows it
+first_piece : (plane : Plane) (color : ColorSpec) (more : List CsiParam) → IsOpaque color
+    → piece (listed plane color ++ P 59 ∷ more) ≡ Some (painted plane color, 2 + length (color_tokens color))
+unfolding piece
+first_piece plane Default more o = absurd o
+first_piece Front (PaletteIndex i) more fits = rw (lt-ltb i 256 fits) refl
+first_piece _ (PaletteIndex i) more fits = rw (lt-ltb i 256 fits) refl
+first_piece Front (TrueColor c) more (red, green, blue, opaque) = rw (lt-ltb c.0 256 red, lt-ltb c.1 256 green, lt-ltb c.2 256 blue) (rw (← opaque) refl)
+first_piece _ (TrueColor c) more (red, green, blue, opaque) = rw (lt-ltb c.0 256 red, lt-ltb c.1 256 green, lt-ltb c.2 256 blue) (rw (← opaque) refl)
+
+two_actions : (p q : Plane) (c d : ColorSpec) (flag : Bool) → IsOpaque c → IsOpaque d
+    → actions (listed p c ++ P 59 ∷ listed q d) flag 109 ≡ Sgr (painted p c) ∷ Sgr (painted q d) ∷ []
+two_actions p q Default d flag o more = absurd o
+two_actions p q (PaletteIndex i) Default flag o more = absurd more
+two_actions p q (TrueColor c) Default flag o more = absurd more
+two_actions p q (PaletteIndex i) (PaletteIndex j) flag o more = rw (first_piece p (PaletteIndex i) (listed q (PaletteIndex j)) o, color_piece q (PaletteIndex j) more) refl
+two_actions p q (PaletteIndex i) (TrueColor d) flag o more = rw (first_piece p (PaletteIndex i) (listed q (TrueColor d)) o, color_piece q (TrueColor d) more) refl
+two_actions p q (TrueColor c) (PaletteIndex j) flag o more = rw (first_piece p (TrueColor c) (listed q (PaletteIndex j)) o, color_piece q (PaletteIndex j) more) refl
+two_actions p q (TrueColor c) (TrueColor d) flag o more = rw (first_piece p (TrueColor c) (listed q (TrueColor d)) o, color_piece q (TrueColor d) more) refl
+
+pub colors_read : (bytes behind mid more last rest : List ℕ) (first second : sgr_type.Sgr) → bytes ≡ 27 ∷ 91 ∷ behind → IsPainted behind first mid → mid ≡ 59 ∷ more → IsPainted more second last → last ≡ 109 ∷ rest
+    → GivesStyles bytes rest first (Some second)
+colors_read bytes behind mid more last rest first second begins (p, c, o, is, e) then (q, d, u, same, f) ends =
+    let x : List ℕ = plane_byte p ∷ 56 ∷ 59 ∷ color_list c in
+    let y : List ℕ = plane_byte q ∷ 56 ∷ 59 ∷ color_list d in
+    let body : List ℕ = x ++ 59 ∷ y in
+    let list : List CsiParam = listed p c ++ P 59 ∷ listed q d in
+    let next : mid ≡ 59 ∷ (y ++ 109 ∷ rest) = then ∙ ap (λ (l : List ℕ). 59 ∷ l) (f ∙ ap (λ (l : List ℕ). y ++ l) ends) in
+    let all : behind ≡ (body ++ 109 ∷ []) ++ rest =
+    e ∙ ap (λ (l : List ℕ). x ++ l) next ∙ sym (append_assoc x (59 ∷ y) (109 ∷ rest)) ∙ sym (append_assoc body (109 ∷ []) rest) in (
+      list,
+      (
+        27 ∷ 91 ∷ (body ++ 109 ∷ []),
+        record {
+          spellable = spellable_more (listed p c) (listed q d) (listed_spellable p c o) (listed_spellable q d u);
+          ends = (omega arith, omega arith);
+          body = body;
+          spelled = spells_more (listed p c) (P 59 ∷ listed q d) x (59 ∷ y) (listed_spelled p c o) (59 ∷ [], y, refl, refl, listed_spelled q d u);
+          whole = refl;
+        },
+        begins ∙ ap (λ (l : List ℕ). 27 ∷ 91 ∷ l) all,
+      ),
+      λ flag. rw (is, same) (subst (λ (xs : List Action). Actions list flag 109 xs) (two_actions p q c d flag o u) (actions_are list flag 109)),
     )
 
 -- its normal form is the text of the attribute
@@ -229,17 +293,14 @@ color_short bytes rest sgr (plane, color, o, is, e) =
     (omega (arith, long), omega (arith, long, list_short color o))
 
 -- how it stands in front
-pub color_stands : (plane : Plane) (color : ColorSpec) (sgr : sgr_type.Sgr) (bytes behind end rest : List ℕ) → sgr ≡ painted plane color
-    → bytes ≡ 27 ∷ 91 ∷ plane_byte plane ∷ 56 ∷ 59 ∷ behind → IsColor behind color end → end ≡ 109 ∷ rest
-    → IsColored bytes sgr rest
-color_stands plane color sgr bytes behind end rest is begins (o, list) ends = (
-  plane,
-  color,
-  o,
-  is,
-  begins ∙ ap (λ (l : List ℕ). 27 ∷ 91 ∷ plane_byte plane ∷ 56 ∷ 59 ∷ l)
-      (list ∙ ap (λ (l : List ℕ). color_list color ++ l) ends),
-)
+pub painted_stands : (plane : Plane) (color : ColorSpec) (sgr : sgr_type.Sgr) (bytes behind rest : List ℕ) → sgr ≡ painted plane color
+    → bytes ≡ plane_byte plane ∷ 56 ∷ 59 ∷ behind → IsColor behind color rest → IsPainted bytes sgr rest
+painted_stands plane color sgr bytes behind rest is begins (o, list) =
+    (plane, color, o, is, begins ∙ ap (λ (l : List ℕ). plane_byte plane ∷ 56 ∷ 59 ∷ l) list)
+
+pub color_stands : (bytes behind end rest : List ℕ) (sgr : sgr_type.Sgr) → bytes ≡ 27 ∷ 91 ∷ behind → IsPainted behind sgr end → end ≡ 109 ∷ rest → IsColored bytes sgr rest
+color_stands bytes behind end rest sgr begins (plane, color, o, is, e) ends =
+    (plane, color, o, is, begins ∙ ap (λ (l : List ℕ). 27 ∷ 91 ∷ l) (e ∙ ap (λ (l : List ℕ). plane_byte plane ∷ 56 ∷ 59 ∷ (color_list color ++ l)) ends))
 
 -- ---- parts with colons
 
@@ -325,6 +386,6 @@ colons_normal bytes parts rest digit len sgr (plane, TrueColor c, (red, green, b
 
 -- ---- what stands in front
 
-pub five_cut : (xs : List ℕ) (d : ℕ) → 5 ≤ length xs → get_or xs 0 0 ≡ 27 → get_or xs 1 0 ≡ 91 → get_or xs 2 0 ≡ d → get_or xs 3 0 ≡ 56 → get_or xs 4 0 ≡ 59 → xs ≡ 27 ∷ 91 ∷ d ∷ 56 ∷ 59 ∷ take (length xs - 5) (drop 5 xs)
-five_cut (x ∷ y ∷ z ∷ u ∷ v ∷ xs) d some a b e f g = rw (a, b, e, f, g) (ap (λ (l : List ℕ). 27 ∷ 91 ∷ d ∷ 56 ∷ 59 ∷ l) (sym (take_all (length (x ∷ y ∷ z ∷ u ∷ v ∷ xs) - 5) xs (omega arith))))
-five_cut _ d some a b e f g = absurd (omega (arith, some))
+pub three_cut : (xs : List ℕ) (a b c : ℕ) → 3 ≤ length xs → get_or xs 0 0 ≡ a → get_or xs 1 0 ≡ b → get_or xs 2 0 ≡ c → xs ≡ a ∷ b ∷ c ∷ take (length xs - 3) (drop 3 xs)
+three_cut (x ∷ y ∷ z ∷ xs) a b c some e f g = rw (e, f, g) (ap (λ (l : List ℕ). a ∷ b ∷ c ∷ l) (sym (take_all (length (x ∷ y ∷ z ∷ xs) - 3) xs (omega arith))))
+three_cut _ a b c some e f g = absurd (omega (arith, some))

@@ -16,8 +16,8 @@ use Rattle.csicodec_actions.specs.Table.{text}
 use Rattle.csicodec_actions.specs.Written.{Written, tokens, two, write, written_text}
 use Rattle.csicodec_actions.specs.declared.cursor.Cursor.{Cursor}
 use Rattle.csicodec_actions.specs.declared.cursor.Cursor.TheVariants as cursor
-use Rattle.csicodec_lists.proofs.Back.{read-back}
-use Rattle.csicodec_lists.proofs.Items.{IsRead, Sound, sound}
+use Rattle.csicodec_actions.proofs.Back.{read-back}
+use Rattle.csicodec_actions.proofs.Items.{IsRead, Sound, sound}
 use Rattle.csicodec_parser.specs.Segments.{Actions}
 use Rattle.csicodec_streams.specs.Known.{IsNormal, IsPosition}
 use Rattle.csicodec_streams.specs.Private.Steps.{IsNumber}

@@ -1,5 +1,5 @@
 //! Colours: the sequence of one is read at the front, and its normal form written, without a list of its tokens.
-ghost use Rattle.std.specs.Prelude.{◌≡◌, ◌+◌, ◌-◌, ◌<◌, ◌≤◌, ◌∷◌, [], ◌++◌, ℕ, List, false, length, map, take, IfSome, OnErr, OnOk};
+ghost use Rattle.std.specs.Prelude.{◌≡◌, ◌+◌, ◌-◌, ◌<◌, ◌≤◌, ◌∷◌, [], ◌++◌, ℕ, Bool, List, false, length, map, take, IfSome, OnErr, OnOk};
 ghost use Rattle.csicodec_tokens.specs.declared.param.CsiParam.{CsiParam};
 ghost use Rattle.csicodec_tokens.specs.Sequence.{Reads};
 ghost use Rattle.csicodec_actions.specs.Actions.{Sgr as Styled};
@@ -9,7 +9,7 @@ ghost use Rattle.csicodec_base.specs.declared.sgr.Sgr.{Sgr as Attribute};
 ghost use Rattle.csicodec_parser.specs.Segments.{Actions};
 ghost use Rattle.csicodec_streams.specs.Colors.{IsColored, plane_byte};
 ghost use Rattle.csicodec_streams.specs.Known.{AreKnown, IsNormal};
-ghost use Rattle.csicodec_streams.specs.Private.Steps.{IsColor, IsPart, with_colon};
+ghost use Rattle.csicodec_streams.specs.Private.Steps.{IsColor, IsPainted, IsPart, styles, with_colon};
 
 use crate::memo::{Memo, Normal};
 use crate::position::take_position;
@@ -90,6 +90,18 @@ fn painted(digit: u8, color: ColorSpec) -> Option<Sgr>
     }
 }
 
+/// The attribute that gives the colour in front, `38;2;r;g;b` or `38;5;n`, or with 48 or 58, and what is behind it.
+#[inline(always)]
+fn painted_front(bytes: &[u8]) -> Option<(Sgr, &[u8])>
+    ensures { IfSome result (λ f. IsPainted bytes.now f.0 f.1.now) }
+{
+    let [digit, b'8', b';', behind @ ..] = bytes else {
+        return None;
+    };
+    let (color, rest) = color_front(behind)?;
+    Some((painted(*digit, color)?, rest))
+}
+
 /// The attribute of a sequence in front that gives one colour with semicolons, `38;2;r;g;b` or `38;5;n` before `m`, or with 48 or 58,
 /// and what is behind it. It may be None of other spellings, as of a number with a 0 in front.
 #[inline(always)]
@@ -99,14 +111,38 @@ pub fn read_color(bytes: &[u8]) -> Option<(Sgr, &[u8])>
         × Actions list false 109 (Styled f.0 ∷ [])) }
     ensures short { IfSome result (λ f. (length f.1.now ≤ length bytes.now) × (length bytes.now ≤ length f.1.now + 19)) }
 {
-    let [0x1b, b'[', digit, b'8', b';', behind @ ..] = bytes else {
+    let [0x1b, b'[', behind @ ..] = bytes else {
         return None;
     };
-    let (color, end) = color_front(behind)?;
+    let (sgr, end) = painted_front(behind)?;
     let [b'm', rest @ ..] = end else {
         return None;
     };
-    Some((painted(*digit, color)?, rest))
+    Some((sgr, rest))
+}
+
+/// The attributes of a sequence in front that gives one colour or two, and what is behind it.
+#[inline(always)]
+pub(crate) fn read_colors(bytes: &[u8]) -> Option<(Sgr, Option<Sgr>, &[u8])>
+    ensures read { IfSome result (λ f. (list : List CsiParam) × Reads bytes.now list 109 f.2.now
+        × ((flag : Bool) → Actions list flag 109 (styles f.0 f.1))) }
+    ensures fewer { IfSome result (λ f. length f.2.now < length bytes.now) }
+{
+    let [0x1b, b'[', behind @ ..] = bytes else {
+        return None;
+    };
+    let (first, end) = painted_front(behind)?;
+    match end {
+        [b'm', rest @ ..] => Some((first, None, rest)),
+        [b';', more @ ..] => {
+            let (second, last) = painted_front(more)?;
+            let [b'm', rest @ ..] = last else {
+                return None;
+            };
+            Some((first, Some(second), rest))
+        }
+        _ => None,
+    }
 }
 
 /// What begins with the normal form of a true colour, by the first digit of its code, and by its parts with what is behind them.

@@ -5,12 +5,13 @@ ghost use Rattle.csicodec_actions.specs.Actions.{Action};
 ghost use Rattle.csicodec_parser.specs.ActionOf.{action_of};
 ghost use Rattle.csicodec_streams.specs.Decoding.{Decodes, NormalisesTo};
 ghost use Rattle.csicodec_parser.specs.Segments.{Actions};
-ghost use Rattle.csicodec_streams.specs.Private.Steps.{DecodesFront, StopsAt};
+ghost use Rattle.csicodec_streams.specs.Private.Steps.{DecodesFront, StopsAt, styles};
 ghost use Rattle.csicodec_streams.specs.Refusals.{RefusesDecode, refusal_of};
 ghost use Rattle.csicodec_actions.specs.Table.{texts};
 
+use crate::color::read_colors;
 use crate::error::DecodeError;
-use csicodec_base::{CsiParam, ReadError, read_csi_into, read_csi_within};
+use csicodec_base::{CsiParam, ReadError, Sgr, read_csi_into, read_csi_within};
 use csicodec_parser::{CSI, Look, Sink, Texts, Tokens, list_into};
 use std::alloc::{AllocError, Global};
 
@@ -70,6 +71,19 @@ fn long_into<S: Sink>(
     list_into(alloc, &mut tokens, parameters_truncated, control, sink)
 }
 
+/// One attribute or two, into a sink.
+#[inline(always)]
+fn styles_into<S: Sink>(first: Sgr, second: Option<Sgr>, sink: &mut S) -> Result<(), AllocError>
+    ensures { OnOk result ((before : List Action) → S.holds sink.old before
+        → S.holds sink.new (before ++ styles first second)) }
+{
+    sink.take(CSI::Sgr(first))?;
+    match second {
+        Some(sgr) => sink.take(CSI::Sgr(sgr)),
+        None => Ok(()),
+    }
+}
+
 /// The actions of the sequences at the front of the bytes, one after the other, into a sink.
 #[inline(always)]
 fn front_into<'a, S: Sink>(
@@ -90,6 +104,11 @@ fn front_into<'a, S: Sink>(
     let mut room = [CsiParam::P(0); SHORT];
     let mut rest = bytes;
     while !rest.is_empty() {
+        if let Some((first, second, behind)) = read_colors(rest) {
+            styles_into(first, second, sink)?;
+            rest = behind;
+            continue;
+        }
         if let Ok(read) = read_csi_within(&mut room, rest) {
             let (list, _) = room.split_at(read.count);
             let mut tokens = Tokens::new(list);

@@ -21,7 +21,7 @@ use crate::token::{put_all, put_one};
 use csicodec::CsiParam::{Integer, P};
 use csicodec::laws::segmentation;
 use csicodec::{CSI, CsiParam, Device, DeviceAttributes, Window, XtSmGraphicsItem};
-use csicodec_lists::{device_action, graphics_ref, window_action};
+use csicodec_actions::{device_action, graphics_ref, window_action};
 use csicodec_parser::ActionRef;
 use std::alloc::{AllocError, Global};
 

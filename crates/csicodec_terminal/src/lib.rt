@@ -6,4 +6,4 @@ pub mod laws;
 mod regular;
 mod terminal;
 
-pub use terminal::terminal_actions;
+pub use terminal::{terminal_actions, terminal_actions_into};

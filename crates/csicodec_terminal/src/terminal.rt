@@ -1,7 +1,8 @@
 //! The actions of a list as terminals take it.
-ghost use Rattle.std.specs.Prelude.{◌≡◌, IfOk, map};
+ghost use Rattle.std.specs.Prelude.{◌≡◌, IfOk, OnOk, map};
 ghost use Rattle.csicodec_parser.specs.ActionOf.{action_of};
 ghost use Rattle.csicodec_parser.specs.Groups.{group as group_of_list};
+ghost use Rattle.csicodec_parser.specs.Segments.{Actions};
 ghost use Rattle.csicodec_parser.specs.declared.group.Group.TheVariants.{Whole};
 ghost use Rattle.csicodec_terminal.specs.Terminal.{Anew, Terminal, has_unknown, is_open, is_unknown};
 
@@ -9,7 +10,7 @@ use crate::cut::{End, cut_anew, one_unknown};
 use crate::regular::regular_list;
 use csicodec_base::CsiParam;
 use csicodec_parser::{CSI, Group};
-use csicodec_streams::parse_all;
+use csicodec_streams::{parse_all, parse_into};
 use std::alloc::{AllocError, Global};
 
 /// Whether it is what none of the rules reads.
@@ -70,6 +71,16 @@ fn anew(group: Group, list: &[CsiParam], end: End) -> Result<Vec<CSI>, AllocErro
     }
 }
 
+/// What the table reads of the list, in place of what there is.
+fn first_into(list: &[CsiParam], end: End, actions: &mut Vec<CSI>) -> Result<(), AllocError>
+    ensures { OnOk result
+        (Actions list.now end.truncated end.control (map action_of actions.new.items)) }
+{
+    actions.clear();
+    parse_into(end.alloc, list, end.truncated, end.control, actions)?;
+    Ok(())
+}
+
 /// The actions of a parameter list as terminals take it. They are those of [`CSI::parse`](csicodec_parser::CSI::parse) where it reads
 /// all of the list. Where it reads nothing or less, a parameter that is left out is 0, which stands for the default
 /// (ECMA-48, 5.4.2). Of what moves the cursor or edits, parameters that its function doesn't have are passed over, and a number from
@@ -91,15 +102,32 @@ pub fn terminal_actions(
     ensures { IfOk result (λ v.
         Terminal params.now parameters_truncated control (map action_of v.items)) }
 {
+    let mut actions = Vec::new(alloc);
+    terminal_actions_into(alloc, params, parameters_truncated, control, &mut actions)?;
+    Ok(actions)
+}
+
+/// The same, in place of what a list has that the caller keeps.
+pub fn terminal_actions_into(
+    alloc: Global,
+    params: &[CsiParam],
+    parameters_truncated: bool,
+    control: char,
+    actions: &mut Vec<CSI>,
+) -> Result<(), AllocError>
+    ensures { OnOk result
+        (Terminal params.now parameters_truncated control (map action_of actions.new.items)) }
+{
     let end = End {
         alloc,
         truncated: parameters_truncated,
         control,
     };
-    let first = parse_all(alloc, params, parameters_truncated, control)?;
+    first_into(params, end, actions)?;
     let group = Group::of(params.first().copied(), control);
-    if !has_unknown(&first) && !is_open(group, params) {
-        return Ok(first);
+    if !has_unknown(actions) && !is_open(group, params) {
+        return Ok(());
     }
-    anew(group, params, end)
+    *actions = anew(group, params, end)?;
+    Ok(())
 }

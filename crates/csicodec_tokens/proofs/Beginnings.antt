@@ -14,10 +14,10 @@ use Rattle.csicodec_tokens.proofs.Spelled.{IsBody-from_spelling}
 
 -- ---- each body spells a list
 
-record IsSpelled (body : List ℕ) : Type 0 where
-  list : List CsiParam
-  spelled : Spells body list
-  spellable : Spellable list
+pub record IsSpelled (body : List ℕ) : Type 0 where
+  pub list : List CsiParam
+  pub spelled : Spells body list
+  pub spellable : Spellable list
 
 apart_any : (y z : ℤ) (list : List CsiParam) → Apart (Integer y) list → Apart (Integer z) list
 apart_any y z [] h = tt
@@ -52,7 +52,7 @@ with_other b rest other h s = record {
   spellable = ((h.bytes.0, other), tt, s.spellable);
 }
 
-spelled_body : (body : List ℕ) → IsBody body → IsSpelled body
+pub spelled_body : (body : List ℕ) → IsBody body → IsSpelled body
 spelled_body [] h = record { list = []; spelled = refl; spellable = tt }
 spelled_body (b ∷ rest) h =
     let s = spelled_body rest (IsBody-back (b ∷ []) rest h) in

@@ -27,9 +27,9 @@ is_begun x (inr (inl e)) = absurd cc
 is_begun x (inr (inr w)) = let e : w.0 ≡ x = cc in subst IsBody e w.2
 
 -- the body of a beginning, and a byte that no body has behind it
-record StopsAt (body : List ℕ) (b : ℕ) : Type 0 where
-  begun : IsBody body
-  stop : IsBody (body ++ b ∷ []) → ⊥
+pub record StopsAt (body : List ℕ) (b : ℕ) : Type 0 where
+  pub begun : IsBody body
+  pub stop : IsBody (body ++ b ∷ []) → ⊥
 
 is_least : (body others : List ℕ) (b : ℕ) → StopsAt body b → IsLeast (27 ∷ 91 ∷ (body ++ b ∷ others)) (length body + 2)
 is_least body others b h = record {
@@ -101,21 +101,23 @@ bad_byte body others b h bad =
     no_final b (inl l) p = omega arith
     no_final b (inr l) p = omega arith
 
+pub large_byte : (body others : List ℕ) (b : ℕ) → StopsAt body b → IsBodyByte b → FaultOf (27 ∷ 91 ∷ (body ++ b ∷ others)) (NumberTooLarge (length body + 2))
+large_byte body others b stops p =
+    (no_seq body others b stops (λ f. omega (arith, f.0, p.1)), (is_least body others b stops, omega arith, λ bad. no_bad b p (subst IsBad (sym (there body others b)) bad)))
+  where
+    no_bad : (b : ℕ) → IsBodyByte b → IsBad b → ⊥
+    no_bad b p (inl l) = omega arith
+    no_bad b p (inr l) = omega arith
+
 pub large_number : (body run others : List ℕ) (d : ℕ) → IsBody (body ++ run) → AreDigits run → IsDigit d → largest < value (run ++ d ∷ [])
     → FaultOf (27 ∷ 91 ∷ ((body ++ run) ++ d ∷ others)) (NumberTooLarge (length (body ++ run) + 2))
-large_number body run others d h digits digit large =
-    let stops : StopsAt (body ++ run) d = record { begun = h; stop = λ more. too_large more } in
-    (no_seq (body ++ run) others d stops (λ f. omega (arith, f.0, digit.1)), (is_least (body ++ run) others d stops, omega arith, λ bad. no_digit d digit (subst IsBad (sym (there (body ++ run) others d)) bad)))
+large_number body run others d h digits digit large = large_byte (body ++ run) others d (record { begun = h; stop = λ more. too_large more }) (omega (arith, digit.0), omega (arith, digit.1))
   where
     too_large : IsBody ((body ++ run) ++ d ∷ []) → ⊥
     too_large more =
         let longer = run ++ d ∷ [] in
         let parts : (body ++ run) ++ d ∷ [] ≡ body ++ (longer ++ []) = append_assoc body run (d ∷ []) ∙ ap (λ (t : List ℕ). body ++ t) (sym (append-nil longer)) in
         omega (arith, large, more.runs body longer [] parts (AreDigits-push run d digits digit))
-
-    no_digit : (b : ℕ) → IsDigit b → IsBad b → ⊥
-    no_digit b d (inl l) = omega arith
-    no_digit b d (inr l) = omega arith
 
 pub cut_short : (body : List ℕ) → IsBody body → FaultOf (27 ∷ 91 ∷ body) (Truncated (length (27 ∷ 91 ∷ body)))
 cut_short body h = (

@@ -10,3 +10,6 @@ pub mod Beginnings
 pub mod Decimal
 pub mod FieldsOf
 pub mod Longer
+pub mod Lanes
+pub mod Walks
+pub mod Stopped

@@ -3,6 +3,7 @@ pub mod OneBased
 pub mod Digits
 pub mod Sequence
 pub mod Fault
+pub mod Body
 pub mod Fields
 pub mod Words
 pub mod Private

@@ -9,6 +9,7 @@ ghost use Rattle.csicodec_tokens.specs.Sequence.{Reads};
 ghost use Rattle.csicodec_tokens.specs.Fault.{FaultOf, Refuses};
 ghost use Rattle.csicodec_tokens.specs.Private.Reading.{IsNumber, IsTooLarge, IsFirstToken, IsPart, HasRead, HasCounted};
 
+use crate::body::walk_body;
 use crate::param::CsiParam;
 use std::alloc::{AllocError, AllocFailed, Global};
 
@@ -111,7 +112,7 @@ fn with_last_digit(number: u64, value: u64) -> Option<u64>
 /// The number that the digits of `number` and one digit more write, or `None` where it is larger than `i64::MAX`. All but the last digits of a
 /// very long number cost one test.
 #[inline(always)]
-pub fn with_digit(number: u64, digit: u8) -> Option<u64>
+pub(crate) fn with_digit(number: u64, digit: u8) -> Option<u64>
     requires { IsDigit digit }
     ensures { MatchOption result (largest < 10 * number + (digit - 48)) (λ n.
         (n ≡ 10 * number + (digit - 48)) × (n ≤ largest)) }
@@ -236,12 +237,16 @@ pub fn behind_csi(bytes: &[u8]) -> Result<&[u8], ReadError>
     // An error is the fault of bytes with none in front.
     ensures refused { IfErr result (FaultOf bytes.now) }
 {
-    let mut rest = behind_introducer(bytes)?;
-    loop {
-        match part_front(bytes, rest)? {
-            Part::Token(_, others) => rest = others,
-            Part::Final(_, others) => return Ok(others),
-        }
+    let Err(rest) = walk_body(0, behind_introducer(bytes)?) else {
+        return Err(ReadError::Truncated { at: bytes.len() });
+    };
+    let at = bytes.len() - rest.len();
+    match rest {
+        [b'@'..=b'~', others @ ..] => Ok(others),
+        [b' '..=b'?', ..] => Err(ReadError::NumberTooLarge { at }),
+        [0x00..=0x1f, ..] => Err(ReadError::BadByte { at }),
+        [0x7f..=0xff, ..] => Err(ReadError::BadByte { at }),
+        [] => Err(ReadError::Truncated { at }),
     }
 }
 

@@ -1,2 +1,3 @@
+pub mod Logged
 pub mod Whole
 pub mod Written

@@ -1,16 +1,18 @@
 -- what a run from a reader to a writer promises, where the bytes of its input are known
 use Rattle.std.proofs.Common.{Bool, true, false, Bor, inr, ◌≡◌, ◌++◌, ℕ, List, [], Option, None, Some, Result, Ok, Err, refl, ◌∙◌, subst}
 use Rattle.std.proofs.Common.{append_assoc}
-use Rattle.std.specs.Prelude.{⊤, IfSome, IsErr, OnErr, OnOk}
-use Rattle.std.proofs.KnownBytes.{Appends-nil, Appends-trans}
+use Rattle.std.specs.Prelude.{IfSome, IsErr, OnErr, OnOk}
+use Rattle.std.proofs.KnownBytes.{Appends-nil}
 use Rattle.std.specs.Io.KnownBytes.{Appends, Consumes, IsAtEnd}
 use Rattle.csicodec_streams.specs.declared.error.RunError.{RunError}
 use Rattle.csicodec_streams.proofs.Streamed.{given_all}
 use Rattle.csicodec_clean.specs.Streams.{Streams}
 use Rattle.std.proofs.lemmas.Result.{on_ok_weaker}
+use Rattle.csicodec_clean.specs.declared.styles.Passing.{Passing}
 use Rattle.csicodec_overwrite.specs.Reading.{Paints}
 use Rattle.csicodec_html.specs.Page.{IsPageWith, PageWith}
 use Rattle.csicodec_html.specs.declared.markup.Markup.{Markup}
+use Rattle.csicodec_tool.specs.Log.{IsLogged, IsLoggedFront}
 use Rattle.csicodec_tool.specs.declared.rewrite.Work.{Work}
 use Rattle.csicodec_tool.specs.declared.rewrite.Work.TheVariants as work
 use Rattle.csicodec_tool.specs.Writes.{FrontsOf, FrontsOfPainted, IsHeaded, IsPageFront, IsWrittenBy}
@@ -56,21 +58,34 @@ streams_written Out Safe result before after old new s = (
 )
 
 -- the same of a run whose promises stand by themselves
-pub run_written : {A E : Type 0} (Out : List ℕ → List ℕ → Type 0) (result : Result A E)
+pub run_written : {A E : Type 0} (Out Front : List ℕ → List ℕ → Type 0) (result : Result A E)
     (before after old new : Option (List ℕ))
     → OnOk result ((bytes : List ℕ) × (text : List ℕ) × Consumes before after bytes × Out bytes text × Appends old new text)
     → OnOk result (IsAtEnd after)
     → OnErr result ((bytes : List ℕ) × (more : List ℕ) × (sent : List ℕ) × (unsent : List ℕ)
-    × Consumes before after (bytes ++ more) × Out bytes (sent ++ unsent) × Appends old new sent)
-    → IsWrittenBy Out (FrontsOf Out) result before old new
-run_written Out result before after old new ok end front = (
+    × Consumes before after (bytes ++ more) × Front bytes (sent ++ unsent) × Appends old new sent)
+    → IsWrittenBy Out (FrontsOf Front) result before old new
+run_written Out Front result before after old new ok end front = (
   on_ok_both result ok end (λ (bytes, text, consumed, out, appended) end.
       known_so before (λ all same. (text, subst (λ (b : List ℕ). Out b text) same out, appended))
       (given_all before after bytes consumed end)),
   on_err_so result front (λ (bytes, more, sent, unsent, consumed, out, appended).
       known_so before (λ all fronts. (sent, fronts, appended))
-      (fronts_known Out before after bytes more sent unsent consumed out)),
+      (fronts_known Front before after bytes more sent unsent consumed out)),
 )
+
+-- the same of a stream whose lines are written as they stand when they end
+pub logged_written : {A E : Type 0} (styles same : Option Passing) (result : Result A E)
+    (before after old new : Option (List ℕ)) → same ≡ styles
+    → OnOk result ((bytes : List ℕ) × (text : List ℕ) × Consumes before after bytes × IsLogged same bytes text
+    × Appends old new text)
+    → OnOk result (IsAtEnd after)
+    → OnErr result ((bytes : List ℕ) × (more : List ℕ) × (sent : List ℕ) × (unsent : List ℕ)
+    × Consumes before after (bytes ++ more) × IsLoggedFront same bytes (sent ++ unsent) × Appends old new sent)
+    → IsWrittenBy (IsLogged styles) (FrontsOf (IsLoggedFront styles)) result before old new
+logged_written styles same result before after old new is ok end front =
+    subst (λ (s : Option Passing). IsWrittenBy (IsLogged s) (FrontsOf (IsLoggedFront s)) result before old new) is
+    (run_written (IsLogged same) (IsLoggedFront same) result before after old new ok end front)
 
 pub known_all : {X : Type 0} {P : X → Type 0} (known : Option X) → ((x : X) → P x) → IfSome known P
 known_all None each = tt
@@ -98,25 +113,6 @@ nothing_written result known out = (
   on_ok_all result (known_all known (λ bytes. ([], refl, Appends-nil out))),
   on_err_all result (known_all known (λ bytes. ([], ([], bytes, [], refl, refl), Appends-nil out))),
 )
-
--- some text was written
-pub some_written : {A E : Type 0} (result : Result A E) (known old new : Option (List ℕ))
-    → ((text : List ℕ) × Appends old new text)
-    → IsWrittenBy (λ bytes text. ⊤) (λ bytes text. ⊤) result known old new
-some_written result known old new (text, appended) = (
-  on_ok_all result (known_all known (λ bytes. (text, tt, appended))),
-  on_err_all result (known_all known (λ bytes. (text, tt, appended))),
-)
-
--- behind some text more went out, or a front of it
-pub sent_more : {A E : Type 0} (result : Result A E) (old mid new : Option (List ℕ)) (text bytes : List ℕ)
-    → Appends old mid text
-    → OnOk result (Appends mid new bytes)
-    → OnErr result ((sent : List ℕ) × (unsent : List ℕ) × (bytes ≡ sent ++ unsent) × Appends mid new sent)
-    → (all : List ℕ) × Appends old new all
-sent_more (Ok a) old mid new text bytes h ok front = (text ++ bytes, Appends-trans old mid new text bytes h ok)
-sent_more (Err e) old mid new text bytes h ok (sent, unsent, same, appended) =
-    (text ++ sent, Appends-trans old mid new text sent h appended)
 
 -- what stands ahead of a page was written, or a front of it
 pub page_headed : {A E : Type 0} (w : Work) (name : Bor (List ℕ)) (markup : Markup)

@@ -1,3 +1,5 @@
 pub mod Alone
+pub mod Log
+pub mod Stream
 pub mod Whole
 pub mod Writes

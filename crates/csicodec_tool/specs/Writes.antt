@@ -1,5 +1,5 @@
 -- What `filter`, `compact`, `strip`, `clean` and `html` write of an input.
-use Rattle.std.specs.Prelude.{ℕ, ◌≡◌, ◌⊎◌, ⊤, true, false, List, [], ◌++◌, Option, Result, Ok, OnOk, OnErr, IfSome, IsErr}
+use Rattle.std.specs.Prelude.{ℕ, ◌≡◌, ◌⊎◌, true, false, List, [], ◌++◌, Option, Result, Ok, OnOk, OnErr, IfSome, IsErr}
 use Rattle.std.specs.Io.KnownBytes.{Appends}
 use Rattle.csicodec_spans.specs.declared.table.Mode.TheVariants.{Text as Plain}
 use Rattle.csicodec_streams.specs.declared.error.RunError.{RunError}
@@ -10,12 +10,13 @@ use Rattle.csicodec_compact.specs.Runs.{CompactsAll}
 use Rattle.csicodec_clean.specs.Cleaned.{Strips, longest}
 use Rattle.csicodec_clean.specs.Styled.{StylesIn}
 use Rattle.csicodec_lines.specs.Lines.{ByLines}
-use Rattle.csicodec_overwrite.specs.Reading.{Overwrites, Paints}
+use Rattle.csicodec_overwrite.specs.Reading.{Paints}
 use Rattle.csicodec_html.specs.declared.markup.Markup.{Markup}
 use Rattle.csicodec_html.specs.declared.sheet.TheConstants.{BEHIND, BODY, HEAD, STYLE}
 use Rattle.csicodec_html.specs.Page.{PageWith}
 use Rattle.csicodec_html.specs.Sheet.{IsTitle, sheet}
 use Rattle.csicodec_command.specs.Runs.{StepsOf, Next, Stream, Recording, End}
+use Rattle.csicodec_tool.specs.Log.{IsLogged, IsLoggedFront, Logs, LogsSome}
 use Rattle.csicodec_tool.specs.declared.rewrite.Job.{Job}
 use Rattle.csicodec_tool.specs.declared.rewrite.Work.{Work}
 use Rattle.csicodec_tool.specs.declared.rewrite.Work.TheVariants as work
@@ -24,15 +25,15 @@ use Rattle.csicodec_tool.specs.declared.rewrite.Work.TheVariants as work
 abbrev pub PaintedPage : Markup → List ℕ → List ℕ → Type 0
 PaintedPage markup bytes page = (painted : List ℕ) × Paints bytes painted × PageWith markup painted page
 
--- All bytes of an input become this text. Of a log nothing is said, and what is only checked has no text.
+-- All bytes of an input become this text. What is only checked has none.
 abbrev pub Writes : Work → List ℕ → List ℕ → Type 0
 Writes (work.Filter true) bytes text = Filters IsFaithful longest Plain bytes text
 Writes (work.Filter false) bytes text = Filters NormalisesTo longest Plain bytes text
 Writes (work.Compact semicolons) bytes text = CompactsAll longest Plain bytes text
 Writes (work.Strip true) bytes text = ByLines (Strips longest) bytes text
 Writes (work.Strip false) bytes text = Strips longest bytes text
-Writes work.Overwrite bytes text = Overwrites bytes text
-Writes (work.Log styles) bytes text = ⊤
+Writes (work.Overwrite styles) bytes text = IsLogged styles bytes text
+Writes (work.Log styles) bytes text = Logs styles bytes text
 Writes work.Check bytes text = text ≡ []
 Writes (work.Clean passing true) bytes text = ByLines (StylesIn passing) bytes text
 Writes (work.Clean passing false) bytes text = StylesIn passing bytes text
@@ -54,7 +55,8 @@ abbrev pub Sends : Work → List ℕ → List ℕ → Type 0
 Sends (work.Filter true) bytes sent = IsFrontOf IsFaithful longest Plain bytes sent
 Sends (work.Filter false) bytes sent = IsFrontOf NormalisesTo longest Plain bytes sent
 Sends (work.Html name markup true fragment begun) bytes sent = FrontsOfPainted markup bytes sent
-Sends (work.Log styles) bytes sent = ⊤
+Sends (work.Overwrite styles) bytes sent = FrontsOf (IsLoggedFront styles) bytes sent
+Sends (work.Log styles) bytes sent = FrontsOf (LogsSome styles) bytes sent
 Sends w bytes sent = FrontsOf (Writes w) bytes sent
 
 -- a text that is so was appended to what was known of the output

@@ -54,6 +54,10 @@ fn failure_of(refusal: Refusal, line: u64) -> Failure {
 impl Alone for Assembly {
     ghost goes = { λ _ _ _ _. ⊤ };
 
+    fn gives_reasons(&self) -> bool {
+        true
+    }
+
     /// Each read's lines are written before the next, those ahead of one that is refused too.
     fn work<R: Read, W: Write>(
         &mut self,

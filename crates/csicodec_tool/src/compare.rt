@@ -106,6 +106,10 @@ impl<'a> Worker for Compared<'a> {
         Recordings::Known
     }
 
+    fn tells_reasons(&self) -> bool {
+        true
+    }
+
     fn begin<W: Write>(&mut self, _name: &str, _output: &mut W) -> Result<(), Failure> {
         Ok(())
     }

@@ -1,85 +1,142 @@
 //! Logs: each line by itself, as it stands when it ends, as plain text or with its styles.
-ghost use Rattle.std.specs.Prelude.{ℕ, List};
-ghost use Rattle.std.specs.Io.KnownBytes.{Appends};
+ghost use Rattle.std.specs.Prelude.{◌≡◌, ◌==◌, ◌++◌, ◌∷◌, [], ℕ, List, IfNone, IfSome, OnErr, OnOk, not, true};
+ghost use Rattle.std.specs.Io.KnownBytes.{Appends, Consumes, IsAtEnd};
+ghost use Rattle.csicodec_filter.specs.Transform.{GoesOn};
+ghost use Rattle.csicodec_tool.specs.Log.{IsLine, IsLogged, IsLoggedFront, Logs, LogsSome};
+ghost use Rattle.csicodec_tool.specs.Stream.{EndsLog, GoesIn, IsIn, PassesLog, passing_of};
 
+use csicodec_assemble::split_line;
 use csicodec_clean::{Cleaner, Kept, Passing};
+use csicodec_filter::{Transform, transform_all};
 use csicodec_overwrite::Overwriter;
-use csicodec_streams::{CHUNK, RunError, receive, send};
+use csicodec_streams::RunError;
 use std::alloc::{AllocError, Global};
 use std::io::{Read, Write};
+
+/// What of the styles of a line passes, and what has come of them.
+#[derive(Drop)]
+struct Styles {
+    passing: Passing,
+    cleaner: Cleaner<Kept>,
+    /// A place that is kept for what is painted.
+    painted: Vec<u8>,
+}
 
 /// A log of which some has come.
 #[derive(Drop)]
 pub struct Log {
     alloc: Global,
-    /// What of styles passes; none where all is plain text.
-    styles: Option<Passing>,
+    /// None where all is plain text.
+    styles: Option<Styles>,
     /// The line that isn't over.
     line: Overwriter,
 }
 
-/// What writes a line.
-fn line_of(alloc: Global, styles: Option<Passing>) -> Overwriter {
-    match styles {
-        Some(_) => Overwriter::painting(alloc),
-        None => Overwriter::new(alloc),
-    }
-}
-
 impl Log {
     /// Of which nothing has come.
-    pub fn new(alloc: Global, styles: Option<Passing>) -> Log {
+    pub fn new(alloc: Global, styles: Option<Passing>) -> Log
+        ensures passing { passing_of result.styles ≡ styles }
+        ensures begun { IsIn result.styles result.line [] [] }
+    {
+        let Some(passing) = styles else {
+            return Log {
+                alloc,
+                styles: None,
+                line: Overwriter::new(alloc),
+            };
+        };
+        let styles = Styles {
+            passing,
+            cleaner: Cleaner::new(alloc, Kept::letting(alloc, passing)),
+            painted: Vec::new(alloc),
+        };
         Log {
             alloc,
-            styles,
-            line: line_of(alloc, styles),
+            styles: Some(styles),
+            line: Overwriter::painting(alloc),
         }
     }
 
-    /// Appends a line, or a part of it, with the styles that pass.
-    fn append(&self, text: &[u8], out: &mut Vec<u8>) -> Result<(), AllocError> {
-        let Some(passing) = self.styles else {
-            return out.extend_from_slice(text);
+    /// Takes a part of the line.
+    fn take_part(&mut self, part: &[u8], out: &mut Vec<u8>) -> Result<(), AllocError>
+        ensures { OnOk result ((text : List ℕ) × GoesIn self.old part.now text self.new
+            × (out.new.items ≡ out.old.items ++ text)) }
+    {
+        let Some(styles) = &mut self.styles else {
+            return self.line.push(part, out);
         };
-        let mut cleaner = Cleaner::new(self.alloc, Kept::letting(self.alloc, passing));
-        cleaner.push(text, out)?;
-        cleaner.finish(out)
+        styles.painted.clear();
+        self.line.push(part, &mut styles.painted)?;
+        styles.cleaner.push(&styles.painted, out)
     }
 
-    /// Takes a part of a line; what is too long for one line is appended.
-    fn take(&mut self, part: &[u8], out: &mut Vec<u8>) -> Result<(), AllocError> {
-        let mut text = Vec::new(self.alloc);
-        self.line.push(part, &mut text)?;
-        self.append(&text, out)
+    /// Appends what is left of the line: nothing of it comes any more.
+    fn end_line(&mut self, out: &mut Vec<u8>) -> Result<(), AllocError>
+        ensures { OnOk result ((text : List ℕ) × EndsLog self.old text
+            × (out.new.items ≡ out.old.items ++ text)) }
+    {
+        let Some(styles) = &mut self.styles else {
+            return self.line.finish(out);
+        };
+        styles.painted.clear();
+        self.line.finish(&mut styles.painted)?;
+        styles.cleaner.push(&styles.painted, out)?;
+        styles.cleaner.finish(out)
     }
 
-    /// Appends the line that is there. The next one begins anew.
-    pub fn finish(&mut self, out: &mut Vec<u8>) -> Result<(), AllocError> {
-        let mut text = Vec::new(self.alloc);
-        self.line.finish(&mut text)?;
-        self.line = line_of(self.alloc, self.styles);
-        self.append(&text, out)
-    }
-
-    /// Takes the next bytes, and appends the lines that are over now.
-    pub fn push(&mut self, bytes: &[u8], out: &mut Vec<u8>) -> Result<(), AllocError> {
-        for part in bytes.split_inclusive(|byte| *byte == b'\n') {
-            match part.strip_suffix(b"\n".as_slice()) {
-                Some(line) => {
-                    self.take(line, out)?;
-                    self.finish(out)?;
-                    out.push(b'\n')?;
-                }
-                None => self.take(part, out)?,
-            }
+    /// What of its styles passes.
+    fn passing(&self) -> Option<Passing>
+        ensures { result ≡ passing_of self.now.styles }
+    {
+        match &self.styles {
+            Some(styles) => Some(styles.passing),
+            None => None,
         }
-        Ok(())
+    }
+
+    /// Takes what stands ahead of a newline, and that.
+    fn take_line(&mut self, line: &[u8], out: &mut Vec<u8>) -> Result<(), AllocError>
+        requires { IsLine line.now }
+        ensures { OnOk result ((more : List ℕ)
+            × GoesOn PassesLog self.old (line.now ++ 10 ∷ []) more self.new
+            × (out.new.items ≡ out.old.items ++ more)) }
+    {
+        let passing = self.passing();
+        self.take_part(line, out)?;
+        self.end_line(out)?;
+        *self = Log::new(self.alloc, passing);
+        Ok(out.push(b'\n')?)
     }
 }
 
-/// What went wrong where memory ran out.
-fn no_memory(_: AllocError) -> RunError {
-    RunError::Memory
+impl Transform for Log {
+    ghost use Rattle.std.specs.Prelude.{⊤};
+    ghost use Rattle.csicodec_tool.specs.Stream.{EndsLog, PassesLog};
+
+    ghost stands = { λ _. ⊤ };
+
+    ghost passes = { PassesLog };
+
+    ghost rests = { λ _. ⊤ };
+
+    ghost ends = { EndsLog };
+
+    fn take(&mut self, bytes: &[u8], out: &mut Vec<u8>) -> Result<(), AllocError> {
+        let mut rest = bytes;
+        while let Some((line, behind)) = split_line(rest) {
+            self.take_line(line, out)?;
+            rest = behind;
+        }
+        self.take_part(rest, out)
+    }
+
+    fn pause(&mut self, _out: &mut Vec<u8>) -> Result<(), AllocError> {
+        Ok(())
+    }
+
+    fn end(&mut self, out: &mut Vec<u8>) -> Result<(), AllocError> {
+        self.end_line(out)
+    }
 }
 
 /// Writes a log to its end. After each read the lines that are over are written.
@@ -89,19 +146,78 @@ pub fn log_all<R: Read, W: Write>(
     input: &mut R,
     output: &mut W,
 ) -> Result<(), RunError>
-    ensures { (text : List ℕ) × Appends (W.contents output.old) (W.contents output.new) text }
+    ensures ok { OnOk result ((bytes : List ℕ) × (text : List ℕ)
+        × Consumes (R.remaining input.old) (R.remaining input.new) bytes
+        × Logs styles bytes text
+        × Appends (W.contents output.old) (W.contents output.new) text) }
+    ensures end { OnOk result (IsAtEnd (R.remaining input.new)) }
+    ensures front { OnErr result ((bytes : List ℕ) × (more : List ℕ) × (sent : List ℕ) × (unsent : List ℕ)
+        × Consumes (R.remaining input.old) (R.remaining input.new) (bytes ++ more)
+        × LogsSome styles bytes (sent ++ unsent)
+        × Appends (W.contents output.old) (W.contents output.new) sent) }
 {
-    let (mut log, mut out) = (Log::new(alloc, styles), Vec::new(alloc));
-    let mut chunk = [0u8; CHUNK];
-    for _ in 0..u64::MAX {
-        let len = receive(input, &mut chunk)?;
-        out.clear();
-        if len == 0 {
-            log.finish(&mut out).map_err(no_memory)?;
-            return send(output, &out);
+    transform_all(alloc, Log::new(alloc, styles), input, output)
+}
+
+/// A stream of which some has come, and of which each line is written as it stands when it ends.
+#[derive(Drop)]
+pub struct Overwritten {
+    log: Log,
+}
+
+impl Overwritten {
+    /// Of which nothing has come.
+    pub fn new(alloc: Global, styles: Option<Passing>) -> Overwritten
+        ensures passing { passing_of result.log.styles ≡ styles }
+        ensures begun { IsIn result.log.styles result.log.line [] [] }
+    {
+        Overwritten {
+            log: Log::new(alloc, styles),
         }
-        log.push(&chunk[..len], &mut out).map_err(no_memory)?;
-        send(output, &out)?;
     }
-    Err(RunError::Read)
+}
+
+impl Transform for Overwritten {
+    ghost use Rattle.std.specs.Prelude.{⊤};
+    ghost use Rattle.csicodec_tool.specs.Stream.{EndsOverwritten, PassesOverwritten};
+
+    ghost stands = { λ _. ⊤ };
+
+    ghost passes = { PassesOverwritten };
+
+    ghost rests = { λ _. ⊤ };
+
+    ghost ends = { EndsOverwritten };
+
+    fn take(&mut self, bytes: &[u8], out: &mut Vec<u8>) -> Result<(), AllocError> {
+        self.log.take_part(bytes, out)
+    }
+
+    fn pause(&mut self, _out: &mut Vec<u8>) -> Result<(), AllocError> {
+        Ok(())
+    }
+
+    fn end(&mut self, out: &mut Vec<u8>) -> Result<(), AllocError> {
+        self.log.end_line(out)
+    }
+}
+
+/// Writes a stream to its end, each of its lines as it stands when it ends. After each read the lines that are over are written.
+pub fn overwritten_all<R: Read, W: Write>(
+    alloc: Global,
+    styles: Option<Passing>,
+    input: &mut R,
+    output: &mut W,
+) -> Result<(), RunError>
+    ensures ok { OnOk result ((bytes : List ℕ) × (text : List ℕ)
+        × Consumes (R.remaining input.old) (R.remaining input.new) bytes
+        × IsLogged styles bytes text
+        × Appends (W.contents output.old) (W.contents output.new) text) }
+    ensures end { OnOk result (IsAtEnd (R.remaining input.new)) }
+    ensures front { OnErr result ((bytes : List ℕ) × (more : List ℕ) × (sent : List ℕ) × (unsent : List ℕ)
+        × Consumes (R.remaining input.old) (R.remaining input.new) (bytes ++ more)
+        × IsLoggedFront styles bytes (sent ++ unsent)
+        × Appends (W.contents output.old) (W.contents output.new) sent) }
+{
+    transform_all(alloc, Overwritten::new(alloc, styles), input, output)
 }

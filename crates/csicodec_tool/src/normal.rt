@@ -14,6 +14,10 @@ pub struct Normaliser;
 impl Alone for Normaliser {
     ghost goes = { Normalises };
 
+    fn gives_reasons(&self) -> bool {
+        false
+    }
+
     fn work<R: Read, W: Write>(
         &mut self,
         alloc: Global,

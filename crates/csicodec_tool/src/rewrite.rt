@@ -1,23 +1,23 @@
 //! What `csicodec filter`, `compact`, `strip`, `clean` and `html` make of a stream: with `filter` each control sequence in its normal
 //! form and all else as it came, with `compact` in a shorter spelling; with `strip` the plain text alone, with `clean` that and
 //! its styles; with `html` those as a page.
-ghost use Rattle.std.specs.Prelude.{◌≡◌, IfSome};
+ghost use Rattle.std.specs.Prelude.{◌≡◌, IfErr, IfOk, IfSome};
 ghost use Rattle.csicodec_tool.specs.Writes.{IsHeaded, JobSteps, Wrote, WroteBehind, begun_of};
 
 use crate::check::{check_cast, check_stream};
-use crate::log::{Log, log_all};
+use crate::log::{Log, Overwritten, log_all, overwritten_all};
 use crate::palette::palette_of;
-use crate::rewritten_cast::{Rewriter, html_cast, rewrite_cast, unwrap_cast};
+use crate::rewritten_cast::{Rewriter, html_cast, no_memory, write_staged};
 use csicodec_clean::{Cleaner, Depth, Dropped, Kept, Passing, clean_all_with, strip_all};
 use csicodec_command::{Colors, Failure, Recordings, Request, Worker, Wrong};
 use csicodec_compact::{Compact, Compactor, compact_all};
 use csicodec_filter::{Faithful, Filter, NormalForm, filter_all};
 use csicodec_html::{BEHIND, Markup, Palette, UNNAMED, front, html_all_with};
 use csicodec_lines::{Lines, clean_lines_all, strip_lines_all};
-use csicodec_overwrite::{Overwriter, html_overwritten_all, overwrite_all};
+use csicodec_overwrite::html_overwritten_all;
 use csicodec_spans::LIMIT;
 use csicodec_streams::{RunError, send};
-use std::alloc::Global;
+use std::alloc::{AllocError, Global};
 use std::io::{BufRead, Read, Write};
 
 /// What is made of one input after the other.
@@ -32,8 +32,10 @@ pub enum Work<'a> {
     Strip {
         lines: bool,
     },
-    /// Plain text, each line as it stands when it ends.
-    Overwrite,
+    /// Each line as it stands when it ends, with these of its styles.
+    Overwrite {
+        styles: Option<Passing>,
+    },
     /// Each line by itself, as it stands when it ends, with these of its styles.
     Log {
         styles: Option<Passing>,
@@ -99,7 +101,7 @@ impl<'a> Work<'a> {
         if run.check {
             Work::Check
         } else if run.overwrites() {
-            Work::Overwrite
+            Work::Overwrite { styles: None }
         } else if run.log {
             Work::Log { styles: None }
         } else {
@@ -111,10 +113,12 @@ impl<'a> Work<'a> {
     pub fn clean(run: &Request<'a>) -> Work<'a> {
         let (depth, links) = (depth_of(run.depth), run.links);
         let passing = Passing { depth, links };
+        let styles = Some(passing);
+        if run.overwrites() {
+            return Work::Overwrite { styles };
+        }
         if run.log {
-            return Work::Log {
-                styles: Some(passing),
-            };
+            return Work::Log { styles };
         }
         Work::Clean {
             passing,
@@ -134,10 +138,11 @@ impl<'a> Work<'a> {
     }
 
     /// What the data of a recording go through, if a recording is made of it.
-    fn stage(&self, alloc: Global) -> Option<Rewriter>
-        ensures { IfSome result (λ _. self.now ≡ begun_of self.now) }
+    fn stage(&self, alloc: Global) -> Result<Option<Box<Rewriter>>, AllocError>
+        ensures staged { IfOk result (λ stage. IfSome stage (λ _. self.now ≡ begun_of self.now)) }
+        ensures failed { IfErr result (λ _. self.now ≡ begun_of self.now) }
     {
-        Some(match self {
+        let stage = match self {
             Work::Filter { faithful: true } => {
                 let rule = Faithful::new(alloc);
                 Rewriter::Faithful(Filter::new(alloc, LIMIT, rule))
@@ -152,7 +157,7 @@ impl<'a> Work<'a> {
             }
             Work::Strip { lines: true } => Rewriter::PlainLines(Lines::stripped(alloc)),
             Work::Strip { .. } => Rewriter::Plain(Cleaner::new(alloc, Dropped)),
-            Work::Overwrite => Rewriter::Overwritten(Overwriter::new(alloc)),
+            Work::Overwrite { styles } => Rewriter::Overwritten(Overwritten::new(alloc, *styles)),
             Work::Log { styles } => Rewriter::Logged(Log::new(alloc, *styles)),
             Work::Clean {
                 passing,
@@ -162,8 +167,9 @@ impl<'a> Work<'a> {
                 let rule = Kept::letting(alloc, *passing);
                 Rewriter::Styled(Cleaner::new(alloc, rule))
             }
-            Work::Check | Work::Html { .. } => return None,
-        })
+            Work::Check | Work::Html { .. } => return Ok(None),
+        };
+        Ok(Some(Box::new(alloc, stage)?))
     }
 
     /// Writes what stands ahead of the first input.
@@ -211,7 +217,7 @@ impl<'a> Work<'a> {
             Work::Check => Ok(()),
             Work::Strip { lines: true } => strip_lines_all(alloc, input, output),
             Work::Strip { .. } => strip_all(alloc, input, output),
-            Work::Overwrite => overwrite_all(alloc, input, output),
+            Work::Overwrite { styles } => overwritten_all(alloc, styles, input, output),
             Work::Log { styles } => log_all(alloc, styles, input, output),
             Work::Clean {
                 passing,
@@ -279,6 +285,10 @@ impl<'a> Worker for Job<'a> {
         Recordings::Known
     }
 
+    fn tells_reasons(&self) -> bool {
+        true
+    }
+
     fn begin<W: Write>(&mut self, _name: &str, _output: &mut W) -> Result<(), Failure> {
         Ok(())
     }
@@ -298,9 +308,8 @@ impl<'a> Worker for Job<'a> {
         input: &mut R,
         output: &mut W,
     ) -> Result<(), Failure> {
-        match self.work.stage(alloc) {
-            Some(mut stage) if self.text => unwrap_cast(alloc, &mut stage, input, output),
-            Some(mut stage) => rewrite_cast(alloc, &mut stage, input, output),
+        match self.work.stage(alloc).map_err(no_memory)? {
+            Some(stage) => write_staged(alloc, stage, self.text, input, output),
             None => self.work.write_cast(alloc, input, output),
         }
     }

@@ -1,6 +1,6 @@
 //! Recordings of asciinema with other data.
 
-use crate::log::Log;
+use crate::log::{Log, Overwritten};
 use csicodec_clean::{Cleaner, Dropped, Kept, Passing, strip};
 use csicodec_command::{Failure, Recording, time_of};
 use csicodec_compact::Compactor;
@@ -30,8 +30,8 @@ pub enum Rewriter {
     PlainLines(Lines<Dropped, ()>),
     /// The same with its styles.
     StyledLines(Lines<Kept, Passing>),
-    /// Plain text, each line as it stands when it ends.
-    Overwritten(Overwriter),
+    /// Each line as it stands when it ends.
+    Overwritten(Overwritten),
     /// The same, each line by itself.
     Logged(Log),
 }
@@ -63,7 +63,7 @@ impl Rewriter {
             Rewriter::PlainLines(lines) => lines.take(bytes, out),
             Rewriter::StyledLines(lines) => lines.take(bytes, out),
             Rewriter::Overwritten(lines) => lines.take(bytes, out),
-            Rewriter::Logged(log) => log.push(bytes, out),
+            Rewriter::Logged(log) => log.take(bytes, out),
         }
     }
 
@@ -95,8 +95,8 @@ impl Rewriter {
             Rewriter::Styled(cleaner) => cleaner.finish(out),
             Rewriter::PlainLines(lines) => lines.end(out),
             Rewriter::StyledLines(lines) => lines.end(out),
-            Rewriter::Overwritten(lines) => lines.finish(out),
-            Rewriter::Logged(log) => log.finish(out),
+            Rewriter::Overwritten(lines) => lines.end(out),
+            Rewriter::Logged(log) => log.end(out),
         }
     }
 }
@@ -138,7 +138,7 @@ fn send_event<W: Write>(
 
 /// Writes a recording whose events have what becomes of their data, at the same times; all else stays as it is, but for controls
 /// where the data are made safe. What isn't over at the last event stands in one more, at its time.
-pub fn rewrite_cast<R: BufRead, W: Write>(
+fn rewrite_cast<R: BufRead, W: Write>(
     alloc: Global,
     stage: &mut Rewriter,
     input: &mut R,
@@ -152,7 +152,7 @@ pub fn rewrite_cast<R: BufRead, W: Write>(
         let Some(text) = reading.next_line(input, &mut line)? else {
             break;
         };
-        let Some(data) = reading.take(text)? else {
+        let Some(data) = reading.take(text.as_bytes())? else {
             send_line(alloc, stage, text, output)?;
             continue;
         };
@@ -176,7 +176,7 @@ pub fn rewrite_cast<R: BufRead, W: Write>(
 }
 
 /// Writes what becomes of what the programs of a recording wrote, and no recording.
-pub fn unwrap_cast<R: BufRead, W: Write>(
+fn unwrap_cast<R: BufRead, W: Write>(
     alloc: Global,
     stage: &mut Rewriter,
     input: &mut R,
@@ -188,7 +188,7 @@ pub fn unwrap_cast<R: BufRead, W: Write>(
         let Some(text) = reading.next_line(input, &mut line)? else {
             break;
         };
-        if let Some(data) = reading.take(text)? {
+        if let Some(data) = reading.take(text.as_bytes())? {
             out.clear();
             stage.push(data.as_bytes(), &mut out).map_err(no_memory)?;
             send(output, &out)?;
@@ -209,7 +209,7 @@ pub(crate) fn written_of<R: BufRead>(alloc: Global, input: &mut R) -> Result<Vec
         let Some(text) = reading.next_line(input, &mut line)? else {
             break;
         };
-        if let Some(data) = reading.take(text)? {
+        if let Some(data) = reading.take(text.as_bytes())? {
             written
                 .extend_from_slice(data.as_bytes())
                 .map_err(no_memory)?;
@@ -242,4 +242,19 @@ pub fn html_cast<R: BufRead, W: Write>(
     }
     let page = html_with(alloc, markup, &written).map_err(no_memory)?;
     Ok(send(output, &page)?)
+}
+
+/// Writes what a stage makes of a recording: a recording again, or the text alone.
+pub fn write_staged<R: BufRead, W: Write>(
+    alloc: Global,
+    mut stage: Box<Rewriter>,
+    text: bool,
+    input: &mut R,
+    output: &mut W,
+) -> Result<(), Failure> {
+    if text {
+        unwrap_cast(alloc, &mut stage, input, output)
+    } else {
+        rewrite_cast(alloc, &mut stage, input, output)
+    }
 }

@@ -10,7 +10,7 @@ use std::fmt;
 /// The extensions of a class (DA1): those of an action, or of a list behind the marker and the class.
 pub(crate) fn extensions<W: fmt::Write>(
     f: &mut fmt::Formatter<W>,
-    values: Values<'_>,
+    values: &Values<'_>,
 ) -> fmt::Result {
     match values {
         Values::Extensions(attributes) => of_attributes(f, attributes),
@@ -59,7 +59,7 @@ fn tell_extension<W: fmt::Write>(f: &mut fmt::Formatter<W>, number: i64) -> fmt:
 /// The values of graphics that are set or answered, behind a colon and with commas between them. To set none is an answer.
 pub(crate) fn graphics_values<W: fmt::Write>(
     f: &mut fmt::Formatter<W>,
-    values: Values<'_>,
+    values: &Values<'_>,
 ) -> fmt::Result {
     let Values::Graphics(graphics) = values else {
         return Ok(());

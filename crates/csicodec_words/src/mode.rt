@@ -28,6 +28,9 @@ pub(crate) fn tell_turned<W: fmt::Write>(
 ) -> fmt::Result {
     match words_of(own, number) {
         Some(words) => f.write_str(words),
-        None => write!(f, "{name}{behind}"),
+        None => {
+            f.write_str(name)?;
+            f.write_str(behind)
+        }
     }
 }

@@ -53,7 +53,7 @@ impl fmt::Display for Report {
         fill(
             f,
             words,
-            Values::Six([self.button, self.line, self.column, 0, 0, 0]),
+            &Values::Six([self.button, self.line, self.column, 0, 0, 0]),
         )
     }
 }

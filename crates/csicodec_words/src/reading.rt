@@ -40,7 +40,7 @@ impl<'a> Describe for Reading<'a> {
             };
         }
         match read_otherwise(self.params, self.control) {
-            Some(Otherwise::Instead(words)) => fill(f, words, Values::List(self.params)),
+            Some(Otherwise::Instead(words)) => fill(f, words, &Values::List(self.params)),
             Some(Otherwise::Or(also)) => {
                 self.action.describe(f)?;
                 f.write_str(also)
@@ -107,7 +107,7 @@ fn unread<W: fmt::Write>(
         _ => key_by_number(control, params).or_else(|| words(params, control)),
     };
     match words {
-        Some(words) => fill(f, words, Values::List(params)),
+        Some(words) => fill(f, words, &Values::List(params)),
         None => unknown.describe(f),
     }
 }

@@ -35,13 +35,13 @@ pub struct WordsRow {
 
 impl WordsRow {
     /// Whether it is of a list by its bytes, its first two numbers and how many it has.
+    #[inline(never)]
     fn is_of(&self, params: &[CsiParam]) -> bool {
-        let values = Values::List(params);
-        let (first, second) = (values.number(0), values.number(1));
+        let number = |place: u32| Values::List(params).number(place).unwrap_or(0);
         self.marker == marker(params)
             && self.between == intermediate(params)
             && is_within(count_fields(params), self.fields)
-            && self.has(first.unwrap_or(0), second.unwrap_or(0))
+            && self.has(number(0), number(1))
     }
 
     /// Whether these can be its first two numbers.
@@ -79,6 +79,7 @@ fn of_row(params: &[CsiParam], control: char) -> Option<&'static str> {
 }
 
 /// The words of the first of these rows that is of a list.
+#[inline(always)]
 fn of_bytes(rows: &'static [WordsRow], params: &[CsiParam], control: char) -> Option<&'static str> {
     for row in rows {
         if row.control == control && row.is_of(params) {

@@ -1,6 +1,7 @@
 //! Colours, in words.
 
 use crate::sgr_words::COLORS;
+use crate::values::tell_number;
 use csicodec_base::ColorSpec;
 use std::fmt;
 
@@ -28,7 +29,12 @@ fn tell_parts<W: fmt::Write>(
     f: &mut fmt::Formatter<W>,
     (red, green, blue, alpha): (u8, u8, u8, u8),
 ) -> fmt::Result {
-    write!(f, "rgb {red},{green},{blue}")?;
+    let mut ahead = "rgb ";
+    for part in [red, green, blue] {
+        f.write_str(ahead)?;
+        tell_number(f, i64::from(part))?;
+        ahead = ",";
+    }
     if alpha == 255 {
         return Ok(());
     }

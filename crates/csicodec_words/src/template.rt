@@ -1,7 +1,7 @@
 //! Words with holes for numbers.
 
 use crate::told::tell_by_code;
-use crate::values::Values;
+use crate::values::{Values, tell_number};
 use std::fmt;
 
 /// Writes words. `{2}` stands for the third number, 0 where it is left out; `{2=5}` for it, 5 where it is left out; `{2:text}` for it, and
@@ -11,7 +11,7 @@ use std::fmt;
 pub fn fill<W: fmt::Write>(
     f: &mut fmt::Formatter<W>,
     words: &str,
-    values: Values<'_>,
+    values: &Values<'_>,
 ) -> fmt::Result {
     for piece in words.split('{') {
         match piece.split_once('}') {
@@ -29,7 +29,7 @@ pub fn fill<W: fmt::Write>(
 pub(crate) fn fill_hole<W: fmt::Write>(
     f: &mut fmt::Formatter<W>,
     hole: &str,
-    values: Values<'_>,
+    values: &Values<'_>,
 ) -> fmt::Result {
     let mut rest = hole.chars();
     let place = rest
@@ -61,13 +61,13 @@ fn fill_kind<W: fmt::Write>(
     kind: &str,
     place: u32,
     value: Option<i64>,
-    values: Values<'_>,
+    values: &Values<'_>,
 ) -> fmt::Result {
     let mut rest = kind.chars();
     let first = rest.next();
     let (rest, number) = (rest.as_str(), value.unwrap_or(0));
     match first {
-        None => write!(f, "{number}"),
+        None => tell_number(f, number),
         Some('@') => tell_by_code(f, rest, number, values),
         Some('?') => told(f, rest, number),
         Some('&') => bits_told(f, rest, number),
@@ -83,7 +83,9 @@ pub(crate) fn counted<W: fmt::Write>(
     unit: &str,
     number: i64,
 ) -> fmt::Result {
-    write!(f, "{number} {unit}")?;
+    tell_number(f, number)?;
+    f.write_str(" ")?;
+    f.write_str(unit)?;
     if number == 1 {
         Ok(())
     } else {
@@ -111,7 +113,7 @@ fn fill_number<W: fmt::Write>(
     if number == 0 && !zero.is_empty() {
         f.write_str(zero)
     } else if unit.is_empty() {
-        write!(f, "{number}")
+        tell_number(f, number)
     } else {
         counted(f, unit, number)
     }
@@ -129,7 +131,7 @@ fn told<W: fmt::Write>(f: &mut fmt::Formatter<W>, list: &str, value: i64) -> fmt
             }
         }
     }
-    write!(f, "{value}")
+    tell_number(f, value)
 }
 
 /// The words of a value at a place and of those behind it, up to one that is left out.
@@ -138,7 +140,7 @@ fn each_told<W: fmt::Write>(
     list: &str,
     from: u32,
     first: Option<i64>,
-    values: Values<'_>,
+    values: &Values<'_>,
 ) -> fmt::Result {
     let list = list.strip_prefix(".?").unwrap_or(list);
     let mut ahead = ": ";

@@ -3,7 +3,7 @@
 use crate::device::{extensions, graphics_values};
 use crate::mode::{mode_name, private_mode_name, tell_turned};
 use crate::mode_words::{RESET, SET, TERMINAL_RESET, TERMINAL_SET};
-use crate::values::Values;
+use crate::values::{Values, tell_number};
 use std::fmt;
 
 /// Tells of a number what a hole's code says.
@@ -11,7 +11,7 @@ pub(crate) fn tell_by_code<W: fmt::Write>(
     f: &mut fmt::Formatter<W>,
     code: &str,
     value: i64,
-    values: Values<'_>,
+    values: &Values<'_>,
 ) -> fmt::Result {
     match code {
         "mode" => f.write_str(mode_name(value)),
@@ -62,8 +62,7 @@ fn coordinate<W: fmt::Write>(f: &mut fmt::Formatter<W>, number: i64) -> fmt::Res
     if number <= 32 {
         return f.write_str("out of range");
     }
-    let place = number.saturating_sub(32);
-    write!(f, "{place}")
+    tell_number(f, number.saturating_sub(32))
 }
 
 /// The lines or columns from one to another, both counted, of which 4294967295 is the screen's last.

@@ -7,6 +7,7 @@ use crate::told::tell_by_code;
 use bitflags::Flags;
 use csicodec_actions::{DeviceAttribute, DeviceAttributeFlags, MouseButton, XtSmGraphics};
 use csicodec_base::{ColorSpec, CsiParam, Modifiers, OneBased};
+use itoa::Buffer;
 use std::fmt;
 
 /// What the holes of words stand for.
@@ -26,12 +27,12 @@ pub enum Values<'a> {
 
 impl<'a> Values<'a> {
     /// The number at a place, counted from 0; none where it is left out.
-    pub fn number(self, place: u32) -> Option<i64> {
+    pub fn number(&self, place: u32) -> Option<i64> {
         match self {
             Values::List(params) => number(params, place),
             Values::Two(first, second) => match place {
-                0 => first,
-                1 => second,
+                0 => *first,
+                1 => *second,
                 _ => None,
             },
             Values::Six(numbers) => numbers.get(usize::try_from(place).ok()?).copied(),
@@ -62,6 +63,12 @@ fn number(params: &[CsiParam], place: u32) -> Option<i64> {
     None
 }
 
+/// Writes a number in decimal digits.
+pub(crate) fn tell_number<W: fmt::Write>(f: &mut fmt::Formatter<W>, number: i64) -> fmt::Result {
+    let mut digits = Buffer::new();
+    f.write_str(digits.format(number))
+}
+
 /// A part of words.
 pub(crate) enum Piece {
     /// A text as it stands.
@@ -79,15 +86,15 @@ pub(crate) enum Piece {
 }
 
 impl Piece {
-    fn tell<W: fmt::Write>(&self, f: &mut fmt::Formatter<W>, values: Values<'_>) -> fmt::Result {
+    fn tell<W: fmt::Write>(&self, f: &mut fmt::Formatter<W>, values: &Values<'_>) -> fmt::Result {
         let number = |place: u32| values.number(place).unwrap_or(0);
         match self {
             Piece::Text(text) => f.write_str(text),
-            Piece::Number(place) => write!(f, "{}", number(*place)),
+            Piece::Number(place) => tell_number(f, number(*place)),
             Piece::Counted(place, unit) => counted(f, unit, number(*place)),
             Piece::OneOf(place, table) => match words_of(table, number(*place)) {
                 Some(words) => f.write_str(words),
-                None => write!(f, "{}", number(*place)),
+                None => tell_number(f, number(*place)),
             },
             Piece::Code(place, code) => tell_by_code(f, code, number(*place), values),
             Piece::Hole(hole) => fill_hole(f, hole, values),
@@ -109,14 +116,17 @@ impl<'a> Said<'a> {
     pub(crate) fn tell<W: fmt::Write>(self, f: &mut fmt::Formatter<W>) -> fmt::Result {
         match self {
             Said::Alone(words) => f.write_str(words),
-            Said::Number(words, number) => write!(f, "{words}{number}"),
+            Said::Number(words, number) => {
+                f.write_str(words)?;
+                tell_number(f, i64::from(number))
+            }
             Said::Color(words, color) => {
                 f.write_str(words)?;
                 tell_color(f, color)
             }
             Said::Parts(pieces, values) => {
                 for piece in pieces {
-                    piece.tell(f, values)?;
+                    piece.tell(f, &values)?;
                 }
                 Ok(())
             }

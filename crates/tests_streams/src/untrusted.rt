@@ -72,7 +72,10 @@ pub(crate) fn link(alloc: Global, words: &str) -> Result<String, AllocError> {
         bytes.push(b'p')?;
     }
     bytes.push(b';')?;
-    for _ in 0..address {
+    if address > 0 {
+        bytes.extend_from_slice(b"http://")?;
+    }
+    for _ in 7..address {
         bytes.push(b'u')?;
     }
     bytes.extend_from_slice(b"\x07x")?;

@@ -4,7 +4,8 @@ use Rattle.csicodec_actions.specs.Actions.{Action, Sgr}
 use Rattle.csicodec_actions.specs.Table.{texts}
 use Rattle.csicodec_clean.specs.declared.colors.Depth.{Depth}
 use Rattle.csicodec_clean.specs.declared.colors.Depth.TheVariants as depth
-use Rattle.csicodec_clean.specs.Styled.{IsOf, is_open, kept}
+use Rattle.csicodec_terminal.specs.Terminal.{IsTakenFor}
+use Rattle.csicodec_clean.specs.Styled.{is_open, kept}
 
 abbrev pub depth_byte : Depth → ℕ
 depth_byte depth.Full = 0
@@ -22,11 +23,11 @@ note_of d actions = depth_byte d ∷ open_byte (is_open false (kept d actions)) 
 
 -- the note of the sequence of these bytes
 abbrev pub IsNoted : List ℕ → List ℕ → Type 0
-IsNoted bytes note = (d : Depth) × (actions : List Action) × IsOf bytes actions
+IsNoted bytes note = (d : Depth) × (actions : List Action) × IsTakenFor bytes actions
     × (note ≡ note_of d actions)
 
 -- what stays of the sequence of these bytes is appended, and whether a style is open behind it
 abbrev pub IsLeft : Depth → Bool → List ℕ → Bool → List ℕ → List ℕ → Type 0
 IsLeft d styled bytes after old new =
-    (actions : List Action) × IsOf bytes actions × (after ≡ is_open styled (kept d actions))
+    (actions : List Action) × IsTakenFor bytes actions × (after ≡ is_open styled (kept d actions))
     × (new ≡ old ++ texts (map Sgr (kept d actions)))

@@ -10,8 +10,7 @@ use Rattle.csicodec_actions.specs.Table.{texts}
 use Rattle.csicodec_parser.specs.declared.actions.CSI.{CSI}
 use Rattle.csicodec_parser.specs.declared.actions.CSI.TheVariants as csi
 use Rattle.csicodec_parser.specs.Segments.{Actions}
-use Rattle.csicodec_spans.specs.declared.table.Mode.{Mode}
-use Rattle.csicodec_spans.specs.Parts.{Part, AreFirstParts}
+use Rattle.csicodec_spans.specs.Parts.{Part}
 use Rattle.csicodec_streams.specs.Known.{IsOne}
 use Rattle.csicodec.specs.Compose.{EndsInSemicolon, IsStyleList}
 use Rattle.csicodec_compact.specs.declared.form.Form.{Form}
@@ -215,10 +214,3 @@ Extends form parts text after = (run : List Part) (before : List ℕ) → IsHeld
 abbrev pub GoesOnBy : Form → List Part → List ℕ → List ℕ → Form → Type 0
 GoesOnBy form parts old new after = (text : List ℕ) × (new ≡ old ++ text)
     × Extends form parts text after
-
--- The parts in front of the bytes, and what is appended for them.
-pub record WritesFront (limit : ℕ) (m : Mode) (bytes : List ℕ) (form : Form) (old new : List ℕ)
-    (after : Form) (rest : List ℕ) (n : Mode) : Type 0 where
-  pub parts : List Part
-  pub first : AreFirstParts limit m bytes parts rest n
-  pub goes : GoesOnBy form parts old new after

@@ -13,7 +13,7 @@ use Rattle.csicodec_html.specs.declared.markup.Markup.{Markup}
 use Rattle.csicodec_html.specs.declared.palette.Palette.{Palette}
 use Rattle.csicodec_html.specs.Classes.{classes_of, names, rest_attribute}
 use Rattle.csicodec_html.specs.Look.{behind_all, css, settled, sets_any}
-use Rattle.csicodec_html.specs.Page.{Piece, Char, Begin, End, Open, Setting, Shut, behind_actions, closing, led_by, setting, switches, turn}
+use Rattle.csicodec_html.specs.Page.{Piece, Char, Begin, End, Open, Setting, Shut, behind_actions, closing, led_by, relation, setting, switches, turn}
 
 -- the tag that begins a span, with classes and with a style, of a look as it can be read
 abbrev pub classed_mark : Look → List ℕ
@@ -25,15 +25,31 @@ styled_mark p l = 5 ∷ (css p l ++ 6 ∷ [])
 abbrev pub begin_mark : Markup → Look → List ℕ
 begin_mark m l = if m.classes then classed_mark l else styled_mark m.palette l
 
+-- the tag of a link, up to its address
+abbrev pub link_mark : List ℕ
+link_mark = 1 ∷ (codes "a rel=" ++ (3 ∷ (relation ++ (3 ∷ (codes " href=" ++ 3 ∷ [])))))
+
 abbrev pub marked : Piece → List ℕ
 marked (Char c) = encode_utf8 c
 marked (Begin m l) = begin_mark m (settled m.palette l)
 marked End = 4 ∷ []
-marked (Open url) = 1 ∷ (codes "a href=" ++ (3 ∷ (url ++ 3 ∷ 2 ∷ [])))
+marked (Open url) = link_mark ++ (url ++ 3 ∷ 2 ∷ [])
 marked Shut = 1 ∷ (codes "/a" ++ 2 ∷ [])
 
 abbrev pub all_marked : List Piece → List ℕ
 all_marked pieces = flat_map marked pieces
+
+-- the same as it stands on the page
+abbrev pub classed_tag : Look → List ℕ
+classed_tag l = codes "<span" ++ (names 34 false (classes_of l) ++ (rest_attribute 34 l ++ 62 ∷ []))
+
+abbrev pub styled_tag : Palette → Look → List ℕ
+styled_tag p l = codes "<span style=\"" ++ (css p l ++ codes "\">")
+
+abbrev pub begin_tag : Markup → Look → List ℕ
+begin_tag m l =
+    if m.classes then classed_tag (settled m.palette l)
+    else styled_tag m.palette (settled m.palette l)
 
 -- a byte on the page
 abbrev pub page_byte : ℕ → List ℕ

@@ -22,12 +22,11 @@ pub record Goes (m : Mode) (titled : Bool) (old : Search) (bytes text rest : Lis
 -- where nothing has come
 pub record IsBegun (every : ℕ) (f : Finder) : Type 0 where
   pub search : IsAt f.search (first every)
-  pub mode : f.mode ≡ mode.Text
   pub titled : f.titled ≡ false
-  pub pending : f.pending.items ≡ []
+  pub waiting : f.waiting ≡ record { limit = longest; mode = mode.Text; bytes = []; looks = 0 }
 
 -- since it has begun, these bytes, and what was told of them
 pub record Passes (old : Finder) (bytes text : List ℕ) (new : Finder) : Type 0 where
-  pub unsure : IsUnsure longest new.mode new.pending.items
-  pub goes : (every : ℕ) → IsBegun every old
-      → Goes mode.Text false old.search bytes text new.pending.items new.mode new.titled new.search
+  pub unsure : IsUnsure longest new.waiting.mode new.waiting.bytes
+  pub goes : (every : ℕ) → IsBegun every old → Goes mode.Text false old.search
+      bytes text new.waiting.bytes new.waiting.mode new.titled new.search

@@ -1,30 +1,27 @@
 -- The front of a line that is written as it comes. No promise rests on this file.
-use Rattle.std.specs.Prelude.{ℕ, ◌≡◌, ◌≤◌, ◌*◌, Bool, List, [], ◌∷◌, ◌++◌, length, encode_utf8_all, if◌then◌else◌}
+use Rattle.std.specs.Prelude.{ℕ, ◌≡◌, ◌≤◌, ◌*◌, List, [], ◌∷◌, ◌++◌, length}
 use Rattle.csicodec_html.specs.declared.look.Look.{Look}
 use Rattle.csicodec_html.specs.Look.{behind, plain}
 use Rattle.csicodec_overwrite.specs.declared.cells.Cell.{Cell}
+use Rattle.csicodec_overwrite.specs.declared.marking.Marking.{Marking}
 use Rattle.csicodec_overwrite.specs.declared.pen.Pen.{Pen}
 use Rattle.csicodec_overwrite.specs.declared.step.Step.{Step}
 use Rattle.csicodec_overwrite.specs.declared.step.Step.TheVariants as step
 use Rattle.csicodec_overwrite.specs.Cells.{chars_of}
 use Rattle.csicodec_overwrite.specs.Line.{blank, do_all, line, pen_behind_all}
-use Rattle.csicodec_overwrite.specs.Paint.{look_of, turn}
+use Rattle.csicodec_overwrite.specs.Paint.{look_of, turn, written}
 use Rattle.csicodec_overwrite.specs.Reading.{most}
 use Rattle.csicodec_overwrite.specs.Stream.{Reads, none_held}
 use Rattle.csicodec_overwrite.specs.Private.Plain.{AreFull, closed}
 
--- the sequence between two looks, where lines are painted
-abbrev pub turned : Bool → Look → Look → List ℕ
-turned painted old new = if painted then turn old new else []
-
--- text of one look behind a character of another, and how the last character looks then
-abbrev pub run_text : Bool → Look → Look → List ℕ → List ℕ
-run_text painted last now [] = []
-run_text painted last now (c ∷ cs) = turned painted last now ++ c ∷ cs
-
+-- how the last character looks, where text of one look comes behind a character of another
 abbrev pub last_of_run : Look → Look → List ℕ → Look
 last_of_run last now [] = last
 last_of_run last now (c ∷ cs) = now
+
+-- and what is written of that text
+abbrev pub run_text : Marking → Look → Look → List ℕ → List ℕ
+run_text marking last now run = turn marking last (last_of_run last now run) ++ written marking run
 
 -- how the last of some cells looks, which stands nearest
 abbrev pub last_look : List Cell → Look
@@ -32,10 +29,10 @@ last_look [] = plain
 last_look (cell ∷ cells) = look_of (last_look cells) cell
 
 -- what is written of cells, of which the last stands nearest, while others may come
-abbrev pub drawn : Bool → List Cell → List ℕ
-drawn painted [] = []
-drawn painted (cell ∷ cells) =
-    drawn painted cells ++ (turned painted (last_look cells) (look_of (last_look cells) cell) ++ encode_utf8_all (chars_of cell))
+abbrev pub drawn : Marking → List Cell → List ℕ
+drawn marking [] = []
+drawn marking (cell ∷ cells) =
+    drawn marking cells ++ (turn marking (last_look cells) (look_of (last_look cells) cell) ++ written marking (chars_of cell))
 
 -- a step that does no more than to set how characters look, where nothing stands right of the cursor
 abbrev pub IsLook : Look → Step → Look → Type 0
@@ -54,7 +51,7 @@ Sets bytes look after = (steps : List Step) × Reads none_held bytes steps none_
 
 -- With the pen the bytes put cells into a blank line, of which none is empty, and the text is what is written of them: the last looks as
 -- `last`, and those that come as `now`.
-pub record IsFront (painted : Bool) (pen : Pen) (bytes text : List ℕ) (last now : Look) : Type 0 where
+pub record IsFront (marking : Marking) (pen : Pen) (bytes text : List ℕ) (last now : Look) : Type 0 where
   pub steps : List Step
   pub cells : List Cell
   pub reads : Reads none_held bytes steps none_held
@@ -64,4 +61,4 @@ pub record IsFront (painted : Bool) (pen : Pen) (bytes text : List ℕ) (last no
   pub full : AreFull cells
   pub few : length cells ≤ 8 * length bytes
   pub looks : last ≡ last_look cells
-  pub drawn : text ≡ drawn painted cells
+  pub drawn : text ≡ drawn marking cells

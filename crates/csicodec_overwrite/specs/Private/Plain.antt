@@ -1,5 +1,5 @@
 -- Text of ASCII that is put at once. No promise rests on this file.
-use Rattle.std.specs.Prelude.{ℕ, ◌≡◌, ◌≤◌, ◌<◌, ◌==◌, ◌&&◌, ◌||◌, nat_le, nat_lt, Bool, true, false, List, [], ◌∷◌, ◌++◌, length, None}
+use Rattle.std.specs.Prelude.{ℕ, ◌≡◌, ◌≤◌, ◌==◌, ◌&&◌, ◌||◌, nat_le, nat_lt, Bool, true, false, List, [], ◌∷◌, ◌++◌, length, None}
 use Rattle.std.specs.List.{AllByRecursion}
 use Rattle.csicodec_clean.specs.Bytes.{IsPlainByte}
 use Rattle.csicodec_html.specs.Look.{plain}
@@ -7,6 +7,8 @@ use Rattle.csicodec_overwrite.specs.declared.cells.Cell.{Cell}
 use Rattle.csicodec_overwrite.specs.declared.line.Line.{Line}
 use Rattle.csicodec_overwrite.specs.declared.pen.Pen.{Pen}
 use Rattle.csicodec_overwrite.specs.Cells.{is_empty}
+use Rattle.csicodec_overwrite.specs.Line.{do_all, pen_behind_all}
+use Rattle.csicodec_overwrite.specs.Steps.{of_chars}
 
 -- characters are put in place of others, without attributes that are painted
 abbrev pub PutsPlain : Bool → Pen → Type 0
@@ -17,16 +19,19 @@ abbrev pub AreLines : ℕ → List ℕ → List ℕ → List ℕ → Type 0
 AreLines most bytes lines rest = (front : List ℕ) × (lines ≡ front ++ 10 ∷ []) × (bytes ≡ lines ++ rest)
     × AllByRecursion IsPlainByte front × (length lines ≤ most)
 
--- a character of ASCII that is no control comes behind all cells of a line that has room for it
-abbrev pub GoesBehind : ℕ → Pen → ℕ → Line → Type 0
-GoesBehind limit pen c l = (32 ≤ c) × (c < 127) × (pen.inserts ≡ false) × (l.right ≡ []) × (length l.left < limit)
-
 -- a tab or a character of ASCII that is no control
 abbrev pub line_byte : ℕ → Bool
 line_byte b = b == 9 || nat_le 32 b && nat_lt b 127
 
 abbrev pub IsLineByte : ℕ → Type 0
 IsLineByte b = line_byte b ≡ true
+
+-- with the pen, the text does in a line what the rest does with another pen in another line, and the rest is none of more bytes
+pub record PutsRun (limit : ℕ) (pen : Pen) (l : Line) (text rest : List ℕ) (then : Pen) (m : Line) : Type 0 where
+  pub plain : AllByRecursion IsLineByte rest
+  pub fewer : length rest ≤ length text
+  pub same : do_all limit pen (of_chars text) l ≡ do_all limit then (of_chars rest) m
+  pub pens : pen_behind_all limit pen (of_chars text) l ≡ pen_behind_all limit then (of_chars rest) m
 
 -- none of the cells is empty
 abbrev pub IsFull : Cell → Type 0
@@ -37,7 +42,7 @@ AreFull cells = AllByRecursion IsFull cells
 
 -- behind a newline
 abbrev pub closed : Pen → Pen
-closed pen = record pen { last = None; here = false }
+closed pen = record pen { last = None; here = false; row = None }
 
 -- the end of a line, behind a return or none
 abbrev pub end_of : Bool → List ℕ

@@ -8,9 +8,11 @@ use Rattle.csicodec_tokens.specs.declared.param.CsiParam.TheVariants.{Integer, P
 use Rattle.csicodec_tokens.specs.Fault.{Refuses}
 use Rattle.csicodec_names.specs.declared.color.ColorSpec.{ColorSpec}
 use Rattle.csicodec_names.specs.declared.color.ColorSpec.TheVariants.{Default, PaletteIndex, TrueColor}
-use Rattle.csicodec_actions.specs.Actions.{Action}
+use Rattle.csicodec_base.specs.Shapes.{Plane, painted}
+use Rattle.csicodec_base.specs.declared.sgr.Sgr.{Sgr as Attribute}
+use Rattle.csicodec_actions.specs.Actions.{Action, Sgr}
 use Rattle.csicodec_actions.specs.Kinds.{IsOneBased}
-use Rattle.csicodec_streams.specs.Colors.{IsOpaque, color_list}
+use Rattle.csicodec_streams.specs.Colors.{IsOpaque, color_list, plane_byte}
 use Rattle.csicodec_streams.specs.Decoding.{Decodes}
 
 -- the sequences at the front of the bytes have these actions, and behind them comes the rest
@@ -51,6 +53,17 @@ color_tokens (TrueColor c) = Integer (pos 2) ∷ P 59 ∷ Integer (pos c.0) ∷ 
 -- the list of a colour stands in front, and the rest behind it
 abbrev pub IsColor : List ℕ → ColorSpec → List ℕ → Type 0
 IsColor bytes color rest = IsOpaque color × (bytes ≡ color_list color ++ rest)
+
+-- the list of a plane's colour stands in front, which this attribute gives, and the rest behind it
+abbrev pub IsPainted : List ℕ → Attribute → List ℕ → Type 0
+IsPainted bytes sgr rest = (plane : Plane) × (color : ColorSpec) × IsOpaque color
+    × (sgr ≡ painted plane color)
+    × (bytes ≡ plane_byte plane ∷ 56 ∷ 59 ∷ (color_list color ++ rest))
+
+-- the actions of one attribute, or of two
+abbrev pub styles : Attribute → Option Attribute → List Action
+styles first None = Sgr first ∷ []
+styles first (Some second) = Sgr first ∷ Sgr second ∷ []
 
 -- a byte of the list of a colour, with `:` in place of `;`
 abbrev pub with_colon : ℕ → ℕ

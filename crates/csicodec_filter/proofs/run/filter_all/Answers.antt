@@ -1,35 +1,34 @@
-use Rattle.std.proofs.Common.{ℕ, List, refl}
+use Rattle.std.proofs.Common.{ℕ, List}
 use Rattle.std.specs.Io.KnownBytes.{Appends}
 use Rattle.std.proofs.KnownBytes.{Consumes-whole}
 use Rattle.std.proofs.lemmas.Result.{MatchResult-weaker, on_err_weaker, on_ok_weaker}
 use Rattle.csicodec_spans.specs.declared.table.Mode.TheVariants as mode
 use Rattle.csicodec_filter.specs.Filter.{Filters}
-use Rattle.csicodec_filter.proofs.Filtered.{filtered, passes_none, sent_front}
+use Rattle.csicodec_filter.specs.Written.{ByRule}
+use Rattle.csicodec_filter.proofs.Filtered.{begun, filtered, passed, sent_front}
+use Rattle.csicodec_filter.proofs.Written.{since_none}
 use Rattle.csicodec_filter.proofs.run.filter_all.Goals as goal
 
-pub transform_all-requires-clause-stands : goal.transform_all-requires-clause-stands
-transform_all-requires-clause-stands g c = c.new-known.ensures
-
 pub transform_all-requires-clause-begun : goal.transform_all-requires-clause-begun
-transform_all-requires-clause-begun g c = rw c.new-filter.ensures (record { limit = refl; same = λ one other h. h; passed = passes_none (g.T.Rewrite.writes c.args.rewrite) c.args.limit })
+transform_all-requires-clause-begun g c = rw c.new-stream.ensures (since_none (ByRule g.T.Rewrite.writes) c.args.rewrite c.args.limit (begun g.T.Rewrite.writes c.args.rewrite))
 
 pub returns-clause-ok : goal.returns-clause-ok
 returns-clause-ok g c = on_ok_weaker c.transform_all.result
     (λ (bytes, text, consumed, end, whole, appended).
     Consumes-whole _ _ bytes (λ all. (t : List ℕ) × Filters (g.T.Rewrite.writes c.args.rewrite) c.args.limit mode.Text all t × Appends _ _ t) consumed end
     (text, filtered g.T.Rewrite.writes _ bytes text whole, appended))
-    (rw c.new-filter.ensures at c.transform_all.ensures.ok)
+    (rw c.new-stream.ensures at c.transform_all.ensures.ok)
 
 pub returns-clause-end : goal.returns-clause-end
 returns-clause-end g c = on_ok_weaker c.transform_all.result (λ (bytes, text, consumed, end, whole, appended). end) c.transform_all.ensures.ok
 
 pub returns-clause-failed : goal.returns-clause-failed
-returns-clause-failed g c = MatchResult-weaker c.transform_all.result (rw c.new-filter.ensures at c.transform_all.ensures.failed) (λ x h. h)
+returns-clause-failed g c = MatchResult-weaker c.transform_all.result (rw c.new-stream.ensures at c.transform_all.ensures.failed) (λ x h. h)
     (λ e h is.
     let (bytes, text, last, consumed, since, rests, appended) = h is in
-    (bytes, text, last.filter.bytes, last.filter.mode, consumed, since.passed, appended))
+    (bytes, text, last.bytes, last.mode, consumed, passed g.T.Rewrite.writes _ last bytes text since, appended))
 
 pub returns-clause-front : goal.returns-clause-front
 returns-clause-front g c = on_err_weaker c.transform_all.result
     (λ (bytes, more, sent, consumed, begins, appended). sent_front g.T.Rewrite.writes _ bytes more sent _ _ _ _ consumed begins appended)
-    (rw c.new-filter.ensures at c.transform_all.ensures.front)
+    (rw c.new-stream.ensures at c.transform_all.ensures.front)

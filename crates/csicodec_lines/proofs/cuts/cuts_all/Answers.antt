@@ -1,3 +1,4 @@
+use Rattle.std.proofs.Common.{refl}
 use Rattle.std.proofs.lemmas.Result.{on_err_weaker, on_ok_weaker}
 use Rattle.csicodec_filter.specs.Transform.{Sends, Transforms}
 use Rattle.csicodec_filter.proofs.Sent.{whole_front}
@@ -6,6 +7,9 @@ use Rattle.csicodec_lines.specs.Cuts.{Tells}
 use Rattle.csicodec_lines.specs.Private.Finder.{Passes}
 use Rattle.csicodec_lines.proofs.Going.{Quiet, begun, front, shorter, tells, whole_text}
 use Rattle.csicodec_lines.proofs.cuts.cuts_all.Goals as goal
+
+pub transform_all-requires-clause-stands : goal.transform_all-requires-clause-stands
+transform_all-requires-clause-stands g c = rw c.new.ensures.waiting refl
 
 pub transform_all-requires-clause-begun : goal.transform_all-requires-clause-begun
 transform_all-requires-clause-begun g c = begun c.args.every c.new.result c.new.ensures

@@ -6,7 +6,7 @@ use Rattle.csicodec_overwrite.proofs.front.append_front.Given as goal
 -- a front is written
 abbrev pub invariant-loop-run : goal.invariant-loop-run
 invariant-loop-run l = record {
-  front : (front : List ℕ) × (text : List ℕ) × (l.bytes ≡ front ++ l.rest) × IsFront l.fn.painted l.fn.pen front text l.last l.now ×
+  front : (front : List ℕ) × (text : List ℕ) × (l.bytes ≡ front ++ l.rest) × IsFront l.fn.marking l.fn.pen front text l.last l.now ×
       (l.out.items ≡ l.fn.out.items ++ text);
   bare : l.reader ≡ none_held;
 }

@@ -1,23 +1,32 @@
-use Rattle.std.proofs.Common.{refl, true}
+use Rattle.std.proofs.Common.{[], ◌++◌, refl, sym, subst, append-nil}
 use Rattle.std.proofs.lemmas.Result.{on_err_weaker, on_ok_weaker}
+use Rattle.csicodec_html.proofs.Paired.{is_page}
+use Rattle.csicodec_overwrite.specs.declared.marking.Marking.TheVariants.{Page}
+use Rattle.csicodec_overwrite.specs.Reading.{Paints}
 use Rattle.csicodec_overwrite.specs.Stream.{begun_as}
+use Rattle.csicodec_overwrite.proofs.Paged.{painted_page}
 use Rattle.csicodec_overwrite.proofs.Written.{begins, passes_none, transformed}
 use Rattle.csicodec_overwrite.proofs.page.html_overwritten_all.Goals as goal
 
-pub html_through-requires-clause-begun : goal.html_through-requires-clause-begun
-html_through-requires-clause-begun g c = rw c.painting.ensures (passes_none (begun_as true) refl)
+pub transform_all-requires-clause-begun : goal.transform_all-requires-clause-begun
+transform_all-requires-clause-begun g c = rw c.writing-pages.ensures (passes_none (begun_as (Page c.args.markup)) refl)
 
 pub returns-clause-ok : goal.returns-clause-ok
-returns-clause-ok g c = on_ok_weaker c.html_through.result
-    (λ (bytes, painted, page, consumed, whole, made, safe, appended). (bytes, painted, page, consumed, transformed true bytes painted whole, made, safe, appended))
-    (rw c.painting.ensures at c.html_through.ensures.ok)
+returns-clause-ok g c = on_ok_weaker c.transform_all.result
+    (λ (bytes, page, consumed, end, whole, appended).
+    let m = c.args.markup in
+    let (painted, paints, made) = painted_page m bytes page (transformed (Page m) bytes page whole) in
+    (bytes, painted, page, consumed, paints, made, is_page m painted page made, appended))
+    (rw c.writing-pages.ensures at c.transform_all.ensures.ok)
 
 pub returns-clause-end : goal.returns-clause-end
-returns-clause-end g c = c.html_through.ensures.end
+returns-clause-end g c = on_ok_weaker c.transform_all.result (λ (bytes, page, consumed, end, whole, appended). end) c.transform_all.ensures.ok
 
 pub returns-clause-front : goal.returns-clause-front
-returns-clause-front g c = on_err_weaker c.html_through.result
-    (λ (bytes, more, painted, sent, unsent, consumed, whole, made, safe, appended).
-    let (unpainted, paints) = begins true _ bytes painted whole in
-    (bytes, more, painted, unpainted, sent, unsent, consumed, paints, made, safe, appended))
-    (rw c.painting.ensures at c.html_through.ensures.front)
+returns-clause-front g c = on_err_weaker c.transform_all.result
+    (λ (bytes, more, sent, consumed, begun, appended).
+    let m = c.args.markup in
+    let (unsent, shown) = begins (Page m) _ bytes sent begun in
+    let (painted, paints, made) = painted_page m bytes (sent ++ unsent) shown in
+    (bytes, more, painted, [], sent, unsent, consumed, subst (Paints bytes) (sym (append-nil painted)) paints, made, is_page m painted (sent ++ unsent) made, appended))
+    (rw c.writing-pages.ensures at c.transform_all.ensures.front)

@@ -6,7 +6,7 @@ use Rattle.csicodec_overwrite.proofs.paint.append_painted.Given as goal
 -- some are painted
 abbrev pub invariant-loop-cell : goal.invariant-loop-cell
 invariant-loop-cell l = record {
-  text : l.out.items ++ paint l.now l.rest ≡ l.initial.out.items ++ paint plain l.cells;
+  text : l.out.items ++ paint l.marking l.now l.rest ≡ l.initial.out.items ++ paint l.marking plain l.cells;
   blank : l.is_blank ≡ true → l.now ≡ plain;
 }
 

@@ -1,7 +1,8 @@
-use Rattle.std.proofs.Common.{false, refl}
+use Rattle.std.proofs.Common.{refl}
 use Rattle.csicodec_filter.specs.Transform.{Sends, Transforms}
 use Rattle.csicodec_clean.specs.Shown.{IsPlain}
 use Rattle.csicodec_clean.proofs.Streams.{Texts, streams_one}
+use Rattle.csicodec_overwrite.specs.declared.marking.Marking.TheVariants.{Plain}
 use Rattle.csicodec_overwrite.specs.Reading.{Overwrites}
 use Rattle.csicodec_overwrite.specs.Stream.{Ending, Passes, begun_as}
 use Rattle.csicodec_overwrite.proofs.Once.{shown_sent}
@@ -10,14 +11,14 @@ use Rattle.csicodec_overwrite.proofs.Written.{begins, passes_none, transformed}
 use Rattle.csicodec_overwrite.proofs.run.overwrite_all.Goals as goal
 
 pub transform_all-requires-clause-begun : goal.transform_all-requires-clause-begun
-transform_all-requires-clause-begun g c = rw c.new.ensures (passes_none (begun_as false) refl)
+transform_all-requires-clause-begun g c = rw c.new.ensures (passes_none (begun_as Plain) refl)
 
 pub returns : goal.returns
 returns g c =
-    let texts : Texts (Sends Passes (begun_as false)) (Transforms Passes Ending (begun_as false)) Overwrites IsPlain = record {
-      whole = transformed false;
-      begins = begins false;
+    let texts : Texts (Sends Passes (begun_as Plain)) (Transforms Passes Ending (begun_as Plain)) Overwrites IsPlain = record {
+      whole = transformed Plain;
+      begins = begins Plain;
       safe = overwritten_plain;
     } in
-    streams_one _ _ Overwrites IsPlain c.transform_all.result _ _ _ _ texts (shown_sent false)
+    streams_one _ _ Overwrites IsPlain c.transform_all.result _ _ _ _ texts (shown_sent Plain)
     (rw c.new.ensures at c.transform_all.ensures.ok) (rw c.new.ensures at c.transform_all.ensures.front)

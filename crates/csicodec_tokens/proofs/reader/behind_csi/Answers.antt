@@ -1,33 +1,20 @@
-use Rattle.std.proofs.Common.{[], ◌∷◌, ◌++◌, length, ap, subst, arith}
-use Rattle.std.proofs.lemmas.Result.{err_from_is_err_and}
-use Rattle.csicodec_tokens.specs.Private.Reading.{IsPart}
-use Rattle.csicodec_tokens.proofs.Tokens.{others_shorter}
-use Rattle.csicodec_tokens.proofs.Reading.{read_none, read_more, read_all}
+use Rattle.std.proofs.Common.{inl, inr, arith}
+use Rattle.csicodec_tokens.proofs.Reading.{first_cut}
+use Rattle.csicodec_tokens.proofs.Stopped.{cut_behind, found_behind, bad_behind, large_behind}
 use Rattle.csicodec_tokens.proofs.reader.behind_csi.Goals as goal
 
-pub loop-others-init : goal.loop-others-init
-loop-others-init c = record {
-  within = omega (arith, ap length c.in_ok-rest.ensures);
-  read = ([], read_none c.args.bytes.now c.in_ok-rest.rest.now c.in_ok-rest.ensures);
-}
+pub returns-in_default-clause-refused : goal.returns-in_default-clause-refused
+returns-in_default-clause-refused c = cut_behind _ _ _ c.in_ok-behind_introducer.ensures c.in_default.ensures
 
-pub loop-others-preserved : goal.loop-others-preserved
-loop-others-preserved c =
-    let first = subst (IsPart c.loop-others.rest.now) c.in-Token.is c.in_ok-others.ensures.part in
-    let r = c.loop-others.invariant.read in
-    record {
-      within = omega (arith, c.loop-others.invariant.within, others_shorter _ _ _ first);
-      read = (r.0 ++ c.in-Token.field-0 ∷ [], read_more _ _ _ _ _ r.1 first);
-    }
+pub returns-in-64-to-126-clause-found : goal.returns-in-64-to-126-clause-found
+returns-in-64-to-126-clause-found c =
+    found_behind _ _ _ c.in_ok-behind_introducer.ensures c.in-Err.ensures _ _ (first_cut c.in-Err.rest.now c.in-64-to-126.len_at_least) (omega arith, omega arith)
 
-pub returns-in_err-others-clause-refused : goal.returns-in_err-others-clause-refused
-returns-in_err-others-clause-refused c =
-    let p = err_from_is_err_and c.from_residual-in_err-others.result c.from_residual-in_err-others.ensures.1 in
-    let r = c.loop-others.invariant.read in
-    rw (p.1, p.2) (c.in_err-others.ensures.fault r.0 r.1)
+pub returns-in-32-to-63-clause-refused : goal.returns-in-32-to-63-clause-refused
+returns-in-32-to-63-clause-refused c = large_behind _ _ _ c.in_ok-behind_introducer.ensures c.in-Err.ensures (omega arith, omega arith)
 
-pub returns-in-Final-clause-found : goal.returns-in-Final-clause-found
-returns-in-Final-clause-found c =
-    let r = c.loop-others.invariant.read in
-    let last = subst (IsPart c.loop-others.rest.now) c.in-Final.is c.in_ok-others.ensures.part in
-    (r.0, _, read_all _ _ _ _ _ r.1 last.0 last.1)
+pub returns-in-0-to-31-clause-refused : goal.returns-in-0-to-31-clause-refused
+returns-in-0-to-31-clause-refused c = bad_behind _ _ _ c.in_ok-behind_introducer.ensures c.in-Err.ensures (inl (omega arith))
+
+pub returns-in-127-to-255-clause-refused : goal.returns-in-127-to-255-clause-refused
+returns-in-127-to-255-clause-refused c = bad_behind _ _ _ c.in_ok-behind_introducer.ensures c.in-Err.ensures (inr (omega arith))

@@ -1,34 +1,25 @@
-use Rattle.std.proofs.Common.{[]}
-use Rattle.std.proofs.KnownBytes.{Appends-nil}
-use Rattle.csicodec_tool.proofs.Written.{sent_more}
+use Rattle.std.proofs.Common.{◌++◌, Option, subst}
+use Rattle.std.proofs.lemmas.Result.{on_err_weaker, on_ok_weaker}
+use Rattle.csicodec_clean.specs.declared.styles.Passing.{Passing}
+use Rattle.csicodec_tool.specs.Log.{Logs, LogsSome}
+use Rattle.csicodec_tool.proofs.Logged.{log_begins, log_begun, logged}
 use Rattle.csicodec_tool.proofs.log.log_all.Goals as goal
 
-pub loop-init : goal.loop-init
-loop-init g c = ([], Appends-nil _)
+pub transform_all-requires-clause-begun : goal.transform_all-requires-clause-begun
+transform_all-requires-clause-begun g c = log_begun c.new.result c.new.ensures.begun
 
-pub returns-in_err-len : goal.returns-in_err-len
-returns-in_err-len g c = c.loop.invariant
+pub returns-clause-ok : goal.returns-clause-ok
+returns-clause-ok g c = on_ok_weaker c.transform_all.result
+    (λ (bytes, text, consumed, end, whole, appended).
+    (bytes, text, consumed, subst (λ (p : Option Passing). Logs p bytes text) c.new.ensures.passing (logged c.new.result bytes text whole), appended))
+    c.transform_all.ensures.ok
 
-pub returns-in_err-map_err : goal.returns-in_err-map_err
-returns-in_err-map_err g c = c.loop.invariant
+pub returns-clause-end : goal.returns-clause-end
+returns-clause-end g c = on_ok_weaker c.transform_all.result (λ (bytes, text, consumed, end, whole, appended). end) c.transform_all.ensures.ok
 
-pub returns-then-len-eq0 : goal.returns-then-len-eq0
-returns-then-len-eq0 g c =
-    let (text, appended) = c.loop.invariant in
-    sent_more c.send.result _ _ _ text _ appended c.send.ensures.ok c.send.ensures.front
-
-pub returns-in_err-map_err-2 : goal.returns-in_err-map_err-2
-returns-in_err-map_err-2 g c = c.loop.invariant
-
-pub returns-in_err-send : goal.returns-in_err-send
-returns-in_err-send g c =
-    let (text, appended) = c.loop.invariant in
-    sent_more c.send-in-loop.result _ _ _ text _ appended c.send-in-loop.ensures.ok c.send-in-loop.ensures.front
-
-pub loop-preserved : goal.loop-preserved
-loop-preserved g c =
-    let (text, appended) = c.loop.invariant in
-    sent_more c.send-in-loop.result _ _ _ text _ appended c.send-in-loop.ensures.ok c.send-in-loop.ensures.front
-
-pub returns : goal.returns
-returns g c = c.loop.invariant
+pub returns-clause-front : goal.returns-clause-front
+returns-clause-front g c = on_err_weaker c.transform_all.result
+    (λ (bytes, more, sent, consumed, begins, appended).
+    let (unsent, some) = log_begins c.new.result _ bytes sent begins in
+    (bytes, more, sent, unsent, consumed, subst (λ (p : Option Passing). LogsSome p bytes (sent ++ unsent)) c.new.ensures.passing some, appended))
+    c.transform_all.ensures.front

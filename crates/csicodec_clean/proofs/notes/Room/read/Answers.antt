@@ -1,7 +1,7 @@
-use Rattle.std.proofs.Common.{[], false, length, map, ap, sym, subst, ◌-◌}
-use Rattle.csicodec_parser.specs.ActionOf.{action_of}
-use Rattle.csicodec_parser.specs.Segments.{Actions}
+use Rattle.std.proofs.Common.{[], length, ap, refl, ◌-◌}
+use Rattle.csicodec_clean.proofs.Coded.{color_closed}
 use Rattle.csicodec_clean.proofs.Glances.{front_read}
+use Rattle.csicodec_clean.proofs.Noted.{closed_taken}
 use Rattle.csicodec_clean.proofs.notes.Room.read.Goals as goal
 
 pub returns-in-Some-clause-read : goal.returns-in-Some-clause-read
@@ -9,13 +9,12 @@ returns-in-Some-clause-read c = λ some.
     let (list, reads, are) = c.in-Some.ensures.read in
     let behind = c.in-Some.rest.now in
     let read = front_read c.args.limit _ c.args.bytes.now behind list 109 (rw c.near-front.ensures at reads) (ap (λ l. length l - length behind) c.near-front.ensures) in
-    (list, 109, read.1, rw (c.in_ok-push.ensures.items, c.clear.ensures.items) are)
+    rw (c.in_ok-push.ensures.items, c.clear.ensures.items) (closed_taken _ list 109 _ read.1 are refl (color_closed _ behind _ list c.in-Some.ensures.spelled reads))
 
-pub returns-in_ok-parse_into-in-Ok-clause-read : goal.returns-in_ok-parse_into-in-Ok-clause-read
-returns-in_ok-parse_into-in-Ok-clause-read c = λ some.
+pub returns-in_ok-terminal_actions_into-in-Ok-clause-read : goal.returns-in_ok-terminal_actions_into-in-Ok-clause-read
+returns-in_ok-terminal_actions_into-in-Ok-clause-read c = λ some.
     let behind = c.in-Ok.tail.rest.now in
     let list = c.read_csi_into.new.params.items in
     let found = rw c.near-front.ensures at c.in-Ok.ensures.found in
     let read = front_read c.args.limit _ c.args.bytes.now behind list c.in-Ok.tail.control found (ap (λ l. length l - length behind) c.near-front.ensures) in
-    let (actions, are, held) = c.in_ok-parse_into-in-Ok.ensures [] (ap (map action_of) c.clear.ensures.items) in
-    (list, c.in-Ok.tail.control, read.1, rw c.deref.ensures.value at (subst (Actions c.deref.result.now false c.in-Ok.tail.control) (sym held) are))
+    (list, c.in-Ok.tail.control, read.1, rw c.deref.ensures.value at c.in_ok-terminal_actions_into-in-Ok.ensures)

@@ -6,6 +6,7 @@ use Rattle.csicodec_actions.specs.Actions.{Sgr as SgrAction}
 use Rattle.csicodec_actions.specs.Table.{texts}
 use Rattle.csicodec_parser.specs.ActionOf.{action_of}
 use Rattle.csicodec_clean.specs.Styled.{is_open, kept}
+use Rattle.csicodec_clean.proofs.Noted.{move_taken}
 use Rattle.csicodec_clean.proofs.notes.Room.take_new.Goals as goal
 
 pub returns-then-moved-gt0-clause-within : goal.returns-then-moved-gt0-clause-within
@@ -23,7 +24,7 @@ returns-then-moved-gt0-clause-left c = λ some.
     let few = length-take c.args.limit bytes in
     let short : moved ≤ c.args.limit = omega (arith, c.position_len-moved.ensures.within, all, few) in
     let front = ap (λ (l : List ℕ). take moved l) c.near.ensures ∙ take-take moved c.args.limit bytes short in
-    (action.Cursor to ∷ [], (list, final, subst (λ (l : List ℕ). Seq l list final) front seq, are), refl, sym (append-nil c.args.out.now.items))
+    (action.Cursor to ∷ [], move_taken (take moved bytes) list final to (subst (λ (l : List ℕ). Seq l list final) front seq) are, refl, sym (append-nil c.args.out.now.items))
 
 pub keep-requires-clause-sequence : goal.keep-requires-clause-sequence
 keep-requires-clause-sequence c = c.in_ok-len.ensures.read (omega (arith, c.if-len-eq0.false))

@@ -1,18 +1,41 @@
-use Rattle.std.proofs.Common.{◌∙◌}
-use Rattle.std.proofs.lemmas.Result.{on_ok_weaker}
+use Rattle.std.proofs.Common.{◌≡◌, ◌<◌, ◌⊎◌, ◌++◌, ℕ, List, [], length, ap, sym, subst}
+use Rattle.csicodec_spans.specs.Parts.{IsUnsure}
 use Rattle.csicodec_spans.proofs.Kept.{unsure_short}
-use Rattle.csicodec_compact.proofs.Beside.{front_over}
+use Rattle.csicodec_filter.specs.Filter.{Held}
+use Rattle.csicodec_filter.specs.Written.{Adds, Appends, with_more}
+use Rattle.csicodec_compact.specs.Private.Run.{Holds}
+use Rattle.csicodec_compact.specs.Runs.{Open, PassesShort}
+use Rattle.csicodec_compact.specs.declared.stream.Compactor.TheInside.{Inside}
+use Rattle.csicodec_compact.specs.declared.shortener.Shortener.{Shortener}
+use Rattle.csicodec_compact.proofs.Beside.{passes_over}
 use Rattle.csicodec_compact.proofs.stream.Compactor.push.Goals as goal
 
 pub returns-clause-passes : goal.returns-clause-passes
 returns-clause-passes c =
-    let old = c.args.self.now in
-    let new = c.push_on.new.self in
-    let pushed = c.in_ok-push_on.ensures in
-    let (text, passed, made) = front_over old.limit old.mode new.mode _ c.args.out.now.items c.push_on.new.out.items new.bytes c.push_on.new.written.form (rw c.new-written.ensures at pushed.goes) pushed.unsure in
-    on_ok_weaker c.close_into.result (λ e. (text, passed, e ∙ made)) c.close_into.ensures.text
+    let now = c.args.self.now in
+    let bytes = c.args.bytes.now in
+    let out = c.args.out.now.items in
+    let between = c.push.new.out.items in
+    let last = c.pause.new.out.items in
+    let begun : Held Shortener = record c.self.inside.stream { rewrite = c.restart.new.self } in
+    let mid : Held Shortener = c.push.new.self in
+    let first = ap (λ (i : Inside). i.stream) c.self-inside.view_is in
+    let second = ap (λ (i : Inside). i.stream) c.self-inside-2.view_is in
+    let put : Adds Holds mid.rewrite [] between last c.pause.new.self =
+    subst (λ (h : Held Shortener). Adds Holds h.rewrite [] between last c.pause.new.self) second c.in_ok-pause.ensures.written in
+    let pushed : Appends Holds (with_more begun bytes) out between mid =
+    subst (λ (h : Held Shortener). Appends Holds (with_more (record h { rewrite = c.restart.new.self }) bytes) out between mid) first c.in_ok-push.ensures.written in
+    let unsure : IsUnsure begun.limit mid.mode mid.bytes =
+    subst (λ (h : Held Shortener). IsUnsure h.limit mid.mode mid.bytes) first c.in_ok-push.ensures.unsure in
+    let all = passes_over (with_more begun bytes) mid c.pause.new.self out between last c.restart.ensures pushed unsure put c.in_ok-pause.ensures.rests in
+    let told : (text : List ℕ) × PassesShort now.limit now.mode (now.bytes ++ bytes) text mid.bytes mid.mode × (last ≡ out ++ text) =
+    subst (λ (o : Open). (text : List ℕ) × PassesShort o.limit o.mode (o.bytes ++ bytes) text mid.bytes mid.mode × (last ≡ out ++ text)) c.self.view_is all in
+    subst (λ (h : Held Shortener). (text : List ℕ) × PassesShort now.limit now.mode (now.bytes ++ bytes) text h.bytes h.mode × (last ≡ out ++ text)) (sym second) told
 
 pub returns-clause-short : goal.returns-clause-short
 returns-clause-short c =
-    let pushed = c.in_ok-push_on.ensures in
-    on_ok_weaker c.close_into.result (λ _. rw pushed.limit (unsure_short c.args.self.now.limit c.push_on.new.self.mode c.push_on.new.self.bytes pushed.unsure)) c.close_into.ensures.text
+    let mid : Held Shortener = c.push.new.self in
+    let second = ap (λ (i : Inside). i.stream) c.self-inside-2.view_is in
+    let (text, written, is) = c.in_ok-push.ensures.written in
+    let held = subst (λ (n : ℕ). (length mid.bytes < n) ⊎ (length mid.bytes < 3)) (sym written.limit) (unsure_short _ mid.mode mid.bytes c.in_ok-push.ensures.unsure) in
+    subst (λ (h : Held Shortener). (length h.bytes < h.limit) ⊎ (length h.bytes < 3)) (sym second) held

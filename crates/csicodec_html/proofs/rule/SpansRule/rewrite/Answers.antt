@@ -9,11 +9,11 @@ use Rattle.csicodec_html.proofs.rule.SpansRule.rewrite.Goals as goal
 
 pub keep-requires-clause-turn : goal.keep-requires-clause-turn
 keep-requires-clause-turn c =
-    let actions = map action_of c.in_ok-actions.actions.items in
+    let actions = map action_of c.terminal_actions_into.new.actions.items in
     let inside = c.self.inside in
     let bytes = c.args.bytes.now in
     let new = c.behind_each-new.result in
-    let is = read inside.markup bytes c.args.params.now c.args.control inside.look new c.sets_any.result actions c.requires c.in_ok-actions.ensures
+    let is = read inside.markup bytes c.args.params.now c.args.control inside.look new c.sets_any.result actions c.requires c.in_ok-terminal_actions_into.ensures
     (c.behind_each-new.ensures ∙ ap (λ l. behind_all inside.look (map action_of l)) c.deref.ensures.value)
     (c.sets_any.ensures ∙ ap (λ l. sets_any (map action_of l)) c.deref-2.ensures.value) in
     appended inside.markup bytes inside.look new _ _ c.args.out.now.items c.append_turn.new.out.items c.len-before.result
@@ -22,7 +22,7 @@ keep-requires-clause-turn c =
 
 pub returns : goal.returns
 returns c =
-    let actions = map action_of c.in_ok-actions.actions.items in
+    let actions = map action_of c.terminal_actions_into.new.actions.items in
     let inside = c.self.inside in
     let bytes = c.args.bytes.now in
     let come = begun inside.lead.next.place inside.lead.next.params.items inside.lead.next.url.items in
@@ -30,7 +30,7 @@ returns c =
     let new = c.behind_each-new.result in
     let after = setting inside.markup new inside.lead.to.items come in
     let text = all_marked (turn inside.markup c.sets_any.result inside.look new) in
-    let is = read inside.markup bytes c.args.params.now c.args.control inside.look new c.sets_any.result actions c.requires c.in_ok-actions.ensures
+    let is = read inside.markup bytes c.args.params.now c.args.control inside.look new c.sets_any.result actions c.requires c.in_ok-terminal_actions_into.ensures
     (c.behind_each-new.ensures ∙ ap (λ l. behind_all inside.look (map action_of l)) c.deref.ensures.value)
     (c.sets_any.ensures ∙ ap (λ l. sets_any (map action_of l)) c.deref-2.ensures.value) in
     let gives = (given first bytes text new is).1 in

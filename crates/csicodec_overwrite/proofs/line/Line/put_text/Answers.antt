@@ -1,9 +1,20 @@
-use Rattle.std.proofs.Common.{◌≡◌, ◌++◌, ◌∷◌, ap, ◌∙◌}
+use Rattle.std.proofs.Common.{◌≡◌, ◌++◌, ◌∷◌, ap, sym, ◌∙◌}
 use Rattle.csicodec_overwrite.specs.Cells.{columns}
-use Rattle.csicodec_overwrite.specs.Line.{do_all, does, pen_behind}
+use Rattle.csicodec_overwrite.specs.Line.{Done, do_all, does, pen_behind}
+use Rattle.csicodec_overwrite.specs.Paint.{texts_of}
 use Rattle.csicodec_overwrite.specs.Steps.{of_chars}
 use Rattle.csicodec_overwrite.proofs.Moved.{step_text}
 use Rattle.csicodec_overwrite.proofs.line.Line.put_text.Goals as goal
+
+pub loop-byte-init : goal.loop-byte-init
+loop-byte-init c =
+    let run = c.in_ok-rest.ensures in
+    record {
+      plain = run.plain;
+      line = ap (λ (d : Done). d.line) (sym run.same);
+      pen = sym run.pens;
+      text = ap (λ (d : Done). c.args.out.now.items ++ texts_of c.args.marking.now d.lines) (sym run.same);
+    }
 
 pub loop-byte-preserved : goal.loop-byte-preserved
 loop-byte-preserved c =
@@ -14,11 +25,13 @@ loop-byte-preserved c =
     let d = does limit l.pen step l.self in
     let later = do_all limit (pen_behind l.pen step (columns l.self.left)) steps d.line in
     let e = c.in_ok-take.ensures in
+    let run = c.in_ok-rest-2.ensures in
     let all = rw c.in-Some.ensures.cases.0 at l.invariant.plain in
     let split : of_chars l.rest.now ≡ step ∷ steps = ap of_chars c.in-Some.ensures.cases.0 ∙ ap (λ xs. xs ++ steps) (c.plain_step.ensures all.0) in
     record {
-      plain = all.1;
-      line = rw (e.line, e.pen) (rw split at l.invariant.line);
-      pen = rw (e.line, e.pen) (rw split at l.invariant.pen);
-      text = rw (e.line, e.pen) (step_text c.args.painted l.out.items c.take.new.out.items d.lines later.lines _ e.text (rw split at l.invariant.text));
+      plain = run.plain;
+      line = ap (λ (x : Done). x.line) (sym run.same) ∙ rw (e.line, e.pen) (rw split at l.invariant.line);
+      pen = sym run.pens ∙ rw (e.line, e.pen) (rw split at l.invariant.pen);
+      text = ap (λ (x : Done). c.take.new.out.items ++ texts_of c.args.marking.now x.lines) (sym run.same)
+          ∙ rw (e.line, e.pen) (step_text c.args.marking.now l.out.items c.take.new.out.items d.lines later.lines _ e.text (rw split at l.invariant.text));
     }

@@ -10,9 +10,9 @@ use Rattle.csicodec_overwrite.proofs.line.Line.put_text.Given as goal
 abbrev pub invariant-loop-byte : goal.invariant-loop-byte
 invariant-loop-byte l = record {
   plain : AllByRecursion IsLineByte l.rest;
-  line : (do_all l.limit l.pen (of_chars l.rest) l.self).line ≡ (do_all l.limit l.initial.pen (of_chars l.text) l.initial.self).line;
-  pen : pen_behind_all l.limit l.pen (of_chars l.rest) l.self ≡ pen_behind_all l.limit l.initial.pen (of_chars l.text) l.initial.self;
-  text : l.out.items ++ texts_of l.painted (do_all l.limit l.pen (of_chars l.rest) l.self).lines ≡ l.initial.out.items ++ texts_of l.painted (do_all l.limit l.initial.pen (of_chars l.text) l.initial.self).lines;
+  line : (do_all l.limit l.pen (of_chars l.rest) l.self).line ≡ (do_all l.limit l.fn.pen (of_chars l.text) l.fn.self).line;
+  pen : pen_behind_all l.limit l.pen (of_chars l.rest) l.self ≡ pen_behind_all l.limit l.fn.pen (of_chars l.text) l.fn.self;
+  text : l.out.items ++ texts_of l.marking (do_all l.limit l.pen (of_chars l.rest) l.self).lines ≡ l.fn.out.items ++ texts_of l.marking (do_all l.limit l.fn.pen (of_chars l.text) l.fn.self).lines;
 }
 
 abbrev pub decreases-loop-byte : goal.decreases-loop-byte

@@ -15,5 +15,5 @@ loop-step-preserved c =
     record {
       line = rw (e.line, e.pen) invariant.line;
       pen = rw (e.line, e.pen) invariant.pen;
-      text = rw (e.line, e.pen) (step_text c.args.painted l.out.items c.take.new.out.items d.lines later.lines _ e.text invariant.text);
+      text = rw (e.line, e.pen) (step_text c.args.marking.now l.out.items c.take.new.out.items d.lines later.lines _ e.text invariant.text);
     }

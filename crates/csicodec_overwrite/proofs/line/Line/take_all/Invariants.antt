@@ -8,7 +8,7 @@ abbrev pub invariant-loop-step : goal.invariant-loop-step
 invariant-loop-step l = record {
   line : (do_all l.limit l.pen l.rest l.self).line ≡ (do_all l.limit l.initial.pen l.steps l.initial.self).line;
   pen : pen_behind_all l.limit l.pen l.rest l.self ≡ pen_behind_all l.limit l.initial.pen l.steps l.initial.self;
-  text : l.out.items ++ texts_of l.painted (do_all l.limit l.pen l.rest l.self).lines ≡ l.initial.out.items ++ texts_of l.painted (do_all l.limit l.initial.pen l.steps l.initial.self).lines;
+  text : l.out.items ++ texts_of l.marking (do_all l.limit l.pen l.rest l.self).lines ≡ l.initial.out.items ++ texts_of l.marking (do_all l.limit l.initial.pen l.steps l.initial.self).lines;
 }
 
 abbrev pub decreases-loop-step : goal.decreases-loop-step

@@ -9,9 +9,9 @@ returns-clause-passes c =
     let now = c.self.inside in
     let bare = rw (← c.self.view_is) at c.requires in
     rw (← c.self.view_is) (
-      ended now.painted (cells_of now.line),
-      end_passes (record { reader = now.reader; pen = now.pen; painted = now.painted; line = now.line })
-          (record { reader = now.reader; pen = c.take.new.self; painted = now.painted; line = c.end.new.self }) bare refl refl
+      ended now.marking (cells_of now.line),
+      end_passes (record { reader = now.reader; pen = now.pen; marking = now.marking; line = now.line })
+          (record { reader = now.reader; pen = c.take.new.self; marking = now.marking; line = c.end.new.self }) bare refl refl
           c.in_ok-end.ensures.none c.take.ensures,
       c.in_ok-end.ensures.text,
     )

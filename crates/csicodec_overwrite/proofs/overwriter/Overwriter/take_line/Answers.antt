@@ -1,7 +1,7 @@
 use Rattle.std.proofs.Common.{◌≡◌, ◌++◌, ◌∷◌, ℕ, [], length, take, refl, rules, sym, ap, ◌∙◌, append_assoc}
 use Rattle.std.proofs.Math.Seq.{take-append_seam}
 use Rattle.csicodec_html.specs.Look.{plain}
-use Rattle.csicodec_overwrite.specs.Private.Front.{turned}
+use Rattle.csicodec_overwrite.specs.Paint.{turn}
 use Rattle.csicodec_overwrite.specs.Private.Plain.{end_of}
 use Rattle.csicodec_overwrite.proofs.Fronts.{line_passes}
 use Rattle.csicodec_overwrite.proofs.overwriter.Overwriter.take_line.Goals as goal
@@ -11,8 +11,8 @@ returns-clause-passes c =
     let (front, text, split, f, out) = c.in_ok-front.ensures.written in
     let (returned, ends) = c.in-Some.ensures in
     let line = c.in_ok-front.front in
-    let painted = c.self.inside.painted in
-    let end = turned painted line.last plain in
+    let marking = c.self.inside.marking in
+    let end = turn marking line.last plain in
     let before = c.args.out.now.items in
     let bare = rw (← c.self.view_is) at c.requires.bare in
     let blank = rw (← c.self.view_is) at c.requires.blank in
@@ -20,11 +20,11 @@ returns-clause-passes c =
       front ++ end_of returned,
       text ++ (end ++ 10 ∷ []),
       split ∙ ap (λ t. front ++ t) ends ∙ sym (append_assoc front (end_of returned) c.in-Some.rest.now),
-      line_passes (record { reader = c.self.inside.reader; pen = c.self.inside.pen; painted = painted; line = c.self.inside.line })
-          (record { reader = c.append_front.new.reader; pen = c.take.new.self; painted = painted; line = c.self.inside.line }) front
+      line_passes (record { reader = c.self.inside.reader; pen = c.self.inside.pen; marking = marking; line = c.self.inside.line })
+          (record { reader = c.append_front.new.reader; pen = c.take.new.self; marking = marking; line = c.self.inside.line }) front
           text line.last line.now returned bare (c.in_ok-front.ensures.bare ∙ sym bare) blank refl refl c.take.ensures f,
       c.in_ok-push.ensures.items ∙ ap (λ t. t ++ 10 ∷ [])
-          (c.in_ok-append_turned.ensures ∙ ap (λ l. c.append_front.new.out.items ++ turned painted line.last l) c.plain.ensures
+          (c.in_ok-append_turn.ensures ∙ ap (λ l. c.append_front.new.out.items ++ turn marking line.last l) c.plain.ensures
           ∙ ap (λ t. t ++ end) out)
           ∙ append_assoc (before ++ text) end (10 ∷ []) ∙ append_assoc before text (end ++ 10 ∷ []),
     )

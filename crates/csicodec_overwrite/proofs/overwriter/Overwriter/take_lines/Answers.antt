@@ -1,4 +1,7 @@
-use Rattle.std.proofs.Common.{[], refl, sym, append-nil}
+use Rattle.std.proofs.Common.{[], ◌∷◌, refl, sym, append-nil}
+use Rattle.csicodec_clean.specs.Bytes.{IsPlainByte}
+use Rattle.csicodec_clean.proofs.PlainBytes.{all_both}
+use Rattle.csicodec_overwrite.specs.Paint.{written}
 use Rattle.csicodec_overwrite.proofs.Fronts.{lines_pass}
 use Rattle.csicodec_overwrite.proofs.Written.{passes_none}
 use Rattle.csicodec_overwrite.proofs.overwriter.Overwriter.take_lines.Goals as goal
@@ -12,12 +15,12 @@ returns-clause-passes c =
     let (front, ends, split, plains, few) = c.in-Some.ensures in
     rw (← c.self.view_is) (
       lines,
-      lines,
+      written now.marking lines,
       split,
-      lines_pass (record { reader = now.reader; pen = now.pen; painted = now.painted; line = now.line })
-          (record { reader = now.reader; pen = c.take.new.self; painted = now.painted; line = now.line }) c.args.bytes.now lines
+      lines_pass (record { reader = now.reader; pen = now.pen; marking = now.marking; line = now.line })
+          (record { reader = now.reader; pen = c.take.new.self; marking = now.marking; line = now.line }) c.args.bytes.now lines
           c.in-Some.rest.now bare refl blank refl refl c.take.ensures puts c.in-Some.ensures,
-      c.in_ok-extend_from_slice.ensures.items,
+      c.in_ok-append_ascii.ensures (rw ends (all_both IsPlainByte front (10 ∷ []) plains (refl, tt))),
     )
 
 pub returns-2-clause-passes : goal.returns-2-clause-passes

@@ -16,8 +16,8 @@ returns-clause-passes c =
     let bare = rw (← c.self.view_is) at c.requires in
     let (parts, plain) = split_line bytes text c.split_front.result.1.now c.split_front.ensures.front c.split_front.ensures.rest in
     let (more, passes, out) =
-    pushed (record { reader = now.reader; pen = now.pen; painted = now.painted; line = now.line })
-    (record { reader = now.reader; pen = c.put_text.new.pen; painted = now.painted; line = c.put_text.new.self }) text (of_chars text) c.args.out.now.items
+    pushed (record { reader = now.reader; pen = now.pen; marking = now.marking; line = now.line })
+    (record { reader = now.reader; pen = c.put_text.new.pen; marking = now.marking; line = c.put_text.new.self }) text (of_chars text) c.args.out.now.items
     c.put_text.new.out.items (rw bare (reads_plain text (lines_plain text plain))) c.in_ok-put_text.ensures.pen refl c.in_ok-put_text.ensures.line
     c.in_ok-put_text.ensures.text in
     rw (← c.self.view_is) (text, more, parts, passes, out)

@@ -1,8 +1,12 @@
+use Rattle.csicodec_spans.specs.declared.table.Mode.TheVariants.{Text as Plain}
+use Rattle.csicodec_compact.specs.Runs.{CompactsAll}
+use Rattle.csicodec_clean.specs.Cleaned.{longest}
 use Rattle.csicodec_clean.specs.Styled.{StylesIn}
 use Rattle.csicodec_lines.specs.Lines.{ByLines}
 use Rattle.csicodec_html.specs.Page.{PageWith}
+use Rattle.csicodec_tool.specs.Log.{Logs, LogsSome}
 use Rattle.csicodec_tool.specs.Writes.{FrontsOf, FrontsOfPainted, PaintedPage}
-use Rattle.csicodec_tool.proofs.Written.{by_same, painted_written, run_written, some_written, streams_written}
+use Rattle.csicodec_tool.proofs.Written.{by_same, logged_written, painted_written, run_written, streams_written}
 use Rattle.csicodec_tool.proofs.rewrite.Work.write_stream.Goals as goal
 
 pub returns-in-Filter-true : goal.returns-in-Filter-true
@@ -20,7 +24,8 @@ returns-in-Filter g c =
 pub returns-in-Compact : goal.returns-in-Compact
 returns-in-Compact g c =
     let run = c.compact_all.ensures in
-    rw c.in-Compact.is (run_written _ c.compact_all.result _ _ _ _ run.ok run.end run.front)
+    rw c.in-Compact.is
+    (run_written (CompactsAll longest Plain) (CompactsAll longest Plain) c.compact_all.result _ _ _ _ run.ok run.end run.front)
 
 pub returns-in-Strip-true : goal.returns-in-Strip-true
 returns-in-Strip-true g c =
@@ -35,10 +40,18 @@ returns-in-Strip g c =
 
 pub returns-in-Overwrite : goal.returns-in-Overwrite
 returns-in-Overwrite g c =
-    rw c.in-Overwrite.is (streams_written _ _ c.overwrite_all.result _ _ _ _ c.overwrite_all.ensures.streams)
+    let a = c.in-Overwrite in
+    let run = c.overwritten_all in
+    rw a.is
+    (logged_written a.styles _ run.result _ _ _ _ a.styles-is run.ensures.ok run.ensures.end run.ensures.front)
 
 pub returns-in-Log : goal.returns-in-Log
-returns-in-Log g c = rw c.in-Log.is (some_written c.log_all.result _ _ _ c.log_all.ensures)
+returns-in-Log g c =
+    let a = c.in-Log in
+    let run = c.log_all in
+    rw a.is
+    (by_same (λ s. Logs s) (λ s. FrontsOf (LogsSome s)) _ a.styles run.result _ _ _ a.styles-is
+    (run_written (Logs _) (LogsSome _) run.result _ _ _ _ run.ensures.ok run.ensures.end run.ensures.front))
 
 pub returns-in-Clean-default-true : goal.returns-in-Clean-default-true
 returns-in-Clean-default-true g c =

@@ -1,0 +1,241 @@
+-- No two rows over fields read one list, and none reads what a row of tokens does: tests that are computed over all pairs.
+use Rattle.std.proofs.Common.{◌≡◌, ℕ, zero, suc, List, [], ◌∷◌, Option, None, Some, refl, sym, ap, ◌∙◌, inl, inr, pos, subst}
+use Rattle.std.specs.Prelude.{ℤ, ◌==◌, ◌&&◌, ◌||◌, Bool, true, false, not, slice_get, if◌then◌else◌, option_and_then}
+use Rattle.std.specs.List.{AllByRecursion}
+use Rattle.std.specs.Option.{option_or}
+use Rattle.std.proofs.lemmas.Bool.{cases_Bool, and_parts, eq-eqb, eqb-true}
+use Rattle.std.proofs.lemmas.Option.{same_Some, slice_get_read, option_and_then_some}
+use Rattle.csicodec_tokens.specs.declared.param.CsiParam.{CsiParam}
+use Rattle.csicodec_tokens.specs.declared.param.CsiParam.TheVariants.{Integer, P}
+use Rattle.csicodec_tokens.specs.Fields.{fields_of}
+use Rattle.csicodec_names.proofs.Coded.{is_number-pos}
+use Rattle.csicodec_actions.specs.Actions.{Action}
+use Rattle.csicodec_actions.specs.FieldRows.{Slot, This, Empty, End, Maybe, There, Must, Or, Rest, behind, ahead_of_byte, behind_byte, fits, have_shape, FieldRow, gives, given, Over, over, no_byte, byte, fields_over, read_over, read_fields}
+use Rattle.csicodec_actions.specs.Rows.{Row, Byte, open_row, rows_before, read_by}
+use Rattle.csicodec_actions.specs.Table.XtSmGraphics.{graphics_rows}
+use Rattle.csicodec_actions.specs.Table.Window.{areas, windows}
+use Rattle.csicodec_actions.specs.Table.{table, field_table, whole, FieldRowsDecide}
+use Rattle.csicodec_actions.proofs.AllFieldRows.{AllFieldRows, over-in}
+use Rattle.csicodec_actions.proofs.AllRows.{whole-table}
+use Rattle.csicodec_actions.proofs.Disjoint.{apart-given, has}
+use Rattle.csicodec_actions.proofs.Disjoint.{apart_from as apart_from_rows}
+use Rattle.csicodec_actions.proofs.Found.{guarded}
+
+-- ---- the first of several that gives something
+
+abbrev picks : {A R : Type 0} → (A → Option R) → List A → Option R
+picks give [] = None
+picks give (x ∷ xs) = option_or (give x) (picks give xs)
+
+abbrev apart_from : {A : Type 0} → (A → A → Bool) → A → List A → Bool
+apart_from apart x [] = true
+apart_from apart x (y ∷ ys) = apart x y && apart_from apart x ys
+
+abbrev all_apart : {A : Type 0} → (A → A → Bool) → List A → Bool
+all_apart apart [] = true
+all_apart apart (x ∷ xs) = apart_from apart x xs && all_apart apart xs
+
+-- what gives something is fit to, and of two that are apart one isn't
+record AreApart {A R : Type 0} (apart : A → A → Bool) (fit : A → Bool) (give : A → Option R) : Type 0 where
+  gave : (x : A) (r : R) → give x ≡ Some r → fit x ≡ true
+  one : (x y : A) → apart x y ≡ true → fit x ≡ true → fit y ≡ true → ⊥
+
+apart-one : {A R : Type 0} (apart : A → A → Bool) (fit : A → Bool) (give : A → Option R) → AreApart apart fit give → (x : A) (xs : List A) (i : ℕ) (y : A) → apart_from apart x xs ≡ true
+    → slice_get xs i ≡ Some y → fit x ≡ true → fit y ≡ true → ⊥
+apart-one apart fit give are x [] zero y d at f g = cc
+apart-one apart fit give are x [] (suc i) y d at f g = cc
+apart-one apart fit give are x (z ∷ zs) zero y d at f g =
+    let same : z ≡ y = same_Some z y at in
+    are.one x y (rw same at (and_parts (apart x z) (apart_from apart x zs) d).0) f g
+apart-one apart fit give are x (z ∷ zs) (suc i) y d at f g = apart-one apart fit give are x zs i y (and_parts (apart x z) (apart_from apart x zs) d).1 at f g
+
+-- what gives something is picked, wherever it stands
+picked : {A R : Type 0} (apart : A → A → Bool) (fit : A → Bool) (give : A → Option R) → AreApart apart fit give → (xs : List A) (i : ℕ) (x : A) (r : R) → all_apart apart xs ≡ true → slice_get xs i ≡ Some x
+    → give x ≡ Some r → picks give xs ≡ Some r
+picked apart fit give are [] zero x r d at e = cc
+picked apart fit give are [] (suc i) x r d at e = cc
+picked apart fit give are (y ∷ ys) zero x r d at e =
+    let same : y ≡ x = same_Some y x at in
+    rw (same, e) refl
+picked apart fit give are (y ∷ ys) (suc i) x r d at e =
+    let p = and_parts (apart_from apart y ys) (all_apart apart ys) d in
+    go (give y) refl (picked apart fit give are ys i x r p.1 at e)
+  where
+    go : (o : Option _) → give y ≡ o → picks give ys ≡ Some r → option_or o (picks give ys) ≡ Some r
+    go None gave later = later
+    go (Some s) gave later = absurd (apart-one apart fit give are y ys i x (and_parts (apart_from apart y ys) (all_apart apart ys) d).0 at (are.gave y s gave) (are.gave x r e))
+
+-- ---- slots
+
+-- the slot takes no number
+abbrev takes_none : Slot → Bool
+takes_none (This n) = false
+takes_none Empty = true
+takes_none End = true
+takes_none _ = false
+
+-- no number fits both slots
+abbrev no_number : Slot → Slot → Bool
+no_number (This n) t = not (fits t (Some (pos n) ∷ []))
+no_number Empty t = true
+no_number End t = true
+no_number (Must k) t = takes_none t
+no_number _ t = takes_none t
+
+-- nothing fits both: no missing field, no empty one and no number
+abbrev differ : Slot → Slot → Bool
+differ s t = not (fits s [] && fits t []) && (not (fits s (None ∷ []) && fits t (None ∷ [])) && no_number s t)
+
+abbrev are_apart : List Slot → List Slot → Bool
+are_apart [] ts = false
+are_apart (s ∷ ss) [] = false
+are_apart (s ∷ ss) (t ∷ ts) = differ s t || are_apart ss ts
+
+-- what a slot takes is told by the field at the front
+fits-front : (s : Slot) (f : Option ℤ) (fs : List (Option ℤ)) → fits s (f ∷ fs) ≡ fits s (f ∷ [])
+fits-front (This n) f fs = refl
+fits-front _ f fs = refl
+
+not_both : (a b : Bool) → not (a && b) ≡ true → a ≡ true → b ≡ true → ⊥
+not_both true true d e f = cc
+not_both _ _ d e f = cc
+
+none-taken : (t : Slot) (z : ℤ) → takes_none t ≡ true → fits t (Some z ∷ []) ≡ true → ⊥
+none-taken (This n) z d f = cc
+none-taken _ z d f = cc
+
+not-fits : (b : Bool) → not b ≡ true → b ≡ true → ⊥
+not-fits true d e = cc
+not-fits false d e = cc
+
+number-slots : (s t : Slot) (z : ℤ) → no_number s t ≡ true → fits s (Some z ∷ []) ≡ true → fits t (Some z ∷ []) ≡ true → ⊥
+number-slots (This n) t z d e f = let same : z ≡ pos n = is_number-pos n z e in not-fits (fits t (Some (pos n) ∷ [])) d (rw same at f)
+number-slots Empty t z d e f = cc
+number-slots End t z d e f = cc
+number-slots (Must k) t z d e f = none-taken t z d f
+number-slots _ t z d e f = none-taken t z d f
+
+differ-slots : (s t : Slot) (fs : List (Option ℤ)) → differ s t ≡ true → fits s fs ≡ true → fits t fs ≡ true → ⊥
+differ-slots s t [] d e f = not_both (fits s []) (fits t []) (and_parts (not (fits s [] && fits t [])) (not (fits s (None ∷ []) && fits t (None ∷ [])) && no_number s t) d).0 e f
+differ-slots s t (x ∷ fs) d e f =
+    let p = and_parts (not (fits s [] && fits t [])) (not (fits s (None ∷ []) && fits t (None ∷ [])) && no_number s t) d in
+    let q = and_parts (not (fits s (None ∷ []) && fits t (None ∷ []))) (no_number s t) p.1 in
+    go x (sym (fits-front s x fs) ∙ e) (sym (fits-front t x fs) ∙ f) q.0 q.1
+  where
+    go : (x : Option ℤ) → fits s (x ∷ []) ≡ true → fits t (x ∷ []) ≡ true → not (fits s (None ∷ []) && fits t (None ∷ [])) ≡ true → no_number s t ≡ true → ⊥
+    go None e f empty number = not_both (fits s (None ∷ [])) (fits t (None ∷ [])) empty e f
+    go (Some z) e f empty number = number-slots s t z number e f
+
+apart-shapes : (ss ts : List Slot) (fs : List (Option ℤ)) → are_apart ss ts ≡ true → have_shape ss fs ≡ true → have_shape ts fs ≡ true → ⊥
+apart-shapes [] ts fs d e f = cc
+apart-shapes (s ∷ ss) [] fs d e f = cc
+apart-shapes (s ∷ ss) (t ∷ ts) fs d e f =
+    let p = and_parts (fits s fs) (have_shape ss (behind fs)) e in
+    let q = and_parts (fits t fs) (have_shape ts (behind fs)) f in
+    elim (cases_Bool (differ s t)) [ inl here ↦ differ-slots s t fs here p.0 q.0 | inr later ↦ apart-shapes ss ts (behind fs) (rw later at d) p.1 q.1 ]
+
+-- ---- the rows of one entry
+
+abbrev rows_apart : FieldRow Action → FieldRow Action → Bool
+rows_apart r s = are_apart r.slots s.slots
+
+rows-are-apart : (fs : List (Option ℤ)) → AreApart rows_apart (λ (r : FieldRow Action). have_shape r.slots fs) (λ (r : FieldRow Action). gives r fs)
+rows-are-apart fs = record { gave = λ r a e. (guarded (have_shape r.slots fs) _ a e).0; one = λ r s d e f. apart-shapes r.slots s.slots fs d e f }
+
+given-picks : (rows : List (FieldRow Action)) (fs : List (Option ℤ)) → given rows fs ≡ picks (λ (r : FieldRow Action). gives r fs) rows
+given-picks [] fs = refl
+given-picks (r ∷ rows) fs = ap (option_or (gives r fs)) (given-picks rows fs)
+
+-- ---- the entries
+
+-- they have different finals
+abbrev finals_apart : Over Action → Over Action → Bool
+finals_apart o p = not (o.final == p.final)
+
+abbrev given_over : List CsiParam → ℕ → Over Action → Option Action
+given_over list final o = if final == o.final then read_over o list else None
+
+finals-are-apart : (list : List CsiParam) (final : ℕ) → AreApart finals_apart (λ (o : Over Action). final == o.final) (given_over list final)
+finals-are-apart list final = record {
+  gave = λ o a e. (guarded (final == o.final) _ a e).0;
+  one = λ o p d e f. (let same : o.final ≡ p.final = sym (eqb-true final o.final e) ∙ eqb-true final p.final f in not-fits (o.final == p.final) d (eq-eqb o.final p.final same));
+}
+
+fields-pick : (entries : List (Over Action)) (list : List CsiParam) (final : ℕ) → read_fields entries list final ≡ picks (given_over list final) entries
+fields-pick [] list final = refl
+fields-pick (o ∷ others) list final = ap (option_or (given_over list final o)) (fields-pick others list final)
+
+-- the row of all lists that begin with the byte ahead, or of all
+abbrev begun : Option ℕ → Action → Row Action
+begun None a = open_row [] (λ rest. a)
+begun (Some b) a = open_row (Byte b ∷ []) (λ rest. a)
+
+-- no row of tokens before its final reads what begins with its byte
+record AreNotTokens (o : Over Action) : Type 0 where
+  each : (a : Action) → apart_from_rows (begun o.ahead a) (rows_before table o.final) ≡ true
+
+-- neither do its rows read one list
+record IsApart (o : Over Action) : Type 0 where
+  rows : all_apart rows_apart o.rows ≡ true
+  tokens : AreNotTokens o
+
+are-apart : AllByRecursion IsApart field_table
+are-apart =
+    let window : IsApart (over no_byte no_byte "t" windows) = record { rows = refl; tokens = record { each = λ a. refl } } in
+    let area : IsApart (over no_byte (byte "*") "y" areas) = record { rows = refl; tokens = record { each = λ a. refl } } in
+    let graphics : IsApart (over (byte "?") no_byte "S" graphics_rows) = record { rows = refl; tokens = record { each = λ a. refl } } in
+    (window, (area, (graphics, tt)))
+
+all-at : {A : Type 0} (Q : A → Type 0) (xs : List A) (i : ℕ) (x : A) → AllByRecursion Q xs → slice_get xs i ≡ Some x → Q x
+all-at Q [] zero x all at = cc
+all-at Q [] (suc i) x all at = cc
+all-at Q (y ∷ ys) zero x all at = subst Q (same_Some y x at) all.0
+all-at Q (y ∷ ys) (suc i) x all at = all-at Q ys i x all.1 at
+
+-- what is read over fields begins with the byte ahead
+byte-begins : (b : Option ℕ) (a : Action) (list rest : List CsiParam) → behind_byte b list ≡ Some rest → has (begun b a) list ≡ true
+byte-begins None a list rest e = refl
+byte-begins (Some b) a [] rest e = cc
+byte-begins (Some b) a (Integer z ∷ ts) rest e = cc
+byte-begins (Some b) a (P c ∷ ts) rest e = rw (guarded (c == b) _ rest e).0 refl
+
+over-begins : (o : Over Action) (a : Action) (list : List CsiParam) (fs : List (Option ℤ)) → fields_over o list ≡ Some fs → has (begun o.ahead a) list ≡ true
+over-begins o a list fs e =
+    option_and_then_some fields_of (option_and_then (ahead_of_byte o.end) (behind_byte o.ahead list)) fs e
+    (λ front cut are. option_and_then_some (ahead_of_byte o.end) (behind_byte o.ahead list) front cut (λ rest begins ended. byte-begins o.ahead a list rest begins))
+
+-- what is read by fields is the action
+fields-decide : (o : Over Action) (list : List CsiParam) (fs : List (Option ℤ)) (a : Action) → AreNotTokens o → fields_over o list ≡ Some fs → read_fields field_table list o.final ≡ Some a
+    → whole list o.final ≡ Some a
+fields-decide o list fs a apart are e = whole-table list o.final ∙ go (read_by table list o.final) refl
+  where
+    go : (r : Option Action) → read_by table list o.final ≡ r → option_or r (read_fields field_table list o.final) ≡ Some a
+    go None none = e
+    go (Some x) row = absurd (apart-given (begun o.ahead x) (rows_before table o.final) list x (apart.each x) (over-begins o x list fs are) row)
+
+pub field_rows_lem : (list : List CsiParam) (final : ℕ) → FieldRowsDecide list final
+field_rows_lem list final o r fs a listed ends row are e =
+    let at : slice_get field_table listed.0 ≡ Some o = slice_get_read field_table _ listed.0 o refl listed.1 (sym listed.2) in
+    let apart = all-at IsApart field_table listed.0 o are-apart at in
+    let here : given o.rows fs ≡ Some a =
+    given-picks o.rows fs ∙ picked rows_apart _ _ (rows-are-apart fs) o.rows row.0 r a apart.rows (slice_get_read o.rows _ row.0 r refl row.1 (sym row.2)) e
+    in
+    let over : read_over o list ≡ Some a = ap (option_and_then (given o.rows)) are ∙ here in
+    let gave : given_over list o.final o ≡ Some a = rw (eq-eqb o.final o.final refl) over in
+    rw (← ends)
+    (fields-decide o list fs a apart.tokens are (fields-pick field_table list o.final ∙ picked finals_apart _ _ (finals-are-apart list o.final) field_table listed.0 o a refl at gave))
+
+-- of each row of these entries
+rows-tokens : (o : Over Action) (rows : List (FieldRow Action)) → AreNotTokens o → AllByRecursion (λ (r : FieldRow Action). AreNotTokens o) rows
+rows-tokens o [] apart = tt
+rows-tokens o (r ∷ rows) apart = (apart, rows-tokens o rows apart)
+
+entries-tokens : (entries : List (Over Action)) → AllByRecursion IsApart entries → AllFieldRows (λ o row. AreNotTokens o) entries
+entries-tokens [] apart = tt
+entries-tokens (o ∷ others) apart = (rows-tokens o o.rows apart.0.tokens, entries-tokens others apart.1)
+
+-- what the entries read is the action
+pub field-whole : (list : List CsiParam) (final : ℕ) (a : Action) → read_fields field_table list final ≡ Some a → whole list final ≡ Some a
+field-whole list final a e =
+    let o = over-in (λ o row. AreNotTokens o) field_table list final a (entries-tokens field_table are-apart) e in
+    rw o.here (fields-decide o.entry list o.fields a o.found.holds o.are (rw (← o.here) e))

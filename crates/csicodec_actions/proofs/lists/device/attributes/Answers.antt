@@ -1,0 +1,26 @@
+use Rattle.std.proofs.Common.{◌≡◌, ◌++◌, ◌∙◌, List, ap, refl, sym}
+use Rattle.std.specs.Option.{option_or}
+use Rattle.csicodec_tokens.specs.declared.param.CsiParam.{CsiParam}
+use Rattle.csicodec_actions.specs.Rows.{given}
+use Rattle.csicodec_actions.specs.Table.Device.{as_device, classes, requests, terminals}
+use Rattle.csicodec_actions.proofs.AllRows.{given-append}
+use Rattle.csicodec_actions.proofs.lists.device.attributes.Goals as goal
+
+split : (list : List CsiParam) → as_device list 99 ≡ option_or (given requests list) (option_or (given terminals list) (given classes list))
+unfolding as_device
+split list = given-append requests (terminals ++ classes) list ∙ ap (option_or (given requests list)) (given-append terminals classes list)
+
+pub returns-in-Some-clause-ok : goal.returns-in-Some-clause-ok
+returns-in-Some-clause-ok c = rw (split c.args.params.now, sym (rw c.in-Some.is at c.request.ensures)) refl
+
+pub returns-in-Some-terminal-clause-ok : goal.returns-in-Some-terminal-clause-ok
+returns-in-Some-terminal-clause-ok c =
+    rw (split c.args.params.now, sym (rw c.in_default.is at c.request.ensures), sym (rw c.in-Some-terminal.is at c.terminal.ensures)) refl
+
+pub returns-clause-ok : goal.returns-clause-ok
+returns-clause-ok c =
+    rw (split c.args.params.now, sym (rw c.in_default.is at c.request.ensures), sym (rw c.in_default-terminal.is at c.terminal.ensures)) c.class.ensures.ok
+
+pub returns-clause-err : goal.returns-clause-err
+returns-clause-err c =
+    rw (split c.args.params.now, sym (rw c.in_default.is at c.request.ensures), sym (rw c.in_default-terminal.is at c.terminal.ensures)) c.class.ensures.err

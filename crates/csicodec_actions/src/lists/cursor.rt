@@ -1,0 +1,157 @@
+//! The rows of the cursor.
+ghost use Rattle.std.specs.Prelude.{◌≡◌};
+ghost use Rattle.std.specs.Option.{option_map};
+ghost use Rattle.csicodec_actions.specs.Actions.{Cursor as Moves};
+ghost use Rattle.csicodec_actions.specs.Table.Cursor.{as_cursor};
+
+use crate::Cursor;
+use crate::lists::params::{choice, count, place, places};
+use csicodec_base::{CsiParam, CursorStyle, CursorTabulationControl, OneBased, TabulationClear};
+
+/// The action of the cursor before this final character, if a row reads the list.
+///
+/// ```text
+/// cursor_action(&[CsiParam::Integer(2)], 'A')        // Some(Cursor::Up(2))
+/// cursor_action(&[CsiParam::Integer(2)], 'm')        // None
+/// ```
+#[tactic(auto, using(crate::proofs::Finals::finals))]
+pub fn cursor_action(params: &[CsiParam], control: char) -> Option<Cursor>
+    ensures { option_map (λ c. Moves c) result ≡ as_cursor params.now control }
+{
+    match control {
+        'A' => Some(Cursor::Up(count(params)?)),
+        'B' => Some(Cursor::Down(count(params)?)),
+        'C' => Some(Cursor::Right(count(params)?)),
+        'D' => Some(Cursor::Left(count(params)?)),
+        'E' => Some(Cursor::NextLine(count(params)?)),
+        'F' => Some(Cursor::PrecedingLine(count(params)?)),
+        'G' => Some(Cursor::CharacterAbsolute(place(params)?)),
+        '`' => Some(Cursor::CharacterPositionAbsolute(place(params)?)),
+        'H' => {
+            let (line, col) = places(params)?;
+            Some(Cursor::Position { line, col })
+        }
+        'R' => {
+            let (line, col) = places(params)?;
+            Some(Cursor::ActivePositionReport { line, col })
+        }
+        'f' => {
+            let (line, col) = places(params)?;
+            Some(Cursor::CharacterAndLinePosition { line, col })
+        }
+        'I' => Some(Cursor::ForwardTabulation(count(params)?)),
+        'Z' => Some(Cursor::BackwardTabulation(count(params)?)),
+        'Y' => Some(Cursor::LineTabulation(count(params)?)),
+        'a' => Some(Cursor::CharacterPositionForward(count(params)?)),
+        'j' => Some(Cursor::CharacterPositionBackward(count(params)?)),
+        'd' => Some(Cursor::LinePositionAbsolute(count(params)?)),
+        'e' => Some(Cursor::LinePositionForward(count(params)?)),
+        'k' => Some(Cursor::LinePositionBackward(count(params)?)),
+        'W' => tabulation_control(params),
+        'g' => tabulation_clear(params),
+        'r' => top_and_bottom(params),
+        's' => left_and_right(params),
+        'u' => restore(params),
+        'n' => request(params),
+        'q' => style(params),
+        _ => None,
+    }
+}
+
+/// A control of tabulation, by its number.
+#[tactic(auto, unfolding(crate::specs::Kinds::read, crate::specs::Table::Cursor::as_cursor))]
+#[inline(always)]
+fn tabulation_control(params: &[CsiParam]) -> Option<Cursor>
+    ensures { option_map (λ c. Moves c) result ≡ as_cursor params.now 87 }
+{
+    let control = CursorTabulationControl::from_i64(choice(params)?)?;
+    Some(Cursor::TabulationControl(control))
+}
+
+/// Which stops are cleared, by its number.
+#[tactic(auto, unfolding(crate::specs::Kinds::read, crate::specs::Table::Cursor::as_cursor))]
+#[inline(always)]
+fn tabulation_clear(params: &[CsiParam]) -> Option<Cursor>
+    ensures { option_map (λ c. Moves c) result ≡ as_cursor params.now 103 }
+{
+    let clear = TabulationClear::from_i64(choice(params)?)?;
+    Some(Cursor::TabulationClear(clear))
+}
+
+/// A top and a bottom margin. A bottom of 0, or that is left out, is 4294967295.
+#[tactic(auto, unfolding(crate::specs::Kinds::read, crate::specs::Table::Cursor::as_cursor))]
+fn top_and_bottom(params: &[CsiParam]) -> Option<Cursor>
+    ensures { option_map (λ c. Moves c) result ≡ as_cursor params.now 114 }
+{
+    let (top, bottom) = match params {
+        [] => (OneBased::new(1), OneBased::new(u32::MAX)),
+        [top] => (OneBased::from_esc_param(top).ok()?, OneBased::new(u32::MAX)),
+        [top, CsiParam::P(b';'), bottom] => (
+            OneBased::from_esc_param(top).ok()?,
+            OneBased::from_esc_param_with_big_default(bottom).ok()?,
+        ),
+        [CsiParam::P(b';'), bottom] => (
+            OneBased::new(1),
+            OneBased::from_esc_param_with_big_default(bottom).ok()?,
+        ),
+        _ => return None,
+    };
+    Some(Cursor::SetTopAndBottomMargins { top, bottom })
+}
+
+/// Without a parameter the cursor is saved; else a left and a right margin. A right that is left out is 4294967295, and
+/// one of 0 is 1.
+#[tactic(auto, unfolding(crate::specs::Kinds::read, crate::specs::Table::Cursor::as_cursor))]
+fn left_and_right(params: &[CsiParam]) -> Option<Cursor>
+    ensures { option_map (λ c. Moves c) result ≡ as_cursor params.now 115 }
+{
+    let (left, right) = match params {
+        [] => return Some(Cursor::SaveCursor),
+        [left] => (
+            OneBased::from_esc_param(left).ok()?,
+            OneBased::new(u32::MAX),
+        ),
+        [left, CsiParam::P(b';'), right] => (
+            OneBased::from_esc_param(left).ok()?,
+            OneBased::from_esc_param(right).ok()?,
+        ),
+        [CsiParam::P(b';'), right] => (OneBased::new(1), OneBased::from_esc_param(right).ok()?),
+        _ => return None,
+    };
+    Some(Cursor::SetLeftAndRightMargins { left, right })
+}
+
+/// No parameter restores the cursor.
+#[tactic(auto, unfolding(crate::specs::Table::Cursor::as_cursor))]
+fn restore(params: &[CsiParam]) -> Option<Cursor>
+    ensures { option_map (λ c. Moves c) result ≡ as_cursor params.now 117 }
+{
+    match params {
+        [] => Some(Cursor::RestoreCursor),
+        _ => None,
+    }
+}
+
+/// The number 6 asks for the place of the cursor.
+#[tactic(auto, unfolding(crate::specs::Table::Cursor::as_cursor))]
+fn request(params: &[CsiParam]) -> Option<Cursor>
+    ensures { option_map (λ c. Moves c) result ≡ as_cursor params.now 110 }
+{
+    match params {
+        [CsiParam::Integer(6)] => Some(Cursor::RequestActivePositionReport),
+        _ => None,
+    }
+}
+
+/// The number of a style, and a space.
+#[tactic(auto, unfolding(crate::specs::Kinds::read, crate::specs::Table::Cursor::as_cursor))]
+fn style(params: &[CsiParam]) -> Option<Cursor>
+    ensures { option_map (λ c. Moves c) result ≡ as_cursor params.now 113 }
+{
+    match params {
+        [CsiParam::Integer(number), CsiParam::P(b' ')] => {
+            Some(Cursor::CursorStyle(CursorStyle::from_i64(*number)?))
+        }
+        _ => None,
+    }
+}

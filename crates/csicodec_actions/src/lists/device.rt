@@ -1,0 +1,150 @@
+//! The rows of devices.
+ghost use Rattle.std.specs.Prelude.{◌≡◌, IfOk, IsSome, OnErr};
+ghost use Rattle.std.specs.Option.{option_map};
+ghost use Rattle.csicodec_actions.specs.Actions.{Device as Devices};
+ghost use Rattle.csicodec_actions.specs.Devices.{device_of, listed_attributes};
+ghost use Rattle.csicodec_actions.specs.Rows.{given};
+ghost use Rattle.csicodec_actions.specs.Table.Device.{as_device, classes, requests, terminals};
+
+use crate::{Device, DeviceAttribute, DeviceAttributeFlags, DeviceAttributes};
+use csicodec_base::CsiParam::{self, Integer, P};
+use std::alloc::{AllocError, Global};
+
+/// What is asked or said of a device before this final character, if a row reads the list. An `Err` comes only where one
+/// does.
+#[tactic(auto, unfolding(crate::specs::Table::Device::as_device))]
+pub fn device_action(
+    alloc: Global,
+    params: &[CsiParam],
+    control: char,
+) -> Result<Option<Device>, AllocError>
+    ensures ok { IfOk result (λ device.
+        option_map (λ d. Devices (device_of d)) device ≡ as_device params.now control) }
+    ensures err { OnErr result (IsSome (as_device params.now control)) }
+{
+    match control {
+        'c' => attributes(alloc, params),
+        'p' => Ok(reset(params)),
+        'n' => Ok(report(params)),
+        'q' => Ok(name(params)),
+        'x' => Ok(parameters(params)),
+        _ => Ok(None),
+    }
+}
+
+/// What stands before `c`.
+fn attributes(alloc: Global, params: &[CsiParam]) -> Result<Option<Device>, AllocError>
+    ensures ok { IfOk result (λ device.
+        option_map (λ d. Devices (device_of d)) device ≡ as_device params.now 99) }
+    ensures err { OnErr result (IsSome (as_device params.now 99)) }
+{
+    if let Some(device) = request(params) {
+        return Ok(Some(device));
+    }
+    if let Some(device) = terminal(params) {
+        return Ok(Some(device));
+    }
+    class(alloc, params)
+}
+
+/// Requests before `c`.
+fn request(params: &[CsiParam]) -> Option<Device>
+    ensures { option_map (λ d. Devices (device_of d)) result ≡ given requests params.now }
+{
+    match params {
+        [] => Some(Device::RequestPrimaryDeviceAttributes),
+        [Integer(0)] => Some(Device::RequestPrimaryDeviceAttributes),
+        [P(b'>')] => Some(Device::RequestSecondaryDeviceAttributes),
+        [P(b'>'), Integer(0)] => Some(Device::RequestSecondaryDeviceAttributes),
+        [P(b'=')] => Some(Device::RequestTertiaryDeviceAttributes),
+        [P(b'='), Integer(0)] => Some(Device::RequestTertiaryDeviceAttributes),
+        _ => None,
+    }
+}
+
+/// The answers that name a terminal.
+fn terminal(params: &[CsiParam]) -> Option<Device>
+    ensures { option_map (λ d. Devices (device_of d)) result ≡ given terminals params.now }
+{
+    let attributes = match params {
+        [P(b'?'), Integer(1), P(b';'), Integer(2)] => {
+            DeviceAttributes::Vt100WithAdvancedVideoOption
+        }
+        [P(b'?'), Integer(1), P(b';'), Integer(0)] => DeviceAttributes::Vt101WithNoOptions,
+        [P(b'?'), Integer(6)] => DeviceAttributes::Vt102,
+        _ => return None,
+    };
+    Some(Device::DeviceAttributes(attributes))
+}
+
+/// The answers that name a service class and extensions.
+fn class(alloc: Global, params: &[CsiParam]) -> Result<Option<Device>, AllocError>
+    ensures ok { IfOk result (λ device.
+        option_map (λ d. Devices (device_of d)) device ≡ given classes params.now) }
+    ensures err { OnErr result (IsSome (given classes params.now)) }
+{
+    let [P(b'?'), Integer(class), list @ ..] = params else {
+        return Ok(None);
+    };
+    let attributes = match class {
+        62 => DeviceAttributes::Vt220(extensions(alloc, list)?),
+        63 => DeviceAttributes::Vt320(extensions(alloc, list)?),
+        64 => DeviceAttributes::Vt420(extensions(alloc, list)?),
+        _ => return Ok(None),
+    };
+    Ok(Some(Device::DeviceAttributes(attributes)))
+}
+
+/// One for each token but `;`.
+fn extensions(alloc: Global, list: &[CsiParam]) -> Result<DeviceAttributeFlags, AllocError>
+    ensures { IfOk result (λ flags. flags.attributes.items ≡ listed_attributes list.now) }
+{
+    let mut attributes = Vec::new(alloc);
+    for token in list {
+        if *token != P(b';') {
+            attributes.push(DeviceAttribute::of(*token))?;
+        }
+    }
+    Ok(DeviceAttributeFlags::new(attributes))
+}
+
+#[tactic(auto, unfolding(crate::specs::Table::Device::as_device))]
+fn reset(params: &[CsiParam]) -> Option<Device>
+    ensures { option_map (λ d. Devices (device_of d)) result ≡ as_device params.now 112 }
+{
+    match params {
+        [P(b'!')] => Some(Device::SoftReset),
+        _ => None,
+    }
+}
+
+#[tactic(auto, unfolding(crate::specs::Table::Device::as_device))]
+fn report(params: &[CsiParam]) -> Option<Device>
+    ensures { option_map (λ d. Devices (device_of d)) result ≡ as_device params.now 110 }
+{
+    match params {
+        [Integer(5)] => Some(Device::StatusReport),
+        _ => None,
+    }
+}
+
+#[tactic(auto, unfolding(crate::specs::Table::Device::as_device))]
+fn name(params: &[CsiParam]) -> Option<Device>
+    ensures { option_map (λ d. Devices (device_of d)) result ≡ as_device params.now 113 }
+{
+    match params {
+        [P(b'>')] | [P(b'>'), Integer(0)] => Some(Device::RequestTerminalNameAndVersion),
+        _ => None,
+    }
+}
+
+#[tactic(auto, unfolding(crate::specs::Table::Device::as_device))]
+fn parameters(params: &[CsiParam]) -> Option<Device>
+    ensures { option_map (λ d. Devices (device_of d)) result ≡ as_device params.now 120 }
+{
+    match params {
+        [] | [Integer(0)] => Some(Device::RequestTerminalParameters(0)),
+        [Integer(1)] => Some(Device::RequestTerminalParameters(1)),
+        _ => None,
+    }
+}

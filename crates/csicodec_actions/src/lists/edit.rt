@@ -1,0 +1,29 @@
+//! The rows that edit.
+ghost use Rattle.std.specs.Prelude.{◌≡◌};
+ghost use Rattle.std.specs.Option.{option_map};
+ghost use Rattle.csicodec_actions.specs.Actions.{Edit as Edits};
+ghost use Rattle.csicodec_actions.specs.Table.Edit.{as_edit};
+
+use crate::Edit;
+use crate::lists::params::{choice, count};
+use csicodec_base::{CsiParam, EraseInDisplay, EraseInLine};
+
+/// The edit before this final character, if a row reads the list.
+#[tactic(auto, unfolding(crate::specs::Kinds::read, crate::specs::Table::Edit::as_edit))]
+pub fn edit_action(params: &[CsiParam], control: char) -> Option<Edit>
+    ensures { option_map (λ e. Edits e) result ≡ as_edit params.now control }
+{
+    match control {
+        '@' => Some(Edit::InsertCharacter(count(params)?)),
+        'L' => Some(Edit::InsertLine(count(params)?)),
+        'P' => Some(Edit::DeleteCharacter(count(params)?)),
+        'M' => Some(Edit::DeleteLine(count(params)?)),
+        'X' => Some(Edit::EraseCharacter(count(params)?)),
+        'S' => Some(Edit::ScrollUp(count(params)?)),
+        'T' => Some(Edit::ScrollDown(count(params)?)),
+        'b' => Some(Edit::Repeat(count(params)?)),
+        'J' => Some(Edit::EraseInDisplay(EraseInDisplay::from_i64(choice(params)?)?)),
+        'K' => Some(Edit::EraseInLine(EraseInLine::from_i64(choice(params)?)?)),
+        _ => None,
+    }
+}

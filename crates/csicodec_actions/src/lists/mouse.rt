@@ -1,0 +1,115 @@
+//! The rows of the mouse.
+ghost use Rattle.std.specs.Prelude.{◌≡◌, ◌/◌, pos};
+ghost use Rattle.std.specs.Int.RustNames.{bit_and};
+ghost use Rattle.std.specs.Option.{option_map};
+ghost use Rattle.csicodec_actions.specs.Actions.{Mouse as Reports};
+ghost use Rattle.csicodec_actions.specs.Kinds.{Pressed, Released, Word, read};
+ghost use Rattle.csicodec_actions.specs.Mouse.{button_bits, button_code, pressed, released};
+ghost use Rattle.csicodec_names.specs.Numbered.{with_number};
+ghost use Rattle.csicodec_actions.specs.Table.Mouse.{as_mouse};
+
+use crate::{MouseButton, MouseReport};
+use bitflags::Flags;
+use csicodec_base::CsiParam::{self, Integer, P};
+use csicodec_base::Modifiers;
+
+/// The report before this final character, if a row reads the list.
+#[tactic(auto, unfolding(crate::specs::Table::Mouse::as_mouse))]
+pub fn mouse_action(params: &[CsiParam], control: char) -> Option<MouseReport>
+    ensures { option_map (λ m. Reports m) result ≡ as_mouse params.now control }
+{
+    match params {
+        [
+            P(b'<'),
+            Integer(code),
+            P(b';'),
+            Integer(x),
+            P(b';'),
+            Integer(y),
+        ] => {
+            let (button, modifiers) = match control {
+                'M' => press(*code)?,
+                'm' => release(*code)?,
+                _ => return None,
+            };
+            let (x, y) = (word_at(*x)?, word_at(*y)?);
+            Some(MouseReport::SGR1006 {
+                x,
+                y,
+                button,
+                modifiers,
+            })
+        }
+        _ => None,
+    }
+}
+
+#[tactic(auto, unfolding(crate::specs::Kinds::read))]
+fn word_at(number: i64) -> Option<u16>
+    ensures { result ≡ read Word number }
+{
+    u16::try_from(number).ok()
+}
+
+/// The button of a code before `M`.
+fn button_pressed(bits: u64) -> Option<MouseButton>
+    ensures { result ≡ with_number button_code pressed (pos (button_bits bits)) }
+{
+    match bits {
+        0 => Some(MouseButton::Button1Press),
+        1 => Some(MouseButton::Button2Press),
+        2 => Some(MouseButton::Button3Press),
+        64 => Some(MouseButton::Button4Press),
+        65 => Some(MouseButton::Button5Press),
+        66 => Some(MouseButton::Button6Press),
+        67 => Some(MouseButton::Button7Press),
+        32 => Some(MouseButton::Button1Drag),
+        33 => Some(MouseButton::Button2Drag),
+        34 => Some(MouseButton::Button3Drag),
+        3 | 35 => Some(MouseButton::None),
+        _ => None,
+    }
+}
+
+/// The button of a code before `m`.
+fn button_released(bits: u64) -> Option<MouseButton>
+    ensures { result ≡ with_number button_code released (pos (button_bits bits)) }
+{
+    match bits {
+        0 => Some(MouseButton::Button1Release),
+        1 => Some(MouseButton::Button2Release),
+        2 => Some(MouseButton::Button3Release),
+        64 => Some(MouseButton::Button4Release),
+        65 => Some(MouseButton::Button5Release),
+        66 => Some(MouseButton::Button6Release),
+        67 => Some(MouseButton::Button7Release),
+        3 | 35 => Some(MouseButton::None),
+        _ => None,
+    }
+}
+
+/// What a code before `M` says.
+#[tactic(auto, unfolding(crate::specs::Kinds::read))]
+fn press(code: i64) -> Option<(MouseButton, Modifiers)>
+    ensures { result ≡ read Pressed code }
+{
+    let bits = u64::try_from(code).ok()?;
+    Some((button_pressed(bits & 99)?, held(bits)))
+}
+
+/// What a code before `m` says.
+#[tactic(auto, unfolding(crate::specs::Kinds::read))]
+fn release(code: i64) -> Option<(MouseButton, Modifiers)>
+    ensures { result ≡ read Released code }
+{
+    let bits = u64::try_from(code).ok()?;
+    Some((button_released(bits & 99)?, held(bits)))
+}
+
+/// The modifiers of a code.
+fn held(bits: u64) -> Modifiers
+    ensures { result ≡ record { bits = bit_and bits 28 / 2 } }
+{
+    let bits = (bits & 28) / 2;
+    Modifiers::from_bits_retain(bits as u16)
+}

@@ -1,0 +1,64 @@
+//! Lists that are one parameter, or two: what they stand for.
+ghost use Rattle.std.specs.Prelude.{◌≡◌, pos};
+ghost use Rattle.csicodec_actions.specs.Kinds.{Any};
+ghost use Rattle.csicodec_actions.specs.Rows.{chosen, counted, given, paired};
+
+use csicodec_base::{CsiParam, OneBased};
+
+/// The one count of a list, and 1 for none.
+#[tactic(auto, unfolding(crate::specs::Kinds::read))]
+pub(crate) fn count(params: &[CsiParam]) -> Option<u32>
+    ensures { result ≡ given (counted (λ n. n)) params.now }
+{
+    match params {
+        [] => Some(1),
+        [CsiParam::Integer(0)] => Some(1),
+        [CsiParam::Integer(number)] => u32::try_from(*number).ok(),
+        _ => None,
+    }
+}
+
+/// The one line or column of a list, and the first for none.
+#[tactic(auto, unfolding(crate::specs::Kinds::read))]
+pub(crate) fn place(params: &[CsiParam]) -> Option<OneBased>
+    ensures { result ≡ given (counted (λ n. n)) params.now }
+{
+    match params {
+        [] => Some(OneBased::new(1)),
+        [param] => OneBased::from_esc_param(param).ok(),
+        _ => None,
+    }
+}
+
+/// A line and a column, each of which can be left out.
+#[tactic(auto, unfolding(crate::specs::Kinds::read))]
+#[inline(always)]
+pub(crate) fn places(params: &[CsiParam]) -> Option<(OneBased, OneBased)>
+    ensures { result ≡ given (paired (λ a b. (a, b))) params.now }
+{
+    let (first, second) = match params {
+        [] => (OneBased::new(1), OneBased::new(1)),
+        [first] => (OneBased::from_esc_param(first).ok()?, OneBased::new(1)),
+        [first, CsiParam::P(b';'), second] => (
+            OneBased::from_esc_param(first).ok()?,
+            OneBased::from_esc_param(second).ok()?,
+        ),
+        [CsiParam::P(b';'), second] => {
+            (OneBased::new(1), OneBased::from_esc_param(second).ok()?)
+        }
+        _ => return None,
+    };
+    Some((first, second))
+}
+
+/// The one number of a list, as that of an enumeration, and 0 for none.
+#[tactic(auto, unfolding(crate::specs::Kinds::read))]
+pub(crate) fn choice(params: &[CsiParam]) -> Option<i64>
+    ensures { result ≡ given (chosen Any (pos 0) (λ z. z)) params.now }
+{
+    match params {
+        [] => Some(0),
+        [CsiParam::Integer(number)] => Some(*number),
+        _ => None,
+    }
+}

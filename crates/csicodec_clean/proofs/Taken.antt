@@ -1,0 +1,202 @@
+-- What holds of each action that terminals take a control sequence for: it is in range, and a style is read alone from its text.
+use Rattle.std.specs.Prelude.{MatchBool, ℤ, pos, negsuc, ◌==◌, ◌&&◌, ◌^◌, ◌≤ℤ◌, nat_lt, slice_index_or, if◌then◌else◌}
+use Rattle.std.proofs.Common.{◌≡◌, ℕ, zero, suc, ◌||◌, Bool, true, false, List, [], ◌∷◌, length, take, Option, None, Some, refl, subst, ◌∙◌, inl, inr, arith}
+use Rattle.std.proofs.lemmas.Int.{ints}
+use Rattle.std.specs.List.{AllByRecursion}
+use Rattle.csicodec_tokens.specs.declared.param.CsiParam.{CsiParam}
+use Rattle.csicodec_tokens.specs.declared.param.CsiParam.TheVariants.{Integer, P}
+use Rattle.csicodec_tokens.specs.Fields.{fields_of, with_field}
+use Rattle.csicodec_tokens.specs.OneBased.{most}
+use Rattle.csicodec_tokens.specs.Sequence.{IsFinal, IsSpellable, Spellable}
+use Rattle.csicodec_base.specs.declared.sgr.Sgr as sgr_type
+use Rattle.csicodec_actions.specs.Actions.{Action, Sgr, Unspecified}
+use Rattle.csicodec_actions.specs.Ranges.{InRange, SgrInRange}
+use Rattle.csicodec_actions.specs.Table.{text}
+use Rattle.csicodec_parser.specs.Canonical.{IsCanonicalSgr}
+use Rattle.csicodec_parser.specs.declared.group.Group.{Group}
+use Rattle.csicodec_parser.specs.declared.group.Group.TheVariants.{DecModes, Modes, Styles, Whole}
+use Rattle.csicodec_parser.specs.Cut.{semicolon}
+use Rattle.csicodec_parser.specs.Groups.{Piece, group, marked}
+use Rattle.csicodec_parser.specs.Segments.{Actions}
+use Rattle.csicodec_streams.proofs.OneReading.{one_sequence}
+use Rattle.csicodec_terminal.specs.Regular.{by_fields, first, has_one, has_two, regular, said}
+use Rattle.csicodec_terminal.specs.Terminal.{Anew, IsTakenFor, Step, Steps, behind, has_unknown, is_open}
+use Rattle.csicodec.specs.Exact.{ReadsAlone}
+use Rattle.csicodec.proofs.Alone.{canonical-alone}
+use Rattle.csicodec.proofs.Kept.{Kept}
+use Rattle.csicodec.proofs.Parsed.{parsed-kept}
+use Rattle.csicodec.proofs.RoundTrip.{alone-only}
+use Rattle.csicodec.proofs.SgrKept.{sgr-kept}
+use Rattle.csicodec.proofs.Twins.{parsed-special, sgr-plain}
+use Rattle.csicodec_clean.specs.Styled.{hides}
+use Rattle.csicodec_clean.proofs.Coded.{style_closed}
+use Rattle.csicodec_clean.proofs.Pieces.{style_range}
+
+-- ---- a regular list is one of a sequence
+
+pub semicolon-spellable : IsSpellable semicolon
+semicolon-spellable = ((omega arith, omega arith), λ d. omega (arith, d))
+
+abbrev IsField : Option ℤ → Type 0
+IsField None = Unit {0}
+IsField (Some z) = pos 0 ≤ℤ z
+
+abbrev AreFields : Option (List (Option ℤ)) → Type 0
+AreFields None = Unit {0}
+AreFields (Some fields) = AllByRecursion IsField fields
+
+with_one : (x : Option ℤ) (o : Option (List (Option ℤ))) → IsField x → AreFields o → AreFields (with_field x o)
+with_one x None is are = tt
+with_one x (Some fields) is are = (is, are)
+
+where_split : (here : Bool) (o : Option (List (Option ℤ))) → AreFields o → AreFields (if here then o else None)
+where_split true o are = are
+where_split false o are = tt
+
+fields_are : (list : List CsiParam) → Spellable list → AreFields (fields_of list)
+fields_are [] ok = tt
+fields_are (P b ∷ list) ok = where_split (b == 59) _ (with_one None (fields_of list) tt (fields_are list ok.2))
+fields_are (Integer z ∷ []) ok = (ok.0.0, tt)
+fields_are (Integer z ∷ P b ∷ list) ok = where_split (b == 59) _ (with_one (Some z) (fields_of list) ok.0.0 (fields_are list ok.2.2))
+fields_are (Integer z ∷ Integer y ∷ list) ok = absurd ok.1
+
+clamped : (small : Bool) (n : ℕ) → nat_lt n (2 ^ 32) ≡ small → IsSpellable (Integer (pos (if small then n else most)))
+clamped true n e = grind (arith, ints, e)
+clamped false n e = (omega (arith, ints), omega (arith, ints))
+
+said_alone : (x : Option ℤ) → IsField x → Spellable (said x ∷ [])
+said_alone None is = ((omega (arith, ints), omega (arith, ints)), tt, tt)
+said_alone (Some (pos n)) is = (clamped (nat_lt n (2 ^ 32)) n refl, tt, tt)
+said_alone (Some (negsuc n)) is = absurd (omega (arith, ints, is))
+
+said_before : (x : Option ℤ) (list : List CsiParam) → IsField x → Spellable list → Spellable (said x ∷ semicolon ∷ list)
+said_before None list is ok = ((said_alone None is).0, tt, (semicolon-spellable, tt, ok))
+said_before (Some (pos n)) list is ok = ((said_alone (Some (pos n)) is).0, tt, (semicolon-spellable, tt, ok))
+said_before (Some (negsuc n)) list is ok = absurd (omega (arith, ints, is))
+
+nth_is : (fields : List (Option ℤ)) (n : ℕ) → AllByRecursion IsField fields → IsField (slice_index_or fields n None)
+nth_is [] n are = tt
+nth_is (x ∷ fields) zero are = are.0
+nth_is (x ∷ fields) (suc n) are = nth_is fields n are.1
+
+some_spellable : (none both : Bool) (two one : List CsiParam) → Spellable two → Spellable one → Spellable (if none then [] else if both then two else one)
+some_spellable true both two one h k = tt
+some_spellable false true two one h k = h
+some_spellable false false two one h k = k
+
+first_spellable : (two : Bool) (fields : List (Option ℤ)) → AllByRecursion IsField fields → Spellable (first two fields)
+first_spellable two fields are =
+    let one = said_alone (slice_index_or fields 0 None) (nth_is fields 0 are) in
+    let next = said_alone (slice_index_or fields 1 None) (nth_is fields 1 are) in
+    some_spellable (length fields == 0) (two && nat_lt 1 (length fields)) _ _ (said_before (slice_index_or fields 0 None) _ (nth_is fields 0 are) next) one
+
+fields_spellable : (two : Bool) (list : List CsiParam) (o : Option (List (Option ℤ))) → Spellable list → AreFields o → Spellable (by_fields two list o)
+fields_spellable two list None ok are = ok
+fields_spellable two list (Some fields) ok are = first_spellable two fields are
+
+either_spellable : (has two : Bool) (list : List CsiParam) → Spellable list → Spellable (if has then by_fields two list (fields_of list) else list)
+either_spellable true two list ok = fields_spellable two list (fields_of list) ok (fields_are list ok)
+either_spellable false two list ok = ok
+
+regular_spellable : (list : List CsiParam) (final : ℕ) → Spellable list → Spellable (regular list final)
+regular_spellable list final ok = either_spellable (has_two final || has_one final) (has_two final) list ok
+
+-- ---- a property of each action
+
+-- it holds of those of the table, of each piece of a list, and of what is unknown
+pub record Holds (Each : Action → Type 0) : Type 0 where
+  pub table : (list : List CsiParam) (final : ℕ) (actions : List Action) → Spellable list → IsFinal final → Actions list false final actions → AllByRecursion Each actions
+  pub piece : (g : Group) (rest : List CsiParam) (k : ℕ) (a : Action) → Piece g rest k a → Each a
+  pub unknown : (list : List CsiParam) (final : ℕ) → Each (Unspecified list false final)
+
+steps_all : (Each : Action → Type 0) (h : Holds Each) (g : Group) (final : ℕ) (rest : List CsiParam) (actions : List Action) → Steps g false final rest actions → AllByRecursion Each actions
+steps_all Each h g final rest [] s = tt
+steps_all Each h g final rest (a ∷ actions) (k, inl p, more) = (h.piece g rest k a p, steps_all Each h g final (behind k rest) actions more)
+steps_all Each h g final rest (a ∷ actions) (k, inr u, more) = (rw u.3 (h.unknown (marked g (take k rest)) final), steps_all Each h g final (behind k rest) actions more)
+
+cut_all : (Each : Action → Type 0) (h : Holds Each) (foreign : Bool) (g : Group) (list rest : List CsiParam) (final : ℕ) (actions : List Action)
+    → MatchBool foreign (actions ≡ Unspecified list false final ∷ []) (Steps g false final rest actions) → AllByRecursion Each actions
+cut_all Each h true g list rest final actions e = rw e (h.unknown list final, tt)
+cut_all Each h false g list rest final actions s = steps_all Each h g final rest actions s
+
+known_all : (Each : Action → Type 0) (h : Holds Each) (unknown : Bool) (list : List CsiParam) (final : ℕ) (actions : List Action) → AllByRecursion Each actions
+    → AllByRecursion Each (if unknown then Unspecified list false final ∷ [] else actions)
+known_all Each h true list final actions all = (h.unknown list final, tt)
+known_all Each h false list final actions all = all
+
+anew_all : (Each : Action → Type 0) (h : Holds Each) (g : Group) (list : List CsiParam) (final : ℕ) (actions : List Action) → Spellable list → IsFinal final → Anew g list false final actions → AllByRecursion Each actions
+anew_all Each h Whole list final actions ok ends (second, are, e) =
+    rw e (known_all Each h (has_unknown second) list final second (h.table (regular list final) final second (regular_spellable list final ok) ends are))
+anew_all Each h Styles list final actions ok ends s = cut_all Each h _ Styles list _ final actions s
+anew_all Each h (Modes m) list final actions ok ends s = cut_all Each h _ (Modes m) list _ final actions s
+anew_all Each h (DecModes c) list final actions ok ends s = cut_all Each h _ (DecModes c) list _ final actions s
+
+either_all : (Each : Action → Type 0) (h : Holds Each) (less : Bool) (g : Group) (list : List CsiParam) (final : ℕ) (known actions : List Action) → Spellable list → IsFinal final → AllByRecursion Each known
+    → MatchBool less (Anew g list false final actions) (actions ≡ known) → AllByRecursion Each actions
+either_all Each h true g list final known actions ok ends all s = anew_all Each h g list final actions ok ends s
+either_all Each h false g list final known actions ok ends all s = rw s all
+
+taken_all : (Each : Action → Type 0) → Holds Each → (bytes : List ℕ) (actions : List Action) → IsTakenFor bytes actions → AllByRecursion Each actions
+taken_all Each h bytes actions (list, final, is, (known, are, s)) =
+    either_all Each h (has_unknown known || is_open (group list final) list) (group list final) list final known actions is.spellable is.ends (h.table list final known is.spellable is.ends are) s
+
+kept_all : (Each : Action → Type 0) → ((a : Action) → Kept false a → Each a) → (actions : List Action) → AllByRecursion (Kept false) actions → AllByRecursion Each actions
+kept_all Each f [] kept = tt
+kept_all Each f (a ∷ actions) kept = (f a kept.0, kept_all Each f actions kept.1)
+
+-- ---- in range
+
+piece_range : (g : Group) (rest : List CsiParam) (k : ℕ) (a : Action) → Piece g rest k a → InRange a
+piece_range Whole rest k a p = absurd p
+piece_range Styles rest k a p = rw p.2 (sgr-kept rest k p.0 p.1).range
+piece_range (Modes s) rest k a p = rw p.5 tt
+piece_range (DecModes c) rest k a p = rw p.5 tt
+
+in_range : Holds InRange
+in_range = record {
+  table = λ list final actions ok ends are. kept_all InRange (λ a kept. kept.range) actions (parsed-kept list false final actions ok ends are);
+  piece = piece_range;
+  unknown = λ list final. tt;
+}
+
+pub taken_range : (bytes : List ℕ) (actions : List Action) → IsTakenFor bytes actions → AllByRecursion InRange actions
+taken_range bytes actions taken = taken_all InRange in_range bytes actions taken
+
+-- ---- styles
+
+abbrev pub StyleAlone : Action → Type 0
+StyleAlone (Sgr s) = ReadsAlone (Sgr s) false
+StyleAlone a = Unit {0}
+
+style_alone : (s : sgr_type.Sgr) → SgrInRange s → IsCanonicalSgr s → ReadsAlone (Sgr s) false
+style_alone s range canonical = alone-only false (Sgr s) (canonical-alone (Sgr s) false range canonical)
+
+kept_style : (a : Action) → Kept false a → StyleAlone a
+kept_style (Sgr s) kept = elim kept.canonical [
+  | inl special ↦ absurd (sgr-plain s (parsed-special (Sgr s) special))
+  | inr canonical ↦ style_alone s kept.range canonical
+]
+kept_style a kept = tt
+
+piece_style : (g : Group) (rest : List CsiParam) (k : ℕ) (a : Action) → Piece g rest k a → StyleAlone a
+piece_style Whole rest k a p = absurd p
+piece_style Styles rest k a p = let kept = sgr-kept rest k p.0 p.1 in rw p.2 (style_alone p.0 kept.range kept.canonical)
+piece_style (Modes s) rest k a p = rw p.5 tt
+piece_style (DecModes c) rest k a p = rw p.5 tt
+
+alone : Holds StyleAlone
+alone = record {
+  table = λ list final actions ok ends are. kept_all StyleAlone kept_style actions (parsed-kept list false final actions ok ends are);
+  piece = piece_style;
+  unknown = λ list final. tt;
+}
+
+pub taken_alone : (bytes : List ℕ) (actions : List Action) → IsTakenFor bytes actions → AllByRecursion StyleAlone actions
+taken_alone bytes actions taken = taken_all StyleAlone alone bytes actions taken
+
+-- the text of a style that is shown is taken for it
+pub style_taken : (s : sgr_type.Sgr) (actions : List Action) → ReadsAlone (Sgr s) false → hides s ≡ false → IsTakenFor (text (Sgr s)) actions → actions ≡ Sgr s ∷ []
+style_taken s actions r shown (list, final, is, (known, are, h)) =
+    let own : known ≡ Sgr s ∷ [] = r.only known (one_sequence (text (Sgr s)) list final known is are) in
+    let all : has_unknown known || is_open (group list final) list ≡ false = rw (own, style_closed s list final (style_range s r) shown is) refl in
+    (subst (λ b. MatchBool b (Anew (group list final) list false final actions) (actions ≡ known)) all h) ∙ own

@@ -1,0 +1,77 @@
+//! Where a link may lead: to a host, by http or https.
+ghost use Rattle.std.specs.Prelude.{◌≡◌};
+ghost use Rattle.std.specs.Str.{str_eq_ignore_ascii_case};
+ghost use Rattle.csicodec_clean.specs.Addresses.{ends_host, has_host, is_host_byte, is_host_on, is_web, led, leads_by};
+
+/// A byte of a host, or of the port behind it.
+fn is_host_byte(byte: u8) -> bool
+    ensures { result ≡ is_host_byte byte }
+{
+    byte.is_ascii_alphanumeric() || matches!(byte, b'-' | b'.' | b'_' | b'[' | b']' | b':')
+}
+
+/// What ends them.
+fn ends_host(byte: u8) -> bool
+    ensures { result ≡ ends_host byte }
+{
+    matches!(byte, b'/' | b'?' | b'#')
+}
+
+/// Whether only such bytes stand up to the end, or to what ends a host.
+fn is_host_on(bytes: &[u8]) -> bool
+    ensures { result ≡ is_host_on bytes.now }
+{
+    for byte in bytes {
+        if !is_host_byte(*byte) {
+            return ends_host(*byte);
+        }
+    }
+    true
+}
+
+/// Whether a host stands in front.
+fn has_host(bytes: &[u8]) -> bool
+    ensures { result ≡ has_host bytes.now }
+{
+    match bytes.split_first() {
+        Some((byte, behind)) => is_host_byte(*byte) && *byte != b':' && is_host_on(behind),
+        None => false,
+    }
+}
+
+/// Whether two schemes are one: their letters have no case.
+fn is_scheme(bytes: &[u8], scheme: &[u8]) -> bool
+    ensures { result ≡ str_eq_ignore_ascii_case bytes.now scheme.now }
+{
+    bytes.eq_ignore_ascii_case(scheme)
+}
+
+/// Whether the address has the scheme, and a host behind it.
+fn leads_by(scheme: &[u8], url: &[u8]) -> bool
+    ensures { result ≡ leads_by scheme.now url.now }
+{
+    match url.split_at_checked(scheme.len()) {
+        Some((front, behind)) => is_scheme(front, scheme) && has_host(behind),
+        None => false,
+    }
+}
+
+/// Whether the address is one of http or https.
+fn is_web(url: &[u8]) -> bool
+    ensures { result ≡ is_web url.now }
+{
+    leads_by(b"http://", url) || leads_by(b"https://", url)
+}
+
+/// Where a link to the address leads: there, if that is a host by http or https without a user's name, and else nowhere, which has no
+/// bytes.
+///
+/// ```text
+/// led(b"HTTPS://a.example/b")         // b"HTTPS://a.example/b"
+/// led(b"https://a.example@b.example") // b""
+/// ```
+pub fn led(url: &[u8]) -> &[u8]
+    ensures { result.now ≡ led url.now }
+{
+    if is_web(url) { url } else { &[] }
+}

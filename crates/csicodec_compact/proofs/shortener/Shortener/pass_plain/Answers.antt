@@ -1,0 +1,45 @@
+use Rattle.std.proofs.Common.{◌-◌, drop, length, refl, sym, take, arith}
+use Rattle.std.proofs.lemmas.List.{take-append-drop}
+use Rattle.csicodec_filter.proofs.Written.{appends_none}
+use Rattle.csicodec_compact.specs.Private.Run.{Holds}
+use Rattle.csicodec_compact.proofs.Beside.{front_known, note_long, shortened_one}
+use Rattle.csicodec_compact.proofs.Colors.{color_note}
+use Rattle.csicodec_compact.proofs.shortener.Shortener.pass_plain.Goals as goal
+
+pub returns-in_default-clause-written : goal.returns-in_default-clause-written
+returns-in_default-clause-written c = appends_none Holds _ c.args.out.now
+
+pub returns-then-len-limit-clause-written : goal.returns-then-len-limit-clause-written
+returns-then-len-limit-clause-written c = appends_none Holds _ c.args.out.now
+
+pub take-requires-clause-long : goal.take-requires-clause-long
+take-requires-clause-long c =
+    note_long _ _ (color_note c.args.bytes.now c.in-Some.rest.now c.open_note-wide.result c.in-Some.field-0-0 c.numbers.result _
+    c.in-Some.ensures.spelled refl c.open_note-wide.ensures)
+
+pub take-requires-clause-wide : goal.take-requires-clause-wide
+take-requires-clause-wide c =
+    let len = length c.args.bytes.now - length c.in-Some.rest.now in
+    (drop len c.open_note-wide.result, sym (take-append-drop len c.open_note-wide.result))
+
+pub keep-requires-clause-noted : goal.keep-requires-clause-noted
+keep-requires-clause-noted c =
+    color_note c.args.bytes.now c.in-Some.rest.now c.open_note-wide.result c.in-Some.field-0-0 c.numbers.result _ c.in-Some.ensures.spelled refl
+    c.open_note-wide.ensures
+
+pub returns-clause-written : goal.returns-clause-written
+returns-clause-written c =
+    let bytes = c.args.bytes.now in
+    let len = length bytes - length c.in-Some.rest.now in
+    let note = color_note bytes c.in-Some.rest.now c.open_note-wide.result c.in-Some.field-0-0 c.numbers.result len c.in-Some.ensures.spelled
+    refl c.open_note-wide.ensures in
+    front_known c.args.limit len bytes c.args.self.now _ c.args.out.now c.take.new.out note.4
+    (omega (arith, c.if-len-limit.false)) (omega arith) (c.in_ok-take.ensures (take len bytes) note)
+
+pub returns-then-moved-limit-clause-written : goal.returns-then-moved-limit-clause-written
+returns-then-moved-limit-clause-written c =
+    let own = c.position_len-moved.ensures in
+    let (list, final, moved, seq, acts, is) = own.own (omega arith) in
+    let front = take c.position_len-moved.result c.args.bytes.now in
+    front_known c.args.limit c.position_len-moved.result c.args.bytes.now c.args.self.now _ c.args.out.now c.pass.new.out (list, final, seq) (omega arith) own.within
+    (c.in_ok-pass.ensures _ (shortened_one front (list, final, seq)))

@@ -1,0 +1,14 @@
+use Rattle.std.proofs.Common.{◌≡◌, length, take, sym, subst, arith}
+use Rattle.std.proofs.lemmas.List.{take_all}
+use Rattle.std.proofs.lemmas.Result.{on_ok_weaker}
+use Rattle.csicodec_compact.specs.Runs.{IsShortened}
+use Rattle.csicodec_compact.proofs.Beside.{adds, shortened_span}
+use Rattle.csicodec_compact.proofs.shortener.ShortenerWriteSpansShort.other.Goals as goal
+
+pub returns : goal.returns
+returns c =
+    let bytes = c.args.bytes.now in
+    let all : take (length bytes) bytes ≡ bytes = take_all (length bytes) bytes (omega arith) in
+    on_ok_weaker c.pass.result
+    (λ h k parts ne span. adds c.args.self.now (record c.args.self.now { written = c.pass.new.self }) parts c.args.out.now c.pass.new.out (h parts (subst (IsShortened parts) (sym all) (shortened_span k bytes parts ne span))))
+    c.pass.ensures

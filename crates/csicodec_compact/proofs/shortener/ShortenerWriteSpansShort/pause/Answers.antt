@@ -1,0 +1,12 @@
+use Rattle.std.proofs.Common.{[]}
+use Rattle.std.proofs.lemmas.Result.{on_ok_weaker}
+use Rattle.csicodec_compact.specs.Private.Steps.{closing}
+use Rattle.csicodec_compact.proofs.Beside.{adds, extends_close}
+use Rattle.csicodec_compact.proofs.shortener.ShortenerWriteSpansShort.pause.Goals as goal
+
+pub returns-clause-written : goal.returns-clause-written
+returns-clause-written c =
+    let form = c.args.self.now.written.form in
+    on_ok_weaker c.close_into.result
+    (λ out. adds c.args.self.now (record c.args.self.now { written = c.close_into.new.self }) [] c.args.out.now.items c.close_into.new.out.items (closing form, out, rw c.close_into.ensures.form (extends_close form)))
+    c.close_into.ensures.text

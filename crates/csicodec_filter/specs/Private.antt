@@ -1,3 +1,0 @@
--- What private steps say of each other. No promise rests on these files.
-pub mod Front
-pub mod Run

@@ -1,0 +1,56 @@
+-- What is written for the spans of a stream, as it comes.
+use Rattle.std.specs.Prelude.{ℕ, ◌≡◌, List, [], ◌++◌}
+use Rattle.csicodec_spans.specs.declared.table.Mode.{Mode}
+use Rattle.csicodec_spans.specs.declared.table.Mode.TheVariants as mode
+use Rattle.csicodec_spans.specs.Parts.{Part, AreFirstParts, IsUnsure}
+use Rattle.csicodec_filter.specs.Filter.{Held, AreWritten}
+use Rattle.csicodec_filter.specs.Transform.{EndsOf, GoesOn}
+
+-- since the first of two states: for these parts this text was written, and then it was in the last one
+abbrev pub WrittenOf : Type 0 → Type 1
+WrittenOf S = S → List Part → List ℕ → S → Type 0
+
+abbrev pub open_at : {S : Type 0} → S → ℕ → Mode → List ℕ → Held S
+open_at writer limit m bytes = record { rewrite = writer; limit = limit; mode = m; bytes = bytes }
+
+-- for more parts more is appended
+abbrev pub Adds : {S : Type 0} → WrittenOf S → S → List Part → List ℕ → List ℕ → S → Type 0
+Adds Own old parts before after new = (more : List ℕ) × GoesOn Own old parts more new
+    × (after ≡ before ++ more)
+
+-- some parts in front of the bytes, for which this text is written; the bytes behind them are left
+pub record Writes {S : Type 0} (Own : WrittenOf S) (old : Held S) (text : List ℕ)
+    (new : Held S) : Type 0 where
+  pub limit : new.limit ≡ old.limit
+  pub parts : List Part
+  pub first : AreFirstParts old.limit old.mode old.bytes parts new.bytes new.mode
+  pub goes : GoesOn Own old.rewrite parts text new.rewrite
+
+-- and it is appended
+abbrev pub Appends : {S : Type 0} → WrittenOf S → Held S → List ℕ → List ℕ → Held S → Type 0
+Appends Own old before after new = (text : List ℕ) × Writes Own old text new
+    × (after ≡ before ++ text)
+
+-- more bytes have come
+abbrev pub with_more : {S : Type 0} → Held S → List ℕ → Held S
+with_more old bytes = record old { bytes = old.bytes ++ bytes }
+
+-- since it has begun, these bytes: the text of the parts that are sure, and the others are held
+pub record Since {S : Type 0} (Own : WrittenOf S) (first : Held S) (bytes text : List ℕ)
+    (last : Held S) : Type 0 where
+  pub limit : last.limit ≡ first.limit
+  pub parts : List Part
+  pub cut : AreFirstParts first.limit mode.Text bytes parts last.bytes last.mode
+  pub unsure : IsUnsure first.limit last.mode last.bytes
+  pub written : Own first.rewrite parts text last.rewrite
+
+-- at the end what was put off is written, and what is held passes as it is
+abbrev pub Leaves : {S : Type 0} → WrittenOf S → (S → Type 0) → EndsOf (Held S)
+Leaves Own Rests last text = (more : List ℕ) × (done : _) × GoesOn Own last.rewrite [] more done
+    × Rests done × (text ≡ more ++ last.bytes)
+
+-- by a rule that writes no more than it did at first
+pub record ByRule {R : Type 0} (Rule : R → List ℕ → List ℕ → Type 0) (first : R)
+    (parts : List Part) (text : List ℕ) (last : R) : Type 0 where
+  pub written : AreWritten (Rule first) parts text
+  pub same : (bytes own : List ℕ) → Rule last bytes own → Rule first bytes own

@@ -1,8 +1,0 @@
-use Rattle.std.proofs.Common.{arith, rules, sym}
-use Rattle.csicodec_actions.specs.Table.Cursor.{cursor_rows, as_cursor}
-use Rattle.csicodec_lists.proofs.Finals.{no-rows}
-use Rattle.csicodec_lists.proofs.cursor.cursor_action.Goals as goal
-
-pub returns-in_default : goal.returns-in_default
-unfolding as_cursor
-returns-in_default c = sym (no-rows cursor_rows c.args.params.now c.args.control (search (rules, arith)))

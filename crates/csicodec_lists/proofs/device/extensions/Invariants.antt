@@ -1,6 +1,0 @@
-use Rattle.std.proofs.Common.{◌≡◌, take}
-use Rattle.csicodec_actions.specs.Devices.{listed_attributes}
-use Rattle.csicodec_lists.proofs.device.extensions.Given as goal
-
-abbrev pub invariant-loop-token : goal.invariant-loop-token
-invariant-loop-token l = l.attributes.items ≡ listed_attributes (take l.token-index l.list)

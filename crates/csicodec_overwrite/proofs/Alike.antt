@@ -1,0 +1,151 @@
+-- A look is itself, and two that pass the test are one. Of characters none are written as nothing, and some behind others.
+use Rattle.std.proofs.Common.{◌≡◌, ℕ, Bool, true, false, cond, List, [], ◌∷◌, ◌++◌, refl, sym, ap, ◌∙◌, append-nil, arith}
+use Rattle.std.specs.Prelude.{◌==◌, ◌&&◌}
+use Rattle.std.proofs.lemmas.Bool.{and_parts, eqb-true}
+use Rattle.std.proofs.lemmas.Bool.Decides.{nat_tests}
+use Rattle.std.proofs.lemmas.Grind.{flat_map-append}
+use Rattle.csicodec_names.specs.declared.color.ColorSpec.{ColorSpec}
+use Rattle.csicodec_names.specs.declared.color.ColorSpec.TheVariants as color
+use Rattle.csicodec_names.specs.declared.color.Intensity.{Intensity}
+use Rattle.csicodec_names.specs.declared.color.Intensity.TheVariants as intensity
+use Rattle.csicodec_names.specs.declared.color.SrgbaTuple.{SrgbaTuple}
+use Rattle.csicodec_names.specs.declared.color.Underline.{Underline}
+use Rattle.csicodec_names.specs.declared.color.Underline.TheVariants as underline
+use Rattle.csicodec_clean.proofs.Shows.{encoded_on}
+use Rattle.csicodec_html.specs.declared.look.Look.{Look}
+use Rattle.csicodec_html.specs.Page.{escaped, piece_texts}
+use Rattle.csicodec_html.specs.Page.{turn as tags}
+use Rattle.csicodec_overwrite.specs.declared.marking.Marking.{Marking}
+use Rattle.csicodec_overwrite.specs.declared.marking.Marking.TheVariants.{Page, Plain, Styled}
+use Rattle.csicodec_overwrite.specs.Paint.{look_text, same, same_color, same_flag, same_intensity, same_underline, turn, written}
+
+-- ---- a look is itself
+
+number_same : (n : ℕ) → (n == n) ≡ true
+number_same n = grind (arith, nat_tests)
+
+flag_same : (b : Bool) → same_flag b b ≡ true
+flag_same true = refl
+flag_same false = refl
+
+intensity_same : (x : Intensity) → same_intensity x x ≡ true
+intensity_same intensity.Normal = refl
+intensity_same intensity.Bold = refl
+intensity_same intensity.Half = refl
+
+underline_same : (x : Underline) → same_underline x x ≡ true
+underline_same underline.None = refl
+underline_same underline.Single = refl
+underline_same underline.Double = refl
+underline_same underline.Curly = refl
+underline_same underline.Dotted = refl
+underline_same underline.Dashed = refl
+
+color_same : (x : ColorSpec) → same_color x x ≡ true
+color_same color.Default = refl
+color_same (color.PaletteIndex i) = number_same i
+color_same (color.TrueColor c) = rw (number_same c.0, number_same c.1, number_same c.2, number_same c.3) refl
+
+look_same : (l : Look) → same l l ≡ true
+look_same l =
+    rw (
+      intensity_same l.intensity,
+      flag_same l.italic,
+      underline_same l.underline,
+      color_same l.line,
+      flag_same l.overline,
+      flag_same l.strike,
+      flag_same l.inverse,
+      color_same l.foreground,
+      color_same l.background,
+    ) refl
+
+pub turn_same : (marking : Marking) (l : Look) → turn marking l l ≡ []
+turn_same Plain l = refl
+turn_same Styled l = ap (λ (b : Bool). cond b [] (look_text l)) (look_same l)
+turn_same (Page m) l = ap (λ (b : Bool). cond b [] (piece_texts (tags m true l l))) (look_same l)
+
+-- ---- and two that pass are one
+
+flag_one : (a b : Bool) → same_flag a b ≡ true → a ≡ b
+flag_one true b h = sym h
+flag_one false false h = refl
+flag_one false true h = cc
+
+intensity_one : (a b : Intensity) → same_intensity a b ≡ true → a ≡ b
+intensity_one intensity.Normal intensity.Normal h = refl
+intensity_one intensity.Bold intensity.Bold h = refl
+intensity_one intensity.Half intensity.Half h = refl
+intensity_one _ _ h = cc
+
+underline_one : (a b : Underline) → same_underline a b ≡ true → a ≡ b
+underline_one underline.None underline.None h = refl
+underline_one underline.Single underline.Single h = refl
+underline_one underline.Double underline.Double h = refl
+underline_one underline.Curly underline.Curly h = refl
+underline_one underline.Dotted underline.Dotted h = refl
+underline_one underline.Dashed underline.Dashed h = refl
+underline_one _ _ h = cc
+
+parts_one : (c d : SrgbaTuple) → (c.0 == d.0 && (c.1 == d.1 && (c.2 == d.2 && c.3 == d.3))) ≡ true → c ≡ d
+parts_one c d h =
+    let (red, more) = and_parts (c.0 == d.0) (c.1 == d.1 && (c.2 == d.2 && c.3 == d.3)) h in
+    let (green, others) = and_parts (c.1 == d.1) (c.2 == d.2 && c.3 == d.3) more in
+    let (blue, alpha) = and_parts (c.2 == d.2) (c.3 == d.3) others in
+    ap (λ (n : ℕ). record c { 0 = n }) (eqb-true c.0 d.0 red) ∙ ap (λ (n : ℕ). record c { 0 = d.0; 1 = n }) (eqb-true c.1 d.1 green)
+    ∙ ap (λ (n : ℕ). record c { 0 = d.0; 1 = d.1; 2 = n }) (eqb-true c.2 d.2 blue) ∙ ap (λ (n : ℕ). record d { 3 = n }) (eqb-true c.3 d.3 alpha)
+
+color_one : (a b : ColorSpec) → same_color a b ≡ true → a ≡ b
+color_one color.Default color.Default h = refl
+color_one (color.PaletteIndex i) (color.PaletteIndex j) h = ap color.PaletteIndex (eqb-true i j h)
+color_one (color.TrueColor c) (color.TrueColor d) h = ap color.TrueColor (parts_one c d h)
+color_one _ _ h = cc
+
+pub look_one : (a b : Look) → same a b ≡ true → a ≡ b
+look_one a b h =
+    let eighth = same_color a.foreground b.foreground && same_color a.background b.background in
+    let seventh = same_flag a.inverse b.inverse && eighth in
+    let sixth = same_flag a.strike b.strike && seventh in
+    let fifth = same_flag a.overline b.overline && sixth in
+    let fourth = same_color a.line b.line && fifth in
+    let third = same_underline a.underline b.underline && fourth in
+    let second = same_flag a.italic b.italic && third in
+    let (one, g) = and_parts (same_intensity a.intensity b.intensity) second h in
+    let (two, i) = and_parts (same_flag a.italic b.italic) third g in
+    let (three, j) = and_parts (same_underline a.underline b.underline) fourth i in
+    let (four, k) = and_parts (same_color a.line b.line) fifth j in
+    let (five, l) = and_parts (same_flag a.overline b.overline) sixth k in
+    let (six, m) = and_parts (same_flag a.strike b.strike) seventh l in
+    let (seven, n) = and_parts (same_flag a.inverse b.inverse) eighth m in
+    let (eight, nine) = and_parts (same_color a.foreground b.foreground) (same_color a.background b.background) n in
+    ap (λ (x : Intensity). record a { intensity = x }) (intensity_one a.intensity b.intensity one)
+    ∙ ap (λ (x : Bool). record a { intensity = b.intensity; italic = x }) (flag_one a.italic b.italic two)
+    ∙ ap (λ (x : Underline). record a { intensity = b.intensity; italic = b.italic; underline = x }) (underline_one a.underline b.underline three)
+    ∙ ap (λ (x : ColorSpec). record a { intensity = b.intensity; italic = b.italic; underline = b.underline; line = x }) (color_one a.line b.line four)
+    ∙ ap (λ (x : Bool). record b { overline = x; strike = a.strike; inverse = a.inverse; foreground = a.foreground; background = a.background }) (flag_one a.overline b.overline five)
+    ∙ ap (λ (x : Bool). record b { strike = x; inverse = a.inverse; foreground = a.foreground; background = a.background }) (flag_one a.strike b.strike six)
+    ∙ ap (λ (x : Bool). record b { inverse = x; foreground = a.foreground; background = a.background }) (flag_one a.inverse b.inverse seven)
+    ∙ ap (λ (x : ColorSpec). record b { foreground = x; background = a.background }) (color_one a.foreground b.foreground eight)
+    ∙ ap (λ (x : ColorSpec). record b { background = x }) (color_one a.background b.background nine)
+
+-- ---- characters
+
+pub written_none : (marking : Marking) → written marking [] ≡ []
+written_none Plain = refl
+written_none Styled = refl
+written_none (Page m) = refl
+
+pub written_on : (marking : Marking) (xs ys : List ℕ) → written marking (xs ++ ys) ≡ written marking xs ++ written marking ys
+written_on Plain xs ys = encoded_on xs ys
+written_on Styled xs ys = encoded_on xs ys
+written_on (Page m) xs ys = flat_map-append escaped xs ys
+
+pub nothing_written : (marking : Marking) (out : List ℕ) → out ≡ out ++ written marking []
+nothing_written marking out = sym (ap (λ (t : List ℕ). out ++ t) (written_none marking) ∙ append-nil out)
+
+-- a newline is itself
+pub newline_written : (marking : Marking) → written marking (10 ∷ []) ≡ 10 ∷ []
+unfolding lib.Utf8.encode
+newline_written Plain = refl
+newline_written Styled = refl
+newline_written (Page m) = refl

@@ -1,0 +1,5 @@
+use Rattle.csicodec_overwrite.proofs.Paged.{same_page}
+use Rattle.csicodec_overwrite.proofs.laws.same_page.Goals as goal
+
+pub returns : goal.returns
+returns c = same_page

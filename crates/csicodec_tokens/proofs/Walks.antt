@@ -1,0 +1,200 @@
+-- A walk over the body of a control sequence, byte by byte and sixteen at once.
+use Rattle.std.proofs.Common.{true, false, Option, Some, None, MatchOption, ◌≡◌, ℕ, zero, suc, ◌+◌, ◌-◌, ◌*◌, ◌<◌, ◌≤◌, List, [], ◌∷◌, ◌++◌, length, take, drop, get_or, refl, sym, ap, subst, ◌∙◌, inl, inr, append_assoc, arith}
+use Rattle.std.specs.List.{AllByRecursion, prefix_len}
+use Rattle.std.proofs.lemmas.Bool.{cases_lt}
+use Rattle.std.proofs.lemmas.Bool.Decides.{nat_tests}
+use Rattle.std.proofs.lemmas.List.{append-nil, get_or-take, length-take-le, take-append-drop, take_more}
+use Rattle.std.proofs.lemmas.List.Elements.{All-from_get_or, recursion_from_All}
+use Rattle.std.proofs.lemmas.List.Sums.{prefix_len-le-length, prefix_len_passes, prefix_len_stops}
+use Rattle.csicodec_tokens.specs.Digits.{IsDigit, largest}
+use Rattle.csicodec_tokens.specs.Sequence.{IsBodyByte}
+use Rattle.csicodec_tokens.specs.Fault.{IsBody}
+use Rattle.csicodec_tokens.specs.Body.{EndsIn, Adds, Stops, IsStopped}
+use Rattle.csicodec_tokens.specs.Private.Walking.{body_byte, IsWalked}
+use Rattle.csicodec_tokens.proofs.Runs.{value_push, AreDigits-push, All-back, All-front, Ends, Ends-none, Ends-digit, Ends-other}
+
+ends : (body : List ℕ) (n : ℕ) → EndsIn body n → Ends body n
+ends body n e = record { body = e.is; bound = e.most }
+
+pub none_begun : EndsIn [] 0
+none_begun = record { is = Ends-none.body; most = Ends-none.bound; before = []; run = []; parts = refl; digits = tt; total = refl }
+
+-- ---- one byte more
+
+digit_on : (body : List ℕ) (n d m : ℕ) → EndsIn body n → IsDigit d → m ≡ 10 * n + (d - 48) → m ≤ largest → EndsIn (body ++ d ∷ []) m
+digit_on body n d m e p same le =
+    let more = Ends-digit body n d (ends body n e) p (omega arith) in
+    record {
+      is = more.body;
+      most = λ before run parts digits. omega (arith, more.bound before run parts digits, same);
+      before = e.before;
+      run = e.run ++ d ∷ [];
+      parts = ap (λ (t : List ℕ). t ++ d ∷ []) e.parts ∙ append_assoc e.before e.run (d ∷ []);
+      digits = AreDigits-push e.run d e.digits p;
+      total = omega (arith, same, e.total, value_push 0 e.run d);
+    }
+
+other_on : (body : List ℕ) (n b : ℕ) → Ends body n → IsBodyByte b → ¬ IsDigit b → EndsIn (body ++ b ∷ []) 0
+other_on body n b e p other =
+    let more = Ends-other body n b e p other in
+    record { is = more.body; most = more.bound; before = body ++ b ∷ []; run = []; parts = sym (append-nil (body ++ b ∷ [])); digits = tt; total = refl }
+
+too_large : (body : List ℕ) (n d : ℕ) → EndsIn body n → IsDigit d → largest < 10 * n + (d - 48) → IsBody (body ++ d ∷ []) → ⊥
+too_large body n d e p large is =
+    let longer = e.run ++ d ∷ [] in
+    let parts : body ++ d ∷ [] ≡ e.before ++ (longer ++ []) =
+    ap (λ (t : List ℕ). t ++ d ∷ []) e.parts ∙ append_assoc e.before e.run (d ∷ []) ∙ ap (λ (t : List ℕ). e.before ++ t) (sym (append-nil longer)) in
+    omega (arith, large, e.total, value_push 0 e.run d, is.runs e.before longer [] parts (AreDigits-push e.run d e.digits p))
+
+no_body : (body : List ℕ) (b : ℕ) → ¬ IsBodyByte b → IsBody (body ++ b ∷ []) → ⊥
+no_body body b other is = other (All-back IsBodyByte body (b ∷ []) is.bytes).0
+
+pub digit_step : (r : Option ℕ) (n d : ℕ) → IsDigit d → MatchOption r (largest < 10 * n + (d - 48)) (λ m. (m ≡ 10 * n + (d - 48)) × (m ≤ largest)) → MatchOption r (Stops n (d ∷ [])) (Adds n (d ∷ []))
+digit_step None n d p h = record { none = λ body e is. too_large body n d e p h is }
+digit_step (Some m) n d p h = record { on = λ body e. digit_on body n d m e p h.0 h.1 }
+
+pub other_step : (b n : ℕ) → IsBodyByte b → ¬ IsDigit b → Adds n (b ∷ []) 0
+other_step b n p other = record { on = λ body e. other_on body n b (ends body n e) p other }
+
+pub stop_step : (b n : ℕ) → ¬ IsBodyByte b → Stops n (b ∷ [])
+stop_step b n other = record { none = λ body e is. no_body body b other is }
+
+pub walked_byte : (n b m : ℕ) (bytes others : List ℕ) → bytes ≡ b ∷ others → Adds n (b ∷ []) m → IsWalked n bytes m others
+walked_byte n b m bytes others e a = record { done = b ∷ []; parts = e; adds = a }
+
+pub stopped_byte : (n b : ℕ) (bytes others : List ℕ) → bytes ≡ b ∷ others → Stops n (b ∷ []) → IsStopped n bytes bytes
+stopped_byte n b bytes others e s = record { done = []; byte = b; others = others; parts = refl; front = e; on = λ body at. rw (append-nil body) at.is; stops = s }
+
+-- ---- some bytes more
+
+pub walked_none : (first : ℕ) (bytes : List ℕ) → IsWalked first bytes first bytes
+walked_none first bytes = record { done = []; parts = refl; adds = record { on = λ body e. rw (append-nil body) e } }
+
+module _ (first : ℕ) (bytes : List ℕ) (last : ℕ) (rest : List ℕ) (w : IsWalked first bytes last rest) where
+  pub walked_on : (next : ℕ) (others : List ℕ) → IsWalked last rest next others → IsWalked first bytes next others
+  walked_on next others v = record {
+    done = w.done ++ v.done;
+    parts = w.parts ∙ ap (λ (t : List ℕ). w.done ++ t) v.parts ∙ sym (append_assoc w.done v.done others);
+    adds = record { on = λ body at. subst (λ (t : List ℕ). EndsIn t next) (append_assoc body w.done v.done) (v.adds.on (body ++ w.done) (w.adds.on body at)) };
+  }
+
+  pub stopped_on : (others : List ℕ) → IsStopped last rest others → IsStopped first bytes others
+  stopped_on others s = record {
+    done = w.done ++ s.done;
+    byte = s.byte;
+    others = s.others;
+    parts = w.parts ∙ ap (λ (t : List ℕ). w.done ++ t) s.parts ∙ sym (append_assoc w.done s.done others);
+    front = s.front;
+    on = λ body at. subst IsBody (append_assoc body w.done s.done) (s.on (body ++ w.done) (w.adds.on body at));
+    stops = record {
+      none = λ body at is.
+          let whole : body ++ ((w.done ++ s.done) ++ s.byte ∷ []) ≡ (body ++ w.done) ++ (s.done ++ s.byte ∷ []) =
+          ap (λ (t : List ℕ). body ++ t) (append_assoc w.done s.done (s.byte ∷ [])) ∙ sym (append_assoc body w.done (s.done ++ s.byte ∷ [])) in
+          s.stops.none (body ++ w.done) (w.adds.on body at) (subst IsBody whole is);
+    };
+  }
+
+pub walked_all : (first : ℕ) (bytes : List ℕ) (last : ℕ) (rest : List ℕ) → IsWalked first bytes last rest → length rest < 1 → Adds first bytes last
+walked_all first bytes last [] w none = subst (λ (t : List ℕ). Adds first t last) (sym (w.parts ∙ append-nil w.done)) w.adds
+walked_all first bytes last (b ∷ rest) w none = absurd (omega arith)
+
+-- ---- sixteen bytes more
+
+-- the largest number that so many digits write
+abbrev most : ℕ → ℕ
+most zero = 0
+most (suc k) = 10 * most k + 9
+
+most_grows : (j k : ℕ) → j ≤ k → most j ≤ most k
+most_grows zero k le = let none : most zero ≡ 0 = refl in omega (arith, none)
+most_grows (suc j) zero le = absurd (omega arith)
+most_grows (suc j) (suc k) le =
+    let low : most (suc j) ≡ 10 * most j + 9 = refl in
+    let high : most (suc k) ≡ 10 * most k + 9 = refl in
+    omega (arith, low, high, most_grows j k (omega (arith, le)))
+
+-- a body with some bytes more, of which no more than sixteen may be digits of one number
+few_on : (front body : List ℕ) (n j : ℕ) → Ends body n → n ≤ most j → j + length front ≤ 16 → AllByRecursion IsBodyByte front → (m : ℕ) × Ends (body ++ front) m
+few_on [] body n j e le few all = (n, subst (λ (t : List ℕ). Ends t n) (sym (append-nil body)) e)
+few_on (b ∷ front) body n j e le few all =
+    let whole = append_assoc body (b ∷ []) front in
+    let on : (m : ℕ) → Ends (body ++ b ∷ []) m → m ≤ most (suc j) → (k : ℕ) × Ends (body ++ b ∷ front) k =
+    λ m more fits. subst (λ (t : List ℕ). (k : ℕ) × Ends t k) whole (few_on front (body ++ b ∷ []) m (suc j) more fits (omega (arith, few)) all.1) in
+    let other : ¬ IsDigit b → (k : ℕ) × Ends (body ++ b ∷ front) k = λ no. on 0 (Ends-other body n b e all.0 no) (omega arith) in
+    elim (cases_lt b 48) [
+      | inl below ↦ other (λ d. omega (arith, d.0, below))
+      | inr ge ↦ elim (cases_lt 57 b) [
+        | inl above ↦ other (λ d. omega (arith, d.1, above))
+        | inr under ↦
+            let next : most (suc j) ≡ 10 * most j + 9 = refl in
+            let fits : 10 * n + (b - 48) ≤ most (suc j) = omega (arith, le, ge, under, next) in
+            let bound : most (suc j) ≤ most 16 = most_grows (suc j) 16 (omega (arith, few)) in
+            let all : most 16 ≡ 9999999999999999 = refl in
+            on (10 * n + (b - 48)) (Ends-digit body n b e (ge, under) (omega (arith, fits, bound, all))) fits
+      ]
+    ]
+
+in_body : (b : ℕ) → body_byte b ≡ true → IsBodyByte b
+in_body b is = (grind (arith, nat_tests, is), grind (arith, nat_tests, is))
+
+no_in_body : (b : ℕ) → body_byte b ≡ false → ¬ IsBodyByte b
+no_in_body b is p = grind (arith, nat_tests, is, p)
+
+cut_at : (n : ℕ) (xs : List ℕ) → n < length xs → drop n xs ≡ get_or xs n 0 ∷ drop (suc n) xs
+cut_at n [] lt = absurd (omega (arith, lt))
+cut_at zero (x ∷ xs) lt = refl
+cut_at (suc n) (x ∷ xs) lt = cut_at n xs (omega (arith, lt))
+
+module _ (bytes : List ℕ) (r : ℕ) (room : 16 ≤ length bytes) (found : r ≡ prefix_len body_byte (take 16 bytes)) where
+  pub front_few : r ≤ 16
+  front_few = omega (arith, found, length-take-le 16 bytes room, prefix_len-le-length body_byte (take 16 bytes))
+
+  front_is : (n : ℕ) → n ≤ r → AllByRecursion IsBodyByte (take n bytes)
+  front_is n le = recursion_from_All IsBodyByte (take n bytes) (All-from_get_or IsBodyByte (take n bytes) 0 (λ i lt. at i (omega (arith, lt, le, length-take-le n bytes (omega (arith, le, front_few, room))))))
+    where
+      at : (i : ℕ) → i < n → IsBodyByte (get_or (take n bytes) i 0)
+      at i lt = subst IsBodyByte (get_or-take 16 bytes i 0 (omega (arith, lt, le, front_few)) ∙ sym (get_or-take n bytes i 0 lt))
+          (in_body (get_or (take 16 bytes) i 0) (prefix_len_passes body_byte (take 16 bytes) i 0 (omega (arith, lt, le, found))))
+
+  stop_is : r < 16 → ¬ IsBodyByte (get_or bytes r 0)
+  stop_is lt = no_in_body (get_or bytes r 0) (subst (λ (n : ℕ). body_byte n ≡ false) (ap (λ (k : ℕ). get_or (take 16 bytes) k 0) (sym found) ∙ get_or-take 16 bytes r 0 lt)
+      (prefix_len_stops body_byte (take 16 bytes) 0 (omega (arith, lt, found, length-take-le 16 bytes room))))
+
+  -- behind a body that ends in 0 they stop it there
+  pub stopped_behind : r < 16 → IsStopped 0 bytes (drop r bytes)
+  stopped_behind lt =
+      let front = take r bytes in
+      let b = get_or bytes r 0 in
+      let few = length-take-le r bytes (omega (arith, lt, room)) in
+      record {
+        done = front;
+        byte = b;
+        others = drop (suc r) bytes;
+        parts = sym (take-append-drop r bytes);
+        front = cut_at r bytes (omega (arith, lt, room));
+        on = λ body at. (few_on front body 0 0 (ends body 0 at) (omega arith) (omega (arith, few, front_few)) (front_is r (omega arith))).1.body;
+        stops = record { none = λ body at is. stop_is lt (All-back IsBodyByte front (b ∷ []) (All-back IsBodyByte body (front ++ b ∷ []) is.bytes)).0 };
+      }
+
+  -- and as many of them go on with it as stand up to one that is no digit
+  pub walked_whole : (n : ℕ) → 0 < n → n ≤ r → ¬ IsDigit (get_or bytes (n - 1) 0) → IsWalked 0 bytes 0 (drop n bytes)
+  walked_whole zero some le other = absurd (omega (arith, some))
+  walked_whole (suc k) some le other =
+      let front = take k bytes in
+      let b = get_or bytes k 0 in
+      let last : suc k ≡ k + 1 = omega arith in
+      let back : suc k - 1 ≡ k = omega arith in
+      let no : ¬ IsDigit b = subst (λ (i : ℕ). ¬ IsDigit (get_or bytes i 0)) back other in
+      let parts : take (suc k) bytes ≡ front ++ b ∷ [] = ap (λ (n : ℕ). take n bytes) last ∙ take_more bytes k 0 (omega (arith, le, front_few, room)) in
+      let all : AllByRecursion IsBodyByte (front ++ b ∷ []) = subst (AllByRecursion IsBodyByte) parts (front_is (suc k) le) in
+      let few = length-take-le k bytes (omega (arith, le, front_few, room)) in
+      record {
+        done = take (suc k) bytes;
+        parts = sym (take-append-drop (suc k) bytes);
+        adds = rw parts (record {
+          on = λ body at.
+              let more = few_on front body 0 0 (ends body 0 at) (omega arith) (omega (arith, few, le, front_few)) (All-front IsBodyByte front (b ∷ []) all) in
+              subst (λ (t : List ℕ). EndsIn t 0) (append_assoc body front (b ∷ []))
+              (other_on (body ++ front) more.0 b more.1 (All-back IsBodyByte front (b ∷ []) all).0 no);
+        });
+      }

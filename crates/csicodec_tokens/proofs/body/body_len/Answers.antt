@@ -1,0 +1,13 @@
+use Rattle.std.proofs.Common.{◌≡◌, leb, cond, length, length-take-le, refl, take}
+use Rattle.std.proofs.lemmas.Simd.{zip2_of_maps, zip2_splat, zip2_splat_left}
+use Rattle.csicodec_tokens.specs.Private.Walking.{body_byte}
+use Rattle.csicodec_tokens.proofs.Lanes.{counted}
+use Rattle.csicodec_tokens.proofs.body.body_len.Goals as goal
+
+pub returns : goal.returns
+returns c =
+    let d = c.args.bytes.now in
+    let v = take 16 d in
+    let long : length v ≡ 16 = length-take-le 16 d c.requires in
+    counted body_byte d _ _ c.requires c.type_inv.bytes c.first_set.ensures _
+    (zip2_of_maps _ _ _ v (zip2_splat _ v 16 32 long) (zip2_splat_left (λ a b. cond (leb a b) 255 0) 64 16 v long)) refl

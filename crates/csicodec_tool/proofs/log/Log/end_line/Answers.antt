@@ -1,0 +1,27 @@
+use Rattle.std.proofs.Common.{◌≡◌, ◌++◌, ◌∙◌, List, ℕ, ap, subst, append_assoc}
+use Rattle.std.proofs.lemmas.Result.{on_ok_weaker}
+use Rattle.csicodec_clean.specs.Shown.{shown_text}
+use Rattle.csicodec_clean.specs.Stream.{Takes}
+use Rattle.csicodec_clean.specs.Styled.{Keeping, keeps}
+use Rattle.csicodec_tool.proofs.Logged.{plain_end, styled_end}
+use Rattle.csicodec_tool.proofs.log.Log.end_line.Goals as goal
+
+pub returns : goal.returns
+returns c =
+    let (text, ends, made) = c.in_ok-finish.ensures in
+    let (more, takes, out) = c.in_ok-push.ensures.takes in
+    let whole : c.deref.result.now ≡ text = c.deref.ensures.value ∙ made ∙ ap (λ t. t ++ text) c.clear.ensures.items in
+    let mid = c.push.new.self in
+    on_ok_weaker c.finish-3.result
+    (λ (close, closes, last). (
+      more ++ (shown_text mid.held ++ close),
+      styled_end c.args.self.now c.in-Some.styles mid text more close c.in-Some.is ends
+          (subst (λ (t : List ℕ). Takes (keeps (λ (k : Keeping). k)) c.in-Some.styles.cleaner t more mid) whole takes) closes,
+      last ∙ ap (λ t. t ++ (shown_text mid.held ++ close)) out ∙ append_assoc c.args.out.now.items more (shown_text mid.held ++ close),
+    ))
+    c.finish-3.ensures
+
+pub returns-in_default : goal.returns-in_default
+returns-in_default c = on_ok_weaker c.finish.result
+    (λ (rest, ends, made). (rest, plain_end c.args.self.now rest c.in_default.is ends, made))
+    c.finish.ensures

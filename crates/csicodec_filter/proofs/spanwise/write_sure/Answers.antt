@@ -30,7 +30,7 @@ loop-to-preserved-in_ok-sequence-in-Some-control g c =
     let front : take (length bytes) to.rest.now ≡ bytes = ap (take (length bytes)) (rw c.in-Some.is at c.in_ok-span.ensures.parts) ∙ take-append_seam bytes behind.rest.now in
     appends_on Own _ _ _ _ _ _ (appends_on Own _ _ _ _ _ _ c.loop-to.invariant c.in_ok-to.ensures)
     (appends Own c.args.limit c.pass_front.new.writer c.sequence.new.self to.mode behind.mode to.rest.now behind.rest.now c.pass_front.new.out c.sequence.new.out
-        (part kind.Csi bytes ∷ []) (rw one at found.first) (rw front at c.in_ok-sequence-in-Some-control.ensures))
+    (part kind.Csi bytes ∷ []) (rw one at found.first) (rw front at c.in_ok-sequence-in-Some-control.ensures))
 
 pub loop-to-preserved : goal.loop-to-preserved
 loop-to-preserved g c =
@@ -42,4 +42,4 @@ loop-to-preserved g c =
     let other = rw (c.in-Some.is, c.in-None.is) at c.in_ok-span.ensures.tokens in
     appends_on Own _ _ _ _ _ _ (appends_on Own _ _ _ _ _ _ c.loop-to.invariant c.in_ok-to.ensures)
     (appends Own c.args.limit c.pass_front.new.writer c.other.new.self to.mode behind.mode to.rest.now behind.rest.now c.pass_front.new.out c.other.new.out
-        found.parts found.first (c.in_ok-other-in-None.ensures span.kind found.parts other found.span))
+    found.parts found.first (c.in_ok-other-in-None.ensures span.kind found.parts other found.span))

@@ -157,27 +157,37 @@ def module_of(to):
 
 
 def build_object(kit, place, name, room):
-    """Proves and builds a crate for a processor over the libraries below. The module of LLVM is kept beside it: of that for ARM the module for
-    WebAssembly is made, and of both what runs on other systems (release_systems.py)."""
+    """Proves and builds a crate for a processor over the libraries below, and over what earlier checks of the crate in this checkout kept. The
+    module of LLVM is kept beside it: of that for ARM the module for WebAssembly is made, and of both what runs on other systems (release_systems.py)."""
     target, more = TARGETS[place]
     to, stamp, _ = object_of(kit, place, name)
     os.makedirs(os.path.dirname(to), exist_ok=True)
     print(f"release: {name} for {place}", file=sys.stderr, flush=True)
     toolchain = folder_that_keeps(kit, tempfile.mkdtemp(dir=room), module_of(to))
-    words = [*words_for(kit, name), "--jobs", "2", "--toolchain", toolchain, "--backend", "llvm", "--target", target, *more]
+    words = [*words_for(kit, name), "--incremental", "out/incremental", "--jobs", "2", "--toolchain", toolchain]
+    words += ["--backend", "llvm", "--target", target, *more]
     run(f"{kit.folder}/bin/rattle", "build", *words, "-o", to, cwd=f"{TOP}/crates/{name}")
     with open(f"{to}.stamp", "w", encoding="utf-8") as file:
         file.write(f"{stamp} {sum_of(to)}")
 
 
+def build_objects(kit, places, name, room):
+    for place in places:
+        build_object(kit, place, name, room)
+
+
 def all_objects(kit, places, names, kept, room):
-    """Those of all crates for all processors: what isn't there is built, some at once."""
+    """Those of all crates for all processors: what isn't there is built, some crates at once. For its second processor a crate is proved over
+    what was kept for the first."""
     found = {(place, name): object_of(kit, place, name) for place in places for name in names}
-    missing = [key for key, (_, _, is_there) in found.items() if not is_there]
-    for name in dict.fromkeys(name for _, name in missing):
+    missing = {}
+    for (place, name), (_, _, is_there) in found.items():
+        if not is_there:
+            missing.setdefault(name, []).append(place)
+    for name in missing:
         prove_below(name, kept)
     with ThreadPoolExecutor(max(1, len(os.sched_getaffinity(0)) // 2)) as pool:
-        for built in [pool.submit(build_object, kit, place, name, room) for place, name in missing]:
+        for built in [pool.submit(build_objects, kit, those, name, room) for name, those in missing.items()]:
             built.result()
     return {key: to for key, (to, _, _) in found.items()}
 

@@ -61,19 +61,15 @@ fn char_of(number: i64) -> Option<char>
 fn from_separator(tokens: &[CsiParam]) -> Option<&[CsiParam]>
     ensures { option_map (λ rest. rest.now) result ≡ from_separator tokens.now }
 {
-    match tokens {
-        [] => Some(tokens),
-        [CsiParam::Integer(_), others @ ..] => from_separator(others),
-        [CsiParam::P(byte), others @ ..] => {
-            if *byte == b';' {
-                Some(tokens)
-            } else if *byte == b':' {
-                from_separator(others)
-            } else {
-                None
-            }
+    let mut rest = tokens;
+    while let [token, others @ ..] = rest {
+        match token {
+            CsiParam::P(b';') => return Some(rest),
+            CsiParam::P(b':') | CsiParam::Integer(_) => rest = others,
+            CsiParam::P(_) => return None,
         }
     }
+    Some(rest)
 }
 
 /// The number, and what is behind it and its alternatives.
@@ -161,17 +157,17 @@ fn with_char(text: Typed, number: i64) -> Option<Typed>
 fn characters(text: Typed, tokens: &[CsiParam]) -> Option<Typed>
     ensures { option_map (λ t. t.items) result ≡ characters text.items tokens.now }
 {
-    match tokens {
-        [] => Some(text),
-        [CsiParam::Integer(number), others @ ..] => characters(with_char(text, *number)?, others),
-        [CsiParam::P(byte), others @ ..] => {
-            if *byte == b':' {
-                characters(text, others)
-            } else {
-                None
-            }
+    let mut all = text;
+    let mut rest = tokens;
+    while let [token, others @ ..] = rest {
+        match token {
+            CsiParam::Integer(number) => all = with_char(all, *number)?,
+            CsiParam::P(b':') => {}
+            CsiParam::P(_) => return None,
         }
+        rest = others;
     }
+    Some(all)
 }
 
 /// The text, and nothing behind it.
